@@ -1,0 +1,8 @@
+use Rattle.clsm_model.proofs.Maps.{Writes-lookup}
+use Rattle.clsm_model.proofs.plain_map.PlainMap.write.Goals as goal
+
+pub returns-in_default-clause-writes : goal.returns-in_default-clause-writes
+returns-in_default-clause-writes c = rw (← c.self.view_is, c.in_default.is) (Writes-lookup _ _ _ _ c.remove.ensures.ordered c.remove.ensures.updates.0)
+
+pub returns-clause-writes : goal.returns-clause-writes
+returns-clause-writes c = rw (← c.self.view_is, c.in-Some.is) (Writes-lookup _ _ _ _ c.insert.ensures.ordered c.in_default-insert.ensures.updates.0)

@@ -1,0 +1,51 @@
+-- The sizes of a store: their ranges, and what is answered where one is out of its range.
+use Rattle.std.specs.Prelude.{ℕ, ◌≤◌, Result, Ok, Err}
+use Rattle.clsm_model.specs.declared.config.Config.{Config}
+use Rattle.clsm_model.specs.declared.config.OpenError.{OpenError}
+use Rattle.clsm_model.specs.declared.config.OpenError.TheVariants.{Cells, Seats, Shards, Run, Memory, Patience}
+
+-- the number of a refusal
+abbrev pub number_of : OpenError → ℕ
+number_of Cells = 1
+number_of Seats = 2
+number_of Shards = 3
+number_of Run = 4
+number_of Memory = 5
+number_of Patience = 9
+
+-- from low to high, both included
+abbrev pub IsBetween : ℕ → ℕ → ℕ → Type 0
+IsBetween low high n = (low ≤ n) × (n ≤ high)
+
+abbrev pub IsCells : Config → Type 0
+IsCells c = IsBetween 4 65536 c.cells
+
+abbrev pub IsSeats : Config → Type 0
+IsSeats c = IsBetween 1 64 c.seats
+
+abbrev pub IsShards : Config → Type 0
+IsShards c = IsBetween 1 1024 c.shards
+
+abbrev pub IsRun : Config → Type 0
+IsRun c = IsBetween 4 4194304 c.run
+
+abbrev pub IsPatience : Config → Type 0
+IsPatience c = c.patience ≤ 64
+
+-- each size is in its range
+abbrev pub IsSound : Config → Type 0
+IsSound c = IsCells c × IsSeats c × IsShards c × IsRun c × IsPatience c
+
+-- this is the first size out of its range, in the order cells, seats, shards, run, patience
+abbrev pub IsFirstFault : Config → OpenError → Type 0
+IsFirstFault c Cells = ¬ IsCells c
+IsFirstFault c Seats = IsCells c × (¬ IsSeats c)
+IsFirstFault c Shards = IsCells c × IsSeats c × (¬ IsShards c)
+IsFirstFault c Run = IsCells c × IsSeats c × IsShards c × (¬ IsRun c)
+IsFirstFault c Patience = IsCells c × IsSeats c × IsShards c × IsRun c × (¬ IsPatience c)
+IsFirstFault c Memory = ⊥
+
+-- a test of the sizes: all are in their ranges, or the first that is not is named
+abbrev pub IsChecked : Config → Result (Unit {0}) OpenError → Type 0
+IsChecked c (Ok _) = IsSound c
+IsChecked c (Err fault) = IsFirstFault c fault

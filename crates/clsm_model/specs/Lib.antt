@@ -1,0 +1,5 @@
+pub mod Value
+pub mod Config
+pub mod History
+pub mod Map
+pub mod Right

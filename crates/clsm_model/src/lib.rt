@@ -1,0 +1,17 @@
+//! Slots, records and the plain map: what a history of writes means, with no thread and no shared word.
+#![tactic(auto)]
+
+mod config;
+mod plain_map;
+mod record;
+mod slot;
+mod value;
+
+pub use config::{Config, OpenError};
+pub use plain_map::{Memory, PlainMap};
+pub use record::{CallRecord, Deed};
+pub use slot::{Change, Slot};
+pub use value::{Length, Value};
+
+/// A timestamp. Each write has one of its own; a read at a time sees the writes below it.
+pub type Time = u64;
