@@ -1,3 +1,5 @@
+ghost use Rattle.std.specs.Prelude.{◌≡◌};
+
 use crate::value::Value;
 
 /// What a timestamp came to: nothing, or a write. A write without a value is a removal.
@@ -11,6 +13,24 @@ pub enum Slot {
         key: u64,
         value: Option<Value>,
     },
+}
+
+impl Slot {
+    ghost use Rattle.clsm_model.specs.Map.{value_after};
+
+    /// What the slot leaves at the key, where its value was `before`.
+    pub fn value_after(&self, key: u64, before: Option<Value>) -> Option<Value>
+        ensures { result ≡ value_after self.now key before }
+    {
+        match *self {
+            Slot::Wrote {
+                key: written,
+                value,
+                ..
+            } if written == key => value,
+            _ => before,
+        }
+    }
 }
 
 /// What a write does to its key.
