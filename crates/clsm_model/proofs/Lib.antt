@@ -1,1 +1,4 @@
+pub mod Histories
 pub mod Maps
+pub mod Ranges
+pub mod Texts

@@ -18,10 +18,11 @@ pub record History : Type 0 where
 abbrev pub plain : List Slot → History
 plain slots = record { slots = slots; batches = [] }
 
--- a history's length is the first time that came to nothing yet
+-- the first time that has no slot
 abbrev pub end_of : History → ℕ
 end_of h = length h.slots
 
+-- what the time t came to: `Nothing` from the end on
 abbrev pub slot_at : History → ℕ → Slot
 slot_at h t = slice_index_or h.slots t Nothing
 

@@ -1,5 +1,5 @@
 -- The plain map of a history below a time, as its pairs by rising key.
-use Rattle.std.specs.Prelude.{◌≡◌, ℕ, ◌==◌, ◌&&◌, nat_le, cond, List, [], ◌∷◌, Option, Some, None, filter}
+use Rattle.std.specs.Prelude.{◌≡◌, ℕ, ◌<◌, ◌≤◌, ◌==◌, ◌&&◌, nat_le, cond, List, [], ◌∷◌, Option, Some, None, IsSome, filter}
 use Rattle.std.specs.List.Sorted.{IsStrictlySortedBy}
 use Rattle.std.specs.Map.{keys_of}
 use Rattle.std.specs.Ordering.{nat_cmp}
@@ -39,6 +39,18 @@ pub record Writes (key : ℕ) (written : Option (List ℕ)) (old new : List Pair
 abbrev pub Plays : Slot → List Pair → List Pair → Type 0
 Plays slot old new = (k : ℕ) → value_at new k ≡ value_after slot k (value_at old k)
 
+-- the slot writes a value at a key that has none
+abbrev pub AddsKey : Slot → List Pair → Type 0
+AddsKey Nothing pairs = ⊥
+AddsKey (Wrote seat key written) pairs = IsSome written × (value_at pairs key ≡ None)
+
 -- the pairs with lo <= key <= hi
 abbrev pub between : ℕ → ℕ → List Pair → List Pair
 between lo hi pairs = filter (λ pair. nat_le lo pair.0 && nat_le pair.0 hi) pairs
+
+-- the rows are all keys from lo to hi that have a value below the time s, by rising key
+pub record IsRange (h : History) (s lo hi : ℕ) (rows : List Pair) : Type 0 where
+  pub rise : KeysRise rows
+  pub inside : (k : ℕ) → lo ≤ k → k ≤ hi → value_at rows k ≡ value h k s
+  pub below : (k : ℕ) → k < lo → value_at rows k ≡ None
+  pub above : (k : ℕ) → hi < k → value_at rows k ≡ None

@@ -1,5 +1,7 @@
--- A value as its words in a row of eight places.
-use Rattle.std.specs.Prelude.{◌≡◌, ℕ, ◌-◌, ◌≤◌, List, ◌++◌, length, take, replicate}
+-- A value as its words in a row of eight places, and as its text.
+use Rattle.std.specs.Prelude.{◌≡◌, ℕ, ◌-◌, ◌≤◌, List, ◌++◌, length, map, take, replicate}
+use Rattle.std.specs.Fmt.{decimal}
+use Rattle.std.specs.List.{join_with_byte}
 
 -- the words, and zeros behind them
 abbrev pub padded : List ℕ → List ℕ
@@ -11,3 +13,11 @@ pub record IsPadded (places : List ℕ) (count : ℕ) : Type 0 where
   pub at_most_eight : count ≤ 8
   pub counted : length (take count places) ≡ count
   pub zeros : padded (take count places) ≡ places
+
+-- the code of `,`
+abbrev pub comma : ℕ
+comma = 44
+
+-- the words in decimal, joined by commas
+abbrev pub text : List ℕ → List ℕ
+text words = join_with_byte comma (map decimal words)

@@ -5,6 +5,8 @@ mod config;
 mod plain_map;
 mod record;
 mod slot;
+#[cfg(test)]
+mod tests;
 mod value;
 
 pub use config::{Config, OpenError};

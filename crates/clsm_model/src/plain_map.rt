@@ -1,6 +1,6 @@
-ghost use Rattle.std.specs.Prelude.{◌≡◌, ℕ, ◌+◌, ◌<◌, [], length, IfOk, OnOk, OnErr};
+ghost use Rattle.std.specs.Prelude.{◌≡◌, ℕ, ◌+◌, ◌≤◌, [], length, take, None, IsSome, IfOk, OnOk, OnErr};
 ghost use Rattle.clsm_model.specs.History.{History, plain, slot_at, end_of};
-ghost use Rattle.clsm_model.specs.Map.{IsMap, KeysRise, Plays, Writes, between, value_at};
+ghost use Rattle.clsm_model.specs.Map.{AddsKey, IsMap, IsRange, Plays, Writes, between, value_at};
 
 use crate::slot::Slot;
 use crate::value::Value;
@@ -31,7 +31,7 @@ impl Model for PlainMap {
 }
 
 impl PlainMap {
-    /// The empty map: the map of every history below time 0.
+    /// The empty map: the map of every history below time 0. It takes no memory yet.
     pub fn new(alloc: Global) -> PlainMap
         ensures empty { result ≡ [] }
         ensures starts { (h : History) → IsMap h 0 result }
@@ -42,12 +42,29 @@ impl PlainMap {
         }
     }
 
+    /// The map of these slots, played in order from time 0 on. It is the map of each history that begins with them,
+    /// below the time that is their number. Refused for want of memory.
+    pub fn replay(alloc: Global, slots: &[Slot]) -> Result<PlainMap, Memory>
+        ensures map { IfOk result (IsMap (plain slots.now) (length slots.now)) }
+        ensures begins { IfOk result (λ map.
+            (h : History) (s : ℕ) → s ≤ end_of h → slots.now ≡ take s h.slots → IsMap h s map) }
+    {
+        let mut map = PlainMap::new(alloc);
+        for slot in slots {
+            map.apply(slot)?;
+        }
+        Ok(map)
+    }
+
     /// Plays one slot. The map of a history below a time becomes its map below the next time,
-    /// where the slot is the history's at that time. Refused for want of memory, the map is as it was.
+    /// where the slot is the history's at that time. Only a value for a key that had none can be refused
+    /// for want of memory, and the map is then as it was.
     pub fn apply(&mut self, slot: &Slot) -> Result<(), Memory>
         ensures plays { OnOk result (Plays slot.now self.old self.new) }
-        ensures follows { OnOk result ((h : History) (s : ℕ) → slot_at h s ≡ slot.now → IsMap h s self.old → IsMap h (s + 1) self.new) }
-        ensures err { OnErr result (self.new ≡ self.old) }
+        ensures follows { OnOk result (
+            (h : History) (s : ℕ) → slot_at h s ≡ slot.now → IsMap h s self.old → IsMap h (s + 1) self.new) }
+        ensures refused { OnErr result (AddsKey slot.now self.old) }
+        ensures unchanged { OnErr result (self.new ≡ self.old) }
     {
         match *slot {
             Slot::Nothing => Ok(()),
@@ -57,7 +74,8 @@ impl PlainMap {
 
     fn write(&mut self, key: u64, written: Option<Value>) -> Result<(), Memory>
         ensures writes { OnOk result (Writes key written self.old self.new) }
-        ensures err { OnErr result (self.new ≡ self.old) }
+        ensures refused { OnErr result (IsSome written × (value_at self.old key ≡ None)) }
+        ensures unchanged { OnErr result (self.new ≡ self.old) }
     {
         let Some(value) = written else {
             self.values.remove(&key);
@@ -76,9 +94,12 @@ impl PlainMap {
         self.values.get(&key).copied()
     }
 
-    /// All pairs with `lo <= key <= hi` by rising key; none where `lo > hi`.
+    /// All pairs with `lo <= key <= hi` by rising key; none where `lo > hi`. Refused for want of memory.
+    /// Of the map of a history below a time they are all keys from `lo` to `hi` with a value below that time.
     pub fn range(&self, lo: u64, hi: u64) -> Result<Vec<(u64, Value)>, Memory>
-        ensures { IfOk result (λ rows. rows.items ≡ between lo hi self.now) }
+        ensures rows { IfOk result (λ rows. rows.items ≡ between lo hi self.now) }
+        ensures history { IfOk result (λ rows.
+            (h : History) (s : ℕ) → IsMap h s self.now → IsRange h s lo hi rows.items) }
     {
         let rows = self
             .values

@@ -61,6 +61,11 @@ impl Value {
 }
 
 impl fmt::Display for Value {
+    ghost use Rattle.std.specs.Prelude.{Some};
+    ghost use Rattle.clsm_model.specs.Value.{text};
+
+    ghost output = { λ value. Some (text value) };
+
     /// The words in decimal, joined by commas.
     fn fmt<W: fmt::Write>(&self, f: &mut fmt::Formatter<W>) -> fmt::Result {
         let mut separator = "";

@@ -4,6 +4,8 @@
 mod opening;
 mod seat;
 mod store;
+#[cfg(test)]
+mod tests;
 
 pub use clsm_model::{Config, OpenError};
 pub use opening::{Clean, Opened, open};

@@ -1,4 +1,4 @@
-ghost use Rattle.std.specs.Prelude.{◌≡◌, ◌≤◌, IfOk, IfErr};
+ghost use Rattle.std.specs.Prelude.{◌≡◌, ◌≤◌, IfOk, IfErr, OnOk};
 ghost use Rattle.clsm_model.specs.Config.{IsSound};
 ghost use Rattle.clsm_store.specs.Opening.{empty_row, IsNumbered, IsRefusal};
 
@@ -7,7 +7,7 @@ use crate::store::Store;
 use clsm_model::{Config, OpenError};
 use std::alloc::{AllocError, Global};
 
-/// An opened store: shared by its seats, one of them a caller, and merged by the holder of the token.
+/// An opened store, the seats of its callers, numbered from 0, and the merger's token.
 #[derive(Drop)]
 pub struct Opened {
     pub store: Store,
@@ -19,25 +19,23 @@ pub struct Opened {
 #[derive(Drop)]
 pub struct Clean {}
 
-/// Opens a store of these sizes, and makes all its room. It is refused where a size is out of its range,
-/// the first of cells, seats, shards, run and patience, and else for want of memory. Nothing is kept then.
+/// Opens an empty store of these sizes, and makes all its room. Refused with the first size out of its range,
+/// in the order cells, seats, shards, run, patience, and with `Memory` only where all are in their ranges.
+/// Nothing is kept after a refusal.
 pub fn open(alloc: Global, config: Config) -> Result<Opened, OpenError>
-    ensures sizes { IfOk result (λ opened. IsSound config) }
+    ensures sizes { OnOk result (IsSound config) }
     ensures store { IfOk result (λ opened. opened.store ≡ empty_row config) }
     ensures seats { IfOk result (λ opened. IsNumbered config.seats opened.seats.items) }
     ensures refusal { IfErr result (IsRefusal config) }
 {
     config.check()?;
-    let store = Store::with_room(alloc, config.cells);
-    let seats = seats(alloc, config.seats);
-    match (store, seats) {
-        (Ok(store), Ok(seats)) => Ok(Opened {
-            store,
-            seats,
-            merger: Clean {},
-        }),
-        _ => Err(OpenError::Memory),
-    }
+    let store = Store::with_room(alloc, config.cells).map_err(|_| OpenError::Memory)?;
+    let seats = seats(alloc, config.seats).map_err(|_| OpenError::Memory)?;
+    Ok(Opened {
+        store,
+        seats,
+        merger: Clean {},
+    })
 }
 
 fn seats(alloc: Global, count: usize) -> Result<Vec<Seat>, AllocError>

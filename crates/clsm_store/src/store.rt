@@ -1,4 +1,4 @@
-ghost use Rattle.std.specs.Prelude.{◌≡◌, ◌↔◌, ◌<◌, [], length, IfOk, IfErr, IsErr, OnErr, vec_len};
+ghost use Rattle.std.specs.Prelude.{◌≡◌, ◌↔◌, [], length, IfOk, IfErr, IsErr, OnOk, OnErr};
 ghost use Rattle.clsm_model.specs.History.{plain, value};
 ghost use Rattle.clsm_store.specs.Row.{Row, IsFull, written};
 
@@ -53,7 +53,7 @@ impl Store {
     /// Refused exactly where the store is full; nothing changes then.
     pub fn put(&mut self, seat: &mut Seat, key: u64, value: Value) -> Result<Time, Full>
         ensures time { IfOk result (λ time. time ≡ length self.old.slots) }
-        ensures writes { IfOk result (λ _. self.new ≡ written self.old seat.old key value) }
+        ensures writes { OnOk result (self.new ≡ written self.old seat.old key value) }
         ensures full { IsErr result ↔ IsFull self.old }
         ensures limit { IfErr result (λ full. full.time ≡ self.old.cells) }
         ensures unchanged { OnErr result (self.new ≡ self.old) }
@@ -78,7 +78,6 @@ impl Store {
         ensures value { result.value ≡ value (plain self.now.slots) key result.time }
         ensures seat { seat.new ≡ seat.old }
     {
-        let _ = seat.number();
         Got {
             time: self.slots.len() as u64,
             value: self.newest(key),

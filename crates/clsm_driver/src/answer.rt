@@ -1,0 +1,28 @@
+use clsm_model::Time;
+use clsm_store::{Full, Got};
+use std::fmt;
+
+/// What a command answers. It is shown as the program writes it.
+#[derive(Clone, Copy, Debug)]
+pub enum Answer {
+    /// `@T`, or `full @T` where no write more may be made.
+    Write(Result<Time, Full>),
+    /// `V @T`, or `none @T` where the key has no value.
+    Read(Got),
+}
+
+impl fmt::Display for Answer {
+    fn fmt<W: fmt::Write>(&self, f: &mut fmt::Formatter<W>) -> fmt::Result {
+        match self {
+            Answer::Write(Ok(time)) => write!(f, "@{time}"),
+            Answer::Write(Err(full)) => write!(f, "full @{}", full.time),
+            Answer::Read(got) => {
+                let time = got.time;
+                match got.value {
+                    Some(value) => write!(f, "{value} @{time}"),
+                    None => write!(f, "none @{time}"),
+                }
+            }
+        }
+    }
+}

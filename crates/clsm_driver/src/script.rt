@@ -1,0 +1,94 @@
+ghost use Rattle.std.specs.Prelude.{◌≡◌, IfSome, OnOk, IfErr};
+ghost use Rattle.clsm_driver.specs.Script.{IsScript, IsStatus, StopsPlay, StopsScript};
+ghost use Rattle.clsm_driver.specs.Failure.{IsOutside};
+ghost use Rattle.clsm_model.specs.Config.{IsSound};
+
+use crate::answer::Answer;
+use crate::failure::Failure;
+use crate::input::read_line;
+use crate::line::parse_line;
+use clsm_store::{Config, Opened, Seat, Store, open};
+use std::alloc::Global;
+use std::io::{BufReader, Read, Write};
+
+/// Plays the commands of an input, one a line, on a new store of these sizes, and writes each answer
+/// as a line of its own to the output before the next command is played. Where that fails, a line on
+/// the faults says why: `bad line L` or `device`, with status 1, or `refused N SIZE` or `no memory`,
+/// with status 3. The status of a script that is played to its end is 0. A write to the faults that
+/// fails changes no status.
+pub fn script<R, W, E>(alloc: Global, config: Config, input: R, output: W, mut faults: E) -> u8
+where
+    R: Read + Drop,
+    W: Write + Drop,
+    E: Write + Drop,
+    ensures status { IsStatus result }
+    ensures refused { ¬ IsSound config → result ≡ 3 }
+    ensures played { result ≡ 0 → IfSome (R.remaining input) IsScript }
+{
+    match play_script(alloc, config, input, output) {
+        Ok(()) => 0,
+        Err(failure) => {
+            let _ = write_failure(&mut faults, failure);
+            failure.status()
+        }
+    }
+}
+
+fn write_failure<E: Write>(faults: &mut E, failure: Failure) -> std::io::Result<()> {
+    writeln!(faults, "{failure}")?;
+    faults.flush()
+}
+
+fn play_script<R, W>(alloc: Global, config: Config, input: R, mut output: W) -> Result<(), Failure>
+where
+    R: Read + Drop,
+    W: Write + Drop,
+    ensures opened { OnOk result (IsSound config) }
+    ensures played { OnOk result (IfSome (R.remaining input) IsScript) }
+    ensures stopped { IfErr result (StopsScript config (R.remaining input)) }
+{
+    let Opened {
+        mut store,
+        mut seats,
+        merger: _,
+    } = open(alloc, config)?;
+    let Ok(mut reader) = BufReader::new(alloc, input) else {
+        return Err(Failure::Memory);
+    };
+    play_lines(alloc, &mut reader, &mut output, &mut store, &mut seats[0])
+}
+
+fn play_lines<R: Read, W: Write>(
+    alloc: Global,
+    reader: &mut R,
+    output: &mut W,
+    store: &mut Store,
+    seat: &mut Seat,
+) -> Result<(), Failure>
+    ensures played { OnOk result (IfSome (R.remaining reader.old) IsScript) }
+    ensures stopped { IfErr result (StopsPlay (R.remaining reader.old)) }
+{
+    let mut line = Vec::new(alloc);
+    for number in 1..u64::MAX {
+        if !read_line(reader, &mut line)? {
+            return Ok(());
+        }
+        let said = match parse_line(alloc, &line) {
+            Ok(said) => said,
+            Err(error) => return Err(error.at(number)),
+        };
+        if let Some(command) = said {
+            write_answer(alloc, output, command.play(store, seat))?;
+        }
+    }
+    Err(Failure::Device)
+}
+
+fn write_answer<W: Write>(alloc: Global, output: &mut W, answer: Answer) -> Result<(), Failure>
+    ensures { IfErr result IsOutside }
+{
+    let text = format!(in alloc; "{answer}\n")?;
+    output.write_all(text.as_bytes())?;
+    output.flush()?;
+    Ok(())
+}

@@ -1,0 +1,14 @@
+pub mod Every
+pub mod Searches
+pub mod Histories
+pub mod Merges
+pub mod Orders
+pub mod Keeps
+pub mod Exactness
+pub mod Contents
+pub mod Placed
+pub mod Turns
+pub mod Withins
+pub mod Rules
+pub mod Passes
+pub mod Sorts
