@@ -2,3 +2,5 @@ pub mod Histories
 pub mod Maps
 pub mod Ranges
 pub mod Texts
+pub mod Equals
+pub mod EqualRecords

@@ -1,17 +1,47 @@
 -- What a call did, against a history: the write that it made, and what makes its reading right.
-use Rattle.std.specs.Prelude.{◌≡◌, ℕ, Option, Some, None}
+use Rattle.std.specs.Prelude.{◌≡◌, ℕ, ◌+◌, ◌<◌, ◌≤◌, List, [], ◌∷◌, length, take, drop, Option, Some, None}
 use Rattle.clsm_model.specs.declared.slot.Slot.{Slot}
 use Rattle.clsm_model.specs.declared.slot.Slot.TheVariants.{Wrote}
+use Rattle.clsm_model.specs.declared.slot.Change.{Change}
+use Rattle.clsm_model.specs.declared.slot.Change.TheVariants.{Keep, Set, Remove as Erase}
 use Rattle.clsm_model.specs.declared.record.Deed.{Deed}
-use Rattle.clsm_model.specs.declared.record.Deed.TheVariants.{Put, Get}
-use Rattle.clsm_model.specs.History.{History, IsReadable, value}
+use Rattle.clsm_model.specs.declared.record.Deed.TheVariants.{Put, Remove, Rmw, Get, Snapshot, Close, GetAt, Scan, Page}
+use Rattle.clsm_model.specs.declared.record.CallRecord.{CallRecord}
+use Rattle.clsm_model.specs.History.{History, IsReadable, value, slot_at}
+use Rattle.clsm_model.specs.Map.{Pair, IsRange}
+
+-- the write that a change of the key is, where the seat makes it
+abbrev pub change_by : ℕ → ℕ → Change → Option Slot
+change_by seat key Keep = None
+change_by seat key (Set written) = Some (Wrote seat key (Some written))
+change_by seat key Erase = Some (Wrote seat key None)
 
 -- the write that the deed is, where the seat does it
 abbrev pub write_by : ℕ → Deed → Option Slot
 write_by seat (Put key written) = Some (Wrote seat key (Some written))
-write_by seat (Get key reply) = None
+write_by seat (Remove key) = Some (Wrote seat key None)
+write_by seat (Rmw key old change) = change_by seat key change
+write_by seat _ = None
 
--- the deed is a read at the time s, and its reply is that of the history's writes below s
-abbrev pub IsRightRead : History → ℕ → Deed → Type 0
-IsRightRead h s (Put key written) = ⊥
-IsRightRead h s (Get key reply) = IsReadable h s × (reply ≡ value h key s)
+abbrev pub first_key : List Pair → Option ℕ
+first_key [] = None
+first_key (pair ∷ pairs) = Some pair.0
+
+-- the page: the first rows of all, and the key of the next one
+pub record IsPage (all : List Pair) (max : ℕ) (rows : List Pair) (more : Option ℕ) : Type 0 where
+  pub front : rows ≡ take max all
+  pub next : more ≡ first_key (drop max all)
+
+-- what the deed says of the history below the time s: nothing, for a deed that read nothing
+abbrev pub Reads : History → ℕ → Deed → Type 0
+Reads h s (Rmw key old change) = old ≡ value h key s
+Reads h s (Get key reply) = reply ≡ value h key s
+Reads h s (GetAt key reply) = reply ≡ value h key s
+Reads h s (Scan lo hi rows) = IsRange h s lo hi rows
+Reads h s (Page from hi max rows more) = (all : List Pair) × IsRange h s from hi all × IsPage all max rows more
+Reads h s _ = Unit {0}
+
+-- the deed stands at a time of the history, and what it read is what the writes below that time give
+pub record IsRight (h : History) (s : ℕ) (deed : Deed) : Type 0 where
+  pub readable : IsReadable h s
+  pub reads : Reads h s deed

@@ -4,6 +4,7 @@
 mod config;
 mod plain_map;
 mod record;
+mod rows;
 mod slot;
 #[cfg(test)]
 mod tests;
@@ -12,6 +13,7 @@ mod value;
 pub use config::{Config, OpenError};
 pub use plain_map::{Memory, PlainMap};
 pub use record::{CallRecord, Deed};
+pub use rows::Rows;
 pub use slot::{Change, Slot};
 pub use value::{Length, Value};
 

@@ -1,17 +1,71 @@
+ghost use Rattle.std.specs.Prelude.{◌≡◌};
+
 use crate::Time;
+use crate::rows::Rows;
+use crate::slot::Change;
 use crate::value::Value;
+use std::alloc::AllocError;
 
 /// What a call did, with its arguments and its answer.
-#[derive(Clone, Copy, PartialEq, Eq, Hash, Debug)]
+#[derive(Clone, PartialEq, Eq, Hash, Drop, Debug)]
 pub enum Deed {
-    Put { key: u64, value: Value },
-    Get { key: u64, reply: Option<Value> },
+    Put {
+        key: u64,
+        value: Value,
+    },
+    Remove {
+        key: u64,
+    },
+    /// A read of `old` and then the change: with `Keep` it is a read alone.
+    Rmw {
+        key: u64,
+        old: Option<Value>,
+        change: Change,
+    },
+    Get {
+        key: u64,
+        reply: Option<Value>,
+    },
+    /// The opening of a snapshot, and its close.
+    Snapshot,
+    Close,
+    /// A read at the open snapshot.
+    GetAt {
+        key: u64,
+        reply: Option<Value>,
+    },
+    /// All pairs with `lo <= key <= hi`, by rising key.
+    Scan {
+        lo: u64,
+        hi: u64,
+        rows: Rows,
+    },
+    /// The first `max` pairs with `from <= key <= hi`, and the key of the next pair, if there is one.
+    Page {
+        from: u64,
+        hi: u64,
+        max: u64,
+        rows: Rows,
+        more: Option<u64>,
+    },
 }
 
 /// An answered call: the number of its seat, its time, and its deed.
-#[derive(Clone, Copy, PartialEq, Eq, Hash, Debug)]
+#[derive(PartialEq, Eq, Hash, Drop, Debug)]
 pub struct CallRecord {
     pub seat: u32,
     pub time: Time,
     pub deed: Deed,
+}
+
+impl Clone for CallRecord {
+    ghost is_clone = { λ original copy. copy ≡ original };
+
+    /// The same record. Refused for want of memory.
+    fn clone(&self) -> Result<CallRecord, AllocError> {
+        Ok(CallRecord {
+            deed: self.deed.clone()?,
+            ..*self
+        })
+    }
 }

@@ -1,0 +1,12 @@
+pub mod Memory
+pub mod Layout
+pub mod Places
+pub mod Relation
+pub mod Merging
+pub mod Worlds
+pub mod Seats
+pub mod Law
+pub mod Machine
+pub mod Reading
+pub mod Keeping
+pub mod Running

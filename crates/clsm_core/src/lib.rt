@@ -1,0 +1,16 @@
+//! The pure machine: all words and all views as plain data, each atomic step one event, and one law that every step keeps.
+#![tactic(auto)]
+
+mod items;
+mod layout;
+mod merger;
+mod step;
+mod view;
+mod word;
+
+pub use items::Items;
+pub use layout::Layout;
+pub use merger::{MergerView, Phase, Retiree, Round};
+pub use step::{Answer, End, Event, Step, StepError};
+pub use view::{Mode, SnapshotState, View};
+pub use word::{Part, Word};

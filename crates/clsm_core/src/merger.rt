@@ -1,0 +1,49 @@
+use crate::items::Items;
+use clsm_model::Time;
+
+/// Where the merger is between two merges.
+#[derive(Clone, Copy, PartialEq, Eq, Hash, Debug)]
+pub enum Phase {
+    /// Nothing is frozen.
+    Clean,
+    /// An epoch is frozen and not yet merged.
+    Frozen,
+    /// It is merged, and its cells are not yet given up.
+    Retired,
+}
+
+/// A round of looks at the snapshot words in the order of the seats: the next seat, and the least time noted so far.
+#[derive(Clone, Copy, PartialEq, Eq, Hash, Debug)]
+pub struct Round {
+    pub next: u64,
+    pub least: Option<Time>,
+}
+
+/// What the merger found of a seat in this retirement.
+#[derive(Clone, Copy, PartialEq, Eq, Hash, Debug)]
+pub struct Retiree {
+    /// Its pin word as first noted.
+    pub first_pin: Option<u64>,
+    /// It holds nothing retired.
+    pub quiet: bool,
+}
+
+/// What the merger knows and has done.
+#[derive(Drop)]
+pub struct MergerView {
+    pub phase: Phase,
+    /// The number of merges.
+    pub merged: u64,
+    /// It holds the lock exclusively; in this hold it cancelled an undrawn cell, moved the clock to the epoch's end, and moved the limit.
+    pub exclusive: bool,
+    pub padded: bool,
+    pub clock_extended: bool,
+    pub limit_extended: bool,
+    /// No open or coming snapshot has a time below it.
+    pub floor: Time,
+    pub round: Option<Round>,
+    /// The floors that the runs of this component and of the one before were merged with.
+    pub merged_floor: Time,
+    pub former_floor: Time,
+    pub retirees: Items<Retiree>,
+}

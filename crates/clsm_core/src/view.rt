@@ -1,0 +1,64 @@
+use crate::items::Items;
+use clsm_model::{CallRecord, Time};
+
+/// How a seat holds the lock.
+#[derive(Clone, Copy, PartialEq, Eq, Hash, Debug)]
+pub enum Mode {
+    Free,
+    Shared,
+    Exclusive,
+}
+
+/// How far a seat is with its snapshot.
+#[derive(Clone, Copy, PartialEq, Eq, Hash, Debug)]
+pub enum SnapshotState {
+    Absent,
+    /// It noted a time in its word, under the pin that will record it.
+    Noted(Time),
+    /// It looked at the clock after the note: the snapshot's own time.
+    Timed { noted: Time, time: Time },
+    /// It is recorded and open.
+    Open { noted: Time, time: Time },
+}
+
+/// What one caller's seat knows and has done.
+#[derive(Drop)]
+pub struct View {
+    pub mode: Mode,
+    /// The last look at LOCK, at CLOCK and at each head, while it is fresh: no exchange of the seat's
+    /// own on that word and no entering or leaving of the lock since.
+    pub fresh_lock: Option<u64>,
+    pub fresh_clock: Option<Time>,
+    pub fresh_heads: Items<Option<u64>>,
+    /// The looks at LIMIT and CLOCK in the last hold of the lock.
+    pub hold_limit: Option<Time>,
+    pub hold_clock: Option<Time>,
+    /// The time that it drew and has not decided, the parts of its cell that it filled, and whether the cell is linked.
+    pub drawn: Option<Time>,
+    pub key: Option<u64>,
+    pub length: Option<u64>,
+    pub words: Items<Option<u64>>,
+    pub next: Option<u64>,
+    pub linked: bool,
+    /// Its pin word, which is odd while it is pinned.
+    pub pin: u64,
+    pub pinned: bool,
+    /// The component that it holds.
+    pub held: Option<u64>,
+    /// The clock as it last looked at it, and as it looked at it under this pin.
+    pub clock: Option<Time>,
+    pub pin_clock: Option<Time>,
+    pub snapshot: SnapshotState,
+    /// Every time below these is decided.
+    pub reached: Time,
+    pub past: Time,
+    /// No later call of the seat has a time below it.
+    pub due: Time,
+    pub calls: Items<CallRecord>,
+    /// Modulo 2^64: entries into the lock; looks that found it held exclusively and entries that lost;
+    /// draws and links that lost; decides of the drawn time that lost.
+    pub entries: u64,
+    pub busy: u64,
+    pub raced: u64,
+    pub overtaken: u64,
+}
