@@ -1,18 +1,18 @@
 -- What an open step of a seat never takes back: decided slots stay, the history grows, and the pasts with it.
-use Rattle.std.proofs.Common.{◌≡◌, ◌≢◌, ℕ, ◌+◌, ◌*◌, ◌<◌, ◌≤◌, ◌==◌, cond, List, [], ◌∷◌, ◌++◌, length, set, sym, refl, ap, ◌∙◌, subst, arith, inl, inr, ⊎_elim, Option, Some, None, length-set, length-append}
+use Rattle.std.proofs.Common.{◌≡◌, ℕ, ◌+◌, ◌<◌, ◌≤◌, cond, [], ◌∷◌, ◌++◌, length, set, refl, ◌∙◌, arith, ⊎_elim, Option, Some, None, length-set, length-append}
 use Rattle.clsm_model.specs.declared.slot.Slot.{Slot}
-use Rattle.clsm_model.specs.declared.slot.Slot.TheVariants.{Nothing, Wrote}
+use Rattle.clsm_model.specs.declared.slot.Slot.TheVariants.{Nothing}
 use Rattle.clsm_model.specs.Right.{write_by}
 use Rattle.clsm_core.specs.declared.step.Step.{Step}
-use Rattle.clsm_core.specs.declared.step.Step.TheVariants.{Draw, Decide, Cancel, ExtendClock}
+use Rattle.clsm_core.specs.declared.step.Step.TheVariants.{Draw, Decide, Cancel}
 use Rattle.clsm_core.specs.declared.word.Word.TheVariants.{State}
 use Rattle.clsm_core.specs.Memory.{cell_of}
 use Rattle.clsm_core.specs.Relation.{HoldsFrom, IsBelow}
 use Rattle.clsm_core.specs.Worlds.{slot_at}
 use Rattle.clsm_core.specs.Law.{first_shown}
 use Rattle.clsm_core.proofs.Tests.{by_test}
-use Rattle.clsm_core.proofs.Frames.{Puts, at_each, puts_slot, slots_grown}
-use Rattle.clsm_core.proofs.Setting.{Setting, Ground, ground, v, x, S, Opens, undecided, drawn_shown, held_shown, shown_below_merged, slots', OpensTo}
+use Rattle.clsm_core.proofs.Frames.{at_each, puts_slot, slots_grown}
+use Rattle.clsm_core.proofs.Setting.{Setting, ground, v, x, S, Opens, undecided, drawn_shown, held_shown, shown_below_merged}
 
 -- the time of an open Cancel is shown
 pub cancels_shown : (s : Setting) (t : ℕ) → Opens s (Cancel t) → (first_shown s.z s.merger ≤ t) × (t < length s.slots)

@@ -1,16 +1,16 @@
 -- How the clauses on runs are kept.
-use Rattle.std.proofs.Common.{◌≡◌, ◌≢◌, ℕ, zero, suc, ◌+◌, ◌-◌, ◌*◌, ◌/◌, ◌%◌, ◌<◌, ◌≤◌, ◌==◌, ◌⊎◌, ◌&&◌, not, set, ⊎_elim, Bool, true, false, cond, nat_lt, List, [], ◌∷◌, ◌++◌, length, map, slice_index_or, sym, refl, ap, ◌∙◌, subst, arith, inl, inr, Option, Some, None, unwrap_or}
+use Rattle.std.proofs.Common.{◌≡◌, ◌≢◌, ℕ, zero, suc, ◌+◌, ◌-◌, ◌*◌, ◌/◌, ◌%◌, ◌<◌, ◌≤◌, ◌==◌, ◌⊎◌, ◌&&◌, not, set, ⊎_elim, Bool, true, false, cond, nat_lt, List, [], ◌∷◌, ◌++◌, map, slice_index_or, sym, refl, ap, ◌∙◌, subst, arith, inl, inr, Option, Some, None, unwrap_or}
 use Rattle.std.specs.List.{AllByRecursion}
-use Rattle.std.proofs.lemmas.Bool.{lt-ltb, le-ltb, eq-eqb, ne_eqb, cases_lt, cases_eq}
+use Rattle.std.proofs.lemmas.Bool.{lt-ltb, le-ltb, eq-eqb, cases_lt, cases_eq}
 use Rattle.std.proofs.lemmas.Bool.{ltb-true, eqb-true}
 use Rattle.clsm_model.specs.declared.slot.Slot.{Slot}
-use Rattle.clsm_model.specs.declared.slot.Slot.TheVariants.{Nothing, Wrote}
-use Rattle.clsm_model.specs.History.{History, slot_at as history_at}
+use Rattle.clsm_model.specs.declared.slot.Slot.TheVariants.{Nothing}
+use Rattle.clsm_model.specs.History.{History}
 use Rattle.clsm_levels.specs.declared.entry.Entry.{Entry}
 use Rattle.clsm_levels.specs.declared.place.Place.{Place}
-use Rattle.clsm_levels.specs.declared.place.Place.TheVariants.{LevelZero, LevelOne}
+use Rattle.clsm_levels.specs.declared.place.Place.TheVariants.{LevelOne}
 use Rattle.clsm_levels.specs.Content.{IsContent, AgreeBelow}
-use Rattle.clsm_levels.specs.Place.{places, target, level_zero_places, runs_at, IsWithin, AreWithin}
+use Rattle.clsm_levels.specs.Place.{places, target, level_zero_places, IsWithin}
 use Rattle.clsm_levels.proofs.Contents.{content_agree}
 use Rattle.clsm_levels.proofs.Turns.{turn_in_place}
 use Rattle.clsm_levels.proofs.Placed.{target_one, target_zero}
@@ -30,7 +30,7 @@ use Rattle.clsm_core.specs.Places.{number_of, is_named, entry_in, entries_from, 
 use Rattle.clsm_core.specs.Worlds.{slot_at, settled, history_of, runs_of}
 use Rattle.clsm_core.specs.Law.{AreRuns, is_held_back}
 use Rattle.clsm_core.proofs.Frames.{put_other, put_same}
-use Rattle.clsm_core.proofs.Setting.{facts, Setting, Ground, ground, v, x, M, S, Opens, OpensTo, memory', slots', merger'}
+use Rattle.clsm_core.proofs.Setting.{facts, Setting, Ground, x, M, S, Opens, OpensTo, memory', slots', merger'}
 use Rattle.clsm_core.proofs.Tests.{by_bool}
 use Rattle.clsm_core.proofs.Windows.{all_quiet_stays}
 use Rattle.clsm_core.proofs.Growth.{slots_stay}

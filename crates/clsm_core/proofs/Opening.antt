@@ -1,21 +1,20 @@
 -- The opening world is lawful.
-use Rattle.std.proofs.Common.{◌≡◌, ◌≢◌, ℕ, zero, suc, ◌+◌, ◌*◌, ◌%◌, ◌^◌, ◌<◌, ◌≤◌, Bool, true, false, cond, List, [], ◌∷◌, length, replicate, set, sym, refl, ap, ◌∙◌, subst, arith, inl, inr, Option, Some, None, length-set}
+use Rattle.std.proofs.Common.{◌≡◌, ◌≢◌, ℕ, zero, suc, ◌*◌, ◌%◌, ◌≤◌, cond, List, [], replicate, sym, refl, ap, ◌∙◌, subst, arith, inl, Option, Some, None, length-set}
 use Rattle.std.specs.List.{AllByRecursion, sum_by}
 use Rattle.std.proofs.lemmas.List.{length-replicate}
 use Rattle.std.proofs.lemmas.List.Sums.{sum_by-cons}
-use Rattle.clsm_model.specs.declared.slot.Slot.{Slot}
 use Rattle.clsm_levels.specs.Content.{IsContent}
 use Rattle.clsm_core.specs.declared.layout.Layout.{Layout}
 use Rattle.clsm_core.specs.declared.word.Word.TheVariants.{Limit}
 use Rattle.clsm_core.specs.declared.view.View.{View}
 use Rattle.clsm_core.specs.Memory.{Memory, put}
-use Rattle.clsm_core.specs.Layout.{IsLayout, index_of, size_of, memory}
+use Rattle.clsm_core.specs.Layout.{IsLayout, index_of, size_of}
 use Rattle.clsm_core.specs.Relation.{idle, open_time}
 use Rattle.clsm_core.specs.Merging.{opening, unseen}
 use Rattle.clsm_core.specs.Worlds.{view_at, slot_at, past_of, history_of, runs_of}
 use Rattle.clsm_core.specs.Law.{LawOf, IsSnapshot, note_of, each, mode_of, drawn_of, holders, hold_limit_of, fresh_clock_of, hold_clock_of, clock_of, pin_clock_of, past_time_of, reached_of, pin_of, held_of}
 use Rattle.clsm_core.specs.Seats.{IsRightRecord, IsStandingRecord, IsRising}
-use Rattle.clsm_core.specs.Machine.{WorldState, IsLawful, opened}
+use Rattle.clsm_core.specs.Machine.{IsLawful, opened}
 use Rattle.clsm_core.proofs.Layouts.{memory-set, memory-zeros}
 
 module _ (z : Layout) where

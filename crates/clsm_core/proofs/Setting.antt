@@ -7,9 +7,8 @@ use Rattle.clsm_core.specs.declared.layout.Layout.{Layout}
 use Rattle.clsm_core.specs.declared.word.Word.{Word}
 use Rattle.clsm_core.specs.declared.word.Word.TheVariants.{Limit, State}
 use Rattle.clsm_core.specs.declared.step.Step.{Step}
-use Rattle.clsm_core.specs.declared.step.Step.TheVariants.{Look, Cancel}
+use Rattle.clsm_core.specs.declared.step.Step.TheVariants.{Look}
 use Rattle.clsm_core.specs.declared.view.View.{View}
-use Rattle.clsm_core.specs.declared.view.Mode.{Mode}
 use Rattle.clsm_core.specs.declared.merger.MergerView.{MergerView}
 use Rattle.clsm_core.specs.declared.merger.Retiree.{Retiree}
 use Rattle.clsm_core.specs.declared.merger.Phase.{Phase}
@@ -19,7 +18,7 @@ use Rattle.clsm_core.specs.Layout.{IsLayout}
 use Rattle.clsm_core.specs.Relation.{Chains, is_shared, or_zero, IsOpen, own_time, word_of, changed, view_after, slots_after, chains_after}
 use Rattle.clsm_core.specs.Merging.{is_clean, Facts, IsOpenToMerger, word_of_merger, changed_by_merger, merger_after, slots_after_merger, chains_after_merger, is_retired, is_frozen, is_all_quiet, retiree_at}
 use Rattle.clsm_core.specs.Worlds.{view_at, slot_at, past_of, facts_of}
-use Rattle.clsm_core.specs.Law.{LawOf, Shows, each, mode_of, drawn_of, held_of, pin_of, past_time_of, IsRetiredFor, first_shown, first_live, first_free, is_held_back}
+use Rattle.clsm_core.specs.Law.{LawOf, Shows, each, mode_of, drawn_of, held_of, pin_of, past_time_of, IsRetiredFor, first_shown, first_live, is_held_back}
 use Rattle.clsm_core.proofs.Frames.{put_same, past_end}
 use Rattle.clsm_core.proofs.Tests.{by_bool}
 use Rattle.clsm_core.proofs.Times.{Live}

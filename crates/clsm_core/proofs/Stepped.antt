@@ -1,5 +1,5 @@
 -- A lawful world is lawful after each step that may be made.
-use Rattle.std.proofs.Common.{◌≡◌, ℕ, ◌<◌, ⊎_elim, Bool, cond, length, sym, ap, ◌∙◌, subst, arith, length-set}
+use Rattle.std.proofs.Common.{ℕ, ◌<◌, ⊎_elim, Bool, cond, length, sym, ◌∙◌, subst, arith, length-set}
 use Rattle.std.proofs.lemmas.Bool.{lt-ltb, le-ltb}
 use Rattle.clsm_core.specs.declared.step.Step.{Step}
 use Rattle.clsm_core.specs.Memory.{Memory}

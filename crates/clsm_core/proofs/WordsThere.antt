@@ -1,11 +1,10 @@
 -- The word of an open step is there.
-use Rattle.std.proofs.Common.{◌≡◌, ◌≢◌, ℕ, ◌+◌, ◌*◌, ◌%◌, ◌<◌, ◌&&◌, true, Bool, nat_lt, refl, ap, ◌∙◌, arith, length}
+use Rattle.std.proofs.Common.{◌≡◌, ℕ, ◌*◌, ◌%◌, ◌<◌, ◌&&◌, true, Bool, nat_lt, refl, arith}
 use Rattle.std.proofs.lemmas.Bool.{lt-ltb}
 use Rattle.std.proofs.lemmas.Nat.{mod_below}
-use Rattle.clsm_core.specs.declared.word.Word.{Word}
 use Rattle.clsm_core.specs.declared.step.Step.{Step}
-use Rattle.clsm_core.specs.declared.step.Step.TheVariants.{EnterShared, LeaveShared, EnterExclusive, LeaveExclusive, Draw, Fill, Link, Decide, Cancel, Pin, Unpin, Look, RaiseFront, Note, CloseSnapshot, Pad, WriteRun, ClearHead, ClearState, Publish, ExtendClock, ExtendLimit}
-use Rattle.clsm_core.specs.Memory.{cell_of, region_of, is_word, is_part}
+use Rattle.clsm_core.specs.declared.step.Step.TheVariants.{Fill, Link, Decide, Cancel, Pin, Unpin, Look, Note, CloseSnapshot, Pad, WriteRun, ClearHead, ClearState}
+use Rattle.clsm_core.specs.Memory.{cell_of, is_word, is_part}
 use Rattle.clsm_core.specs.Relation.{word_of, own_time, or_zero}
 use Rattle.clsm_core.specs.Merging.{word_of_merger}
 use Rattle.clsm_core.proofs.Times.{cell_below, region_below}

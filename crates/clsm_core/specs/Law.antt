@@ -1,15 +1,10 @@
 -- The law of a world: what every open step keeps. Each clause is stated over the few functions that it names.
-use Rattle.std.specs.Prelude.{◌≡◌, ◌≢◌, ℕ, ◌+◌, ◌-◌, ◌*◌, ◌%◌, ◌^◌, ◌<◌, ◌≤◌, ◌==◌, ◌&&◌, ◌||◌, ◌⊎◌, Bool, true, false, not, cond, List, [], ◌∷◌, length, slice_index, slice_index_or, Option, Some, None}
+use Rattle.std.specs.Prelude.{◌≡◌, ◌≢◌, ℕ, ◌+◌, ◌-◌, ◌*◌, ◌%◌, ◌^◌, ◌<◌, ◌≤◌, ◌&&◌, ◌||◌, ◌⊎◌, Bool, true, false, not, cond, List, [], ◌∷◌, length, slice_index, slice_index_or, Option, Some, None}
 use Rattle.std.specs.List.{AllByRecursion, sum_by}
 use Rattle.clsm_model.specs.declared.slot.Slot.{Slot}
 use Rattle.clsm_model.specs.declared.slot.Slot.TheVariants.{Nothing, Wrote}
-use Rattle.clsm_model.specs.declared.record.Deed.{Deed}
-use Rattle.clsm_model.specs.declared.record.Deed.TheVariants.{Put, Remove, Rmw, Get, Snapshot, Close, GetAt, Scan, Page}
-use Rattle.clsm_model.specs.declared.slot.Change.TheVariants.{Keep, Set, Remove as Erase}
 use Rattle.clsm_model.specs.declared.record.CallRecord.{CallRecord}
 use Rattle.clsm_model.specs.History.{History}
-use Rattle.clsm_model.specs.Right.{IsRight, write_by}
-use Rattle.clsm_levels.specs.declared.entry.Entry.{Entry}
 use Rattle.clsm_levels.specs.Content.{IsContent}
 use Rattle.clsm_levels.specs.Place.{AreWithin}
 use Rattle.clsm_core.specs.declared.layout.Layout.{Layout}
@@ -18,12 +13,11 @@ use Rattle.clsm_core.specs.declared.word.Part.{Part}
 use Rattle.clsm_core.specs.declared.word.Part.TheVariants.{Key, Length, Value, Next}
 use Rattle.clsm_core.specs.declared.view.View.{View}
 use Rattle.clsm_core.specs.declared.view.Mode.{Mode}
-use Rattle.clsm_core.specs.declared.view.Mode.TheVariants.{Free, Shared, Exclusive}
+use Rattle.clsm_core.specs.declared.view.Mode.TheVariants.{Shared, Exclusive}
 use Rattle.clsm_core.specs.declared.view.SnapshotState.{SnapshotState}
 use Rattle.clsm_core.specs.declared.view.SnapshotState.TheVariants.{Absent, Noted, Timed, Open}
 use Rattle.clsm_core.specs.declared.merger.MergerView.{MergerView}
 use Rattle.clsm_core.specs.declared.merger.Round.{Round}
-use Rattle.clsm_core.specs.declared.merger.Retiree.{Retiree}
 use Rattle.clsm_core.specs.Memory.{Memory, cell_of, region_of, room_of}
 use Rattle.clsm_core.specs.Places.{is_named, held_at}
 use Rattle.clsm_core.specs.Relation.{Chains, is_shared, length_of, words_of, state_of, open_time}

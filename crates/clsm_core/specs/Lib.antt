@@ -10,3 +10,9 @@ pub mod Machine
 pub mod Reading
 pub mod Keeping
 pub mod Running
+pub mod SeatBounds
+pub mod SeatReads
+pub mod Deciding
+pub mod Same
+pub mod Settling
+pub mod MachineState

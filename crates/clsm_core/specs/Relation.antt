@@ -1,16 +1,15 @@
 -- The steps of a caller's seat, by cases in the order of the step's members: where each is open, its word, what it makes of the word,
 -- the view after it, the slots and chains after it, and its answer. `x` is the word that the step finds.
-use Rattle.std.specs.Prelude.{◌≡◌, ◌≢◌, ℕ, ◌+◌, ◌-◌, ◌*◌, ◌%◌, ◌^◌, ◌<◌, ◌≤◌, ◌==◌, ◌&&◌, ◌⊎◌, Bool, true, false, not, cond, nat_lt, nat_le, max, List, [], ◌∷◌, ◌++◌, length, map, replicate, slice_index_or, slice_set, Option, Some, None, IsSome, is_some}
-use Rattle.std.specs.List.{AllByRecursion}
+use Rattle.std.specs.Prelude.{◌≡◌, ◌≢◌, ℕ, ◌+◌, ◌-◌, ◌*◌, ◌%◌, ◌^◌, ◌<◌, ◌≤◌, ◌==◌, ◌&&◌, ◌⊎◌, Bool, true, false, not, cond, nat_lt, nat_le, max, List, [], ◌∷◌, ◌++◌, length, map, replicate, slice_index_or, slice_set, Option, Some, None, is_some}
 use prog.Atomic.{either}
 use Rattle.clsm_model.specs.declared.slot.Slot.{Slot}
 use Rattle.clsm_model.specs.declared.slot.Slot.TheVariants.{Nothing, Wrote}
-use Rattle.clsm_model.specs.declared.slot.Change.TheVariants.{Keep, Set, Remove as Erase}
+use Rattle.clsm_model.specs.declared.slot.Change.TheVariants.{Keep}
 use Rattle.clsm_model.specs.declared.record.Deed.{Deed}
-use Rattle.clsm_model.specs.declared.record.Deed.TheVariants.{Put, Remove, Rmw, Get, Snapshot, Close, GetAt, Scan, Page}
+use Rattle.clsm_model.specs.declared.record.Deed.TheVariants.{Rmw, Get, Snapshot, Close, GetAt, Scan, Page}
 use Rattle.clsm_model.specs.declared.record.CallRecord.{CallRecord}
 use Rattle.clsm_model.specs.Value.{padded}
-use Rattle.clsm_model.specs.History.{History, or_else, value}
+use Rattle.clsm_model.specs.History.{History, or_else}
 use Rattle.clsm_model.specs.Right.{IsRight, write_by}
 use Rattle.clsm_core.specs.declared.layout.Layout.{Layout}
 use Rattle.clsm_core.specs.declared.word.Word.{Word}
@@ -18,14 +17,14 @@ use Rattle.clsm_core.specs.declared.word.Word.TheVariants.{Lock, Clock, Limit, F
 use Rattle.clsm_core.specs.declared.word.Part.{Part}
 use Rattle.clsm_core.specs.declared.word.Part.TheVariants.{Key, Length, Value, Next}
 use Rattle.clsm_core.specs.declared.step.Step.{Step}
-use Rattle.clsm_core.specs.declared.step.Step.TheVariants.{EnterShared, LeaveShared, EnterExclusive, LeaveExclusive, Draw, Fill, Link, Decide, Cancel, Pin, Unpin, Look, RaiseFront, Note, CloseSnapshot, Pad, WriteRun, ClearHead, ClearState, Publish, ExtendClock, ExtendLimit}
+use Rattle.clsm_core.specs.declared.step.Step.TheVariants.{EnterShared, LeaveShared, EnterExclusive, Draw, Fill, Link, Decide, Cancel, Pin, Unpin, Look, RaiseFront, Note, CloseSnapshot}
 use Rattle.clsm_core.specs.declared.step.End.{End}
 use Rattle.clsm_core.specs.declared.step.End.TheVariants.{Neither, Meeting, Recorded}
 use Rattle.clsm_core.specs.declared.step.Answer.{Answer}
 use Rattle.clsm_core.specs.declared.step.Answer.TheVariants as answers
 use Rattle.clsm_core.specs.declared.view.View.{View}
 use Rattle.clsm_core.specs.declared.view.Mode.{Mode}
-use Rattle.clsm_core.specs.declared.view.Mode.TheVariants.{Free, Shared, Exclusive}
+use Rattle.clsm_core.specs.declared.view.Mode.TheVariants.{Free, Shared}
 use Rattle.clsm_core.specs.declared.view.SnapshotState.{SnapshotState}
 use Rattle.clsm_core.specs.declared.view.SnapshotState.TheVariants.{Absent, Noted, Timed, Open}
 use Rattle.clsm_core.specs.Memory.{cell_of, region_of, head_of, is_part, is_word}

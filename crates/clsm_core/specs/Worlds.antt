@@ -1,5 +1,5 @@
 -- What the law and the steps say of a world's slots, views and words.
-use Rattle.std.specs.Prelude.{◌≡◌, ℕ, zero, suc, ◌+◌, ◌-◌, ◌*◌, ◌<◌, ◌==◌, ◌&&◌, ◌||◌, ◌⊎◌, Bool, true, cond, nat_lt, List, [], ◌∷◌, map, take, length, slice_index_or, slice_set, Option, Some, None, unwrap_or}
+use Rattle.std.specs.Prelude.{ℕ, zero, suc, ◌+◌, ◌-◌, ◌*◌, ◌==◌, ◌&&◌, ◌||◌, Bool, true, List, map, take, slice_index_or, Option, None, unwrap_or}
 use Rattle.clsm_model.specs.declared.slot.Slot.{Slot}
 use Rattle.clsm_model.specs.declared.slot.Slot.TheVariants.{Nothing}
 use Rattle.clsm_model.specs.History.{History, plain}
@@ -9,7 +9,6 @@ use Rattle.clsm_levels.specs.Merge.{wanted}
 use Rattle.clsm_levels.specs.Place.{places, runs_at}
 use Rattle.clsm_core.specs.declared.layout.Layout.{Layout}
 use Rattle.clsm_core.specs.declared.word.Word.TheVariants.{Clock, Head, State, Count}
-use Rattle.clsm_core.specs.declared.step.Step.{Step}
 use Rattle.clsm_core.specs.declared.view.View.{View}
 use Rattle.clsm_core.specs.declared.merger.MergerView.{MergerView}
 use Rattle.clsm_core.specs.Memory.{Memory, cell_of}

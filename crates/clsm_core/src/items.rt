@@ -1,4 +1,4 @@
-ghost use Rattle.std.specs.Prelude.{◌≡◌, ◌++◌, ◌∷◌, [], IfOk, OnErr};
+ghost use Rattle.std.specs.Prelude.{◌≡◌, ◌++◌, ◌∷◌, [], None, replicate, slice_set, IfOk, OnErr, MatchResult};
 ghost use Rattle.std.specs.Cmp.Lexicographic.{pointwise, lists_per, lists_equiv};
 ghost use Rattle.std.specs.Hash as fed;
 ghost use Rattle.std.specs.List.{AllZip};
@@ -31,10 +31,47 @@ impl<T> Items<T> {
         }
     }
 
+    pub fn of(items: Vec<T>) -> Items<T>
+        ensures { result ≡ items.items }
+    {
+        Items { items }
+    }
+
     pub fn as_slice(&self) -> &[T]
         ensures { result.now ≡ self.now }
     {
         self.items.as_slice()
+    }
+}
+
+impl<T: Drop> Items<T> {
+    /// Puts the item behind the others. Refused for want of memory, they stay as they were.
+    pub(crate) fn push(&mut self, item: T) -> Result<(), AllocError>
+        ensures { MatchResult result (λ _. self.new ≡ self.old ++ item ∷ []) (λ _. self.new ≡ self.old) }
+    {
+        self.items.push(item)?;
+        Ok(())
+    }
+
+    /// Puts the item in the place of the one at the index, if there is one.
+    pub(crate) fn set(&mut self, index: usize, item: T)
+        ensures { self.new ≡ slice_set self.old index item }
+    {
+        if index < self.items.len() {
+            self.items[index] = item;
+        }
+    }
+}
+
+impl Items<Option<u64>> {
+    /// Makes them so many places with nothing. Refused for want of memory, they stay as they were.
+    pub(crate) fn blank(&mut self, count: usize) -> Result<(), AllocError>
+        ensures { MatchResult result (λ _. self.new ≡ replicate count None) (λ _. self.new ≡ self.old) }
+    {
+        self.items.reserve(count.saturating_sub(self.items.len()))?;
+        self.items.clear();
+        self.items.resize(count, None).unwrap();
+        Ok(())
     }
 }
 

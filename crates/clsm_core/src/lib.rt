@@ -3,10 +3,14 @@
 
 mod items;
 mod layout;
+mod machine;
 mod merger;
+mod merging;
+mod seat;
 mod step;
 mod view;
 mod word;
+mod world;
 
 pub use items::Items;
 pub use layout::Layout;
@@ -14,3 +18,4 @@ pub use merger::{MergerView, Phase, Retiree, Round};
 pub use step::{Answer, End, Event, Step, StepError};
 pub use view::{Mode, SnapshotState, View};
 pub use word::{Part, Word};
+pub use world::{World, run};

@@ -1,5 +1,8 @@
+ghost use Rattle.std.specs.Prelude.{◌≡◌};
+
 use crate::items::Items;
 use clsm_model::Time;
+use std::alloc::AllocError;
 
 /// Where the merger is between two merges.
 #[derive(Clone, Copy, PartialEq, Eq, Hash, Debug)]
@@ -29,7 +32,7 @@ pub struct Retiree {
 }
 
 /// What the merger knows and has done.
-#[derive(Drop)]
+#[derive(PartialEq, Eq, Hash, Drop)]
 pub struct MergerView {
     pub phase: Phase,
     /// The number of merges.
@@ -46,4 +49,16 @@ pub struct MergerView {
     pub merged_floor: Time,
     pub former_floor: Time,
     pub retirees: Items<Retiree>,
+}
+
+impl Clone for MergerView {
+    ghost is_clone = { λ original copy. copy ≡ original };
+
+    /// The same view. Refused for want of memory.
+    fn clone(&self) -> Result<MergerView, AllocError> {
+        Ok(MergerView {
+            retirees: self.retirees.clone()?,
+            ..*self
+        })
+    }
 }

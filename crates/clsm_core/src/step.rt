@@ -1,8 +1,11 @@
+ghost use Rattle.std.specs.Prelude.{◌≡◌};
+
 use crate::word::{Part, Word};
 use clsm_model::{Deed, Time};
+use std::alloc::AllocError;
 
 /// One atomic step.
-#[derive(Drop)]
+#[derive(Clone, Drop)]
 pub enum Step {
     // the lock
     /// compare_exchange LOCK from this number of holders to one more.
@@ -52,7 +55,7 @@ pub enum Step {
 }
 
 /// How a read ends.
-#[derive(Drop)]
+#[derive(Clone, Drop)]
 pub enum End {
     Neither,
     /// With a meeting at the clock looked at under this pin.
@@ -65,6 +68,18 @@ pub enum End {
 pub struct Event {
     pub seat: u32,
     pub step: Step,
+}
+
+impl Clone for Event {
+    ghost is_clone = { λ original copy. copy ≡ original };
+
+    /// The same event. Refused for want of memory.
+    fn clone(&self) -> Result<Event, AllocError> {
+        Ok(Event {
+            step: self.step.clone()?,
+            ..*self
+        })
+    }
 }
 
 /// What a step answers.
@@ -83,4 +98,14 @@ pub enum StepError {
     /// It is not open to that seat in that world.
     NotAllowed,
     Memory,
+}
+
+impl From<AllocError> for StepError {
+    ghost use Rattle.clsm_core.specs.declared.step.StepError.TheVariants.{Memory};
+
+    ghost from_gives = { λ _ e. e ≡ Memory };
+
+    fn from(_: AllocError) -> StepError {
+        StepError::Memory
+    }
 }

@@ -1,5 +1,8 @@
+ghost use Rattle.std.specs.Prelude.{◌≡◌};
+
 use crate::items::Items;
 use clsm_model::{CallRecord, Time};
+use std::alloc::AllocError;
 
 /// How a seat holds the lock.
 #[derive(Clone, Copy, PartialEq, Eq, Hash, Debug)]
@@ -23,6 +26,7 @@ pub enum SnapshotState {
 
 /// What one caller's seat knows and has done.
 #[derive(Drop)]
+#[derive_where(PartialEq, Eq, Hash)]
 pub struct View {
     pub mode: Mode,
     /// The last look at LOCK, at CLOCK and at each head, while it is fresh: no exchange of the seat's
@@ -57,8 +61,26 @@ pub struct View {
     pub calls: Items<CallRecord>,
     /// Modulo 2^64: entries into the lock; looks that found it held exclusively and entries that lost;
     /// draws and links that lost; decides of the drawn time that lost.
+    #[derive_where(skip(EqHashOrd))]
     pub entries: u64,
+    #[derive_where(skip(EqHashOrd))]
     pub busy: u64,
+    #[derive_where(skip(EqHashOrd))]
     pub raced: u64,
+    #[derive_where(skip(EqHashOrd))]
     pub overtaken: u64,
+}
+
+impl Clone for View {
+    ghost is_clone = { λ original copy. copy ≡ original };
+
+    /// The same view, with its counts. Refused for want of memory.
+    fn clone(&self) -> Result<View, AllocError> {
+        Ok(View {
+            fresh_heads: self.fresh_heads.clone()?,
+            words: self.words.clone()?,
+            calls: self.calls.clone()?,
+            ..*self
+        })
+    }
 }

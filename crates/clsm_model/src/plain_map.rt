@@ -4,7 +4,7 @@ ghost use Rattle.clsm_model.specs.Map.{AddsKey, IsMap, IsRange, Plays, Writes, b
 
 use crate::slot::Slot;
 use crate::value::Value;
-use std::alloc::Global;
+use std::alloc::{AllocError, Global};
 use std::collections::BTreeMap;
 use std::marker::Model;
 use thiserror::Error;
@@ -13,6 +13,12 @@ use thiserror::Error;
 #[derive(Clone, Copy, Debug, PartialEq, Eq, Error)]
 #[error("memory")]
 pub struct Memory;
+
+impl From<AllocError> for Memory {
+    fn from(_: AllocError) -> Memory {
+        Memory
+    }
+}
 
 /// A map of keys to values in one thread's memory: what every read is held against.
 /// Contracts see its pairs by rising key.

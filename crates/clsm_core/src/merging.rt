@@ -1,0 +1,23 @@
+//! The steps of the merger, as they are made: whether a step is open, its word, what it makes of the word, what the merger's view
+//! and the slots are after it.
+
+mod beginning;
+mod changes;
+mod deciding;
+mod entries;
+mod facts;
+mod notes;
+mod opens;
+mod phases;
+mod retirees;
+mod rounds;
+mod settling;
+mod sources;
+mod words;
+
+pub(crate) use beginning::opening;
+pub(crate) use changes::{changed_by_merger, word_of_merger};
+pub(crate) use notes::note_merger;
+pub(crate) use opens::is_open_to_merger;
+pub(crate) use settling::settle_merger;
+pub(crate) use words::word_at;
