@@ -12,9 +12,7 @@ use crate::merger::{MergerView, Retiree};
 use crate::merging::deciding::is_wanted_written;
 use crate::merging::facts::{is_headless, is_padded};
 use crate::merging::phases::{is_clean, is_frozen, is_retired};
-use crate::merging::words::{
-    epoch_end, is_named, retired_region, target_of, word_at,
-};
+use crate::merging::words::{epoch_end, is_named, retired_region, target_of, word_at};
 use crate::step::Step;
 use crate::word::Word;
 use clsm_model::{Slot, Time};
