@@ -11,7 +11,7 @@ use Rattle.clsm_core.specs.Relation.{idle}
 use Rattle.clsm_core.specs.Worlds.{view_at, slot_at}
 use Rattle.clsm_core.specs.Law.{each}
 use Rattle.clsm_core.proofs.LayoutWords.{same_word, is_same-refl}
-use Rattle.clsm_core.proofs.Tests.{by_bool}
+use Rattle.clsm_core.proofs.Cases.{by_bool}
 
 -- g is f, but x at k
 pub record Puts {A : Type 0} (f g : ℕ → A) (k : ℕ) (x : A) : Type 0 where

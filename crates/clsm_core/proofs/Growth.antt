@@ -10,7 +10,7 @@ use Rattle.clsm_core.specs.Memory.{cell_of}
 use Rattle.clsm_core.specs.Relation.{HoldsFrom, IsBelow}
 use Rattle.clsm_core.specs.Worlds.{slot_at}
 use Rattle.clsm_core.specs.Law.{first_shown}
-use Rattle.clsm_core.proofs.Tests.{by_test}
+use Rattle.clsm_core.proofs.Cases.{by_test}
 use Rattle.clsm_core.proofs.Frames.{at_each, puts_slot, slots_grown}
 use Rattle.clsm_core.proofs.Setting.{Setting, ground, v, x, S, Opens, undecided, drawn_shown, held_shown, shown_below_merged}
 

@@ -12,7 +12,7 @@ use Rattle.clsm_core.specs.declared.merger.Phase.{Phase}
 use Rattle.clsm_core.specs.declared.merger.Phase.TheVariants.{Clean, Frozen, Retired}
 use Rattle.clsm_core.specs.Merging.{is_clean, is_frozen, epoch_end, passed_over}
 use Rattle.clsm_core.specs.Worlds.{slot_at}
-use Rattle.clsm_core.proofs.Tests.{by_bool}
+use Rattle.clsm_core.proofs.Cases.{by_bool}
 use Rattle.clsm_core.proofs.Frames.{slot_below}
 use Rattle.clsm_core.proofs.Setting.{Ground, slots', OpensTo}
 

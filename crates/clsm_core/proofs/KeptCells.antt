@@ -25,7 +25,7 @@ use Rattle.clsm_core.specs.Relation.{IsBelow, is_shared, SaysWrite, length_of, w
 use Rattle.clsm_core.specs.Merging.{is_clean, is_frozen, is_retired, is_all_quiet, retired_region, retiree_at, retiree_by, unseen, epoch_end}
 use Rattle.clsm_core.specs.Worlds.{slot_at, passes_from, is_last}
 use Rattle.clsm_core.specs.Law.{Shows, AreShown, AreEmpty, first_shown, first_live}
-use Rattle.clsm_core.proofs.Tests.{by_test, by_bool}
+use Rattle.clsm_core.proofs.Cases.{by_test, by_bool}
 use Rattle.clsm_core.proofs.Frames.{keep1, puts_slot, slots_grown, past_end, put_same, put_here, put_other}
 use Rattle.clsm_core.proofs.Times.{Live, at_live, apart, cell_below, region_of_epoch}
 use Rattle.clsm_core.proofs.Setting.{Setting, Ground, ground, v, x, M, S, Opens, OpensTo, memory', merger', slots', own, own_drawn, looked_same, merger_looked_same, drawn_live, shown_live, limit_live, live_below_shown, shown_below_merged}

@@ -19,7 +19,7 @@ use Rattle.clsm_core.specs.Memory.{Memory, cell_of, region_of, put}
 use Rattle.clsm_core.specs.Relation.{Chains, pushed, or_zero, looked, filled, given_up, SaysWrite}
 use Rattle.clsm_core.specs.Worlds.{slot_at}
 use Rattle.clsm_core.specs.Law.{each, drawn_of, key_of, linked_of, In, Distinct, IsChain, AreChained, AreIn, AreOnce, IsLinkedAt, AreStanding, AreLinked, AreLoose, first_live, first_shown}
-use Rattle.clsm_core.proofs.Tests.{by_test}
+use Rattle.clsm_core.proofs.Cases.{by_test}
 use Rattle.clsm_core.proofs.Frames.{at_each, keep1, put_same, put_other, puts_each, puts_slot, slots_grown}
 use Rattle.clsm_core.proofs.Setting.{Setting, ground, v, x, w, M, V, S, C, Opens, own, own_drawn, looked_same, drawn_shown, drawn_live}
 use Rattle.clsm_core.proofs.Growth.{longer, cancels_shown}

@@ -14,7 +14,7 @@ use Rattle.clsm_core.specs.Memory.{Memory, cell_of, region_of}
 use Rattle.clsm_core.specs.Merging.{is_clean, is_frozen, is_retired, is_all_quiet, retired_region, epoch_end}
 use Rattle.clsm_core.specs.Worlds.{slot_at}
 use Rattle.clsm_core.specs.Law.{each, drawn_of, key_of, linked_of, In, Distinct, IsChain, AreChained, AreIn, AreOnce, AreStanding, AreLinked, AreLoose, first_live, first_shown}
-use Rattle.clsm_core.proofs.Tests.{by_bool}
+use Rattle.clsm_core.proofs.Cases.{by_bool}
 use Rattle.clsm_core.proofs.Frames.{keep1, slot_below}
 use Rattle.clsm_core.proofs.Times.{region_of_epoch, region_below}
 use Rattle.clsm_core.proofs.Setting.{Ground, facts, memory', merger', slots', chains', OpensTo, merger_looked_same, drawn_shown}

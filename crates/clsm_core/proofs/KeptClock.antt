@@ -13,7 +13,7 @@ use Rattle.clsm_core.specs.Memory.{Memory}
 use Rattle.clsm_core.specs.Relation.{IsBelow}
 use Rattle.clsm_core.specs.Merging.{is_frozen, is_retired, epoch_end, merger_looked}
 use Rattle.clsm_core.specs.Law.{first_free}
-use Rattle.clsm_core.proofs.Tests.{by_test, by_bool}
+use Rattle.clsm_core.proofs.Cases.{by_test, by_bool}
 use Rattle.clsm_core.proofs.Setting.{Setting, v, x, M, S, Opens, looked_same, Ground, facts, found, merger', memory', slots', OpensTo, merger_looked_same, merged_below_limit}
 use Rattle.clsm_core.proofs.Growth.{longer}
 use Rattle.clsm_core.proofs.GrowthMerger.{longer', length_passed}

@@ -21,7 +21,7 @@ use Rattle.clsm_core.specs.Relation.{SaysWrite, is_below, is_seen, is_seen_of, t
 use Rattle.clsm_core.specs.Merging.{is_frozen, IsRunWord, merger_looked}
 use Rattle.clsm_core.specs.Worlds.{slot_at}
 use Rattle.clsm_core.specs.Law.{each, past_time_of, reached_of, IsDecidedBelow, AreDecidedBelow, first_shown}
-use Rattle.clsm_core.proofs.Tests.{by_test, by_bool}
+use Rattle.clsm_core.proofs.Cases.{by_test, by_bool}
 use Rattle.clsm_core.proofs.Frames.{at_each, keep1, puts_each, puts_slot, put_other}
 use Rattle.clsm_core.proofs.Setting.{Setting, Ground, ground, v, x, w, M, V, S, Opens, OpensTo, found, memory', merger', slots', looked_same, merger_looked_same, decided, drawn_shown, held_shown, shown_below_merged}
 use Rattle.clsm_core.proofs.Growth.{cancels_shown, slots_stay}

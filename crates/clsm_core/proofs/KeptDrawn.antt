@@ -21,7 +21,7 @@ use Rattle.clsm_core.specs.Relation.{blank, next_word, one_more_if, given_up, lo
 use Rattle.clsm_core.specs.Merging.{epoch_end}
 use Rattle.clsm_core.specs.Worlds.{view_at, slot_at}
 use Rattle.clsm_core.specs.Law.{each, mode_of, drawn_of, part_of, AreHolding, ArePending, AreOwned, AreAlone, AreFilled}
-use Rattle.clsm_core.proofs.Tests.{by_test, by_bool}
+use Rattle.clsm_core.proofs.Cases.{by_test, by_bool}
 use Rattle.clsm_core.proofs.Frames.{at_each, keep1, puts_each, puts_slot, slots_grown, past_end, put_here, put_other}
 use Rattle.clsm_core.proofs.Times.{apart}
 use Rattle.clsm_core.proofs.Setting.{Setting, Ground, ground, v, x, w, M, V, S, Opens, OpensTo, memory', slots', own, own_drawn, looked_same, merger_looked_same, drawn_live, none_drawn}

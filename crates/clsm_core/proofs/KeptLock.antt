@@ -23,7 +23,7 @@ use Rattle.clsm_core.specs.Memory.{Memory}
 use Rattle.clsm_core.specs.Relation.{idle, is_shared, looked, filled}
 use Rattle.clsm_core.specs.Merging.{is_clean, is_frozen, is_retired, merger_looked, unseen, retiree_at, retiree_by}
 use Rattle.clsm_core.specs.Law.{each, mode_of, holders, IsLockedOut, AreCallers, IsMerger}
-use Rattle.clsm_core.proofs.Tests.{by_test, by_bool}
+use Rattle.clsm_core.proofs.Cases.{by_test, by_bool}
 use Rattle.clsm_core.proofs.Frames.{at_each, keep1, puts_each, same_each}
 use Rattle.clsm_core.proofs.Setting.{Setting, ground, v, x, w, M, V, S, Opens, looked_same, Ground, found, merger', memory', slots', OpensTo, merger_looked_same}
 use Rattle.clsm_core.proofs.GrowthMerger.{length_passed}

@@ -20,7 +20,7 @@ use Rattle.clsm_core.specs.Merging.{epoch_end}
 use Rattle.clsm_core.specs.Worlds.{slot_at, past_of}
 use Rattle.clsm_core.specs.Seats.{IsRightRecord, IsStandingRecord, HasWrite}
 use Rattle.clsm_core.specs.Law.{each, drawn_of, past_time_of, due_of, calls_of, IsSnapshot, AreRight, AreRecordsStanding, AreRecorded, AreAtMost, AreDuesBelowOwn}
-use Rattle.clsm_core.proofs.Tests.{by_test}
+use Rattle.clsm_core.proofs.Cases.{by_test}
 use Rattle.clsm_core.proofs.Frames.{at_each, puts_each, puts_slot, slots_grown}
 use Rattle.clsm_core.proofs.Setting.{Setting, Ground, ground, v, x, w, V, S, Opens, drawn_shown, past_below, slots', OpensTo}
 use Rattle.clsm_core.proofs.Growth.{slots_stay, longer, cancels_shown}

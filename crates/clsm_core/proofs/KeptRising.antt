@@ -21,7 +21,7 @@ use Rattle.clsm_core.specs.Relation.{or_zero, SaysWrite, open_time, timed, timed
 use Rattle.clsm_core.specs.Worlds.{past_of}
 use Rattle.clsm_core.specs.Seats.{open_after, due_after, IsNext, IsNextRead, Rises, last_due, last_open, IsRising}
 use Rattle.clsm_core.specs.Law.{each, due_of, calls_of, snapshot_of, AreRising}
-use Rattle.clsm_core.proofs.Tests.{by_test}
+use Rattle.clsm_core.proofs.Cases.{by_test}
 use Rattle.clsm_core.proofs.Setting.{Setting, Ground, v, x, w, V, Opens, OpensTo}
 use Rattle.clsm_core.proofs.Growth.{decides_undecided}
 use Rattle.clsm_core.proofs.Records.{at_views}

@@ -31,7 +31,7 @@ use Rattle.clsm_core.specs.Worlds.{slot_at, settled, history_of, runs_of}
 use Rattle.clsm_core.specs.Law.{AreRuns, is_held_back}
 use Rattle.clsm_core.proofs.Frames.{put_other, put_same}
 use Rattle.clsm_core.proofs.Setting.{facts, Setting, Ground, x, M, S, Opens, OpensTo, memory', slots', merger'}
-use Rattle.clsm_core.proofs.Tests.{by_bool}
+use Rattle.clsm_core.proofs.Cases.{by_bool}
 use Rattle.clsm_core.proofs.Windows.{all_quiet_stays}
 use Rattle.clsm_core.proofs.Growth.{slots_stay}
 use Rattle.clsm_core.proofs.GrowthMerger.{slots_stay'}

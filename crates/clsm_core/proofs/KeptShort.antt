@@ -14,7 +14,7 @@ use Rattle.clsm_core.specs.Relation.{length_of, SaysWrite}
 use Rattle.clsm_core.specs.Merging.{epoch_end}
 use Rattle.clsm_core.specs.Worlds.{slot_at}
 use Rattle.clsm_core.specs.Law.{AreShort}
-use Rattle.clsm_core.proofs.Tests.{by_test}
+use Rattle.clsm_core.proofs.Cases.{by_test}
 use Rattle.clsm_core.proofs.Frames.{keep1, at_each, puts_slot, slots_grown}
 use Rattle.clsm_core.proofs.Setting.{Setting, Ground, ground, v, x, S, Opens, OpensTo, slots', drawn_shown}
 use Rattle.clsm_core.proofs.Growth.{cancels_shown}

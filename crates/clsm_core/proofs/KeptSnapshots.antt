@@ -23,7 +23,7 @@ use Rattle.clsm_core.specs.Relation.{ended_snapshot, timed_by, IsEndingWith}
 use Rattle.clsm_core.specs.Merging.{is_clean, is_frozen, is_retired, epoch_end, noted_time, least, round_on, round_by, is_whole, lesser, round_end, floor_by}
 use Rattle.clsm_core.specs.Worlds.{past_of}
 use Rattle.clsm_core.specs.Law.{each, past_time_of, pinned_of, snapshot_of, IsSnapshot, AreSnapshots, note_of, IsPassed, ArePassed, AreFloors}
-use Rattle.clsm_core.proofs.Tests.{by_test, by_bool}
+use Rattle.clsm_core.proofs.Cases.{by_test, by_bool}
 use Rattle.clsm_core.proofs.Frames.{at_each, keep1, keep2, keep3, puts_each}
 use Rattle.clsm_core.proofs.Setting.{Setting, ground, v, w, V, S, Opens, Ground, facts, merger', slots', OpensTo, past_below}
 use Rattle.clsm_core.proofs.Growth.{longer}

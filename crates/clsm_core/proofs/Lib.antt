@@ -2,7 +2,7 @@ pub mod LayoutBlocks
 pub mod LayoutIndex
 pub mod LayoutWords
 pub mod Layouts
-pub mod Tests
+pub mod Cases
 pub mod Frames
 pub mod Times
 pub mod Setting

@@ -3,7 +3,7 @@ use Rattle.std.proofs.Common.{◌≡◌, ℕ, ◌+◌, ◌<◌, ◌≤◌, ◌�
 use Rattle.std.specs.Bool.{IsTrue}
 use Rattle.std.proofs.lemmas.Bool.{true≢false}
 use Rattle.clsm_core.specs.Worlds.{passes_from}
-use Rattle.clsm_core.proofs.Tests.{by_bool}
+use Rattle.clsm_core.proofs.Cases.{by_bool}
 use Rattle.clsm_core.proofs.Passes.{passes_at}
 
 -- a test that fails at a number of a range does not pass on the range

@@ -19,7 +19,7 @@ use Rattle.clsm_core.specs.Worlds.{slot_at, history_of, runs_of}
 use Rattle.clsm_core.specs.Law.{In, AreRuns, IsSnapshot, IsRetiredFor, each, pin_of, held_of, snapshot_of, past_time_of, is_held_back, first_shown}
 use Rattle.clsm_core.specs.Reading.{write_at, newest_among, chain_of, newest_in, left_or, read, AnswersFrom, SnapshotsRead, HoldersRead}
 use Rattle.clsm_core.specs.Machine.{WorldState, IsLawful}
-use Rattle.clsm_core.proofs.Tests.{by_test}
+use Rattle.clsm_core.proofs.Cases.{by_test}
 use Rattle.clsm_core.proofs.Times.{region_of_epoch}
 use Rattle.clsm_core.proofs.Histories.{settle, slot_of-history}
 use Rattle.clsm_core.proofs.Setting.{Ground, clock_live, shown_below_merged, past_below, not_all_quiet}

@@ -12,7 +12,7 @@ use Rattle.clsm_model.specs.Right.{first_key}
 use Rattle.clsm_core.specs.SeatReads.{IsNextKey, IsPageOf, IsRangeBelow}
 use Rattle.clsm_core.proofs.SeatRanges.{KeysRise-next, next-KeysRise, key_at}
 use Rattle.clsm_core.proofs.SeatRows.{value_at-row, value_at-some}
-use Rattle.clsm_core.proofs.Tests.{by_test}
+use Rattle.clsm_core.proofs.Cases.{by_test}
 
 -- ---- rows one behind the other
 

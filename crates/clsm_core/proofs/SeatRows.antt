@@ -10,7 +10,7 @@ use Rattle.clsm_model.specs.Map.{Pair, value_at, value_after}
 use Rattle.clsm_model.proofs.Maps.{value-next}
 use Rattle.clsm_core.specs.Worlds.{history_of}
 use Rattle.clsm_core.proofs.Histories.{settle, slot_of-history}
-use Rattle.clsm_core.proofs.Tests.{by_test}
+use Rattle.clsm_core.proofs.Cases.{by_test}
 
 -- ---- the value of a key, slot by slot
 

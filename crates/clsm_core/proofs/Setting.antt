@@ -20,7 +20,7 @@ use Rattle.clsm_core.specs.Merging.{is_clean, Facts, IsOpenToMerger, word_of_mer
 use Rattle.clsm_core.specs.Worlds.{view_at, slot_at, past_of, facts_of}
 use Rattle.clsm_core.specs.Law.{LawOf, Shows, each, mode_of, drawn_of, held_of, pin_of, past_time_of, IsRetiredFor, first_shown, first_live, is_held_back}
 use Rattle.clsm_core.proofs.Frames.{put_same, past_end}
-use Rattle.clsm_core.proofs.Tests.{by_bool}
+use Rattle.clsm_core.proofs.Cases.{by_bool}
 use Rattle.clsm_core.proofs.Times.{Live}
 
 -- a lawful world and one of its seats

@@ -8,6 +8,8 @@ mod merger;
 mod merging;
 mod seat;
 mod step;
+#[cfg(test)]
+mod tests;
 mod view;
 mod word;
 mod world;
