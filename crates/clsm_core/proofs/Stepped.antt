@@ -21,7 +21,7 @@ seat_setting w l seat lt = record { z = w.layout; sound = l.sound; memory = memo
 abbrev pub lawful_ground : (w : WorldState) → IsLawful w → Ground
 lawful_ground w l = record { z = w.layout; sound = l.sound; memory = memory_of w; views = w.views; merger = w.merger; slots = w.slots; chains = l.chains; law = l.law }
 
-lawful_after_seat : (w : WorldState) (l : IsLawful w) (seat : ℕ) (step : Step) (lt : seat < length w.views) → IsOpen w.layout (past_of w.slots (view_at w.layout w.views seat).past) (view_at w.layout w.views seat) step → IsLawful (after_seat w seat step)
+pub lawful_after_seat : (w : WorldState) (l : IsLawful w) (seat : ℕ) (step : Step) (lt : seat < length w.views) → IsOpen w.layout (past_of w.slots (view_at w.layout w.views seat).past) (view_at w.layout w.views seat) step → IsLawful (after_seat w seat step)
 unfolding memory
 lawful_after_seat w l seat step lt o =
     let s = seat_setting w l seat lt in

@@ -2,7 +2,7 @@
 use crate::tests::merging::entry;
 use crate::tests::play::{Play, done, found, refused};
 use crate::tests::{MERGER, SMALL, call, get, put, remove, value, wrote};
-use crate::{Step, Word};
+use crate::{End, Part, Step, Word};
 use clsm_model::{Config, Slot, Value};
 use std::process::Abort;
 
@@ -75,6 +75,25 @@ fn clears_first_region(rt: &impl Abort, play: &mut Play) {
     play.rows(rt, &rows);
 }
 
+/// The merger finds the put and the removal of the frozen epoch in their cells.
+fn merger_reads(rt: &impl Abort, play: &mut Play) {
+    let part = |cell, part| Word::Cell { cell, part };
+    let rows = [
+        found(MERGER, Word::State(0), 2),
+        found(MERGER, part(0, Part::Key), 1),
+        found(MERGER, part(0, Part::Length), 1),
+        found(MERGER, part(0, Part::Value(0)), 10),
+        found(MERGER, Word::State(1), 3),
+        found(MERGER, part(1, Part::Key), 2),
+        found(MERGER, part(1, Part::Length), 0),
+        found(MERGER, part(1, Part::Value(0)), 0),
+        found(MERGER, Word::State(2), 1),
+        found(MERGER, Word::State(3), 1),
+        found(MERGER, Word::Count(3), 0),
+    ];
+    play.rows(rt, &rows);
+}
+
 #[test]
 fn reader_keeps_the_retired_cells(rt: HostRuntime) {
     let [ten, eleven, twelve] = [10, 11, 12].map(|word| value(&rt, &[word]));
@@ -84,6 +103,7 @@ fn reader_keeps_the_retired_cells(rt: HostRuntime) {
     play.pins(&rt, 1, 0);
     freezes_two_writes(&rt, &mut play);
     nothing_is_cleared(&rt, &mut play);
+    merger_reads(&rt, &mut play);
     play.merges(&rt, 0, &[entry(1, 0, Some(ten)), entry(2, 1, None)]);
     play.has(&rt, Word::Merged, 1);
     nothing_is_cleared(&rt, &mut play);
@@ -113,21 +133,29 @@ fn reader_keeps_the_retired_cells(rt: HostRuntime) {
     assert_eq!(rt; play.world.calls(1), of_reader.as_slice());
 }
 
-/// A reader whose pin word was found odd, and is found odd and another, holds nothing retired any more.
+/// A reader that pinned after the publish is waited for too, where its pin word was found odd first.
+/// One whose pin word is found odd and another holds nothing retired any more.
 #[test]
 fn reader_that_pinned_again_is_quiet(rt: HostRuntime) {
     let mut play = Play::new(&rt, rt.alloc(), SMALL);
     play.pins(&rt, 1, 0);
     play.freezes(&rt, 0);
     play.merges(&rt, 0, &[]);
+    play.pins(&rt, 0, 1);
     play.looks_at_pins(&rt);
-    play.rows(&rt, &[refused(MERGER, HEAD_0)]);
     play.settles(&rt, 1, 0, 4);
     play.unpins(&rt, 1, get(1, None));
     play.pins(&rt, 1, 1);
     let rows = [
         refused(MERGER, HEAD_0),
         found(MERGER, Word::Pin(1), 3),
+        refused(MERGER, HEAD_0),
+        found(MERGER, Word::Pin(0), 1),
+        refused(MERGER, HEAD_0),
+        done(0, Step::Unpin(End::Neither)),
+        refused(MERGER, HEAD_0),
+        found(MERGER, Word::Pin(0), 2),
+        done(0, Step::Pin),
         done(MERGER, HEAD_0),
     ];
     play.rows(&rt, &rows);

@@ -118,8 +118,31 @@ fn freeze_is_made_in_its_order(rt: HostRuntime) {
     play.is_run(&rt);
 }
 
+/// The clock stands at the end of a full epoch, and is stored there all the same before the limit.
 #[test]
-fn run_is_written_into_the_target_alone(rt: HostRuntime) {
+fn freeze_of_a_full_epoch_stores_the_clock(rt: HostRuntime) {
+    let ten = value(&rt, &[10]);
+    let mut play = Play::new(&rt, rt.alloc(), SMALL);
+    for time in 0..4 {
+        play.puts(&rt, 0, time, put(1, ten));
+    }
+    let rows = [
+        done(MERGER, Step::EnterExclusive),
+        refused(MERGER, Step::Pad(3)),
+        refused(MERGER, Step::Pad(4)),
+        refused(MERGER, Step::ExtendLimit),
+        done(MERGER, Step::ExtendClock),
+        done(MERGER, Step::ExtendLimit),
+        done(MERGER, Step::LeaveExclusive),
+    ];
+    play.rows(&rt, &rows);
+    play.has(&rt, Word::Clock, 4);
+    play.has(&rt, Word::Limit, 8);
+    play.is_run(&rt);
+}
+
+#[test]
+fn run_is_written_where_no_reader_searches(rt: HostRuntime) {
     let mut play = Play::new(&rt, rt.alloc(), SMALL);
     play.freezes(&rt, 0);
     for word in [
@@ -147,6 +170,7 @@ fn run_is_written_into_the_target_alone(rt: HostRuntime) {
         refused(MERGER, Step::WriteRun(Word::Count(0), 0)),
         refused(MERGER, Step::WriteRun(Word::Count(3), 0)),
         done(MERGER, Step::WriteRun(Word::Count(1), 0)),
+        done(MERGER, Step::WriteRun(Word::Count(4), 0)),
     ];
     play.rows(&rt, &rows);
     play.is_run(&rt);

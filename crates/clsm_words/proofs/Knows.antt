@@ -1,0 +1,156 @@
+-- What the rule says of a seat, the seat knows.
+use Rattle.std.proofs.Common.{◌≡◌, ℕ, ◌+◌, ◌-◌, ◌*◌, ◌<◌, ◌≤◌, ◌||◌, Bool, true, cond, List, refl, length, get_or, sym, ap, ◌∙◌, subst, arith, inl, inr, Option, Some}
+use Rattle.std.specs.List.{AllByRecursion}
+use Rattle.std.proofs.lemmas.Bool.{cases_lt}
+use Rattle.std.proofs.lemmas.List.{get_or_past}
+use Rattle.atomic_table.specs.Table.{State}
+use Rattle.clsm_model.specs.declared.slot.Slot.{Slot}
+use Rattle.clsm_model.specs.declared.slot.Slot.TheVariants.{Nothing, Wrote}
+use Rattle.clsm_model.specs.History.{History, plain}
+use Rattle.clsm_model.specs.Right.{write_by}
+use Rattle.clsm_core.specs.declared.layout.Layout.{Layout}
+use Rattle.clsm_core.specs.declared.word.Word.{Word}
+use Rattle.clsm_core.specs.declared.word.Word.TheVariants.{Merged}
+use Rattle.clsm_core.specs.declared.step.Step.{Step}
+use Rattle.clsm_core.specs.declared.step.Step.TheVariants.{EnterShared, Draw, Decide, Look, Note}
+use Rattle.clsm_core.specs.declared.view.View.{View}
+use Rattle.clsm_core.specs.declared.view.SnapshotState.{SnapshotState}
+use Rattle.clsm_core.specs.declared.view.SnapshotState.TheVariants.{Open}
+use Rattle.clsm_core.specs.declared.merger.MergerView.{MergerView}
+use Rattle.clsm_core.specs.Memory.{cell_of, region_of, is_word}
+use Rattle.clsm_core.specs.Relation.{idle, or_zero, open_time, IsOpen, word_of}
+use Rattle.clsm_core.specs.Merging.{is_frozen}
+use Rattle.clsm_core.specs.Worlds.{view_at, slot_at, past_of}
+use Rattle.clsm_core.specs.Law.{IsSnapshot, first_free}
+use Rattle.clsm_core.specs.Seats.{IsRightRecord, StandsAs, IsStandingRecord, HasWrite, IsRising}
+use Rattle.clsm_core.specs.SeatBounds.{IsSmall, IsSmallLook}
+use Rattle.clsm_core.specs.Machine.{WorldState}
+use Rattle.clsm_core.proofs.Histories.{end_of-past}
+use Rattle.clsm_core.proofs.Records.{all_map}
+use Rattle.clsm_core.proofs.SeatSmall.{step_small}
+use Rattle.clsm_core.proofs.Setting.{Setting, Opens as OpensIn, ground, past_below, x}
+use Rattle.clsm_core.proofs.Stepped.{seat_setting}
+use Rattle.clsm_core.proofs.Cases.{by_bool}
+use Rattle.clsm_core.proofs.Times.{region_of_epoch}
+use Rattle.clsm_core.proofs.WordsThere.{word_there}
+use Rattle.clsm_words.specs.declared.known.Known.{Known}
+use Rattle.clsm_words.specs.Knowing.{IsRecordIn, Agrees, Opens, Sound}
+use Rattle.clsm_words.specs.Ruled.{world_of, IsSeated, Begins, Ruled}
+use Rattle.clsm_words.proofs.Beginnings.{begins_at}
+
+-- where a step makes small numbers whatever it finds, it does so at 0
+small_look : (z : Layout) (word : Word) (x : ℕ) → IsSmallLook z word x → IsSmallLook z word 0
+small_look z Merged x h = omega arith
+small_look z word x h = h
+
+small_at : (z : Layout) (step : Step) (x : ℕ) → IsSmall z step x → IsSmall z step 0
+small_at z (EnterShared l) x h = h
+small_at z (Draw t) x h = h
+small_at z (Decide t deed) x h = h
+small_at z (Note b) x h = h
+small_at z (Look word) x h = small_look z word x h
+small_at z step x h = tt
+
+-- the limit is the end of an epoch, and a time less than an epoch before it is in that epoch's region
+end_of_limit : (z : Layout) (m : MergerView) → (epoch : ℕ) × (first_free z m ≡ (epoch + 1) * z.cells)
+end_of_limit z m = by_bool (λ b. (epoch : ℕ) × (cond b ((m.merged + 2) * z.cells) ((m.merged + 1) * z.cells) ≡ (epoch + 1) * z.cells)) (is_frozen m.phase || m.limit_extended)
+    (λ _. (m.merged + 1, let e : m.merged + 2 ≡ m.merged + 1 + 1 = omega arith in ap (λ (a : ℕ). a * z.cells) e)) (λ _. (m.merged, refl))
+
+last_within : (epoch n limit : ℕ) → 0 < n → limit ≡ (epoch + 1) * n → (epoch * n ≤ limit - 1) × (limit - 1 < (epoch + 1) * n)
+last_within epoch n limit some e = (omega arith, omega arith)
+
+near_within : (epoch n limit t : ℕ) → limit ≡ (epoch + 1) * n → limit ≤ t + n → t < limit → (epoch * n ≤ t) × (t < (epoch + 1) * n)
+near_within epoch n limit t e near before = (omega arith, omega arith)
+
+same_region : (z : Layout) (epoch limit t : ℕ) → 0 < z.cells → limit ≡ (epoch + 1) * z.cells → limit ≤ t + z.cells → t < limit → region_of z (cell_of z (limit - 1)) ≡ region_of z (cell_of z t)
+same_region z epoch limit t some e near before =
+    let a = last_within epoch z.cells limit some e in
+    let b = near_within epoch z.cells limit t e near before in
+    region_of_epoch z epoch (limit - 1) a.0 a.1 ∙ sym (region_of_epoch z epoch t b.0 b.1)
+
+snapshot_reached : (floor clock past : ℕ) (pinned : Bool) (snapshot : SnapshotState) (t : ℕ) → IsSnapshot floor clock past pinned snapshot → open_time snapshot ≡ Some t → t ≤ past
+snapshot_reached floor clock past pinned (Open noted time) t h e = let same : time ≡ t = ap or_zero e in let below = h.2 in omega arith
+snapshot_reached floor clock past pinned snapshot t h e = absurd cc
+
+module _ (s : State ℕ Known) (k : Known) (r : Ruled k.layout s) (ok : IsSeated k.layout r.slots r.views k) where
+  abbrev pub world : WorldState
+  world = world_of k.layout s.words r.views r.merger r.slots
+
+  pub number_inside : k.number < length r.views
+  number_inside = let a = r.lawful.law.seated in let b = ok.inside in omega arith
+
+  abbrev pub setting : Setting
+  setting = seat_setting world r.lawful k.number number_inside
+
+  -- a step that is open to what the seat knows is open in the world
+  pub open_there : (step : Step) → Opens k step → OpensIn setting step
+  open_there step o = subst (λ (u : View). IsOpen k.layout (past_of r.slots u.past) u step) (sym ok.view) (subst (λ (h : History). IsOpen k.layout h k.view step) (ap plain ok.past) o)
+
+  pub own_past : Begins r.slots k.past
+  own_past = record { until = k.view.past; is = ok.past; decided = λ t lt. r.lawful.law.past k.number t (subst (λ (u : View). t < u.past) (sym ok.view) lt) }
+
+  -- a number beyond the seats has no records
+  nobody : (i t : ℕ) (write : Slot) → length r.views ≤ i → HasWrite i t write (view_at k.layout r.views i).calls → ⊥
+  nobody i t write le has = subst (λ (u : View). HasWrite i t write u.calls) (get_or_past r.views i (idle k.layout) le) has
+
+  wrote_at : (list : List Slot) → Begins r.slots list → (t : ℕ) → t < length list → (slot : Slot) → get_or list t Nothing ≡ slot → slot_at r.slots t ≡ Some slot
+  wrote_at list b t lt slot e = begins_at r.slots list b t lt ∙ ap (λ (a : Slot). Some a) e
+
+  -- the seat's records agree with each beginning of the history
+  pub agrees_of : (list : List Slot) → Begins r.slots list → Agrees k.layout.seats k.number k.view.calls list
+  agrees_of list b = record {
+    stand = all_map (IsStandingRecord (slot_at r.slots) k.number) (IsRecordIn list k.number) k.view.calls
+        (λ c h. (h.0, λ lt. subst (λ (o : Option Slot). StandsAs (write_by k.number c.deed) o) (begins_at r.slots list b c.time lt) h.1))
+        (subst (λ (u : View). AllByRecursion (IsStandingRecord (slot_at r.slots) k.number) u.calls) ok.view (r.lawful.law.stand k.number));
+    recorded = λ t key written lt e. subst (λ (u : View). HasWrite k.number t (Wrote k.number key written) u.calls) ok.view
+        (r.lawful.law.recorded t k.number key written (wrote_at list b t lt (Wrote k.number key written) e));
+    numbered = λ t i key written lt e. elim (cases_lt i (length r.views)) [
+      | inl below ↦ let a = r.lawful.law.seated in omega arith
+      | inr beyond ↦ absurd (nobody i t (Wrote i key written) beyond (r.lawful.law.recorded t i key written (wrote_at list b t lt (Wrote i key written) e)))
+    ];
+    short = λ t i key written lt e. r.lawful.law.short t i key written (wrote_at list b t lt (Wrote i key written) e);
+  }
+
+  pub past_bound : k.view.past ≤ length r.slots
+  past_bound = subst (λ (u : View). u.past ≤ length r.slots) ok.view (past_below (ground setting) k.number)
+
+  right_there : AllByRecursion (IsRightRecord (plain k.past)) k.view.calls
+  right_there = subst (λ (h : History). AllByRecursion (IsRightRecord h) k.view.calls) (sym (ap plain ok.past))
+      (subst (λ (u : View). AllByRecursion (IsRightRecord (past_of r.slots u.past)) u.calls) ok.view (r.lawful.law.right k.number))
+
+  -- the open snapshot's time is below the past
+  opened_of : (t : ℕ) → open_time k.view.snapshot ≡ Some t → t ≤ k.view.past
+  opened_of t e = subst (λ (u : View). open_time u.snapshot ≡ Some t → t ≤ u.past) ok.view
+      (snapshot_reached r.merger.floor (length r.slots) there.past there.pinned there.snapshot t (r.lawful.law.snapshots k.number)) e
+    where
+      there : View
+      there = view_at k.layout r.views k.number
+
+  -- an own drawn time is in the epoch of the limit
+  region_is : (t limit : ℕ) → k.view.drawn ≡ Some t → k.view.hold_limit ≡ Some limit → region_of k.layout (cell_of k.layout (limit - 1)) ≡ region_of k.layout (cell_of k.layout t)
+  region_is t limit drawn held =
+      let law = r.lawful.law in
+      let has = ap (λ (u : View). u.drawn) ok.view ∙ drawn in
+      let pending = law.pending k.number t has in
+      let same = law.limits k.number limit (law.holding k.number t has) (ap (λ (u : View). u.hold_limit) ok.view ∙ held) in
+      let end = end_of_limit k.layout r.merger in
+      let is = law.limit in
+      let bounded = law.bounded in
+      let near = pending.0 in
+      let before = pending.1 in
+      same_region k.layout end.0 limit t (let a = k.layout.cells_in_range.0 in omega arith) (same ∙ is ∙ end.1) (omega arith) (omega arith)
+
+  pub sound_of : k.seated ≡ true → Sound k
+  sound_of sits = record {
+    seated = sits;
+    inside = ok.inside;
+    there = λ step o. subst (λ (u : View). is_word k.layout (word_of k.layout k.number u step) ≡ true) ok.view (word_there setting step (open_there step o));
+    small = λ step o. small_at k.layout step (x setting step) (step_small setting step (open_there step o));
+    length_is = ap (λ (xs : List Slot). length xs) ok.past ∙ end_of-past r.slots k.view.past past_bound;
+    agrees = agrees_of k.past own_past;
+    right = right_there;
+    rows = ok.rows;
+    own_region = region_is;
+    opened = opened_of;
+    rising = subst (λ (u : View). IsRising u.calls u.due (open_time u.snapshot)) ok.view (r.lawful.law.rising k.number);
+  }

@@ -1,0 +1,10 @@
+pub mod Beginnings
+pub mod Rows
+pub mod Knows
+pub mod Played
+pub mod Telling
+pub mod Allowed
+pub mod Dealing
+pub mod May
+pub mod MayMeet
+pub mod Heads

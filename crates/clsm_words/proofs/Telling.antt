@@ -1,0 +1,116 @@
+-- What a look finds, by what the law says of the word.
+use Rattle.std.proofs.Common.{◌+◌, ◌-◌, ⊎_elim, ◌≡◌, ℕ, ◌*◌, ◌<◌, ◌≤◌, true, nat_lt, List, length, take, get_or, refl, sym, ap, ◌∙◌, subst, arith, Option, Some, None}
+use Rattle.std.proofs.lemmas.Bool.{ltb-true, and_parts}
+use mathlib.Core.Option.{some}
+use lib.ListN.{get_elem?}
+use Rattle.atomic_table.specs.Table.{State}
+use Rattle.clsm_model.specs.declared.slot.Slot.{Slot}
+use Rattle.clsm_model.specs.declared.slot.Slot.TheVariants.{Nothing, Wrote}
+use Rattle.clsm_core.specs.declared.layout.Layout.{Layout}
+use Rattle.clsm_core.specs.declared.word.Word.TheVariants.{Clock, Cell, State as StateOf}
+use Rattle.clsm_core.specs.declared.word.Part.{Part}
+use Rattle.clsm_core.specs.declared.word.Part.TheVariants.{Key, Length, Value}
+use Rattle.clsm_core.specs.declared.step.Step.{Step}
+use Rattle.clsm_core.specs.declared.step.Step.TheVariants.{Look}
+use Rattle.clsm_core.specs.declared.view.View.{View}
+use Rattle.clsm_core.specs.Memory.{Memory, cell_of, is_part}
+use Rattle.clsm_core.specs.Relation.{HoldsFrom}
+use Rattle.clsm_core.specs.Layout.{memory}
+use Rattle.clsm_core.specs.Worlds.{settled}
+use Rattle.clsm_core.specs.Law.{Shows, first_shown, first_live, IsRetiredFor, each, pin_of}
+use Rattle.clsm_core.proofs.Setting.{Ground, ground, held_shown, clock_live, live_below_shown, shown_below_merged}
+use Rattle.clsm_words.specs.declared.known.Known.{Known}
+use Rattle.clsm_words.specs.Knowing.{Opens, code_of, IsPartOf, IsWithin, Tells}
+use Rattle.clsm_words.specs.Ruled.{Begins, Ruled}
+use Rattle.clsm_words.proofs.Beginnings.{begins_at, begins_bound}
+use Rattle.clsm_words.proofs.Knows.{number_inside, own_past}
+use Rattle.clsm_words.proofs.Played.{me_seated, found, next, before, finds}
+
+shown_state : (memory : Memory) (cell : ℕ) (slot : Slot) → Shows memory cell (Some slot) → memory (StateOf cell) ≡ code_of slot
+shown_state memory cell Nothing h = h
+shown_state memory cell (Wrote seat key written) h = h.0
+
+shown_part : (memory : Memory) (cell : ℕ) (slot : Slot) (part : Part) → is_part part ≡ true → Shows memory cell (Some slot) → IsPartOf slot part (memory (Cell cell part))
+shown_part memory cell (Wrote seat key written) Key there h = h.1
+shown_part memory cell (Wrote seat key written) Length there h = h.2
+shown_part memory cell (Wrote seat key written) (Value j) there h = h.3 j (ltb-true j 8 there)
+shown_part memory cell slot part there h = tt
+
+end_within : (c n x live : ℕ) → live ≤ c * n → x ≤ live + 2 * n → x ≤ (c + 2) * n
+end_within c n x live h until = omega arith
+
+start_within : (c n x : ℕ) → (c + 1) * n ≤ x → c * n ≤ x
+start_within c n x h = omega arith
+
+module _ (s : State ℕ Known) (id : ℕ) (k : Known) (r : Ruled k.layout s) (at : get_elem? s.views id ≡ some k) (sits : k.seated ≡ true) where
+  module _ (step : Step) (o : Opens k step) where
+    -- what is held is shown
+    shown_from : (t : ℕ) → HoldsFrom k.layout k.view.held t → first_shown k.layout r.merger ≤ t
+    shown_from t h = from k.view.held refl h where
+      from : (a : Option ℕ) → k.view.held ≡ a → HoldsFrom k.layout a t → first_shown k.layout r.merger ≤ t
+      from None e h = absurd h
+      from (Some m) e h =
+          let ok = me_seated s id k r at sits step o in
+          let shown = held_shown (ground (before s id k r at sits step o)) k.number m (number_inside s k r ok) (ap (λ (u : View). u.held) ok.view ∙ e) in
+          omega arith
+
+    -- a known time's cell shows what the time came to
+    known_shown : (list : List Slot) (cell t : ℕ) → Begins r.slots list → t < length list → cell_of k.layout t ≡ cell → HoldsFrom k.layout k.view.held t → Shows (memory k.layout s.words) cell (Some (get_or list t Nothing))
+    known_shown list cell t b lt is h =
+        let short = begins_bound r.slots list b in
+        subst (λ (c : ℕ). Shows (memory k.layout s.words) c (Some (get_or list t Nothing))) is
+        (subst (λ (a : Option Slot). Shows (memory k.layout s.words) (cell_of k.layout t) a) (begins_at r.slots list b t lt) (r.lawful.law.shown t (shown_from t h) (omega arith)))
+
+    -- the past before the step
+    past_before : Begins r.slots (take k.view.past (settled r.slots))
+    past_before = let ok = me_seated s id k r at sits step o in subst (Begins r.slots) ok.past (own_past s k r ok)
+
+    -- the clock is within the two epochs of what is held
+    clock_within : IsWithin k.layout k.view.held (length r.slots)
+    clock_within = within k.view.held refl where
+      g : Ground
+      g = ground (before s id k r at sits step o)
+
+      begun : r.merger.merged * k.layout.cells ≤ length r.slots
+      begun = r.lawful.law.begun
+
+      until : length r.slots ≤ first_live k.layout r.merger + 2 * k.layout.cells
+      until = clock_live g
+
+      within : (a : Option ℕ) → k.view.held ≡ a → IsWithin k.layout a (length r.slots)
+      within None e = tt
+      within (Some m) e =
+          let ok = me_seated s id k r at sits step o in
+          ⊎_elim
+          (λ (same : m ≡ r.merger.merged). let low = live_below_shown g in let high = shown_below_merged g in
+          subst (λ (c : ℕ). (c * k.layout.cells ≤ length r.slots) × (length r.slots ≤ (c + 2) * k.layout.cells)) (sym same) (begun, end_within r.merger.merged k.layout.cells (length r.slots) (first_live k.layout r.merger) (omega arith) until))
+          (λ (retired : IsRetiredFor r.merger k.number (each k.layout pin_of r.views k.number) m).
+          let end : r.merger.merged ≡ m + 1 = sym retired.before in
+          let start : r.merger.merged - 1 ≡ m = omega arith in
+          let live : first_live k.layout r.merger ≡ m * k.layout.cells = rw (retired.retired, start) refl in
+          let first : (m + 1) * k.layout.cells ≤ length r.slots = subst (λ (c : ℕ). c * k.layout.cells ≤ length r.slots) end begun in
+          (start_within m k.layout.cells (length r.slots) first, end_within m k.layout.cells (length r.slots) (first_live k.layout r.merger) (omega arith) until))
+          (r.lawful.law.held k.number m (ap (λ (u : View). u.held) ok.view ∙ e)).1
+
+  clock_found : (a : Option ℕ) (z : Layout) (x y : ℕ) → x ≡ y → IsWithin z a y → IsWithin z a x
+  clock_found a z x y e h = subst (IsWithin z a) (sym e) h
+
+  pub tells_of : (step : Step) (o : Opens k step) → Tells step (next s id k r at sits step o) (found s id k r at sits step o)
+  tells_of (Look Clock) o =
+      let ok = me_seated s id k r at sits (Look Clock) o in
+      let told = r.seats.told id k at in
+      let clock = (finds s id k r at sits (Look Clock) o).2 in
+      let is = r.lawful.law.clock in
+      let due : k.view.due ≤ length r.slots = subst (λ (u : View). u.due ≤ length r.slots) ok.view (r.lawful.law.dues k.number) in
+      let begins = begins_bound r.slots k.told told.begins in
+      let heard = told.below in
+      (omega arith, omega arith, omega arith, clock_found k.view.held k.layout (found s id k r at sits (Look Clock) o) (length r.slots) (clock ∙ is) (clock_within (Look Clock) o))
+  tells_of (Look (StateOf cell)) o = λ t known.
+      (finds s id k r at sits (Look (StateOf cell)) o).2 ∙ shown_state (memory k.layout s.words) cell (get_or (take k.view.past (settled r.slots)) t Nothing)
+      (known_shown (Look (StateOf cell)) o (take k.view.past (settled r.slots)) cell t (past_before (Look (StateOf cell)) o) known.0 known.1 known.2)
+  tells_of (Look (Cell cell part)) o = λ t known.
+      let slot = get_or (take k.view.past (settled r.slots)) t Nothing in
+      subst (IsPartOf slot part) (sym (finds s id k r at sits (Look (Cell cell part)) o).2)
+      (shown_part (memory k.layout s.words) cell slot part (and_parts (nat_lt cell (2 * k.layout.cells)) (is_part part) o.0).1
+      (known_shown (Look (Cell cell part)) o (take k.view.past (settled r.slots)) cell t (past_before (Look (Cell cell part)) o) known.0 known.1 known.2))
+  tells_of step o = tt

@@ -1,0 +1,4 @@
+pub mod Seats
+pub mod Knowing
+pub mod Ruled
+pub mod Plays

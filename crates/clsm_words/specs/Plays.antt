@@ -1,0 +1,50 @@
+-- What the step functions ask and tell.
+use Rattle.std.specs.Prelude.{◌≡◌, ℕ, ◌+◌, ◌<◌, max, [], List, length, slice_index_or}
+use Rattle.clsm_core.specs.declared.word.Word.{Word}
+use Rattle.clsm_core.specs.declared.step.Step.{Step}
+use Rattle.clsm_core.specs.declared.step.Answer.{Answer}
+use Rattle.clsm_core.specs.Relation.{idle, word_of, answer_of}
+use Rattle.clsm_words.specs.declared.known.Known.{Known}
+use Rattle.clsm_words.specs.declared.words.Words.{Words}
+use Rattle.clsm_words.specs.Seats.{SeatState, MessageState}
+use Rattle.clsm_words.specs.Knowing.{Opens, Follows}
+
+-- the seat is one of these words
+abbrev pub IsSeatOf : Words → SeatState → Type 0
+IsSeatOf words seat = (seat.table ≡ words.table.shared.table_id) × (seat.knows.layout ≡ words.layout)
+
+-- the step is open to it
+abbrev pub MayPlay : Words → SeatState → Step → Type 0
+MayPlay words seat step = IsSeatOf words seat × Opens seat.knows step
+
+-- this is the word that the step is on
+abbrev pub IsWordOf : Known → Step → Word → Type 0
+IsWordOf k step word = word ≡ word_of k.layout k.number k.view step
+
+-- it played the step, which found x
+abbrev pub Played : Words → SeatState → Step → ℕ → SeatState → Type 0
+Played words seat step x seat' = IsSeatOf words seat' × Follows step seat.knows x seat'.knows
+
+-- it played the step, whatever that found
+abbrev pub Plays : Words → SeatState → Step → SeatState → Type 0
+Plays words seat step seat' = (x : ℕ) × Played words seat step x seat'
+
+-- and this is the step's answer
+abbrev pub Answers : Words → SeatState → Step → Answer → SeatState → Type 0
+Answers words seat step answer seat' = (x : ℕ) × Played words seat step x seat' × (answer ≡ answer_of step x)
+
+-- the seat with this number has played nothing
+abbrev pub IsFresh : ℕ → SeatState → Type 0
+IsFresh number seat = (seat.knows.number ≡ number) × (seat.knows.view ≡ idle seat.knows.layout) × (seat.knows.past ≡ []) × (seat.knows.told ≡ []) × (seat.knows.heard ≡ 0)
+
+-- fresh seats of these words, numbered from this number on
+abbrev pub AreFreshFrom : ℕ → Words → List SeatState → Type 0
+AreFreshFrom first words seats = (i : ℕ) (seat : SeatState) → i < length seats → slice_index_or seats i seat ≡ seat → IsSeatOf words seat × IsFresh (first + i) seat
+
+-- the message is of these words
+abbrev pub IsMessageOf : Words → MessageState → Type 0
+IsMessageOf words message = message.table ≡ words.table.shared.table_id
+
+-- a seat that learned of the message: it was told of no more than that, and of the greater due
+abbrev pub Learns : Known → MessageState → Known → Type 0
+Learns k message k' = k' ≡ record k { told = message.told; heard = max k.heard message.heard }

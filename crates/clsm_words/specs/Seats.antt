@@ -1,0 +1,14 @@
+-- A seat and a message as contracts see them.
+use Rattle.std.specs.Prelude.{ℕ, List}
+use Rattle.atomic_table.specs.Seated.{TableId}
+use Rattle.clsm_model.specs.declared.slot.Slot.{Slot}
+use Rattle.clsm_words.specs.declared.known.Known.{Known}
+
+pub record SeatState : Type 0 where
+  pub table : TableId
+  pub knows : Known
+
+pub record MessageState : Type 0 where
+  pub table : TableId
+  pub told : List Slot
+  pub heard : ℕ

@@ -1,0 +1,82 @@
+ghost use Rattle.clsm_core.specs.declared.step.Step.{Step};
+
+use crate::known::Known;
+use atomic_table::{Join, Play, Split, TableRule};
+use clsm_core::Layout;
+use std::marker::{Brand, PhantomData};
+
+/// What holds of the words between any two steps.
+pub struct Law;
+
+impl TableRule<u64, Known, Layout> for Law {
+    ghost use Rattle.clsm_words.specs.Ruled.{Ruled};
+    ghost use Rattle.clsm_words.specs.Knowing.{newcomer};
+
+    ghost holds = { Ruled };
+
+    ghost first = { λ z. newcomer z 0 1 };
+}
+
+/// Which step it is. Each call picks it.
+pub trait Told {
+    ghost step: { Step };
+}
+
+impl Told for Brand {
+    ghost use Rattle.clsm_core.specs.declared.step.Step.TheVariants.{Pin};
+
+    ghost step = { Pin };
+}
+
+/// A seat plays the step.
+pub struct Does<E> {
+    of: PhantomData<E>,
+}
+
+impl<E: Told> Play<u64, Known> for Does<E> {
+    ghost use Rattle.clsm_words.specs.Knowing.{Follows};
+
+    ghost then = { λ at before found after. Follows E.step before.0 found after.0 };
+}
+
+/// A seat plays the step by a store, which is not told what it found.
+pub struct Stores<E> {
+    of: PhantomData<E>,
+}
+
+impl<E: Told> Play<u64, Known> for Stores<E> {
+    ghost use Rattle.clsm_words.specs.Knowing.{FollowsBlind};
+
+    ghost then = { λ at before stored after. FollowsBlind E.step before.0 after.0 };
+}
+
+/// The first seat deals another.
+pub struct Deals;
+
+impl Split<Known> for Deals {
+    ghost use Rattle.clsm_words.specs.Knowing.{deals, newcomer};
+
+    ghost left = { deals };
+
+    ghost right = { λ k. newcomer k.layout k.dealt 0 };
+}
+
+/// One seat tells another of its past.
+pub struct Tells;
+
+impl Split<Known> for Tells {
+    ghost use Rattle.clsm_words.specs.Knowing.{messenger};
+
+    ghost left = { λ k. k };
+
+    ghost right = { λ k. messenger k.past k.view.due };
+}
+
+impl Join<Known> for Tells {
+    ghost use Rattle.std.specs.Prelude.{[]};
+    ghost use Rattle.clsm_words.specs.Knowing.{messenger, learns};
+
+    ghost both = { learns };
+
+    ghost spent = { messenger [] 0 };
+}

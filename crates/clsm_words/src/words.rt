@@ -1,0 +1,82 @@
+ghost use Rattle.std.specs.Prelude.{◌≡◌};
+ghost use Rattle.clsm_core.specs.Layout.{size_of};
+
+use crate::known::Known;
+use crate::rule::Law;
+use atomic_table::{Seat, Table};
+use clsm_core::Layout;
+use std::alloc::Global;
+use std::marker::Model;
+
+mod cells;
+mod meet;
+mod open;
+mod pins;
+mod raw;
+mod steps;
+mod writes;
+
+/// The words that the seats share.
+#[derive(Drop)]
+pub struct Words {
+    pub(crate) table: Table<u64, Known, Layout, Law, Global>,
+    pub layout: Layout,
+    pub ghost sized: { (table.shared.table_id.words ≡ size_of layout) × (table.shared.key ≡ layout) },
+}
+
+/// A caller's seat at the words. Contracts see which words they are, and what the seat knows.
+#[derive(Drop)]
+pub struct RawSeat {
+    pub(crate) seat: Seat<u64, Known>,
+    pub(crate) number: u64,
+}
+
+impl Model for RawSeat {
+    ghost use Rattle.std.specs.Prelude.{◌≡◌};
+    ghost use Rattle.clsm_words.specs.Seats.{SeatState};
+    ghost use Rattle.clsm_words.specs.Knowing.{Sound};
+
+    ghost Value = { SeatState };
+
+    ghost view = { λ s. record { table = s.seat.table_id; knows = s.seat.me.0 } };
+
+    ghost invariant = { λ s. (s.number ≡ s.seat.me.0.number) × Sound s.seat.me.0 };
+}
+
+impl RawSeat {
+    ghost use Rattle.std.specs.Prelude.{◌≡◌};
+    ghost use Rattle.clsm_words.specs.Knowing.{Sound};
+
+    /// Its number.
+    #[inline]
+    pub fn number(&self) -> u64
+        ensures { result ≡ self.now.knows.number }
+    {
+        self.number
+    }
+
+    /// What holds of every seat. It does nothing when it runs.
+    #[inline]
+    pub fn is_sound(&self)
+        ensures { Sound self.now.knows }
+    {
+        let _ = &self.seat;
+    }
+}
+
+/// What a seat knew of the past. It has no bytes. Contracts see which words it is of, the beginning of the history and the due.
+#[derive(Drop)]
+pub struct Message {
+    pub(crate) seat: Seat<u64, Known>,
+}
+
+impl Model for Message {
+    ghost use Rattle.std.specs.Prelude.{◌≡◌, false, []};
+    ghost use Rattle.clsm_words.specs.Seats.{MessageState};
+
+    ghost Value = { MessageState };
+
+    ghost view = { λ m. record { table = m.seat.table_id; told = m.seat.me.0.told; heard = m.seat.me.0.heard } };
+
+    ghost invariant = { λ m. (m.seat.me.0.seated ≡ false) × (m.seat.me.0.dealt ≡ 0) × (m.seat.me.1 ≡ []) };
+}

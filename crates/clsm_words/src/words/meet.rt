@@ -1,0 +1,39 @@
+//! How one seat learns what another knew.
+ghost use Rattle.std.specs.Prelude.{◌≡◌, max};
+ghost use Rattle.clsm_words.specs.Seats.{MessageState};
+ghost use Rattle.clsm_words.specs.Plays.{IsSeatOf, IsMessageOf, Learns};
+
+use super::{Message, RawSeat, Words};
+use crate::rule::Tells;
+
+impl Words {
+    /// The seat tells of its past and its due.
+    pub fn tell(&self, from: &mut RawSeat) -> Message
+        requires { IsSeatOf self.now from.old }
+        ensures seat { from.new ≡ from.old }
+        ensures message { IsMessageOf self.now result × (result.told ≡ from.old.knows.past) × (result.heard ≡ from.old.knows.view.due) }
+    {
+        let seat = self.table.shared.split_seat::<Tells>(&mut from.seat);
+        Message { seat }
+    }
+
+    /// A message takes in another: it carries the other's past and the greater of the dues.
+    pub fn gather(&self, to: &mut Message, message: Message)
+        requires to { IsMessageOf self.now to.old }
+        requires message { IsMessageOf self.now message }
+        ensures { IsMessageOf self.now to.new × (to.new.told ≡ message.told) × (to.new.heard ≡ max to.old.heard message.heard) }
+    {
+        let Message { seat: other } = message;
+        self.table.shared.join_seat::<Tells>(&mut to.seat, other);
+    }
+
+    /// Another seat learns of it. From its next step on its past begins with what it was told, or the other way round.
+    pub fn learn(&self, to: &mut RawSeat, message: Message)
+        requires seat { IsSeatOf self.now to.old }
+        requires message { IsMessageOf self.now message }
+        ensures { IsSeatOf self.now to.new × Learns to.old.knows message to.new.knows }
+    {
+        let Message { seat } = message;
+        self.table.shared.join_seat::<Tells>(&mut to.seat, seat);
+    }
+}

@@ -1,0 +1,149 @@
+//! One function for each operation on a word, told which step it is. The step costs nothing when it runs.
+ghost use Rattle.std.specs.Prelude.{◌≡◌, ℕ, ◌+◌, ◌-◌, ◌%◌, ◌^◌, ◌<◌, ◌==◌, true, max};
+ghost use prog.Atomic.{either};
+ghost use Rattle.clsm_core.specs.Memory.{is_word};
+ghost use Rattle.clsm_core.specs.Layout.{index_of, size_of};
+ghost use Rattle.clsm_core.specs.Relation.{changed};
+ghost use Rattle.clsm_words.specs.Plays.{IsWordOf, MayPlay, Played, Plays};
+
+use super::{RawSeat, Words};
+use crate::rule::{Does, Stores, Told};
+use clsm_core::{Step, Word};
+use std::marker::Brand;
+
+impl Words {
+    /// Where the word stands.
+    #[inline]
+    pub(super) fn place(&self, word: Word) -> usize
+        requires { is_word self.now.layout word ≡ true }
+        ensures { (result ≡ index_of self.now.layout word) × (result < size_of self.now.layout) }
+    {
+        self.layout.index(word).unwrap()
+    }
+
+    fn load_told<E: Told>(&self, seat: &mut RawSeat, step: &Step, word: Word) -> u64
+        requires told { E.step ≡ step.now }
+        requires opens { MayPlay self.now seat.old step.now }
+        requires word { IsWordOf seat.old.knows step.now word }
+        requires changes { changed seat.old.knows.layout seat.old.knows.view step.now ≡ (λ x. x) }
+        ensures { Played self.now seat.old step.now result seat.new }
+    {
+        let known = &mut seat.seat;
+        let at = self.place(word);
+        self.table.shared.load::<Does<E>>(known, at)
+    }
+
+    #[inline]
+    pub(super) fn load(&self, seat: &mut RawSeat, step: &Step, word: Word) -> u64
+        requires opens { MayPlay self.now seat.old step.now }
+        requires word { IsWordOf seat.old.knows step.now word }
+        requires changes { changed seat.old.knows.layout seat.old.knows.view step.now ≡ (λ x. x) }
+        ensures { Played self.now seat.old step.now result seat.new }
+    {
+        self.load_told::<Brand>(seat, step, word)
+    }
+
+    fn store_told<E: Told>(&self, seat: &mut RawSeat, step: &Step, word: Word, new: u64)
+        requires told { E.step ≡ step.now }
+        requires opens { MayPlay self.now seat.old step.now }
+        requires word { IsWordOf seat.old.knows step.now word }
+        requires changes { changed seat.old.knows.layout seat.old.knows.view step.now ≡ (λ x. new) }
+        ensures { Plays self.now seat.old step.now seat.new }
+    {
+        let known = &mut seat.seat;
+        let at = self.place(word);
+        self.table.shared.store::<Stores<E>>(known, at, new);
+    }
+
+    #[inline]
+    pub(super) fn store(&self, seat: &mut RawSeat, step: &Step, word: Word, new: u64)
+        requires opens { MayPlay self.now seat.old step.now }
+        requires word { IsWordOf seat.old.knows step.now word }
+        requires changes { changed seat.old.knows.layout seat.old.knows.view step.now ≡ (λ x. new) }
+        ensures { Plays self.now seat.old step.now seat.new }
+    {
+        self.store_told::<Brand>(seat, step, word, new);
+    }
+
+    fn subtract_told<E: Told>(&self, seat: &mut RawSeat, step: &Step, word: Word, by: u64) -> u64
+        requires told { E.step ≡ step.now }
+        requires opens { MayPlay self.now seat.old step.now }
+        requires word { IsWordOf seat.old.knows step.now word }
+        requires changes { changed seat.old.knows.layout seat.old.knows.view step.now ≡ (λ x. (x + (2 ^ 64 - by)) % 2 ^ 64) }
+        ensures { Played self.now seat.old step.now result seat.new }
+    {
+        let known = &mut seat.seat;
+        let at = self.place(word);
+        self.table.shared.fetch_sub::<Does<E>>(known, at, by)
+    }
+
+    #[inline]
+    pub(super) fn subtract(&self, seat: &mut RawSeat, step: &Step, word: Word, by: u64) -> u64
+        requires opens { MayPlay self.now seat.old step.now }
+        requires word { IsWordOf seat.old.knows step.now word }
+        requires changes { changed seat.old.knows.layout seat.old.knows.view step.now ≡ (λ x. (x + (2 ^ 64 - by)) % 2 ^ 64) }
+        ensures { Played self.now seat.old step.now result seat.new }
+    {
+        self.subtract_told::<Brand>(seat, step, word, by)
+    }
+
+    fn raise_told<E: Told>(&self, seat: &mut RawSeat, step: &Step, word: Word, to: u64) -> u64
+        requires told { E.step ≡ step.now }
+        requires opens { MayPlay self.now seat.old step.now }
+        requires word { IsWordOf seat.old.knows step.now word }
+        requires changes { changed seat.old.knows.layout seat.old.knows.view step.now ≡ (λ x. max x to) }
+        ensures { Played self.now seat.old step.now result seat.new }
+    {
+        let known = &mut seat.seat;
+        let at = self.place(word);
+        self.table.shared.fetch_max::<Does<E>>(known, at, to)
+    }
+
+    #[inline]
+    pub(super) fn raise(&self, seat: &mut RawSeat, step: &Step, word: Word, to: u64) -> u64
+        requires opens { MayPlay self.now seat.old step.now }
+        requires word { IsWordOf seat.old.knows step.now word }
+        requires changes { changed seat.old.knows.layout seat.old.knows.view step.now ≡ (λ x. max x to) }
+        ensures { Played self.now seat.old step.now result seat.new }
+    {
+        self.raise_told::<Brand>(seat, step, word, to)
+    }
+
+    fn exchange_told<E: Told>(
+        &self,
+        seat: &mut RawSeat,
+        step: &Step,
+        word: Word,
+        old: u64,
+        new: u64,
+    ) -> u64
+        requires told { E.step ≡ step.now }
+        requires opens { MayPlay self.now seat.old step.now }
+        requires word { IsWordOf seat.old.knows step.now word }
+        requires changes { changed seat.old.knows.layout seat.old.knows.view step.now ≡ (λ x. either (x == old) new x) }
+        ensures { Played self.now seat.old step.now result seat.new }
+    {
+        let known = &mut seat.seat;
+        let at = self.place(word);
+        self.table
+            .shared
+            .compare_exchange::<Does<E>>(known, at, old, new)
+    }
+
+    #[inline]
+    pub(super) fn exchange(
+        &self,
+        seat: &mut RawSeat,
+        step: &Step,
+        word: Word,
+        old: u64,
+        new: u64,
+    ) -> u64
+        requires opens { MayPlay self.now seat.old step.now }
+        requires word { IsWordOf seat.old.knows step.now word }
+        requires changes { changed seat.old.knows.layout seat.old.knows.view step.now ≡ (λ x. either (x == old) new x) }
+        ensures { Played self.now seat.old step.now result seat.new }
+    {
+        self.exchange_told::<Brand>(seat, step, word, old, new)
+    }
+}

@@ -1,0 +1,60 @@
+//! The steps on the lock, the clock and the front, and looks at any word.
+ghost use Rattle.clsm_core.specs.declared.step.Step.TheVariants.{EnterShared, LeaveShared, Draw, Look, RaiseFront};
+ghost use Rattle.clsm_words.specs.Plays.{MayPlay, Played, Plays, Answers};
+
+use super::cells::won_if;
+use super::{RawSeat, Words};
+use clsm_core::{Answer, Step, Word};
+use clsm_model::Time;
+
+impl Words {
+    /// Enters the lock beside so many other holders.
+    #[inline]
+    pub fn enter_shared(&self, seat: &mut RawSeat, holders: u64) -> Answer
+        requires { MayPlay self.now seat.old (EnterShared holders) }
+        ensures { Answers self.now seat.old (EnterShared holders) result seat.new }
+    {
+        let step = Step::EnterShared(holders);
+        let found = self.exchange(seat, &step, Word::Lock, holders, holders + 1);
+        won_if(found == holders)
+    }
+
+    /// Leaves the lock.
+    #[inline]
+    pub fn leave_shared(&self, seat: &mut RawSeat)
+        requires { MayPlay self.now seat.old LeaveShared }
+        ensures { Plays self.now seat.old LeaveShared seat.new }
+    {
+        self.subtract(seat, &Step::LeaveShared, Word::Lock, 1);
+    }
+
+    /// Draws the time, if it is the next.
+    #[inline]
+    pub fn draw(&self, seat: &mut RawSeat, time: Time) -> Answer
+        requires { MayPlay self.now seat.old (Draw time) }
+        ensures { Answers self.now seat.old (Draw time) result seat.new }
+    {
+        seat.is_sound();
+        let step = Step::Draw(time);
+        let found = self.exchange(seat, &step, Word::Clock, time, time + 1);
+        won_if(found == time)
+    }
+
+    /// Looks at the word.
+    #[inline]
+    pub fn look(&self, seat: &mut RawSeat, word: Word) -> u64
+        requires { MayPlay self.now seat.old (Look word) }
+        ensures { Played self.now seat.old (Look word) result seat.new }
+    {
+        self.load(seat, &Step::Look(word), word)
+    }
+
+    /// Raises FRONT to the time, and the seat's past with it.
+    #[inline]
+    pub fn raise_front(&self, seat: &mut RawSeat, time: Time)
+        requires { MayPlay self.now seat.old (RaiseFront time) }
+        ensures { Plays self.now seat.old (RaiseFront time) seat.new }
+    {
+        self.raise(seat, &Step::RaiseFront(time), Word::Front, time);
+    }
+}
