@@ -157,7 +157,7 @@ quiet_grows (r ∷ rs) zero y e = let both = and_parts r.quiet (is_all_quiet rs)
 quiet_grows (r ∷ rs) (suc i) y e = let both = and_parts r.quiet (is_all_quiet rs) e in and_from r.quiet (is_all_quiet (set rs i (retiree_by (retiree_at rs i) y))) both.0 (quiet_grows rs i y both.1)
 
 -- where no readers are held back, the times from the merges on are shown
-first_if_quiet : (z : Layout) (m : MergerView) → is_all_quiet m.retirees ≡ true → first_shown z m ≡ m.merged * z.cells
+pub first_if_quiet : (z : Layout) (m : MergerView) → is_all_quiet m.retirees ≡ true → first_shown z m ≡ m.merged * z.cells
 first_if_quiet z m e = rw e (elim (is_retired m.phase) as (λ b. cond (b && not true) ((m.merged - 1) * z.cells) (m.merged * z.cells) ≡ m.merged * z.cells) [ true ↦ refl | false ↦ refl ])
 
 -- so it is in a phase with nothing retired
@@ -181,7 +181,7 @@ left_retired : (g : Ground) → OpensTo g LeaveExclusive → is_retired (merger'
 left_retired g o = by_bool (λ b. is_retired (cond b Frozen g.merger.phase) ≡ false) g.merger.limit_extended (λ _. refl) (λ _. held_retired g o.0)
 
 -- while a component is retired the clock is in the epoch that begins at the merges
-retired_end : (g : Ground) → is_retired g.merger.phase ≡ true → length g.slots ≤ (g.merger.merged + 1) * g.z.cells
+pub retired_end : (g : Ground) → is_retired g.merger.phase ≡ true → length g.slots ≤ (g.merger.merged + 1) * g.z.cells
 retired_end g e =
     let still : g.merger.limit_extended ≡ false = false_from_ne_true g.merger.limit_extended (λ f. let live = held_retired g (g.law.merger.extends (g.law.merger.limit_after f)) in absurd cc) in
     let frozen = retired_frozen g.merger.phase e in

@@ -70,7 +70,7 @@ looked_merged z m (PinOf i) y = refl
 looked_merged z m word y = refl
 
 -- the epoch that a merge takes up is decided: a time of it that is not would be drawn, and drawn times are of the epoch behind
-frozen_decided : (g : Ground) → is_frozen g.merger.phase ≡ true → IsDecidedBelow (slot_at g.slots) ((g.merger.merged + 1) * g.z.cells)
+pub frozen_decided : (g : Ground) → is_frozen g.merger.phase ≡ true → IsDecidedBelow (slot_at g.slots) ((g.merger.merged + 1) * g.z.cells)
 frozen_decided g frozen t lt none =
     let limit : g.memory Limit ≡ (g.merger.merged + 2) * g.z.cells = g.law.limit ∙ rw frozen refl in
     let current = g.law.current in

@@ -1,5 +1,5 @@
 -- How the clauses on runs are kept.
-use Rattle.std.proofs.Common.{◌≡◌, ◌≢◌, ℕ, zero, suc, ◌+◌, ◌-◌, ◌*◌, ◌/◌, ◌%◌, ◌<◌, ◌≤◌, ◌==◌, ◌⊎◌, ◌&&◌, not, set, ⊎_elim, Bool, true, false, cond, nat_lt, List, [], ◌∷◌, ◌++◌, map, slice_index_or, sym, refl, ap, ◌∙◌, subst, arith, inl, inr, Option, Some, None, unwrap_or}
+use Rattle.std.proofs.Common.{◌≡◌, ◌≢◌, ℕ, zero, suc, ◌+◌, ◌-◌, ◌*◌, ◌/◌, ◌%◌, ◌<◌, ◌≤◌, ◌==◌, ◌⊎◌, ◌&&◌, ◌||◌, not, set, ⊎_elim, Bool, true, false, cond, nat_lt, List, [], ◌∷◌, ◌++◌, map, slice_index_or, sym, refl, ap, ◌∙◌, subst, arith, inl, inr, Option, Some, None, unwrap_or}
 use Rattle.std.specs.List.{AllByRecursion}
 use Rattle.std.proofs.lemmas.Bool.{lt-ltb, le-ltb, eq-eqb, cases_lt, cases_eq}
 use Rattle.std.proofs.lemmas.Bool.{ltb-true, eqb-true}
@@ -27,7 +27,7 @@ use Rattle.clsm_core.specs.declared.merger.Phase.{Phase}
 use Rattle.clsm_core.specs.declared.merger.Phase.TheVariants.{Clean, Frozen, Retired}
 use Rattle.clsm_core.specs.Memory.{Memory, room_of, put}
 use Rattle.clsm_core.specs.Places.{number_of, is_named, entry_in, entries_from, entries_in, held_at}
-use Rattle.clsm_core.specs.Worlds.{slot_at, settled, history_of, runs_of}
+use Rattle.clsm_core.specs.Worlds.{slot_at, settled, history_of, runs_of, passes_from, is_length, is_ended, is_canonical, are_canonical}
 use Rattle.clsm_core.specs.Law.{AreRuns, is_held_back}
 use Rattle.clsm_core.proofs.Frames.{put_other, put_same}
 use Rattle.clsm_core.proofs.Setting.{facts, Setting, Ground, x, M, S, Opens, OpensTo, memory', slots', merger'}
@@ -38,7 +38,7 @@ use Rattle.clsm_core.proofs.GrowthMerger.{slots_stay'}
 
 -- ---- histories that agree below a time
 
-settled_at : (slots : List (Option Slot)) (t : ℕ) → slice_index_or (settled slots) t Nothing ≡ unwrap_or (slot_at slots t) Nothing
+pub settled_at : (slots : List (Option Slot)) (t : ℕ) → slice_index_or (settled slots) t Nothing ≡ unwrap_or (slot_at slots t) Nothing
 settled_at [] t = refl
 settled_at (s ∷ ss) zero = refl
 settled_at (s ∷ ss) (suc t) = settled_at ss t
@@ -48,7 +48,7 @@ some_of None ne = absurd (ne refl)
 some_of (Some b) ne = (b, refl)
 
 -- where all slots below a are decided, and decided slots stay
-agree_below : (slots slots' : List (Option Slot)) (a : ℕ) → ((t : ℕ) → t < a → slot_at slots t ≢ None) → ((u : ℕ) (b : Slot) → slot_at slots u ≡ Some b → slot_at slots' u ≡ Some b) → AgreeBelow a (history_of slots) (history_of slots')
+pub agree_below : (slots slots' : List (Option Slot)) (a : ℕ) → ((t : ℕ) → t < a → slot_at slots t ≢ None) → ((u : ℕ) (b : Slot) → slot_at slots u ≡ Some b → slot_at slots' u ≡ Some b) → AgreeBelow a (history_of slots) (history_of slots')
 agree_below slots slots' a decided stay t lt =
     let d = some_of (slot_at slots t) (decided t lt) in
     settled_at slots' t ∙ ap (λ (o : Option Slot). unwrap_or o Nothing) (stay t d.0 d.1 ∙ sym d.1) ∙ sym (settled_at slots t)
@@ -67,8 +67,29 @@ entries_same : (memory memory' : Memory) (p e n : ℕ) → SamePlace memory memo
 entries_same memory memory' p e zero s = refl
 entries_same memory memory' p e (suc n) s = let a = entry_same memory memory' p e s in let b = entries_same memory memory' p (e + 1) n s in cc (a, b)
 
-place_same : (memory memory' : Memory) (p : ℕ) → SamePlace memory memory' p → entries_in memory' p ≡ entries_in memory p
+pub place_same : (memory memory' : Memory) (p : ℕ) → SamePlace memory memory' p → entries_in memory' p ≡ entries_in memory p
 place_same memory memory' p s = ap (entries_from memory' p 0) s.count ∙ entries_same memory memory' p 0 (memory (Count p)) s
+
+-- the test is the same on each number
+passes_same : (test test' : ℕ → Bool) (a n : ℕ) → ((k : ℕ) → test' k ≡ test k) → passes_from test' a n ≡ passes_from test a n
+passes_same test test' a zero h = refl
+passes_same test test' a (suc n) h = let b = passes_same test test' (a + 1) n h in rw (h a) (ap (λ (c : Bool). test a && c) b)
+
+ended_same : (memory memory' : Memory) (p e : ℕ) → SamePlace memory memory' p → is_ended memory' p e ≡ is_ended memory p e
+ended_same memory memory' p e s = passes_same (λ j. nat_lt j (memory (EntryWord p e 2)) || memory (EntryWord p e (3 + j)) == 0) (λ j. nat_lt j (memory' (EntryWord p e 2)) || memory' (EntryWord p e (3 + j)) == 0) 0 8 (λ j. rw (s.words e 2, s.words e (3 + j)) refl)
+
+and_same : (a b c d : Bool) → c ≡ a → d ≡ b → (c && d) ≡ (a && b)
+and_same a b c d e f = ap (λ (k : Bool). k && d) e ∙ ap (λ (k : Bool). a && k) f
+
+length_same : (a b c d : ℕ) → c ≡ a → d ≡ b → is_length c d ≡ is_length a b
+length_same a b c d e f = ap (λ (k : ℕ). is_length k d) e ∙ ap (is_length a) f
+
+entry_canonical : (memory memory' : Memory) (p e : ℕ) → SamePlace memory memory' p → is_canonical memory' p e ≡ is_canonical memory p e
+entry_canonical memory memory' p e s = and_same (is_length (memory (EntryWord p e 1)) (memory (EntryWord p e 2))) (is_ended memory p e) (is_length (memory' (EntryWord p e 1)) (memory' (EntryWord p e 2))) (is_ended memory' p e)
+    (length_same (memory (EntryWord p e 1)) (memory (EntryWord p e 2)) (memory' (EntryWord p e 1)) (memory' (EntryWord p e 2)) (s.words e 1) (s.words e 2)) (ended_same memory memory' p e s)
+
+pub canonical_same : (memory memory' : Memory) (p : ℕ) → SamePlace memory memory' p → are_canonical memory' p ≡ are_canonical memory p
+canonical_same memory memory' p s = ap (passes_from (is_canonical memory' p) 0) s.count ∙ passes_same (is_canonical memory p) (is_canonical memory' p) 0 (memory (Count p)) (λ e. entry_canonical memory memory' p e s)
 
 -- ---- the places that a component names
 
@@ -108,6 +129,7 @@ module _ (z : Layout) (memory memory' : Memory) (h h' : History) (component floo
     within = all_from (λ (place : Place). (held_at memory' place ≡ held_at memory place) × IsWithin z.cells component place (held_at memory place)) (λ place. IsWithin z.cells component place (held_at memory' place)) (places component)
         (λ place both. subst (IsWithin z.cells component place) (sym both.0) both.1) (all_both (λ (place : Place). held_at memory' place ≡ held_at memory place) (λ place. IsWithin z.cells component place (held_at memory place)) (places component) held_same r.within);
     counts = λ p e. let c = r.counts p e in let s = (same p e).count in omega arith;
+    canonical = λ p e. canonical_same memory memory' p (same p e) ∙ r.canonical p e;
   }
 
 -- ---- a caller's step writes no run
@@ -173,10 +195,14 @@ published g o = record {
   content = turn_in_place (history_of g.slots) (held_at g.memory) g.merger.merged g.z.cells g.merger.merged_floor g.merger.floor o.2 g.law.floors.merged g.law.floors.below_merged g.law.runs.content;
   within = within_next (settled g.slots) (held_at g.memory) g.merger.merged g.z.cells g.merger.floor o.2 g.law.runs.content.older g.law.runs.within;
   counts = counts;
+  canonical = canonical;
 }
   where
     counts : (p : ℕ) → is_named (g.merger.merged + 1) p ≡ true → g.memory (Count p) ≤ room_of g.z p
     counts p e = ⊎_elim (λ (here : p ≡ number_of (target g.merger.merged)). subst (λ (k : ℕ). g.memory (Count k) ≤ room_of g.z k) (sym here) o.1) (λ (old : is_named g.merger.merged p ≡ true). g.law.runs.counts p old) (named_next g.merger.merged p e)
+
+    canonical : (p : ℕ) → is_named (g.merger.merged + 1) p ≡ true → are_canonical g.memory p ≡ true
+    canonical p e = ⊎_elim (λ (here : p ≡ number_of (target g.merger.merged)). subst (λ (k : ℕ). are_canonical g.memory k ≡ true) (sym here) o.3) (λ (old : is_named g.merger.merged p ≡ true). g.law.runs.canonical p old) (named_next g.merger.merged p e)
 
 -- a look leaves the number of merges and their floors
 looked_merged : (z : Layout) (m : MergerView) (word : Word) (x : ℕ) → (merger_looked z m word x).merged ≡ m.merged

@@ -104,7 +104,7 @@ module _ (z : Layout) where
     snapshots = λ i. all_idle (λ (v : View). IsSnapshot 0 0 v.past v.pinned v.snapshot) tt n i;
     passed = tt;
     floors = record { below_end = omega arith; at_rest = λ e. omega arith; merged = omega arith; former = omega arith; below_merged = omega arith; below_former = omega arith };
-    runs = let none : 0 * z.cells ≡ 0 = omega arith in record { content = subst (λ (a : ℕ). IsContent (history_of []) (runs_of fresh 0) 0 a) (sym none) empty_runs; within = (tt, tt); counts = λ p e. omega arith };
+    runs = let none : 0 * z.cells ≡ 0 = omega arith in record { content = subst (λ (a : ℕ). IsContent (history_of []) (runs_of fresh 0) 0 a) (sym none) empty_runs; within = (tt, tt); counts = λ p e. omega arith; canonical = λ p e. refl };
     former_runs = λ e. absurd cc;
     right = λ i. all_idle (λ (v : View). AllByRecursion (IsRightRecord (past_of [] v.past)) v.calls) tt n i;
     stand = λ i. all_idle (λ (v : View). AllByRecursion (IsStandingRecord (slot_at []) i) v.calls) tt n i;

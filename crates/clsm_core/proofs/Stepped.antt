@@ -34,7 +34,7 @@ lawful_after_seat w l seat step lt o =
       law = subst (λ (m : Memory). LawOf w.layout m (V s step) w.merger (S s step) (C s step)) (sym (memory-set w.layout w.words word y (word_there s step o) l.size)) (kept s step o);
     }
 
-lawful_after_merger : (w : WorldState) (l : IsLawful w) (step : Step) → IsOpenToMerger w.layout (facts_of w.layout (memory_of w) w.merger w.slots) w.merger step → IsLawful (after_merger w step)
+pub lawful_after_merger : (w : WorldState) (l : IsLawful w) (step : Step) → IsOpenToMerger w.layout (facts_of w.layout (memory_of w) w.merger w.slots) w.merger step → IsLawful (after_merger w step)
 unfolding memory
 lawful_after_merger w l step o =
     let g = lawful_ground w l in

@@ -23,7 +23,7 @@ use Rattle.clsm_core.specs.Places.{is_named, held_at}
 use Rattle.clsm_core.specs.Relation.{Chains, is_shared, length_of, words_of, state_of, open_time}
 use Rattle.clsm_core.specs.Merging.{is_clean, is_frozen, is_retired, is_all_quiet, retiree_at, epoch_end}
 use Rattle.clsm_core.specs.Seats.{IsRightRecord, IsStandingRecord, HasWrite, IsRising}
-use Rattle.clsm_core.specs.Worlds.{view_at, slot_at, past_of, history_of, runs_of}
+use Rattle.clsm_core.specs.Worlds.{view_at, slot_at, past_of, history_of, runs_of, are_canonical}
 
 -- ---- the functions that the clauses name
 
@@ -276,11 +276,12 @@ pub record AreFloors (z : Layout) (m : MergerView) : Type 0 where
   pub below_merged : m.merged_floor ≤ m.merged * z.cells
   pub below_former : m.former_floor ≤ (m.merged - 1) * z.cells
 
--- what the readers of a component search is exact from its floor on, and fits its places
+-- what the readers of a component search is exact from its floor on, and fits its places, and no word there says more than its entries
 pub record AreRuns (z : Layout) (memory : Memory) (h : History) (component floor : ℕ) : Type 0 where
   pub content : IsContent h (runs_of memory component) floor (component * z.cells)
   pub within : AreWithin z.cells component (held_at memory)
   pub counts : (p : ℕ) → is_named component p ≡ true → memory (Count p) ≤ room_of z p
+  pub canonical : (p : ℕ) → is_named component p ≡ true → are_canonical memory p ≡ true
 
 -- the merger's hold of the lock, and its freeze
 pub record IsMerger (z : Layout) (m : MergerView) (clock : ℕ) : Type 0 where

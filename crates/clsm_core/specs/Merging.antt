@@ -34,6 +34,8 @@ pub record Facts : Type 0 where
   pub wanted : List Entry
   pub count : ℕ
   pub written : List Entry
+  -- no word of the target says more than its entries
+  pub canonical : Bool
 
 -- ---- the merger at its beginning
 
@@ -108,7 +110,7 @@ IsOpenToMerger z f m (Pad t) = (m.exclusive ≡ true) × (f.clock ≤ t) × (t <
 IsOpenToMerger z f m (WriteRun word x) = (is_frozen m.phase ≡ true) × IsRunWord word × (is_word z word ≡ true) × (is_named m.merged (place_of word) ≡ false)
 IsOpenToMerger z f m (ClearHead region shard) = (is_retired m.phase ≡ true) × (is_all_quiet m.retirees ≡ true) × (region ≡ retired_region m) × (shard < z.shards)
 IsOpenToMerger z f m (ClearState cell) = (is_retired m.phase ≡ true) × (is_all_quiet m.retirees ≡ true) × (cell < 2 * z.cells) × (region_of z cell ≡ retired_region m) × (f.headless ≡ true)
-IsOpenToMerger z f m Publish = (is_frozen m.phase ≡ true) × (f.count ≤ room_of z (target_of m)) × (f.written ≡ f.wanted)
+IsOpenToMerger z f m Publish = (is_frozen m.phase ≡ true) × (f.count ≤ room_of z (target_of m)) × (f.written ≡ f.wanted) × (f.canonical ≡ true)
 IsOpenToMerger z f m ExtendClock = (m.exclusive ≡ true) × (f.padded ≡ true) × ((m.merged + 2) * z.cells ≤ 2 ^ 62)
 IsOpenToMerger z f m ExtendLimit = (m.exclusive ≡ true) × (m.clock_extended ≡ true) × ((m.merged + 2) * z.cells ≤ 2 ^ 62)
 IsOpenToMerger z f m _ = ⊥

@@ -1,5 +1,5 @@
 -- What the law and the steps say of a world's slots, views and words.
-use Rattle.std.specs.Prelude.{ℕ, zero, suc, ◌+◌, ◌-◌, ◌*◌, ◌==◌, ◌&&◌, ◌||◌, Bool, true, List, map, take, slice_index_or, Option, None, unwrap_or}
+use Rattle.std.specs.Prelude.{ℕ, zero, suc, ◌+◌, ◌-◌, ◌*◌, ◌%◌, ◌==◌, ◌&&◌, ◌||◌, Bool, true, cond, nat_lt, List, map, take, slice_index_or, Option, None, unwrap_or}
 use Rattle.clsm_model.specs.declared.slot.Slot.{Slot}
 use Rattle.clsm_model.specs.declared.slot.Slot.TheVariants.{Nothing}
 use Rattle.clsm_model.specs.History.{History, plain}
@@ -8,7 +8,7 @@ use Rattle.clsm_levels.specs.Entry.{entries_of}
 use Rattle.clsm_levels.specs.Merge.{wanted}
 use Rattle.clsm_levels.specs.Place.{places, runs_at}
 use Rattle.clsm_core.specs.declared.layout.Layout.{Layout}
-use Rattle.clsm_core.specs.declared.word.Word.TheVariants.{Clock, Head, State, Count}
+use Rattle.clsm_core.specs.declared.word.Word.TheVariants.{Clock, Head, State, Count, Entry as EntryWord}
 use Rattle.clsm_core.specs.declared.view.View.{View}
 use Rattle.clsm_core.specs.declared.merger.MergerView.{MergerView}
 use Rattle.clsm_core.specs.Memory.{Memory, cell_of}
@@ -62,6 +62,21 @@ runs_of memory component = runs_at (held_at memory) (places component)
 abbrev pub epoch_of : Layout → List (Option Slot) → ℕ → List Entry
 epoch_of z slots epoch = entries_of (settled slots) (epoch * z.cells) ((epoch + 1) * z.cells)
 
+-- the length of a removal is 0, that of a value at most 8: the time word tells which
+abbrev pub is_length : ℕ → ℕ → Bool
+is_length spelled n = cond (spelled % 2 == 1) (n == 0) (nat_lt n 9)
+
+-- the words of the entry behind its value are 0
+abbrev pub is_ended : Memory → ℕ → ℕ → Bool
+is_ended memory p i = passes_from (λ j. nat_lt j (memory (EntryWord p i 2)) || memory (EntryWord p i (3 + j)) == 0) 0 8
+
+-- no word of the entry i of the place p says more than the entry
+abbrev pub is_canonical : Memory → ℕ → ℕ → Bool
+is_canonical memory p i = is_length (memory (EntryWord p i 1)) (memory (EntryWord p i 2)) && is_ended memory p i
+
+abbrev pub are_canonical : Memory → ℕ → Bool
+are_canonical memory p = passes_from (is_canonical memory p) 0 (memory (Count p))
+
 abbrev pub facts_of : Layout → Memory → MergerView → List (Option Slot) → Facts
 facts_of z memory m slots = record {
   clock = memory Clock;
@@ -71,4 +86,5 @@ facts_of z memory m slots = record {
   wanted = wanted m.merged m.floor (epoch_of z slots m.merged) (runs_of memory m.merged);
   count = memory (Count (target_of m));
   written = entries_in memory (target_of m);
+  canonical = are_canonical memory (target_of m);
 }

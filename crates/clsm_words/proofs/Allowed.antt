@@ -19,31 +19,9 @@ use Rattle.clsm_words.specs.Ruled.{Begins, Ruled}
 use Rattle.clsm_words.proofs.Beginnings.{begins_prefix}
 use Rattle.clsm_words.proofs.Knows.{own_past, agrees_of, sound_of}
 use Rattle.clsm_words.proofs.Played.{me_seated, found, next, slots', after, told_stays, next_seated, ruled'}
+use Rattle.clsm_words.proofs.PastGrowth.{past_grows}
 use Rattle.clsm_words.proofs.Telling.{tells_of}
-
--- a seat's past only grows
-
-looked_past : (z : Layout) (v : View) (word : Word) (x : ℕ) → (looked z v word x).past ≡ v.past
-looked_past z v Lock x = refl
-looked_past z v Clock x = refl
-looked_past z v Limit x = refl
-looked_past z v Front x = refl
-looked_past z v Merged x = refl
-looked_past z v (Head region shard) x = refl
-looked_past z v (StateOf cell) x = refl
-looked_past z v word x = refl
-
-filled_past : (v : View) (part : Part) (w : ℕ) → (filled v part w).past ≡ v.past
-filled_past v Key w = refl
-filled_past v Length w = refl
-filled_past v (Value j) w = refl
-filled_past v Next w = refl
-
-past_grows : (z : Layout) (i : ℕ) (v : View) (step : Step) (x : ℕ) → v.past ≤ (view_after z i v step x).past
-past_grows z i v (Fill part w) x = let e = filled_past v part w in omega arith
-past_grows z i v (Look word) x = let e = looked_past z v word x in omega arith
-past_grows z i v (RaiseFront s) x = omega arith
-past_grows z i v step x = omega arith
+use Rattle.clsm_words.proofs.Walking.{walks_of, runs_of_step}
 
 module _ (s : State ℕ Known) (id : ℕ) (k : Known) (r : Ruled k.layout s) (at : get_elem? s.views id ≡ some k) (sits : k.seated ≡ true) (step : Step) (o : Opens k step) where
   next_past : Begins (slots' s id k r at sits step o) (next s id k r at sits step o).past
@@ -78,6 +56,8 @@ module _ (s : State ℕ Known) (id : ℕ) (k : Known) (r : Ruled k.layout s) (at
     within = λ le. begins_prefix (slots' s id k r at sits step o) (next s id k r at sits step o).past k.told next_past told_past le;
     agrees = agrees_of (after s id k r at sits step o) (next s id k r at sits step o) (ruled' s id k r at sits step o) (next_seated s id k r at sits step o) k.told told_past;
     tells = tells_of s id k r at sits step o;
+    walks = walks_of s id k r at sits step o;
+    runs = runs_of_step s id k r at sits step o;
     sound = sound';
   }
 

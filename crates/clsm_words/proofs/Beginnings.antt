@@ -7,6 +7,7 @@ use Rattle.clsm_model.specs.declared.slot.Slot.{Slot}
 use Rattle.clsm_model.specs.declared.slot.Slot.TheVariants.{Nothing}
 use Rattle.clsm_core.specs.Worlds.{slot_at, settled}
 use Rattle.clsm_core.proofs.Frames.{past_end}
+use Rattle.clsm_core.proofs.KeptRuns.{settled_at}
 use Rattle.clsm_core.proofs.Histories.{slot_of-past, end_of-past, past-equal, decided-same}
 use Rattle.clsm_words.specs.Ruled.{Begins}
 
@@ -41,6 +42,12 @@ begins_at slots list b t lt =
     let e = begins_length slots list b in
     let below : t < b.until = omega arith in
     sym (ap (λ (xs : List Slot). Some (get_or xs t Nothing)) b.is ∙ ap (λ (x : Slot). Some x) (slot_of-past slots b.until t below) ∙ settled_is (slot_at slots t) (b.decided t below))
+
+-- what the times of a beginning came to
+pub begins_settled : (slots : List (Option Slot)) (past : List Slot) (b : Begins slots past) (t : ℕ) → t < length past → get_or past t Nothing ≡ get_or (settled slots) t Nothing
+begins_settled slots past b t lt = sym (settled_at slots t ∙ (λ i. cond_of (begins_at slots past b t lt i))) where
+  cond_of : Option Slot → Slot
+  cond_of o = unwrap_or o Nothing
 
 -- of two beginnings the one that is not longer begins the other
 pub begins_prefix : (slots : List (Option Slot)) (a b : List Slot) → Begins slots a → Begins slots b → length a ≤ length b → IsPrefix a b

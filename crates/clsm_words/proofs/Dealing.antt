@@ -1,23 +1,29 @@
 -- How the table opens, a seat is dealt, and one tells another.
-use Rattle.std.proofs.Common.{◌≡◌, ◌≢◌, ℕ, zero, suc, ◌+◌, ◌<◌, ◌≤◌, ◌⊎◌, true, false, List, [], ◌∷◌, ◌++◌, length, take, set, replicate, refl, ap, ◌∙◌, sym, subst, inl, inr, ⊎_elim, arith, Option}
+use Rattle.std.proofs.Common.{◌≡◌, ◌≢◌, ℕ, zero, suc, ◌+◌, ◌%◌, ◌<◌, ◌≤◌, ◌⊎◌, true, false, List, [], ◌∷◌, ◌++◌, length, take, set, replicate, refl, ap, ◌∙◌, sym, subst, inl, inr, ⊎_elim, arith, Option, Some}
 use mathlib.Core.Option.{some, some-injective, some-ne-none}
 use lib.ListN.{get_elem?}
 use Rattle.atomic_table.specs.Table.{State, Splits, Joins, opening}
 use Rattle.atomic_table.proofs.Lists.{at_set, set_again}
 use Rattle.clsm_model.specs.declared.slot.Slot.{Slot}
 use Rattle.clsm_core.specs.declared.layout.Layout.{Layout}
+use Rattle.clsm_core.specs.declared.word.Word.{Word}
 use Rattle.clsm_core.specs.declared.view.View.{View}
-use Rattle.clsm_core.specs.Relation.{idle}
+use Rattle.clsm_core.specs.declared.merger.MergerView.{MergerView}
+use Rattle.clsm_core.specs.Layout.{size_of, memory}
+use Rattle.clsm_core.specs.Relation.{Chains, idle}
 use Rattle.clsm_core.specs.Merging.{opening as opening_merger}
 use Rattle.clsm_core.specs.Worlds.{view_at, settled}
 use Rattle.clsm_core.specs.Machine.{IsLawful, opened}
 use Rattle.clsm_core.proofs.Layouts.{is_layout}
 use Rattle.clsm_core.proofs.Opening.{opened_lawful, idle_at}
 use Rattle.clsm_words.specs.declared.known.Known.{Known}
-use Rattle.clsm_words.specs.Knowing.{newcomer, deals, messenger, learns, HasRows, Sound}
-use Rattle.clsm_words.specs.Ruled.{world_of, IsSeated, IsTold, IsDealing, AreSeats, Ruled}
+use Rattle.clsm_words.specs.Knowing.{newcomer, new_merger, deals, messenger, learns, HasRows, IsHeldEpoch, IsNamedWord, Sound}
+use Rattle.clsm_words.specs.Merging.{IsOwn, known_end, IsSoundMerger}
+use Rattle.clsm_words.specs.Ruled.{world_of, HasFloor, IsEndOf, IsSeated, Begins, IsTold, IsMerging, IsDealing, AreSeats, Ruled}
+use Rattle.clsm_words.proofs.Trails.{end_none}
 use Rattle.clsm_words.proofs.Rows.{idle_rows}
 use Rattle.clsm_words.proofs.Knows.{own_past, sound_of}
+use Rattle.clsm_words.proofs.MergerKnows.{sound_merger}
 
 at_end : {A : Type 0} (l : List A) (a b : A) (j : ℕ) → get_elem? (l ++ a ∷ []) j ≡ some b → (get_elem? l j ≡ some b) ⊎ ((j ≡ length l) × (a ≡ b))
 at_end [] a b zero e = inr (refl, some-injective a b e)
@@ -31,97 +37,161 @@ untold slots = record { begins = record { until = 0; is = refl; decided = λ t l
 
 -- ---- the opening
 
-newcomer_seated : (z : Layout) (views : List View) (slots : List (Option Slot)) (number dealt : ℕ) → number < z.seats → view_at z views number ≡ idle z → IsSeated z slots views (newcomer z number dealt)
-newcomer_seated z views slots number dealt lt is = record { layout = refl; inside = lt; view = is; rows = idle_rows z; past = refl }
+newcomer_seated : (z : Layout) (words : List ℕ) (m : MergerView) (slots : List (Option Slot)) (chains : Chains) (views : List View) (number : ℕ) → number < z.seats → view_at z views number ≡ idle z → IsSeated z words m slots chains views (newcomer z number)
+newcomer_seated z words m slots chains views number lt is = record {
+  layout = refl;
+  inside = lt;
+  view = is;
+  rows = idle_rows z;
+  past = refl;
+  row = λ c held. absurd cc;
+  floor = λ c held. absurd cc;
+  ends = end_none (chains 0 0);
+  line = λ some. absurd (some refl);
+}
 
-pub opens : (z : Layout) (words : List ℕ) → words ≡ (opened z).words → Ruled z (opening words [] (newcomer z 0 1))
-opens z words e = let some_seat = z.seats_in_range.0 in record {
+-- the merger's seat at the opening
+new_merging : (z : Layout) → IsMerging z (opened z).words (opening_merger z) [] (new_merger z)
+new_merging z = record {
+  layout = refl;
+  unseated = refl;
+  view = refl;
+  past = (untold []).begins;
+  reaches = omega arith;
+  sized = (opened_lawful z (is_layout z)).size;
+  row = λ word own. refl;
+}
+
+pub opens : (z : Layout) (words : List ℕ) → words ≡ (opened z).words → Ruled z (opening words [] (new_merger z))
+opens z words e = record {
   views = replicate z.seats (idle z);
   merger = opening_merger z;
   slots = [];
   lawful = subst (λ (ws : List ℕ). IsLawful (world_of z ws (replicate z.seats (idle z)) (opening_merger z) [])) (sym e) (opened_lawful z (is_layout z));
   seats = record {
-    seated = λ i k e _. subst (IsSeated z [] (replicate z.seats (idle z))) (only i k e).1 (newcomer_seated z (replicate z.seats (idle z)) [] 0 1 (omega arith) (idle_at z z.seats 0));
-    told = λ i k e. subst (λ (k : Known). IsTold [] k.told k.heard) (only i k e).1 (untold []);
-    apart = λ i j k k' e e' _ _ _. (only i k e).0 ∙ sym (only j k' e').0;
-    dealer = λ i k e _. subst (λ (k : Known). IsDealing z (replicate z.seats (idle z)) (newcomer z 0 1 ∷ []) k.dealt) (only i k e).1 record {
-      below = λ j k' e' _. let q : 0 ≡ k'.number = ap (λ (k : Known). k.number) (only j k' e').1 in omega arith;
+    seated = λ i k e' sat. absurd (let m : false ≡ k.seated = ap (λ (k : Known). k.seated) (only i k e').1 in cc (m, sat));
+    merging = λ i k e' _. subst (λ (y : List ℕ × Known). IsMerging z y.0 (opening_merger z) [] y.1) (λ m. (sym e m, (only i k e').1 m)) (new_merging z);
+    told = λ i k e'. subst (λ (k : Known). IsTold [] k.told k.heard) (only i k e').1 (untold []);
+    apart = λ i j k k' e' f' _ _ _. (only i k e').0 ∙ sym (only j k' f').0;
+    dealer = λ i k e' _. subst (λ (k : Known). IsDealing z (replicate z.seats (idle z)) (new_merger z ∷ []) k.dealt) (only i k e').1 record {
+      below = λ j k' f' sat. absurd (let m : false ≡ k'.seated = ap (λ (k : Known). k.seated) (only j k' f').1 in cc (m, sat));
       idle_above = λ i _. idle_at z z.seats i;
     };
-    one = λ i j k k' e e' _ _. (only i k e).0 ∙ sym (only j k' e').0;
+    one = λ i j k k' e' f' _ _. (only i k e').0 ∙ sym (only j k' f').0;
   };
 }
   where
-    only : (i : ℕ) (k : Known) → get_elem? (newcomer z 0 1 ∷ []) i ≡ some k → (i ≡ 0) × (newcomer z 0 1 ≡ k)
+    only : (i : ℕ) (k : Known) → get_elem? (new_merger z ∷ []) i ≡ some k → (i ≡ 0) × (new_merger z ≡ k)
     only zero k e = (refl, some-injective _ k e)
     only (suc i) k e = absurd (some-ne-none k (sym e))
 
 -- a fresh seat knows what each seat knows
-pub fresh_sound : (z : Layout) (number dealt : ℕ) → number < z.seats → Sound (newcomer z number dealt)
+pub fresh_sound : (z : Layout) (number : ℕ) → number < z.seats → Sound (newcomer z number)
 unfolding opens
-fresh_sound z number dealt lt = sound_of (opening (opened z).words [] (newcomer z 0 1)) (newcomer z number dealt) (opens z (opened z).words refl)
-    (newcomer_seated z (replicate z.seats (idle z)) [] number dealt lt (idle_at z z.seats number)) refl
+fresh_sound z number lt = let r = opens z (opened z).words refl in sound_of (opening (opened z).words [] (new_merger z)) (newcomer z number) r
+    (newcomer_seated z (opened z).words r.merger r.slots r.lawful.chains (replicate z.seats (idle z)) number lt (idle_at z z.seats number)) refl
 
-pub deals_sound : (k : Known) → Sound k → Sound (deals k)
-deals_sound k s = record { seated = s.seated; inside = s.inside; there = s.there; small = s.small; rows = s.rows; length_is = s.length_is; agrees = s.agrees; right = s.right; rising = s.rising; own_region = s.own_region; opened = s.opened }
+pub new_sound : (z : Layout) → IsSoundMerger (new_merger z)
+unfolding opens
+new_sound z = sound_merger (opening (opened z).words [] (new_merger z)) (new_merger z) (opens z (opened z).words refl) (new_merging z) refl
 
 pub learns_sound : (k m : Known) → Sound k → Sound (learns k m)
-learns_sound k m s = record { seated = s.seated; inside = s.inside; there = s.there; small = s.small; rows = s.rows; length_is = s.length_is; agrees = s.agrees; right = s.right; rising = s.rising; own_region = s.own_region; opened = s.opened }
+learns_sound k m s = record { seated = s.seated; inside = s.inside; there = s.there; small = s.small; rows = s.rows; length_is = s.length_is; agrees = s.agrees; right = s.right; rising = s.rising; own_region = s.own_region; opened = s.opened; reads = λ c held. let h = s.reads c held in record { below_merged = h.below_merged; below_snapshot = h.below_snapshot; runs = h.runs } }
 
 -- ---- dealing
 
 -- an old view may have other numbers of what it dealt and was told
-abbrev Like : Known → Known → Type 0
-Like o j = (o.seated ≡ j.seated) × (o.number ≡ j.number) × (o.layout ≡ j.layout) × (o.view ≡ j.view) × (o.past ≡ j.past)
+pub record Like (o j : Known) : Type 0 where
+  pub seated : o.seated ≡ j.seated
+  pub merges : o.merges ≡ j.merges
+  pub number : o.number ≡ j.number
+  pub layout : o.layout ≡ j.layout
+  pub view : o.view ≡ j.view
+  pub merger : o.merger ≡ j.merger
+  pub row : o.row ≡ j.row
+  pub past : o.past ≡ j.past
+  pub trail : o.trail ≡ j.trail
+  pub region : o.region ≡ j.region
+  pub shard : o.shard ≡ j.shard
+  pub floor : o.floor ≡ j.floor
 
-like_seated : (z : Layout) (slots : List (Option Slot)) (views : List View) (o j : Known) → Like o j → IsSeated z slots views o → IsSeated z slots views j
-like_seated z slots views o j l h = record {
-  layout = sym l.2 ∙ h.layout;
-  inside = let e = l.1 in let i = h.inside in omega arith;
-  view = (λ m. view_at z views (sym l.1 m)) ∙ h.view ∙ l.3;
-  rows = subst (HasRows z) l.3 h.rows;
-  past = sym l.4 ∙ h.past ∙ (λ m. take (l.3 m).past (settled slots));
+alike : (k : Known) → Like k k
+alike k = record { seated = refl; merges = refl; number = refl; layout = refl; view = refl; merger = refl; row = refl; past = refl; trail = refl; region = refl; shard = refl; floor = refl }
+
+like_seated : (z : Layout) (words : List ℕ) (m : MergerView) (slots : List (Option Slot)) (chains : Chains) (views : List View) (o j : Known) → Like o j → IsSeated z words m slots chains views o → IsSeated z words m slots chains views j
+like_seated z words m slots chains views o j l h = record {
+  layout = sym l.layout ∙ h.layout;
+  inside = let e = l.number in let i = h.inside in omega arith;
+  view = (λ i. view_at z views (sym l.number i)) ∙ h.view ∙ l.view;
+  rows = subst (HasRows z) l.view h.rows;
+  past = sym l.past ∙ h.past ∙ (λ i. take (l.view i).past (settled slots));
+  row = subst (λ (y : View × List ℕ). (c : ℕ) → y.0.held ≡ Some c → (word : Word) → IsNamedWord c word → memory z y.1 word ≡ memory z words word) (λ i. (l.view i, l.row i)) h.row;
+  floor = subst (λ (y : View × ℕ). (c : ℕ) → y.0.held ≡ Some c → HasFloor m c y.1) (λ i. (l.view i, l.floor i)) h.floor;
+  ends = subst (λ (y : List ℕ × ℕ × ℕ). IsEndOf y.0 (chains y.1 y.2)) (λ i. (l.trail i, l.region i, l.shard i)) h.ends;
+  line = subst (λ (y : List ℕ × View × ℕ × ℕ). y.0 ≢ [] → (e : ℕ) × IsHeldEpoch z y.1.held y.1.past e × (y.2 ≡ e % 2) × (y.3 < z.shards)) (λ i. (l.trail i, l.view i, l.region i, l.shard i)) h.line;
 }
 
--- the seat that deals gives the next number away
-module _ (id : ℕ) (k : Known) (sits : k.seated ≡ true) (pos : 0 < k.dealt) (room : k.dealt < k.layout.seats) (s : State ℕ Known) (r : Ruled k.layout s) (at : get_elem? s.views id ≡ some k) where
+like_merging : (z : Layout) (words : List ℕ) (m : MergerView) (slots : List (Option Slot)) (o j : Known) → Like o j → IsMerging z words m slots o → IsMerging z words m slots j
+like_merging z words m slots o j l h = record {
+  layout = sym l.layout ∙ h.layout;
+  unseated = sym l.seated ∙ h.unseated;
+  view = sym l.merger ∙ h.view;
+  past = subst (Begins slots) l.past h.past;
+  reaches = subst (λ (past : List Slot). known_end z m (length slots) ≤ length past) l.past h.reaches;
+  sized = subst (λ (row : List ℕ). length row ≡ size_of z) l.row h.sized;
+  row = subst (λ (row : List ℕ). (word : Word) → IsOwn z m word → memory z row word ≡ memory z words word) l.row h.row;
+}
+
+-- the merger's seat deals the callers' seats, one after another
+module _ (id : ℕ) (k : Known) (merges : k.merges ≡ true) (room : k.dealt < k.layout.seats) (s : State ℕ Known) (r : Ruled k.layout s) (at : get_elem? s.views id ≡ some k) where
   abbrev right : Known
-  right = newcomer k.layout k.dealt 0
+  right = newcomer k.layout k.dealt
 
   abbrev mid : List Known
   mid = set s.views id (deals k)
 
   -- one of the old views: the dealer, or another, which deals nothing
   abbrev Old : ℕ → Known → Type 0
-  Old i j = (o : Known) × (get_elem? s.views i ≡ some o) × Like o j × (IsTold r.slots j.told j.heard) × (0 < j.dealt → j.dealt ≡ k.dealt + 1)
+  Old i j = (o : Known) × (get_elem? s.views i ≡ some o) × Like o j × (IsTold r.slots j.told j.heard) × (j.merges ≡ true → j.dealt ≡ k.dealt + 1)
+
+  dealt_like : Like k (deals k)
+  dealt_like = record { seated = refl; merges = refl; number = refl; layout = refl; view = refl; merger = refl; row = refl; past = refl; trail = refl; region = refl; shard = refl; floor = refl }
 
   old : (i : ℕ) (j : Known) → get_elem? mid i ≡ some j → Old i j
   old i j e = ⊎_elim
-      (λ (t : (i ≡ id) × (deals k ≡ j)). subst (λ (y : ℕ × Known). Old y.0 y.1) (λ m. (sym t.0 m, t.1 m)) (k, at, (refl, refl, refl, refl, refl), r.seats.told id k at, λ _. refl))
-      (λ (t : (i ≢ id) × (get_elem? s.views i ≡ some j)). (j, t.1, (refl, refl, refl, refl, refl), r.seats.told i j t.1, λ p. absurd (t.0 (r.seats.one i id j k t.1 at p pos))))
+      (λ (t : (i ≡ id) × (deals k ≡ j)). subst (λ (y : ℕ × Known). Old y.0 y.1) (λ m. (sym t.0 m, t.1 m)) (k, at, dealt_like, r.seats.told id k at, λ _. refl))
+      (λ (t : (i ≢ id) × (get_elem? s.views i ≡ some j)). (j, t.1, alike j, r.seats.told i j t.1, λ p. absurd (t.0 (r.seats.one i id j k t.1 at p merges))))
       (at_set s.views id i (deals k) j e)
 
   split : (i : ℕ) (j : Known) → get_elem? (mid ++ right ∷ []) i ≡ some j → Old i j ⊎ ((i ≡ length mid) × (right ≡ j))
   split i j e = ⊎_elim (λ (h : get_elem? mid i ≡ some j). inl (old i j h)) (λ (h : (i ≡ length mid) × (right ≡ j)). inr h) (at_end mid right j i e)
 
   below : (i : ℕ) (j : Known) → Old i j → j.seated ≡ true → j.number < k.dealt
-  below i j o sat = let b = (r.seats.dealer id k at pos).below i o.0 o.1 (o.2.0 ∙ sat) in let e = o.2.1 in omega arith
+  below i j o sat = let b = (r.seats.dealer id k at merges).below i o.0 o.1 (o.2.seated ∙ sat) in let e = o.2.number in omega arith
 
-  -- whoever deals is the dealer
-  deals_at : (i : ℕ) (j : Known) → get_elem? (mid ++ right ∷ []) i ≡ some j → 0 < j.dealt → i ≡ id
+  -- the new one does not merge
+  merges_not : (j : Known) → right ≡ j → j.merges ≡ true → ⊥
+  merges_not j e p = let m : false ≡ j.merges = ap (λ (y : Known). y.merges) e in absurd (cc (m, p))
+
+  -- whoever merges is the dealer
+  deals_at : (i : ℕ) (j : Known) → get_elem? (mid ++ right ∷ []) i ≡ some j → j.merges ≡ true → i ≡ id
   deals_at i j e p = ⊎_elim
-      (λ (h : get_elem? mid i ≡ some j). ⊎_elim (λ (t : (i ≡ id) × (deals k ≡ j)). t.0) (λ (t : (i ≢ id) × (get_elem? s.views i ≡ some j)). r.seats.one i id j k t.1 at p pos) (at_set s.views id i (deals k) j h))
-      (λ (h : (i ≡ length mid) × (right ≡ j)). absurd (let m : 0 ≡ j.dealt = ap (λ (y : Known). y.dealt) h.1 in omega arith))
+      (λ (h : get_elem? mid i ≡ some j). ⊎_elim (λ (t : (i ≡ id) × (deals k ≡ j)). t.0) (λ (t : (i ≢ id) × (get_elem? s.views i ≡ some j)). r.seats.one i id j k t.1 at p merges) (at_set s.views id i (deals k) j h))
+      (λ (h : (i ≡ length mid) × (right ≡ j)). absurd (merges_not j h.1 p))
       (at_end mid right j i e)
 
-  right_seated : IsSeated k.layout r.slots r.views right
-  right_seated = newcomer_seated k.layout r.views r.slots k.dealt 0 room ((r.seats.dealer id k at pos).idle_above k.dealt (omega arith))
+  right_seated : IsSeated k.layout s.words r.merger r.slots r.lawful.chains r.views right
+  right_seated = newcomer_seated k.layout s.words r.merger r.slots r.lawful.chains r.views k.dealt room ((r.seats.dealer id k at merges).idle_above k.dealt (omega arith))
 
-  dealt_seats : AreSeats k.layout r.slots r.views (mid ++ right ∷ [])
+  dealt_seats : AreSeats k.layout s.words r.merger r.slots r.lawful.chains r.views (mid ++ right ∷ [])
   dealt_seats = record {
     seated = λ i j e sat. ⊎_elim
-        (λ (o : Old i j). like_seated k.layout r.slots r.views o.0 j o.2 (r.seats.seated i o.0 o.1 (o.2.0 ∙ sat)))
-        (λ (h : (i ≡ length mid) × (right ≡ j)). subst (IsSeated k.layout r.slots r.views) h.1 right_seated)
+        (λ (o : Old i j). like_seated k.layout s.words r.merger r.slots r.lawful.chains r.views o.0 j o.2 (r.seats.seated i o.0 o.1 (o.2.seated ∙ sat)))
+        (λ (h : (i ≡ length mid) × (right ≡ j)). subst (IsSeated k.layout s.words r.merger r.slots r.lawful.chains r.views) h.1 right_seated)
+        (split i j e);
+    merging = λ i j e p. ⊎_elim
+        (λ (o : Old i j). like_merging k.layout s.words r.merger r.slots o.0 j o.2 (r.seats.merging i o.0 o.1 (o.2.merges ∙ p)))
+        (λ (h : (i ≡ length mid) × (right ≡ j)). absurd (merges_not j h.1 p))
         (split i j e);
     told = λ i j e. ⊎_elim
         (λ (o : Old i j). o.3)
@@ -129,7 +199,7 @@ module _ (id : ℕ) (k : Known) (sits : k.seated ≡ true) (pos : 0 < k.dealt) (
         (split i j e);
     apart = λ i i' j j' e e' sat sat' q. ⊎_elim
         (λ (o : Old i j). ⊎_elim
-        (λ (o' : Old i' j'). r.seats.apart i i' o.0 o'.0 o.1 o'.1 (o.2.0 ∙ sat) (o'.2.0 ∙ sat') (o.2.1 ∙ q ∙ sym o'.2.1))
+        (λ (o' : Old i' j'). r.seats.apart i i' o.0 o'.0 o.1 o'.1 (o.2.seated ∙ sat) (o'.2.seated ∙ sat') (o.2.number ∙ q ∙ sym o'.2.number))
         (λ (h' : (i' ≡ length mid) × (right ≡ j')). absurd (let b = below i j o sat in let m : k.dealt ≡ j'.number = ap (λ (y : Known). y.number) h'.1 in omega arith))
         (split i' j' e'))
         (λ (h : (i ≡ length mid) × (right ≡ j)). ⊎_elim
@@ -143,9 +213,9 @@ module _ (id : ℕ) (k : Known) (sits : k.seated ≡ true) (pos : 0 < k.dealt) (
               (λ (o' : Old i' j'). let b = below i' j' o' sat in omega arith)
               (λ (h' : (i' ≡ length mid) × (right ≡ j')). let m : k.dealt ≡ j'.number = ap (λ (y : Known). y.number) h'.1 in omega arith)
               (split i' j' e');
-          idle_above = λ m le. (r.seats.dealer id k at pos).idle_above m (omega arith);
+          idle_above = λ m le. (r.seats.dealer id k at merges).idle_above m (omega arith);
         })
-        (λ (h : (i ≡ length mid) × (right ≡ j)). absurd (let m : 0 ≡ j.dealt = ap (λ (y : Known). y.dealt) h.1 in omega arith))
+        (λ (h : (i ≡ length mid) × (right ≡ j)). absurd (merges_not j h.1 p))
         (split i j e);
     one = λ i i' j j' e e' p p'. deals_at i j e p ∙ sym (deals_at i' j' e' p');
   }
@@ -153,16 +223,16 @@ module _ (id : ℕ) (k : Known) (sits : k.seated ≡ true) (pos : 0 < k.dealt) (
   pub dealt_on : Ruled k.layout record { words = s.words; homes = s.homes; views = mid ++ right ∷ [] }
   dealt_on = record { views = r.views; merger = r.merger; slots = r.slots; lawful = r.lawful; seats = dealt_seats }
 
-pub deals_one : (id : ℕ) (k : Known) → k.seated ≡ true → 0 < k.dealt → k.dealt < k.layout.seats → Splits (Ruled k.layout) id k (deals k) (newcomer k.layout k.dealt 0)
-deals_one id k sits pos room s r at = dealt_on id k sits pos room s r at
+pub deals_one : (id : ℕ) (k : Known) → k.merges ≡ true → k.dealt < k.layout.seats → Splits (Ruled k.layout) id k (deals k) (newcomer k.layout k.dealt)
+deals_one id k merges room s r at = dealt_on id k merges room s r at
 
 -- ---- telling
 
 -- what only carries a past is no seat
 abbrev IsMessenger : List (Option Slot) → Known → Type 0
-IsMessenger slots j = (j.seated ≡ false) × (j.dealt ≡ 0) × IsTold slots j.told j.heard
+IsMessenger slots j = (j.seated ≡ false) × (j.merges ≡ false) × IsTold slots j.told j.heard
 
-module _ (z : Layout) (slots : List (Option Slot)) (views : List View) (a b : List Known) (q : AreSeats z slots views a) where
+module _ (z : Layout) (words : List ℕ) (m : MergerView) (slots : List (Option Slot)) (chains : Chains) (views : List View) (a b : List Known) (q : AreSeats z words m slots chains views a) where
   abbrev Was : ℕ → Known → Type 0
   Was i j = (o : Known) × (get_elem? a i ≡ some o) × Like o j × (o.dealt ≡ j.dealt) × IsTold slots j.told j.heard
 
@@ -170,19 +240,20 @@ module _ (z : Layout) (slots : List (Option Slot)) (views : List View) (a b : Li
     sat_was : (i : ℕ) (j : Known) → get_elem? b i ≡ some j → j.seated ≡ true → Was i j
     sat_was i j e sat = ⊎_elim (λ (m : IsMessenger slots j). absurd (let f : true ≡ false = sym sat ∙ m.0 in cc)) (λ (w : Was i j). w) (back i j e)
 
-    deals_was : (i : ℕ) (j : Known) → get_elem? b i ≡ some j → 0 < j.dealt → Was i j
-    deals_was i j e p = ⊎_elim (λ (m : IsMessenger slots j). absurd (let f = m.1 in omega arith)) (λ (w : Was i j). w) (back i j e)
+    merged_was : (i : ℕ) (j : Known) → get_elem? b i ≡ some j → j.merges ≡ true → Was i j
+    merged_was i j e p = ⊎_elim (λ (m : IsMessenger slots j). absurd (let f : true ≡ false = sym p ∙ m.1 in cc)) (λ (w : Was i j). w) (back i j e)
 
-    regroup : AreSeats z slots views b
+    regroup : AreSeats z words m slots chains views b
     regroup = record {
-      seated = λ i j e sat. let w = sat_was i j e sat in like_seated z slots views w.0 j w.2 (q.seated i w.0 w.1 (w.2.0 ∙ sat));
+      seated = λ i j e sat. let w = sat_was i j e sat in like_seated z words m slots chains views w.0 j w.2 (q.seated i w.0 w.1 (w.2.seated ∙ sat));
+      merging = λ i j e p. let w = merged_was i j e p in like_merging z words m slots w.0 j w.2 (q.merging i w.0 w.1 (w.2.merges ∙ p));
       told = λ i j e. ⊎_elim (λ (m : IsMessenger slots j). m.2) (λ (w : Was i j). w.4) (back i j e);
-      apart = λ i i' j j' e e' sat sat' same. let w = sat_was i j e sat in let w' = sat_was i' j' e' sat' in q.apart i i' w.0 w'.0 w.1 w'.1 (w.2.0 ∙ sat) (w'.2.0 ∙ sat') (w.2.1 ∙ same ∙ sym w'.2.1);
-      dealer = λ i j e p. let w = deals_was i j e p in let d = q.dealer i w.0 w.1 (let y = w.3 in omega arith) in record {
-        below = λ i' j' e' sat. let w' = sat_was i' j' e' sat in let b = d.below i' w'.0 w'.1 (w'.2.0 ∙ sat) in let y = w.3 in let y' = w'.2.1 in omega arith;
+      apart = λ i i' j j' e e' sat sat' same. let w = sat_was i j e sat in let w' = sat_was i' j' e' sat' in q.apart i i' w.0 w'.0 w.1 w'.1 (w.2.seated ∙ sat) (w'.2.seated ∙ sat') (w.2.number ∙ same ∙ sym w'.2.number);
+      dealer = λ i j e p. let w = merged_was i j e p in let d = q.dealer i w.0 w.1 (w.2.merges ∙ p) in record {
+        below = λ i' j' e' sat. let w' = sat_was i' j' e' sat in let b = d.below i' w'.0 w'.1 (w'.2.seated ∙ sat) in let y = w.3 in let y' = w'.2.number in omega arith;
         idle_above = λ m le. d.idle_above m (let y = w.3 in omega arith);
       };
-      one = λ i i' j j' e e' p p'. let w = deals_was i j e p in let w' = deals_was i' j' e' p' in q.one i i' w.0 w'.0 w.1 w'.1 (let y = w.3 in omega arith) (let y = w'.3 in omega arith);
+      one = λ i i' j j' e e' p p'. let w = merged_was i j e p in let w' = merged_was i' j' e' p' in q.one i i' w.0 w'.0 w.1 w'.1 (w.2.merges ∙ p) (w'.2.merges ∙ p');
     }
 
 -- a seat tells of its past and its due
@@ -196,10 +267,10 @@ module _ (id : ℕ) (k : Known) (sits : k.seated ≡ true) (s : State ℕ Known)
     below = subst (λ (u : View). u.due ≤ length r.slots) ok.view (r.lawful.law.dues k.number);
   }
 
-  told_seats : AreSeats k.layout r.slots r.views (set s.views id k ++ sent ∷ [])
-  told_seats = regroup k.layout r.slots r.views s.views (set s.views id k ++ sent ∷ []) r.seats (λ i j e. ⊎_elim
+  told_seats : AreSeats k.layout s.words r.merger r.slots r.lawful.chains r.views (set s.views id k ++ sent ∷ [])
+  told_seats = regroup k.layout s.words r.merger r.slots r.lawful.chains r.views s.views (set s.views id k ++ sent ∷ []) r.seats (λ i j e. ⊎_elim
       (λ (h : get_elem? (set s.views id k) i ≡ some j). let h' : get_elem? s.views i ≡ some j = subst (λ (vs : List Known). get_elem? vs i ≡ some j) (set_again s.views id k at) h in
-      inr (j, h', (refl, refl, refl, refl, refl), refl, r.seats.told i j h'))
+      inr (j, h', alike j, refl, r.seats.told i j h'))
       (λ (h : (i ≡ length (set s.views id k)) × (sent ≡ j)). inl (subst (IsMessenger r.slots) h.1 (refl, refl, sent_told)))
       (at_end (set s.views id k) sent j i e))
 
@@ -213,6 +284,9 @@ tells_one id k sits s r at = told_on id k sits s r at
 module _ (z : Layout) (id other : ℕ) (k m : Known) (s : State ℕ Known) (r : Ruled z s) (at : get_elem? s.views id ≡ some k) (there : get_elem? s.views other ≡ some m) where
   abbrev both : Known
   both = learns k m
+
+  both_like : Like k both
+  both_like = record { seated = refl; merges = refl; number = refl; layout = refl; view = refl; merger = refl; row = refl; past = refl; trail = refl; region = refl; shard = refl; floor = refl }
 
   abbrev spent : Known
   spent = messenger [] 0
@@ -230,14 +304,14 @@ module _ (z : Layout) (id other : ℕ) (k m : Known) (s : State ℕ Known) (r : 
   joined_back i j e = ⊎_elim
       (λ (t : (i ≡ other) × (spent ≡ j)). inl (subst (IsMessenger r.slots) t.1 (refl, refl, untold r.slots)))
       (λ (t : (i ≢ other) × (get_elem? (set s.views id both) i ≡ some j)). ⊎_elim
-      (λ (u : (i ≡ id) × (both ≡ j)). inr (subst (λ (y : ℕ × Known). WasThere y.0 y.1) (λ l. (sym u.0 l, u.1 l)) (k, at, (refl, refl, refl, refl, refl), refl, both_told)))
-      (λ (u : (i ≢ id) × (get_elem? s.views i ≡ some j)). inr (j, u.1, (refl, refl, refl, refl, refl), refl, r.seats.told i j u.1))
+      (λ (u : (i ≡ id) × (both ≡ j)). inr (subst (λ (y : ℕ × Known). WasThere y.0 y.1) (λ l. (sym u.0 l, u.1 l)) (k, at, both_like, refl, both_told)))
+      (λ (u : (i ≢ id) × (get_elem? s.views i ≡ some j)). inr (j, u.1, alike j, refl, r.seats.told i j u.1))
       (at_set s.views id i both j t.1))
       (at_set (set s.views id both) other i spent j e)
 
   pub learned_on : Ruled z record { words = s.words; homes = s.homes; views = joined }
-  learned_on = record { views = r.views; merger = r.merger; slots = r.slots; lawful = r.lawful; seats = regroup z r.slots r.views s.views joined r.seats joined_back }
+  learned_on = record { views = r.views; merger = r.merger; slots = r.slots; lawful = r.lawful; seats = regroup z s.words r.merger r.slots r.lawful.chains r.views s.views joined r.seats joined_back }
 
-pub learns_one : (z : Layout) (id other : ℕ) (k m : Known) → m.seated ≡ false → m.dealt ≡ 0 → Joins (Ruled z) id k other m (learns k m) (messenger [] 0)
+pub learns_one : (z : Layout) (id other : ℕ) (k m : Known) → m.seated ≡ false → m.merges ≡ false → Joins (Ruled z) id k other m (learns k m) (messenger [] 0)
 learns_one z id other k m carries none s r at apart there =
     learned_on z id other k m s r at (⊎_elim (λ (t : (other ≡ id) × (learns k m ≡ m)). absurd (apart t.0)) (λ (t : (other ≢ id) × (get_elem? s.views other ≡ some m)). t.1) (at_set s.views id other (learns k m) m there))

@@ -34,9 +34,10 @@ use Rattle.clsm_core.proofs.Cases.{by_bool}
 use Rattle.clsm_core.proofs.Times.{region_of_epoch}
 use Rattle.clsm_core.proofs.WordsThere.{word_there}
 use Rattle.clsm_words.specs.declared.known.Known.{Known}
-use Rattle.clsm_words.specs.Knowing.{IsRecordIn, Agrees, Opens, Sound}
+use Rattle.clsm_words.specs.Knowing.{row_of, IsReading, IsRecordIn, Agrees, Opens, Sound}
 use Rattle.clsm_words.specs.Ruled.{world_of, IsSeated, Begins, Ruled}
 use Rattle.clsm_words.proofs.Beginnings.{begins_at}
+use Rattle.clsm_words.proofs.HeldRuns.{snapshot_above, floor_below, floor_least, runs_held}
 
 -- where a step makes small numbers whatever it finds, it does so at 0
 small_look : (z : Layout) (word : Word) (x : ℕ) → IsSmallLook z word x → IsSmallLook z word 0
@@ -72,7 +73,7 @@ snapshot_reached : (floor clock past : ℕ) (pinned : Bool) (snapshot : Snapshot
 snapshot_reached floor clock past pinned (Open noted time) t h e = let same : time ≡ t = ap or_zero e in let below = h.2 in omega arith
 snapshot_reached floor clock past pinned snapshot t h e = absurd cc
 
-module _ (s : State ℕ Known) (k : Known) (r : Ruled k.layout s) (ok : IsSeated k.layout r.slots r.views k) where
+module _ (s : State ℕ Known) (k : Known) (r : Ruled k.layout s) (ok : IsSeated k.layout s.words r.merger r.slots r.lawful.chains r.views k) where
   abbrev pub world : WorldState
   world = world_of k.layout s.words r.views r.merger r.slots
 
@@ -114,6 +115,9 @@ module _ (s : State ℕ Known) (k : Known) (r : Ruled k.layout s) (ok : IsSeated
   pub past_bound : k.view.past ≤ length r.slots
   past_bound = subst (λ (u : View). u.past ≤ length r.slots) ok.view (past_below (ground setting) k.number)
 
+  pub past_long : length k.past ≡ k.view.past
+  past_long = ap (λ (xs : List Slot). length xs) ok.past ∙ end_of-past r.slots k.view.past past_bound
+
   right_there : AllByRecursion (IsRightRecord (plain k.past)) k.view.calls
   right_there = subst (λ (h : History). AllByRecursion (IsRightRecord h) k.view.calls) (sym (ap plain ok.past))
       (subst (λ (u : View). AllByRecursion (IsRightRecord (past_of r.slots u.past)) u.calls) ok.view (r.lawful.law.right k.number))
@@ -140,17 +144,32 @@ module _ (s : State ℕ Known) (k : Known) (r : Ruled k.layout s) (ok : IsSeated
       let before = pending.1 in
       same_region k.layout end.0 limit t (let a = k.layout.cells_in_range.0 in omega arith) (same ∙ is ∙ end.1) (omega arith) (omega arith)
 
+  -- what it may search while it holds the component c
+  reads_of : (c : ℕ) → k.view.held ≡ Some c → IsReading k c
+  reads_of c held =
+      let there : (view_at k.layout r.views k.number).held ≡ Some c = ap (λ (u : View). u.held) ok.view ∙ held in
+      let g = ground setting in
+      record {
+        below_merged = floor_below g k.number c k.floor (row_of k) k.past own_past number_inside there (ok.floor c held) (ok.row c held);
+        below_snapshot = λ t is.
+            let least = floor_least g k.number c k.floor (row_of k) k.past own_past number_inside there (ok.floor c held) (ok.row c held) in
+            let above = snapshot_above r.merger.floor (length r.slots) (view_at k.layout r.views k.number).past (view_at k.layout r.views k.number).pinned (view_at k.layout r.views k.number).snapshot t (r.lawful.law.snapshots k.number) (ap (λ (u : View). open_time u.snapshot) ok.view ∙ is) in
+            omega arith;
+        runs = runs_held g k.number c k.floor (row_of k) k.past own_past number_inside there (ok.floor c held) (ok.row c held);
+      }
+
   pub sound_of : k.seated ≡ true → Sound k
   sound_of sits = record {
     seated = sits;
     inside = ok.inside;
     there = λ step o. subst (λ (u : View). is_word k.layout (word_of k.layout k.number u step) ≡ true) ok.view (word_there setting step (open_there step o));
     small = λ step o. small_at k.layout step (x setting step) (step_small setting step (open_there step o));
-    length_is = ap (λ (xs : List Slot). length xs) ok.past ∙ end_of-past r.slots k.view.past past_bound;
+    length_is = past_long;
     agrees = agrees_of k.past own_past;
     right = right_there;
     rows = ok.rows;
     own_region = region_is;
     opened = opened_of;
+    reads = reads_of;
     rising = subst (λ (u : View). IsRising u.calls u.due (open_time u.snapshot)) ok.view (r.lawful.law.rising k.number);
   }

@@ -1,31 +1,40 @@
 -- What the words and the seats are after an open step of a seat.
-use Rattle.std.proofs.Common.{◌≡◌, ◌≢◌, ℕ, ◌<◌, ◌≤◌, ◌⊎◌, true, List, length, take, get_or, set, sym, refl, ap, ◌∙◌, subst, arith, ⊎_elim, Option, None, get_or-set_same, get_or-set_other}
+use Rattle.std.proofs.Common.{◌≡◌, ◌≢◌, ℕ, ◌<◌, ◌≤◌, ◌*◌, ◌⊎◌, true, cond, List, length, take, get_or, set, sym, refl, ap, ◌∙◌, subst, arith, ⊎_elim, Option, None, get_or-set_same, get_or-set_other, length-set}
 use mathlib.Core.Option.{some}
 use lib.ListN.{get_elem?}
 use Rattle.atomic_table.specs.Table.{State}
 use Rattle.atomic_table.proofs.Lists.{at_set}
 use Rattle.clsm_model.specs.declared.slot.Slot.{Slot}
 use Rattle.clsm_core.specs.declared.word.Word.{Word}
+use Rattle.clsm_core.specs.declared.word.Word.TheVariants.{Clock, Count, Entry}
 use Rattle.clsm_core.specs.declared.step.Step.{Step}
 use Rattle.clsm_core.specs.declared.view.View.{View}
-use Rattle.clsm_core.specs.Layout.{index_of}
-use Rattle.clsm_core.specs.Relation.{idle, word_of, changed, view_after, slots_after}
+use Rattle.clsm_core.specs.Layout.{index_of, memory}
+use Rattle.clsm_core.specs.Relation.{Chains, idle, word_of, changed, view_after, slots_after, chains_after}
 use Rattle.clsm_core.specs.Worlds.{view_at, slot_at, settled}
-use Rattle.clsm_core.specs.Machine.{IsLawful, memory_of}
+use Rattle.clsm_core.specs.Memory.{Memory, is_word}
+use Rattle.clsm_core.specs.Law.{LawOf}
+use Rattle.clsm_core.specs.Merging.{is_frozen, epoch_end, IsRunWord}
+use Rattle.clsm_core.specs.Machine.{WorldState, IsLawful, memory_of}
 use Rattle.clsm_core.proofs.Growth.{slots_stay, longer}
-use Rattle.clsm_core.proofs.Layouts.{memory-at}
+use Rattle.clsm_core.proofs.Cases.{by_bool}
+use Rattle.clsm_core.proofs.Layouts.{memory-at, memory-set}
 use Rattle.clsm_core.proofs.MachineSteps.{seat_word, seat_there, seat_writes}
-use Rattle.clsm_core.proofs.Setting.{Setting, S, ground, past_below, Opens as OpensIn}
-use Rattle.clsm_core.proofs.Stepped.{lawful_after_seat}
+use Rattle.clsm_core.proofs.Setting.{Setting, v, x, M, S, ground, past_below, Opens as OpensIn}
+use Rattle.clsm_core.proofs.Kept.{kept}
+use Rattle.clsm_core.proofs.KeptRuns.{seat_same}
 use Rattle.clsm_words.specs.declared.known.Known.{Known}
 use Rattle.clsm_words.specs.Knowing.{Opens}
-use Rattle.clsm_words.specs.Ruled.{world_of, IsSeated, Begins, AreSeats, Ruled}
+use Rattle.clsm_words.specs.Merging.{IsOwn, known_end}
+use Rattle.clsm_words.specs.Ruled.{world_of, IsSeated, Begins, IsMerging, AreSeats, Ruled}
 use Rattle.clsm_words.proofs.Beginnings.{HaveGrown, begins_stay, decided_stay}
+use Rattle.clsm_words.proofs.Owned.{own_kept}
+use Rattle.clsm_words.proofs.Trails.{trail_after, region_after, shard_after, floor_after, ends_stay, own_ends, own_line, own_floor}
 use Rattle.clsm_words.proofs.Rows.{rows_stay}
 use Rattle.clsm_words.proofs.Knows.{world, number_inside, setting, open_there}
 
 module _ (s : State ℕ Known) (id : ℕ) (k : Known) (r : Ruled k.layout s) (at : get_elem? s.views id ≡ some k) (sits : k.seated ≡ true) (step : Step) (o : Opens k step) where
-  pub me_seated : IsSeated k.layout r.slots r.views k
+  pub me_seated : IsSeated k.layout s.words r.merger r.slots r.lawful.chains r.views k
   me_seated = r.seats.seated id k at sits
 
   -- the word that the step is on, what it finds there, and what comes after
@@ -44,11 +53,25 @@ module _ (s : State ℕ Known) (id : ℕ) (k : Known) (r : Ruled k.layout s) (at
   abbrev pub views' : List View
   views' = set r.views k.number view'
 
+  abbrev pub words' : List ℕ
+  words' = set s.words (index_of k.layout word) (changed k.layout k.view step found)
+
+  abbrev pub chains' : Chains
+  chains' = chains_after k.layout k.view r.lawful.chains step found
+
   abbrev pub next : Known
-  next = record k { view = view'; past = take view'.past (settled slots') }
+  next = record k {
+    view = view';
+    past = take view'.past (settled slots');
+    row = words';
+    trail = trail_after k.layout k.view r.lawful.chains k.trail step;
+    region = region_after k.region step;
+    shard = shard_after k.shard step;
+    floor = floor_after k.view r.merger.merged_floor k.floor step;
+  }
 
   abbrev pub after : State ℕ Known
-  after = record { words = set s.words (index_of k.layout word) (changed k.layout k.view step found); homes = s.homes; views = set s.views id next }
+  after = record { words = words'; homes = s.homes; views = set s.views id next }
 
   abbrev pub before : Setting
   before = setting s k r me_seated
@@ -63,10 +86,29 @@ module _ (s : State ℕ Known) (id : ℕ) (k : Known) (r : Ruled k.layout s) (at
       let place = ap (λ (u : View). index_of k.layout (word_of k.layout k.number u step)) e in
       (e, place, ap (λ (n : ℕ). get_or s.words n 0) place ∙ sym (memory-at k.layout s.words (word_of k.layout k.number (view_at k.layout r.views k.number) step) there))
 
-  pub lawful' : IsLawful (world_of k.layout after.words views' r.merger slots')
-  lawful' = subst IsLawful
-      (sym (seat_writes (world s k r me_seated) r.lawful k.number step (number_inside s k r me_seated) opens k.view view' (index_of k.layout word) found (changed k.layout k.view step found) slots' finds refl refl refl))
-      (lawful_after_seat (world s k r me_seated) r.lawful k.number step (number_inside s k r me_seated) opens)
+  -- what is found is what the word has, and the word is there
+  pub finds_word : found ≡ memory k.layout s.words word
+  finds_word = finds.2 ∙ ap (λ (u : View). memory k.layout s.words (word_of k.layout k.number u step)) (sym finds.0)
+
+  pub word_there : is_word k.layout word ≡ true
+  word_there = subst (λ (u : View). is_word k.layout (word_of k.layout k.number u step) ≡ true) (sym finds.0) (seat_there (world s k r me_seated) r.lawful k.number step (number_inside s k r me_seated) opens)
+
+  -- the memory after the step
+  pub same_memory : memory k.layout words' ≡ M before step
+  same_memory =
+      let there = seat_there (world s k r me_seated) r.lawful k.number step (number_inside s k r me_seated) opens in
+      let e = seat_writes (world s k r me_seated) r.lawful k.number step (number_inside s k r me_seated) opens k.view view' (index_of k.layout word) found (changed k.layout k.view step found) slots' finds refl refl refl in
+      ap (λ (w : WorldState). memory k.layout w.words) e
+      ∙ memory-set k.layout s.words (word_of k.layout k.number (view_at k.layout r.views k.number) step) (changed k.layout (v before) step (x before step)) there r.lawful.size
+
+  abbrev pub lawful' : IsLawful (world_of k.layout words' views' r.merger slots')
+  lawful' = record {
+    sound = r.lawful.sound;
+    size = length-set s.words (index_of k.layout word) (changed k.layout k.view step found) ∙ r.lawful.size;
+    chains = chains';
+    law = subst (λ (y : Memory × View × ℕ). LawOf k.layout y.0 (set r.views k.number (view_after k.layout k.number y.1 step y.2)) r.merger (slots_after k.number r.slots step y.2) (chains_after k.layout y.1 r.lawful.chains step y.2))
+        (λ i. (sym same_memory i, sym finds.0 i, sym finds.2 i)) (kept before step opens);
+  }
 
   same_slots : S before step ≡ slots'
   same_slots = ap (λ (n : ℕ). slots_after k.number r.slots step n) (sym finds.2)
@@ -78,7 +120,7 @@ module _ (s : State ℕ Known) (id : ℕ) (k : Known) (r : Ruled k.layout s) (at
   told_stays list b = begins_stay r.slots slots' list grown b
 
   -- what a seat knew of the history stays
-  pub past_stays : (j : Known) → IsSeated k.layout r.slots r.views j → j.past ≡ take j.view.past (settled slots')
+  pub past_stays : (j : Known) → IsSeated k.layout s.words r.merger r.slots r.lawful.chains r.views j → j.past ≡ take j.view.past (settled slots')
   past_stays j h =
       let decided : (t : ℕ) → t < j.view.past → slot_at r.slots t ≢ None = λ t lt. r.lawful.law.past j.number t (subst (λ (u : View). t < u.past) (sym h.view) lt) in
       let bound : j.view.past ≤ length r.slots = subst (λ (u : View). u.past ≤ length r.slots) h.view (past_below (ground before) j.number) in
@@ -89,40 +131,91 @@ module _ (s : State ℕ Known) (id : ℕ) (k : Known) (r : Ruled k.layout s) (at
   back i j e = at_set s.views id i next j e
 
   abbrev Was : ℕ → Known → Type 0
-  Was i j = (old : Known) × (get_elem? s.views i ≡ some old) × (old.number ≡ j.number) × (old.seated ≡ j.seated) × (old.dealt ≡ j.dealt) × (old.told ≡ j.told) × (old.heard ≡ j.heard)
+  Was i j = (old : Known) × (get_elem? s.views i ≡ some old) × (old.number ≡ j.number) × (old.seated ≡ j.seated) × (old.dealt ≡ j.dealt) × (old.told ≡ j.told) × (old.heard ≡ j.heard) × (old.merges ≡ j.merges)
 
   was : (i : ℕ) (j : Known) → get_elem? after.views i ≡ some j → Was i j
   was i j e = ⊎_elim
-      (λ (t : (i ≡ id) × (next ≡ j)). subst (λ (y : ℕ × Known). Was y.0 y.1) (λ m. (sym t.0 m, t.1 m)) (k, at, refl, refl, refl, refl, refl))
-      (λ (t : (i ≢ id) × (get_elem? s.views i ≡ some j)). (j, t.1, refl, refl, refl, refl, refl)) (back i j e)
+      (λ (t : (i ≡ id) × (next ≡ j)). subst (λ (y : ℕ × Known). Was y.0 y.1) (λ m. (sym t.0 m, t.1 m)) (k, at, refl, refl, refl, refl, refl, refl))
+      (λ (t : (i ≢ id) × (get_elem? s.views i ≡ some j)). (j, t.1, refl, refl, refl, refl, refl, refl)) (back i j e)
 
   inside' : k.number < length r.views
   inside' = number_inside s k r me_seated
 
-  pub next_seated : IsSeated k.layout slots' views' next
-  next_seated = record { layout = refl; inside = me_seated.inside; view = get_or-set_same r.views k.number view' (idle k.layout) inside'; rows = rows_stay k.layout k.number k.view step found me_seated.rows; past = refl }
+  pub next_seated : IsSeated k.layout words' r.merger slots' chains' views' next
+  next_seated = record {
+    layout = refl;
+    inside = me_seated.inside;
+    view = get_or-set_same r.views k.number view' (idle k.layout) inside';
+    rows = rows_stay k.layout k.number k.view step found me_seated.rows;
+    past = refl;
+    row = λ c held w named. refl;
+    floor = own_floor k.layout k.number k.view r.merger (memory k.layout s.words) k.floor step found finds_word r.lawful.law.merged me_seated.floor;
+    ends = ends_stay k.layout k.view r.lawful.chains step found (region_after k.region step) (shard_after k.shard step) next.trail (own_ends k.layout k.view r.lawful.chains k.trail k.region k.shard step me_seated.ends);
+    line = own_line k.layout k.number k.view r.lawful.chains k.trail k.region k.shard step found word_there me_seated.line;
+  }
 
-  seated' : (i : ℕ) (j : Known) → get_elem? after.views i ≡ some j → j.seated ≡ true → IsSeated k.layout slots' views' j
+  -- the words of runs stay
+  pub run_word : (w : Word) → IsRunWord w → memory k.layout words' w ≡ memory k.layout s.words w
+  run_word w is = (λ i. same_memory i w) ∙ stays w is where
+    stays : (w : Word) → IsRunWord w → M before step w ≡ memory k.layout s.words w
+    stays (Count place) is = (seat_same before step opens place).count
+    stays (Entry place entry part) is = (seat_same before step opens place).words entry part
+    stays w is = absurd is
+
+  seated' : (i : ℕ) (j : Known) → get_elem? after.views i ≡ some j → j.seated ≡ true → IsSeated k.layout words' r.merger slots' chains' views' j
   seated' i j e sat = ⊎_elim
-      (λ (t : (i ≡ id) × (next ≡ j)). subst (IsSeated k.layout slots' views') t.1 next_seated)
+      (λ (t : (i ≡ id) × (next ≡ j)). subst (IsSeated k.layout words' r.merger slots' chains' views') t.1 next_seated)
       (λ (t : (i ≢ id) × (get_elem? s.views i ≡ some j)). let h = r.seats.seated i j t.1 sat in record {
         layout = h.layout;
         inside = h.inside;
         view = get_or-set_other r.views k.number j.number view' (idle k.layout) (λ q. t.0 (r.seats.apart i id j k t.1 at sat sits q)) ∙ h.view;
         rows = h.rows;
         past = past_stays j h;
+        row = λ c held w named. h.row c held w named ∙ sym (run_word w named.0);
+        floor = h.floor;
+        ends = ends_stay k.layout k.view r.lawful.chains step found j.region j.shard j.trail h.ends;
+        line = h.line;
       }) (back i j e)
 
-  pub seats' : AreSeats k.layout slots' views' after.views
+  -- what the merger knows of its own words stays
+  merging_row : (j : Known) → IsMerging k.layout s.words r.merger r.slots j → (w : Word) → IsOwn k.layout r.merger w → memory k.layout j.row w ≡ memory k.layout words' w
+  merging_row j h w is = h.row w is ∙ sym (own_kept before step opens w is) ∙ sym (λ i. same_memory i w)
+
+  -- and the clock, while it holds the lock
+  clock_stays : r.merger.exclusive ≡ true → length slots' ≡ length r.slots
+  clock_stays e = sym lawful'.law.clock ∙ (λ i. same_memory i Clock) ∙ own_kept before step opens Clock e ∙ r.lawful.law.clock
+
+  known_stays : known_end k.layout r.merger (length slots') ≡ known_end k.layout r.merger (length r.slots)
+  known_stays = by_bool (λ b. cond b (length slots') (cond (is_frozen r.merger.phase) (epoch_end k.layout r.merger) (r.merger.merged * k.layout.cells)) ≡ cond b (length r.slots) (cond (is_frozen r.merger.phase) (epoch_end k.layout r.merger) (r.merger.merged * k.layout.cells))) r.merger.exclusive
+      clock_stays (λ _. refl)
+
+  merging_stays : (j : Known) → IsMerging k.layout s.words r.merger r.slots j → IsMerging k.layout words' r.merger slots' j
+  merging_stays j h = record {
+    layout = h.layout;
+    unseated = h.unseated;
+    view = h.view;
+    past = told_stays j.past h.past;
+    reaches = let e = known_stays in let a = h.reaches in omega arith;
+    sized = h.sized;
+    row = merging_row j h;
+  }
+
+  merging' : (i : ℕ) (j : Known) → get_elem? after.views i ≡ some j → j.merges ≡ true → IsMerging k.layout words' r.merger slots' j
+  merging' i j e p = ⊎_elim
+      (λ (t : (i ≡ id) × (next ≡ j)). let mine : k.merges ≡ true = ap (λ (y : Known). y.merges) t.1 ∙ p in absurd (let f = (r.seats.merging id k at mine).unseated in cc (f, sits)))
+      (λ (t : (i ≢ id) × (get_elem? s.views i ≡ some j)). merging_stays j (r.seats.merging i j t.1 p)) (back i j e)
+
+  pub seats' : AreSeats k.layout words' r.merger slots' chains' views' after.views
   seats' = record {
     seated = seated';
+    merging = merging';
     told = λ i j e. let w = was i j e in let h = r.seats.told i w.0 w.1 in record { begins = subst (Begins slots') w.5 (told_stays w.0.told h.begins); below = let a = h.below in let e = w.6 in let g = grown.longer in omega arith };
     apart = λ i i' j j' e e' a a' q. let w = was i j e in let w' = was i' j' e' in r.seats.apart i i' w.0 w'.0 w.1 w'.1 (w.3 ∙ a) (w'.3 ∙ a') (w.2 ∙ q ∙ sym w'.2);
-    dealer = λ i j e pos. let w = was i j e in let d = r.seats.dealer i w.0 w.1 (let y = w.4 in omega arith) in record {
+    dealer = λ i j e p. let w = was i j e in let d = r.seats.dealer i w.0 w.1 (w.7 ∙ p) in record {
       below = λ i' j' e' sat. let w' = was i' j' e' in let b = d.below i' w'.0 w'.1 (w'.3 ∙ sat) in let y = w.4 in let y' = w'.2 in omega arith;
       idle_above = λ m le. let b = d.below id k at sits in let y = w.4 in get_or-set_other r.views k.number m view' (idle k.layout) (λ q. omega arith) ∙ d.idle_above m (omega arith);
     };
-    one = λ i i' j j' e e' a a'. let w = was i j e in let w' = was i' j' e' in r.seats.one i i' w.0 w'.0 w.1 w'.1 (let y = w.4 in omega arith) (let y = w'.4 in omega arith);
+    one = λ i i' j j' e e' p p'. let w = was i j e in let w' = was i' j' e' in r.seats.one i i' w.0 w'.0 w.1 w'.1 (w.7 ∙ p) (w'.7 ∙ p');
   }
 
   -- the rule holds after the step

@@ -1,36 +1,38 @@
 -- What a look finds, by what the law says of the word.
-use Rattle.std.proofs.Common.{◌+◌, ◌-◌, ⊎_elim, ◌≡◌, ℕ, ◌*◌, ◌<◌, ◌≤◌, true, nat_lt, List, length, take, get_or, refl, sym, ap, ◌∙◌, subst, arith, Option, Some, None}
+use Rattle.std.proofs.Common.{◌+◌, ◌-◌, ⊎_elim, ◌≡◌, ℕ, ◌*◌, ◌^◌, ◌<◌, ◌≤◌, Bool, true, false, cond, nat_lt, List, [], ◌∷◌, length, sum_by, take, get_or, refl, sym, ap, ◌∙◌, subst, arith, Option, Some, None}
 use Rattle.std.proofs.lemmas.Bool.{ltb-true, and_parts}
+use Rattle.std.proofs.lemmas.List.Sums.{sum_by-cons}
 use mathlib.Core.Option.{some}
 use lib.ListN.{get_elem?}
 use Rattle.atomic_table.specs.Table.{State}
 use Rattle.clsm_model.specs.declared.slot.Slot.{Slot}
 use Rattle.clsm_model.specs.declared.slot.Slot.TheVariants.{Nothing, Wrote}
 use Rattle.clsm_core.specs.declared.layout.Layout.{Layout}
-use Rattle.clsm_core.specs.declared.word.Word.TheVariants.{Clock, Cell, State as StateOf}
+use Rattle.clsm_core.specs.declared.word.Word.TheVariants.{Lock, Clock, Cell, State as StateOf, Count, Entry}
 use Rattle.clsm_core.specs.declared.word.Part.{Part}
 use Rattle.clsm_core.specs.declared.word.Part.TheVariants.{Key, Length, Value}
 use Rattle.clsm_core.specs.declared.step.Step.{Step}
 use Rattle.clsm_core.specs.declared.step.Step.TheVariants.{Look}
 use Rattle.clsm_core.specs.declared.view.View.{View}
-use Rattle.clsm_core.specs.Memory.{Memory, cell_of, is_part}
-use Rattle.clsm_core.specs.Relation.{HoldsFrom}
+use Rattle.clsm_core.specs.Memory.{Memory, cell_of, is_part, put}
+use Rattle.clsm_core.specs.Relation.{is_shared, HoldsFrom, word_of, changed}
 use Rattle.clsm_core.specs.Layout.{memory}
-use Rattle.clsm_core.specs.Worlds.{settled}
-use Rattle.clsm_core.specs.Law.{Shows, first_shown, first_live, IsRetiredFor, each, pin_of}
-use Rattle.clsm_core.proofs.Setting.{Ground, ground, held_shown, clock_live, live_below_shown, shown_below_merged}
+use Rattle.clsm_core.specs.Worlds.{view_at, settled}
+use Rattle.clsm_core.specs.Law.{Shows, first_shown, first_live, holders, IsRetiredFor, each, pin_of}
+use Rattle.clsm_core.proofs.Frames.{put_same}
+use Rattle.clsm_core.proofs.Setting.{Ground, ground, x, M, held_shown, clock_live, live_below_shown, shown_below_merged}
 use Rattle.clsm_words.specs.declared.known.Known.{Known}
-use Rattle.clsm_words.specs.Knowing.{Opens, code_of, IsPartOf, IsWithin, Tells}
+use Rattle.clsm_words.specs.Knowing.{row_of, Opens, code_of, IsPartOf, IsWithin, Tells}
 use Rattle.clsm_words.specs.Ruled.{Begins, Ruled}
 use Rattle.clsm_words.proofs.Beginnings.{begins_at, begins_bound}
 use Rattle.clsm_words.proofs.Knows.{number_inside, own_past}
-use Rattle.clsm_words.proofs.Played.{me_seated, found, next, before, finds}
+use Rattle.clsm_words.proofs.Played.{me_seated, word, found, next, before, finds, finds_word, same_memory}
 
-shown_state : (memory : Memory) (cell : ℕ) (slot : Slot) → Shows memory cell (Some slot) → memory (StateOf cell) ≡ code_of slot
+pub shown_state : (memory : Memory) (cell : ℕ) (slot : Slot) → Shows memory cell (Some slot) → memory (StateOf cell) ≡ code_of slot
 shown_state memory cell Nothing h = h
 shown_state memory cell (Wrote seat key written) h = h.0
 
-shown_part : (memory : Memory) (cell : ℕ) (slot : Slot) (part : Part) → is_part part ≡ true → Shows memory cell (Some slot) → IsPartOf slot part (memory (Cell cell part))
+pub shown_part : (memory : Memory) (cell : ℕ) (slot : Slot) (part : Part) → is_part part ≡ true → Shows memory cell (Some slot) → IsPartOf slot part (memory (Cell cell part))
 shown_part memory cell (Wrote seat key written) Key there h = h.1
 shown_part memory cell (Wrote seat key written) Length there h = h.2
 shown_part memory cell (Wrote seat key written) (Value j) there h = h.3 j (ltb-true j 8 there)
@@ -41,6 +43,19 @@ end_within c n x live h until = omega arith
 
 start_within : (c n x : ℕ) → (c + 1) * n ≤ x → c * n ≤ x
 start_within c n x h = omega arith
+
+-- no more hold the lock shared than there are seats
+holders_below : (views : List View) → sum_by holders views ≤ length views
+holders_below [] = omega arith
+holders_below (y ∷ ys) =
+    let one : holders y ≤ 1 = elim (is_shared y.mode) as (λ b. cond b 1 0 ≤ 1) [ true ↦ omega arith | false ↦ omega arith ] in
+    let a = sum_by-cons holders y ys in
+    let b = holders_below ys in
+    omega arith
+
+lock_below : (exclusive : Bool) (n : ℕ) → n ≤ 64 → cond exclusive 4294967296 n ≤ 2 ^ 32
+lock_below true n h = omega arith
+lock_below false n h = omega arith
 
 module _ (s : State ℕ Known) (id : ℕ) (k : Known) (r : Ruled k.layout s) (at : get_elem? s.views id ≡ some k) (sits : k.seated ≡ true) where
   module _ (step : Step) (o : Opens k step) where
@@ -95,7 +110,24 @@ module _ (s : State ℕ Known) (id : ℕ) (k : Known) (r : Ruled k.layout s) (at
   clock_found : (a : Option ℕ) (z : Layout) (x y : ℕ) → x ≡ y → IsWithin z a y → IsWithin z a x
   clock_found a z x y e h = subst (IsWithin z a) (sym e) h
 
+  -- a step that leaves its word knows it
+  row_found : (step : Step) (o : Opens k step) → changed k.layout (view_at k.layout r.views k.number) step (x (before s id k r at sits step o) step) ≡ x (before s id k r at sits step o) step → found s id k r at sits step o ≡ row_of (next s id k r at sits step o) (word s id k r at sits step o)
+  row_found step o same =
+      finds_word s id k r at sits step o
+      ∙ sym ((λ i. same_memory s id k r at sits step o i (word s id k r at sits step o)) ∙ left)
+    where
+      left : M (before s id k r at sits step o) step (word s id k r at sits step o) ≡ memory k.layout s.words (word s id k r at sits step o)
+      left = ap (λ (y : ℕ). put (memory k.layout s.words) (word_of k.layout k.number (view_at k.layout r.views k.number) step) y (word s id k r at sits step o)) same
+          ∙ (λ i. put_same (memory k.layout s.words) (word_of k.layout k.number (view_at k.layout r.views k.number) step) i (word s id k r at sits step o))
+
   pub tells_of : (step : Step) (o : Opens k step) → Tells step (next s id k r at sits step o) (found s id k r at sits step o)
+  tells_of (Look Lock) o =
+      let lock = (finds s id k r at sits (Look Lock) o).2 ∙ r.lawful.law.lock in
+      let few = holders_below r.views in
+      let seats = r.lawful.law.seated in
+      let most = k.layout.seats_in_range.1 in
+      let below = lock_below r.merger.exclusive (sum_by holders r.views) (omega arith) in
+      omega arith
   tells_of (Look Clock) o =
       let ok = me_seated s id k r at sits (Look Clock) o in
       let told = r.seats.told id k at in
@@ -103,8 +135,13 @@ module _ (s : State ℕ Known) (id : ℕ) (k : Known) (r : Ruled k.layout s) (at
       let is = r.lawful.law.clock in
       let due : k.view.due ≤ length r.slots = subst (λ (u : View). u.due ≤ length r.slots) ok.view (r.lawful.law.dues k.number) in
       let begins = begins_bound r.slots k.told told.begins in
-      let heard = told.below in
-      (omega arith, omega arith, omega arith, clock_found k.view.held k.layout (found s id k r at sits (Look Clock) o) (length r.slots) (clock ∙ is) (clock_within (Look Clock) o))
+      let heard = told.below in (
+        omega arith,
+        omega arith,
+        omega arith,
+        clock_found k.view.held k.layout (found s id k r at sits (Look Clock) o) (length r.slots) (clock ∙ is) (clock_within (Look Clock) o),
+        λ limit shared held. let same = r.lawful.law.limits k.number limit (ap (λ (u : View). u.mode) ok.view ∙ shared) (ap (λ (u : View). u.hold_limit) ok.view ∙ held) in let bounded = r.lawful.law.bounded in omega arith,
+      )
   tells_of (Look (StateOf cell)) o = λ t known.
       (finds s id k r at sits (Look (StateOf cell)) o).2 ∙ shown_state (memory k.layout s.words) cell (get_or (take k.view.past (settled r.slots)) t Nothing)
       (known_shown (Look (StateOf cell)) o (take k.view.past (settled r.slots)) cell t (past_before (Look (StateOf cell)) o) known.0 known.1 known.2)
@@ -113,4 +150,6 @@ module _ (s : State ℕ Known) (id : ℕ) (k : Known) (r : Ruled k.layout s) (at
       subst (IsPartOf slot part) (sym (finds s id k r at sits (Look (Cell cell part)) o).2)
       (shown_part (memory k.layout s.words) cell slot part (and_parts (nat_lt cell (2 * k.layout.cells)) (is_part part) o.0).1
       (known_shown (Look (Cell cell part)) o (take k.view.past (settled r.slots)) cell t (past_before (Look (Cell cell part)) o) known.0 known.1 known.2))
+  tells_of (Look (Count place)) o = row_found (Look (Count place)) o refl
+  tells_of (Look (Entry place entry part)) o = row_found (Look (Entry place entry part)) o refl
   tells_of step o = tt

@@ -1,5 +1,5 @@
 -- What a seat at the words knows: how it begins, what a step makes of it, and what each step tells it.
-use Rattle.std.specs.Prelude.{max, true, false, ◌≡◌, ℕ, ◌+◌, ◌-◌, ◌*◌, ◌<◌, ◌≤◌, List, [], length, slice_index, slice_index_or, Option, Some, None}
+use Rattle.std.specs.Prelude.{max, true, false, ◌≡◌, ℕ, ◌+◌, ◌-◌, ◌*◌, ◌%◌, ◌^◌, ◌<◌, ◌≤◌, ◌⊎◌, List, [], ◌∷◌, length, slice_index, slice_index_or, Option, Some, None}
 use Rattle.std.specs.List.{AllByRecursion}
 use Rattle.std.proofs.Common.{arith}
 use mathlib.Core.List.{IsPrefix}
@@ -9,14 +9,21 @@ use Rattle.clsm_model.specs.declared.record.CallRecord.{CallRecord}
 use Rattle.clsm_model.specs.History.{plain}
 use Rattle.clsm_model.specs.Right.{write_by}
 use Rattle.clsm_core.specs.declared.layout.Layout.{Layout}
-use Rattle.clsm_core.specs.declared.word.Word.TheVariants.{Clock, Cell, State}
+use Rattle.clsm_core.specs.declared.word.Word.{Word}
+use Rattle.clsm_core.specs.declared.word.Word.TheVariants.{Lock, Clock, Head, Cell, State, Count, Entry}
 use Rattle.clsm_core.specs.declared.word.Part.{Part}
-use Rattle.clsm_core.specs.declared.word.Part.TheVariants.{Key, Length, Value}
+use Rattle.clsm_core.specs.declared.word.Part.TheVariants.{Key, Length, Value, Next}
 use Rattle.clsm_core.specs.declared.step.Step.{Step}
-use Rattle.clsm_core.specs.declared.step.Step.TheVariants.{Look}
+use Rattle.clsm_core.specs.declared.step.Step.TheVariants.{Pin, Unpin, Look}
 use Rattle.clsm_core.specs.declared.view.View.{View}
-use Rattle.clsm_core.specs.Memory.{cell_of, region_of, is_word}
+use Rattle.clsm_core.specs.declared.view.Mode.TheVariants.{Shared}
+use Rattle.clsm_core.specs.Memory.{Memory, cell_of, region_of, is_word}
+use Rattle.clsm_core.specs.Layout.{memory}
+use Rattle.clsm_core.specs.Places.{is_named}
+use Rattle.clsm_core.specs.Law.{In, Distinct, AreRuns}
 use Rattle.clsm_core.specs.Relation.{idle, length_of, words_of, state_of, open_time, HoldsFrom, IsOpen, word_of, view_after}
+use Rattle.clsm_core.specs.Merging.{opening, IsRunWord, place_of}
+use Rattle.clsm_core.specs.Machine.{opened}
 use Rattle.clsm_core.specs.Seats.{IsRightRecord, StandsAs, HasWrite, IsRising}
 use Rattle.clsm_core.specs.SeatBounds.{IsSmall}
 use Rattle.clsm_words.specs.declared.known.Known.{Known}
@@ -27,8 +34,13 @@ use Rattle.clsm_words.specs.declared.known.Known.{Known}
 abbrev pub least : Layout
 least = record { cells = 4; seats = 1; shards = 1; run = 4; cells_in_range = (omega arith, omega arith); seats_in_range = (omega arith, omega arith); shards_in_range = (omega arith, omega arith); run_in_range = (omega arith, omega arith) }
 
-abbrev pub newcomer : Layout → ℕ → ℕ → Known
-newcomer z number dealt = record { seated = true; number = number; dealt = dealt; layout = z; view = idle z; past = []; told = []; heard = 0 }
+-- a caller's seat that has played nothing
+abbrev pub newcomer : Layout → ℕ → Known
+newcomer z number = record { seated = true; merges = false; number = number; dealt = 0; layout = z; view = idle z; merger = opening z; row = []; trail = []; region = 0; shard = 0; floor = 0; past = []; told = []; heard = 0 }
+
+-- the merger's, which is the first of all and deals the others: its number is the number of the callers' seats
+abbrev pub new_merger : Layout → Known
+new_merger z = record { seated = false; merges = true; number = z.seats; dealt = 0; layout = z; view = idle z; merger = opening z; row = (opened z).words; trail = []; region = 0; shard = 0; floor = 0; past = []; told = []; heard = 0 }
 
 -- one seat more is dealt
 abbrev pub deals : Known → Known
@@ -36,7 +48,7 @@ deals k = record k { dealt = k.dealt + 1 }
 
 -- one that only carries a past and a due
 abbrev pub messenger : List Slot → ℕ → Known
-messenger told heard = record { seated = false; number = 0; dealt = 0; layout = least; view = idle least; past = []; told = told; heard = heard }
+messenger told heard = record { seated = false; merges = false; number = 0; dealt = 0; layout = least; view = idle least; merger = opening least; row = []; trail = []; region = 0; shard = 0; floor = 0; past = []; told = told; heard = heard }
 
 abbrev pub learns : Known → Known → Known
 learns k m = record k { told = m.told; heard = max k.heard m.heard }
@@ -64,9 +76,20 @@ pub record HasRows (z : Layout) (v : View) : Type 0 where
   pub heads : length v.fresh_heads ≡ 2 * z.shards
   pub words : length v.words ≡ 8
 
+-- the words as its last step left them
+abbrev pub row_of : Known → Memory
+row_of k = memory k.layout k.row
+
+-- what it may search while it holds the component c: runs that are exact for its past from their floor on, which is below the merged
+-- epochs and no open snapshot
+pub record IsReading (k : Known) (c : ℕ) : Type 0 where
+  pub below_merged : k.floor ≤ c * k.layout.cells
+  pub below_snapshot : (s : ℕ) → open_time k.view.snapshot ≡ Some s → k.floor ≤ s
+  pub runs : c * k.layout.cells ≤ length k.past → AreRuns k.layout (row_of k) (plain k.past) c k.floor
+
 -- what a seat knows of itself: the words of its open steps are there, the numbers that these make fit 64 bits,
 -- its records are right in its past and agree with it, and their times rise to its due; its drawn time is in the epoch of the limit
--- that it looked at in this hold of the lock, and the time of its open snapshot within its past
+-- that it looked at in this hold of the lock, and the time of its open snapshot within its past; and what it may search
 pub record Sound (k : Known) : Type 0 where
   pub seated : k.seated ≡ true
   pub inside : k.number < k.layout.seats
@@ -79,6 +102,7 @@ pub record Sound (k : Known) : Type 0 where
   pub rising : IsRising k.view.calls k.view.due (open_time k.view.snapshot)
   pub own_region : (t limit : ℕ) → k.view.drawn ≡ Some t → k.view.hold_limit ≡ Some limit → region_of k.layout (cell_of k.layout (limit - 1)) ≡ region_of k.layout (cell_of k.layout t)
   pub opened : (s : ℕ) → open_time k.view.snapshot ≡ Some s → s ≤ k.view.past
+  pub reads : (c : ℕ) → k.view.held ≡ Some c → IsReading k c
 
 -- ---- what a step tells
 
@@ -103,12 +127,54 @@ abbrev pub IsWithin : Layout → Option ℕ → ℕ → Type 0
 IsWithin z None x = Unit {0}
 IsWithin z (Some m) x = (m * z.cells ≤ x) × (x ≤ (m + 2) * z.cells)
 
+-- in a hold of the lock the clock is at most the limit that was looked at
+abbrev pub IsInLimit : Known → ℕ → Type 0
+IsInLimit k x = (limit : ℕ) → k.view.mode ≡ Shared → k.view.hold_limit ≡ Some limit → x ≤ limit
+
 -- what a step that found x tells the seat
 abbrev pub Tells : Step → Known → ℕ → Type 0
-Tells (Look Clock) k x = (k.view.due ≤ x) × (length k.told ≤ x) × (k.heard ≤ x) × IsWithin k.layout k.view.held x
+Tells (Look Lock) k x = x ≤ 2 ^ 32
+Tells (Look Clock) k x = (k.view.due ≤ x) × (length k.told ≤ x) × (k.heard ≤ x) × IsWithin k.layout k.view.held x × IsInLimit k x
 Tells (Look (State cell)) k x = (t : ℕ) → IsKnownIn k cell t → x ≡ code_of (slice_index_or k.past t Nothing)
 Tells (Look (Cell cell part)) k x = (t : ℕ) → IsKnownIn k cell t → IsPartOf (slice_index_or k.past t Nothing) part x
+Tells (Look (Count place)) k x = x ≡ row_of k (Count place)
+Tells (Look (Entry place entry part)) k x = x ≡ row_of k (Entry place entry part)
 Tells _ k x = Unit {0}
+
+-- ---- chains and runs
+
+-- an epoch whose chains the seat may walk: that of the held component, and the next where the seat's past is within it
+abbrev pub IsHeldEpoch : Layout → Option ℕ → ℕ → ℕ → Type 0
+IsHeldEpoch z None past e = ⊥
+IsHeldEpoch z (Some m) past e = (e ≡ m) ⊎ ((e ≡ m + 1) × (e * z.cells < past))
+
+-- the word leads to the first of the times
+abbrev pub LeadsTo : Layout → ℕ → List ℕ → Type 0
+LeadsTo z x [] = x ≡ 0
+LeadsTo z x (t ∷ ts) = x ≡ cell_of z t + 1
+
+-- the seat's trail is a chain of the epoch e and the shard, to which the word x leads: in it stands each write of the past with a key of the shard
+pub record IsTrail (k : Known) (e shard x : ℕ) : Type 0 where
+  pub leads : LeadsTo k.layout x k.trail
+  pub distinct : Distinct k.trail
+  pub inside : (t : ℕ) → In t k.trail → (e * k.layout.cells ≤ t) × (t < (e + 1) * k.layout.cells)
+  pub standing : (t i key : ℕ) (written : Option (List ℕ)) → e * k.layout.cells ≤ t → t < (e + 1) * k.layout.cells → t < length k.past → slice_index_or k.past t Nothing ≡ Wrote i key written → key % k.layout.shards ≡ shard → In t k.trail
+
+-- what a step that found x makes of the trail: a look at a head begins it, one at the NEXT of its first cell goes on
+abbrev pub Walks : Step → Known → ℕ → Known → Type 0
+Walks (Look (Head region shard)) k x k' = (e : ℕ) → IsHeldEpoch k.layout k.view.held (length k.past) e → region ≡ e % 2 → IsTrail k' e shard x
+Walks (Look (Cell cell Next)) k x k' = (t : ℕ) (rest : List ℕ) → k.trail ≡ t ∷ rest → cell_of k.layout t ≡ cell → (k'.trail ≡ rest) × LeadsTo k.layout x rest
+Walks Pin k x k' = Unit {0}
+Walks (Unpin end) k x k' = Unit {0}
+Walks _ k x k' = k'.trail ≡ k.trail
+
+-- a word of the runs that the holder of the component c searches
+abbrev pub IsNamedWord : ℕ → Word → Type 0
+IsNamedWord c word = IsRunWord word × (is_named c (place_of word) ≡ true)
+
+-- while it holds the component, the runs stay
+abbrev pub KeepsRuns : Known → Known → Type 0
+KeepsRuns k k' = (c : ℕ) → k.view.held ≡ Some c → k'.view.held ≡ Some c → (k'.floor ≡ k.floor) × ((word : Word) → IsNamedWord c word → row_of k' word ≡ row_of k word)
 
 -- the seat after a step that found x: its view is the machine's, and its past only grows. What it was told and its past are beginnings
 -- of one history, with which its records agree
@@ -124,6 +190,8 @@ pub record Follows (step : Step) (k : Known) (x : ℕ) (k' : Known) : Type 0 whe
   pub within : length k'.past ≤ length k.told → IsPrefix k'.past k.told
   pub agrees : Agrees k'.layout.seats k'.number k'.view.calls k.told
   pub tells : Tells step k' x
+  pub walks : Walks step k x k'
+  pub runs : KeepsRuns k k'
   pub sound : Sound k'
 
 -- the same, whatever it found

@@ -4,10 +4,12 @@ use Rattle.clsm_core.specs.declared.word.Word.{Word}
 use Rattle.clsm_core.specs.declared.step.Step.{Step}
 use Rattle.clsm_core.specs.declared.step.Answer.{Answer}
 use Rattle.clsm_core.specs.Relation.{idle, word_of, answer_of}
+use Rattle.clsm_core.specs.Merging.{opening, word_of_merger}
 use Rattle.clsm_words.specs.declared.known.Known.{Known}
 use Rattle.clsm_words.specs.declared.words.Words.{Words}
 use Rattle.clsm_words.specs.Seats.{SeatState, MessageState}
 use Rattle.clsm_words.specs.Knowing.{Opens, Follows}
+use Rattle.clsm_words.specs.Merging.{OpensToMerger, FollowsMerger}
 
 -- the seat is one of these words
 abbrev pub IsSeatOf : Words → SeatState → Type 0
@@ -33,9 +35,37 @@ Plays words seat step seat' = (x : ℕ) × Played words seat step x seat'
 abbrev pub Answers : Words → SeatState → Step → Answer → SeatState → Type 0
 Answers words seat step answer seat' = (x : ℕ) × Played words seat step x seat' × (answer ≡ answer_of step x)
 
+-- ---- the merger's steps
+
+-- the step is open to the merger's seat
+abbrev pub MayMerge : Words → SeatState → Step → Type 0
+MayMerge words seat step = IsSeatOf words seat × OpensToMerger seat.knows step
+
+-- this is the word that the merger's step is on
+abbrev pub IsMergersWord : Known → Step → Word → Type 0
+IsMergersWord k step word = word ≡ word_of_merger k.layout k.merger step
+
+-- the merger played the step, which found x
+abbrev pub Merged : Words → SeatState → Step → ℕ → SeatState → Type 0
+Merged words seat step x seat' = IsSeatOf words seat' × FollowsMerger step seat.knows x seat'.knows
+
+-- it played the step, whatever that found
+abbrev pub Merges : Words → SeatState → Step → SeatState → Type 0
+Merges words seat step seat' = (x : ℕ) × Merged words seat step x seat'
+
+-- and this is the step's answer
+abbrev pub MergerAnswers : Words → SeatState → Step → Answer → SeatState → Type 0
+MergerAnswers words seat step answer seat' = (x : ℕ) × Merged words seat step x seat' × (answer ≡ answer_of step x)
+
+-- ---- fresh seats
+
 -- the seat with this number has played nothing
 abbrev pub IsFresh : ℕ → SeatState → Type 0
 IsFresh number seat = (seat.knows.number ≡ number) × (seat.knows.view ≡ idle seat.knows.layout) × (seat.knows.past ≡ []) × (seat.knows.told ≡ []) × (seat.knows.heard ≡ 0)
+
+-- the merger has played nothing
+abbrev pub IsFreshMerger : SeatState → Type 0
+IsFreshMerger seat = (seat.knows.merger ≡ opening seat.knows.layout) × (seat.knows.past ≡ [])
 
 -- fresh seats of these words, numbered from this number on
 abbrev pub AreFreshFrom : ℕ → Words → List SeatState → Type 0

@@ -1,5 +1,5 @@
 -- The rule of the words: there is a lawful world that has them, and each seat at them has the view of its number there.
-use Rattle.std.specs.Prelude.{true, ◌≡◌, ◌≢◌, ℕ, ◌<◌, ◌≤◌, List, length, take, Option, None}
+use Rattle.std.specs.Prelude.{true, false, ◌≡◌, ◌≢◌, ℕ, ◌+◌, ◌%◌, ◌<◌, ◌≤◌, ◌⊎◌, List, [], ◌++◌, length, take, Option, Some, None}
 use mathlib.Core.Option.{some}
 use lib.ListN.{get_elem?}
 use Rattle.atomic_table.specs.Table.{State}
@@ -7,23 +7,44 @@ use Rattle.clsm_model.specs.declared.slot.Slot.{Slot}
 use Rattle.clsm_core.specs.declared.layout.Layout.{Layout}
 use Rattle.clsm_core.specs.declared.view.View.{View}
 use Rattle.clsm_core.specs.declared.merger.MergerView.{MergerView}
-use Rattle.clsm_core.specs.Relation.{idle}
+use Rattle.clsm_core.specs.declared.word.Word.{Word}
+use Rattle.clsm_core.specs.Layout.{memory, size_of}
+use Rattle.clsm_core.specs.Relation.{Chains, idle}
+use Rattle.clsm_core.specs.Merging.{is_retired}
 use Rattle.clsm_core.specs.Worlds.{view_at, slot_at, settled}
 use Rattle.clsm_core.specs.Machine.{WorldState, IsLawful}
 use Rattle.clsm_words.specs.declared.known.Known.{Known}
-use Rattle.clsm_words.specs.Knowing.{HasRows}
+use Rattle.clsm_words.specs.Knowing.{HasRows, IsHeldEpoch, IsNamedWord}
+use Rattle.clsm_words.specs.Merging.{IsOwn, known_end}
 
 -- the world with these words
 abbrev pub world_of : Layout → List ℕ → List View → MergerView → List (Option Slot) → WorldState
 world_of z words views merger slots = record { layout = z; words = words; views = views; merger = merger; slots = slots }
 
--- what is so of a seat in the world: its view is the one of its number, and its past is what the times below the view's past came to
-pub record IsSeated (z : Layout) (slots : List (Option Slot)) (views : List View) (k : Known) : Type 0 where
+-- the floor of the runs of a component that is held: the newest, or the retired one
+abbrev pub HasFloor : MergerView → ℕ → ℕ → Type 0
+HasFloor m c floor = ((c ≡ m.merged) × (floor ≡ m.merged_floor)) ⊎ ((c + 1 ≡ m.merged) × (is_retired m.phase ≡ true) × (floor ≡ m.former_floor))
+
+-- the list is an end of the other
+abbrev pub IsEndOf : List ℕ → List ℕ → Type 0
+IsEndOf end list = (front : List ℕ) × (front ++ end ≡ list)
+
+-- the chain that the seat walks is one of an epoch that it may walk
+abbrev pub IsHeldLine : Layout → Known → Type 0
+IsHeldLine z k = (e : ℕ) × IsHeldEpoch z k.view.held k.view.past e × (k.region ≡ e % 2) × (k.shard < z.shards)
+
+-- what is so of a seat in the world: its view is the one of its number, and its past is what the times below the view's past came to;
+-- while it holds a component it knows the words of its runs, and their floor; and its trail is an end of a chain that it may walk
+pub record IsSeated (z : Layout) (words : List ℕ) (m : MergerView) (slots : List (Option Slot)) (chains : Chains) (views : List View) (k : Known) : Type 0 where
   pub layout : k.layout ≡ z
   pub inside : k.number < z.seats
   pub view : view_at z views k.number ≡ k.view
   pub rows : HasRows z k.view
   pub past : k.past ≡ take k.view.past (settled slots)
+  pub row : (c : ℕ) → k.view.held ≡ Some c → (word : Word) → IsNamedWord c word → memory z k.row word ≡ memory z words word
+  pub floor : (c : ℕ) → k.view.held ≡ Some c → HasFloor m c k.floor
+  pub ends : IsEndOf k.trail (chains k.region k.shard)
+  pub line : k.trail ≢ [] → IsHeldLine z k
 
 -- the list is what the times below some time came to, and all these are decided
 pub record Begins (slots : List (Option Slot)) (list : List Slot) : Type 0 where
@@ -36,18 +57,30 @@ pub record IsTold (slots : List (Option Slot)) (told : List Slot) (heard : ℕ) 
   pub begins : Begins slots told
   pub below : heard ≤ length slots
 
--- the seats from this number on are not dealt, and idle
+-- what is so of the merger's seat in the world: its view is the merger's there, it knows what times came to as far as it says, and it
+-- knows what stands in the words that only it changes
+pub record IsMerging (z : Layout) (words : List ℕ) (m : MergerView) (slots : List (Option Slot)) (k : Known) : Type 0 where
+  pub layout : k.layout ≡ z
+  pub unseated : k.seated ≡ false
+  pub view : k.merger ≡ m
+  pub past : Begins slots k.past
+  pub reaches : known_end z m (length slots) ≤ length k.past
+  pub sized : length k.row ≡ size_of z
+  pub row : (word : Word) → IsOwn z m word → memory z k.row word ≡ memory z words word
+
+-- the callers' seats from this number on are not dealt, and idle
 pub record IsDealing (z : Layout) (views : List View) (seats : List Known) (dealt : ℕ) : Type 0 where
   pub below : (i : ℕ) (k : Known) → get_elem? seats i ≡ some k → k.seated ≡ true → k.number < dealt
   pub idle_above : (number : ℕ) → dealt ≤ number → view_at z views number ≡ idle z
 
--- the seats: no two have one number, and one deals
-pub record AreSeats (z : Layout) (slots : List (Option Slot)) (views : List View) (seats : List Known) : Type 0 where
-  pub seated : (i : ℕ) (k : Known) → get_elem? seats i ≡ some k → k.seated ≡ true → IsSeated z slots views k
+-- the seats: no two callers have one number, and one seat merges and deals
+pub record AreSeats (z : Layout) (words : List ℕ) (m : MergerView) (slots : List (Option Slot)) (chains : Chains) (views : List View) (seats : List Known) : Type 0 where
+  pub seated : (i : ℕ) (k : Known) → get_elem? seats i ≡ some k → k.seated ≡ true → IsSeated z words m slots chains views k
+  pub merging : (i : ℕ) (k : Known) → get_elem? seats i ≡ some k → k.merges ≡ true → IsMerging z words m slots k
   pub told : (i : ℕ) (k : Known) → get_elem? seats i ≡ some k → IsTold slots k.told k.heard
   pub apart : (i j : ℕ) (k k' : Known) → get_elem? seats i ≡ some k → get_elem? seats j ≡ some k' → k.seated ≡ true → k'.seated ≡ true → k.number ≡ k'.number → i ≡ j
-  pub dealer : (i : ℕ) (k : Known) → get_elem? seats i ≡ some k → 0 < k.dealt → IsDealing z views seats k.dealt
-  pub one : (i j : ℕ) (k k' : Known) → get_elem? seats i ≡ some k → get_elem? seats j ≡ some k' → 0 < k.dealt → 0 < k'.dealt → i ≡ j
+  pub dealer : (i : ℕ) (k : Known) → get_elem? seats i ≡ some k → k.merges ≡ true → IsDealing z views seats k.dealt
+  pub one : (i j : ℕ) (k k' : Known) → get_elem? seats i ≡ some k → get_elem? seats j ≡ some k' → k.merges ≡ true → k'.merges ≡ true → i ≡ j
 
 -- the rule
 pub record Ruled (z : Layout) (s : State ℕ Known) : Type 0 where
@@ -55,4 +88,4 @@ pub record Ruled (z : Layout) (s : State ℕ Known) : Type 0 where
   pub merger : MergerView
   pub slots : List (Option Slot)
   pub lawful : IsLawful (world_of z s.words views merger slots)
-  pub seats : AreSeats z slots views s.views
+  pub seats : AreSeats z s.words merger slots lawful.chains views s.views

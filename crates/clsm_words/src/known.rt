@@ -1,16 +1,27 @@
-use clsm_core::{Layout, View};
+use clsm_core::{Layout, MergerView, View};
 use clsm_model::{Slot, Time};
 use std::collections::LinkedList;
 
 /// What a seat at the words knows. No value of it is made.
 pub struct Known {
-    /// False for one that only carries what another knew.
+    /// True for a caller's seat, and true for the merger's; neither for one that only carries what another knew.
     pub seated: bool,
+    pub merges: bool,
     pub number: u64,
-    /// Above 0 for the seat that deals: how many seats are dealt.
+    /// How many callers' seats the merger's has dealt.
     pub dealt: u64,
     pub layout: Layout,
     pub view: View,
+    /// What the merger's seat has in place of a caller's view.
+    pub merger: MergerView,
+    /// The words as its last step left them.
+    pub row: LinkedList<u64>,
+    /// The times still to walk of the chain whose head it looked at last, and which chain that is.
+    pub trail: LinkedList<Time>,
+    pub region: u64,
+    pub shard: u64,
+    /// The floor that the runs of the component that it holds were merged with.
+    pub floor: Time,
     /// What each time below the view's past came to.
     pub past: LinkedList<Slot>,
     /// A beginning of the history that another seat told of.

@@ -2,10 +2,15 @@
 #![tactic(auto)]
 
 mod known;
+mod merger_steps;
+pub mod pace;
 mod rule;
+mod steps;
 #[cfg(test)]
 mod tests;
 mod words;
 
 pub use known::Known;
-pub use words::{Message, RawSeat, Words};
+pub use pace::{Kind, Pace};
+pub use steps::Steps;
+pub use words::{Message, RawMerger, RawSeat, Words};

@@ -10,11 +10,11 @@ pub struct Law;
 
 impl TableRule<u64, Known, Layout> for Law {
     ghost use Rattle.clsm_words.specs.Ruled.{Ruled};
-    ghost use Rattle.clsm_words.specs.Knowing.{newcomer};
+    ghost use Rattle.clsm_words.specs.Knowing.{new_merger};
 
     ghost holds = { Ruled };
 
-    ghost first = { λ z. newcomer z 0 1 };
+    ghost first = { new_merger };
 }
 
 /// Which step it is. Each call picks it.
@@ -50,7 +50,29 @@ impl<E: Told> Play<u64, Known> for Stores<E> {
     ghost then = { λ at before stored after. FollowsBlind E.step before.0 after.0 };
 }
 
-/// The first seat deals another.
+/// The merger's seat plays the step.
+pub struct DoesAsMerger<E> {
+    of: PhantomData<E>,
+}
+
+impl<E: Told> Play<u64, Known> for DoesAsMerger<E> {
+    ghost use Rattle.clsm_words.specs.Merging.{FollowsMerger};
+
+    ghost then = { λ at before found after. FollowsMerger E.step before.0 found after.0 };
+}
+
+/// The merger's seat plays the step by a store, which is not told what it found.
+pub struct StoresAsMerger<E> {
+    of: PhantomData<E>,
+}
+
+impl<E: Told> Play<u64, Known> for StoresAsMerger<E> {
+    ghost use Rattle.clsm_words.specs.Merging.{FollowsMergerBlind};
+
+    ghost then = { λ at before stored after. FollowsMergerBlind E.step before.0 after.0 };
+}
+
+/// The merger's seat deals a caller's.
 pub struct Deals;
 
 impl Split<Known> for Deals {
@@ -58,7 +80,7 @@ impl Split<Known> for Deals {
 
     ghost left = { deals };
 
-    ghost right = { λ k. newcomer k.layout k.dealt 0 };
+    ghost right = { λ k. newcomer k.layout k.dealt };
 }
 
 /// One seat tells another of its past.

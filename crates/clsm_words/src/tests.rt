@@ -10,6 +10,8 @@ use std::process::Abort;
 use std::test::*;
 use std::thread::{Threads, join};
 
+mod freezing;
+mod paced;
 mod writing;
 
 const FOUR_SEATS: Config = Config {
@@ -90,7 +92,7 @@ fn four<R: Threads + Sync>(
 #[test]
 fn four_threads_write(rt: HostRuntime) -> Result<(), Fail> {
     let layout = Layout::new(FOUR_SEATS).expect(&rt, "sizes in their ranges");
-    let (words, mut seats) = Words::new(rt.alloc(), &layout).expect(&rt, "memory");
+    let (words, mut seats, mut merger) = Words::new(rt.alloc(), &layout).expect(&rt, "memory");
     let d = take_seat(&rt, &words, &mut seats);
     let c = take_seat(&rt, &words, &mut seats);
     let b = take_seat(&rt, &words, &mut seats);
@@ -107,5 +109,9 @@ fn four_threads_write(rt: HostRuntime) -> Result<(), Fail> {
     assert!(rt; second != third && second != fourth && third != fourth);
     assert_eq!(rt; words.look(&mut a, Word::Lock), 0);
     assert!(rt; words.look(&mut a, Word::Clock) >= 4);
+    assert!(rt; freezing::freeze(&words, &mut merger));
+    assert_eq!(rt; words.look(&mut a, Word::Clock), 65_536);
+    assert_eq!(rt; words.look(&mut a, Word::Limit), 131_072);
+    assert_eq!(rt; words.look(&mut a, Word::Lock), 0);
     Ok(())
 }

@@ -10,6 +10,8 @@ use std::marker::Model;
 
 mod cells;
 mod meet;
+mod merger_raw;
+mod merging;
 mod open;
 mod pins;
 mod raw;
@@ -64,6 +66,36 @@ impl RawSeat {
     }
 }
 
+/// The merger's seat at the words, the first of all.
+#[derive(Drop)]
+pub struct RawMerger {
+    pub(crate) seat: Seat<u64, Known>,
+}
+
+impl Model for RawMerger {
+    ghost use Rattle.std.specs.Prelude.{◌≡◌};
+    ghost use Rattle.clsm_words.specs.Seats.{SeatState};
+    ghost use Rattle.clsm_words.specs.Merging.{IsSoundMerger};
+
+    ghost Value = { SeatState };
+
+    ghost view = { λ s. record { table = s.seat.table_id; knows = s.seat.me.0 } };
+
+    ghost invariant = { λ s. IsSoundMerger s.seat.me.0 };
+}
+
+impl RawMerger {
+    ghost use Rattle.clsm_words.specs.Merging.{IsSoundMerger};
+
+    /// What holds of the merger's seat. It does nothing when it runs.
+    #[inline]
+    pub fn is_sound(&self)
+        ensures { IsSoundMerger self.now.knows }
+    {
+        let _ = &self.seat;
+    }
+}
+
 /// What a seat knew of the past. It has no bytes. Contracts see which words it is of, the beginning of the history and the due.
 #[derive(Drop)]
 pub struct Message {
@@ -78,5 +110,5 @@ impl Model for Message {
 
     ghost view = { λ m. record { table = m.seat.table_id; told = m.seat.me.0.told; heard = m.seat.me.0.heard } };
 
-    ghost invariant = { λ m. (m.seat.me.0.seated ≡ false) × (m.seat.me.0.dealt ≡ 0) × (m.seat.me.1 ≡ []) };
+    ghost invariant = { λ m. (m.seat.me.0.seated ≡ false) × (m.seat.me.0.merges ≡ false) × (m.seat.me.1 ≡ []) };
 }

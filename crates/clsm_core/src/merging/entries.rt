@@ -107,7 +107,7 @@ impl PlainEntry {
 }
 
 /// A word of an entry of a place.
-fn part_at(layout: &Layout, words: &[u64], place: u64, entry: u64, part: u64) -> u64
+pub(crate) fn part_at(layout: &Layout, words: &[u64], place: u64, entry: u64, part: u64) -> u64
     requires { length words.now ≡ size_of layout.now }
     ensures { result ≡ memory layout.now words.now (Word.Entry place entry part) }
 {

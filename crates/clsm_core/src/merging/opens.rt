@@ -2,7 +2,7 @@ ghost use Rattle.std.specs.Prelude.{◌≡◌, ◌+◌, ◌*◌, ◌≤◌, ◌<
 ghost use Rattle.clsm_core.specs.Memory.{is_word, region_of, room_of};
 ghost use Rattle.clsm_core.specs.Layout.{memory};
 ghost use Rattle.clsm_core.specs.Places.{is_named};
-ghost use Rattle.clsm_core.specs.Worlds.{facts_of, is_headless};
+ghost use Rattle.clsm_core.specs.Worlds.{are_canonical, facts_of, is_headless};
 ghost use Rattle.clsm_core.specs.Merging.{IsOpenToMerger, IsRunWord, epoch_end, is_all_quiet, is_clean, is_freeze_whole, is_frozen, is_retired, place_of, retired_region, target_of};
 ghost use Rattle.clsm_core.specs.Deciding.{IsMergeable, IsMergerSmall, wanted_of, written_of};
 
@@ -10,7 +10,7 @@ use crate::items::Items;
 use crate::layout::Layout;
 use crate::merger::{MergerView, Retiree};
 use crate::merging::deciding::is_wanted_written;
-use crate::merging::facts::{is_headless, is_padded};
+use crate::merging::facts::{is_headless, is_padded, is_target_canonical};
 use crate::merging::phases::{is_clean, is_frozen, is_retired};
 use crate::merging::words::{epoch_end, is_named, retired_region, target_of, word_at};
 use crate::step::Step;
@@ -76,7 +76,7 @@ fn is_retired_cell(layout: &Layout, merger: &MergerView, cell: u64) -> bool
     cell < 2 * layout.cells && layout.region_of(cell) == retired_region(layout, merger)
 }
 
-/// Whether the target holds what the next merge is to write, and has room for it.
+/// Whether the target holds what the next merge is to write and nothing besides, and has room for it.
 #[tactic(auto, unfolding(crate::specs::Deciding::written_of, crate::specs::Deciding::wanted_of))]
 fn is_publishable(
     layout: &Layout,
@@ -85,10 +85,11 @@ fn is_publishable(
     slots: &[Option<Slot>],
 ) -> bool
     requires { IsMergeable layout.now words.now merger.now }
-    ensures { IsTrue result ↔ ((memory layout.now words.now (Word.Count (target_of merger.now)) ≤ room_of layout.now (target_of merger.now)) × (written_of layout.now words.now merger.now ≡ wanted_of layout.now words.now merger.now slots.now)) }
+    ensures { IsTrue result ↔ ((memory layout.now words.now (Word.Count (target_of merger.now)) ≤ room_of layout.now (target_of merger.now)) × (written_of layout.now words.now merger.now ≡ wanted_of layout.now words.now merger.now slots.now) × (are_canonical (memory layout.now words.now) (target_of merger.now) ≡ true)) }
 {
     let target = target_of(merger);
     word_at(layout, words, Word::Count(target)) <= layout.room_of(target)
+        && is_target_canonical(layout, words, merger)
         && is_wanted_written(layout, words, merger, slots)
 }
 

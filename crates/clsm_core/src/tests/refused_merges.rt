@@ -1,7 +1,7 @@
 //! Steps of the merger that are refused to it, phase by phase.
 use crate::tests::merging::entry;
 use crate::tests::play::{Play, done, found, refused};
-use crate::tests::{GREATEST, MERGER, SMALL, put, value};
+use crate::tests::{GREATEST, MERGER, SMALL, put, remove, value};
 use crate::{Part, Step, Word};
 use std::process::Abort;
 
@@ -213,6 +213,46 @@ fn publish_needs_exactly_what_is_kept(rt: HostRuntime) {
         done(MERGER, Step::Publish),
     ];
     play.rows(&rt, &rows);
+    play.is_run(&rt);
+}
+
+/// Each row is an entry, a part of it, a word that says more than the entry, and the word that is right there.
+#[test]
+fn publish_needs_each_word_of_an_entry(rt: HostRuntime) {
+    let ten = value(&rt, &[10]);
+    let eight = value(&rt, &[1, 2, 3, 4, 5, 6, 7, 8]);
+    let mut play = Play::new(&rt, rt.alloc(), SMALL);
+    play.puts(&rt, 0, 0, put(1, ten));
+    play.puts(&rt, 0, 1, put(2, eight));
+    play.puts(&rt, 0, 2, remove(3));
+    play.freezes(&rt, 3);
+    play.looks_at_snapshots(&rt);
+    let run = [
+        entry(1, 0, Some(ten)),
+        entry(2, 1, Some(eight)),
+        entry(3, 2, None),
+    ];
+    play.writes_run(&rt, 0, &run);
+    for (number, part, wrong, right) in [
+        (0, 4, 7, 0),
+        (0, 10, GREATEST, 0),
+        (0, 2, 8, 1),
+        (1, 2, 9, 8),
+        (1, 2, GREATEST, 8),
+        (2, 2, 1, 0),
+        (2, 2, 99, 0),
+        (2, 3, 7, 0),
+        (2, 10, 1, 0),
+    ] {
+        let word = part_of_entry(number, part);
+        let rows = [
+            done(MERGER, Step::WriteRun(word, wrong)),
+            refused(MERGER, Step::Publish),
+            done(MERGER, Step::WriteRun(word, right)),
+        ];
+        play.rows(&rt, &rows);
+    }
+    play.merger_does(&rt, Step::Publish);
     play.is_run(&rt);
 }
 

@@ -1,0 +1,38 @@
+//! The program `clsm_bench`: counts the atomic steps of threads that write through the step functions.
+#![tactic(auto)]
+
+mod failure;
+mod keys;
+mod measure;
+mod report;
+mod steps;
+mod tally;
+#[cfg(test)]
+mod tests;
+mod work;
+mod writer;
+
+use failure::Failure;
+use std::process::ExitCode;
+use std::rt::{Clock, Env};
+use std::thread::Threads;
+use work::Work;
+
+/// Does the work that the words on the command line ask for.
+fn bench<R: Threads + Sync + Clock + Env + Print + AllocGlobal>(rt: &R) -> Result<(), Failure> {
+    let alloc = rt.alloc();
+    let words: Vec<String> = std::env::args(rt)?.skip(1).collect(alloc)?;
+    let texts: Vec<&str> = words.iter().map(|word| word.as_str()).collect(alloc)?;
+    let work = Work::parse(&texts).ok_or(Failure::Usage)?;
+    report::report(rt, work)
+}
+
+fn main(rt: HostRuntime) -> ExitCode {
+    match bench(&rt) {
+        Ok(()) => ExitCode::SUCCESS,
+        Err(failure) => {
+            let _ = eprintln!(rt; "{failure}");
+            ExitCode::FAILURE
+        }
+    }
+}

@@ -1,0 +1,47 @@
+//! The draw of a time.
+ghost use Rattle.std.specs.Prelude.{◌≡◌, None, IfOk, IfErr};
+ghost use Rattle.clsm_core.specs.declared.view.Mode.TheVariants.{Shared};
+ghost use Rattle.clsm_words.specs.Plays.{IsSeatOf};
+ghost use Rattle.clsm_memtable.specs.Writing.{IsUnnoted, Draws, RefusesDraw};
+
+use clsm_core::{Answer, Word};
+use clsm_model::Time;
+use clsm_words::{Pace, RawSeat, Steps};
+use thiserror::Error;
+
+/// Why a seat drew no time.
+#[derive(Clone, Copy, PartialEq, Eq, Debug, Error)]
+pub enum DrawError {
+    /// Number 1: every time of the epoch is drawn; the clock stands at this time, which is the limit.
+    #[error("full @{0}")]
+    Full(Time),
+    /// Number 2: another seat drew the time between the look and the exchange.
+    #[error("raced")]
+    Raced,
+}
+
+/// Draws the next time, in a hold of the lock: one look at LIMIT, one at CLOCK, and one exchange of CLOCK where it is below the limit.
+/// With `Ok` the seat has drawn the time, whose cell is not filled yet, and has to decide it or give it up before it leaves the lock.
+/// Refused with `Full` where the clock is at the limit: there is no time before the next freeze. Refused with `Raced` where another
+/// seat drew the time first: the seat's count of such refusals has then moved by one. After a refusal it has drawn nothing, and its
+/// calls are where they were. It never waits.
+pub fn draw<P: Pace>(steps: &Steps<P>, seat: &mut RawSeat) -> Result<Time, DrawError>
+    requires of { IsSeatOf steps.now.words.now seat.old }
+    requires holds { seat.old.knows.view.mode ≡ Shared }
+    requires undrawn { seat.old.knows.view.drawn ≡ None }
+    requires unnoted { IsUnnoted seat.old.knows.view.snapshot }
+    ensures of { IsSeatOf steps.now.words.now seat.new }
+    ensures drawn { IfOk result (λ time. Draws seat.old.knows seat.new.knows time) }
+    ensures refused { IfErr result (λ refusal. RefusesDraw seat.old.knows seat.new.knows refusal) }
+{
+    seat.is_sound();
+    let limit = steps.look(seat, Word::Limit);
+    let time = steps.look(seat, Word::Clock);
+    if time >= limit {
+        return Err(DrawError::Full(time));
+    }
+    match steps.draw(seat, time) {
+        Answer::Done => Ok(time),
+        _ => Err(DrawError::Raced),
+    }
+}

@@ -1,0 +1,87 @@
+//! Times below a read's own are settled before it reads: each is decided then, and none below changes any more.
+ghost use Rattle.std.specs.Prelude.{◌≡◌, ◌+◌, ◌*◌, ◌≤◌, true, length};
+ghost use Rattle.clsm_words.specs.Plays.{IsSeatOf};
+ghost use Rattle.clsm_memtable.specs.Settled.{KeepsRead, MaySettle, MaySettleBelow};
+
+use clsm_core::Word;
+use clsm_model::Time;
+use clsm_words::{Pace, RawSeat, Steps};
+
+/// Looks once at the time's state. Answers whether it is decided.
+fn is_decided<P: Pace>(steps: &Steps<P>, seat: &mut RawSeat, component: u64, time: Time) -> bool
+    requires of { IsSeatOf steps.now.words.now seat.old }
+    requires may { MaySettle seat.old.knows component time }
+    requires reached { time ≤ seat.old.knows.view.reached }
+    ensures of { IsSeatOf steps.now.words.now seat.new }
+    ensures keeps { KeepsRead seat.old.knows seat.new.knows }
+    ensures found { result ≡ true → time + 1 ≤ seat.new.knows.view.reached }
+{
+    let cell = steps.words.cell_of(time);
+    steps.look(seat, Word::State(cell)) != 0
+}
+
+/// Looks at the time's state, and up to `patience` times more while it is undecided. Answers whether it is decided.
+fn is_found_decided<P: Pace>(
+    steps: &Steps<P>,
+    seat: &mut RawSeat,
+    component: u64,
+    time: Time,
+    patience: u64,
+) -> bool
+    requires of { IsSeatOf steps.now.words.now seat.old }
+    requires may { MaySettle seat.old.knows component time }
+    requires reached { time ≤ seat.old.knows.view.reached }
+    ensures of { IsSeatOf steps.now.words.now seat.new }
+    ensures keeps { KeepsRead seat.old.knows seat.new.knows }
+    ensures found { result ≡ true → time + 1 ≤ seat.new.knows.view.reached }
+{
+    if is_decided(steps, seat, component, time) {
+        return true;
+    }
+    for _ in 0..patience {
+        if is_decided(steps, seat, component, time) {
+            return true;
+        }
+    }
+    false
+}
+
+/// Settles the time: waits for its writer so long, and cancels it then.
+fn settle<P: Pace>(steps: &Steps<P>, seat: &mut RawSeat, component: u64, time: Time, patience: u64)
+    requires of { IsSeatOf steps.now.words.now seat.old }
+    requires may { MaySettle seat.old.knows component time }
+    requires reached { time ≤ seat.old.knows.view.reached }
+    ensures of { IsSeatOf steps.now.words.now seat.new }
+    ensures keeps { KeepsRead seat.old.knows seat.new.knows }
+    ensures settled { time + 1 ≤ seat.new.knows.view.reached }
+{
+    if !is_found_decided(steps, seat, component, time, patience) {
+        steps.cancel(seat, time);
+    }
+}
+
+/// Settles each time from the one that FRONT and the component begin with up to `time`, and raises FRONT to `time`: each time below it is
+/// decided then, and the seat's past reaches it. A time whose writer is slower than `patience` looks is cancelled, and comes to nothing;
+/// its writer finds that out and writes again (the cLSM paper's readers wait for it instead). `component` is what the seat holds, and
+/// `time` at most the clock that it looked at in this read. It never waits, takes no memory and is never refused.
+pub fn settle_below<P: Pace>(
+    steps: &Steps<P>,
+    seat: &mut RawSeat,
+    component: u64,
+    time: Time,
+    patience: u64,
+)
+    requires of { IsSeatOf steps.now.words.now seat.old }
+    requires may { MaySettleBelow seat.old.knows component time }
+    ensures of { IsSeatOf steps.now.words.now seat.new }
+    ensures keeps { KeepsRead seat.old.knows seat.new.knows }
+    ensures settled { time ≤ length seat.new.knows.past }
+{
+    let front = steps.look(seat, Word::Front);
+    let merged = component.saturating_mul(steps.words.layout.cells);
+    let first = front.max(merged);
+    for next in first..time {
+        settle(steps, seat, component, next, patience);
+    }
+    steps.raise_front(seat, time);
+}

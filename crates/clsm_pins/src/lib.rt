@@ -1,0 +1,8 @@
+//! Pins: a read holds a component from its pin to its unpin, and no merge gives up what it holds.
+#![tactic(auto)]
+
+mod pinning;
+#[cfg(test)]
+mod tests;
+
+pub use pinning::{pin, unpin};

@@ -1,0 +1,95 @@
+-- What the rule says of the merger's seat, the seat knows.
+use Rattle.std.proofs.Common.{◌≡◌, ℕ, ◌+◌, ◌*◌, ◌<◌, ◌≤◌, true, false, Bool, cond, List, length, map, get_or, refl, sym, ap, ◌∙◌, subst, arith, Option, Some}
+use Rattle.atomic_table.specs.Table.{State}
+use Rattle.clsm_model.specs.declared.slot.Slot.{Slot}
+use Rattle.clsm_model.specs.declared.slot.Slot.TheVariants.{Nothing}
+use Rattle.clsm_model.specs.History.{plain}
+use Rattle.clsm_levels.specs.Content.{AgreeBelow}
+use Rattle.clsm_core.specs.declared.layout.Layout.{Layout}
+use Rattle.clsm_core.specs.declared.word.Word.{Word}
+use Rattle.clsm_core.specs.declared.word.Word.TheVariants.{Clock}
+use Rattle.clsm_core.specs.declared.step.Step.{Step}
+use Rattle.clsm_core.specs.declared.merger.MergerView.{MergerView}
+use Rattle.clsm_core.specs.Memory.{is_word}
+use Rattle.clsm_core.specs.Layout.{memory}
+use Rattle.clsm_core.specs.Merging.{is_frozen, epoch_end, IsOpenToMerger, word_of_merger}
+use Rattle.clsm_core.specs.Worlds.{history_of, facts_of}
+use Rattle.clsm_core.specs.Law.{AreRuns}
+use Rattle.clsm_core.specs.Deciding.{IsMergerSmall, IsMergeable}
+use Rattle.clsm_core.specs.Machine.{WorldState}
+use Rattle.clsm_core.proofs.Cases.{by_bool}
+use Rattle.clsm_core.proofs.KeptRuns.{runs_stay}
+use Rattle.clsm_core.proofs.MergingLawful.{lawful_is_mergeable}
+use Rattle.clsm_core.proofs.Setting.{Ground, OpensTo}
+use Rattle.clsm_core.proofs.Stepped.{lawful_ground}
+use Rattle.clsm_core.proofs.WordsThere.{word_there'}
+use Rattle.clsm_words.specs.declared.known.Known.{Known}
+use Rattle.clsm_words.specs.Knowing.{row_of}
+use Rattle.clsm_words.specs.Merging.{IsOwn, facts_known, OpensToMerger, known_end, IsSoundMerger}
+use Rattle.clsm_words.specs.Ruled.{world_of, IsMerging, Ruled}
+use Rattle.clsm_words.proofs.Beginnings.{begins_bound, begins_settled}
+use Rattle.clsm_words.proofs.MergerFacts.{same_places, open_known}
+
+-- all merged epochs are known
+merged_known : (exclusive frozen : Bool) (merged n clock past : ℕ) → merged * n ≤ clock → cond exclusive clock (cond frozen ((merged + 1) * n) (merged * n)) ≤ past → merged * n ≤ past
+merged_known true frozen merged n clock past begun reaches = omega arith
+merged_known false true merged n clock past begun reaches = omega arith
+merged_known false false merged n clock past begun reaches = reaches
+
+module _ (s : State ℕ Known) (k : Known) (r : Ruled k.layout s) (ok : IsMerging k.layout s.words r.merger r.slots k) where
+  abbrev pub world : WorldState
+  world = world_of k.layout s.words r.views r.merger r.slots
+
+  abbrev pub setting : Ground
+  setting = lawful_ground world r.lawful
+
+  -- a step that is open to what the merger knows is open to it by the world's facts, and by what it knows with the world's view
+  pub open_by_row : (step : Step) → OpensToMerger k step → IsOpenToMerger k.layout (facts_of k.layout (row_of k) r.merger (map (λ slot. Some slot) k.past)) r.merger step
+  open_by_row step o = subst (λ (m : MergerView). IsOpenToMerger k.layout (facts_of k.layout (row_of k) m (map (λ slot. Some slot) k.past)) m step) ok.view o
+
+  pub open_there : (step : Step) → OpensToMerger k step → OpensTo setting step
+  open_there step o = open_known setting (row_of k) k.past ok.row ok.past ok.reaches step (open_by_row step o)
+
+  past_agrees : AgreeBelow (r.merger.merged * k.layout.cells) (history_of r.slots) (plain k.past)
+  past_agrees t lt =
+      let enough = merged_known r.merger.exclusive (is_frozen r.merger.phase) r.merger.merged k.layout.cells (length r.slots) (length k.past) r.lawful.law.begun ok.reaches in
+      begins_settled r.slots k.past ok.past t (omega arith)
+
+  runs_known : AreRuns k.layout (row_of k) (plain k.past) r.merger.merged r.merger.merged_floor
+  runs_known = runs_stay k.layout (memory k.layout s.words) (row_of k) (history_of r.slots) (plain k.past) r.merger.merged r.merger.merged_floor past_agrees
+      (λ p _. same_places setting (row_of k) k.past ok.row ok.past ok.reaches p) r.lawful.law.runs
+
+  mergeable : IsMergeable k.layout k.row r.merger
+  mergeable = record {
+    size = ok.sized;
+    small = (lawful_is_mergeable k.layout s.words r.views r.merger r.slots r.lawful.chains r.lawful.size r.lawful.law).small;
+    counts = runs_known.counts;
+    falls = runs_known.content.falls;
+    older = runs_known.content.older;
+  }
+
+  -- in a hold of the lock the clock that it knows is the clock
+  clock_known : r.merger.exclusive ≡ true → row_of k Clock ≡ length r.slots
+  clock_known e = ok.row Clock e ∙ r.lawful.law.clock
+
+  reaches_known : known_end k.layout r.merger (row_of k Clock) ≤ length k.past
+  reaches_known = by_bool (λ b. (r.merger.exclusive ≡ b → cond b (row_of k Clock) (cond (is_frozen r.merger.phase) (epoch_end k.layout r.merger) (r.merger.merged * k.layout.cells)) ≤ length k.past)) r.merger.exclusive
+      (λ held _. let e = clock_known held in let all : length r.slots ≤ length k.past = subst (λ (b : Bool). cond b (length r.slots) (cond (is_frozen r.merger.phase) (epoch_end k.layout r.merger) (r.merger.merged * k.layout.cells)) ≤ length k.past) held ok.reaches in omega arith)
+      (λ free _. subst (λ (b : Bool). cond b (length r.slots) (cond (is_frozen r.merger.phase) (epoch_end k.layout r.merger) (r.merger.merged * k.layout.cells)) ≤ length k.past) free ok.reaches) refl
+
+  all_known : r.merger.exclusive ≡ true → length k.past ≡ row_of k Clock
+  all_known e =
+      let clock = clock_known e in
+      let all : length r.slots ≤ length k.past = subst (λ (b : Bool). cond b (length r.slots) (cond (is_frozen r.merger.phase) (epoch_end k.layout r.merger) (r.merger.merged * k.layout.cells)) ≤ length k.past) e ok.reaches in
+      let bound = begins_bound r.slots k.past ok.past in omega arith
+
+  pub sound_merger : k.merges ≡ true → IsSoundMerger k
+  sound_merger merges = record {
+    merges = merges;
+    there = λ step o. subst (λ (m : MergerView). is_word k.layout (word_of_merger k.layout m step) ≡ true) (sym ok.view) (word_there' setting step (open_there step o));
+    seats = subst (λ (m : MergerView). length m.retirees ≡ k.layout.seats) (sym ok.view) r.lawful.law.merger.seats;
+    reaches = subst (λ (m : MergerView). known_end k.layout m (row_of k Clock) ≤ length k.past) (sym ok.view) reaches_known;
+    clock = λ e. all_known (sym (ap (λ (m : MergerView). m.exclusive) ok.view) ∙ e);
+    mergeable = subst (IsMergeable k.layout k.row) (sym ok.view) mergeable;
+    runs = subst (λ (m : MergerView). AreRuns k.layout (row_of k) (plain k.past) m.merged m.merged_floor) (sym ok.view) runs_known;
+  }

@@ -1,0 +1,279 @@
+-- What the words and the seats are after an open step of the merger.
+use Rattle.std.proofs.Common.{◌≡◌, ◌≢◌, ℕ, ◌+◌, ◌*◌, ◌<◌, ◌≤◌, ◌⊎◌, ◌==◌, Bool, true, false, cond, max, List, [], length, map, take, get_or, set, sym, refl, ap, ◌∙◌, subst, arith, inl, inr, ⊎_elim, Option, Some, None, length-set}
+use Rattle.std.proofs.lemmas.Bool.{cases_lt}
+use mathlib.Core.Option.{some}
+use lib.ListN.{get_elem?}
+use Rattle.atomic_table.specs.Table.{State}
+use Rattle.atomic_table.proofs.Lists.{at_set}
+use Rattle.clsm_model.specs.declared.slot.Slot.{Slot}
+use Rattle.clsm_core.specs.declared.word.Word.{Word}
+use Rattle.clsm_core.specs.declared.word.Word.TheVariants.{Pin, Snap, Count, Entry}
+use Rattle.clsm_core.specs.declared.step.Step.{Step}
+use Rattle.clsm_core.specs.declared.step.Step.TheVariants.{LeaveExclusive, Look, ClearHead, ClearState, Publish}
+use Rattle.clsm_core.specs.declared.view.View.{View}
+use Rattle.clsm_core.specs.declared.merger.MergerView.{MergerView}
+use Rattle.clsm_core.specs.declared.merger.Phase.{Phase}
+use Rattle.clsm_core.specs.declared.merger.Phase.TheVariants.{Clean, Frozen, Retired}
+use Rattle.clsm_core.specs.Memory.{Memory, is_word, put}
+use Rattle.clsm_core.specs.Layout.{index_of, memory}
+use Rattle.clsm_core.specs.Relation.{Chains}
+use Rattle.clsm_core.specs.Merging.{is_clean, is_frozen, is_retired, epoch_end, word_of_merger, changed_by_merger, merger_after, slots_after_merger, chains_after_merger}
+use Rattle.clsm_core.specs.Worlds.{view_at, slot_at, settled, facts_of}
+use Rattle.clsm_core.specs.Law.{LawOf, each, held_of}
+use Rattle.clsm_core.specs.Machine.{WorldState, IsLawful, memory_of}
+use Rattle.clsm_core.proofs.Frames.{past_end}
+use Rattle.clsm_core.proofs.GrowthMerger.{slots_stay', longer'}
+use Rattle.clsm_core.proofs.Histories.{end_of-past}
+use Rattle.clsm_core.proofs.KeptDecided.{frozen_decided}
+use Rattle.clsm_core.proofs.Layouts.{memory-at, memory-set}
+use Rattle.clsm_core.proofs.MachineSteps.{merger_word, merger_there}
+use Rattle.clsm_core.proofs.Setting.{Ground, facts, OpensTo, merger', memory', none_drawn, past_below}
+use Rattle.clsm_core.proofs.Kept.{kept'}
+use Rattle.clsm_core.proofs.Keeping.{holds_quiet, places_stay}
+use Rattle.clsm_core.proofs.Stepped.{lawful_ground}
+use Rattle.clsm_words.specs.declared.known.Known.{Known}
+use Rattle.clsm_words.specs.Knowing.{row_of, IsHeldEpoch, IsNamedWord}
+use Rattle.clsm_words.specs.Merging.{IsOwn, facts_known, OpensToMerger, known_end}
+use Rattle.clsm_words.specs.Ruled.{world_of, HasFloor, IsSeated, Begins, IsMerging, AreSeats, Ruled}
+use Rattle.clsm_words.proofs.Beginnings.{HaveGrown, begins_stay, begins_length, until_bound, decided_stay}
+use Rattle.clsm_words.proofs.MergerFacts.{after_known}
+use Rattle.clsm_words.proofs.Trails.{walked_apart, ends_walked}
+use Rattle.clsm_words.proofs.MergerKnows.{world, setting, open_by_row, open_there}
+
+-- in a lawful world each time up to the end that a merger knows is decided
+end_decided : (g : Ground) (t : ℕ) → t < known_end g.z g.merger (length g.slots) → slot_at g.slots t ≢ None
+end_decided g t = by g.merger.exclusive (is_frozen g.merger.phase) refl refl where
+  by : (held frozen : Bool) → g.merger.exclusive ≡ held → is_frozen g.merger.phase ≡ frozen → t < cond held (length g.slots) (cond frozen (epoch_end g.z g.merger) (g.merger.merged * g.z.cells)) → slot_at g.slots t ≢ None
+  by true frozen e f lt = λ none. let i = g.law.owned t lt none in none_drawn g e i.0 t i.1
+  by false true e f lt = frozen_decided g f t lt
+  by false false e f lt = g.law.merged_decided t lt
+
+-- the floor of a component that is held stays
+frozen_calm : (p : Phase) → is_frozen p ≡ true → is_retired p ≡ true → ⊥
+frozen_calm Clean e f = absurd cc
+frozen_calm Frozen e f = absurd cc
+frozen_calm Retired e f = absurd cc
+
+clean_calm : (p : Phase) → is_clean p ≡ true → is_retired p ≡ true → ⊥
+clean_calm Clean e f = absurd cc
+clean_calm Frozen e f = absurd cc
+clean_calm Retired e f = absurd cc
+
+floor_merged : (g : Ground) (step : Step) → OpensTo g step → (i c floor : ℕ) → each g.z held_of g.views i ≡ Some c → HasFloor g.merger c floor → HasFloor (merger' g step) c floor
+floor_merged g (Look (Snap j)) o i c floor held h = h
+floor_merged g (Look (Pin j)) o i c floor held h = h
+floor_merged g (Look word) o i c floor held h = h
+floor_merged g LeaveExclusive o i c floor held h = ⊎_elim
+    (λ (new : (c ≡ g.merger.merged) × (floor ≡ g.merger.merged_floor)). inl new)
+    (λ (old : (c + 1 ≡ g.merger.merged) × (is_retired g.merger.phase ≡ true) × (floor ≡ g.merger.former_floor)). absurd (clean_calm g.merger.phase (g.law.merger.clean o.0) old.1)) h
+floor_merged g (ClearState cell) o i c floor held h = ⊎_elim
+    (λ (new : (c ≡ g.merger.merged) × (floor ≡ g.merger.merged_floor)). inl new)
+    (λ (old : (c + 1 ≡ g.merger.merged) × (is_retired g.merger.phase ≡ true) × (floor ≡ g.merger.former_floor)). let newest = holds_quiet g i c o.1 held in let before = old.0 in absurd (omega arith)) h
+floor_merged g Publish o i c floor held h = ⊎_elim
+    (λ (new : (c ≡ g.merger.merged) × (floor ≡ g.merger.merged_floor)). inr (ap (λ (n : ℕ). n + 1) new.0, refl, new.1))
+    (λ (old : (c + 1 ≡ g.merger.merged) × (is_retired g.merger.phase ≡ true) × (floor ≡ g.merger.former_floor)). absurd (frozen_calm g.merger.phase o.0 old.1)) h
+floor_merged g step o i c floor held h = h
+
+-- and the words of its runs
+named_stays : (g : Ground) (step : Step) (o : OpensTo g step) (i c : ℕ) → each g.z held_of g.views i ≡ Some c → (w : Word) → IsNamedWord c w → memory' g step w ≡ g.memory w
+named_stays g step o i c held (Count place) named = (places_stay g step o i c held place named.1).count
+named_stays g step o i c held (Entry place entry part) named = (places_stay g step o i c held place named.1).words entry part
+named_stays g step o i c held w named = absurd named.0
+
+module _ (s : State ℕ Known) (id : ℕ) (k : Known) (r : Ruled k.layout s) (at : get_elem? s.views id ≡ some k) (merges : k.merges ≡ true) (step : Step) (o : OpensToMerger k step) where
+  pub me_merging : IsMerging k.layout s.words r.merger r.slots k
+  me_merging = r.seats.merging id k at merges
+
+  abbrev pub before : Ground
+  before = setting s k r me_merging
+
+  pub opens : OpensTo before step
+  opens = open_there s k r me_merging step o
+
+  -- the word that the step is on, what it finds there, and what comes after
+  abbrev pub word : Word
+  word = word_of_merger k.layout k.merger step
+
+  abbrev pub found : ℕ
+  found = get_or s.words (index_of k.layout word) 0
+
+  abbrev pub made : ℕ
+  made = changed_by_merger k.layout k.merger step found
+
+  abbrev pub view' : MergerView
+  view' = merger_after k.layout (facts_known k) k.merger step found
+
+  abbrev pub slots' : List (Option Slot)
+  slots' = slots_after_merger k.layout k.merger r.slots step
+
+  abbrev pub words' : List ℕ
+  words' = set s.words (index_of k.layout word) made
+
+  -- the past goes on to where the merger knows the times
+  abbrev pub until' : ℕ
+  until' = max (length k.past) (known_end k.layout view' (length slots'))
+
+  abbrev pub next : Known
+  next = record k { merger = view'; row = words'; past = take until' (settled slots') }
+
+  abbrev pub after : State ℕ Known
+  after = record { words = words'; homes = s.homes; views = set s.views id next }
+
+  -- the table's place and what stands there are those of the world
+  same_word : word ≡ merger_word (world s k r me_merging) r.lawful step opens
+  same_word = ap (λ (m : MergerView). word_of_merger k.layout m step) me_merging.view
+
+  pub finds : (index_of k.layout word ≡ index_of k.layout (merger_word (world s k r me_merging) r.lawful step opens)) × (found ≡ memory_of (world s k r me_merging) (merger_word (world s k r me_merging) r.lawful step opens))
+  finds =
+      let there = merger_there (world s k r me_merging) r.lawful step opens in
+      let place = ap (index_of k.layout) same_word in
+      (place, ap (λ (n : ℕ). get_or s.words n 0) place ∙ sym (memory-at k.layout s.words (word_of_merger k.layout r.merger step) there))
+
+  same_view : view' ≡ merger_after k.layout (facts before) r.merger step found
+  same_view = ap (λ (m : MergerView). merger_after k.layout (facts_of k.layout (row_of k) m (map (λ slot. Some slot) k.past)) m step found) me_merging.view
+      ∙ after_known before (row_of k) k.past me_merging.row me_merging.past me_merging.reaches step found (open_by_row s k r me_merging step o)
+
+  -- the memory after the step
+  pub same_memory : memory k.layout words' ≡ put (memory k.layout s.words) word made
+  same_memory = memory-set k.layout s.words word made (subst (λ (w : Word). is_word k.layout w ≡ true) (sym same_word) (merger_there (world s k r me_merging) r.lawful step opens)) r.lawful.size
+
+  -- it is the machine's
+  pub there_memory : memory k.layout words' ≡ memory' before step
+  there_memory = same_memory ∙ (λ i. put (memory k.layout s.words) (same_word i) (changed_by_merger k.layout (me_merging.view i) step (finds.1 i)))
+
+  pub there_view : view' ≡ merger' before step
+  there_view = same_view ∙ ap (λ (x : ℕ). merger_after k.layout (facts before) r.merger step x) finds.1
+
+  pub same_slots : slots' ≡ slots_after_merger k.layout r.merger r.slots step
+  same_slots = ap (λ (m : MergerView). slots_after_merger k.layout m r.slots step) me_merging.view
+
+  abbrev pub chains' : Chains
+  chains' = chains_after_merger r.lawful.chains step
+
+  abbrev pub lawful' : IsLawful (world_of k.layout words' r.views view' slots')
+  lawful' = record {
+    sound = r.lawful.sound;
+    size = length-set s.words (index_of k.layout word) made ∙ r.lawful.size;
+    chains = chains';
+    law = subst (λ (y : Memory × MergerView × List (Option Slot)). LawOf k.layout y.0 r.views y.1 y.2 chains') (λ i. (sym there_memory i, sym there_view i, sym same_slots i)) (kept' before step opens);
+  }
+
+  abbrev pub ended : Ground
+  ended = lawful_ground (world_of k.layout words' r.views view' slots') lawful'
+
+  pub grown : HaveGrown r.slots slots'
+  grown = subst (HaveGrown r.slots) (sym same_slots) record { longer = longer' before step; stay = slots_stay' before step opens }
+
+  pub told_stays : (list : List Slot) → Begins r.slots list → Begins slots' list
+  told_stays list b = begins_stay r.slots slots' list grown b
+
+  -- the times up to the new end are decided
+  until_decided : (t : ℕ) → t < until' → slot_at slots' t ≢ None
+  until_decided t lt = elim (cases_lt t (length k.past)) [
+    | inl old ↦ let b = told_stays k.past me_merging.past in let e = begins_length slots' k.past b in b.decided t (omega arith)
+    | inr new ↦ end_decided ended t (omega arith)
+  ]
+
+  pub next_past : Begins slots' next.past
+  next_past = record { until = until'; is = refl; decided = until_decided }
+
+  past_long : length next.past ≡ until'
+  unfolding next_past
+  past_long = begins_length slots' next.past next_past
+
+  pub next_merging : IsMerging k.layout words' view' slots' next
+  next_merging = record {
+    layout = refl;
+    unseated = me_merging.unseated;
+    view = refl;
+    past = next_past;
+    reaches = let e = past_long in omega arith;
+    sized = lawful'.size;
+    row = λ w own. refl;
+  }
+
+  pub longer_past : length k.past ≤ length next.past
+  longer_past = let e = past_long in omega arith
+
+  -- what a caller knew stays
+  module _ (j : Known) (h : IsSeated k.layout s.words r.merger r.slots r.lawful.chains r.views j) where
+    past_stays : j.past ≡ take j.view.past (settled slots')
+    past_stays =
+        let decided : (t : ℕ) → t < j.view.past → slot_at r.slots t ≢ None = λ t lt. r.lawful.law.past j.number t (subst (λ (u : View). t < u.past) (sym h.view) lt) in
+        let bound : j.view.past ≤ length r.slots = subst (λ (u : View). u.past ≤ length r.slots) h.view (past_below before j.number) in
+        h.past ∙ decided_stay r.slots slots' j.view.past grown bound decided
+
+    held_there : (c : ℕ) → j.view.held ≡ Some c → each k.layout held_of r.views j.number ≡ Some c
+    held_there c e = ap (λ (u : View). u.held) h.view ∙ e
+
+    row_stays : (c : ℕ) → j.view.held ≡ Some c → (w : Word) → IsNamedWord c w → memory k.layout j.row w ≡ memory k.layout words' w
+    row_stays c e w named = h.row c e w named ∙ sym ((λ i. there_memory i w) ∙ named_stays before step opens j.number c (held_there c e) w named)
+
+    floor_stays : (c : ℕ) → j.view.held ≡ Some c → HasFloor view' c j.floor
+    floor_stays c e = subst (λ (m : MergerView). HasFloor m c j.floor) (sym there_view) (floor_merged before step opens j.number c j.floor (held_there c e) (h.floor c e))
+
+    -- what it walks is not cleared
+    line_apart : j.trail ≢ [] → (region shard : ℕ) → OpensTo before (ClearHead region shard) → j.region ≢ region
+    line_apart walks region shard clears = let line = h.line walks in by j.view.held refl line.1 where
+      by : (held : Option ℕ) → j.view.held ≡ held → IsHeldEpoch k.layout held j.view.past (h.line walks).0 → j.region ≢ region
+      by None is epoch = absurd epoch
+      by (Some c) is epoch = λ q.
+          let bound : j.view.past ≤ length r.slots = subst (λ (u : View). u.past ≤ length r.slots) h.view (past_below before j.number) in
+          walked_apart before j.number c (h.line walks).0 j.view.past (held_there c is) bound epoch region shard clears (sym (h.line walks).2 ∙ q)
+
+    seated_stays : IsSeated k.layout words' view' slots' chains' r.views j
+    seated_stays = record {
+      layout = h.layout;
+      inside = h.inside;
+      view = h.view;
+      rows = h.rows;
+      past = past_stays;
+      row = row_stays;
+      floor = floor_stays;
+      ends = ends_walked before step opens j.region j.shard j.trail line_apart h.ends;
+      line = h.line;
+    }
+
+  back : (i : ℕ) (j : Known) → get_elem? after.views i ≡ some j → ((i ≡ id) × (next ≡ j)) ⊎ ((i ≢ id) × (get_elem? s.views i ≡ some j))
+  back i j e = at_set s.views id i next j e
+
+  -- what stood there before
+  pub record Was (i : ℕ) (j : Known) : Type 0 where
+    pub old : Known
+    pub stood : get_elem? s.views i ≡ some old
+    pub number : old.number ≡ j.number
+    pub seated : old.seated ≡ j.seated
+    pub merger : old.merges ≡ j.merges
+    pub dealt : old.dealt ≡ j.dealt
+    pub told : old.told ≡ j.told
+    pub heard : old.heard ≡ j.heard
+
+  was : (i : ℕ) (j : Known) → get_elem? after.views i ≡ some j → Was i j
+  was i j e = ⊎_elim
+      (λ (t : (i ≡ id) × (next ≡ j)). subst (λ (y : ℕ × Known). Was y.0 y.1) (λ m. (sym t.0 m, t.1 m)) (record { old = k; stood = at; number = refl; seated = refl; merger = refl; dealt = refl; told = refl; heard = refl }))
+      (λ (t : (i ≢ id) × (get_elem? s.views i ≡ some j)). record { old = j; stood = t.1; number = refl; seated = refl; merger = refl; dealt = refl; told = refl; heard = refl }) (back i j e)
+
+  pub seats' : AreSeats k.layout words' view' slots' chains' r.views after.views
+  seats' = record {
+    seated = λ i j e sat. ⊎_elim
+        (λ (t : (i ≡ id) × (next ≡ j)). let mine : k.seated ≡ true = ap (λ (y : Known). y.seated) t.1 ∙ sat in absurd (let f = me_merging.unseated in cc (f, mine)))
+        (λ (t : (i ≢ id) × (get_elem? s.views i ≡ some j)). seated_stays j (r.seats.seated i j t.1 sat)) (back i j e);
+    merging = λ i j e p. ⊎_elim
+        (λ (t : (i ≡ id) × (next ≡ j)). subst (IsMerging k.layout words' view' slots') t.1 next_merging)
+        (λ (t : (i ≢ id) × (get_elem? s.views i ≡ some j)). absurd (t.0 (r.seats.one i id j k t.1 at p merges))) (back i j e);
+    told = λ i j e. let w = was i j e in let h = r.seats.told i w.old w.stood in record { begins = subst (Begins slots') w.told (told_stays w.old.told h.begins); below = let a = h.below in let e = w.heard in let g = grown.longer in omega arith };
+    apart = λ i i' j j' e e' a a' q. let w = was i j e in let w' = was i' j' e' in r.seats.apart i i' w.old w'.old w.stood w'.stood (w.seated ∙ a) (w'.seated ∙ a') (w.number ∙ q ∙ sym w'.number);
+    dealer = λ i j e p. let w = was i j e in let d = r.seats.dealer i w.old w.stood (w.merger ∙ p) in record {
+      below = λ i' j' e' sat. let w' = was i' j' e' in let b = d.below i' w'.old w'.stood (w'.seated ∙ sat) in let y = w.dealt in let y' = w'.number in omega arith;
+      idle_above = λ m le. let y = w.dealt in d.idle_above m (omega arith);
+    };
+    one = λ i i' j j' e e' p p'. let w = was i j e in let w' = was i' j' e' in r.seats.one i i' w.old w'.old w.stood w'.stood (w.merger ∙ p) (w'.merger ∙ p');
+  }
+
+  -- the rule holds after the step
+  abbrev pub ruled' : Ruled k.layout after
+  ruled' = record { views = r.views; merger = view'; slots = slots'; lawful = lawful'; seats = seats' }
+
+  -- what is found is what the word has
+  pub finds_word : found ≡ memory k.layout s.words word
+  finds_word = finds.1 ∙ ap (memory k.layout s.words) (sym same_word)

@@ -1,0 +1,88 @@
+-- No open step of a caller changes a word of the merger's own.
+use Rattle.std.proofs.Common.{◌≡◌, ◌≢◌, ℕ, ◌+◌, ◌*◌, ◌%◌, ◌<◌, ◌≤◌, ◌⊎◌, ⊎_elim, Bool, true, false, cond, length, refl, sym, ap, ◌∙◌, subst, arith, Option, Some, None}
+use prog.Atomic.{either}
+use Rattle.clsm_model.specs.Right.{write_by}
+use Rattle.clsm_core.specs.declared.word.Word.{Word}
+use Rattle.clsm_core.specs.declared.word.Word.TheVariants.{Clock, Head, State, Count, Entry}
+use Rattle.clsm_core.specs.declared.step.Step.{Step}
+use Rattle.clsm_core.specs.declared.step.Step.TheVariants.{Draw, Link, Decide, Cancel, Look}
+use Rattle.clsm_core.specs.declared.view.Mode.TheVariants.{Shared}
+use Rattle.clsm_core.specs.Memory.{cell_of, region_of, put}
+use Rattle.clsm_core.specs.Relation.{is_shared, or_zero, state_by}
+use Rattle.clsm_core.specs.Merging.{retired_region}
+use Rattle.clsm_core.specs.Worlds.{slot_at}
+use Rattle.clsm_core.specs.Law.{first_shown, each, drawn_of, mode_of}
+use Rattle.clsm_core.proofs.Cases.{by_test}
+use Rattle.clsm_core.proofs.Frames.{put_other, put_same}
+use Rattle.clsm_core.proofs.Setting.{Setting, v, M, x, own, own_drawn, Opens, ground, drawn_shown, none_drawn, undecided}
+use Rattle.clsm_core.proofs.Growth.{cancels_shown}
+use Rattle.clsm_core.proofs.KeptCells.{first_if_quiet, retired_end}
+use Rattle.clsm_core.proofs.KeptRuns.{seat_same}
+use Rattle.clsm_core.proofs.Times.{region_of_epoch}
+use Rattle.clsm_words.specs.Merging.{IsLetGo, IsOwn}
+
+-- while the merger holds the lock each drawn time is decided
+pub held_decided : (s : Setting) → s.merger.exclusive ≡ true → (t : ℕ) → t < length s.slots → slot_at s.slots t ≢ None
+held_decided s e t lt none = let i = s.law.owned t lt none in none_drawn (ground s) e i.0 t i.1
+
+-- once what is retired is let go, a shown time is of the other region
+module _ (s : Setting) (gone : IsLetGo s.merger) where
+  shown_apart : (t : ℕ) → first_shown s.z s.merger ≤ t → t < length s.slots → region_of s.z (cell_of s.z t) ≢ retired_region s.merger
+  shown_apart t from until same =
+      let first = first_if_quiet s.z s.merger gone.1 in
+      let end = retired_end (ground s) gone.0 in
+      let is : region_of s.z (cell_of s.z t) ≡ s.merger.merged % 2 = region_of_epoch s.z s.merger.merged t (omega arith) (omega arith) in
+      absurd (omega arith)
+
+  -- and so is a drawn one
+  drawn_apart : (i t : ℕ) → each s.z drawn_of s.views i ≡ Some t → region_of s.z (cell_of s.z t) ≢ retired_region s.merger
+  drawn_apart i t e = let d = drawn_shown (ground s) i t e in let first = first_if_quiet s.z s.merger gone.1 in let from = d.0 in shown_apart t (omega arith) d.1
+
+-- ---- the clock
+
+no_draw : (s : Setting) → s.merger.exclusive ≡ true → (v s).mode ≢ Shared
+no_draw s e shared = let free = s.law.locked_out e s.me in absurd (let yes = ap is_shared shared in cc (yes, free))
+
+own_clock : (s : Setting) (step : Step) → Opens s step → s.merger.exclusive ≡ true → M s step Clock ≡ s.memory Clock
+own_clock s (Draw t) o e = absurd (no_draw s e o.0)
+own_clock s (Look word) o e = λ k. put_same s.memory word k Clock
+own_clock s step o e = refl
+
+-- ---- the states
+
+-- another cell's
+other_state : (s : Setting) (t c y : ℕ) → cell_of s.z t ≢ c → put s.memory (State (cell_of s.z t)) y (State c) ≡ s.memory (State c)
+other_state s t c y ne = put_other s.memory (State (cell_of s.z t)) (State c) y (λ q. ne cc)
+
+-- a cancel of a decided time changes nothing
+cancel_held : (s : Setting) (t c : ℕ) → Opens s (Cancel t) → s.merger.exclusive ≡ true → M s (Cancel t) (State c) ≡ s.memory (State c)
+cancel_held s t c o e = let shown = cancels_shown s t o in
+    by_test (λ b. put s.memory (State (cell_of s.z t)) (either b 1 (s.memory (State (cell_of s.z t)))) (State c) ≡ s.memory (State c)) (x s (Cancel t)) 0
+    (λ empty. absurd (held_decided s e t shown.1 (undecided (ground s) t shown.0 shown.1 empty)))
+    (λ _ k. put_same s.memory (State (cell_of s.z t)) k (State c))
+
+own_state : (s : Setting) (step : Step) → Opens s step → (c : ℕ) → IsOwn s.z s.merger (State c) → M s step (State c) ≡ s.memory (State c)
+own_state s (Decide t deed) o c is = ⊎_elim
+    (λ (e : s.merger.exclusive ≡ true). absurd (none_drawn (ground s) e s.me t o.0))
+    (λ (h : IsLetGo s.merger × (region_of s.z c ≡ retired_region s.merger)). other_state s t c _ (λ q. drawn_apart s h.0 s.me t o.0 (ap (region_of s.z) q ∙ h.1)))
+    is
+own_state s (Cancel t) o c is = ⊎_elim
+    (λ (e : s.merger.exclusive ≡ true). cancel_held s t c o e)
+    (λ (h : IsLetGo s.merger × (region_of s.z c ≡ retired_region s.merger)). let shown = cancels_shown s t o in other_state s t c _ (λ q. shown_apart s h.0 t shown.0 shown.1 (ap (region_of s.z) q ∙ h.1)))
+    is
+own_state s (Look word) o c is = λ k. put_same s.memory word k (State c)
+own_state s step o c is = refl
+
+-- ---- the heads
+own_head : (s : Setting) (step : Step) → Opens s step → (region shard : ℕ) → IsOwn s.z s.merger (Head region shard) → M s step (Head region shard) ≡ s.memory (Head region shard)
+own_head s (Link head) o region shard is = put_other s.memory (Head (region_of s.z (cell_of s.z (own s))) (or_zero (v s).key % s.z.shards)) (Head region shard) _ (λ q. let same : region_of s.z (cell_of s.z (own s)) ≡ region = cc in drawn_apart s is.0 s.me (own s) (own_drawn s o.0) (same ∙ is.1))
+own_head s (Look word) o region shard is = λ k. put_same s.memory word k (Head region shard)
+own_head s step o region shard is = refl
+
+pub own_kept : (s : Setting) (step : Step) → Opens s step → (word : Word) → IsOwn s.z s.merger word → M s step word ≡ s.memory word
+own_kept s step o Clock is = own_clock s step o is
+own_kept s step o (Head region shard) is = own_head s step o region shard is
+own_kept s step o (State cell) is = own_state s step o cell is
+own_kept s step o (Count place) is = (seat_same s step o place).count
+own_kept s step o (Entry place entry part) is = (seat_same s step o place).words entry part
+own_kept s step o word is = absurd is

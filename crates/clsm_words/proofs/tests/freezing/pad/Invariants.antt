@@ -1,0 +1,14 @@
+use Rattle.std.proofs.Common.{◌≡◌, true, ℕ, ◌<◌, ◌≤◌}
+use Rattle.clsm_core.specs.declared.word.Word.TheVariants.{Clock, State}
+use Rattle.clsm_core.specs.Memory.{cell_of}
+use Rattle.clsm_words.specs.Knowing.{row_of}
+use Rattle.clsm_words.specs.Plays.{IsSeatOf}
+use Rattle.clsm_words.proofs.tests.freezing.pad.Given as goal
+
+abbrev pub invariant-loop-time : goal.invariant-loop-time
+invariant-loop-time l = record {
+  of : IsSeatOf l.words l.merger;
+  held : (l.merger.knows.merger.exclusive ≡ true) × (l.merger.knows.merger.merged ≡ 0);
+  clock : row_of l.merger.knows Clock ≡ l.clock;
+  padded : (t : ℕ) → l.clock ≤ t → t < l.time → row_of l.merger.knows (State (cell_of l.merger.knows.layout t)) ≡ 1;
+}

@@ -1,0 +1,130 @@
+//! One function for each operation of the merger's on a word, told which step it is. The step costs nothing when it runs.
+ghost use Rattle.std.specs.Prelude.{◌≡◌, ℕ, ◌+◌, ◌-◌, ◌%◌, ◌^◌, ◌==◌};
+ghost use prog.Atomic.{either};
+ghost use Rattle.clsm_core.specs.Merging.{changed_by_merger};
+ghost use Rattle.clsm_words.specs.Plays.{IsMergersWord, MayMerge, Merged, Merges};
+
+use super::{RawMerger, Words};
+use crate::rule::{DoesAsMerger, StoresAsMerger, Told};
+use clsm_core::{Step, Word};
+use std::marker::Brand;
+
+impl Words {
+    fn merger_load_told<E: Told>(&self, seat: &mut RawMerger, step: &Step, word: Word) -> u64
+        requires told { E.step ≡ step.now }
+        requires opens { MayMerge self.now seat.old step.now }
+        requires word { IsMergersWord seat.old.knows step.now word }
+        requires changes { changed_by_merger seat.old.knows.layout seat.old.knows.merger step.now ≡ (λ x. x) }
+        ensures { Merged self.now seat.old step.now result seat.new }
+    {
+        let known = &mut seat.seat;
+        let at = self.place(word);
+        self.table.shared.load::<DoesAsMerger<E>>(known, at)
+    }
+
+    #[inline]
+    pub(super) fn merger_load(&self, seat: &mut RawMerger, step: &Step, word: Word) -> u64
+        requires opens { MayMerge self.now seat.old step.now }
+        requires word { IsMergersWord seat.old.knows step.now word }
+        requires changes { changed_by_merger seat.old.knows.layout seat.old.knows.merger step.now ≡ (λ x. x) }
+        ensures { Merged self.now seat.old step.now result seat.new }
+    {
+        self.merger_load_told::<Brand>(seat, step, word)
+    }
+
+    fn merger_store_told<E: Told>(&self, seat: &mut RawMerger, step: &Step, word: Word, new: u64)
+        requires told { E.step ≡ step.now }
+        requires opens { MayMerge self.now seat.old step.now }
+        requires word { IsMergersWord seat.old.knows step.now word }
+        requires changes { changed_by_merger seat.old.knows.layout seat.old.knows.merger step.now ≡ (λ x. new) }
+        ensures { Merges self.now seat.old step.now seat.new }
+    {
+        let known = &mut seat.seat;
+        let at = self.place(word);
+        self.table.shared.store::<StoresAsMerger<E>>(known, at, new);
+    }
+
+    #[inline]
+    pub(super) fn merger_store(&self, seat: &mut RawMerger, step: &Step, word: Word, new: u64)
+        requires opens { MayMerge self.now seat.old step.now }
+        requires word { IsMergersWord seat.old.knows step.now word }
+        requires changes { changed_by_merger seat.old.knows.layout seat.old.knows.merger step.now ≡ (λ x. new) }
+        ensures { Merges self.now seat.old step.now seat.new }
+    {
+        self.merger_store_told::<Brand>(seat, step, word, new);
+    }
+
+    fn merger_subtract_told<E: Told>(
+        &self,
+        seat: &mut RawMerger,
+        step: &Step,
+        word: Word,
+        by: u64,
+    ) -> u64
+        requires told { E.step ≡ step.now }
+        requires opens { MayMerge self.now seat.old step.now }
+        requires word { IsMergersWord seat.old.knows step.now word }
+        requires changes { changed_by_merger seat.old.knows.layout seat.old.knows.merger step.now ≡ (λ x. (x + (2 ^ 64 - by)) % 2 ^ 64) }
+        ensures { Merged self.now seat.old step.now result seat.new }
+    {
+        let known = &mut seat.seat;
+        let at = self.place(word);
+        self.table
+            .shared
+            .fetch_sub::<DoesAsMerger<E>>(known, at, by)
+    }
+
+    #[inline]
+    pub(super) fn merger_subtract(
+        &self,
+        seat: &mut RawMerger,
+        step: &Step,
+        word: Word,
+        by: u64,
+    ) -> u64
+        requires opens { MayMerge self.now seat.old step.now }
+        requires word { IsMergersWord seat.old.knows step.now word }
+        requires changes { changed_by_merger seat.old.knows.layout seat.old.knows.merger step.now ≡ (λ x. (x + (2 ^ 64 - by)) % 2 ^ 64) }
+        ensures { Merged self.now seat.old step.now result seat.new }
+    {
+        self.merger_subtract_told::<Brand>(seat, step, word, by)
+    }
+
+    fn merger_exchange_told<E: Told>(
+        &self,
+        seat: &mut RawMerger,
+        step: &Step,
+        word: Word,
+        old: u64,
+        new: u64,
+    ) -> u64
+        requires told { E.step ≡ step.now }
+        requires opens { MayMerge self.now seat.old step.now }
+        requires word { IsMergersWord seat.old.knows step.now word }
+        requires changes { changed_by_merger seat.old.knows.layout seat.old.knows.merger step.now ≡ (λ x. either (x == old) new x) }
+        ensures { Merged self.now seat.old step.now result seat.new }
+    {
+        let known = &mut seat.seat;
+        let at = self.place(word);
+        self.table
+            .shared
+            .compare_exchange::<DoesAsMerger<E>>(known, at, old, new)
+    }
+
+    #[inline]
+    pub(super) fn merger_exchange(
+        &self,
+        seat: &mut RawMerger,
+        step: &Step,
+        word: Word,
+        old: u64,
+        new: u64,
+    ) -> u64
+        requires opens { MayMerge self.now seat.old step.now }
+        requires word { IsMergersWord seat.old.knows step.now word }
+        requires changes { changed_by_merger seat.old.knows.layout seat.old.knows.merger step.now ≡ (λ x. either (x == old) new x) }
+        ensures { Merged self.now seat.old step.now result seat.new }
+    {
+        self.merger_exchange_told::<Brand>(seat, step, word, old, new)
+    }
+}
