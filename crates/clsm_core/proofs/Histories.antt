@@ -12,8 +12,16 @@ use Rattle.clsm_model.specs.declared.record.CallRecord.{CallRecord}
 use Rattle.clsm_model.specs.History.{History, plain, IsInside, end_of, write_of, or_else, left_by, newest, value, slot_at as slot_of}
 use Rattle.clsm_model.specs.Map.{IsRange}
 use Rattle.clsm_model.specs.Right.{IsRight, Reads}
+use Rattle.clsm_core.specs.Relation.{IsShort, length_of}
 use Rattle.clsm_core.specs.Seats.{IsRightDeed, IsRightRecord}
 use Rattle.clsm_core.specs.Worlds.{slot_at, settled, past_of, history_of}
+
+-- ---- a write of a history
+
+-- a write has at most eight words
+pub at_most_eight : (written : Option (List ℕ)) → IsShort written → length_of written ≤ 8
+at_most_eight None is = omega arith
+at_most_eight (Some words) is = is.1
 
 -- ---- a history below a time
 

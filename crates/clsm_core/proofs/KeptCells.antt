@@ -26,6 +26,7 @@ use Rattle.clsm_core.specs.Merging.{is_clean, is_frozen, is_retired, is_all_quie
 use Rattle.clsm_core.specs.Worlds.{slot_at, passes_from, is_last}
 use Rattle.clsm_core.specs.Law.{Shows, AreShown, AreEmpty, first_shown, first_live}
 use Rattle.clsm_core.proofs.Cases.{by_test, by_bool}
+use Rattle.clsm_core.proofs.Histories.{at_most_eight}
 use Rattle.clsm_core.proofs.Frames.{keep1, puts_slot, slots_grown, past_end, put_same, put_here, put_other}
 use Rattle.clsm_core.proofs.Times.{Live, at_live, apart, cell_below, region_of_epoch}
 use Rattle.clsm_core.proofs.Setting.{Setting, Ground, ground, v, x, M, S, Opens, OpensTo, memory', merger', slots', own, own_drawn, looked_same, merger_looked_same, drawn_live, shown_live, limit_live, live_below_shown, shown_below_merged}
@@ -102,7 +103,7 @@ write_shown s t deed o = let wr = says_write (v s) deed s.me o.2 in let says : S
       put_here s.memory (State (cell_of s.z t)) (state_by (write_by 0 deed)) ∙ ap state_by wr.2,
       s.law.filled s.me t wr.0 Key o.0 says.0,
       s.law.filled s.me t (length_of wr.1) Length o.0 says.1,
-      λ j lt. s.law.filled s.me t (slice_index (words_of wr.1) j) (Value j) o.0 (ap (λ (l : List (Option ℕ)). get_or l j None) says.2 ∙ get_or-map (λ (k : ℕ). Some k) (words_of wr.1) j 0 None (let e = eight_words wr.1 says.3 in omega arith)),
+      λ j lt. s.law.filled s.me t (slice_index (words_of wr.1) j) (Value j) o.0 (ap (λ (l : List (Option ℕ)). get_or l j None) says.2 ∙ get_or-map (λ (k : ℕ). Some k) (words_of wr.1) j 0 None (let e = eight_words wr.1 (at_most_eight wr.1 says.3) in omega arith)),
     )
 
 pub shown_kept : (s : Setting) (step : Step) → Opens s step → AreShown s.z (M s step) (first_shown s.z s.merger) (length (S s step)) (slot_at (S s step))

@@ -1,5 +1,5 @@
--- How it is kept that no write has more words than a cell.
-use Rattle.std.proofs.Common.{◌≡◌, ◌≢◌, ℕ, zero, suc, ◌-◌, ◌<◌, ◌≤◌, cond, List, [], ◌∷◌, ◌++◌, length, set, sym, ◌∙◌, subst, Option, Some, None}
+-- How it is kept that no write has more words than a cell, and that a value has at least one.
+use Rattle.std.proofs.Common.{◌≡◌, ◌≢◌, ℕ, zero, suc, ◌-◌, ◌<◌, cond, List, [], ◌∷◌, ◌++◌, length, set, sym, ◌∙◌, subst, Option, Some, None}
 use Rattle.std.specs.Prelude.{replicate}
 use Rattle.clsm_model.specs.declared.slot.Slot.{Slot}
 use Rattle.clsm_model.specs.declared.slot.Slot.TheVariants.{Nothing, Wrote}
@@ -10,7 +10,7 @@ use Rattle.clsm_model.specs.Right.{write_by}
 use Rattle.clsm_core.specs.declared.step.Step.{Step}
 use Rattle.clsm_core.specs.declared.step.Step.TheVariants.{Draw, Decide, Cancel, ExtendClock}
 use Rattle.clsm_core.specs.declared.view.View.{View}
-use Rattle.clsm_core.specs.Relation.{length_of, SaysWrite}
+use Rattle.clsm_core.specs.Relation.{IsShort, SaysWrite}
 use Rattle.clsm_core.specs.Merging.{epoch_end}
 use Rattle.clsm_core.specs.Worlds.{slot_at}
 use Rattle.clsm_core.specs.Law.{AreShort}
@@ -20,18 +20,18 @@ use Rattle.clsm_core.proofs.Setting.{Setting, Ground, ground, v, x, S, Opens, Op
 use Rattle.clsm_core.proofs.Growth.{cancels_shown}
 
 -- one slot more
-short_with : (slots : List (Option Slot)) (t : ℕ) (a : Option Slot) → t < length slots → ((i key : ℕ) (written : Option (List ℕ)) → a ≡ Some (Wrote i key written) → length_of written ≤ 8) → AreShort (slot_at slots) → AreShort (slot_at (set slots t a))
-short_with slots t a lt now h = let p = puts_slot slots t a lt in at_each (λ u. (i key : ℕ) (written : Option (List ℕ)) → slot_at (set slots t a) u ≡ Some (Wrote i key written) → length_of written ≤ 8) t
+short_with : (slots : List (Option Slot)) (t : ℕ) (a : Option Slot) → t < length slots → ((i key : ℕ) (written : Option (List ℕ)) → a ≡ Some (Wrote i key written) → IsShort written) → AreShort (slot_at slots) → AreShort (slot_at (set slots t a))
+short_with slots t a lt now h = let p = puts_slot slots t a lt in at_each (λ u. (i key : ℕ) (written : Option (List ℕ)) → slot_at (set slots t a) u ≡ Some (Wrote i key written) → IsShort written) t
     (λ i key written e. now i key written (sym p.here ∙ e))
     (λ u ne i key written e. h u i key written (sym (p.other u ne) ∙ e))
 
 -- what is decided is what the filled parts say
-says_short : (y : View) (deed : Deed) (me : ℕ) → SaysWrite y (write_by 0 deed) → (i key : ℕ) (written : Option (List ℕ)) → write_by me deed ≡ Some (Wrote i key written) → length_of written ≤ 8
-says_short y (Put k words) me says i key written e = let same : Some words ≡ written = cc in subst (λ (w : Option (List ℕ)). length_of w ≤ 8) same says.3
-says_short y (Remove k) me says i key written e = let same : None ≡ written = cc in subst (λ (w : Option (List ℕ)). length_of w ≤ 8) same says.3
+says_short : (y : View) (deed : Deed) (me : ℕ) → SaysWrite y (write_by 0 deed) → (i key : ℕ) (written : Option (List ℕ)) → write_by me deed ≡ Some (Wrote i key written) → IsShort written
+says_short y (Put k words) me says i key written e = let same : Some words ≡ written = cc in subst IsShort same says.3
+says_short y (Remove k) me says i key written e = let same : None ≡ written = cc in subst IsShort same says.3
 says_short y (Rmw k old Keep) me says i key written e = absurd says
-says_short y (Rmw k old (Set words)) me says i key written e = let same : Some words ≡ written = cc in subst (λ (w : Option (List ℕ)). length_of w ≤ 8) same says.3
-says_short y (Rmw k old Erase) me says i key written e = let same : None ≡ written = cc in subst (λ (w : Option (List ℕ)). length_of w ≤ 8) same says.3
+says_short y (Rmw k old (Set words)) me says i key written e = let same : Some words ≡ written = cc in subst IsShort same says.3
+says_short y (Rmw k old Erase) me says i key written e = let same : None ≡ written = cc in subst IsShort same says.3
 says_short y deed me says i key written e = absurd says
 
 pub short_kept : (s : Setting) (step : Step) → Opens s step → AreShort (slot_at (S s step))

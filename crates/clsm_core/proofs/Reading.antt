@@ -30,11 +30,11 @@ use Rattle.clsm_core.proofs.ReadingWrites.{write_shown, IsNewestOf, newest_among
 -- ---- the newest write of a history
 
 -- the write of the key at a time of the history
-abbrev write_in : History → ℕ → ℕ → Option Write
+abbrev pub write_in : History → ℕ → ℕ → Option Write
 write_in h key t = write_of key t (slot_of h t)
 
 -- where no write is from a on, the newest below s is the newest below a
-newest_none : (h : History) (key a s : ℕ) → a ≤ s → ((t : ℕ) → a ≤ t → t < s → write_in h key t ≡ None) → newest h key s ≡ newest h key a
+pub newest_none : (h : History) (key a s : ℕ) → a ≤ s → ((t : ℕ) → a ≤ t → t < s → write_in h key t ≡ None) → newest h key s ≡ newest h key a
 newest_none h key a zero le none = let same : 0 ≡ a = omega arith in ap (newest h key) same
 newest_none h key a (suc t) le none = ⊎_elim
     (λ (lt : t < a). let same : suc t ≡ a = omega arith in ap (newest h key) same)
@@ -42,7 +42,7 @@ newest_none h key a (suc t) le none = ⊎_elim
     (cases_lt t a)
 
 -- a write behind which there is none is the newest
-newest_some : (h : History) (key s : ℕ) (w : Write) → write_in h key w.time ≡ Some w → w.time < s → ((t : ℕ) → w.time < t → t < s → write_in h key t ≡ None) → newest h key s ≡ Some w
+pub newest_some : (h : History) (key s : ℕ) (w : Write) → write_in h key w.time ≡ Some w → w.time < s → ((t : ℕ) → w.time < t → t < s → write_in h key t ≡ None) → newest h key s ≡ Some w
 newest_some h key s w is lt none = newest_none h key (suc w.time) s (omega arith) (λ t from until. none t (omega arith) until) ∙ ap (λ o. or_else o (newest h key w.time)) is
 
 -- ---- an epoch

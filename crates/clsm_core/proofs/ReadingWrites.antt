@@ -13,10 +13,10 @@ use Rattle.clsm_core.specs.declared.layout.Layout.{Layout}
 use Rattle.clsm_core.specs.declared.word.Word.TheVariants.{Cell, State}
 use Rattle.clsm_core.specs.declared.word.Part.TheVariants.{Key, Length, Value}
 use Rattle.clsm_core.specs.Memory.{Memory, cell_of}
-use Rattle.clsm_core.specs.Relation.{length_of, state_of}
+use Rattle.clsm_core.specs.Relation.{IsShort, length_of, state_of}
 use Rattle.clsm_core.specs.Law.{In, Shows}
 use Rattle.clsm_core.specs.Reading.{cell_words, cell_value, is_written, write_at, later, newest_among}
-use Rattle.clsm_core.proofs.Histories.{settle}
+use Rattle.clsm_core.proofs.Histories.{settle, at_most_eight}
 
 -- ---- the value that a cell holds
 
@@ -60,14 +60,14 @@ test_failed true w k x e = rw e refl
 test_failed false w k x e = refl
 
 -- the write found in the cell of a shown time is the history's, where the time is below s
-pub write_shown : (z : Layout) (memory : Memory) (key s t : ℕ) (slot : Option Slot) → ((i k : ℕ) (written : Option (List ℕ)) → slot ≡ Some (Wrote i k written) → length_of written ≤ 8) → Shows memory (cell_of z t) slot
+pub write_shown : (z : Layout) (memory : Memory) (key s t : ℕ) (slot : Option Slot) → ((i k : ℕ) (written : Option (List ℕ)) → slot ≡ Some (Wrote i k written) → IsShort written) → Shows memory (cell_of z t) slot
     → write_at z memory key s t ≡ cond (nat_lt t s) (write_of key t (settle slot)) None
 write_shown z memory key s t None short h = test_failed (nat_lt t s) (is_written memory (cell_of z t)) (memory (Cell (cell_of z t) Key) == key) _ (rw h refl)
 write_shown z memory key s t (Some Nothing) short h = test_failed (nat_lt t s) (is_written memory (cell_of z t)) (memory (Cell (cell_of z t) Key) == key) _ (rw h refl)
 write_shown z memory key s t (Some (Wrote i k written)) short h = let c = cell_of z t in
     test_passed (nat_lt t s) (is_written memory c) (memory (Cell c Key) == key) _ (written_shown memory c written h.0)
     ∙ ap (λ (j : ℕ). cond (nat_lt t s) (cond (j == key) (Some (record { time = t; value = cell_value memory c })) None) None) h.1
-    ∙ ap (λ (v : Option (List ℕ)). cond (nat_lt t s) (cond (k == key) (Some (record { time = t; value = v })) None) None) (value_shown memory c i k written (short i k written refl) h)
+    ∙ ap (λ (v : Option (List ℕ)). cond (nat_lt t s) (cond (k == key) (Some (record { time = t; value = v })) None) None) (value_shown memory c i k written (at_most_eight written (short i k written refl)) h)
 
 -- ---- the newest among the cells of some times
 

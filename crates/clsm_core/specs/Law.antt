@@ -20,7 +20,7 @@ use Rattle.clsm_core.specs.declared.merger.MergerView.{MergerView}
 use Rattle.clsm_core.specs.declared.merger.Round.{Round}
 use Rattle.clsm_core.specs.Memory.{Memory, cell_of, region_of, room_of}
 use Rattle.clsm_core.specs.Places.{is_named, held_at}
-use Rattle.clsm_core.specs.Relation.{Chains, is_shared, length_of, words_of, state_of, open_time}
+use Rattle.clsm_core.specs.Relation.{IsShort, Chains, is_shared, length_of, words_of, state_of, open_time}
 use Rattle.clsm_core.specs.Merging.{is_clean, is_frozen, is_retired, is_all_quiet, retiree_at, epoch_end}
 use Rattle.clsm_core.specs.Seats.{IsRightRecord, IsStandingRecord, HasWrite, IsRising}
 use Rattle.clsm_core.specs.Worlds.{view_at, slot_at, past_of, history_of, runs_of, are_canonical}
@@ -153,9 +153,9 @@ AreAlone drawn = (i j t : ℕ) → drawn i ≡ Some t → drawn j ≡ Some t →
 abbrev pub AreFilled : Layout → Memory → (ℕ → Option ℕ) → (ℕ → Part → Option ℕ) → Type 0
 AreFilled z memory drawn part = (i t w : ℕ) (p : Part) → drawn i ≡ Some t → part i p ≡ Some w → memory (Cell (cell_of z t) p) ≡ w
 
--- no write has more words than a cell
+-- no write has more words than a cell, and a value has at least one
 abbrev pub AreShort : (ℕ → Option Slot) → Type 0
-AreShort slot = (t i key : ℕ) (written : Option (List ℕ)) → slot t ≡ Some (Wrote i key written) → length_of written ≤ 8
+AreShort slot = (t i key : ℕ) (written : Option (List ℕ)) → slot t ≡ Some (Wrote i key written) → IsShort written
 
 -- the cell shows what its time came to
 abbrev pub Shows : Memory → ℕ → Option Slot → Type 0

@@ -114,6 +114,11 @@ abbrev pub length_of : Option (List ℕ) → ℕ
 length_of None = 0
 length_of (Some words) = length words
 
+-- a removal, or a value of one to eight words
+abbrev pub IsShort : Option (List ℕ) → Type 0
+IsShort None = Unit {0}
+IsShort (Some words) = (1 ≤ length words) × (length words ≤ 8)
+
 abbrev pub words_of : Option (List ℕ) → List ℕ
 words_of None = replicate 8 0
 words_of (Some words) = padded words
@@ -124,7 +129,7 @@ state_of (Some words) = 2
 
 -- the filled parts say this write
 abbrev pub SaysWrite : View → Option Slot → Type 0
-SaysWrite v (Some (Wrote seat key written)) = (v.key ≡ Some key) × (v.length ≡ Some (length_of written)) × (v.words ≡ map (λ w. Some w) (words_of written)) × (length_of written ≤ 8)
+SaysWrite v (Some (Wrote seat key written)) = (v.key ≡ Some key) × (v.length ≡ Some (length_of written)) × (v.words ≡ map (λ w. Some w) (words_of written)) × IsShort written
 SaysWrite v _ = ⊥
 
 -- a read-modify-write has read what stands below its time

@@ -1,1 +1,6 @@
+pub mod Places
 pub mod Settles
+pub mod Looking
+pub mod Values
+pub mod Chains
+pub mod NewestWrites

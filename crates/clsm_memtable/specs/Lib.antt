@@ -1,2 +1,4 @@
 pub mod Settled
+pub mod Searching
+pub mod Filling
 pub mod Writing

@@ -3,10 +3,19 @@
 
 mod deciding;
 mod drawing;
+mod filling;
+mod found;
+mod linking;
+mod reading;
+mod searching;
 mod settling;
 #[cfg(test)]
 mod tests;
 
 pub use deciding::{Published, give_up, publish};
 pub use drawing::{DrawError, draw};
+pub use filling::fill;
+pub use found::Found;
+pub use linking::{Raced, link, try_link};
+pub use searching::newest;
 pub use settling::settle_below;

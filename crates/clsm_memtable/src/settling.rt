@@ -1,7 +1,8 @@
 //! Times below a read's own are settled before it reads: each is decided then, and none below changes any more.
 ghost use Rattle.std.specs.Prelude.{◌≡◌, ◌+◌, ◌*◌, ◌≤◌, true, length};
 ghost use Rattle.clsm_words.specs.Plays.{IsSeatOf};
-ghost use Rattle.clsm_memtable.specs.Settled.{KeepsRead, MaySettle, MaySettleBelow};
+ghost use Rattle.clsm_words.specs.Keeping.{OnlyReads};
+ghost use Rattle.clsm_memtable.specs.Settled.{MaySettle, MaySettleBelow};
 
 use clsm_core::Word;
 use clsm_model::Time;
@@ -13,7 +14,7 @@ fn is_decided<P: Pace>(steps: &Steps<P>, seat: &mut RawSeat, component: u64, tim
     requires may { MaySettle seat.old.knows component time }
     requires reached { time ≤ seat.old.knows.view.reached }
     ensures of { IsSeatOf steps.now.words.now seat.new }
-    ensures keeps { KeepsRead seat.old.knows seat.new.knows }
+    ensures keeps { OnlyReads seat.old.knows seat.new.knows }
     ensures found { result ≡ true → time + 1 ≤ seat.new.knows.view.reached }
 {
     let cell = steps.words.cell_of(time);
@@ -32,7 +33,7 @@ fn is_found_decided<P: Pace>(
     requires may { MaySettle seat.old.knows component time }
     requires reached { time ≤ seat.old.knows.view.reached }
     ensures of { IsSeatOf steps.now.words.now seat.new }
-    ensures keeps { KeepsRead seat.old.knows seat.new.knows }
+    ensures keeps { OnlyReads seat.old.knows seat.new.knows }
     ensures found { result ≡ true → time + 1 ≤ seat.new.knows.view.reached }
 {
     if is_decided(steps, seat, component, time) {
@@ -52,7 +53,7 @@ fn settle<P: Pace>(steps: &Steps<P>, seat: &mut RawSeat, component: u64, time: T
     requires may { MaySettle seat.old.knows component time }
     requires reached { time ≤ seat.old.knows.view.reached }
     ensures of { IsSeatOf steps.now.words.now seat.new }
-    ensures keeps { KeepsRead seat.old.knows seat.new.knows }
+    ensures keeps { OnlyReads seat.old.knows seat.new.knows }
     ensures settled { time + 1 ≤ seat.new.knows.view.reached }
 {
     if !is_found_decided(steps, seat, component, time, patience) {
@@ -74,7 +75,7 @@ pub fn settle_below<P: Pace>(
     requires of { IsSeatOf steps.now.words.now seat.old }
     requires may { MaySettleBelow seat.old.knows component time }
     ensures of { IsSeatOf steps.now.words.now seat.new }
-    ensures keeps { KeepsRead seat.old.knows seat.new.knows }
+    ensures keeps { OnlyReads seat.old.knows seat.new.knows }
     ensures settled { time ≤ length seat.new.knows.past }
 {
     let front = steps.look(seat, Word::Front);

@@ -3,16 +3,9 @@ use Rattle.std.proofs.Common.{◌≡◌, ℕ, ◌≤◌, true, length, refl, ari
 use mathlib.Core.Option.{some}
 use lib.ListN.{get_elem?}
 use Rattle.atomic_table.specs.Table.{State, Me, keeps, Allows}
-use Rattle.clsm_core.specs.declared.layout.Layout.{Layout}
-use Rattle.clsm_core.specs.declared.word.Word.{Word}
-use Rattle.clsm_core.specs.declared.word.Word.TheVariants.{Lock, Clock, Limit, Front, Merged, Head, State as StateOf}
-use Rattle.clsm_core.specs.declared.word.Part.{Part}
-use Rattle.clsm_core.specs.declared.word.Part.TheVariants.{Key, Length, Value, Next}
 use Rattle.clsm_core.specs.declared.step.Step.{Step}
-use Rattle.clsm_core.specs.declared.step.Step.TheVariants.{Fill, Look, RaiseFront}
-use Rattle.clsm_core.specs.declared.view.View.{View}
 use Rattle.clsm_core.specs.Layout.{index_of}
-use Rattle.clsm_core.specs.Relation.{word_of, changed, view_after, looked, filled}
+use Rattle.clsm_core.specs.Relation.{word_of, changed}
 use Rattle.clsm_words.specs.declared.known.Known.{Known}
 use Rattle.clsm_words.specs.Knowing.{Opens, Sound, Follows}
 use Rattle.clsm_words.specs.Ruled.{Begins, Ruled}

@@ -1,18 +1,16 @@
 -- What a seat that holds a component may search, by what the law says of its runs.
-use Rattle.std.proofs.Common.{◌≡◌, ◌≢◌, ℕ, ◌+◌, ◌-◌, ◌*◌, ◌<◌, ◌≤◌, ◌&&◌, ◌⊎◌, ⊎_elim, not, Bool, true, List, length, get_or, refl, sym, ap, ◌∙◌, subst, arith, Option, Some}
+use Rattle.std.proofs.Common.{◌≡◌, ℕ, ◌+◌, ◌-◌, ◌*◌, ◌<◌, ◌≤◌, ⊎_elim, Bool, true, List, length, refl, sym, ap, subst, arith, Some}
 use Rattle.clsm_model.specs.declared.slot.Slot.{Slot}
 use Rattle.clsm_model.specs.History.{plain}
-use Rattle.clsm_levels.specs.Content.{AgreeBelow}
 use Rattle.clsm_core.specs.declared.word.Word.{Word}
 use Rattle.clsm_core.specs.declared.word.Word.TheVariants.{Count, Entry}
-use Rattle.clsm_core.specs.declared.view.View.{View}
 use Rattle.clsm_core.specs.declared.view.SnapshotState.{SnapshotState}
 use Rattle.clsm_core.specs.declared.view.SnapshotState.TheVariants.{Open}
 use Rattle.clsm_core.specs.Memory.{Memory}
 use Rattle.clsm_core.specs.Places.{is_named}
 use Rattle.clsm_core.specs.Relation.{or_zero, open_time}
-use Rattle.clsm_core.specs.Merging.{is_retired, is_all_quiet, retiree_at}
-use Rattle.clsm_core.specs.Worlds.{view_at, history_of}
+use Rattle.clsm_core.specs.Merging.{is_retired}
+use Rattle.clsm_core.specs.Worlds.{history_of}
 use Rattle.clsm_core.specs.Law.{AreRuns, IsSnapshot, IsRetiredFor, each, held_of, pin_of, is_held_back}
 use Rattle.clsm_core.proofs.KeptRuns.{SamePlace, runs_stay}
 use Rattle.clsm_core.proofs.Setting.{Ground, not_all_quiet}

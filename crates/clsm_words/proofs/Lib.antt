@@ -10,6 +10,7 @@ pub mod Knows
 pub mod Played
 pub mod Telling
 pub mod PastGrowth
+pub mod Keeps
 pub mod Walking
 pub mod Allowed
 pub mod Dealing

@@ -1,22 +1,19 @@
 -- Each open step of the merger is allowed.
-use Rattle.std.proofs.Common.{◌≡◌, ℕ, ◌+◌, ◌*◌, ◌<◌, ◌≤◌, ◌==◌, true, cond, length, get_or, refl, sym, ap, ◌∙◌, subst, arith}
+use Rattle.std.proofs.Common.{◌≡◌, ℕ, true, cond, refl, sym, ap, ◌∙◌, subst}
 use mathlib.Core.Option.{some}
 use lib.ListN.{get_elem?}
 use Rattle.atomic_table.specs.Table.{State, Me, keeps, Allows}
-use Rattle.clsm_model.specs.declared.slot.Slot.TheVariants.{Nothing}
 use Rattle.clsm_core.specs.declared.word.Word.{Word}
-use Rattle.clsm_core.specs.declared.word.Word.TheVariants.{Cell, State as StateOf}
 use Rattle.clsm_core.specs.declared.step.Step.{Step}
-use Rattle.clsm_core.specs.declared.step.Step.TheVariants.{Look}
 use Rattle.clsm_core.specs.declared.merger.MergerView.{MergerView}
-use Rattle.clsm_core.specs.Memory.{Memory, is_same, put}
+use Rattle.clsm_core.specs.Memory.{is_same, put}
 use Rattle.clsm_core.specs.Layout.{index_of, memory}
 use Rattle.clsm_core.specs.Merging.{word_of_merger, changed_by_merger}
 use Rattle.clsm_core.proofs.Frames.{put_here}
 use Rattle.clsm_words.specs.declared.known.Known.{Known}
 use Rattle.clsm_words.specs.Knowing.{row_of}
-use Rattle.clsm_words.specs.Merging.{IsOwn, OpensToMerger, IsSoundMerger, TellsMerger, FollowsMerger}
-use Rattle.clsm_words.specs.Ruled.{Begins, Ruled}
+use Rattle.clsm_words.specs.Merging.{IsOwn, OpensToMerger, FollowsMerger}
+use Rattle.clsm_words.specs.Ruled.{Ruled}
 use Rattle.clsm_words.proofs.Beginnings.{begins_prefix}
 use Rattle.clsm_words.proofs.MergerKnows.{sound_merger}
 use Rattle.clsm_words.proofs.MergerPlayed.{me_merging, finds_word, found, made, word, next, slots', after, told_stays, next_past, longer_past, next_merging, same_memory, ruled'}

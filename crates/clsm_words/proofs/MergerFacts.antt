@@ -1,9 +1,8 @@
 -- What the merger draws from the words that it knows is so in the world.
-use Rattle.std.proofs.Common.{◌≡◌, ◌≢◌, ℕ, zero, suc, ◌+◌, ◌-◌, ◌*◌, ◌%◌, ◌<◌, ◌≤◌, ◌==◌, ◌||◌, ◌++◌, ⊎_elim, Bool, true, false, cond, nat_le, List, [], ◌∷◌, map, length, get_or, refl, sym, ap, ◌∙◌, subst, arith, inl, inr, Option, Some}
-use Rattle.std.proofs.lemmas.Bool.{cases_eq, cases_lt, lt-ltb, le-ltb}
+use Rattle.std.proofs.Common.{◌≡◌, ℕ, zero, suc, ◌+◌, ◌-◌, ◌*◌, ◌<◌, ◌≤◌, ◌==◌, ◌||◌, ◌++◌, Bool, true, false, cond, nat_le, List, [], ◌∷◌, map, length, get_or, refl, sym, ap, ◌∙◌, subst, arith, inl, inr, Some}
+use Rattle.std.proofs.lemmas.Bool.{cases_eq, lt-ltb, le-ltb}
 use Rattle.clsm_model.specs.declared.slot.Slot.{Slot}
 use Rattle.clsm_model.specs.declared.slot.Slot.TheVariants.{Nothing}
-use Rattle.clsm_levels.specs.declared.entry.Entry.{Entry}
 use Rattle.clsm_levels.specs.declared.place.Place.{Place}
 use Rattle.clsm_levels.specs.Entry.{entry_of, entries_of}
 use Rattle.clsm_levels.specs.Merge.{wanted}
@@ -13,13 +12,12 @@ use Rattle.clsm_core.specs.declared.word.Word.{Word}
 use Rattle.clsm_core.specs.declared.word.Word.TheVariants.{Clock, Head, State, Count, Entry as EntryWord}
 use Rattle.clsm_core.specs.declared.step.Step.{Step}
 use Rattle.clsm_core.specs.declared.step.Step.TheVariants.{Pad, ClearState, Publish, ExtendClock}
-use Rattle.clsm_core.specs.declared.merger.MergerView.{MergerView}
 use Rattle.clsm_core.specs.declared.merger.Phase.{Phase}
 use Rattle.clsm_core.specs.declared.merger.Phase.TheVariants.{Clean, Frozen, Retired}
 use Rattle.clsm_core.specs.Memory.{Memory, cell_of, region_of}
-use Rattle.clsm_core.specs.Places.{number_of, held_at, entries_in}
+use Rattle.clsm_core.specs.Places.{number_of}
 use Rattle.clsm_core.specs.Merging.{Facts, is_clean, is_frozen, epoch_end, retired_region, target_of, IsOpenToMerger, merger_after}
-use Rattle.clsm_core.specs.Worlds.{slot_at, settled, passes_from, is_padded, is_headless, is_last, are_canonical, runs_of, epoch_of, facts_of}
+use Rattle.clsm_core.specs.Worlds.{settled, passes_from, is_padded, is_headless, is_last, runs_of, epoch_of, facts_of}
 use Rattle.clsm_core.proofs.Setting.{Ground, facts, OpensTo}
 use Rattle.clsm_core.proofs.KeptRuns.{SamePlace, place_same, canonical_same}
 use Rattle.clsm_words.specs.Merging.{IsLetGo, IsOwn, known_end}

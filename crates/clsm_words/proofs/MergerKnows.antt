@@ -1,12 +1,8 @@
 -- What the rule says of the merger's seat, the seat knows.
-use Rattle.std.proofs.Common.{◌≡◌, ℕ, ◌+◌, ◌*◌, ◌<◌, ◌≤◌, true, false, Bool, cond, List, length, map, get_or, refl, sym, ap, ◌∙◌, subst, arith, Option, Some}
+use Rattle.std.proofs.Common.{◌≡◌, ℕ, ◌+◌, ◌*◌, ◌≤◌, true, false, Bool, cond, length, map, refl, sym, ap, ◌∙◌, subst, arith, Some}
 use Rattle.atomic_table.specs.Table.{State}
-use Rattle.clsm_model.specs.declared.slot.Slot.{Slot}
-use Rattle.clsm_model.specs.declared.slot.Slot.TheVariants.{Nothing}
 use Rattle.clsm_model.specs.History.{plain}
 use Rattle.clsm_levels.specs.Content.{AgreeBelow}
-use Rattle.clsm_core.specs.declared.layout.Layout.{Layout}
-use Rattle.clsm_core.specs.declared.word.Word.{Word}
 use Rattle.clsm_core.specs.declared.word.Word.TheVariants.{Clock}
 use Rattle.clsm_core.specs.declared.step.Step.{Step}
 use Rattle.clsm_core.specs.declared.merger.MergerView.{MergerView}
@@ -15,7 +11,7 @@ use Rattle.clsm_core.specs.Layout.{memory}
 use Rattle.clsm_core.specs.Merging.{is_frozen, epoch_end, IsOpenToMerger, word_of_merger}
 use Rattle.clsm_core.specs.Worlds.{history_of, facts_of}
 use Rattle.clsm_core.specs.Law.{AreRuns}
-use Rattle.clsm_core.specs.Deciding.{IsMergerSmall, IsMergeable}
+use Rattle.clsm_core.specs.Deciding.{IsMergeable}
 use Rattle.clsm_core.specs.Machine.{WorldState}
 use Rattle.clsm_core.proofs.Cases.{by_bool}
 use Rattle.clsm_core.proofs.KeptRuns.{runs_stay}
@@ -25,7 +21,7 @@ use Rattle.clsm_core.proofs.Stepped.{lawful_ground}
 use Rattle.clsm_core.proofs.WordsThere.{word_there'}
 use Rattle.clsm_words.specs.declared.known.Known.{Known}
 use Rattle.clsm_words.specs.Knowing.{row_of}
-use Rattle.clsm_words.specs.Merging.{IsOwn, facts_known, OpensToMerger, known_end, IsSoundMerger}
+use Rattle.clsm_words.specs.Merging.{OpensToMerger, known_end, IsSoundMerger}
 use Rattle.clsm_words.specs.Ruled.{world_of, IsMerging, Ruled}
 use Rattle.clsm_words.proofs.Beginnings.{begins_bound, begins_settled}
 use Rattle.clsm_words.proofs.MergerFacts.{same_places, open_known}

@@ -1,5 +1,5 @@
 -- What the words and the seats are after an open step of the merger.
-use Rattle.std.proofs.Common.{◌≡◌, ◌≢◌, ℕ, ◌+◌, ◌*◌, ◌<◌, ◌≤◌, ◌⊎◌, ◌==◌, Bool, true, false, cond, max, List, [], length, map, take, get_or, set, sym, refl, ap, ◌∙◌, subst, arith, inl, inr, ⊎_elim, Option, Some, None, length-set}
+use Rattle.std.proofs.Common.{◌≡◌, ◌≢◌, ℕ, ◌+◌, ◌*◌, ◌<◌, ◌≤◌, ◌⊎◌, Bool, true, false, cond, max, List, [], length, map, take, get_or, set, sym, refl, ap, ◌∙◌, subst, arith, inl, inr, ⊎_elim, Option, Some, None, length-set}
 use Rattle.std.proofs.lemmas.Bool.{cases_lt}
 use mathlib.Core.Option.{some}
 use lib.ListN.{get_elem?}
@@ -18,12 +18,10 @@ use Rattle.clsm_core.specs.Memory.{Memory, is_word, put}
 use Rattle.clsm_core.specs.Layout.{index_of, memory}
 use Rattle.clsm_core.specs.Relation.{Chains}
 use Rattle.clsm_core.specs.Merging.{is_clean, is_frozen, is_retired, epoch_end, word_of_merger, changed_by_merger, merger_after, slots_after_merger, chains_after_merger}
-use Rattle.clsm_core.specs.Worlds.{view_at, slot_at, settled, facts_of}
+use Rattle.clsm_core.specs.Worlds.{slot_at, settled, facts_of}
 use Rattle.clsm_core.specs.Law.{LawOf, each, held_of}
-use Rattle.clsm_core.specs.Machine.{WorldState, IsLawful, memory_of}
-use Rattle.clsm_core.proofs.Frames.{past_end}
+use Rattle.clsm_core.specs.Machine.{IsLawful, memory_of}
 use Rattle.clsm_core.proofs.GrowthMerger.{slots_stay', longer'}
-use Rattle.clsm_core.proofs.Histories.{end_of-past}
 use Rattle.clsm_core.proofs.KeptDecided.{frozen_decided}
 use Rattle.clsm_core.proofs.Layouts.{memory-at, memory-set}
 use Rattle.clsm_core.proofs.MachineSteps.{merger_word, merger_there}
@@ -33,9 +31,9 @@ use Rattle.clsm_core.proofs.Keeping.{holds_quiet, places_stay}
 use Rattle.clsm_core.proofs.Stepped.{lawful_ground}
 use Rattle.clsm_words.specs.declared.known.Known.{Known}
 use Rattle.clsm_words.specs.Knowing.{row_of, IsHeldEpoch, IsNamedWord}
-use Rattle.clsm_words.specs.Merging.{IsOwn, facts_known, OpensToMerger, known_end}
+use Rattle.clsm_words.specs.Merging.{facts_known, OpensToMerger, known_end}
 use Rattle.clsm_words.specs.Ruled.{world_of, HasFloor, IsSeated, Begins, IsMerging, AreSeats, Ruled}
-use Rattle.clsm_words.proofs.Beginnings.{HaveGrown, begins_stay, begins_length, until_bound, decided_stay}
+use Rattle.clsm_words.proofs.Beginnings.{HaveGrown, begins_stay, begins_length, decided_stay}
 use Rattle.clsm_words.proofs.MergerFacts.{after_known}
 use Rattle.clsm_words.proofs.Trails.{walked_apart, ends_walked}
 use Rattle.clsm_words.proofs.MergerKnows.{world, setting, open_by_row, open_there}

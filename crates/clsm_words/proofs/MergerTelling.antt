@@ -1,5 +1,5 @@
 -- What a look of the merger's finds, by what the law says of the word.
-use Rattle.std.proofs.Common.{◌≡◌, ℕ, ◌+◌, ◌*◌, ◌<◌, ◌≤◌, ◌&&◌, true, nat_lt, List, length, get_or, refl, sym, ap, ◌∙◌, subst, arith, Option, Some}
+use Rattle.std.proofs.Common.{◌≡◌, ℕ, ◌*◌, ◌<◌, ◌≤◌, true, nat_lt, List, length, get_or, refl, sym, ap, ◌∙◌, subst, arith, Option, Some}
 use Rattle.std.proofs.lemmas.Bool.{and_parts}
 use mathlib.Core.Option.{some}
 use lib.ListN.{get_elem?}
@@ -10,7 +10,7 @@ use Rattle.clsm_core.specs.declared.word.Word.TheVariants.{Cell, State as StateO
 use Rattle.clsm_core.specs.declared.step.Step.{Step}
 use Rattle.clsm_core.specs.declared.step.Step.TheVariants.{Look}
 use Rattle.clsm_core.specs.declared.merger.MergerView.{MergerView}
-use Rattle.clsm_core.specs.Memory.{Memory, cell_of, is_part}
+use Rattle.clsm_core.specs.Memory.{cell_of, is_part}
 use Rattle.clsm_core.specs.Layout.{memory}
 use Rattle.clsm_core.specs.Merging.{is_frozen, epoch_end}
 use Rattle.clsm_core.specs.Worlds.{slot_at}
@@ -19,7 +19,7 @@ use Rattle.clsm_core.proofs.Frames.{slot_below}
 use Rattle.clsm_core.proofs.KeptDecided.{frozen_decided}
 use Rattle.clsm_core.proofs.Setting.{shown_below_merged}
 use Rattle.clsm_words.specs.declared.known.Known.{Known}
-use Rattle.clsm_words.specs.Knowing.{row_of, code_of, IsPartOf}
+use Rattle.clsm_words.specs.Knowing.{row_of, IsPartOf}
 use Rattle.clsm_words.specs.Merging.{OpensToMerger, IsFrozenIn, TellsMerger}
 use Rattle.clsm_words.specs.Ruled.{Ruled}
 use Rattle.clsm_words.proofs.Beginnings.{begins_at}

@@ -1,17 +1,16 @@
 -- No open step of a caller changes a word of the merger's own.
-use Rattle.std.proofs.Common.{◌≡◌, ◌≢◌, ℕ, ◌+◌, ◌*◌, ◌%◌, ◌<◌, ◌≤◌, ◌⊎◌, ⊎_elim, Bool, true, false, cond, length, refl, sym, ap, ◌∙◌, subst, arith, Option, Some, None}
+use Rattle.std.proofs.Common.{◌≡◌, ◌≢◌, ℕ, ◌%◌, ◌<◌, ◌≤◌, ⊎_elim, true, length, refl, ap, ◌∙◌, arith, Some, None}
 use prog.Atomic.{either}
-use Rattle.clsm_model.specs.Right.{write_by}
 use Rattle.clsm_core.specs.declared.word.Word.{Word}
 use Rattle.clsm_core.specs.declared.word.Word.TheVariants.{Clock, Head, State, Count, Entry}
 use Rattle.clsm_core.specs.declared.step.Step.{Step}
 use Rattle.clsm_core.specs.declared.step.Step.TheVariants.{Draw, Link, Decide, Cancel, Look}
 use Rattle.clsm_core.specs.declared.view.Mode.TheVariants.{Shared}
 use Rattle.clsm_core.specs.Memory.{cell_of, region_of, put}
-use Rattle.clsm_core.specs.Relation.{is_shared, or_zero, state_by}
+use Rattle.clsm_core.specs.Relation.{is_shared, or_zero}
 use Rattle.clsm_core.specs.Merging.{retired_region}
 use Rattle.clsm_core.specs.Worlds.{slot_at}
-use Rattle.clsm_core.specs.Law.{first_shown, each, drawn_of, mode_of}
+use Rattle.clsm_core.specs.Law.{first_shown, each, drawn_of}
 use Rattle.clsm_core.proofs.Cases.{by_test}
 use Rattle.clsm_core.proofs.Frames.{put_other, put_same}
 use Rattle.clsm_core.proofs.Setting.{Setting, v, M, x, own, own_drawn, Opens, ground, drawn_shown, none_drawn, undecided}

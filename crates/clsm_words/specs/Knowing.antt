@@ -21,7 +21,7 @@ use Rattle.clsm_core.specs.Memory.{Memory, cell_of, region_of, is_word}
 use Rattle.clsm_core.specs.Layout.{memory}
 use Rattle.clsm_core.specs.Places.{is_named}
 use Rattle.clsm_core.specs.Law.{In, Distinct, AreRuns}
-use Rattle.clsm_core.specs.Relation.{idle, length_of, words_of, state_of, open_time, HoldsFrom, IsOpen, word_of, view_after}
+use Rattle.clsm_core.specs.Relation.{IsShort, idle, length_of, words_of, state_of, open_time, HoldsFrom, IsOpen, word_of, view_after}
 use Rattle.clsm_core.specs.Merging.{opening, IsRunWord, place_of}
 use Rattle.clsm_core.specs.Machine.{opened}
 use Rattle.clsm_core.specs.Seats.{IsRightRecord, StandsAs, HasWrite, IsRising}
@@ -60,12 +60,12 @@ abbrev pub IsRecordIn : List Slot → ℕ → CallRecord → Type 0
 IsRecordIn slots number r = (r.seat ≡ number) × (r.time < length slots → StandsAs (write_by number r.deed) (Some (slice_index_or slots r.time Nothing)))
 
 -- As far as the slots go: each record's write stands in them, and each write in them with the seat's number is one of its records;
--- no other number writes, and no write has more words than a cell
+-- no other number writes, and no write has more words than a cell, nor a value none
 pub record Agrees (seats number : ℕ) (calls : List CallRecord) (slots : List Slot) : Type 0 where
   pub stand : AllByRecursion (IsRecordIn slots number) calls
   pub recorded : (t key : ℕ) (written : Option (List ℕ)) → t < length slots → slice_index_or slots t Nothing ≡ Wrote number key written → HasWrite number t (Wrote number key written) calls
   pub numbered : (t i key : ℕ) (written : Option (List ℕ)) → t < length slots → slice_index_or slots t Nothing ≡ Wrote i key written → i < seats
-  pub short : (t i key : ℕ) (written : Option (List ℕ)) → t < length slots → slice_index_or slots t Nothing ≡ Wrote i key written → length_of written ≤ 8
+  pub short : (t i key : ℕ) (written : Option (List ℕ)) → t < length slots → slice_index_or slots t Nothing ≡ Wrote i key written → IsShort written
 
 -- the step is open to the seat, which needs its own past for it and no more
 abbrev pub Opens : Known → Step → Type 0

@@ -1,5 +1,6 @@
 pub mod Seats
 pub mod Knowing
+pub mod Keeping
 pub mod Merging
 pub mod Ruled
 pub mod Plays

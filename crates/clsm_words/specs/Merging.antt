@@ -1,6 +1,6 @@
 -- What the merger's seat at the words knows: the words that only it changes, the facts that it draws from them, what a step makes of
 -- what it knows, and what each step tells it.
-use Rattle.std.specs.Prelude.{true, ◌≡◌, ℕ, ◌+◌, ◌*◌, ◌<◌, ◌≤◌, ◌⊎◌, cond, List, map, length, slice_index_or, Some}
+use Rattle.std.specs.Prelude.{true, ◌≡◌, ℕ, ◌*◌, ◌<◌, ◌≤◌, ◌⊎◌, cond, map, length, slice_index_or, Some}
 use mathlib.Core.List.{IsPrefix}
 use Rattle.clsm_model.specs.declared.slot.Slot.TheVariants.{Nothing}
 use Rattle.clsm_model.specs.History.{plain}

@@ -1,9 +1,10 @@
 -- What the step functions ask and tell.
-use Rattle.std.specs.Prelude.{◌≡◌, ℕ, ◌+◌, ◌<◌, max, [], List, length, slice_index_or}
+use Rattle.std.specs.Prelude.{◌≡◌, ◌≢◌, ℕ, ◌+◌, ◌<◌, max, true, false, [], List, length, slice_index_or, Some, None}
 use Rattle.clsm_core.specs.declared.word.Word.{Word}
 use Rattle.clsm_core.specs.declared.step.Step.{Step}
 use Rattle.clsm_core.specs.declared.step.Answer.{Answer}
-use Rattle.clsm_core.specs.Relation.{idle, word_of, answer_of}
+use Rattle.clsm_core.specs.declared.view.View.{View}
+use Rattle.clsm_core.specs.Relation.{idle, is_all_some, word_of, answer_of}
 use Rattle.clsm_core.specs.Merging.{opening, word_of_merger}
 use Rattle.clsm_words.specs.declared.known.Known.{Known}
 use Rattle.clsm_words.specs.declared.words.Words.{Words}
@@ -22,6 +23,14 @@ MayPlay words seat step = IsSeatOf words seat × Opens seat.knows step
 -- this is the word that the step is on
 abbrev pub IsWordOf : Known → Step → Word → Type 0
 IsWordOf k step word = word ≡ word_of k.layout k.number k.view step
+
+-- the drawn cell is filled but for its next, and is not linked
+pub record IsFilled (v : View) (t key : ℕ) : Type 0 where
+  pub drawn : v.drawn ≡ Some t
+  pub linked : v.linked ≡ false
+  pub keyed : v.key ≡ Some key
+  pub sized : v.length ≢ None
+  pub words : is_all_some v.words ≡ true
 
 -- it played the step, which found x
 abbrev pub Played : Words → SeatState → Step → ℕ → SeatState → Type 0

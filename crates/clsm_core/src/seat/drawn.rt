@@ -1,6 +1,6 @@
 ghost use Rattle.std.specs.Prelude.{◌≡◌, ◌↔◌, ◌≤◌, EachIndex, IsTrue, length, map, slice_index, slice_index_or};
 ghost use Rattle.clsm_model.specs.Value.{padded};
-ghost use Rattle.clsm_core.specs.Relation.{SaysWrite, is_all_some, length_of, own_line, words_of};
+ghost use Rattle.clsm_core.specs.Relation.{IsShort, SaysWrite, is_all_some, length_of, own_line, words_of};
 
 use crate::layout::Layout;
 use crate::seat::words::own_line;
@@ -45,7 +45,7 @@ fn says_words(words: &[Option<u64>], written: &[u64]) -> bool
 }
 
 fn says_value(view: &View, value: Option<Value>) -> bool
-    ensures { IsTrue result ↔ ((view.now.length ≡ Some (length_of value)) × (view.now.words ≡ map (λ w. Some w) (words_of value)) × (length_of value ≤ 8)) }
+    ensures { IsTrue result ↔ ((view.now.length ≡ Some (length_of value)) × (view.now.words ≡ map (λ w. Some w) (words_of value)) × IsShort value) }
 {
     let words = view.words.as_slice();
     match value {

@@ -1,10 +1,9 @@
-use Rattle.std.proofs.Common.{◌≡◌, ℕ, ◌+◌, ◌<◌, ◌≤◌, ◌==◌, ◌||◌, nat_lt, Bool, true, refl, sym, ◌∙◌, arith, eq-eqb, ne_eqb, lt-ltb, le-ltb, ap, inl, inr}
+use Rattle.std.proofs.Common.{◌≡◌, ℕ, ◌+◌, ◌<◌, ◌≤◌, ◌==◌, ◌||◌, nat_lt, Bool, true, refl, sym, arith, eq-eqb, lt-ltb, le-ltb, inl, inr}
 use Rattle.std.proofs.lemmas.Bool.{cases_lt}
 use Rattle.clsm_core.specs.declared.word.Word.TheVariants.{Entry}
 use Rattle.clsm_core.specs.Memory.{Memory}
 use Rattle.clsm_core.specs.Layout.{memory}
 use Rattle.clsm_core.proofs.Passes.{passes_if}
-use Rattle.clsm_core.proofs.MergingTests.{fails_at}
 use Rattle.clsm_core.proofs.merging.facts.is_ended.Goals as goal
 
 pub returns : goal.returns

@@ -1,8 +1,7 @@
-use Rattle.std.proofs.Common.{◌≡◌, ℕ, ◌+◌, ◌<◌, ◌≤◌, Bool, true, false, sym, arith, subst, below_more}
+use Rattle.std.proofs.Common.{◌≡◌, ℕ, true, false, sym, arith, subst, below_more}
 use Rattle.clsm_core.specs.declared.word.Word.TheVariants.{Count}
 use Rattle.clsm_core.specs.Memory.{Memory}
 use Rattle.clsm_core.specs.Layout.{memory}
-use Rattle.clsm_core.specs.Merging.{target_of}
 use Rattle.clsm_core.specs.Worlds.{is_canonical, are_canonical}
 use Rattle.clsm_core.proofs.Passes.{passes_if}
 use Rattle.clsm_core.proofs.MergingTests.{fails_at}

@@ -1,0 +1,170 @@
+//! Looks at the cells of times that the seat knows.
+ghost use Rattle.std.specs.Prelude.{◌≡◌, ◌<◌, ◌≤◌, ◌≢◌, None, Some, length, take, slice_index};
+ghost use Rattle.clsm_core.specs.Relation.{length_of, words_of};
+ghost use Rattle.clsm_words.specs.Knowing.{IsPartOf, code_of};
+ghost use Rattle.clsm_words.specs.Plays.{IsSeatOf};
+ghost use Rattle.clsm_core.specs.declared.word.Part.TheVariants.{Key, Length, Value as WordOf};
+ghost use Rattle.clsm_memtable.specs.Searching.{IsKnownTime, LooksAside, is_write, slot_in, value_in};
+
+use crate::found::Found;
+use clsm_core::{Part, Word};
+use clsm_model::{Time, Value};
+use clsm_words::{Pace, RawSeat, Steps};
+
+/// What the state of the time's cell is.
+#[inline]
+fn state<P: Pace>(
+    steps: &Steps<P>,
+    seat: &mut RawSeat,
+    component: u64,
+    time: Time,
+    cell: u64,
+) -> u64
+    requires of { IsSeatOf steps.now.words.now seat.old }
+    requires known { IsKnownTime seat.old.knows component time cell }
+    ensures of { IsSeatOf steps.now.words.now seat.new }
+    ensures looks { LooksAside seat.old.knows seat.new.knows }
+    ensures told { result ≡ code_of (slot_in seat.old.knows time) }
+{
+    seat.is_sound();
+    steps.look(seat, Word::State(cell))
+}
+
+/// What the key of the time's cell is.
+#[inline]
+fn key<P: Pace>(steps: &Steps<P>, seat: &mut RawSeat, component: u64, time: Time, cell: u64) -> u64
+    requires of { IsSeatOf steps.now.words.now seat.old }
+    requires known { IsKnownTime seat.old.knows component time cell }
+    ensures of { IsSeatOf steps.now.words.now seat.new }
+    ensures looks { LooksAside seat.old.knows seat.new.knows }
+    ensures told { IsPartOf (slot_in seat.old.knows time) Key result }
+{
+    seat.is_sound();
+    steps.look(
+        seat,
+        Word::Cell {
+            cell,
+            part: Part::Key,
+        },
+    )
+}
+
+/// What the length of the time's cell is.
+#[inline]
+fn length<P: Pace>(
+    steps: &Steps<P>,
+    seat: &mut RawSeat,
+    component: u64,
+    time: Time,
+    cell: u64,
+) -> u64
+    requires of { IsSeatOf steps.now.words.now seat.old }
+    requires known { IsKnownTime seat.old.knows component time cell }
+    ensures of { IsSeatOf steps.now.words.now seat.new }
+    ensures looks { LooksAside seat.old.knows seat.new.knows }
+    ensures told { IsPartOf (slot_in seat.old.knows time) Length result }
+{
+    seat.is_sound();
+    steps.look(
+        seat,
+        Word::Cell {
+            cell,
+            part: Part::Length,
+        },
+    )
+}
+
+/// What this one of the eight words of the time's cell is.
+#[inline]
+fn word<P: Pace>(
+    steps: &Steps<P>,
+    seat: &mut RawSeat,
+    component: u64,
+    time: Time,
+    cell: u64,
+    index: u64,
+) -> u64
+    requires of { IsSeatOf steps.now.words.now seat.old }
+    requires known { IsKnownTime seat.old.knows component time cell }
+    requires inside { index < 8 }
+    ensures of { IsSeatOf steps.now.words.now seat.new }
+    ensures looks { LooksAside seat.old.knows seat.new.knows }
+    ensures told { IsPartOf (slot_in seat.old.knows time) (WordOf index) result }
+{
+    seat.is_sound();
+    steps.look(
+        seat,
+        Word::Cell {
+            cell,
+            part: Part::Value(index),
+        },
+    )
+}
+
+/// The value of a time that sets one.
+fn value<P: Pace>(
+    steps: &Steps<P>,
+    seat: &mut RawSeat,
+    component: u64,
+    time: Time,
+    cell: u64,
+) -> Value
+    requires of { IsSeatOf steps.now.words.now seat.old }
+    requires known { IsKnownTime seat.old.knows component time cell }
+    requires set { code_of (slot_in seat.old.knows time) ≡ 2 }
+    ensures of { IsSeatOf steps.now.words.now seat.new }
+    ensures looks { LooksAside seat.old.knows seat.new.knows }
+    ensures told { value_in (slot_in seat.old.knows time) ≡ Some result }
+{
+    seat.is_sound();
+    let count = length(steps, seat, component, time, cell) as usize;
+    let mut words = [0; 8];
+    for index in 0..count {
+        words[index] = word(steps, seat, component, time, cell, index as u64);
+    }
+    match Value::new(&words[..count]) {
+        Ok(value) => value,
+        Err(_) => unreachable!(),
+    }
+}
+
+/// What the time came to, as far as its key is concerned: the value that it sets, or none.
+pub(crate) fn found<P: Pace>(
+    steps: &Steps<P>,
+    seat: &mut RawSeat,
+    component: u64,
+    time: Time,
+    cell: u64,
+) -> Found
+    requires of { IsSeatOf steps.now.words.now seat.old }
+    requires known { IsKnownTime seat.old.knows component time cell }
+    ensures of { IsSeatOf steps.now.words.now seat.new }
+    ensures looks { LooksAside seat.old.knows seat.new.knows }
+    ensures time { result.time ≡ time }
+    ensures value { result.value ≡ value_in (slot_in seat.old.knows time) }
+{
+    let value = match state(steps, seat, component, time, cell) {
+        2 => Some(value(steps, seat, component, time, cell)),
+        _ => None,
+    };
+    Found { time, value }
+}
+
+/// Whether the time is a write of the key.
+pub(crate) fn is_write<P: Pace>(
+    steps: &Steps<P>,
+    seat: &mut RawSeat,
+    component: u64,
+    time: Time,
+    cell: u64,
+    wanted: u64,
+) -> bool
+    requires of { IsSeatOf steps.now.words.now seat.old }
+    requires known { IsKnownTime seat.old.knows component time cell }
+    ensures of { IsSeatOf steps.now.words.now seat.new }
+    ensures looks { LooksAside seat.old.knows seat.new.knows }
+    ensures told { result ≡ is_write wanted (slot_in seat.old.knows time) }
+{
+    state(steps, seat, component, time, cell) >= 2
+        && key(steps, seat, component, time, cell) == wanted
+}

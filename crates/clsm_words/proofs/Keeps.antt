@@ -1,0 +1,66 @@
+-- What a seat keeps over one step, and over one after another.
+use Rattle.std.proofs.Common.{◌≡◌, ℕ, ◌≤◌, List, ◌++◌, sym, ap, refl, ◌∙◌, subst, arith, append_assoc, append-nil, Option, [], Some}
+use mathlib.Core.List.{IsPrefix}
+use Rattle.clsm_model.specs.declared.slot.Slot.{Slot}
+use Rattle.clsm_core.specs.declared.step.Step.{Step}
+use Rattle.clsm_core.specs.declared.view.View.{View}
+use Rattle.clsm_core.specs.Relation.{view_after}
+use Rattle.clsm_words.specs.declared.known.Known.{Known}
+use Rattle.clsm_words.specs.Knowing.{Follows}
+use Rattle.clsm_words.specs.Keeping.{KeepsSeat, OnlyReads}
+
+pub prefix_trans : (a b c : List Slot) → IsPrefix a b → IsPrefix b c → IsPrefix a c
+prefix_trans a b c h k = (h.0 ++ k.0, sym (append_assoc a h.0 k.0) ∙ ap (λ (l : List Slot). l ++ k.0) h.1 ∙ k.1)
+
+-- ---- the seat
+
+pub seat_by : (step : Step) (k k' : Known) (x : ℕ) → Follows step k x k' → KeepsSeat k k'
+seat_by step k k' x follows = record {
+  number = follows.number;
+  dealt = follows.dealt;
+  layout = follows.layout;
+  told = follows.told;
+  heard = follows.heard;
+  past = follows.longer;
+  runs = follows.runs;
+}
+
+pub seat_stays : (k : Known) → KeepsSeat k k
+seat_stays k = record { number = refl; dealt = refl; layout = refl; told = refl; heard = refl; past = ([], append-nil k.past); runs = λ c held held'. (refl, λ word named. refl) }
+
+-- a component that was held before and is held after was held between
+pub seat_trans : (a b c : Known) → KeepsSeat a b → KeepsSeat b c → ((m : ℕ) → a.view.held ≡ Some m → c.view.held ≡ Some m → b.view.held ≡ Some m) → KeepsSeat a c
+seat_trans a b c h k between = record {
+  number = k.number ∙ h.number;
+  dealt = k.dealt ∙ h.dealt;
+  layout = k.layout ∙ h.layout;
+  told = k.told ∙ h.told;
+  heard = k.heard ∙ h.heard;
+  past = prefix_trans a.past b.past c.past h.past k.past;
+  runs = λ m held held'. let mid = between m held held' in let one = h.runs m held mid in let two = k.runs m mid held' in (two.0 ∙ one.0, λ word named. two.1 word named ∙ one.1 word named);
+}
+
+-- ---- reads
+
+-- the view but for what reading changes
+abbrev pub but_read : View → List (Option ℕ) → ℕ → ℕ → View
+but_read v heads reached past = record v { fresh_heads = heads; reached = reached; past = past }
+
+-- a step that changes nothing else of the view, and falls back in nothing, only reads
+pub reads_by : (step : Step) (k k' : Known) (x : ℕ) (heads : List (Option ℕ)) (reached past : ℕ) → Follows step k x k' → view_after k.layout k.number k.view step x ≡ but_read k.view heads reached past → k.view.reached ≤ reached → OnlyReads k k'
+reads_by step k k' x heads reached past follows e le =
+    let is : k'.view ≡ but_read k.view heads reached past = follows.view ∙ e in record {
+      seat = seat_by step k k' x follows;
+      view = subst (λ (v : View). v ≡ but_read k.view v.fresh_heads v.reached v.past) (sym is) refl;
+      reached = let r = ap (λ (v : View). v.reached) is in omega arith;
+    }
+
+pub reads_none : (k : Known) → OnlyReads k k
+reads_none k = record { seat = seat_stays k; view = refl; reached = omega arith }
+
+pub reads_trans : (a b c : Known) → OnlyReads a b → OnlyReads b c → OnlyReads a c
+reads_trans a b c h k = record {
+  seat = seat_trans a b c h.seat k.seat (λ m held held'. ap (λ (v : View). v.held) h.view ∙ held);
+  view = k.view ∙ ap (λ (v : View). but_read v c.view.fresh_heads c.view.reached c.view.past) h.view;
+  reached = let x = h.reached in let y = k.reached in omega arith;
+}

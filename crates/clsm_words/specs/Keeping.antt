@@ -1,0 +1,21 @@
+-- What a seat keeps over several steps.
+use Rattle.std.specs.Prelude.{◌≡◌, ◌≤◌}
+use mathlib.Core.List.{IsPrefix}
+use Rattle.clsm_words.specs.declared.known.Known.{Known}
+use Rattle.clsm_words.specs.Knowing.{KeepsRuns}
+
+-- It is the seat that it was, with a past that goes on. While it holds a component, the runs that it searches stay
+pub record KeepsSeat (old new : Known) : Type 0 where
+  pub number : new.number ≡ old.number
+  pub dealt : new.dealt ≡ old.dealt
+  pub layout : new.layout ≡ old.layout
+  pub told : new.told ≡ old.told
+  pub heard : new.heard ≡ old.heard
+  pub past : IsPrefix old.past new.past
+  pub runs : KeepsRuns old new
+
+-- It only read: its view is as it was, but for the heads that it looked at, what it reached, and how far its past goes; neither falls back
+pub record OnlyReads (old new : Known) : Type 0 where
+  pub seat : KeepsSeat old new
+  pub view : new.view ≡ record old.view { fresh_heads = new.view.fresh_heads; reached = new.view.reached; past = new.view.past }
+  pub reached : old.view.reached ≤ new.view.reached
