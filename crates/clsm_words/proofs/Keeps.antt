@@ -7,7 +7,7 @@ use Rattle.clsm_core.specs.declared.view.View.{View}
 use Rattle.clsm_core.specs.Relation.{view_after}
 use Rattle.clsm_words.specs.declared.known.Known.{Known}
 use Rattle.clsm_words.specs.Knowing.{Follows}
-use Rattle.clsm_words.specs.Keeping.{KeepsSeat, OnlyReads}
+use Rattle.clsm_words.specs.Keeping.{KeepsSeat, OnlyReads, Looks, LooksAside}
 
 pub prefix_trans : (a b c : List Slot) → IsPrefix a b → IsPrefix b c → IsPrefix a c
 prefix_trans a b c h k = (h.0 ++ k.0, sym (append_assoc a h.0 k.0) ∙ ap (λ (l : List Slot). l ++ k.0) h.1 ∙ k.1)
@@ -64,3 +64,15 @@ reads_trans a b c h k = record {
   view = k.view ∙ ap (λ (v : View). but_read v c.view.fresh_heads c.view.reached c.view.past) h.view;
   reached = let x = h.reached in let y = k.reached in omega arith;
 }
+
+-- ---- looks
+
+pub looks_none : (k : Known) → Looks k k
+looks_none k = record { reads = reads_none k; past = refl }
+
+-- one look after another
+pub looks_trans : (a b c : Known) → Looks a b → Looks b c → Looks a c
+looks_trans a b c h k = record { reads = reads_trans a b c h.reads k.reads; past = k.past ∙ h.past }
+
+pub aside_trans : (a b c : Known) → LooksAside a b → LooksAside b c → LooksAside a c
+aside_trans a b c h k = record { looks = looks_trans a b c h.looks k.looks; trail = k.trail ∙ h.trail }

@@ -19,3 +19,13 @@ pub record OnlyReads (old new : Known) : Type 0 where
   pub seat : KeepsSeat old new
   pub view : new.view ≡ record old.view { fresh_heads = new.view.fresh_heads; reached = new.view.reached; past = new.view.past }
   pub reached : old.view.reached ≤ new.view.reached
+
+-- it read, and learned of no time more
+pub record Looks (old new : Known) : Type 0 where
+  pub reads : OnlyReads old new
+  pub past : new.past ≡ old.past
+
+-- and it did not go on along the chain that it walks
+pub record LooksAside (old new : Known) : Type 0 where
+  pub looks : Looks old new
+  pub trail : new.trail ≡ old.trail

@@ -1,6 +1,7 @@
 use Rattle.std.proofs.Common.{◌+◌, ◌≤◌, length}
+use Rattle.clsm_words.specs.Keeping.{Looks}
 use Rattle.clsm_words.specs.Plays.{IsSeatOf}
-use Rattle.clsm_memtable.specs.Searching.{IsOnChain, IsWalked, Looks}
+use Rattle.clsm_memtable.specs.Searching.{IsOnChain, IsWalked}
 use Rattle.clsm_memtable.proofs.searching.newest_ahead.Given as goal
 
 abbrev pub invariant-loop : goal.invariant-loop

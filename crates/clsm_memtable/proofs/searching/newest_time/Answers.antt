@@ -1,7 +1,8 @@
 use Rattle.std.proofs.Common.{◌%◌, ℕ, sym, ap, refl, ◌∙◌, subst}
 use Rattle.clsm_core.specs.declared.layout.Layout.{Layout}
 use Rattle.clsm_words.specs.Knowing.{IsTrail}
-use Rattle.clsm_memtable.proofs.Looking.{looks_at_head, looks_trans}
+use Rattle.clsm_words.proofs.Keeps.{looks_trans}
+use Rattle.clsm_memtable.proofs.Looking.{looks_at_head}
 use Rattle.clsm_memtable.proofs.Chains.{on_chain, walked_nothing}
 use Rattle.clsm_memtable.proofs.searching.newest_time.Goals as goal
 
