@@ -125,7 +125,7 @@ left_by_or None p = refl
 left_by_or (Some w) p = refl
 
 -- what the runs answer for a time above them is what they answer at their end
-runs_read : (z : Layout) (memory : Memory) (h : History) (component floor key s : ℕ) → AreRuns z memory h component floor → floor ≤ component * z.cells → floor ≤ s → value_of (first_in_runs (runs_of memory component) key s) ≡ value h key (min s (component * z.cells))
+pub runs_read : (z : Layout) (memory : Memory) (h : History) (component floor key s : ℕ) → AreRuns z memory h component floor → floor ≤ component * z.cells → floor ≤ s → value_of (first_in_runs (runs_of memory component) key s) ≡ value h key (min s (component * z.cells))
 runs_read z memory h component floor key s runs below from = ⊎_elim
     (λ (lt : component * z.cells < s). let least : component * z.cells ≡ min s (component * z.cells) = omega arith in
     ap value_of (first_in_runs-above (runs_of memory component) key (component * z.cells) s runs.content.older (omega arith))

@@ -1,15 +1,20 @@
--- What the commands of a script do to a store, and what they answer.
-use Rattle.std.specs.Prelude.{◌≡◌, ℕ, length, Ok, Err}
-use Rattle.clsm_model.specs.History.{plain, value}
-use Rattle.clsm_store.specs.Row.{Row, IsFull, written}
+-- What the commands of a script make of a seat, and what they answer.
+use Rattle.std.specs.Prelude.{ℕ, Some, None, Ok, Err}
+use Rattle.clsm_model.specs.declared.record.Deed.TheVariants as deeds
+use Rattle.clsm_store.specs.Seats.{SeatState, Answers, IsFull}
+use Rattle.clsm_store.specs.Trying.{RefusesTry}
 use Rattle.clsm_driver.specs.declared.answer.Answer.{Answer}
-use Rattle.clsm_driver.specs.declared.answer.Answer.TheVariants.{Write, Read}
+use Rattle.clsm_driver.specs.declared.answer.Answer.TheVariants.{Write, Try as Tried, Read}
 use Rattle.clsm_driver.specs.declared.command.Command.{Command}
-use Rattle.clsm_driver.specs.declared.command.Command.TheVariants.{Put, Get}
+use Rattle.clsm_driver.specs.declared.command.Command.TheVariants.{Put, Remove, Try, Get}
 
--- by this seat, the command takes the old row of slots to the new one, and is answered so
-abbrev pub Plays : Command → ℕ → Row → Row → Answer → Type 0
-Plays (Put key v) seat old new (Write (Ok time)) = (time ≡ length old.slots) × (new ≡ written old seat key v)
-Plays (Put key v) seat old new (Write (Err full)) = IsFull old × (full.time ≡ old.cells) × (new ≡ old)
-Plays (Get key) seat old new (Read got) = (got.time ≡ length old.slots) × (got.value ≡ value (plain old.slots) key got.time) × (new ≡ old)
-Plays _ _ _ _ _ = ⊥
+-- the command takes the seat from its old state to the new one, and is answered so
+abbrev pub Plays : Command → SeatState → SeatState → Answer → Type 0
+Plays (Put key v) old new (Write (Ok t)) = Answers old new t (deeds.Put key v)
+Plays (Put key v) old new (Write (Err full)) = IsFull old new full.time
+Plays (Remove key) old new (Write (Ok t)) = Answers old new t (deeds.Remove key)
+Plays (Remove key) old new (Write (Err full)) = IsFull old new full.time
+Plays (Try key v) old new (Tried (Ok t)) = Answers old new t (deeds.Put key v)
+Plays (Try key v) old new (Tried (Err refusal)) = RefusesTry old new refusal
+Plays (Get key) old new (Read got) = Answers old new got.time (deeds.Get key got.value)
+Plays _ _ _ _ = ⊥

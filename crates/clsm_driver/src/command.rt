@@ -1,15 +1,20 @@
-ghost use Rattle.std.specs.Prelude.{◌≡◌, IfSome, IfNone};
+ghost use Rattle.std.specs.Prelude.{◌≡◌, ◌∷◌, [], IfSome, IfNone};
 
 use crate::answer::Answer;
 use crate::number::{parse_number, parse_value};
 use clsm_model::Value;
-use clsm_store::{Seat, Store};
+use clsm_store::{Pace, Seat, Store};
+use std::sync::Wait;
 
 /// A command of a script.
 #[derive(Clone, Copy, Debug)]
 pub enum Command {
     /// `put K V`: writes the value at the key.
     Put { key: u64, value: Value },
+    /// `remove K`: removes the key.
+    Remove { key: u64 },
+    /// `try K V`: writes the value at the key, if no other seat is in the way.
+    Try { key: u64, value: Value },
     /// `get K`: reads the value at the key.
     Get { key: u64 },
 }
@@ -25,24 +30,49 @@ impl Command {
         ensures refused { IfNone result (SaysNone (texts_of words.now)) }
     {
         match *words {
-            ["put", key, value] => Some(Command::Put {
-                key: parse_number(key)?,
-                value: parse_value(value)?,
-            }),
-            ["get", key] => Some(Command::Get {
-                key: parse_number(key)?,
-            }),
+            [name, key] => Command::of_key(name, key),
+            [name, key, value] => Command::of_value(name, key, value),
+            _ => None,
+        }
+    }
+
+    /// The command with this name and a key.
+    fn of_key(name: &str, key: &str) -> Option<Command>
+        ensures read { IfSome result (λ command. Says command (name.now ∷ key.now ∷ [])) }
+        ensures refused { IfNone result (SaysNone (name.now ∷ key.now ∷ [])) }
+    {
+        let key = parse_number(key)?;
+        match name {
+            "remove" => Some(Command::Remove { key }),
+            "get" => Some(Command::Get { key }),
+            _ => None,
+        }
+    }
+
+    /// The command with this name, a key and a value.
+    fn of_value(name: &str, key: &str, value: &str) -> Option<Command>
+        ensures read { IfSome result (λ command. Says command (name.now ∷ key.now ∷ value.now ∷ [])) }
+        ensures refused { IfNone result (SaysNone (name.now ∷ key.now ∷ value.now ∷ [])) }
+    {
+        let key = parse_number(key)?;
+        let value = parse_value(value)?;
+        match name {
+            "put" => Some(Command::Put { key, value }),
+            "try" => Some(Command::Try { key, value }),
             _ => None,
         }
     }
 
     /// Plays the command on a store by one of its seats, and answers what the store answered.
-    pub fn play(self, store: &mut Store, seat: &mut Seat) -> Answer
-        ensures plays { Plays self seat.old store.old store.new result }
-        ensures seat { seat.new ≡ seat.old }
+    pub fn play<P: Pace + Drop, R: Wait>(self, rt: &R, store: &Store<P>, seat: &mut Seat) -> Answer
+        requires { seat.old.store ≡ store.now }
+        ensures plays { Plays self seat.old seat.new result }
+        ensures store { seat.new.store ≡ seat.old.store }
     {
         match self {
-            Command::Put { key, value } => Answer::Write(store.put(seat, key, value)),
+            Command::Put { key, value } => Answer::Write(store.put(rt, seat, key, value)),
+            Command::Remove { key } => Answer::Write(store.remove(rt, seat, key)),
+            Command::Try { key, value } => Answer::Try(store.try_put(seat, key, value)),
             Command::Get { key } => Answer::Read(store.get(seat, key)),
         }
     }

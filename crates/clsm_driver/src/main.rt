@@ -26,6 +26,7 @@ const DEFAULT_SIZES: Config = Config {
 
 fn main(rt: HostRuntime) -> ExitCode {
     let status = script(
+        &rt,
         rt.alloc(),
         DEFAULT_SIZES,
         rt.stdin(),

@@ -4,20 +4,30 @@ ghost use Rattle.clsm_driver.specs.Failure.{IsOutside};
 ghost use Rattle.clsm_model.specs.Config.{IsSound};
 
 use crate::answer::Answer;
+use crate::command::Command;
 use crate::failure::Failure;
 use crate::input::read_line;
 use crate::line::parse_line;
-use clsm_store::{Config, Opened, Seat, Store, open};
+use clsm_store::{Config, Opened, Pace, Seat, Store, open};
 use std::alloc::Global;
 use std::io::{BufReader, Read, Write};
+use std::sync::Wait;
 
 /// Plays the commands of an input, one a line, on a new store of these sizes, and writes each answer
 /// as a line of its own to the output before the next command is played. Where that fails, a line on
 /// the faults says why: `bad line L` or `device`, with status 1, or `refused N SIZE` or `no memory`,
 /// with status 3. The status of a script that is played to its end is 0. A write to the faults that
 /// fails changes no status.
-pub fn script<R, W, E>(alloc: Global, config: Config, input: R, output: W, mut faults: E) -> u8
+pub fn script<T, R, W, E>(
+    rt: &T,
+    alloc: Global,
+    config: Config,
+    input: R,
+    output: W,
+    mut faults: E,
+) -> u8
 where
+    T: Wait,
     R: Read + Drop,
     W: Write + Drop,
     E: Write + Drop,
@@ -25,7 +35,7 @@ where
     ensures refused { ¬ IsSound config → result ≡ 3 }
     ensures played { result ≡ 0 → IfSome (R.remaining input) IsScript }
 {
-    match play_script(alloc, config, input, output) {
+    match play_script(rt, alloc, config, input, output) {
         Ok(()) => 0,
         Err(failure) => {
             let _ = write_failure(&mut faults, failure);
@@ -39,8 +49,15 @@ fn write_failure<E: Write>(faults: &mut E, failure: Failure) -> std::io::Result<
     faults.flush()
 }
 
-fn play_script<R, W>(alloc: Global, config: Config, input: R, mut output: W) -> Result<(), Failure>
+fn play_script<T, R, W>(
+    rt: &T,
+    alloc: Global,
+    config: Config,
+    input: R,
+    mut output: W,
+) -> Result<(), Failure>
 where
+    T: Wait,
     R: Read + Drop,
     W: Write + Drop,
     ensures opened { OnOk result (IsSound config) }
@@ -48,23 +65,25 @@ where
     ensures stopped { IfErr result (StopsScript config (R.remaining input)) }
 {
     let Opened {
-        mut store,
+        store,
         mut seats,
         merger: _,
     } = open(alloc, config)?;
     let Ok(mut reader) = BufReader::new(alloc, input) else {
         return Err(Failure::Memory);
     };
-    play_lines(alloc, &mut reader, &mut output, &mut store, &mut seats[0])
+    play_lines(rt, alloc, &mut reader, &mut output, &store, &mut seats[0])
 }
 
-fn play_lines<R: Read, W: Write>(
+fn play_lines<T: Wait, R: Read, W: Write, P: Pace + Drop>(
+    rt: &T,
     alloc: Global,
     reader: &mut R,
     output: &mut W,
-    store: &mut Store,
+    store: &Store<P>,
     seat: &mut Seat,
 ) -> Result<(), Failure>
+    requires { seat.old.store ≡ store.now }
     ensures played { OnOk result (IfSome (R.remaining reader.old) IsScript) }
     ensures stopped { IfErr result (StopsPlay (R.remaining reader.old)) }
 {
@@ -77,11 +96,28 @@ fn play_lines<R: Read, W: Write>(
             Ok(said) => said,
             Err(error) => return Err(error.at(number)),
         };
-        if let Some(command) = said {
-            write_answer(alloc, output, command.play(store, seat))?;
-        }
+        play_line(rt, alloc, output, store, seat, said)?;
     }
     Err(Failure::Device)
+}
+
+/// Plays what a line says, and writes the answer.
+fn play_line<T: Wait, W: Write, P: Pace + Drop>(
+    rt: &T,
+    alloc: Global,
+    output: &mut W,
+    store: &Store<P>,
+    seat: &mut Seat,
+    said: Option<Command>,
+) -> Result<(), Failure>
+    requires { seat.old.store ≡ store.now }
+    ensures outside { IfErr result IsOutside }
+    ensures store { seat.new.store ≡ seat.old.store }
+{
+    match said {
+        Some(command) => write_answer(alloc, output, command.play(rt, store, seat)),
+        None => Ok(()),
+    }
 }
 
 fn write_answer<W: Write>(alloc: Global, output: &mut W, answer: Answer) -> Result<(), Failure>

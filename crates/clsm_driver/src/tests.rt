@@ -5,6 +5,7 @@ use clsm_store::Config;
 use std::alloc::{AllocError, Global};
 use std::io::{self, ErrorKind, Read, Write};
 use std::process::Abort;
+use std::sync::Wait;
 use std::test::Fail;
 
 const NEVER: u32 = u32::MAX;
@@ -88,10 +89,15 @@ struct Played {
     status: u8,
 }
 
-fn play<R: Read + Drop>(alloc: Global, config: Config, input: R) -> Result<Played, AllocError> {
+fn play<T: Wait, R: Read + Drop>(
+    rt: &T,
+    alloc: Global,
+    config: Config,
+    input: R,
+) -> Result<Played, AllocError> {
     let mut output = Screen::new(alloc, NEVER, 256)?;
     let mut faults = Screen::new(alloc, NEVER, 256)?;
-    let status = script(alloc, config, input, &mut output, &mut faults);
+    let status = script(rt, alloc, config, input, &mut output, &mut faults);
     Ok(Played {
         output,
         faults,
@@ -133,7 +139,7 @@ fn plays_scripts(rt: HostRuntime) -> Result<(), Fail> {
             "@0\n@1\n@2\n@3\nfull @4\nnone @4\n",
         ),
     ] {
-        play(rt.alloc(), DEFAULT_SIZES, text.as_bytes())?.expect(&rt, output, "", 0);
+        play(&rt, rt.alloc(), DEFAULT_SIZES, text.as_bytes())?.expect(&rt, output, "", 0);
     }
     Ok(())
 }
@@ -149,7 +155,7 @@ fn stops_at_a_bad_line(rt: HostRuntime) -> Result<(), Fail> {
         ),
         ("put 7 70\nget 7\nget", "@0\n70 @1\n", "bad line 3\n"),
     ] {
-        play(rt.alloc(), DEFAULT_SIZES, text.as_bytes())?.expect(&rt, output, faults, 1);
+        play(&rt, rt.alloc(), DEFAULT_SIZES, text.as_bytes())?.expect(&rt, output, faults, 1);
     }
     for line in [
         "frob".as_bytes(),
@@ -187,7 +193,7 @@ fn stops_at_a_bad_line(rt: HostRuntime) -> Result<(), Fail> {
         b"get \xff7",
         b"# \xff",
     ] {
-        play(rt.alloc(), DEFAULT_SIZES, line)?.expect(&rt, "", "bad line 1\n", 1);
+        play(&rt, rt.alloc(), DEFAULT_SIZES, line)?.expect(&rt, "", "bad line 1\n", 1);
     }
     Ok(())
 }
@@ -210,11 +216,11 @@ fn reads_lines_of_4096_bytes(rt: HostRuntime) -> Result<(), Fail> {
             text.resize(length, fill)?;
             text.extend_from_slice(end.as_bytes())?;
             let output = if status == 0 { output } else { "" };
-            play(alloc, DEFAULT_SIZES, text.as_slice())?.expect(&rt, output, faults, status);
+            play(&rt, alloc, DEFAULT_SIZES, text.as_slice())?.expect(&rt, output, faults, status);
         }
     }
     // an input with no end
-    play(alloc, DEFAULT_SIZES, io::repeat(b'#'))?.expect(&rt, "", "bad line 1\n", 1);
+    play(&rt, alloc, DEFAULT_SIZES, io::repeat(b'#'))?.expect(&rt, "", "bad line 1\n", 1);
     Ok(())
 }
 
@@ -239,7 +245,7 @@ fn refuses_sizes(rt: HostRuntime) -> Result<(), Fail> {
             fails_after: NEVER,
             kind: ErrorKind::Other,
         };
-        play(rt.alloc(), config, &mut input)?.expect(&rt, "", faults, 3);
+        play(&rt, rt.alloc(), config, &mut input)?.expect(&rt, "", faults, 3);
         assert_eq!(rt; input.left.len(), 6);
     }
     Ok(())
@@ -261,7 +267,7 @@ fn ends_at_a_failed_read(rt: HostRuntime) -> Result<(), Fail> {
                 fails_after: calls,
                 kind,
             };
-            let played = play(rt.alloc(), DEFAULT_SIZES, input)?;
+            let played = play(&rt, rt.alloc(), DEFAULT_SIZES, input)?;
             match calls {
                 0..9 => played.expect(&rt, "", "device\n", 1),
                 9..15 => played.expect(&rt, "@0\n", "device\n", 1),
@@ -281,7 +287,7 @@ fn reads_on_where_it_is_interrupted(rt: HostRuntime) -> Result<(), Fail> {
             fails_after: calls,
             kind: ErrorKind::Interrupted,
         };
-        play(rt.alloc(), DEFAULT_SIZES, input)?.expect(&rt, "@0\n70 @1\n", "", 0);
+        play(&rt, rt.alloc(), DEFAULT_SIZES, input)?.expect(&rt, "@0\n70 @1\n", "", 0);
     }
     Ok(())
 }
@@ -317,6 +323,7 @@ fn ends_at_a_failed_write(rt: HostRuntime) -> Result<(), Fail> {
         let mut output = Screen::new(rt.alloc(), calls, step)?;
         let mut faults = Screen::new(rt.alloc(), NEVER, 256)?;
         let ended = script(
+            &rt,
             rt.alloc(),
             DEFAULT_SIZES,
             &mut input,
@@ -350,7 +357,7 @@ fn keeps_its_status_where_the_faults_are_lost(rt: HostRuntime) -> Result<(), Fai
         ] {
             let mut output = Screen::new(alloc, NEVER, 256)?;
             let mut faults = Screen::new(alloc, calls, 4)?;
-            let ended = script(alloc, sizes, text.as_bytes(), &mut output, &mut faults);
+            let ended = script(&rt, alloc, sizes, text.as_bytes(), &mut output, &mut faults);
             assert_eq!(rt; ended, status);
         }
     }
@@ -360,7 +367,7 @@ fn keeps_its_status_where_the_faults_are_lost(rt: HostRuntime) -> Result<(), Fai
 // Under `rt try --test --fail-alloc N` the Nth allocation of each test is refused.
 #[test]
 fn answers_in_full_or_wants_memory(rt: HostRuntime) {
-    let Ok(played) = play(rt.alloc(), DEFAULT_SIZES, TWO_LINES) else {
+    let Ok(played) = play(&rt, rt.alloc(), DEFAULT_SIZES, TWO_LINES) else {
         return;
     };
     match (played.output.text(), played.faults.text()) {

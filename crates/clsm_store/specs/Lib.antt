@@ -1,2 +1,5 @@
-pub mod Row
+pub mod Seats
+pub mod Resting
+pub mod Reading
+pub mod Trying
 pub mod Opening

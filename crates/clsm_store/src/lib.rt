@@ -1,13 +1,20 @@
 //! The store: its opening, its seats and their calls.
 #![tactic(auto)]
 
+mod calls;
+mod got;
 mod opening;
+mod reading;
+mod refusal;
 mod seat;
 mod store;
-#[cfg(test)]
-mod tests;
+mod trying;
+mod writing;
 
 pub use clsm_model::{Config, OpenError};
-pub use opening::{Clean, Opened, open};
+pub use clsm_words::Pace;
+pub use got::Got;
+pub use opening::{Clean, Opened, open, open_paced};
+pub use refusal::{Full, TryPutError};
 pub use seat::Seat;
-pub use store::{Full, Got, Store};
+pub use store::Store;

@@ -1,50 +1,85 @@
-ghost use Rattle.std.specs.Prelude.{◌≡◌, ◌≤◌, IfOk, IfErr, OnOk};
+//! How a store opens.
+ghost use Rattle.std.specs.Prelude.{◌≡◌, ◌<◌, ◌+◌, vec_len, IfOk, IfErr, OnOk};
 ghost use Rattle.clsm_model.specs.Config.{IsSound};
-ghost use Rattle.clsm_store.specs.Opening.{empty_row, IsNumbered, IsRefusal};
+ghost use Rattle.clsm_words.specs.Plays.{AreFreshFrom};
+ghost use Rattle.clsm_store.specs.Seats.{AreNew, HasSizes};
+ghost use Rattle.clsm_store.specs.Opening.{IsRefusal};
+ghost use Rattle.clsm_store.specs.Resting.{store_of};
 
 use crate::seat::Seat;
 use crate::store::Store;
+use clsm_core::Layout;
 use clsm_model::{Config, OpenError};
+use clsm_words::pace::Free;
+use clsm_words::{Pace, RawMerger, RawSeat, Words};
 use std::alloc::{AllocError, Global};
 
 /// An opened store, the seats of its callers, numbered from 0, and the merger's token.
 #[derive(Drop)]
-pub struct Opened {
-    pub store: Store,
+pub struct Opened<P: Drop> {
+    pub store: Store<P>,
     pub seats: Vec<Seat>,
     pub merger: Clean,
 }
 
-/// The merger's token, where nothing is frozen.
+/// The merger's token, where nothing is frozen. It may be moved to another thread.
 #[derive(Drop)]
-pub struct Clean {}
+pub struct Clean {
+    pub(crate) raw: RawMerger,
+}
 
 /// Opens an empty store of these sizes, and makes all its room. Refused with the first size out of its range,
 /// in the order cells, seats, shards, run, patience, and with `Memory` only where all are in their ranges.
 /// Nothing is kept after a refusal.
-pub fn open(alloc: Global, config: Config) -> Result<Opened, OpenError>
+pub fn open(alloc: Global, config: Config) -> Result<Opened<Free>, OpenError>
     ensures sizes { OnOk result (IsSound config) }
-    ensures store { IfOk result (λ opened. opened.store ≡ empty_row config) }
-    ensures seats { IfOk result (λ opened. IsNumbered config.seats opened.seats.items) }
+    ensures store { IfOk result (λ opened. HasSizes opened.store config) }
+    ensures seats { IfOk result (λ opened. AreNew opened.store config.seats opened.seats.items) }
     ensures refusal { IfErr result (IsRefusal config) }
 {
-    config.check()?;
-    let store = Store::with_room(alloc, config.cells).map_err(|_| OpenError::Memory)?;
-    let seats = seats(alloc, config.seats).map_err(|_| OpenError::Memory)?;
+    open_paced(alloc, config, Free)
+}
+
+/// As `open`, with a pace: each atomic step on the store is made behind a call of it.
+pub fn open_paced<P: Pace + Drop>(
+    alloc: Global,
+    config: Config,
+    pace: P,
+) -> Result<Opened<P>, OpenError>
+    ensures sizes { OnOk result (IsSound config) }
+    ensures store { IfOk result (λ opened. HasSizes opened.store config) }
+    ensures seats { IfOk result (λ opened. AreNew opened.store config.seats opened.seats.items) }
+    ensures refusal { IfErr result (IsRefusal config) }
+{
+    let layout = Layout::new(config)?;
+    let (words, raw, merger) = Words::new(alloc, &layout).map_err(|_| OpenError::Memory)?;
+    let seats = seat_all(alloc, &words, raw).map_err(|_| OpenError::Memory)?;
+    let patience = config.patience as u64;
     Ok(Opened {
-        store,
+        store: Store {
+            words,
+            pace,
+            patience,
+        },
         seats,
-        merger: Clean {},
+        merger: Clean { raw: merger },
     })
 }
 
-fn seats(alloc: Global, count: usize) -> Result<Vec<Seat>, AllocError>
-    requires { count ≤ 64 }
-    ensures { IfOk result (λ seats. IsNumbered count seats.items) }
+/// The seats of callers, of whom none did anything.
+fn seat_all(alloc: Global, words: &Words, raw: Vec<RawSeat>) -> Result<Vec<Seat>, AllocError>
+    requires fresh { AreFreshFrom 0 words.now raw.items }
+    requires few { vec_len raw < 65 }
+    ensures { IfOk result (λ seats. AreNew (store_of words.now) (vec_len raw) seats.items) }
 {
-    let mut seats = Vec::with_capacity(alloc, count)?;
-    for number in 0..count {
-        seats.push(Seat::numbered(number as u32))?;
+    let mut seats = Vec::with_capacity(alloc, raw.len())?;
+    for raw in raw {
+        let seat = Seat {
+            raw,
+            pin: 0,
+            snapshot: None,
+        };
+        seats.push(seat)?;
     }
     Ok(seats)
 }

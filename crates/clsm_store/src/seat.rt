@@ -1,32 +1,59 @@
-ghost use Rattle.std.specs.Prelude.{◌≡◌};
-
+//! A caller's seat at a store.
+use clsm_model::Time;
+use clsm_words::RawSeat;
 use std::marker::Model;
 
-/// A caller's place at a store. Contracts see its number.
+/// A caller's place at a store: each call is made by one of its seats. It may be moved to another thread. Contracts see its store, its number,
+/// the beginning of the history that it knows, its records, its due and its snapshot.
 #[derive(Drop)]
 pub struct Seat {
-    number: u32,
+    pub(crate) raw: RawSeat,
+    /// Its pin word: odd while a read runs.
+    pub(crate) pin: u64,
+    /// The time of its open snapshot.
+    pub(crate) snapshot: Option<Time>,
 }
 
 impl Model for Seat {
-    ghost use Rattle.std.specs.Prelude.{ℕ};
+    ghost use Rattle.std.specs.Prelude.{◌≡◌};
+    ghost use Rattle.clsm_core.specs.Relation.{open_time};
+    ghost use Rattle.clsm_store.specs.Seats.{SeatState};
+    ghost use Rattle.clsm_store.specs.Resting.{IsAtRest, state_of};
 
-    ghost Value = { ℕ };
+    ghost Value = { SeatState };
 
-    ghost view = { λ s. s.number };
+    ghost view = { λ s. state_of s.raw };
+
+    ghost invariant = { λ s. IsAtRest s.raw.knows × (s.pin ≡ s.raw.knows.view.pin) × (s.snapshot ≡ open_time s.raw.knows.view.snapshot) };
 }
 
 impl Seat {
-    pub(crate) fn numbered(number: u32) -> Seat
-        ensures { result ≡ number }
-    {
-        Seat { number }
-    }
+    ghost use Rattle.std.specs.Prelude.{◌≡◌};
+    ghost use Rattle.clsm_store.specs.Seats.{IsLawfulAlone};
 
     /// Its number, from 0 to the number of seats less 1.
+    #[inline]
     pub fn number(&self) -> u32
-        ensures { result ≡ self.now }
+        ensures { result ≡ self.now.number }
     {
-        self.number
+        self.raw.is_sound();
+        self.raw.number() as u32
+    }
+
+    /// The time of its open snapshot, if one is open.
+    #[inline]
+    pub fn snapshot_time(&self) -> Option<Time>
+        ensures { result ≡ self.now.snapshot }
+    {
+        self.snapshot
+    }
+
+    /// What holds of every seat: each of its writes stands in the history that it knows, each write there with its number is one of its
+    /// records, what it read is right, and its records' times rise to its due. It does nothing when it runs.
+    #[inline]
+    pub fn is_lawful(&self)
+        ensures { IsLawfulAlone self.now }
+    {
+        self.raw.is_sound();
     }
 }

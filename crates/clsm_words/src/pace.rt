@@ -40,6 +40,7 @@ pub trait Pace {
 }
 
 /// The pace that holds nobody.
+#[derive(Drop)]
 pub struct Free;
 
 impl Pace for Free {

@@ -1,0 +1,92 @@
+-- What the law says of the runs of a component, at each place that it names.
+use Rattle.std.proofs.Common.{◌≡◌, ℕ, zero, suc, ◌+◌, ◌*◌, ◌/◌, ◌%◌, ◌<◌, ◌≤◌, ◌==◌, inl, inr, Bool, true, cond, nat_lt, List, [], ◌∷◌, ◌++◌, map, length, refl, sym, ap, subst, arith, Some}
+use Rattle.std.specs.List.{AllByRecursion}
+use Rattle.std.proofs.lemmas.Bool.{lt-ltb, le-ltb, ltb-true, eqb-true, eq-eqb, cases_lt, cases_eq}
+use Rattle.clsm_model.specs.History.{plain}
+use Rattle.clsm_levels.specs.declared.entry.Entry.{Entry}
+use Rattle.clsm_levels.specs.declared.place.Place.{Place}
+use Rattle.clsm_levels.specs.declared.place.Place.TheVariants.{LevelZero, LevelOne}
+use Rattle.clsm_levels.specs.Entry.{IsWriteOf}
+use Rattle.clsm_levels.specs.Place.{level_zero_places, places}
+use Rattle.clsm_levels.specs.Run.{IsRun, all_of}
+use Rattle.clsm_levels.proofs.Every.{every_left, every_right}
+use Rattle.clsm_core.specs.declared.word.Word.TheVariants.{Count}
+use Rattle.clsm_core.specs.Memory.{Memory, room_of}
+use Rattle.clsm_core.specs.Places.{is_named, entry_in, entries_from, entries_in, held_at}
+use Rattle.clsm_core.specs.Worlds.{runs_of, are_canonical}
+use Rattle.clsm_core.specs.Law.{AreRuns}
+use Rattle.clsm_words.specs.declared.known.Known.{Known}
+use Rattle.clsm_words.specs.Knowing.{Sound, row_of}
+use Rattle.clsm_runs.specs.Searching.{IsSearchable, count_of, run_at}
+
+-- ---- the places that a component names
+
+-- a place of level 0 that it names is below the number of its runs there, and its place of level 1 is the one
+pub named_cases : (P : Type 0) (m p : ℕ) → is_named m p ≡ true → (p < 3 → p < m % 4 → P) → (p ≡ 3 + m / 4 % 2 → P) → P
+named_cases P m p named low high = elim (cases_lt p 3) [
+  | inl lt ↦ low lt (ltb-true p (m % 4) (subst (λ (b : Bool). cond b (nat_lt p (m % 4)) (p == 3 + m / 4 % 2) ≡ true) (lt-ltb p 3 lt) named))
+  | inr le ↦ high (eqb-true p (3 + m / 4 % 2) (subst (λ (b : Bool). cond b (nat_lt p (m % 4)) (p == 3 + m / 4 % 2) ≡ true) (le-ltb p 3 le) named))
+]
+
+pub named_below : (m p : ℕ) → is_named m p ≡ true → p < 5
+named_below m p named = named_cases (p < 5) m p named (λ lt below. omega arith) (λ is. omega arith)
+
+pub names_zero : (m p : ℕ) → p < m % 4 → is_named m p ≡ true
+names_zero m p lt = rw (lt-ltb p 3 (omega arith)) (lt-ltb p (m % 4) lt)
+
+pub names_one : (m : ℕ) → is_named m (3 + m / 4 % 2) ≡ true
+names_one m = rw (le-ltb (3 + m / 4 % 2) 3 (omega arith)) (eq-eqb (3 + m / 4 % 2) (3 + m / 4 % 2) refl)
+
+-- ---- what holds of each run of a component holds at each place
+
+at_level_zero : (P : List Entry → Type 0) (memory : Memory) (j p : ℕ) (rest : List Place) → p < j → AllByRecursion P (map (held_at memory) (level_zero_places j ++ rest)) → P (entries_in memory p)
+at_level_zero P memory zero p rest lt every = absurd (omega arith)
+at_level_zero P memory (suc j) p rest lt every = elim (cases_eq p j) [
+  | inl same ↦ subst (λ (n : ℕ). P (entries_in memory n)) (sym same) every.0
+  | inr other ↦ at_level_zero P memory j p rest (omega arith) every.1
+]
+
+at_level_one : (P : List Entry → Type 0) (memory : Memory) (j q : ℕ) → AllByRecursion P (map (held_at memory) (level_zero_places j ++ LevelOne q ∷ [])) → P (entries_in memory (3 + q))
+at_level_one P memory zero q every = every.0
+at_level_one P memory (suc j) q every = at_level_one P memory j q every.1
+
+pub at_named : (P : List Entry → Type 0) (memory : Memory) (m p : ℕ) → is_named m p ≡ true → AllByRecursion P (runs_of memory m) → P (entries_in memory p)
+at_named P memory m p named every = named_cases (P (entries_in memory p)) m p named
+    (λ low below. at_level_zero P memory (m % 4) p (LevelOne (m / 4 % 2) ∷ []) below every)
+    (λ is. subst (λ (n : ℕ). P (entries_in memory n)) (sym is) (at_level_one P memory (m % 4) (m / 4 % 2) every))
+
+-- what holds of all entries holds of each run's
+each_run : (P : Entry → Type 0) (runs : List (List Entry)) → AllByRecursion P (all_of runs) → AllByRecursion (AllByRecursion P) runs
+each_run P [] every = tt
+each_run P (run ∷ runs) every = (every_left P run (all_of runs) every, each_run P runs (every_right P run (all_of runs) every))
+
+-- ---- the run at a place
+
+-- it is a run of writes of the seat's past, which are merged into the component; it fits its place, and its entries say no more
+pub record IsRunAt (k : Known) (component place : ℕ) : Type 0 where
+  pub order : IsRun (run_at k place)
+  pub older : AllByRecursion (λ (e : Entry). e.time < component * k.layout.cells) (run_at k place)
+  pub writes : AllByRecursion (IsWriteOf (plain k.past)) (run_at k place)
+  pub fits : count_of k place ≤ room_of k.layout place
+  pub canonical : are_canonical (row_of k) place ≡ true
+
+pub run_there : (k : Known) (component place : ℕ) → Sound k → IsSearchable k component place → IsRunAt k component place
+run_there k component place sound run =
+    let runs : AreRuns k.layout (row_of k) (plain k.past) component k.floor = (sound.reads component run.held).runs run.known in
+    record {
+      order = at_named IsRun (row_of k) component place run.named runs.content.order;
+      older = at_named (AllByRecursion (λ (e : Entry). e.time < component * k.layout.cells)) (row_of k) component place run.named (each_run (λ (e : Entry). e.time < component * k.layout.cells) (runs_of (row_of k) component) runs.content.older);
+      writes = at_named (AllByRecursion (IsWriteOf (plain k.past))) (row_of k) component place run.named (each_run (IsWriteOf (plain k.past)) (runs_of (row_of k) component) runs.content.writes);
+      fits = runs.counts place run.named;
+      canonical = runs.canonical place run.named;
+    }
+
+-- ---- the entries of a place
+
+-- what holds of n entries from the entry i on holds of each
+pub at_entry : (P : Entry → Type 0) (memory : Memory) (p i n e : ℕ) → i ≤ e → e < i + n → AllByRecursion P (entries_from memory p i n) → P (entry_in memory p e)
+at_entry P memory p i zero e le lt every = absurd (omega arith)
+at_entry P memory p i (suc n) e le lt every = elim (cases_eq e i) [
+  | inl same ↦ subst (λ (j : ℕ). P (entry_in memory p j)) (sym same) every.0
+  | inr other ↦ at_entry P memory p (i + 1) n e (omega arith) (omega arith) every.1
+]

@@ -1,0 +1,16 @@
+use Rattle.std.proofs.Common.{◌≡◌, ◌≤◌, ◌%◌}
+use Rattle.clsm_levels.specs.Run.{first_in_runs}
+use Rattle.clsm_core.specs.Worlds.{runs_of}
+use Rattle.clsm_words.specs.Knowing.{row_of}
+use Rattle.clsm_words.specs.Keeping.{LooksAside}
+use Rattle.clsm_words.specs.Plays.{IsSeatOf}
+use Rattle.clsm_runs.specs.Searching.{runs_below}
+use Rattle.clsm_runs.proofs.searching.search.Given as goal
+
+abbrev pub invariant-loop-place : goal.invariant-loop-place
+invariant-loop-place g l = record {
+  of : IsSeatOf l.steps.words.now l.seat;
+  looks : LooksAside l.fn.seat.knows l.seat.knows;
+  left : l.place ≤ l.component % 4;
+  searched : first_in_runs (runs_of (row_of l.fn.seat.knows) l.component) l.key l.until ≡ first_in_runs (runs_below (row_of l.fn.seat.knows) l.component l.place) l.key l.until;
+}

@@ -1,0 +1,47 @@
+//! The first entry of a key below a time in all runs of a component.
+ghost use Rattle.std.specs.Prelude.{◌≡◌, ◌*◌, ◌≤◌, Some, length};
+ghost use Rattle.clsm_levels.specs.Run.{first_in_runs};
+ghost use Rattle.clsm_core.specs.Worlds.{runs_of};
+ghost use Rattle.clsm_words.specs.Knowing.{row_of};
+ghost use Rattle.clsm_words.specs.Keeping.{LooksAside};
+ghost use Rattle.clsm_words.specs.Plays.{IsSeatOf};
+
+use crate::finding::find;
+use clsm_levels::Entry;
+use clsm_model::Time;
+use clsm_words::{Pace, RawSeat, Steps};
+
+/// The number of the first place of level 1.
+const LEVEL_ONE: u64 = 3;
+
+/// The newest entry of the key with a time below `until` in the runs of the held component: through the runs of level 0, the newest first,
+/// and then that of level 1, up to the first that has one. This is LevelDB's order: each run holds newer versions of a key than those
+/// behind it. It never waits, takes no memory and is never refused. The seat has to know all that was merged into its component.
+pub fn search<P: Pace>(
+    steps: &Steps<P>,
+    seat: &mut RawSeat,
+    component: u64,
+    key: u64,
+    until: Time,
+) -> Option<Entry>
+    requires of { IsSeatOf steps.now.words.now seat.old }
+    requires held { seat.old.knows.view.held ≡ Some component }
+    requires known { component * seat.old.knows.layout.cells ≤ length seat.old.knows.past }
+    ensures of { IsSeatOf steps.now.words.now seat.new }
+    ensures looks { LooksAside seat.old.knows seat.new.knows }
+    ensures found { result ≡ first_in_runs (runs_of (row_of seat.old.knows) component) key until }
+{
+    for place in (0..component % 4).rev() {
+        if let Some(entry) = find(steps, seat, component, place, key, until) {
+            return Some(entry);
+        }
+    }
+    find(
+        steps,
+        seat,
+        component,
+        LEVEL_ONE + component / 4 % 2,
+        key,
+        until,
+    )
+}

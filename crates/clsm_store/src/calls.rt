@@ -1,0 +1,67 @@
+//! The calls of one seat.
+ghost use Rattle.std.specs.Prelude.{◌≡◌, IfOk, IfErr};
+ghost use Rattle.clsm_model.specs.declared.record.Deed.TheVariants.{Get, Put, Remove};
+ghost use Rattle.clsm_store.specs.Seats.{Answers, IsFull};
+ghost use Rattle.clsm_store.specs.Trying.{RefusesTry};
+
+use crate::got::Got;
+use crate::reading::read;
+use crate::refusal::{Full, TryPutError};
+use crate::seat::Seat;
+use crate::store::Store;
+use crate::trying::try_write;
+use crate::writing::write;
+use clsm_model::{Time, Value};
+use clsm_words::Pace;
+use std::sync::Wait;
+
+impl<P: Pace + Drop> Store<P> {
+    /// Writes the value at the key, and answers the write's time. It waits while a freeze holds the lock, and tries again where another seat
+    /// was faster or a reader overtook it. Refused with `Full` where the clock stands at the limit while the seat holds the lock: nothing
+    /// was written then, and the seat is as before.
+    pub fn put<R: Wait>(
+        &self,
+        rt: &R,
+        seat: &mut Seat,
+        key: u64,
+        value: Value,
+    ) -> Result<Time, Full>
+        requires { seat.old.store ≡ self.now }
+        ensures written { IfOk result (λ time. Answers seat.old seat.new time (Put key value)) }
+        ensures full { IfErr result (λ full. IsFull seat.old seat.new full.time) }
+    {
+        write(rt, &self.steps(), &mut seat.raw, key, &Some(value))
+    }
+
+    /// Removes the key, and answers the removal's time, whether or not the key had a value. It waits and is refused as `put`.
+    pub fn remove<R: Wait>(&self, rt: &R, seat: &mut Seat, key: u64) -> Result<Time, Full>
+        requires { seat.old.store ≡ self.now }
+        ensures written { IfOk result (λ time. Answers seat.old seat.new time (Remove key)) }
+        ensures full { IfErr result (λ full. IsFull seat.old seat.new full.time) }
+    {
+        write(rt, &self.steps(), &mut seat.raw, key, &None)
+    }
+
+    /// Writes the value at the key as `put`, but tries each exchange once and never waits. Refused with `Full` as `put`, with `Busy` where the
+    /// lock was not free to enter, with `Raced` where another seat was faster, and with `Overtaken` where a reader cancelled the time:
+    /// nothing was written then, and the seat is as before, but for its count of such refusals.
+    pub fn try_put(&self, seat: &mut Seat, key: u64, value: Value) -> Result<Time, TryPutError>
+        requires { seat.old.store ≡ self.now }
+        ensures written { IfOk result (λ time. Answers seat.old seat.new time (Put key value)) }
+        ensures refused { IfErr result (RefusesTry seat.old seat.new) }
+    {
+        try_write(&self.steps(), &mut seat.raw, key, value)
+    }
+
+    /// The value of the key at a time of the read's own, which is the clock as the read found it: the value that the newest write below that
+    /// time left. It takes no lock and never waits; a write that is drawn below its time and not decided after `patience` looks is cancelled,
+    /// and its writer writes again. It is never refused.
+    pub fn get(&self, seat: &mut Seat, key: u64) -> Got
+        requires { seat.old.store ≡ self.now }
+        ensures { Answers seat.old seat.new result.time (Get key result.value) }
+    {
+        let got = read(&self.steps(), &mut seat.raw, seat.pin, self.patience, key);
+        seat.pin = seat.pin.wrapping_add(2);
+        got
+    }
+}

@@ -1,0 +1,107 @@
+//! Writes at the words: draw, fill, link, publish, again where that was lost.
+ghost use Rattle.std.specs.Prelude.{◌≡◌, Some, None, IfOk, IfErr};
+ghost use Rattle.clsm_core.specs.Relation.{next_word};
+ghost use Rattle.clsm_words.specs.Plays.{IsSeatOf};
+ghost use Rattle.clsm_store.specs.Resting.{IsAtRest, IsInHold, FindsFull, Records, Tries, deed_of};
+
+use crate::refusal::Full;
+use clsm_lock::{leave, shared};
+use clsm_memtable::{DrawError, Published, draw, fill, link, publish};
+use clsm_model::{Deed, Time, Value};
+use clsm_words::{Pace, RawSeat, Steps};
+use std::sync::Wait;
+
+/// What came of one try to write.
+pub(crate) enum Attempt {
+    Written(Time),
+    /// The clock stands at the limit.
+    Full(Time),
+    /// Another seat drew the time first, or cancelled it.
+    Lost,
+}
+
+/// The write of the value at the key, or its removal.
+pub(crate) fn deed_of(key: u64, value: &Option<Value>) -> Deed
+    ensures { result ≡ deed_of key value.now }
+{
+    match *value {
+        Some(value) => Deed::Put { key, value },
+        None => Deed::Remove { key },
+    }
+}
+
+/// Tries once to write, in a hold of the lock.
+fn try_write<P: Pace, R: Wait>(
+    rt: &R,
+    steps: &Steps<P>,
+    seat: &mut RawSeat,
+    key: u64,
+    value: &Option<Value>,
+) -> Attempt
+    requires of { IsSeatOf steps.now.words.now seat.old }
+    requires holds { IsInHold seat.old.knows }
+    ensures of { IsSeatOf steps.now.words.now seat.new }
+    ensures holds { IsInHold seat.new.knows }
+    ensures entered { seat.new.knows.view.entries ≡ seat.old.knows.view.entries }
+    ensures tries { Tries seat.old.knows seat.new.knows (deed_of key value.now) result }
+{
+    let time = match draw(steps, seat) {
+        Ok(time) => time,
+        Err(DrawError::Full(time)) => return Attempt::Full(time),
+        Err(DrawError::Raced) => return Attempt::Lost,
+    };
+    fill(steps, seat, time, key, value.as_ref());
+    link(rt, steps, seat, time, key);
+    match publish(steps, seat, time, &deed_of(key, value)) {
+        Published::Done => Attempt::Written(time),
+        Published::Overtaken => Attempt::Lost,
+    }
+}
+
+/// Writes, in a hold of the lock, and tries until the write stands or the clock is at the limit.
+fn write_in_hold<P: Pace, R: Wait>(
+    rt: &R,
+    steps: &Steps<P>,
+    seat: &mut RawSeat,
+    key: u64,
+    value: &Option<Value>,
+) -> Result<Time, Full>
+    requires of { IsSeatOf steps.now.words.now seat.old }
+    requires holds { IsInHold seat.old.knows }
+    ensures of { IsSeatOf steps.now.words.now seat.new }
+    ensures holds { IsInHold seat.new.knows }
+    ensures entered { seat.new.knows.view.entries ≡ seat.old.knows.view.entries }
+    ensures written { IfOk result (λ time. Records seat.old.knows seat.new.knows time (deed_of key value.now)) }
+    ensures full { IfErr result (λ full. FindsFull seat.old.knows seat.new.knows full.time) }
+{
+    for _ in rt.forever() {
+        match try_write(rt, steps, seat, key, value) {
+            Attempt::Written(time) => return Ok(time),
+            Attempt::Full(time) => return Err(Full { time }),
+            Attempt::Lost => {}
+        }
+    }
+    unreachable!()
+}
+
+/// Writes the value at the key, or with `None` removes it, and waits for the lock.
+pub(crate) fn write<P: Pace, R: Wait>(
+    rt: &R,
+    steps: &Steps<P>,
+    seat: &mut RawSeat,
+    key: u64,
+    value: &Option<Value>,
+) -> Result<Time, Full>
+    requires of { IsSeatOf steps.now.words.now seat.old }
+    requires rests { IsAtRest seat.old.knows }
+    ensures of { IsSeatOf steps.now.words.now seat.new }
+    ensures rests { IsAtRest seat.new.knows }
+    ensures entered { seat.new.knows.view.entries ≡ next_word seat.old.knows.view.entries }
+    ensures written { IfOk result (λ time. Records seat.old.knows seat.new.knows time (deed_of key value.now)) }
+    ensures full { IfErr result (λ full. FindsFull seat.old.knows seat.new.knows full.time) }
+{
+    shared(rt, steps, seat);
+    let answer = write_in_hold(rt, steps, seat, key, value);
+    leave(steps, seat);
+    answer
+}
