@@ -5,7 +5,7 @@ use Rattle.clsm_core.specs.declared.view.SnapshotState.{SnapshotState}
 use Rattle.clsm_core.specs.declared.view.SnapshotState.TheVariants.{Noted}
 use Rattle.clsm_core.specs.Relation.{blank, next_word, IsBelow, reached_after, call_of}
 use Rattle.clsm_words.specs.declared.known.Known.{Known}
-use Rattle.clsm_words.specs.Knowing.{KeepsRuns}
+use Rattle.clsm_words.specs.Knowing.{IsWithin, KeepsRuns}
 use Rattle.clsm_memtable.specs.declared.drawing.DrawError.{DrawError}
 use Rattle.clsm_memtable.specs.declared.drawing.DrawError.TheVariants.{Full, Raced}
 use Rattle.clsm_memtable.specs.declared.deciding.Published.{Published}
@@ -68,6 +68,9 @@ pub record Draws (old new : Known) (t : ℕ) : Type 0 where
   pub below : IsBelow t new.view.hold_limit
   pub clock : new.view.hold_clock ≡ Some t
   pub due : old.view.due ≤ t
+  pub within : IsWithin old.layout old.view.held t
+  pub seen : new.view.clock ≡ Some t
+  pub passed : old.view.past ≤ t
   pub raced : new.view.raced ≡ old.view.raced
 
 -- in this hold of the lock the clock stood at the limit

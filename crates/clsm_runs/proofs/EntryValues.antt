@@ -1,9 +1,8 @@
 -- The value that an entry of a run holds, read word by word.
-use Rattle.std.proofs.Common.{◌≡◌, ◌≢◌, ℕ, zero, suc, ◌+◌, ◌*◌, ◌%◌, ◌<◌, ◌≤◌, ◌==◌, ◌&&◌, Bool, true, false, cond, nat_lt, List, [], ◌∷◌, ◌++◌, length, take, set, refl, ap, sym, ◌∙◌, arith, subst, Option, Some, None}
+use Rattle.std.proofs.Common.{◌≡◌, ◌≢◌, ℕ, zero, suc, ◌+◌, ◌*◌, ◌%◌, ◌<◌, ◌≤◌, ◌==◌, Bool, true, cond, nat_lt, List, [], ◌∷◌, ◌++◌, length, take, set, refl, ap, sym, ◌∙◌, arith, subst, Some, None}
 use Rattle.std.specs.Prelude.{slice_index}
 use Rattle.std.proofs.lemmas.Bool.{ltb-true, ne_eqb, and_parts}
 use Rattle.std.proofs.lemmas.List.{take_more, take_more_set, length-take}
-use Rattle.clsm_model.specs.declared.slot.Slot.{Slot}
 use Rattle.clsm_model.specs.History.{plain}
 use Rattle.clsm_levels.specs.declared.entry.Entry.{Entry}
 use Rattle.clsm_levels.specs.Entry.{IsWriteOf}
@@ -16,11 +15,11 @@ use Rattle.clsm_core.proofs.Passes.{passes_at}
 use Rattle.clsm_words.specs.declared.known.Known.{Known}
 use Rattle.clsm_words.specs.Knowing.{Sound, row_of}
 use Rattle.clsm_runs.specs.Searching.{HasEntry, count_of, part_of}
-use Rattle.clsm_runs.proofs.NamedRuns.{IsRunAt, run_there, at_entry}
+use Rattle.clsm_runs.proofs.NamedRuns.{run_there, at_entry}
 
 -- ---- the eight words
 
-pub word_at : (memory : Memory) (p e j : ℕ) → j < 8 → slice_index (value_words memory p e) j ≡ memory (EntryWord p e (3 + j))
+word_at : (memory : Memory) (p e j : ℕ) → j < 8 → slice_index (value_words memory p e) j ≡ memory (EntryWord p e (3 + j))
 word_at memory p e zero lt = refl
 word_at memory p e (suc zero) lt = refl
 word_at memory p e (suc (suc zero)) lt = refl
@@ -38,7 +37,7 @@ reads_more memory p e words i x long lt front is =
 
 -- ---- an entry that is no removal
 
-pub value_of_valued : (memory : Memory) (p e : ℕ) → memory (EntryWord p e 1) % 2 ≢ 1 → (entry_in memory p e).value ≡ Some (take (memory (EntryWord p e 2)) (value_words memory p e))
+value_of_valued : (memory : Memory) (p e : ℕ) → memory (EntryWord p e 1) % 2 ≢ 1 → (entry_in memory p e).value ≡ Some (take (memory (EntryWord p e 2)) (value_words memory p e))
 value_of_valued memory p e valued = ap (λ (b : Bool). cond b None (Some (take (memory (EntryWord p e 2)) (value_words memory p e)))) (ne_eqb (memory (EntryWord p e 1) % 2) 1 valued)
 
 -- its length is at most 8, since the words say no more than the entry

@@ -1,5 +1,5 @@
 -- A search by halving: what stands before an entry that comes too early comes too early.
-use Rattle.std.proofs.Common.{◌≡◌, ◌≢◌, ℕ, zero, suc, ◌+◌, ◌-◌, ◌/◌, ◌<◌, ◌≤◌, ◌==◌, ◌&&◌, Bool, true, false, cond, nat_lt, List, [], ◌∷◌, refl, sym, ap, ◌∙◌, subst, arith, inl, inr, Option, Some, None}
+use Rattle.std.proofs.Common.{◌≡◌, ℕ, zero, suc, ◌+◌, ◌-◌, ◌<◌, ◌≤◌, List, [], ◌∷◌, refl, sym, ap, ◌∙◌, subst, arith, inl, inr, Option, Some, None}
 use Rattle.std.proofs.lemmas.Bool.{cases_lt, eq-eqb}
 use Rattle.std.proofs.lemmas.Bool.Decides.{nat_tests}
 use Rattle.std.specs.List.{AllByRecursion}
@@ -8,12 +8,12 @@ use Rattle.clsm_levels.specs.Entry.{first_below}
 use Rattle.clsm_levels.specs.Run.{ComesBefore, IsRun}
 use Rattle.clsm_levels.proofs.Every.{every_weaker}
 use Rattle.clsm_levels.proofs.Searches.{first_below_here}
-use Rattle.clsm_core.specs.declared.word.Word.TheVariants.{Count, Entry as EntryWord}
+use Rattle.clsm_core.specs.declared.word.Word.TheVariants.{Entry as EntryWord}
 use Rattle.clsm_core.specs.Memory.{Memory}
-use Rattle.clsm_core.specs.Places.{entry_in, entries_from, entries_in}
-use Rattle.clsm_runs.specs.declared.side.Side.TheVariants.{Hit}
+use Rattle.clsm_core.specs.Places.{entry_in, entries_from}
 use Rattle.clsm_words.specs.declared.known.Known.{Known}
 use Rattle.clsm_words.specs.Knowing.{row_of}
+use Rattle.clsm_runs.specs.declared.side.Side.TheVariants.{Hit}
 use Rattle.clsm_runs.specs.Searching.{ComesEarlier, IsHitAt, IsPosition, IsSide, count_of, rest_from, run_at}
 use Rattle.clsm_runs.proofs.NamedRuns.{at_entry}
 
@@ -45,14 +45,13 @@ module _ (memory : Memory) (p n : ℕ) where
   run_more i lt run = subst IsRun (rest_more i lt) run
 
   -- of a run they are a run
-  pub run_rest : (i : ℕ) → IsRun (rest_from memory p n 0) → IsRun (rest_from memory p n i)
+  run_rest : (i : ℕ) → IsRun (rest_from memory p n 0) → IsRun (rest_from memory p n i)
   run_rest zero run = run
   run_rest (suc i) run = let next : i + 1 ≡ suc i = omega arith in elim (cases_lt i n) [
     | inl lt ↦ subst (λ (j : ℕ). IsRun (rest_from memory p n j)) next ((run_more i lt (run_rest i run)).1)
     | inr le ↦ subst IsRun (sym (rest_none (suc i) (omega arith))) tt
   ]
 
-  -- no entry up to one that comes too early is found
   skips_by : (key until i d : ℕ) → IsRun (rest_from memory p n i) → i + d < n → ComesEarlier key until (entry_in memory p (i + d)) → first_below (rest_from memory p n i) key until ≡ first_below (rest_from memory p n (i + d + 1)) key until
   skips_by key until i zero run lt earlier =
       let here : i + 0 ≡ i = omega arith in
@@ -68,10 +67,12 @@ module _ (memory : Memory) (p n : ℕ) where
       ∙ skips_by key until (i + 1) d more.1 (omega arith) (subst (λ (j : ℕ). ComesEarlier key until (entry_in memory p j)) (sym same) earlier)
       ∙ ap (λ (j : ℕ). first_below (rest_from memory p n (j + 1)) key until) same
 
-  pub skips : (key until low middle : ℕ) → IsRun (rest_from memory p n 0) → low ≤ middle → middle < n → ComesEarlier key until (entry_in memory p middle) → first_below (rest_from memory p n low) key until ≡ first_below (rest_from memory p n (middle + 1)) key until
-  skips key until low middle run le lt earlier =
+  -- no entry up to one that comes too early is found
+  pub skips : (key until low middle : ℕ) (all : List Entry) → first_below all key until ≡ first_below (rest_from memory p n low) key until → IsRun (rest_from memory p n 0) → low ≤ middle → middle < n → ComesEarlier key until (entry_in memory p middle) → first_below all key until ≡ first_below (rest_from memory p n (middle + 1)) key until
+  skips key until low middle all skipped run le lt earlier =
       let same : low + (middle - low) ≡ middle = omega arith in
-      skips_by key until low (middle - low) (run_rest low run) (omega arith) (subst (λ (j : ℕ). ComesEarlier key until (entry_in memory p j)) (sym same) earlier)
+      skipped
+      ∙ skips_by key until low (middle - low) (run_rest low run) (omega arith) (subst (λ (j : ℕ). ComesEarlier key until (entry_in memory p j)) (sym same) earlier)
       ∙ ap (λ (j : ℕ). first_below (rest_from memory p n (j + 1)) key until) same
 
   -- from an entry of a greater key on there is none of the key
@@ -82,22 +83,23 @@ module _ (memory : Memory) (p n : ℕ) where
       ∙ none_of_key key until (entry_in memory p middle ∷ rest_from memory p n (middle + 1)) (greater, every_weaker (ComesBefore (entry_in memory p middle)) (λ (e : Entry). key < e.key) (λ y before. later_key key (entry_in memory p middle) y greater before) (rest_from memory p n (middle + 1)) more.0)
 
   -- an entry of the key with a time below until is the first such from there on
-  pub hit_here : (key until i spelled : ℕ) → i < n → IsSide memory p i key until (Hit spelled) → first_below (rest_from memory p n i) key until ≡ Some (entry_in memory p i)
+  hit_here : (key until i spelled : ℕ) → i < n → IsSide memory p i key until (Hit spelled) → first_below (rest_from memory p n i) key until ≡ Some (entry_in memory p i)
   hit_here key until i spelled lt side =
       ap (λ (es : List Entry). first_below es key until) (rest_more i lt) ∙ first_below_here (entry_in memory p i) (rest_from memory p n (i + 1)) key until (eq-eqb (memory (EntryWord p i 0)) key side.0) side.2
-
-  pub nothing_behind : (key until : ℕ) → IsHitAt memory p n key until n None
-  nothing_behind key until = ap (λ (es : List Entry). first_below es key until) (rest_none n (omega arith))
 
 -- ---- where the halves meet
 
 -- what is at the entry where they meet is the first
-pub position_at : (k : Known) (place key until at : ℕ) (hit : Option (ℕ × ℕ)) → first_below (run_at k place) key until ≡ first_below (rest_from (row_of k) place (count_of k place) at) key until → IsHitAt (row_of k) place (count_of k place) key until at hit → IsPosition k place key until hit
-position_at k place key until at None skipped is = skipped ∙ is
-position_at k place key until at (Some hit) skipped is =
+position_by : (k : Known) (place key until at : ℕ) (hit : Option (ℕ × ℕ)) → first_below (run_at k place) key until ≡ first_below (rest_from (row_of k) place (count_of k place) at) key until → IsHitAt (row_of k) place (count_of k place) key until at hit → IsPosition k place key until hit
+position_by k place key until at None skipped is = skipped ∙ is
+position_by k place key until at (Some hit) skipped is =
     let side = subst (λ (j : ℕ). IsSide (row_of k) place j key until (Hit hit.1)) (sym is.0) is.2 in
     let inside : hit.0 < count_of k place = subst (λ (j : ℕ). j < count_of k place) (sym is.0) is.1 in
     (inside, side.0, side.1, skipped ∙ ap (λ (j : ℕ). first_below (rest_from (row_of k) place (count_of k place) j) key until) (sym is.0) ∙ hit_here (row_of k) place (count_of k place) key until hit.0 hit.1 inside side)
 
+pub position_at : (k : Known) (place key until low high : ℕ) (hit : Option (ℕ × ℕ)) → low ≡ high → first_below (run_at k place) key until ≡ first_below (rest_from (row_of k) place (count_of k place) low) key until → IsHitAt (row_of k) place (count_of k place) key until high hit → IsPosition k place key until hit
+position_at k place key until low high hit met skipped is = position_by k place key until high hit (subst (λ (j : ℕ). first_below (run_at k place) key until ≡ first_below (rest_from (row_of k) place (count_of k place) j) key until) met skipped) is
+
+-- the entries from the first on are all of the run
 pub run_of_all : (k : Known) (place : ℕ) → IsRun (run_at k place) → IsRun (rest_from (row_of k) place (count_of k place) 0)
 run_of_all k place run = let all : count_of k place ≡ count_of k place - 0 = omega arith in subst (λ (n : ℕ). IsRun (entries_from (row_of k) place 0 n)) all run

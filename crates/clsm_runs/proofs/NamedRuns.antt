@@ -1,35 +1,31 @@
 -- What the law says of the runs of a component, at each place that it names.
-use Rattle.std.proofs.Common.{◌≡◌, ℕ, zero, suc, ◌+◌, ◌*◌, ◌/◌, ◌%◌, ◌<◌, ◌≤◌, ◌==◌, inl, inr, Bool, true, cond, nat_lt, List, [], ◌∷◌, ◌++◌, map, length, refl, sym, ap, subst, arith, Some}
+use Rattle.std.proofs.Common.{◌≡◌, ℕ, zero, suc, ◌+◌, ◌*◌, ◌/◌, ◌%◌, ◌<◌, ◌≤◌, ◌==◌, inl, inr, Bool, true, cond, nat_lt, List, [], ◌∷◌, ◌++◌, map, refl, sym, subst, arith}
 use Rattle.std.specs.List.{AllByRecursion}
 use Rattle.std.proofs.lemmas.Bool.{lt-ltb, le-ltb, ltb-true, eqb-true, eq-eqb, cases_lt, cases_eq}
 use Rattle.clsm_model.specs.History.{plain}
 use Rattle.clsm_levels.specs.declared.entry.Entry.{Entry}
 use Rattle.clsm_levels.specs.declared.place.Place.{Place}
-use Rattle.clsm_levels.specs.declared.place.Place.TheVariants.{LevelZero, LevelOne}
+use Rattle.clsm_levels.specs.declared.place.Place.TheVariants.{LevelOne}
 use Rattle.clsm_levels.specs.Entry.{IsWriteOf}
-use Rattle.clsm_levels.specs.Place.{level_zero_places, places}
+use Rattle.clsm_levels.specs.Place.{level_zero_places}
 use Rattle.clsm_levels.specs.Run.{IsRun, all_of}
 use Rattle.clsm_levels.proofs.Every.{every_left, every_right}
-use Rattle.clsm_core.specs.declared.word.Word.TheVariants.{Count}
-use Rattle.clsm_core.specs.Memory.{Memory, room_of}
+use Rattle.clsm_core.specs.Memory.{Memory}
 use Rattle.clsm_core.specs.Places.{is_named, entry_in, entries_from, entries_in, held_at}
 use Rattle.clsm_core.specs.Worlds.{runs_of, are_canonical}
 use Rattle.clsm_core.specs.Law.{AreRuns}
 use Rattle.clsm_words.specs.declared.known.Known.{Known}
 use Rattle.clsm_words.specs.Knowing.{Sound, row_of}
-use Rattle.clsm_runs.specs.Searching.{IsSearchable, count_of, run_at}
+use Rattle.clsm_runs.specs.Searching.{IsSearchable, run_at}
 
 -- ---- the places that a component names
 
 -- a place of level 0 that it names is below the number of its runs there, and its place of level 1 is the one
-pub named_cases : (P : Type 0) (m p : ℕ) → is_named m p ≡ true → (p < 3 → p < m % 4 → P) → (p ≡ 3 + m / 4 % 2 → P) → P
+named_cases : (P : Type 0) (m p : ℕ) → is_named m p ≡ true → (p < 3 → p < m % 4 → P) → (p ≡ 3 + m / 4 % 2 → P) → P
 named_cases P m p named low high = elim (cases_lt p 3) [
   | inl lt ↦ low lt (ltb-true p (m % 4) (subst (λ (b : Bool). cond b (nat_lt p (m % 4)) (p == 3 + m / 4 % 2) ≡ true) (lt-ltb p 3 lt) named))
   | inr le ↦ high (eqb-true p (3 + m / 4 % 2) (subst (λ (b : Bool). cond b (nat_lt p (m % 4)) (p == 3 + m / 4 % 2) ≡ true) (le-ltb p 3 le) named))
 ]
-
-pub named_below : (m p : ℕ) → is_named m p ≡ true → p < 5
-named_below m p named = named_cases (p < 5) m p named (λ lt below. omega arith) (λ is. omega arith)
 
 pub names_zero : (m p : ℕ) → p < m % 4 → is_named m p ≡ true
 names_zero m p lt = rw (lt-ltb p 3 (omega arith)) (lt-ltb p (m % 4) lt)
@@ -62,12 +58,11 @@ each_run P (run ∷ runs) every = (every_left P run (all_of runs) every, each_ru
 
 -- ---- the run at a place
 
--- it is a run of writes of the seat's past, which are merged into the component; it fits its place, and its entries say no more
+-- it is a run of writes of the seat's past that are merged into the component, and no word says more than its entries
 pub record IsRunAt (k : Known) (component place : ℕ) : Type 0 where
   pub order : IsRun (run_at k place)
   pub older : AllByRecursion (λ (e : Entry). e.time < component * k.layout.cells) (run_at k place)
   pub writes : AllByRecursion (IsWriteOf (plain k.past)) (run_at k place)
-  pub fits : count_of k place ≤ room_of k.layout place
   pub canonical : are_canonical (row_of k) place ≡ true
 
 pub run_there : (k : Known) (component place : ℕ) → Sound k → IsSearchable k component place → IsRunAt k component place
@@ -77,7 +72,6 @@ run_there k component place sound run =
       order = at_named IsRun (row_of k) component place run.named runs.content.order;
       older = at_named (AllByRecursion (λ (e : Entry). e.time < component * k.layout.cells)) (row_of k) component place run.named (each_run (λ (e : Entry). e.time < component * k.layout.cells) (runs_of (row_of k) component) runs.content.older);
       writes = at_named (AllByRecursion (IsWriteOf (plain k.past))) (row_of k) component place run.named (each_run (IsWriteOf (plain k.past)) (runs_of (row_of k) component) runs.content.writes);
-      fits = runs.counts place run.named;
       canonical = runs.canonical place run.named;
     }
 

@@ -67,14 +67,8 @@ fn position<P: Pace>(
         let middle = low + (high - low) / 2;
         match compare(steps, seat, component, place, middle, key, until) {
             Side::Before => low = middle + 1,
-            Side::Hit(spelled) => {
-                high = middle;
-                hit = Some((middle, spelled));
-            }
-            Side::Behind => {
-                high = middle;
-                hit = None;
-            }
+            Side::Hit(spelled) => (high, hit) = (middle, Some((middle, spelled))),
+            Side::Behind => (high, hit) = (middle, None),
         }
     }
     hit

@@ -5,6 +5,8 @@ mod finding;
 mod reading;
 mod searching;
 mod side;
+#[cfg(test)]
+mod tests;
 
 pub use finding::find;
 pub use searching::search;

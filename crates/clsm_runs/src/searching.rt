@@ -36,12 +36,6 @@ pub fn search<P: Pace>(
             return Some(entry);
         }
     }
-    find(
-        steps,
-        seat,
-        component,
-        LEVEL_ONE + component / 4 % 2,
-        key,
-        until,
-    )
+    let place = LEVEL_ONE + component / 4 % 2;
+    find(steps, seat, component, place, key, until)
 }

@@ -1,3 +1,4 @@
 pub mod Rest
 pub mod Starts
 pub mod Found
+pub mod Unchanged

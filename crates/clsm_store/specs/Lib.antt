@@ -1,5 +1,6 @@
 pub mod Seats
 pub mod Resting
 pub mod Reading
+pub mod Changing
 pub mod Trying
 pub mod Opening

@@ -1,17 +1,18 @@
 //! The calls of one seat.
 ghost use Rattle.std.specs.Prelude.{◌≡◌, IfOk, IfErr};
-ghost use Rattle.clsm_model.specs.declared.record.Deed.TheVariants.{Get, Put, Remove};
+ghost use Rattle.clsm_model.specs.declared.record.Deed.TheVariants.{Get, Put, Remove, Rmw as ChangeOf};
 ghost use Rattle.clsm_store.specs.Seats.{Answers, IsFull};
 ghost use Rattle.clsm_store.specs.Trying.{RefusesTry};
 
-use crate::got::Got;
+use crate::changing::change;
+use crate::got::{Got, Rmw};
 use crate::reading::read;
 use crate::refusal::{Full, TryPutError};
 use crate::seat::Seat;
 use crate::store::Store;
 use crate::trying::try_write;
 use crate::writing::write;
-use clsm_model::{Time, Value};
+use clsm_model::{Change, Time, Value};
 use clsm_words::Pace;
 use std::sync::Wait;
 
@@ -63,5 +64,34 @@ impl<P: Pace + Drop> Store<P> {
         let got = read(&self.steps(), &mut seat.raw, seat.pin, self.patience, key);
         seat.pin = seat.pin.wrapping_add(2);
         got
+    }
+
+    /// Reads the key, and makes of its value what the function answers to it: with `Keep` the call is a read alone, with a time of its own as
+    /// `get`; else it is a write, and `old` is the value of the key below the write's time, as no other write of the key came between (the
+    /// cLSM paper's optimistic read-modify-write). The function may be asked several times. It waits and is refused as `put`.
+    pub fn rmw<R: Wait, F: Fn(Option<Value>) -> Change>(
+        &self,
+        rt: &R,
+        seat: &mut Seat,
+        key: u64,
+        f: &F,
+    ) -> Result<Rmw, Full>
+        requires of { seat.old.store ≡ self.now }
+        requires callable { F.IsAlwaysCallable f.now }
+        ensures changed { IfOk result (λ rmw. Answers seat.old seat.new rmw.time (ChangeOf key rmw.old rmw.change)) }
+        ensures answered { IfOk result (λ rmw. F.post f.now rmw.old rmw.change) }
+        ensures full { IfErr result (λ full. IsFull seat.old seat.new full.time) }
+    {
+        let answer = change(
+            rt,
+            &self.steps(),
+            &mut seat.raw,
+            seat.pin,
+            self.patience,
+            key,
+            f,
+        );
+        seat.pin = seat.pin.wrapping_add(2);
+        answer
     }
 }

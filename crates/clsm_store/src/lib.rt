@@ -2,6 +2,7 @@
 #![tactic(auto)]
 
 mod calls;
+mod changing;
 mod got;
 mod opening;
 mod reading;
@@ -13,7 +14,7 @@ mod writing;
 
 pub use clsm_model::{Config, OpenError};
 pub use clsm_words::Pace;
-pub use got::Got;
+pub use got::{Got, Rmw};
 pub use opening::{Clean, Opened, open, open_paced};
 pub use refusal::{Full, TryPutError};
 pub use seat::Seat;

@@ -18,7 +18,7 @@ use clsm_runs::search;
 use clsm_words::{Pace, RawSeat, Steps};
 
 /// The value of the key below the time: by the chains of the component's epochs, and else by its runs.
-fn value_below<P: Pace>(
+pub(crate) fn value_below<P: Pace>(
     steps: &Steps<P>,
     seat: &mut RawSeat,
     component: u64,

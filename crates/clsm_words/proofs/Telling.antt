@@ -20,7 +20,7 @@ use Rattle.clsm_core.specs.Layout.{memory}
 use Rattle.clsm_core.specs.Worlds.{view_at, settled}
 use Rattle.clsm_core.specs.Law.{Shows, first_shown, first_live, holders, IsRetiredFor, each, pin_of}
 use Rattle.clsm_core.proofs.Frames.{put_same}
-use Rattle.clsm_core.proofs.Setting.{Ground, ground, x, M, held_shown, clock_live, live_below_shown, shown_below_merged}
+use Rattle.clsm_core.proofs.Setting.{Ground, ground, x, M, held_shown, clock_live, live_below_shown, past_below, shown_below_merged}
 use Rattle.clsm_words.specs.declared.known.Known.{Known}
 use Rattle.clsm_words.specs.Knowing.{row_of, Opens, code_of, IsPartOf, IsWithin, Tells}
 use Rattle.clsm_words.specs.Ruled.{Begins, Ruled}
@@ -135,12 +135,14 @@ module _ (s : State ℕ Known) (id : ℕ) (k : Known) (r : Ruled k.layout s) (at
       let is = r.lawful.law.clock in
       let due : k.view.due ≤ length r.slots = subst (λ (u : View). u.due ≤ length r.slots) ok.view (r.lawful.law.dues k.number) in
       let begins = begins_bound r.slots k.told told.begins in
-      let heard = told.below in (
+      let heard = told.below in
+      let past = subst (λ (u : View). u.past ≤ length r.slots) ok.view (past_below (ground (before s id k r at sits (Look Clock) o)) k.number) in (
         omega arith,
         omega arith,
         omega arith,
         clock_found k.view.held k.layout (found s id k r at sits (Look Clock) o) (length r.slots) (clock ∙ is) (clock_within (Look Clock) o),
         λ limit shared held. let same = r.lawful.law.limits k.number limit (ap (λ (u : View). u.mode) ok.view ∙ shared) (ap (λ (u : View). u.hold_limit) ok.view ∙ held) in let bounded = r.lawful.law.bounded in omega arith,
+        omega arith,
       )
   tells_of (Look (StateOf cell)) o = λ t known.
       (finds s id k r at sits (Look (StateOf cell)) o).2 ∙ shown_state (memory k.layout s.words) cell (get_or (take k.view.past (settled r.slots)) t Nothing)

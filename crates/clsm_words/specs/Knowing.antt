@@ -134,7 +134,7 @@ IsInLimit k x = (limit : ℕ) → k.view.mode ≡ Shared → k.view.hold_limit �
 -- what a step that found x tells the seat
 abbrev pub Tells : Step → Known → ℕ → Type 0
 Tells (Look Lock) k x = x ≤ 2 ^ 32
-Tells (Look Clock) k x = (k.view.due ≤ x) × (length k.told ≤ x) × (k.heard ≤ x) × IsWithin k.layout k.view.held x × IsInLimit k x
+Tells (Look Clock) k x = (k.view.due ≤ x) × (length k.told ≤ x) × (k.heard ≤ x) × IsWithin k.layout k.view.held x × IsInLimit k x × (k.view.past ≤ x)
 Tells (Look (State cell)) k x = (t : ℕ) → IsKnownIn k cell t → x ≡ code_of (slice_index_or k.past t Nothing)
 Tells (Look (Cell cell part)) k x = (t : ℕ) → IsKnownIn k cell t → IsPartOf (slice_index_or k.past t Nothing) part x
 Tells (Look (Count place)) k x = x ≡ row_of k (Count place)

@@ -1,10 +1,8 @@
-use Rattle.std.proofs.Common.{◌≡◌, ℕ, ◌+◌, ◌-◌, ◌/◌, sym, ap, ◌∙◌, arith, subst}
-use Rattle.clsm_levels.specs.Entry.{first_below}
-use Rattle.clsm_levels.specs.Run.{IsRun}
+use Rattle.std.proofs.Common.{◌+◌, ◌-◌, ◌/◌, arith}
 use Rattle.clsm_words.specs.Knowing.{row_of}
 use Rattle.clsm_words.proofs.Keeps.{aside_trans}
 use Rattle.clsm_runs.specs.declared.side.Side.TheVariants.{Before, Behind}
-use Rattle.clsm_runs.specs.Searching.{IsHitAt, IsSide, count_of, rest_from}
+use Rattle.clsm_runs.specs.Searching.{count_of, run_at}
 use Rattle.clsm_runs.proofs.NamedRuns.{run_there}
 use Rattle.clsm_runs.proofs.Looking.{side_stays}
 use Rattle.clsm_runs.proofs.Halving.{skips, behind, position_at, run_of_all}
@@ -23,7 +21,7 @@ loop-low-preserved-in-Before g c =
       looks = aside_trans k now c.compare.new.seat.knows c.loop-low.invariant.looks c.compare.ensures.looks;
       order = omega arith;
       within = c.loop-low.invariant.within;
-      skipped = c.loop-low.invariant.skipped ∙ skips (row_of k) place (count_of k place) c.args.key c.args.until c.loop-low.low middle run (omega arith) (omega arith) side;
+      skipped = skips (row_of k) place (count_of k place) c.args.key c.args.until c.loop-low.low middle (run_at k place) c.loop-low.invariant.skipped run (omega arith) (omega arith) side;
       at_high = c.loop-low.invariant.at_high;
     }
 
@@ -46,8 +44,4 @@ loop-low-preserved g c =
 
 pub returns-clause-found : goal.returns-clause-found
 returns-clause-found g c =
-    let k = c.args.seat.now.knows in
-    let met : c.loop-low.low ≡ c.loop-low.high = omega arith in
-    position_at k c.args.place c.args.key c.args.until c.loop-low.high c.loop-low.hit
-    (c.loop-low.invariant.skipped ∙ ap (λ (j : ℕ). first_below (rest_from (row_of k) c.args.place (count_of k c.args.place) j) c.args.key c.args.until) met)
-    c.loop-low.invariant.at_high
+    position_at c.args.seat.now.knows c.args.place c.args.key c.args.until c.loop-low.low c.loop-low.high c.loop-low.hit (omega arith) c.loop-low.invariant.skipped c.loop-low.invariant.at_high

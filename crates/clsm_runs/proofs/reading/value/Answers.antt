@@ -1,4 +1,4 @@
-use Rattle.std.proofs.Common.{◌≡◌, ◌≤◌, ◌+◌, sym, ap, ◌∙◌, arith, length, take, length-set}
+use Rattle.std.proofs.Common.{◌+◌, ◌∙◌, arith, length-set}
 use Rattle.clsm_words.specs.Knowing.{row_of}
 use Rattle.clsm_words.proofs.Keeps.{aside_trans}
 use Rattle.clsm_runs.proofs.Looking.{place_stays}

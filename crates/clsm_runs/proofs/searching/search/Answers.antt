@@ -1,12 +1,10 @@
-use Rattle.std.proofs.Common.{◌≡◌, ◌+◌, ◌-◌, ◌/◌, ◌%◌, List, Some, None, sym, ap, ◌∙◌, arith}
-use Rattle.clsm_levels.specs.declared.entry.Entry.{Entry}
-use Rattle.clsm_levels.specs.Entry.{first_below}
-use Rattle.clsm_levels.specs.Run.{first_in_runs}
+use Rattle.std.proofs.Common.{◌+◌, ◌-◌, ◌/◌, ◌%◌, Some, None, arith}
+use Rattle.clsm_core.specs.Worlds.{runs_of}
 use Rattle.clsm_words.specs.Knowing.{row_of}
 use Rattle.clsm_words.proofs.Keeps.{aside_trans}
-use Rattle.clsm_runs.specs.Searching.{IsSearchable, run_at, runs_below}
+use Rattle.clsm_runs.specs.Searching.{IsSearchable}
 use Rattle.clsm_runs.proofs.NamedRuns.{names_zero, names_one}
-use Rattle.clsm_runs.proofs.Looking.{run_stays}
+use Rattle.clsm_runs.proofs.Looking.{found_stays}
 use Rattle.clsm_runs.proofs.RunAfterRun.{found_here, found_behind, found_last}
 use Rattle.clsm_runs.proofs.searching.search.Goals as goal
 
@@ -15,20 +13,20 @@ returns-in-Some-clause-found g c =
     let k = c.args.seat.now.knows in
     let place = c.loop-place.place - 1 in
     let run : IsSearchable k c.args.component place = record { held = c.requires.held; known = c.requires.known; named = names_zero c.args.component place (let left = c.loop-place.invariant.left in omega arith) } in
-    let same = run_stays k c.loop-place.seat.knows c.args.component place c.loop-place.invariant.looks.looks run in
-    sym (c.loop-place.invariant.searched ∙ found_here (row_of k) c.args.component c.args.key c.args.until c.loop-place.place c.in-Some.entry (omega arith) (c.in-Some.ensures.found ∙ ap (λ (es : List Entry). first_below es c.args.key c.args.until) same))
+    let found = found_stays k c.loop-place.seat.knows c.args.component place c.args.key c.args.until (Some c.in-Some.entry) c.loop-place.invariant.looks.looks run c.in-Some.ensures.found in
+    found_here (row_of k) c.args.component c.args.key c.args.until c.loop-place.place (runs_of (row_of k) c.args.component) c.loop-place.invariant.searched c.in-Some.entry (omega arith) found
 
 pub loop-place-preserved : goal.loop-place-preserved
 loop-place-preserved g c =
     let k = c.args.seat.now.knows in
     let place = c.loop-place.place - 1 in
     let run : IsSearchable k c.args.component place = record { held = c.requires.held; known = c.requires.known; named = names_zero c.args.component place (let left = c.loop-place.invariant.left in omega arith) } in
-    let same = run_stays k c.loop-place.seat.knows c.args.component place c.loop-place.invariant.looks.looks run in
+    let found = found_stays k c.loop-place.seat.knows c.args.component place c.args.key c.args.until None c.loop-place.invariant.looks.looks run c.in_default.ensures.found in
     record {
       of = c.find.ensures.of;
       looks = aside_trans k c.loop-place.seat.knows c.find.new.seat.knows c.loop-place.invariant.looks c.find.ensures.looks;
       left = let left = c.loop-place.invariant.left in omega arith;
-      searched = c.loop-place.invariant.searched ∙ found_behind (row_of k) c.args.component c.args.key c.args.until c.loop-place.place (omega arith) (c.in_default.ensures.found ∙ ap (λ (es : List Entry). first_below es c.args.key c.args.until) same);
+      searched = found_behind (row_of k) c.args.component c.args.key c.args.until c.loop-place.place (runs_of (row_of k) c.args.component) c.loop-place.invariant.searched (omega arith) found;
     }
 
 pub returns-clause-found : goal.returns-clause-found
@@ -36,6 +34,5 @@ returns-clause-found g c =
     let k = c.args.seat.now.knows in
     let place = 3 + c.args.component / 4 % 2 in
     let run : IsSearchable k c.args.component place = record { held = c.requires.held; known = c.requires.known; named = names_one c.args.component } in
-    let same = run_stays k c.loop-place.seat.knows c.args.component place c.loop-place.invariant.looks.looks run in
-    let none_left : c.loop-place.place ≡ 0 = omega arith in
-    c.find-2.ensures.found ∙ ap (λ (es : List Entry). first_below es c.args.key c.args.until) same ∙ sym (c.loop-place.invariant.searched ∙ ap (λ j. first_in_runs (runs_below (row_of k) c.args.component j) c.args.key c.args.until) none_left ∙ found_last (row_of k) c.args.component c.args.key c.args.until)
+    let found = found_stays k c.loop-place.seat.knows c.args.component place c.args.key c.args.until c.find-2.result c.loop-place.invariant.looks.looks run c.find-2.ensures.found in
+    found_last (row_of k) c.args.component c.args.key c.args.until c.loop-place.place (runs_of (row_of k) c.args.component) c.loop-place.invariant.searched c.find-2.result (omega arith) found
