@@ -3,7 +3,7 @@ use Rattle.std.specs.Prelude.{◌≡◌, ℕ, List, [], ◌∷◌, codes}
 use Rattle.std.specs.Str.Parse.{digits_value}
 use Rattle.clsm_driver.specs.Number.{IsNumber, IsValue, value_of}
 use Rattle.clsm_driver.specs.declared.command.Command.{Command}
-use Rattle.clsm_driver.specs.declared.command.Command.TheVariants.{Put, Remove, Try, Get}
+use Rattle.clsm_driver.specs.declared.command.Command.TheVariants.{Put, Remove, Try, Add, Claim, Get}
 
 -- the text writes this number
 abbrev pub WritesNumber : List ℕ → ℕ → Type 0
@@ -18,6 +18,8 @@ abbrev pub Says : Command → List (List ℕ) → Type 0
 Says (Put key value) (name ∷ k ∷ v ∷ []) = (name ≡ codes "put") × WritesNumber k key × WritesValue v value
 Says (Remove key) (name ∷ k ∷ []) = (name ≡ codes "remove") × WritesNumber k key
 Says (Try key value) (name ∷ k ∷ v ∷ []) = (name ≡ codes "try") × WritesNumber k key × WritesValue v value
+Says (Add key by) (name ∷ k ∷ d ∷ []) = (name ≡ codes "add") × WritesNumber k key × WritesNumber d by
+Says (Claim key value) (name ∷ k ∷ v ∷ []) = (name ≡ codes "claim") × WritesNumber k key × WritesValue v value
 Says (Get key) (name ∷ k ∷ []) = (name ≡ codes "get") × WritesNumber k key
 Says _ _ = ⊥
 

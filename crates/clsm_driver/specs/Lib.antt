@@ -1,3 +1,4 @@
+pub mod Changes
 pub mod Command
 pub mod Failure
 pub mod Input

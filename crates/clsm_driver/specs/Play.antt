@@ -1,12 +1,13 @@
 -- What the commands of a script make of a seat, and what they answer.
-use Rattle.std.specs.Prelude.{ℕ, Some, None, Ok, Err}
+use Rattle.std.specs.Prelude.{◌≡◌, Ok, Err}
 use Rattle.clsm_model.specs.declared.record.Deed.TheVariants as deeds
 use Rattle.clsm_store.specs.Seats.{SeatState, Answers, IsFull}
 use Rattle.clsm_store.specs.Trying.{RefusesTry}
+use Rattle.clsm_driver.specs.Changes.{added, claimed}
 use Rattle.clsm_driver.specs.declared.answer.Answer.{Answer}
-use Rattle.clsm_driver.specs.declared.answer.Answer.TheVariants.{Write, Try as Tried, Read}
+use Rattle.clsm_driver.specs.declared.answer.Answer.TheVariants.{Write, Try as Tried, Change as Changed, Read}
 use Rattle.clsm_driver.specs.declared.command.Command.{Command}
-use Rattle.clsm_driver.specs.declared.command.Command.TheVariants.{Put, Remove, Try, Get}
+use Rattle.clsm_driver.specs.declared.command.Command.TheVariants.{Put, Remove, Try, Add, Claim, Get}
 
 -- the command takes the seat from its old state to the new one, and is answered so
 abbrev pub Plays : Command → SeatState → SeatState → Answer → Type 0
@@ -16,5 +17,9 @@ Plays (Remove key) old new (Write (Ok t)) = Answers old new t (deeds.Remove key)
 Plays (Remove key) old new (Write (Err full)) = IsFull old new full.time
 Plays (Try key v) old new (Tried (Ok t)) = Answers old new t (deeds.Put key v)
 Plays (Try key v) old new (Tried (Err refusal)) = RefusesTry old new refusal
+Plays (Add key by) old new (Changed (Ok rmw)) = Answers old new rmw.time (deeds.Rmw key rmw.old rmw.change) × (rmw.change ≡ added rmw.old by)
+Plays (Add key by) old new (Changed (Err full)) = IsFull old new full.time
+Plays (Claim key v) old new (Changed (Ok rmw)) = Answers old new rmw.time (deeds.Rmw key rmw.old rmw.change) × (rmw.change ≡ claimed rmw.old v)
+Plays (Claim key v) old new (Changed (Err full)) = IsFull old new full.time
 Plays (Get key) old new (Read got) = Answers old new got.time (deeds.Get key got.value)
 Plays _ _ _ _ = ⊥

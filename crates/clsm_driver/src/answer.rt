@@ -1,5 +1,5 @@
-use clsm_model::Time;
-use clsm_store::{Full, Got, TryPutError};
+use clsm_model::{Change, Time, Value};
+use clsm_store::{Full, Got, Rmw, TryPutError};
 use std::fmt;
 
 /// What a command answers. It is shown as the program writes it.
@@ -9,6 +9,8 @@ pub enum Answer {
     Write(Result<Time, Full>),
     /// `@T`, or why nothing was written: `full @T`, `busy`, `raced` or `overtaken`.
     Try(Result<Time, TryPutError>),
+    /// `old V new W @T`, with `none` for a key that had no value; `kept V @T`; or `full @T`.
+    Change(Result<Rmw, Full>),
     /// `V @T`, or `none @T` where the key has no value.
     Read(Got),
 }
@@ -19,13 +21,32 @@ impl fmt::Display for Answer {
             Answer::Write(Ok(time)) | Answer::Try(Ok(time)) => write!(f, "@{time}"),
             Answer::Write(Err(refusal)) => write!(f, "{refusal}"),
             Answer::Try(Err(refusal)) => write!(f, "{refusal}"),
-            Answer::Read(got) => {
-                let time = got.time;
-                match got.value {
-                    Some(value) => write!(f, "{value} @{time}"),
-                    None => write!(f, "none @{time}"),
-                }
-            }
+            Answer::Change(Ok(rmw)) => write_change(f, rmw),
+            Answer::Change(Err(refusal)) => write!(f, "{refusal}"),
+            Answer::Read(got) => write!(f, "{} @{}", Shown(&got.value), got.time),
         }
+    }
+}
+
+/// A value as the program writes it: `none` where there is none.
+#[derive(Drop)]
+struct Shown<'a>(&'a Option<Value>);
+
+impl fmt::Display for Shown<'_> {
+    fn fmt<W: fmt::Write>(&self, f: &mut fmt::Formatter<W>) -> fmt::Result {
+        match self.0 {
+            Some(value) => write!(f, "{value}"),
+            None => write!(f, "none"),
+        }
+    }
+}
+
+fn write_change<W: fmt::Write>(f: &mut fmt::Formatter<W>, rmw: &Rmw) -> fmt::Result {
+    let old = Shown(&rmw.old);
+    let time = rmw.time;
+    match &rmw.change {
+        Change::Keep => write!(f, "kept {old} @{time}"),
+        Change::Set(value) => write!(f, "old {old} new {value} @{time}"),
+        Change::Remove => write!(f, "old {old} new none @{time}"),
     }
 }

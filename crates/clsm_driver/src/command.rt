@@ -1,6 +1,7 @@
 ghost use Rattle.std.specs.Prelude.{◌≡◌, ◌∷◌, [], IfSome, IfNone};
 
 use crate::answer::Answer;
+use crate::changes::{add, claim};
 use crate::number::{parse_number, parse_value};
 use clsm_model::Value;
 use clsm_store::{Pace, Seat, Store};
@@ -15,6 +16,10 @@ pub enum Command {
     Remove { key: u64 },
     /// `try K V`: writes the value at the key, if no other seat is in the way.
     Try { key: u64, value: Value },
+    /// `add K D`: adds to the key's word, which is 0 where it has no value; keeps it where the sum passes 64 bits, or it has several words.
+    Add { key: u64, by: u64 },
+    /// `claim K V`: writes the value at the key where it has none, and else keeps it.
+    Claim { key: u64, value: Value },
     /// `get K`: reads the value at the key.
     Get { key: u64 },
 }
@@ -49,16 +54,21 @@ impl Command {
         }
     }
 
-    /// The command with this name, a key and a value.
+    /// The command with this name, a key, and a number or a value.
     fn of_value(name: &str, key: &str, value: &str) -> Option<Command>
         ensures read { IfSome result (λ command. Says command (name.now ∷ key.now ∷ value.now ∷ [])) }
         ensures refused { IfNone result (SaysNone (name.now ∷ key.now ∷ value.now ∷ [])) }
     {
         let key = parse_number(key)?;
+        if name == "add" {
+            let by = parse_number(value)?;
+            return Some(Command::Add { key, by });
+        }
         let value = parse_value(value)?;
         match name {
             "put" => Some(Command::Put { key, value }),
             "try" => Some(Command::Try { key, value }),
+            "claim" => Some(Command::Claim { key, value }),
             _ => None,
         }
     }
@@ -73,6 +83,8 @@ impl Command {
             Command::Put { key, value } => Answer::Write(store.put(rt, seat, key, value)),
             Command::Remove { key } => Answer::Write(store.remove(rt, seat, key)),
             Command::Try { key, value } => Answer::Try(store.try_put(seat, key, value)),
+            Command::Add { key, by } => Answer::Change(add(rt, store, seat, key, by)),
+            Command::Claim { key, value } => Answer::Change(claim(rt, store, seat, key, value)),
             Command::Get { key } => Answer::Read(store.get(seat, key)),
         }
     }

@@ -2,6 +2,7 @@
 #![tactic(auto)]
 
 mod answer;
+mod changes;
 mod command;
 mod failure;
 mod input;

@@ -138,6 +138,29 @@ fn plays_scripts(rt: HostRuntime) -> Result<(), Fail> {
             "put 1 1\nput 2 2\nput 3 3\nput 4 4\nput 5 5\nget 5\n",
             "@0\n@1\n@2\n@3\nfull @4\nnone @4\n",
         ),
+        (
+            "put 1 1\nput 2 2\nput 3 3\nput 4 4\nremove 1\ntry 5 5\nadd 1 1\nclaim 9 9\nget 1\n",
+            "@0\n@1\n@2\n@3\nfull @4\nfull @4\nfull @4\nfull @4\n1 @4\n",
+        ),
+        ("remove 7\nget 7\n", "@0\nnone @1\n"),
+        ("put 7 1\nremove 7\nget 7\n", "@0\n@1\nnone @2\n"),
+        ("try 7 70\nget 7\n", "@0\n70 @1\n"),
+        (
+            "add 9 5\nadd 9 5\nclaim 9 1\nput 9 3\n",
+            "old none new 5 @0\nold 5 new 10 @1\nkept 10 @2\n@2\n",
+        ),
+        (
+            "put 1 18446744073709551615\nadd 1 1\nadd 1 0\n",
+            "@0\nkept 18446744073709551615 @1\nold 18446744073709551615 new 18446744073709551615 @1\n",
+        ),
+        (
+            "put 1 1,2\nadd 1 1\nclaim 1 5\nclaim 2 7,8\nget 2\n",
+            "@0\nkept 1,2 @1\nkept 1,2 @1\nold none new 7,8 @1\n7,8 @2\n",
+        ),
+        (
+            "claim 3 1\nremove 3\nclaim 3 2\nadd 3 4\n",
+            "old none new 1 @0\n@1\nold none new 2 @2\nold 2 new 6 @3\n",
+        ),
     ] {
         play(&rt, rt.alloc(), DEFAULT_SIZES, text.as_bytes())?.expect(&rt, output, "", 0);
     }
@@ -166,6 +189,13 @@ fn stops_at_a_bad_line(rt: HostRuntime) -> Result<(), Fail> {
         b"get",
         b"get 7 7",
         b"get 7 # note",
+        b"remove",
+        b"remove 7 8",
+        b"try 7",
+        b"add 7",
+        b"add 7 1,2",
+        b"add 7 1 2",
+        b"claim 7",
         b"put\t7 70",
         b"get\t7",
         b"get 7\t",
