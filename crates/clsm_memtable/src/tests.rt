@@ -7,9 +7,10 @@ ghost use Rattle.clsm_words.specs.Plays.{IsSeatOf, AreFreshFrom};
 use super::*;
 use clsm_core::{Layout, Word};
 use clsm_lock::try_shared;
-use clsm_model::{Config, Time};
+use clsm_model::{Config, Deed, Time, Value};
 use clsm_words::{Pace, RawSeat, Steps, Words};
 use std::process::Abort;
+use std::sync::Wait;
 use std::test::*;
 
 const SIZES: Config = Config {
@@ -87,5 +88,66 @@ fn a_full_epoch_has_no_time_left(rt: HostRuntime) -> Result<(), Fail> {
     assert_eq!(rt; skip(&rt, &steps, &mut a), 2);
     assert_eq!(rt; skip(&rt, &steps, &mut a), 3);
     assert_eq!(rt; draw(&steps, &mut a), Err(DrawError::Full(4)));
+    Ok(())
+}
+
+/// Writes the value at the key, and answers the time, in a hold of the lock.
+fn write<R: Abort + Wait, P: Pace>(
+    rt: &R,
+    steps: &Steps<P>,
+    seat: &mut RawSeat,
+    key: u64,
+    value: Option<Value>,
+) -> Time
+    requires of { IsSeatOf steps.now.words.now seat.old × (seat.old.knows.view.mode ≡ Shared) × (seat.old.knows.view.drawn ≡ None) }
+    requires unnoted { seat.old.knows.view.snapshot ≡ Absent }
+    ensures of { IsSeatOf steps.now.words.now seat.new × (seat.new.knows.view.mode ≡ Shared) × (seat.new.knows.view.drawn ≡ None) }
+    ensures unnoted { seat.new.knows.view.snapshot ≡ Absent }
+{
+    let time = draw(steps, seat).expect(rt, "a time is left");
+    fill(steps, seat, time, key, value.as_ref());
+    link(rt, steps, seat, time, key);
+    let deed = match value {
+        Some(value) => Deed::Put { key, value },
+        None => Deed::Remove { key },
+    };
+    publish(steps, seat, time, &deed);
+    time
+}
+
+/// Settles all times below the clock and answers the newest write of the key.
+fn find<P: Pace>(steps: &Steps<P>, seat: &mut RawSeat, pin: u64, key: u64) -> Option<Found>
+    requires of { IsSeatOf steps.now.words.now seat.old }
+    requires read { (seat.old.knows.view.pinned ≡ false) × (seat.old.knows.view.pin ≡ pin) × (seat.old.knows.view.drawn ≡ None) }
+    requires unnoted { seat.old.knows.view.snapshot ≡ Absent }
+    ensures { IsSeatOf steps.now.words.now seat.new }
+{
+    steps.pin(seat, pin);
+    let component = steps.look(seat, Word::Merged);
+    let time = steps.look(seat, Word::Clock);
+    settle_below(steps, seat, component, time, 0);
+    newest(steps, seat, component, key, time)
+}
+
+#[test]
+fn the_newest_write_of_a_key_is_found(rt: HostRuntime) -> Result<(), Fail> {
+    let layout = Layout::new(SIZES).expect(&rt, "sizes in their ranges");
+    let (words, mut seats, _) = Words::new(rt.alloc(), &layout).expect(&rt, "memory");
+    let mut b = take_seat(&rt, &words, &mut seats);
+    let mut a = take_seat(&rt, &words, &mut seats);
+    let steps = Steps {
+        words: &words,
+        pace: &clsm_words::pace::Free,
+    };
+    let value = Value::new(&[1, 2, 3]).expect(&rt, "three words");
+    try_shared(&steps, &mut a).expect(&rt, "nobody else enters");
+    assert_eq!(rt; write(&rt, &steps, &mut a, 7, None), 0);
+    assert_eq!(rt; write(&rt, &steps, &mut a, 7, Some(value)), 1);
+    assert_eq!(rt; write(&rt, &steps, &mut a, 8, None), 2);
+    let found = Found {
+        time: 1,
+        value: Some(value),
+    };
+    assert_eq!(rt; find(&steps, &mut b, 0, 7), Some(found));
     Ok(())
 }
