@@ -6,6 +6,15 @@ use Rattle.clsm_core.specs.declared.view.Mode.TheVariants.{Free}
 use Rattle.clsm_core.specs.Relation.{call_of, next_word}
 use Rattle.clsm_words.specs.declared.known.Known.{Known}
 
+-- it took no lock, and lost no try
+pub record TakesNoLock (old new : Known) : Type 0 where
+  pub entries : new.view.entries ≡ old.view.entries
+  pub busy : new.view.busy ≡ old.view.busy
+  pub raced : new.view.raced ≡ old.view.raced
+  pub overtaken : new.view.overtaken ≡ old.view.overtaken
+  pub limit : new.view.hold_limit ≡ old.view.hold_limit
+  pub hold_clock : new.view.hold_clock ≡ old.view.hold_clock
+
 -- it pinned the component, and looked at the clock, which gave it the time
 pub record Begins (old new : Known) (component t : ℕ) : Type 0 where
   pub number : new.number ≡ old.number
@@ -25,6 +34,7 @@ pub record Begins (old new : Known) (component t : ℕ) : Type 0 where
   pub above : old.view.due ≤ t
   pub from : component * new.layout.cells ≤ t
   pub within : t ≤ (component + 2) * new.layout.cells
+  pub unlocked : TakesNoLock old new
 
 -- it read at the time, and the read is recorded
 pub record ReadsAt (old new : Known) (t : ℕ) (deed : Deed) : Type 0 where
@@ -35,3 +45,4 @@ pub record ReadsAt (old new : Known) (t : ℕ) (deed : Deed) : Type 0 where
   pub calls : new.view.calls ≡ old.view.calls ++ call_of old.number t deed ∷ []
   pub due : new.view.due ≡ t
   pub above : old.view.due ≤ t
+  pub unlocked : TakesNoLock old new

@@ -82,6 +82,19 @@ pub record Answers (old new : SeatState) (t : ℕ) (deed : Deed) : Type 0 where
   pub due : new.due ≡ due_after old.due old.snapshot t deed
   pub snapshot : new.snapshot ≡ open_after old.snapshot t deed
 
+-- the call took no lock, and lost no try
+pub record TakesNoLock (old new : SeatState) : Type 0 where
+  pub entries : new.tally.entries ≡ old.tally.entries
+  pub busy : new.tally.busy ≡ old.tally.busy
+  pub raced : new.tally.raced ≡ old.tally.raced
+  pub overtaken : new.tally.overtaken ≡ old.tally.overtaken
+  pub limit : new.tally.limit ≡ old.tally.limit
+  pub clock : new.tally.clock ≡ old.tally.clock
+
+-- the call took the lock once
+abbrev pub TakesLockOnce : SeatState → SeatState → Type 0
+TakesLockOnce old new = new.tally.entries ≡ next_word old.tally.entries
+
 -- the call was refused: no record, and due and snapshot as before
 pub record Refuses (old new : SeatState) : Type 0 where
   pub same : IsSameSeat old new

@@ -1,7 +1,7 @@
 //! The calls of one seat.
 ghost use Rattle.std.specs.Prelude.{◌≡◌, IfOk, IfErr};
 ghost use Rattle.clsm_model.specs.declared.record.Deed.TheVariants.{Get, Put, Remove, Rmw as ChangeOf};
-ghost use Rattle.clsm_store.specs.Seats.{Answers, IsFull};
+ghost use Rattle.clsm_store.specs.Seats.{Answers, IsFull, TakesLockOnce, TakesNoLock};
 ghost use Rattle.clsm_store.specs.Trying.{RefusesTry};
 
 use crate::changing::change;
@@ -29,6 +29,7 @@ impl<P: Pace + Drop> Store<P> {
     ) -> Result<Time, Full>
         requires { seat.old.store ≡ self.now }
         ensures written { IfOk result (λ time. Answers seat.old seat.new time (Put key value)) }
+        ensures lock { TakesLockOnce seat.old seat.new }
         ensures full { IfErr result (λ full. IsFull seat.old seat.new full.time) }
     {
         write(rt, &self.steps(), &mut seat.raw, key, &Some(value))
@@ -38,6 +39,7 @@ impl<P: Pace + Drop> Store<P> {
     pub fn remove<R: Wait>(&self, rt: &R, seat: &mut Seat, key: u64) -> Result<Time, Full>
         requires { seat.old.store ≡ self.now }
         ensures written { IfOk result (λ time. Answers seat.old seat.new time (Remove key)) }
+        ensures lock { TakesLockOnce seat.old seat.new }
         ensures full { IfErr result (λ full. IsFull seat.old seat.new full.time) }
     {
         write(rt, &self.steps(), &mut seat.raw, key, &None)
@@ -59,7 +61,8 @@ impl<P: Pace + Drop> Store<P> {
     /// and its writer writes again. It is never refused.
     pub fn get(&self, seat: &mut Seat, key: u64) -> Got
         requires { seat.old.store ≡ self.now }
-        ensures { Answers seat.old seat.new result.time (Get key result.value) }
+        ensures answers { Answers seat.old seat.new result.time (Get key result.value) }
+        ensures lock { TakesNoLock seat.old seat.new }
     {
         let got = read(&self.steps(), &mut seat.raw, seat.pin, self.patience, key);
         seat.pin = seat.pin.wrapping_add(2);
@@ -79,6 +82,7 @@ impl<P: Pace + Drop> Store<P> {
         requires of { seat.old.store ≡ self.now }
         requires callable { F.IsAlwaysCallable f.now }
         ensures changed { IfOk result (λ rmw. Answers seat.old seat.new rmw.time (ChangeOf key rmw.old rmw.change)) }
+        ensures lock { TakesLockOnce seat.old seat.new }
         ensures answered { IfOk result (λ rmw. F.post f.now rmw.old rmw.change) }
         ensures full { IfErr result (λ full. IsFull seat.old seat.new full.time) }
     {

@@ -264,6 +264,7 @@ pub(crate) fn change<P: Pace, R: Wait, F: Fn(Option<Value>) -> Change>(
     ensures of { IsSeatOf steps.now.words.now seat.new }
     ensures rests { IsAtRest seat.new.knows }
     ensures pin { seat.new.knows.view.pin ≡ next_word (next_word pin_word) }
+    ensures entered { seat.new.knows.view.entries ≡ next_word seat.old.knows.view.entries }
     ensures changed { IfOk result (λ rmw. ChangesAt seat.old.knows seat.new.knows rmw.time key rmw.old rmw.change) }
     ensures answered { IfOk result (λ rmw. F.post f.now rmw.old rmw.change) }
     ensures full { IfErr result (λ full. EndsFull seat.old.knows seat.new.knows full.time) }
