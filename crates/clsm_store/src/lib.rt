@@ -9,6 +9,8 @@ mod reading;
 mod refusal;
 mod seat;
 mod store;
+#[cfg(test)]
+mod tests;
 mod trying;
 mod writing;
 

@@ -1,0 +1,257 @@
+//! Four threads make calls by chance, and what they answered is replayed on a plain map.
+ghost use Rattle.std.specs.Prelude.{◌≡◌};
+
+use super::*;
+use clsm_model::{Change, PlainMap, Slot};
+use std::test::*;
+use std::thread::{Threads, join};
+
+// a get or a read-modify-write cancels at most three times and tries again then, so all calls need fewer times than there are cells
+const FOUR_SEATS: Config = Config {
+    cells: 65_536,
+    seats: 4,
+    shards: 2,
+    run: 64,
+    patience: 1,
+};
+
+const CALLS: u64 = 1_000;
+
+const KEYS: u64 = 8;
+
+/// What a call answered: its time, its key, the value that it read, if it read, and what it wrote, if it wrote.
+#[derive(Clone, Copy, Debug)]
+struct Answered {
+    time: Time,
+    key: u64,
+    read: Option<Option<Value>>,
+    wrote: Option<Option<Value>>,
+}
+
+fn one(rt: &impl Abort, word: u64) -> Value {
+    Value::new(&[word]).expect(rt, "one word")
+}
+
+/// One more than the value's word; a value that is even is removed, and one that can be divided by five stays.
+fn next(old: Option<Value>) -> Change {
+    let word = match &old {
+        Some(value) => value.words()[0],
+        None => 1,
+    };
+    if word % 5 == 0 {
+        return Change::Keep;
+    }
+    if word % 2 == 0 {
+        return Change::Remove;
+    }
+    match Value::new(&[word.wrapping_add(1)]) {
+        Ok(value) => Change::Set(value),
+        Err(_) => Change::Keep,
+    }
+}
+
+fn put_one<R: Abort + Wait>(
+    rt: &R,
+    store: &Store<Free>,
+    seat: &mut Seat,
+    key: u64,
+    word: u64,
+) -> Answered
+    requires { seat.old.store ≡ store.now }
+    ensures { seat.new.store ≡ store.now }
+{
+    let value = one(rt, word);
+    let time = store.put(rt, seat, key, value).expect(rt, "a cell is left");
+    Answered {
+        time,
+        key,
+        read: None,
+        wrote: Some(Some(value)),
+    }
+}
+
+fn remove_one<R: Abort + Wait>(rt: &R, store: &Store<Free>, seat: &mut Seat, key: u64) -> Answered
+    requires { seat.old.store ≡ store.now }
+    ensures { seat.new.store ≡ store.now }
+{
+    let time = store.remove(rt, seat, key).expect(rt, "a cell is left");
+    Answered {
+        time,
+        key,
+        read: None,
+        wrote: Some(None),
+    }
+}
+
+fn change_one<R: Abort + Wait>(rt: &R, store: &Store<Free>, seat: &mut Seat, key: u64) -> Answered
+    requires { seat.old.store ≡ store.now }
+    ensures { seat.new.store ≡ store.now }
+{
+    let Rmw { time, old, change } = store
+        .rmw(rt, seat, key, &|old| next(old))
+        .expect(rt, "a cell is left");
+    let wrote = match change {
+        Change::Keep => None,
+        Change::Set(value) => Some(Some(value)),
+        Change::Remove => Some(None),
+    };
+    Answered {
+        time,
+        key,
+        read: Some(old),
+        wrote,
+    }
+}
+
+fn get_one(store: &Store<Free>, seat: &mut Seat, key: u64) -> Answered
+    requires { seat.old.store ≡ store.now }
+    ensures { seat.new.store ≡ store.now }
+{
+    let Got { time, value } = store.get(seat, key);
+    Answered {
+        time,
+        key,
+        read: Some(value),
+        wrote: None,
+    }
+}
+
+/// One call: what it is depends on the word alone.
+fn call<R: Abort + Wait>(rt: &R, store: &Store<Free>, seat: &mut Seat, word: u64) -> Answered
+    requires { seat.old.store ≡ store.now }
+    ensures { seat.new.store ≡ store.now }
+{
+    let key = (word >> 33) % KEYS;
+    match word >> 61 {
+        0 | 1 => put_one(rt, store, seat, key, word >> 40),
+        2 => remove_one(rt, store, seat, key),
+        3 | 4 | 5 => change_one(rt, store, seat, key),
+        _ => get_one(store, seat, key),
+    }
+}
+
+/// Makes its calls, and answers what they answered.
+fn work<R: Abort + Wait>(
+    rt: &R,
+    alloc: Global,
+    store: &Store<Free>,
+    mut seat: Seat,
+) -> Vec<Answered>
+    requires { seat.store ≡ store.now }
+{
+    let mut answers = Vec::new(alloc);
+    let mut word = seat.number() as u64;
+    for _ in 0..CALLS {
+        // Knuth's linear congruential sequence
+        word = word
+            .wrapping_mul(6_364_136_223_846_793_005)
+            .wrapping_add(1_442_695_040_888_963_407);
+        let answer = call(rt, store, &mut seat, word);
+        answers.push(answer).expect(rt, "memory");
+    }
+    answers
+}
+
+/// Two threads work.
+fn two<R: Abort + Threads + Wait + Sync>(
+    rt: &R,
+    alloc: Global,
+    store: &Store<Free>,
+    first: Seat,
+    second: Seat,
+) -> (Vec<Answered>, Vec<Answered>)
+    requires first { first.store ≡ store.now }
+    requires second { second.store ≡ store.now }
+{
+    join(
+        rt,
+        || -> Vec<Answered>
+            requires { first.store ≡ store.now }
+        { work(rt, alloc, store, first) },
+        || -> Vec<Answered>
+            requires { second.store ≡ store.now }
+        { work(rt, alloc, store, second) },
+    )
+}
+
+/// Where an answer stands in the replay: by its time, and a read before the write at that time, which it does not see.
+fn place_of(answer: &Answered) -> u64 {
+    answer
+        .time
+        .wrapping_mul(2)
+        .wrapping_add(answer.wrote.is_some() as u64)
+}
+
+/// No two writes have one time, and each read answered what a plain map of the writes below its time holds.
+fn replay(rt: &impl Abort, alloc: Global, answers: &[Answered]) {
+    let mut map = PlainMap::new(alloc);
+    let mut next = 0;
+    for answer in answers {
+        if let Some(value) = answer.read {
+            assert_eq!(rt; map.get(answer.key), value);
+        }
+        if let Some(value) = answer.wrote {
+            assert!(rt; answer.time >= next);
+            next = answer.time.saturating_add(1);
+            let slot = Slot::Wrote {
+                seat: 0,
+                key: answer.key,
+                value,
+            };
+            map.apply(&slot).expect(rt, "memory");
+        }
+    }
+}
+
+/// Four threads work.
+fn four<R: Abort + Threads + Wait + Sync>(
+    rt: &R,
+    alloc: Global,
+    store: &Store<Free>,
+    first: Seat,
+    second: Seat,
+    third: Seat,
+    fourth: Seat,
+) -> (
+    (Vec<Answered>, Vec<Answered>),
+    (Vec<Answered>, Vec<Answered>),
+)
+    requires first { first.store ≡ store.now }
+    requires second { second.store ≡ store.now }
+    requires third { third.store ≡ store.now }
+    requires fourth { fourth.store ≡ store.now }
+{
+    join(
+        rt,
+        || -> (Vec<Answered>, Vec<Answered>)
+            requires first { first.store ≡ store.now }
+            requires second { second.store ≡ store.now }
+        { two(rt, alloc, store, first, second) },
+        || -> (Vec<Answered>, Vec<Answered>)
+            requires third { third.store ≡ store.now }
+            requires fourth { fourth.store ≡ store.now }
+        { two(rt, alloc, store, third, fourth) },
+    )
+}
+
+#[test]
+fn calls_of_four_threads_answer_as_a_plain_map(rt: HostRuntime) -> Result<(), Fail> {
+    let Opened {
+        store,
+        mut seats,
+        ..
+    } = opened(&rt, rt.alloc(), FOUR_SEATS);
+    let d = take_seat(&rt, &store, &mut seats);
+    let c = take_seat(&rt, &store, &mut seats);
+    let b = take_seat(&rt, &store, &mut seats);
+    let a = take_seat(&rt, &store, &mut seats);
+    let (left, right) = four(&rt, rt.alloc(), &store, a, b, c, d);
+    let (mut answers, second) = left;
+    let (third, fourth) = right;
+    answers.extend_from_slice(&second).expect(&rt, "memory");
+    answers.extend_from_slice(&third).expect(&rt, "memory");
+    answers.extend_from_slice(&fourth).expect(&rt, "memory");
+    answers.sort_by_key(place_of).expect(&rt, "memory");
+    replay(&rt, rt.alloc(), &answers);
+    Ok(())
+}
