@@ -13,6 +13,7 @@ use clsm_model::{Config, OpenError};
 use clsm_words::pace::Free;
 use clsm_words::{Pace, RawMerger, RawSeat, Words};
 use std::alloc::{AllocError, Global};
+use std::marker::Model;
 
 /// An opened store, the seats of its callers, numbered from 0, and the merger's token.
 #[derive(Drop)]
@@ -22,10 +23,18 @@ pub struct Opened<P: Drop> {
     pub merger: Clean,
 }
 
-/// The merger's token, where nothing is frozen. It may be moved to another thread.
+/// The merger's token, where nothing is frozen. It may be moved to another thread. Contracts see whose store it is.
 #[derive(Drop)]
 pub struct Clean {
     pub(crate) raw: RawMerger,
+}
+
+impl Model for Clean {
+    ghost use Rattle.clsm_store.specs.Seats.{StoreId};
+
+    ghost Value = { StoreId };
+
+    ghost view = { λ c. record { table = c.raw.table; layout = c.raw.knows.layout } };
 }
 
 /// Opens an empty store of these sizes, and makes all its room. Refused with the first size out of its range,
@@ -35,6 +44,7 @@ pub fn open(alloc: Global, config: Config) -> Result<Opened<Free>, OpenError>
     ensures sizes { OnOk result (IsSound config) }
     ensures store { IfOk result (λ opened. HasSizes opened.store config) }
     ensures seats { IfOk result (λ opened. AreNew opened.store config.seats opened.seats.items) }
+    ensures merger { IfOk result (λ opened. opened.merger ≡ opened.store) }
     ensures refusal { IfErr result (IsRefusal config) }
 {
     open_paced(alloc, config, Free)
@@ -49,6 +59,7 @@ pub fn open_paced<P: Pace + Drop>(
     ensures sizes { OnOk result (IsSound config) }
     ensures store { IfOk result (λ opened. HasSizes opened.store config) }
     ensures seats { IfOk result (λ opened. AreNew opened.store config.seats opened.seats.items) }
+    ensures merger { IfOk result (λ opened. opened.merger ≡ opened.store) }
     ensures refusal { IfErr result (IsRefusal config) }
 {
     let layout = Layout::new(config)?;
