@@ -2,3 +2,4 @@ pub mod Rest
 pub mod Starts
 pub mod Found
 pub mod Unchanged
+pub mod LastTimes

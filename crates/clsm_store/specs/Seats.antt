@@ -53,6 +53,15 @@ pub record AreNew (store : StoreId) (count : ℕ) (seats : List SeatState) : Typ
   pub counted : length seats ≡ count
   pub each : (i : ℕ) → i < length seats → slice_index_or seats i (newcomer store i) ≡ newcomer store i
 
+-- the merger: its store, and the number of merges
+pub record MergerState : Type 0 where
+  pub store : StoreId
+  pub merges : ℕ
+
+-- the store's merger, which did nothing yet
+abbrev pub IsNewMerger : StoreId → MergerState → Type 0
+IsNewMerger store merger = merger ≡ record { store = store; merges = 0 }
+
 -- ---- what holds of every seat
 
 -- The seat is lawful in the history h: its past is a beginning of h; each of its writes stands in h and each write in h with its number is one of

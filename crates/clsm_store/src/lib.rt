@@ -3,7 +3,9 @@
 
 mod calls;
 mod changing;
+mod freezing;
 mod got;
+mod merger;
 mod opening;
 mod reading;
 mod refusal;
@@ -17,7 +19,8 @@ mod writing;
 pub use clsm_model::{Config, OpenError};
 pub use clsm_words::Pace;
 pub use got::{Got, Rmw};
-pub use opening::{Clean, Opened, open, open_paced};
-pub use refusal::{Full, TryPutError};
+pub use merger::{Clean, Frozen};
+pub use opening::{Opened, open, open_paced};
+pub use refusal::{Full, TryPutError, Worn};
 pub use seat::Seat;
 pub use store::Store;

@@ -2,18 +2,18 @@
 ghost use Rattle.std.specs.Prelude.{◌≡◌, ◌<◌, ◌+◌, vec_len, IfOk, IfErr, OnOk};
 ghost use Rattle.clsm_model.specs.Config.{IsSound};
 ghost use Rattle.clsm_words.specs.Plays.{AreFreshFrom};
-ghost use Rattle.clsm_store.specs.Seats.{AreNew, HasSizes};
+ghost use Rattle.clsm_store.specs.Seats.{AreNew, HasSizes, IsNewMerger};
 ghost use Rattle.clsm_store.specs.Opening.{IsRefusal};
 ghost use Rattle.clsm_store.specs.Resting.{store_of};
 
+use crate::merger::Clean;
 use crate::seat::Seat;
 use crate::store::Store;
 use clsm_core::Layout;
 use clsm_model::{Config, OpenError};
 use clsm_words::pace::Free;
-use clsm_words::{Pace, RawMerger, RawSeat, Words};
+use clsm_words::{Pace, RawSeat, Words};
 use std::alloc::{AllocError, Global};
-use std::marker::Model;
 
 /// An opened store, the seats of its callers, numbered from 0, and the merger's token.
 #[derive(Drop)]
@@ -23,20 +23,6 @@ pub struct Opened<P: Drop> {
     pub merger: Clean,
 }
 
-/// The merger's token, where nothing is frozen. It may be moved to another thread. Contracts see whose store it is.
-#[derive(Drop)]
-pub struct Clean {
-    pub(crate) raw: RawMerger,
-}
-
-impl Model for Clean {
-    ghost use Rattle.clsm_store.specs.Seats.{StoreId};
-
-    ghost Value = { StoreId };
-
-    ghost view = { λ c. record { table = c.raw.table; layout = c.raw.knows.layout } };
-}
-
 /// Opens an empty store of these sizes, and makes all its room. Refused with the first size out of its range,
 /// in the order cells, seats, shards, run, patience, and with `Memory` only where all are in their ranges.
 /// Nothing is kept after a refusal.
@@ -44,7 +30,7 @@ pub fn open(alloc: Global, config: Config) -> Result<Opened<Free>, OpenError>
     ensures sizes { OnOk result (IsSound config) }
     ensures store { IfOk result (λ opened. HasSizes opened.store config) }
     ensures seats { IfOk result (λ opened. AreNew opened.store config.seats opened.seats.items) }
-    ensures merger { IfOk result (λ opened. opened.merger ≡ opened.store) }
+    ensures merger { IfOk result (λ opened. IsNewMerger opened.store opened.merger) }
     ensures refusal { IfErr result (IsRefusal config) }
 {
     open_paced(alloc, config, Free)
@@ -59,7 +45,7 @@ pub fn open_paced<P: Pace + Drop>(
     ensures sizes { OnOk result (IsSound config) }
     ensures store { IfOk result (λ opened. HasSizes opened.store config) }
     ensures seats { IfOk result (λ opened. AreNew opened.store config.seats opened.seats.items) }
-    ensures merger { IfOk result (λ opened. opened.merger ≡ opened.store) }
+    ensures merger { IfOk result (λ opened. IsNewMerger opened.store opened.merger) }
     ensures refusal { IfErr result (IsRefusal config) }
 {
     let layout = Layout::new(config)?;
@@ -73,7 +59,10 @@ pub fn open_paced<P: Pace + Drop>(
             patience,
         },
         seats,
-        merger: Clean { raw: merger },
+        merger: Clean {
+            raw: merger,
+            merges: 0,
+        },
     })
 }
 

@@ -10,6 +10,11 @@ pub struct Full {
     pub time: Time,
 }
 
+/// The refusal of a freeze, number 1: the next limit would pass 2^62. No run reaches it.
+#[derive(Clone, Copy, PartialEq, Eq, Debug, Error)]
+#[error("worn")]
+pub struct Worn;
+
 /// The refusals of `try_put`. After each the seat is as before, but for its count of such refusals.
 #[derive(Clone, Copy, PartialEq, Eq, Debug, Error)]
 pub enum TryPutError {

@@ -1,7 +1,7 @@
 //! Stores and their seats, as the tests use them. At most one allocation of a run is made to fail: a call that is refused memory is made
 //! once more.
 ghost use Rattle.std.specs.Prelude.{◌≡◌, length};
-ghost use Rattle.clsm_store.specs.Seats.{AreNew};
+ghost use Rattle.clsm_store.specs.Seats.{AreNew, IsNewMerger};
 
 use super::*;
 use clsm_model::{Time, Value};
@@ -12,6 +12,7 @@ use std::process::Abort;
 use std::sync::Wait;
 
 mod alone;
+mod freezing;
 mod opening;
 mod paced;
 mod replay;
@@ -26,7 +27,8 @@ const FOUR_CELLS: Config = Config {
 };
 
 fn opened(rt: &impl Abort, alloc: Global, config: Config) -> Opened<Free>
-    ensures { AreNew result.store config.seats result.seats.items }
+    ensures seats { AreNew result.store config.seats result.seats.items }
+    ensures merger { IsNewMerger result.store result.merger }
 {
     match open(alloc, config) {
         Err(OpenError::Memory) => open(alloc, config).expect(rt, "memory at the second try"),

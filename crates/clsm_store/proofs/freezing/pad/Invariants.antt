@@ -1,0 +1,15 @@
+use Rattle.std.proofs.Common.{◌≡◌, ℕ, ◌<◌, ◌≤◌}
+use Rattle.clsm_core.specs.declared.word.Word.TheVariants.{Clock, State}
+use Rattle.clsm_core.specs.Memory.{cell_of}
+use Rattle.clsm_words.specs.Knowing.{row_of}
+use Rattle.clsm_words.specs.Plays.{IsSeatOf}
+use Rattle.clsm_store.specs.Freezing.{HoldsOn}
+use Rattle.clsm_store.proofs.freezing.pad.Given as goal
+
+abbrev pub invariant-loop-time : goal.invariant-loop-time
+invariant-loop-time g l = record {
+  of : IsSeatOf l.steps.words.now l.merger;
+  held : HoldsOn l.fn.merger.knows l.merger.knows;
+  clock : row_of l.merger.knows Clock ≡ l.clock;
+  padded : (t : ℕ) → l.clock ≤ t → t < l.time → row_of l.merger.knows (State (cell_of l.merger.knows.layout t)) ≡ 1;
+}
