@@ -1,0 +1,2 @@
+pub mod Newcomers
+pub mod Epochs

@@ -1,2 +1,4 @@
 pub mod Writing
 pub mod Work
+pub mod Calling
+pub mod Answering

@@ -8,7 +8,7 @@ use thiserror::Error;
 /// Why the program does not end well. It is shown as the program writes it.
 #[derive(Clone, Copy, Debug, PartialEq, Eq, Error)]
 pub enum Failure {
-    #[error("usage: clsm_bench [steps N]")]
+    #[error("usage: clsm_bench [steps N | store N]")]
     Usage,
     /// A write failed, or the clock or the words on the command line could not be read.
     #[error("device")]
@@ -16,7 +16,7 @@ pub enum Failure {
     /// The words were not opened.
     #[error("refused {0}")]
     Refused(OpenError),
-    /// A seat was not answered each of its writes.
+    /// A thread was not answered each of its calls.
     #[error("unanswered")]
     Unanswered,
     #[error("no memory")]

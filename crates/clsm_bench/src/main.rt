@@ -1,10 +1,18 @@
-//! The program `clsm_bench`: counts the atomic steps of threads that write through the step functions.
+//! The program `clsm_bench`: counts the atomic steps of threads that write through the step functions, and times the calls of the store
+//! beside those of a map under a lock.
 #![tactic(auto)]
 
+mod caller;
+mod calling;
+mod counts;
+mod crew;
 mod failure;
 mod keys;
+mod lap;
+mod locked;
 mod measure;
 mod report;
+mod seated;
 mod steps;
 mod tally;
 #[cfg(test)]
@@ -15,11 +23,14 @@ mod writer;
 use failure::Failure;
 use std::process::ExitCode;
 use std::rt::{Clock, Env};
+use std::sync::Wait;
 use std::thread::Threads;
 use work::Work;
 
 /// Does the work that the words on the command line ask for.
-fn bench<R: Threads + Sync + Clock + Env + Print + AllocGlobal>(rt: &R) -> Result<(), Failure> {
+fn bench<R: Threads + Sync + Clock + Wait + Env + Print + AllocGlobal>(
+    rt: &R,
+) -> Result<(), Failure> {
     let alloc = rt.alloc();
     let words: Vec<String> = std::env::args(rt)?.skip(1).collect(alloc)?;
     let texts: Vec<&str> = words.iter().map(|word| word.as_str()).collect(alloc)?;

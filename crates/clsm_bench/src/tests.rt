@@ -1,5 +1,7 @@
 //! The texts that the program writes, by hand.
+use crate::crew::{CREWS, Crew};
 use crate::failure::Failure;
+use crate::lap::Lap;
 use crate::measure::Measure;
 use crate::tally::Tally;
 use clsm_model::OpenError;
@@ -44,7 +46,7 @@ fn no_time_is_no_failure(rt: HostRuntime) -> Result<(), Fail> {
 #[test]
 fn failures_say_what_is_wrong(rt: HostRuntime) -> Result<(), Fail> {
     for (failure, text) in [
-        (Failure::Usage, "usage: clsm_bench [steps N]"),
+        (Failure::Usage, "usage: clsm_bench [steps N | store N]"),
         (Failure::Device, "device"),
         (Failure::Refused(OpenError::Seats), "refused seats"),
         (Failure::Unanswered, "unanswered"),
@@ -52,6 +54,34 @@ fn failures_say_what_is_wrong(rt: HostRuntime) -> Result<(), Fail> {
     ] {
         let shown = failure.to_string(rt.alloc())?;
         assert_eq!(rt; shown.as_str(), text);
+    }
+    Ok(())
+}
+
+#[test]
+fn a_lap_is_one_line(rt: HostRuntime) -> Result<(), Fail> {
+    let lap = Lap {
+        crew: Crew {
+            writers: 1,
+            readers: 3,
+        },
+        calls: 80,
+        store_time: Duration::from_micros(40),
+        map_time: Duration::from_micros(16),
+    };
+    let line = lap.to_string(rt.alloc())?;
+    assert_eq!(rt;
+        line.as_str(),
+        "puts-and-gets threads 4 calls 80 store microseconds 40 nanoseconds/call 500 calls/s 2000000 map microseconds 16 nanoseconds/call 200 calls/s 5000000"
+    );
+    Ok(())
+}
+
+#[test]
+fn each_crew_is_answered(rt: HostRuntime) -> Result<(), Fail> {
+    for crew in CREWS {
+        let calls = Lap::take(&rt, rt.alloc(), crew, 10).map(|lap| lap.calls);
+        assert_eq!(rt; calls, Ok(u64::from(crew.threads()) * 10));
     }
     Ok(())
 }

@@ -9,12 +9,15 @@ pub enum Work {
     Fixed,
     /// So many writes a thread, which it times.
     Timed(u32),
+    /// So many calls a thread of the store and of a map under a lock, which it times.
+    Calls(u32),
 }
 
 impl Work {
     ghost use Rattle.clsm_bench.specs.Work.{Asks, AsksNone, IsCount, texts_of};
 
-    /// The work that the words on the command line ask for: none the fixed work, `steps N` that of N writes a thread.
+    /// The work that the words on the command line ask for: none the fixed work, `steps N` that of N writes a thread,
+    /// `store N` that of N calls a thread.
     pub fn parse(words: &[&str]) -> Option<Work>
         ensures asked { IfSome result (Asks (texts_of words.now)) }
         ensures refused { IfNone result (AsksNone (texts_of words.now)) }
@@ -22,6 +25,7 @@ impl Work {
         match *words {
             [] => Some(Work::Fixed),
             ["steps", count] => Some(Work::Timed(Work::parse_count(count)?)),
+            ["store", count] => Some(Work::Calls(Work::parse_count(count)?)),
             _ => None,
         }
     }
@@ -34,23 +38,5 @@ impl Work {
             return None;
         }
         text.parse().ok()
-    }
-
-    /// The writes of a thread.
-    pub fn writes(self) -> u32 {
-        match self {
-            Work::Fixed => 40,
-            Work::Timed(writes) => writes,
-        }
-    }
-
-    /// The cells of an epoch. With four threads the fixed work takes several epochs.
-    pub fn cells(self) -> u32
-        ensures { 64 ≤ result }
-    {
-        match self {
-            Work::Fixed => 64,
-            Work::Timed(_) => 65_536,
-        }
     }
 }
