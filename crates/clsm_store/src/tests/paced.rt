@@ -316,3 +316,63 @@ fn a_read_is_at_the_clock_that_it_found(rt: HostRuntime) -> Result<(), Fail> {
     );
     Ok(())
 }
+
+/// Seat 0 has put a value, and is held before its first step of this kind in a second put, while seat 1 gets; then seat 0 gets. The answers
+/// are these, if it was held.
+fn check_put<R: Abort + Threads + Wait + Sync>(
+    rt: &R,
+    alloc: Global,
+    at: Kind,
+    during: Got,
+    time: Time,
+    after: Got,
+) {
+    let gate = Gate {
+        at,
+        turn: AtomicU64::new(LET_GO),
+    };
+    let config = Config {
+        patience: 0,
+        ..FOUR_CELLS
+    };
+    let Opened {
+        store,
+        mut seats,
+        ..
+    } = open_paced(alloc, config, gate).expect(rt, "memory");
+    let second = take_seat(rt, &store, &mut seats);
+    let mut first = take_seat(rt, &store, &mut seats);
+    assert_eq!(rt; put(rt, &store, &mut first, KEY, &[10]), Ok(0));
+    store.pace.pass(LET_GO, NOBODY);
+    let (one, other) = race(rt, &store, first, Call::Put, second, Call::Get);
+    let (mut first, answer) = one;
+    let (read, held) = other;
+    let again = store.get(&mut first, KEY);
+    if held {
+        assert_eq!(rt; read, Answer::Get(during), "beside one held at {at:?}");
+        assert_eq!(rt; answer, Answer::Put(Ok(time)), "held at {at:?}");
+        assert_eq!(rt; again, after, "after one held at {at:?}");
+    }
+}
+
+#[test]
+fn a_writer_is_held_before_each_kind_of_its_steps(rt: HostRuntime) -> Result<(), Fail> {
+    for at in [Kind::EnterShared, Kind::Draw] {
+        let during = got(&rt, 1, &[10]);
+        check_put(&rt, rt.alloc(), at, during, 1, first_at(&rt, 2));
+    }
+    for at in [Kind::Fill, Kind::Link, Kind::Decide] {
+        let during = got(&rt, 2, &[10]);
+        check_put(&rt, rt.alloc(), at, during, 2, first_at(&rt, 3));
+    }
+    let during = first_at(&rt, 2);
+    check_put(
+        &rt,
+        rt.alloc(),
+        Kind::LeaveShared,
+        during,
+        1,
+        first_at(&rt, 2),
+    );
+    Ok(())
+}
