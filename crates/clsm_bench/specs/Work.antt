@@ -3,7 +3,7 @@ use Rattle.std.specs.Prelude.{◌≡◌, ℕ, ◌^◌, ◌<◌, List, [], ◌∷
 use Rattle.std.specs.Borrow.{Bor}
 use Rattle.std.specs.Str.Parse.{IsNumeral, digits_value}
 use Rattle.clsm_bench.specs.declared.work.Work.{Work}
-use Rattle.clsm_bench.specs.declared.work.Work.TheVariants.{Fixed, Timed, Calls}
+use Rattle.clsm_bench.specs.declared.work.Work.TheVariants.{Fixed, Timed, Calls, Merges}
 
 -- the texts behind a row of `&str`
 abbrev pub texts_of : List (Bor (List ℕ)) → List (List ℕ)
@@ -19,6 +19,7 @@ abbrev pub Asks : List (List ℕ) → Work → Type 0
 Asks [] Fixed = Unit {0}
 Asks (name ∷ count ∷ []) (Timed writes) = (name ≡ codes "steps") × IsCount count × (writes ≡ digits_value 10 count)
 Asks (name ∷ count ∷ []) (Calls calls) = (name ≡ codes "store") × IsCount count × (calls ≡ digits_value 10 count)
+Asks (name ∷ count ∷ []) (Merges puts) = (name ≡ codes "merges") × IsCount count × (puts ≡ digits_value 10 count)
 Asks _ _ = ⊥
 
 -- the words ask for no work

@@ -1,5 +1,5 @@
 //! The calls of a caller one after another.
-ghost use Rattle.std.specs.Prelude.{◌≡◌, ◌+◌, ◌^◌, ◌<◌, ◌≤◌, true};
+ghost use Rattle.std.specs.Prelude.{◌≡◌, ◌+◌, ◌^◌, ◌<◌, ◌≤◌, true, cond};
 ghost use Rattle.clsm_bench.specs.Calling.{IsNewAt};
 ghost use Rattle.clsm_bench.specs.Answering.{IsReadyAt, IsAnswered};
 
@@ -9,10 +9,32 @@ use crate::keys::{FILLER, key_of, read_key_of};
 use clsm_store::{Seat, Store};
 use clsm_words::pace::Free;
 use std::sync::Wait;
+use std::thread;
+
+/// How often a put is tried before the caller gives up.
+const MOST_TRIES: u32 = 1 << 24;
 
 impl Caller {
+    /// Puts the word at the key, and answers whether it was put. It is refused while the store is full, and then tried again.
+    fn put_at_last<R: Wait>(&mut self, rt: &R, store: &Store<Free>, key: u64, word: u64) -> bool
+        requires of { self.old.seat.store ≡ store.now }
+        requires fits { self.old.counts.puts + 1 < 2 ^ 64 }
+        ensures of { self.new.seat.store ≡ store.now }
+        ensures filled { self.new.filled ≡ self.old.filled }
+        ensures puts { self.new.counts.puts ≡ self.old.counts.puts + cond result 1 0 }
+        ensures gets { self.new.counts.gets ≡ self.old.counts.gets }
+    {
+        for _ in 0..MOST_TRIES {
+            if self.put(rt, store, key, word) {
+                return true;
+            }
+            thread::yield_now();
+        }
+        false
+    }
+
     /// Puts at so many keys of the number, or at as many as it is answered.
-    fn put_all<R: Wait>(&mut self, rt: &R, store: &Store<Free>, number: u64, count: u32)
+    pub fn put_all<R: Wait>(&mut self, rt: &R, store: &Store<Free>, number: u64, count: u32)
         requires of { self.old.seat.store ≡ store.now }
         requires fits { self.old.counts.puts + count < 2 ^ 64 }
         ensures of { self.new.seat.store ≡ store.now }
@@ -21,7 +43,7 @@ impl Caller {
         ensures gets { self.new.counts.gets ≡ self.old.counts.gets }
     {
         for index in 0..count {
-            if !self.put(rt, store, key_of(number, index), u64::from(index)) {
+            if !self.put_at_last(rt, store, key_of(number, index), u64::from(index)) {
                 return;
             }
         }

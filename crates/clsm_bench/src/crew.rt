@@ -52,6 +52,30 @@ pub const CREWS: [Crew; 8] = [
     },
 ];
 
+/// The crews that are measured beside a merger: gets alone, puts alone, and one writer with readers.
+pub const CREWS_BESIDE: [Crew; 5] = [
+    Crew {
+        writers: 0,
+        readers: 2,
+    },
+    Crew {
+        writers: 0,
+        readers: 4,
+    },
+    Crew {
+        writers: 2,
+        readers: 0,
+    },
+    Crew {
+        writers: 1,
+        readers: 1,
+    },
+    Crew {
+        writers: 1,
+        readers: 3,
+    },
+];
+
 impl Crew {
     /// Its threads.
     pub fn threads(&self) -> u32

@@ -8,7 +8,7 @@ use thiserror::Error;
 /// Why the program does not end well. It is shown as the program writes it.
 #[derive(Clone, Copy, Debug, PartialEq, Eq, Error)]
 pub enum Failure {
-    #[error("usage: clsm_bench [steps N | store N]")]
+    #[error("usage: clsm_bench [steps N | store N | merges N]")]
     Usage,
     /// A write failed, or the clock or the words on the command line could not be read.
     #[error("device")]
@@ -16,7 +16,7 @@ pub enum Failure {
     /// The words were not opened.
     #[error("refused {0}")]
     Refused(OpenError),
-    /// A thread was not answered each of its calls.
+    /// A thread was not answered each of its calls, or the merger was refused one of its own.
     #[error("unanswered")]
     Unanswered,
     #[error("no memory")]

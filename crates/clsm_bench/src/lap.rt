@@ -3,6 +3,7 @@ ghost use Rattle.std.specs.Prelude.{◌≡◌, ◌+◌, ◌*◌, ◌≤◌, IfOk
 use crate::crew::Crew;
 use crate::failure::Failure;
 use crate::locked::locked_epoch;
+use crate::rate::per_second;
 use crate::seated::seated_epoch;
 use std::alloc::Global;
 use std::fmt;
@@ -53,11 +54,6 @@ impl Lap {
         Ok(lap)
     }
 
-    /// How many calls are made in a second, if all take so long.
-    fn per_second(&self, time: Duration) -> u128 {
-        u128::from(self.calls).saturating_mul(1_000_000_000) / time.as_nanos().max(1)
-    }
-
     /// The nanoseconds for each call, if all take so long.
     fn each(&self, time: Duration) -> u128 {
         time.as_nanos() / u128::from(self.calls).max(1)
@@ -74,7 +70,7 @@ impl fmt::Display for Lap {
         for (what, time) in [("store", self.store_time), ("map", self.map_time)] {
             let microseconds = time.as_micros();
             let each = self.each(time);
-            let rate = self.per_second(time);
+            let rate = per_second(u128::from(calls), time);
             write!(
                 f,
                 " {what} microseconds {microseconds} nanoseconds/call {each} calls/s {rate}"

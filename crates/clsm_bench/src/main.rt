@@ -1,7 +1,8 @@
-//! The program `clsm_bench`: counts the atomic steps of threads that write through the step functions, and times the calls of the store
-//! beside those of a map under a lock.
+//! The program `clsm_bench`: counts the atomic steps of threads that write through the step functions, times the calls of the store
+//! beside those of a map under a lock, merges, and calls beside merges.
 #![tactic(auto)]
 
+mod beside;
 mod caller;
 mod calling;
 mod counts;
@@ -11,12 +12,15 @@ mod keys;
 mod lap;
 mod locked;
 mod measure;
+mod rate;
 mod report;
 mod seated;
+mod series;
 mod steps;
 mod tally;
 #[cfg(test)]
 mod tests;
+mod turn;
 mod work;
 mod writer;
 

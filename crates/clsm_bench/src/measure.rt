@@ -3,6 +3,7 @@ ghost use Rattle.clsm_core.specs.Relation.{idle};
 ghost use Rattle.clsm_words.specs.Plays.{IsSeatOf, AreFreshFrom};
 
 use crate::failure::Failure;
+use crate::rate::per_second;
 use crate::tally::Tally;
 use crate::writer::{Writer, write_from};
 use clsm_core::Layout;
@@ -125,11 +126,6 @@ impl Measure {
             time,
         })
     }
-
-    /// How many of so many are done in a second.
-    fn per_second(&self, count: u128) -> u128 {
-        count.saturating_mul(1_000_000_000) / self.time.as_nanos().max(1)
-    }
 }
 
 /// As the program writes it where the time matters.
@@ -140,8 +136,8 @@ impl fmt::Display for Measure {
         let steps = self.tally.steps();
         let lost = self.tally.lost();
         let microseconds = self.time.as_micros();
-        let write_rate = self.per_second(u128::from(writes));
-        let step_rate = self.per_second(steps);
+        let write_rate = per_second(u128::from(writes), self.time);
+        let step_rate = per_second(steps, self.time);
         write!(
             f,
             "threads {threads} writes {writes} steps {steps} lost {lost}"

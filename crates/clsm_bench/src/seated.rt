@@ -16,20 +16,24 @@ use std::sync::Wait;
 use std::thread::{self, Threads};
 use std::time::{Duration, Instant};
 
-fn sizes(seats: u32) -> Config
+/// The entries of a run of level 1 that has room for four epochs: for all that is put where merges are timed.
+pub const RUN: u32 = 4 * CELLS;
+
+/// The sizes of a store with so many seats, and room for so many entries in a run of level 1.
+pub fn sizes(seats: u32, run: u32) -> Config
     ensures { result.seats ≡ seats }
 {
     Config {
         cells: CELLS as usize,
         seats: seats as usize,
         shards: 1_024,
-        run: 64,
+        run: run as usize,
         patience: 16,
     }
 }
 
 /// Makes callers of the seats, of whom the first fills the store with so many keys.
-fn prepare_all<R: Threads + Sync + Wait>(
+pub fn prepare_all<R: Threads + Sync + Wait>(
     rt: &R,
     store: &Store<Free>,
     seats: Vec<Seat>,
@@ -74,6 +78,28 @@ fn work_all<R: Threads + Sync + Wait>(
     )
 }
 
+/// So many calls of each caller, and the time that the threads took. Refused where a call was not answered.
+pub fn answer_all<R: Threads + Sync + Clock + Wait>(
+    rt: &R,
+    store: &Store<Free>,
+    callers: Vec<Caller>,
+    crew: &Crew,
+    count: u32,
+) -> Result<(Vec<Caller>, Duration), Failure>
+    requires { All (IsReadyAt store.now) callers.items }
+    ensures counted { IfOk result (λ epoch. vec_len epoch.0 ≡ vec_len callers) }
+    ensures answered { IfOk result (λ epoch. All (IsAnswered crew.now count) epoch.0.items) }
+{
+    let start = Instant::now(rt)?;
+    let callers = work_all(rt, store, callers, crew, count)?;
+    let time = start.elapsed(rt)?;
+    if callers.iter().all(|caller| caller.is_answered(crew, count)) {
+        Ok((callers, time))
+    } else {
+        Err(Failure::Unanswered)
+    }
+}
+
 /// So many calls of each thread of the crew on a store that is opened and filled for them, and the time that the threads took. Refused
 /// where a call was not answered.
 pub fn seated_epoch<R: Threads + Sync + Clock + Wait>(
@@ -85,14 +111,7 @@ pub fn seated_epoch<R: Threads + Sync + Clock + Wait>(
     ensures counted { IfOk result (λ epoch. vec_len epoch.0 ≡ crew.now.writers + crew.now.readers) }
     ensures answered { IfOk result (λ epoch. All (IsAnswered crew.now count) epoch.0.items) }
 {
-    let Opened { store, seats, .. } = open(alloc, sizes(crew.threads()))?;
+    let Opened { store, seats, .. } = open(alloc, sizes(crew.threads(), 64))?;
     let callers = prepare_all(rt, &store, seats, crew.filled())?;
-    let start = Instant::now(rt)?;
-    let callers = work_all(rt, &store, callers, crew, count)?;
-    let time = start.elapsed(rt)?;
-    if callers.iter().all(|caller| caller.is_answered(crew, count)) {
-        Ok((callers, time))
-    } else {
-        Err(Failure::Unanswered)
-    }
+    answer_all(rt, &store, callers, crew, count)
 }

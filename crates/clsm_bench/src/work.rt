@@ -11,13 +11,15 @@ pub enum Work {
     Timed(u32),
     /// So many calls a thread of the store and of a map under a lock, which it times.
     Calls(u32),
+    /// So many puts before each merge, and so many calls a thread beside merges, which it times.
+    Merges(u32),
 }
 
 impl Work {
     ghost use Rattle.clsm_bench.specs.Work.{Asks, AsksNone, IsCount, texts_of};
 
     /// The work that the words on the command line ask for: none the fixed work, `steps N` that of N writes a thread,
-    /// `store N` that of N calls a thread.
+    /// `store N` that of N calls a thread, `merges N` that of N puts before each merge and N calls a thread beside merges.
     pub fn parse(words: &[&str]) -> Option<Work>
         ensures asked { IfSome result (Asks (texts_of words.now)) }
         ensures refused { IfNone result (AsksNone (texts_of words.now)) }
@@ -26,6 +28,7 @@ impl Work {
             [] => Some(Work::Fixed),
             ["steps", count] => Some(Work::Timed(Work::parse_count(count)?)),
             ["store", count] => Some(Work::Calls(Work::parse_count(count)?)),
+            ["merges", count] => Some(Work::Merges(Work::parse_count(count)?)),
             _ => None,
         }
     }

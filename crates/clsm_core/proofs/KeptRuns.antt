@@ -60,12 +60,13 @@ pub record SamePlace (memory memory' : Memory) (p : ℕ) : Type 0 where
   pub count : memory' (Count p) ≡ memory (Count p)
   pub words : (e i : ℕ) → memory' (EntryWord p e i) ≡ memory (EntryWord p e i)
 
-entry_same : (memory memory' : Memory) (p e : ℕ) → SamePlace memory memory' p → entry_in memory' p e ≡ entry_in memory p e
-entry_same memory memory' p e s = rw (s.words e 0, s.words e 1, s.words e 2, s.words e 3, s.words e 4, s.words e 5, s.words e 6, s.words e 7, s.words e 8, s.words e 9, s.words e 10) refl
+-- an entry with the same words is the same
+pub entry_same : (memory memory' : Memory) (p e : ℕ) → ((i : ℕ) → memory' (EntryWord p e i) ≡ memory (EntryWord p e i)) → entry_in memory' p e ≡ entry_in memory p e
+entry_same memory memory' p e same = rw (same 0, same 1, same 2, same 3, same 4, same 5, same 6, same 7, same 8, same 9, same 10) refl
 
 entries_same : (memory memory' : Memory) (p e n : ℕ) → SamePlace memory memory' p → entries_from memory' p e n ≡ entries_from memory p e n
 entries_same memory memory' p e zero s = refl
-entries_same memory memory' p e (suc n) s = let a = entry_same memory memory' p e s in let b = entries_same memory memory' p (e + 1) n s in cc (a, b)
+entries_same memory memory' p e (suc n) s = let a = entry_same memory memory' p e (s.words e) in let b = entries_same memory memory' p (e + 1) n s in cc (a, b)
 
 pub place_same : (memory memory' : Memory) (p : ℕ) → SamePlace memory memory' p → entries_in memory' p ≡ entries_in memory p
 place_same memory memory' p s = ap (entries_from memory' p 0) s.count ∙ entries_same memory memory' p 0 (memory (Count p)) s
@@ -75,8 +76,8 @@ passes_same : (test test' : ℕ → Bool) (a n : ℕ) → ((k : ℕ) → test' k
 passes_same test test' a zero h = refl
 passes_same test test' a (suc n) h = let b = passes_same test test' (a + 1) n h in rw (h a) (ap (λ (c : Bool). test a && c) b)
 
-ended_same : (memory memory' : Memory) (p e : ℕ) → SamePlace memory memory' p → is_ended memory' p e ≡ is_ended memory p e
-ended_same memory memory' p e s = passes_same (λ j. nat_lt j (memory (EntryWord p e 2)) || memory (EntryWord p e (3 + j)) == 0) (λ j. nat_lt j (memory' (EntryWord p e 2)) || memory' (EntryWord p e (3 + j)) == 0) 0 8 (λ j. rw (s.words e 2, s.words e (3 + j)) refl)
+ended_same : (memory memory' : Memory) (p e : ℕ) → ((i : ℕ) → memory' (EntryWord p e i) ≡ memory (EntryWord p e i)) → is_ended memory' p e ≡ is_ended memory p e
+ended_same memory memory' p e same = passes_same (λ j. nat_lt j (memory (EntryWord p e 2)) || memory (EntryWord p e (3 + j)) == 0) (λ j. nat_lt j (memory' (EntryWord p e 2)) || memory' (EntryWord p e (3 + j)) == 0) 0 8 (λ j. rw (same 2, same (3 + j)) refl)
 
 and_same : (a b c d : Bool) → c ≡ a → d ≡ b → (c && d) ≡ (a && b)
 and_same a b c d e f = ap (λ (k : Bool). k && d) e ∙ ap (λ (k : Bool). a && k) f
@@ -84,12 +85,12 @@ and_same a b c d e f = ap (λ (k : Bool). k && d) e ∙ ap (λ (k : Bool). a && 
 length_same : (a b c d : ℕ) → c ≡ a → d ≡ b → is_length c d ≡ is_length a b
 length_same a b c d e f = ap (λ (k : ℕ). is_length k d) e ∙ ap (is_length a) f
 
-entry_canonical : (memory memory' : Memory) (p e : ℕ) → SamePlace memory memory' p → is_canonical memory' p e ≡ is_canonical memory p e
-entry_canonical memory memory' p e s = and_same (is_length (memory (EntryWord p e 1)) (memory (EntryWord p e 2))) (is_ended memory p e) (is_length (memory' (EntryWord p e 1)) (memory' (EntryWord p e 2))) (is_ended memory' p e)
-    (length_same (memory (EntryWord p e 1)) (memory (EntryWord p e 2)) (memory' (EntryWord p e 1)) (memory' (EntryWord p e 2)) (s.words e 1) (s.words e 2)) (ended_same memory memory' p e s)
+pub entry_canonical : (memory memory' : Memory) (p e : ℕ) → ((i : ℕ) → memory' (EntryWord p e i) ≡ memory (EntryWord p e i)) → is_canonical memory' p e ≡ is_canonical memory p e
+entry_canonical memory memory' p e same = and_same (is_length (memory (EntryWord p e 1)) (memory (EntryWord p e 2))) (is_ended memory p e) (is_length (memory' (EntryWord p e 1)) (memory' (EntryWord p e 2))) (is_ended memory' p e)
+    (length_same (memory (EntryWord p e 1)) (memory (EntryWord p e 2)) (memory' (EntryWord p e 1)) (memory' (EntryWord p e 2)) (same 1) (same 2)) (ended_same memory memory' p e same)
 
 pub canonical_same : (memory memory' : Memory) (p : ℕ) → SamePlace memory memory' p → are_canonical memory' p ≡ are_canonical memory p
-canonical_same memory memory' p s = ap (passes_from (is_canonical memory' p) 0) s.count ∙ passes_same (is_canonical memory p) (is_canonical memory' p) 0 (memory (Count p)) (λ e. entry_canonical memory memory' p e s)
+canonical_same memory memory' p s = ap (passes_from (is_canonical memory' p) 0) s.count ∙ passes_same (is_canonical memory p) (is_canonical memory' p) 0 (memory (Count p)) (λ e. entry_canonical memory memory' p e (s.words e))
 
 -- ---- the places that a component names
 
@@ -118,16 +119,21 @@ all_both : {A : Type 0} (P Q : A → Type 0) (xs : List A) → AllByRecursion P 
 all_both P Q [] h k = tt
 all_both P Q (x ∷ xs) h k = ((h.0, k.0), all_both P Q xs h.1 k.1)
 
--- ---- the runs of a component stay, where its places and the history below its end do
-module _ (z : Layout) (memory memory' : Memory) (h h' : History) (component floor : ℕ) (agree : AgreeBelow (component * z.cells) h h') (same : (p : ℕ) → is_named component p ≡ true → SamePlace memory memory' p) where
+-- ---- the runs of a component stay, where its places do
+module _ (memory memory' : Memory) (component : ℕ) (same : (p : ℕ) → is_named component p ≡ true → SamePlace memory memory' p) where
   held_same : AllByRecursion (λ place. held_at memory' place ≡ held_at memory place) (places component)
   held_same = all_from (λ (place : Place). is_named component (number_of place) ≡ true) (λ place. held_at memory' place ≡ held_at memory place) (places component) (λ place e. place_same memory memory' (number_of place) (same (number_of place) e)) (all_named component)
 
+  pub runs_same : runs_of memory' component ≡ runs_of memory component
+  runs_same = map_same (held_at memory) (held_at memory') (places component) held_same
+
+-- and so does the history below its end
+module _ (z : Layout) (memory memory' : Memory) (h h' : History) (component floor : ℕ) (agree : AgreeBelow (component * z.cells) h h') (same : (p : ℕ) → is_named component p ≡ true → SamePlace memory memory' p) where
   pub runs_stay : AreRuns z memory h component floor → AreRuns z memory' h' component floor
   runs_stay r = record {
-    content = subst (λ (runs : List (List Entry)). IsContent h' runs floor (component * z.cells)) (sym (map_same (held_at memory) (held_at memory') (places component) held_same)) (content_agree h h' (runs_of memory component) floor (component * z.cells) agree r.content);
+    content = subst (λ (runs : List (List Entry)). IsContent h' runs floor (component * z.cells)) (sym (runs_same memory memory' component same)) (content_agree h h' (runs_of memory component) floor (component * z.cells) agree r.content);
     within = all_from (λ (place : Place). (held_at memory' place ≡ held_at memory place) × IsWithin z.cells component place (held_at memory place)) (λ place. IsWithin z.cells component place (held_at memory' place)) (places component)
-        (λ place both. subst (IsWithin z.cells component place) (sym both.0) both.1) (all_both (λ (place : Place). held_at memory' place ≡ held_at memory place) (λ place. IsWithin z.cells component place (held_at memory place)) (places component) held_same r.within);
+        (λ place both. subst (IsWithin z.cells component place) (sym both.0) both.1) (all_both (λ (place : Place). held_at memory' place ≡ held_at memory place) (λ place. IsWithin z.cells component place (held_at memory place)) (places component) (held_same memory memory' component same) r.within);
     counts = λ p e. let c = r.counts p e in let s = (same p e).count in omega arith;
     canonical = λ p e. canonical_same memory memory' p (same p e) ∙ r.canonical p e;
   }

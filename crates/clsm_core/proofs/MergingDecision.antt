@@ -11,12 +11,12 @@ use Rattle.clsm_levels.proofs.Histories.{entries_fall, entries_from}
 use Rattle.clsm_levels.proofs.Keeps.{run-kept}
 use Rattle.clsm_levels.proofs.Orders.{run-merged, times_fall-of_key, times_fall_by_key-append}
 use Rattle.clsm_levels.proofs.Rules.{wanted_by_rule}
+use Rattle.clsm_levels.proofs.SameRuns.{same_runs}
 use Rattle.clsm_core.specs.declared.layout.Layout.{Layout}
 use Rattle.clsm_core.specs.declared.merger.MergerView.{MergerView}
 use Rattle.clsm_core.specs.Layout.{memory}
 use Rattle.clsm_core.specs.Worlds.{settled, epoch_of, runs_of}
 use Rattle.clsm_core.specs.Deciding.{IsMergeable, StaysIn, IsEachKept, IsEachWritten, sources_of, wanted_of}
-use Rattle.clsm_core.proofs.MergingRuns.{same_runs}
 
 -- the sources fall in time in each key
 sources_fall : (z : Layout) (words : List ℕ) (m : MergerView) (slots : List (Option Slot)) → IsMergeable z words m → TimesFallByKey (sources m.merged (epoch_of z slots m.merged) (runs_of (memory z words) m.merged))

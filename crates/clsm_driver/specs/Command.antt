@@ -3,7 +3,7 @@ use Rattle.std.specs.Prelude.{◌≡◌, ℕ, List, [], ◌∷◌, codes}
 use Rattle.std.specs.Str.Parse.{digits_value}
 use Rattle.clsm_driver.specs.Number.{IsNumber, IsValue, value_of}
 use Rattle.clsm_driver.specs.declared.command.Command.{Command}
-use Rattle.clsm_driver.specs.declared.command.Command.TheVariants.{Put, Remove, Try, Add, Claim, Get}
+use Rattle.clsm_driver.specs.declared.command.Command.TheVariants.{Put, Remove, Try, Add, Claim, Get, Freeze, Merge, Reclaim}
 
 -- the text writes this number
 abbrev pub WritesNumber : List ℕ → ℕ → Type 0
@@ -21,6 +21,9 @@ Says (Try key value) (name ∷ k ∷ v ∷ []) = (name ≡ codes "try") × Write
 Says (Add key by) (name ∷ k ∷ d ∷ []) = (name ≡ codes "add") × WritesNumber k key × WritesNumber d by
 Says (Claim key value) (name ∷ k ∷ v ∷ []) = (name ≡ codes "claim") × WritesNumber k key × WritesValue v value
 Says (Get key) (name ∷ k ∷ []) = (name ≡ codes "get") × WritesNumber k key
+Says Freeze (name ∷ []) = name ≡ codes "freeze"
+Says Merge (name ∷ []) = name ≡ codes "merge"
+Says Reclaim (name ∷ []) = name ≡ codes "reclaim"
 Says _ _ = ⊥
 
 -- the words say no command

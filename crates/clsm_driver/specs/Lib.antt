@@ -4,5 +4,6 @@ pub mod Failure
 pub mod Input
 pub mod Line
 pub mod Number
+pub mod Phase
 pub mod Play
 pub mod Script

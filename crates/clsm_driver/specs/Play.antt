@@ -1,13 +1,15 @@
--- What the commands of a script make of a seat, and what they answer.
+-- What the commands of a script make of a seat and of the merger's phase, and what they answer.
 use Rattle.std.specs.Prelude.{◌≡◌, Ok, Err}
 use Rattle.clsm_model.specs.declared.record.Deed.TheVariants as deeds
 use Rattle.clsm_store.specs.Seats.{SeatState, Answers, IsFull}
 use Rattle.clsm_store.specs.Trying.{RefusesTry}
 use Rattle.clsm_driver.specs.Changes.{added, claimed}
+use Rattle.clsm_driver.specs.Phase.{Freezes, Merges, Reclaims}
 use Rattle.clsm_driver.specs.declared.answer.Answer.{Answer}
-use Rattle.clsm_driver.specs.declared.answer.Answer.TheVariants.{Write, Try as Tried, Change as Changed, Read}
+use Rattle.clsm_driver.specs.declared.answer.Answer.TheVariants.{Write, Try as Tried, Change as Changed, Read, Freeze as Froze, Merge as Merged, Reclaim as Reclaimed}
 use Rattle.clsm_driver.specs.declared.command.Command.{Command}
-use Rattle.clsm_driver.specs.declared.command.Command.TheVariants.{Put, Remove, Try, Add, Claim, Get}
+use Rattle.clsm_driver.specs.declared.command.Command.TheVariants.{Put, Remove, Try, Add, Claim, Get, Freeze, Merge, Reclaim}
+use Rattle.clsm_driver.specs.declared.phase.Phase.{Phase}
 
 -- the command takes the seat from its old state to the new one, and is answered so
 abbrev pub Plays : Command → SeatState → SeatState → Answer → Type 0
@@ -22,4 +24,17 @@ Plays (Add key by) old new (Changed (Err full)) = IsFull old new full.time
 Plays (Claim key v) old new (Changed (Ok rmw)) = Answers old new rmw.time (deeds.Rmw key rmw.old rmw.change) × (rmw.change ≡ claimed rmw.old v)
 Plays (Claim key v) old new (Changed (Err full)) = IsFull old new full.time
 Plays (Get key) old new (Read got) = Answers old new got.time (deeds.Get key got.value)
+Plays Freeze old new (Froze _) = new ≡ old
+Plays Merge old new (Merged _) = new ≡ old
+Plays Reclaim old new (Reclaimed _) = new ≡ old
 Plays _ _ _ _ = ⊥
+
+-- the command takes the merger from its old phase to the new one, and is answered so
+abbrev pub Turns : Command → Phase → Phase → Answer → Type 0
+Turns Freeze old new (Froze answer) = Freezes old new answer
+Turns Freeze _ _ _ = ⊥
+Turns Merge old new (Merged answer) = Merges old new answer
+Turns Merge _ _ _ = ⊥
+Turns Reclaim old new (Reclaimed answer) = Reclaims old new answer
+Turns Reclaim _ _ _ = ⊥
+Turns _ old new _ = new ≡ old

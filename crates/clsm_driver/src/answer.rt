@@ -1,3 +1,4 @@
+use crate::phase::{FreezeError, MergeError, ReclaimError};
 use clsm_model::{Change, Time, Value};
 use clsm_store::{Full, Got, Rmw, TryPutError};
 use std::fmt;
@@ -13,6 +14,12 @@ pub enum Answer {
     Change(Result<Rmw, Full>),
     /// `V @T`, or `none @T` where the key has no value.
     Read(Got),
+    /// `frozen E`, the number of the frozen epoch; or why none was frozen: `not clean` or `worn`.
+    Freeze(Result<u64, FreezeError>),
+    /// `merged M`, the new number of merges; or why nothing was merged: `not frozen` or `run full`.
+    Merge(Result<u64, MergeError>),
+    /// `clean`; or why nothing was reclaimed: `not retired`, or `pinned S` with the number of a seat.
+    Reclaim(Result<(), ReclaimError>),
 }
 
 impl fmt::Display for Answer {
@@ -24,6 +31,12 @@ impl fmt::Display for Answer {
             Answer::Change(Ok(rmw)) => write_change(f, rmw),
             Answer::Change(Err(refusal)) => write!(f, "{refusal}"),
             Answer::Read(got) => write!(f, "{} @{}", Shown(&got.value), got.time),
+            Answer::Freeze(Ok(epoch)) => write!(f, "frozen {epoch}"),
+            Answer::Freeze(Err(refusal)) => write!(f, "{refusal}"),
+            Answer::Merge(Ok(merges)) => write!(f, "merged {merges}"),
+            Answer::Merge(Err(refusal)) => write!(f, "{refusal}"),
+            Answer::Reclaim(Ok(())) => write!(f, "clean"),
+            Answer::Reclaim(Err(refusal)) => write!(f, "{refusal}"),
         }
     }
 }

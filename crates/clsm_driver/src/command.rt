@@ -3,6 +3,7 @@ ghost use Rattle.std.specs.Prelude.{◌≡◌, ◌∷◌, [], IfSome, IfNone};
 use crate::answer::Answer;
 use crate::changes::{add, claim};
 use crate::number::{parse_number, parse_value};
+use crate::phase::Phase;
 use clsm_model::Value;
 use clsm_store::{Pace, Seat, Store};
 use std::sync::Wait;
@@ -22,12 +23,19 @@ pub enum Command {
     Claim { key: u64, value: Value },
     /// `get K`: reads the value at the key.
     Get { key: u64 },
+    /// `freeze`: freezes the current epoch, so that writers go on in the next.
+    Freeze,
+    /// `merge`: merges the frozen epoch into a sorted run.
+    Merge,
+    /// `reclaim`: gives the retired component up, so that its cells are free.
+    Reclaim,
 }
 
 impl Command {
     ghost use Rattle.clsm_driver.specs.Command.{Says, SaysNone};
     ghost use Rattle.clsm_driver.specs.Line.{texts_of};
-    ghost use Rattle.clsm_driver.specs.Play.{Plays};
+    ghost use Rattle.clsm_driver.specs.Phase.{merger_of};
+    ghost use Rattle.clsm_driver.specs.Play.{Plays, Turns};
 
     /// The command that the words of a line say; `None` where they say none.
     pub fn parse(words: &[&str]) -> Option<Command>
@@ -35,8 +43,22 @@ impl Command {
         ensures refused { IfNone result (SaysNone (texts_of words.now)) }
     {
         match *words {
+            [name] => Command::of_name(name),
             [name, key] => Command::of_key(name, key),
             [name, key, value] => Command::of_value(name, key, value),
+            _ => None,
+        }
+    }
+
+    /// The command with this name alone.
+    fn of_name(name: &str) -> Option<Command>
+        ensures read { IfSome result (λ command. Says command (name.now ∷ [])) }
+        ensures refused { IfNone result (SaysNone (name.now ∷ [])) }
+    {
+        match name {
+            "freeze" => Some(Command::Freeze),
+            "merge" => Some(Command::Merge),
+            "reclaim" => Some(Command::Reclaim),
             _ => None,
         }
     }
@@ -73,19 +95,42 @@ impl Command {
         }
     }
 
-    /// Plays the command on a store by one of its seats, and answers what the store answered.
-    pub fn play<P: Pace + Drop, R: Wait>(self, rt: &R, store: &Store<P>, seat: &mut Seat) -> Answer
-        requires { seat.old.store ≡ store.now }
-        ensures plays { Plays self seat.old seat.new result }
+    /// Plays the command on a store, by one of its seats or by its merger, and answers what the store answered. A command of the merger in
+    /// another phase than its own does nothing, and is answered so.
+    pub fn play<P: Pace + Drop, R: Wait>(
+        self,
+        rt: &R,
+        store: &Store<P>,
+        seat: &mut Seat,
+        phase: Phase,
+    ) -> (Phase, Answer)
+        requires seat { seat.old.store ≡ store.now }
+        requires merger { (merger_of phase).store ≡ store.now }
+        ensures plays { Plays self seat.old seat.new result.1 }
+        ensures turns { Turns self phase result.0 result.1 }
         ensures store { seat.new.store ≡ seat.old.store }
+        ensures merger { (merger_of result.0).store ≡ store.now }
     {
-        match self {
+        let answer = match self {
             Command::Put { key, value } => Answer::Write(store.put(rt, seat, key, value)),
             Command::Remove { key } => Answer::Write(store.remove(rt, seat, key)),
             Command::Try { key, value } => Answer::Try(store.try_put(seat, key, value)),
             Command::Add { key, by } => Answer::Change(add(rt, store, seat, key, by)),
             Command::Claim { key, value } => Answer::Change(claim(rt, store, seat, key, value)),
             Command::Get { key } => Answer::Read(store.get(seat, key)),
-        }
+            Command::Freeze => {
+                let (phase, answer) = phase.freeze(rt, store);
+                return (phase, Answer::Freeze(answer));
+            }
+            Command::Merge => {
+                let (phase, answer) = phase.merge(store);
+                return (phase, Answer::Merge(answer));
+            }
+            Command::Reclaim => {
+                let (phase, answer) = phase.reclaim(store);
+                return (phase, Answer::Reclaim(answer));
+            }
+        };
+        (phase, answer)
     }
 }

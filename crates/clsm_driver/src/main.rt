@@ -8,6 +8,7 @@ mod failure;
 mod input;
 mod line;
 mod number;
+mod phase;
 mod script;
 #[cfg(test)]
 mod tests;

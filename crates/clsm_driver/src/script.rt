@@ -1,6 +1,7 @@
-ghost use Rattle.std.specs.Prelude.{◌≡◌, IfSome, OnOk, IfErr};
+ghost use Rattle.std.specs.Prelude.{◌≡◌, IfSome, IfOk, OnOk, IfErr};
 ghost use Rattle.clsm_driver.specs.Script.{IsScript, IsStatus, StopsPlay, StopsScript};
 ghost use Rattle.clsm_driver.specs.Failure.{IsOutside};
+ghost use Rattle.clsm_driver.specs.Phase.{merger_of};
 ghost use Rattle.clsm_model.specs.Config.{IsSound};
 
 use crate::answer::Answer;
@@ -8,6 +9,7 @@ use crate::command::Command;
 use crate::failure::Failure;
 use crate::input::read_line;
 use crate::line::parse_line;
+use crate::phase::Phase;
 use clsm_store::{Config, Opened, Pace, Seat, Store, open};
 use std::alloc::Global;
 use std::io::{BufReader, Read, Write};
@@ -67,12 +69,21 @@ where
     let Opened {
         store,
         mut seats,
-        merger: _,
+        merger,
     } = open(alloc, config)?;
     let Ok(mut reader) = BufReader::new(alloc, input) else {
         return Err(Failure::Memory);
     };
-    play_lines(rt, alloc, &mut reader, &mut output, &store, &mut seats[0])
+    let phase = Phase::Clean(merger);
+    play_lines(
+        rt,
+        alloc,
+        &mut reader,
+        &mut output,
+        &store,
+        &mut seats[0],
+        phase,
+    )
 }
 
 fn play_lines<T: Wait, R: Read, W: Write, P: Pace + Drop>(
@@ -82,8 +93,10 @@ fn play_lines<T: Wait, R: Read, W: Write, P: Pace + Drop>(
     output: &mut W,
     store: &Store<P>,
     seat: &mut Seat,
+    mut phase: Phase,
 ) -> Result<(), Failure>
-    requires { seat.old.store ≡ store.now }
+    requires seat { seat.old.store ≡ store.now }
+    requires merger { (merger_of phase).store ≡ store.now }
     ensures played { OnOk result (IfSome (R.remaining reader.old) IsScript) }
     ensures stopped { IfErr result (StopsPlay (R.remaining reader.old)) }
 {
@@ -96,28 +109,33 @@ fn play_lines<T: Wait, R: Read, W: Write, P: Pace + Drop>(
             Ok(said) => said,
             Err(error) => return Err(error.at(number)),
         };
-        play_line(rt, alloc, output, store, seat, said)?;
+        phase = play_line(rt, alloc, output, store, seat, phase, said)?;
     }
     Err(Failure::Device)
 }
 
-/// Plays what a line says, and writes the answer.
+/// Plays what a line says, writes the answer, and gives the merger's token back.
 fn play_line<T: Wait, W: Write, P: Pace + Drop>(
     rt: &T,
     alloc: Global,
     output: &mut W,
     store: &Store<P>,
     seat: &mut Seat,
+    phase: Phase,
     said: Option<Command>,
-) -> Result<(), Failure>
-    requires { seat.old.store ≡ store.now }
+) -> Result<Phase, Failure>
+    requires seat { seat.old.store ≡ store.now }
+    requires merger { (merger_of phase).store ≡ store.now }
     ensures outside { IfErr result IsOutside }
     ensures store { seat.new.store ≡ seat.old.store }
+    ensures merger { IfOk result (λ next. (merger_of next).store ≡ store.now) }
 {
-    match said {
-        Some(command) => write_answer(alloc, output, command.play(rt, store, seat)),
-        None => Ok(()),
-    }
+    let Some(command) = said else {
+        return Ok(phase);
+    };
+    let (phase, answer) = command.play(rt, store, seat, phase);
+    write_answer(alloc, output, answer)?;
+    Ok(phase)
 }
 
 fn write_answer<W: Write>(alloc: Global, output: &mut W, answer: Answer) -> Result<(), Failure>

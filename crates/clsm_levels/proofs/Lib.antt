@@ -12,3 +12,7 @@ pub mod Withins
 pub mod Rules
 pub mod Passes
 pub mod Sorts
+pub mod SameRuns
+pub mod SortedRuns
+pub mod Picks
+pub mod Presorted

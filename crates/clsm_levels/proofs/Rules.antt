@@ -162,11 +162,11 @@ contains-insert e (y ∷ xs) x c = elim (nat_lt y.key e.key) as (λ (t : Bool). 
   | false ↦ c
 ]
 
-contains-merged : (xs : List Entry) (x : Entry) → Contains xs x → Contains (merged xs) x
+pub contains-merged : (xs : List Entry) (x : Entry) → Contains xs x → Contains (merged xs) x
 contains-merged [] x c = c
 contains-merged (e ∷ es) x c = contains-insert e (merged es) x (⊎_elim (λ (s : e ≡ x). subst (Contains (e ∷ merged es)) s (contains_here e (merged es))) (λ (later : Contains es x). contains_later e x (merged es) (contains-merged es x later)) (contains_cases e x es c))
 
-contained-merged : (xs : List Entry) (x : Entry) → Contains (merged xs) x → Contains xs x
+pub contained-merged : (xs : List Entry) (x : Entry) → Contains (merged xs) x → Contains xs x
 contained-merged xs x c = every_contains (Contains xs) (merged xs) x (every-merged (Contains xs) xs (every_contained xs)) c
 
 -- ---- the rule

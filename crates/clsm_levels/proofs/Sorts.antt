@@ -14,7 +14,7 @@ use Rattle.clsm_levels.proofs.Every.{every_weaker}
 use Rattle.clsm_levels.proofs.Searches.{SameByKey}
 use Rattle.clsm_levels.proofs.Merges.{keys_rise-merged, of_key-merged}
 
-every_at : (P : Entry → Type 0) (es : List Entry) → ((j : ℕ) (d : Entry) → j < length es → P (get_or es j d)) → AllByRecursion P es
+pub every_at : (P : Entry → Type 0) (es : List Entry) → ((j : ℕ) (d : Entry) → j < length es → P (get_or es j d)) → AllByRecursion P es
 every_at P [] h = tt
 every_at P (e ∷ es) h = (h 0 e (omega arith), every_at P es (λ j d lt. h (suc j) d (omega arith)))
 

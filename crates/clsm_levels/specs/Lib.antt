@@ -5,3 +5,4 @@ pub mod Content
 pub mod Place
 pub mod Rule
 pub mod Pass
+pub mod Cursors

@@ -1,5 +1,5 @@
 -- Sorted runs, and the search through several of them.
-use Rattle.std.specs.Prelude.{◌≡◌, ℕ, ◌<◌, ◌≤◌, ◌⊎◌, List, [], ◌∷◌, ◌++◌, Option, None}
+use Rattle.std.specs.Prelude.{◌≡◌, ℕ, ◌<◌, ◌≤◌, ◌⊎◌, ◌==◌, nat_lt, ◌&&◌, ◌||◌, Bool, List, [], ◌∷◌, ◌++◌, Option, None}
 use Rattle.std.specs.List.{AllByRecursion}
 use Rattle.clsm_model.specs.History.{History, or_else, value}
 use Rattle.clsm_levels.specs.declared.entry.Entry.{Entry}
@@ -8,6 +8,10 @@ use Rattle.clsm_levels.specs.Entry.{first_below, value_of}
 -- x stands before y in a run: by rising key, and within a key by falling time
 abbrev pub ComesBefore : Entry → Entry → Type 0
 ComesBefore x y = (x.key < y.key) ⊎ ((x.key ≡ y.key) × (y.time < x.time))
+
+-- whether x stands before y in a run
+abbrev pub comes_before : Entry → Entry → Bool
+comes_before x y = nat_lt x.key y.key || (x.key == y.key && nat_lt y.time x.time)
 
 -- each entry stands before those behind it
 abbrev pub IsRun : List Entry → Type 0

@@ -1,16 +1,20 @@
 //! Sorted runs and the levels they stand in: what a merge keeps, and which places hold the runs, over plain data.
 #![tactic(auto)]
 
+mod cursor;
 mod entry;
 mod epoch;
 mod merge;
 mod place;
+mod sort;
 mod table;
 
+pub use cursor::{Cursor, least};
 pub use entry::Entry;
 pub use epoch::entries_of;
-pub use merge::wanted;
+pub use merge::{judge, wanted};
 pub use place::Place;
+pub use sort::sort_writes;
 pub use table::{places, target};
 
 #[cfg(test)]

@@ -7,9 +7,14 @@ ghost use Rattle.clsm_levels.specs.Pass.{KeysRise, kept_after};
 use crate::entry::Entry;
 use std::alloc::{AllocError, Global};
 
-/// Whether the next entry by rising key is kept. `settled` is the key of the last entry below the floor before it,
-/// and the second result that key after it.
-fn judge(settled: Option<u64>, entry: Entry, floor: u64, to_level_one: bool) -> (bool, Option<u64>)
+/// Whether a merge keeps the next entry by rising key, where entries of one key come the newest first. `settled` is the
+/// key of the last entry below the floor before it, if there is one, and the second result that key after it.
+pub fn judge(
+    settled: Option<u64>,
+    entry: Entry,
+    floor: u64,
+    to_level_one: bool,
+) -> (bool, Option<u64>)
     ensures { (rest : List Entry) → kept_after settled floor to_level_one (entry ∷ rest)
         ≡ cond result.0 (entry ∷ kept_after result.1 floor to_level_one rest) (kept_after result.1 floor to_level_one rest) }
 {

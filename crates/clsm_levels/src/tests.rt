@@ -1,4 +1,6 @@
-use crate::{Entry, Place, entries_of, places, target, wanted};
+ghost use Rattle.std.specs.Prelude.{◌≡◌, IfOk};
+
+use crate::{Cursor, Entry, Place, entries_of, judge, least, places, sort_writes, target, wanted};
 use clsm_model::{Slot, Value};
 use std::test::Fail;
 
@@ -35,12 +37,16 @@ fn table_of_places(rt: HostRuntime) -> Result<(), Fail> {
     Ok(())
 }
 
-fn put(key: u64, time: u64, word: u64) -> Result<Entry, Fail> {
+fn put(key: u64, time: u64, word: u64) -> Result<Entry, Fail>
+    ensures { IfOk result (λ entry. entry.time ≡ time) }
+{
     let value = Some(Value::new(&[word])?);
     Ok(Entry { key, time, value })
 }
 
-fn removal(key: u64, time: u64) -> Entry {
+fn removal(key: u64, time: u64) -> Entry
+    ensures { result.time ≡ time }
+{
     Entry {
         key,
         time,
@@ -133,4 +139,96 @@ fn entries_of_slots(rt: HostRuntime) -> Result<(), Fail> {
     );
     assert_eq!(rt; entries_of(rt.alloc(), &slots, 4, 4)?.len(), 0);
     Ok(())
+}
+
+#[test]
+fn sort_of_several_keys(rt: HostRuntime) -> Result<(), Fail> {
+    let mut entries = [
+        put(7, 9, 79)?,
+        put(5, 8, 58)?,
+        removal(7, 6),
+        put(0, 5, 5)?,
+        removal(5, 3),
+        put(7, 2, 72)?,
+    ];
+    sort_writes(&mut entries);
+    let expected = [
+        put(0, 5, 5)?,
+        put(5, 8, 58)?,
+        removal(5, 3),
+        put(7, 9, 79)?,
+        removal(7, 6),
+        put(7, 2, 72)?,
+    ];
+    assert_eq!(rt; entries.as_slice(), expected.as_slice());
+    Ok(())
+}
+
+fn cursor(head: Option<Entry>) -> Cursor {
+    Cursor { position: 0, head }
+}
+
+#[test]
+fn least_of_cursors(rt: HostRuntime) -> Result<(), Fail> {
+    let none = cursor(None);
+    let first = put(3, 2, 32)?;
+    let second = removal(3, 1);
+    let higher = cursor(Some(put(7, 4, 74)?));
+    let cursors = [
+        none,
+        higher,
+        cursor(Some(first)),
+        none,
+        cursor(Some(second)),
+        higher,
+    ];
+    assert_eq!(rt; least(&cursors), Some((2, first)));
+    assert_eq!(rt; least(&[cursor(Some(second)), higher]), Some((0, second)));
+    Ok(())
+}
+
+#[test]
+fn least_of_no_heads(rt: HostRuntime) {
+    assert_eq!(rt; least(&[]), None);
+    assert_eq!(rt; least(&[cursor(None), cursor(None)]), None);
+}
+
+/// The floor is 5: the entries of key 1 at and above it stay, then the first below it, and the next one is hidden.
+#[test]
+fn judge_by_the_floor(rt: HostRuntime) -> Result<(), Fail> {
+    let table: [(Option<u64>, Entry, (bool, Option<u64>)); 5] = [
+        (None, removal(1, 6), (true, None)),
+        (None, put(1, 5, 15)?, (true, None)),
+        (None, put(1, 4, 14)?, (true, Some(1))),
+        (Some(1), put(1, 3, 13)?, (false, Some(1))),
+        (Some(1), put(2, 4, 24)?, (true, Some(2))),
+    ];
+    for (settled, entry, expected) in table {
+        assert_eq!(rt; judge(settled, entry, 5, false), expected, "at {entry:?}");
+        assert_eq!(rt; judge(settled, entry, 5, true), expected, "at {entry:?}");
+    }
+    Ok(())
+}
+
+#[test]
+fn sort_of_one_key(rt: HostRuntime) -> Result<(), Fail> {
+    let mut entries = [put(1, 3, 13)?, removal(1, 2), put(1, 0, 10)?];
+    sort_writes(&mut entries);
+    let newest_first = [put(1, 3, 13)?, removal(1, 2), put(1, 0, 10)?];
+    assert_eq!(rt; entries.as_slice(), newest_first.as_slice());
+    Ok(())
+}
+
+#[test]
+fn sort_of_nothing(rt: HostRuntime) -> Result<(), Fail> {
+    let mut entries: [Entry; 0] = [];
+    sort_writes(&mut entries);
+    assert_eq!(rt; entries.len(), 0);
+    Ok(())
+}
+
+#[test]
+fn judge_of_removals(rt: HostRuntime) {
+    assert_eq!(rt; judge(None, removal(2, 4), 5, false), (true, Some(2)));
+    assert_eq!(rt; judge(None, removal(2, 4), 5, true), (false, Some(2)));
 }

@@ -4,3 +4,4 @@ pub mod Looking
 pub mod Values
 pub mod Chains
 pub mod NewestWrites
+pub mod FrozenTimes

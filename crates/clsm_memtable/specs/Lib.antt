@@ -2,3 +2,4 @@ pub mod Settled
 pub mod Searching
 pub mod Filling
 pub mod Writing
+pub mod Frozen

@@ -1,5 +1,5 @@
 -- A seat after a pin and its look, and after an unpin.
-use Rattle.std.proofs.Common.{◌≡◌, ℕ, ◌+◌, ◌*◌, ◌≤◌, ◌&&◌, not, false, sym, ap, ◌∙◌, arith, Some}
+use Rattle.std.proofs.Common.{◌≡◌, ℕ, ap, ◌∙◌, arith}
 use Rattle.clsm_core.specs.declared.word.Word.TheVariants.{Merged}
 use Rattle.clsm_core.specs.declared.step.Step.TheVariants.{Pin, Unpin, Look}
 use Rattle.clsm_core.specs.declared.step.End.{End}

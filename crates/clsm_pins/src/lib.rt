@@ -2,7 +2,9 @@
 #![tactic(auto)]
 
 mod pinning;
+mod quieting;
 #[cfg(test)]
 mod tests;
 
 pub use pinning::{pin, unpin};
+pub use quieting::quiet;

@@ -1,5 +1,12 @@
 pub mod NamedRuns
 pub mod Looking
 pub mod EntryValues
+pub mod Remaining
+pub mod Spelled
+pub mod Written
+pub mod MergeRows
+pub mod Taking
+pub mod MergeSources
+pub mod Finishing
 pub mod Halving
 pub mod RunAfterRun

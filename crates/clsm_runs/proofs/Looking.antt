@@ -1,12 +1,12 @@
 -- What stays over looks while a component is held: the words of its runs, and so what was found in them.
-use Rattle.std.proofs.Common.{◌≡◌, ℕ, ◌<◌, List, refl, sym, ap, ◌∙◌, subst, Option}
+use Rattle.std.proofs.Common.{◌≡◌, ℕ, ◌<◌, List, sym, ap, ◌∙◌, subst, Option}
 use Rattle.clsm_levels.specs.declared.entry.Entry.{Entry}
 use Rattle.clsm_levels.specs.Entry.{first_below}
 use Rattle.clsm_core.specs.declared.word.Word.{Word}
 use Rattle.clsm_core.specs.declared.word.Word.TheVariants.{Count, Entry as EntryWord}
 use Rattle.clsm_core.specs.declared.view.View.{View}
 use Rattle.clsm_core.specs.Places.{entry_in}
-use Rattle.clsm_core.proofs.KeptRuns.{SamePlace, place_same}
+use Rattle.clsm_core.proofs.KeptRuns.{SamePlace, entry_same, place_same}
 use Rattle.clsm_words.specs.declared.known.Known.{Known}
 use Rattle.clsm_words.specs.Knowing.{IsNamedWord, row_of}
 use Rattle.clsm_words.specs.Keeping.{Looks}
@@ -35,9 +35,7 @@ found_stays k k' component place key until o looks run is = is ∙ ap (λ (es : 
 -- ---- an entry
 
 entry_in_stays : (k k' : Known) (component place entry : ℕ) → Looks k k' → IsSearchable k component place → entry_in (row_of k') place entry ≡ entry_in (row_of k) place entry
-entry_in_stays k k' component place entry looks run =
-    let w = (place_stays k k' component place looks run).words entry in
-    rw (w 0, w 1, w 2, w 3, w 4, w 5, w 6, w 7, w 8, w 9, w 10) refl
+entry_in_stays k k' component place entry looks run = entry_same (row_of k) (row_of k') place entry ((place_stays k k' component place looks run).words entry)
 
 -- where it stood after looks it stood before
 pub side_stays : (k k' : Known) (component place entry key until : ℕ) (side : Side) → Looks k k' → IsSearchable k component place → IsSide (row_of k') place entry key until side → IsSide (row_of k) place entry key until side

@@ -1,12 +1,18 @@
-//! Sorted runs in the words: their entries are looked at, found by halving, and searched run by run.
+//! Sorted runs in the words: their entries are looked at, found by halving, searched run by run, and merged.
 #![tactic(auto)]
 
 mod finding;
+mod merging;
+mod output;
 mod reading;
+mod rows;
 mod searching;
 mod side;
+mod sources;
 #[cfg(test)]
 mod tests;
+mod writing;
 
 pub use finding::find;
+pub use merging::{RunFull, merge};
 pub use searching::search;

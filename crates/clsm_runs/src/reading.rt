@@ -16,9 +16,9 @@ pub(crate) const KEY: u64 = 0;
 /// Twice its time, plus 1 for a removal.
 pub(crate) const TIME: u64 = 1;
 /// The number of its value's words.
-const LENGTH: u64 = 2;
+pub(crate) const LENGTH: u64 = 2;
 /// The first of those.
-const VALUE: u64 = 3;
+pub(crate) const VALUE: u64 = 3;
 
 /// How many entries the run at the place has.
 #[inline]

@@ -3,3 +3,8 @@ pub mod Starts
 pub mod Found
 pub mod Unchanged
 pub mod LastTimes
+pub mod Quiet
+pub mod Cleaning
+pub mod Rounds
+pub mod Prepared
+pub mod Publishing

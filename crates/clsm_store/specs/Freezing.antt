@@ -2,12 +2,6 @@
 use Rattle.std.specs.Prelude.{◌≡◌, ℕ, true, false}
 use Rattle.clsm_core.specs.Merging.{is_clean, is_frozen}
 use Rattle.clsm_words.specs.declared.known.Known.{Known}
-use Rattle.clsm_words.specs.Seats.{SeatState as RawState}
-use Rattle.clsm_store.specs.Seats.{MergerState}
-
--- what contracts see of the merger's seat at the words
-abbrev pub merger_of : RawState → ℕ → MergerState
-merger_of s merges = record { store = record { table = s.table; layout = s.knows.layout }; merges = merges }
 
 -- it does not hold the lock, and no freeze is half done
 pub record IsOut (k : Known) (merges : ℕ) : Type 0 where
@@ -35,3 +29,4 @@ pub record HoldsOn (old new : Known) : Type 0 where
   pub merged : new.merger.merged ≡ old.merger.merged
   pub clock : new.merger.clock_extended ≡ old.merger.clock_extended
   pub limit : new.merger.limit_extended ≡ old.merger.limit_extended
+  pub floor : new.merger.floor ≡ old.merger.floor

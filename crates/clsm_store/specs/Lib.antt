@@ -2,6 +2,9 @@ pub mod Seats
 pub mod Resting
 pub mod Reading
 pub mod Changing
+pub mod Flooring
 pub mod Freezing
+pub mod Merging
+pub mod Reclaiming
 pub mod Trying
 pub mod Opening

@@ -8,7 +8,9 @@ use Rattle.clsm_model.specs.declared.record.Deed.{Deed}
 use Rattle.clsm_model.specs.declared.record.CallRecord.{CallRecord}
 use Rattle.clsm_model.specs.History.{plain}
 use Rattle.clsm_model.specs.declared.config.Config.{Config}
+use Rattle.clsm_levels.specs.declared.entry.Entry.{Entry}
 use Rattle.clsm_core.specs.declared.layout.Layout.{Layout}
+use Rattle.clsm_core.specs.declared.merger.Retiree.{Retiree}
 use Rattle.clsm_core.specs.Layout.{HasSizesOf}
 use Rattle.clsm_core.specs.Relation.{call_of, next_word}
 use Rattle.clsm_core.specs.Seats.{IsNext, IsRightRecord, IsRising, due_after, open_after}
@@ -57,6 +59,19 @@ pub record AreNew (store : StoreId) (count : ℕ) (seats : List SeatState) : Typ
 pub record MergerState : Type 0 where
   pub store : StoreId
   pub merges : ℕ
+
+-- and, while an epoch is frozen, the floor of the last merge, the epoch's writes, the newest first, and the runs in the order in which they are searched
+pub record FrozenState : Type 0 where
+  pub merger : MergerState
+  pub floor : ℕ
+  pub epoch : List Entry
+  pub runs : List (List Entry)
+
+-- and, while a component is retired, the floor of the merge that retired it, and what was noted of each seat since
+pub record RetiredState : Type 0 where
+  pub merger : MergerState
+  pub floor : ℕ
+  pub retirees : List Retiree
 
 -- the store's merger, which did nothing yet
 abbrev pub IsNewMerger : StoreId → MergerState → Type 0

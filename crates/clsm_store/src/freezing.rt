@@ -37,6 +37,7 @@ pub(crate) fn freeze<P: Pace, R: Wait>(
     requires room { (merges + 2) * merger.old.knows.layout.cells ≤ 2 ^ 62 }
     ensures of { IsSeatOf steps.now.words.now merger.new }
     ensures frozen { IsFrozen merger.new.knows merges }
+    ensures floor { merger.new.knows.merger.floor ≡ merger.old.knows.merger.floor }
 {
     let end = (merges + 1) * steps.words.layout.cells;
     exclusive(rt, steps, merger);

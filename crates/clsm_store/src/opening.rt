@@ -1,18 +1,21 @@
 //! How a store opens.
 ghost use Rattle.std.specs.Prelude.{◌≡◌, ◌<◌, ◌+◌, vec_len, IfOk, IfErr, OnOk};
 ghost use Rattle.clsm_model.specs.Config.{IsSound};
-ghost use Rattle.clsm_words.specs.Plays.{AreFreshFrom};
+ghost use Rattle.clsm_words.specs.Plays.{AreFreshFrom, IsFreshMerger};
+ghost use Rattle.clsm_store.specs.Freezing.{IsClean};
+ghost use Rattle.clsm_store.specs.Merging.{IsReady, merger_of};
 ghost use Rattle.clsm_store.specs.Seats.{AreNew, HasSizes, IsNewMerger};
 ghost use Rattle.clsm_store.specs.Opening.{IsRefusal};
 ghost use Rattle.clsm_store.specs.Resting.{store_of};
 
-use crate::merger::Clean;
+use crate::merger::Merger;
 use crate::seat::Seat;
 use crate::store::Store;
-use clsm_core::Layout;
+use crate::tokens::Clean;
+use clsm_core::{Layout, Retiree};
 use clsm_model::{Config, OpenError};
 use clsm_words::pace::Free;
-use clsm_words::{Pace, RawSeat, Words};
+use clsm_words::{Pace, RawMerger, RawSeat, Words};
 use std::alloc::{AllocError, Global};
 
 /// An opened store, the seats of its callers, numbered from 0, and the merger's token.
@@ -51,6 +54,7 @@ pub fn open_paced<P: Pace + Drop>(
     let layout = Layout::new(config)?;
     let (words, raw, merger) = Words::new(alloc, &layout).map_err(|_| OpenError::Memory)?;
     let seats = seat_all(alloc, &words, raw).map_err(|_| OpenError::Memory)?;
+    let merger = seat_merger(alloc, &layout, merger).map_err(|_| OpenError::Memory)?;
     let patience = config.patience as u64;
     Ok(Opened {
         store: Store {
@@ -59,10 +63,7 @@ pub fn open_paced<P: Pace + Drop>(
             patience,
         },
         seats,
-        merger: Clean {
-            raw: merger,
-            merges: 0,
-        },
+        merger: Clean { merger },
     })
 }
 
@@ -82,4 +83,35 @@ fn seat_all(alloc: Global, words: &Words, raw: Vec<RawSeat>) -> Result<Vec<Seat>
         seats.push(seat)?;
     }
     Ok(seats)
+}
+
+/// What is noted of so many seats at first: nothing.
+fn unseen(alloc: Global, seats: usize) -> Result<Vec<Retiree>, AllocError>
+    ensures { IfOk result (λ seen. vec_len seen ≡ seats) }
+{
+    let mut seen = Vec::with_capacity(alloc, seats)?;
+    for _ in 0..seats {
+        seen.push(Retiree {
+            first_pin: None,
+            quiet: false,
+        })?;
+    }
+    Ok(seen)
+}
+
+/// The merger, which did nothing yet, with all its room.
+fn seat_merger(alloc: Global, layout: &Layout, raw: RawMerger) -> Result<Merger, AllocError>
+    requires fresh { IsFreshMerger raw }
+    requires layout { raw.knows.layout ≡ layout.now }
+    ensures new { IfOk result (λ merger. merger_of merger ≡ record { store = record { table = raw.table; layout = raw.knows.layout }; merges = 0 }) }
+    ensures clean { IfOk result (λ merger. IsClean merger.raw.knows merger.merges) }
+    ensures ready { IfOk result IsReady }
+{
+    Ok(Merger {
+        raw,
+        merges: 0,
+        floor: 0,
+        row: Vec::with_capacity(alloc, layout.cells as usize)?,
+        seen: unseen(alloc, layout.seats as usize)?,
+    })
 }

@@ -15,6 +15,11 @@ pub struct Full {
 #[error("worn")]
 pub struct Worn;
 
+/// The refusal of a reclaim, number 1: the pin word of the seat with this number was found to keep the retired component.
+#[derive(Clone, Copy, PartialEq, Eq, Debug, Error)]
+#[error("pinned {0}")]
+pub struct Pinned(pub u32);
+
 /// The refusals of `try_put`. After each the seat is as before, but for its count of such refusals.
 #[derive(Clone, Copy, PartialEq, Eq, Debug, Error)]
 pub enum TryPutError {

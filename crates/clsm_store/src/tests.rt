@@ -13,9 +13,14 @@ use std::sync::Wait;
 
 mod alone;
 mod freezing;
+mod gate;
+mod held;
+mod held_writer;
+mod merging;
 mod opening;
 mod paced;
 mod replay;
+mod replay_merges;
 mod threads;
 
 const FOUR_CELLS: Config = Config {

@@ -20,3 +20,4 @@ pub mod Heads
 pub mod MergerTelling
 pub mod MergerAllowed
 pub mod MayMerge
+pub mod Changing

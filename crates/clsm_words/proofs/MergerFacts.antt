@@ -37,12 +37,12 @@ in_region z r c two low high = elim (cases_eq r 0) [
 ]
 
 -- decided slots read as what they are
-settled_known : (past : List Slot) → settled (map (λ slot. Some slot) past) ≡ past
+pub settled_known : (past : List Slot) → settled (map (λ slot. Some slot) past) ≡ past
 settled_known [] = refl
 settled_known (slot ∷ past) = ap (λ (rest : List Slot). slot ∷ rest) (settled_known past)
 
 -- the writes of a range hang on what stands there
-entries_below : (xs ys : List Slot) (a b : ℕ) → ((t : ℕ) → t < b → get_or xs t Nothing ≡ get_or ys t Nothing) → entries_of xs a b ≡ entries_of ys a b
+pub entries_below : (xs ys : List Slot) (a b : ℕ) → ((t : ℕ) → t < b → get_or xs t Nothing ≡ get_or ys t Nothing) → entries_of xs a b ≡ entries_of ys a b
 entries_below xs ys a zero h = refl
 entries_below xs ys a (suc b) h = let here = h b (omega arith) in let rest = entries_below xs ys a b (λ t lt. h t (omega arith)) in λ i. cond (nat_le a b) (entry_of b (here i) ++ rest i) []
 

@@ -1,6 +1,7 @@
 -- What the rule says of the merger's seat, the seat knows.
 use Rattle.std.proofs.Common.{◌≡◌, ℕ, ◌+◌, ◌*◌, ◌≤◌, true, false, Bool, cond, length, map, refl, sym, ap, ◌∙◌, subst, arith, Some}
 use Rattle.atomic_table.specs.Table.{State}
+use Rattle.clsm_model.specs.declared.slot.Slot.{Slot}
 use Rattle.clsm_model.specs.History.{plain}
 use Rattle.clsm_levels.specs.Content.{AgreeBelow}
 use Rattle.clsm_core.specs.declared.word.Word.TheVariants.{Clock}
@@ -23,7 +24,7 @@ use Rattle.clsm_words.specs.declared.known.Known.{Known}
 use Rattle.clsm_words.specs.Knowing.{row_of}
 use Rattle.clsm_words.specs.Merging.{OpensToMerger, known_end, IsSoundMerger}
 use Rattle.clsm_words.specs.Ruled.{world_of, IsMerging, Ruled}
-use Rattle.clsm_words.proofs.Beginnings.{begins_bound, begins_settled}
+use Rattle.clsm_words.proofs.Beginnings.{begins_at, begins_bound, begins_settled}
 use Rattle.clsm_words.proofs.MergerFacts.{same_places, open_known}
 
 -- all merged epochs are known
@@ -88,4 +89,5 @@ module _ (s : State ℕ Known) (k : Known) (r : Ruled k.layout s) (ok : IsMergin
     clock = λ e. all_known (sym (ap (λ (m : MergerView). m.exclusive) ok.view) ∙ e);
     mergeable = subst (IsMergeable k.layout k.row) (sym ok.view) mergeable;
     runs = subst (λ (m : MergerView). AreRuns k.layout (row_of k) (plain k.past) m.merged m.merged_floor) (sym ok.view) runs_known;
+    short = λ t i key written lt e. r.lawful.law.short t i key written (begins_at r.slots k.past ok.past t lt ∙ ap (λ (a : Slot). Some a) e);
   }

@@ -4,3 +4,4 @@ pub mod Keeping
 pub mod Merging
 pub mod Ruled
 pub mod Plays
+pub mod Changing

@@ -1,8 +1,8 @@
 -- What the merger's seat at the words knows: the words that only it changes, the facts that it draws from them, what a step makes of
 -- what it knows, and what each step tells it.
-use Rattle.std.specs.Prelude.{true, ◌≡◌, ℕ, ◌*◌, ◌<◌, ◌≤◌, ◌⊎◌, cond, map, length, slice_index_or, Some}
+use Rattle.std.specs.Prelude.{true, ◌≡◌, ℕ, ◌*◌, ◌<◌, ◌≤◌, ◌⊎◌, cond, map, List, length, slice_index_or, Option, Some}
 use mathlib.Core.List.{IsPrefix}
-use Rattle.clsm_model.specs.declared.slot.Slot.TheVariants.{Nothing}
+use Rattle.clsm_model.specs.declared.slot.Slot.TheVariants.{Nothing, Wrote}
 use Rattle.clsm_model.specs.History.{plain}
 use Rattle.clsm_core.specs.declared.layout.Layout.{Layout}
 use Rattle.clsm_core.specs.declared.word.Word.{Word}
@@ -12,6 +12,7 @@ use Rattle.clsm_core.specs.declared.step.Step.TheVariants.{Look}
 use Rattle.clsm_core.specs.declared.merger.MergerView.{MergerView}
 use Rattle.clsm_core.specs.Memory.{cell_of, region_of, is_word, put}
 use Rattle.clsm_core.specs.Merging.{Facts, is_frozen, is_retired, is_all_quiet, epoch_end, retired_region, IsOpenToMerger, word_of_merger, changed_by_merger, merger_after}
+use Rattle.clsm_core.specs.Relation.{IsShort}
 use Rattle.clsm_core.specs.Worlds.{facts_of}
 use Rattle.clsm_core.specs.Law.{AreRuns}
 use Rattle.clsm_core.specs.Deciding.{IsMergeable}
@@ -48,7 +49,8 @@ abbrev pub known_end : Layout → MergerView → ℕ → ℕ
 known_end z m clock = cond m.exclusive clock (cond (is_frozen m.phase) (epoch_end z m) (m.merged * z.cells))
 
 -- what the merger's seat knows of itself: the words of its open steps are there; the next merge can be decided by the words that it
--- knows, and what its runs hold is what its past says; in its hold of the lock its past ends at the clock
+-- knows, and what its runs hold is what its past says; in its hold of the lock its past ends at the clock; a write of its past is a removal or
+-- has one to eight words
 pub record IsSoundMerger (k : Known) : Type 0 where
   pub merges : k.merges ≡ true
   pub there : (step : Step) → OpensToMerger k step → is_word k.layout (word_of_merger k.layout k.merger step) ≡ true
@@ -57,6 +59,7 @@ pub record IsSoundMerger (k : Known) : Type 0 where
   pub clock : k.merger.exclusive ≡ true → length k.past ≡ row_of k Clock
   pub mergeable : IsMergeable k.layout k.row k.merger
   pub runs : AreRuns k.layout (row_of k) (plain k.past) k.merger.merged k.merger.merged_floor
+  pub short : (t i key : ℕ) (written : Option (List ℕ)) → t < length k.past → slice_index_or k.past t Nothing ≡ Wrote i key written → IsShort written
 
 -- ---- what a step tells
 

@@ -2,61 +2,14 @@
 ghost use Rattle.std.specs.Prelude.{◌≡◌};
 ghost use Rattle.clsm_store.specs.Seats.{AreNew};
 
+use super::gate::{Gate, HELD, LET_GO, NOBODY, OPEN};
 use super::*;
 use clsm_core::Word;
 use clsm_words::Kind;
-use std::sync::atomic::AtomicU64;
-use std::sync::atomic::Ordering::SeqCst;
 use std::test::*;
-use std::thread;
 use std::thread::{Threads, join};
 
-/// How often a thread looks for its turn before it goes on without it.
-const TURNS: u64 = 10_000_000;
-
 const KEY: u64 = 7;
-
-/// Holds seat 0 the first time that it is about to make this kind of step.
-#[derive(Drop)]
-struct Gate {
-    at: Kind,
-    turn: AtomicU64,
-}
-
-/// The turns: nobody is at the gate, seat 0 is held there, it was let go, and it waited too long.
-const NOBODY: u64 = 0;
-
-const HELD: u64 = 1;
-
-const LET_GO: u64 = 2;
-
-const TOO_LONG: u64 = 3;
-
-impl Gate {
-    /// Waits while this is the turn, but not for ever.
-    fn wait_while(&self, turn: u64) {
-        for _ in 0..TURNS {
-            if self.turn.load(SeqCst) != turn {
-                return;
-            }
-            thread::yield_now();
-        }
-    }
-
-    /// Takes the turn from one to the other. Answers whether it was the first.
-    fn pass(&self, from: u64, to: u64) -> bool {
-        self.turn.compare_exchange(from, to, SeqCst, SeqCst).is_ok()
-    }
-}
-
-impl Pace for Gate {
-    fn step(&self, seat: u64, kind: Kind) {
-        if seat == 0 && kind == self.at && self.pass(NOBODY, HELD) {
-            self.wait_while(HELD);
-            self.pass(HELD, TOO_LONG);
-        }
-    }
-}
 
 #[derive(Clone, Copy, Debug)]
 enum Call {
@@ -108,8 +61,7 @@ fn make_meanwhile<R: Abort + Wait>(
 ) -> (Answer, bool)
     requires { seat.store ≡ store.now }
 {
-    store.pace.wait_while(NOBODY);
-    let held = store.pace.turn.load(SeqCst) == HELD;
+    let held = store.pace.wait_while(NOBODY);
     let answer = make(rt, store, &mut seat, call);
     let still = store.pace.pass(HELD, LET_GO);
     (answer, held && still)
@@ -144,10 +96,7 @@ fn race<R: Abort + Threads + Wait + Sync>(
 fn gated(rt: &impl Abort, alloc: Global, at: Kind) -> Opened<Gate>
     ensures { AreNew result.store 2 result.seats.items }
 {
-    let gate = Gate {
-        at,
-        turn: AtomicU64::new(NOBODY),
-    };
+    let gate = Gate::new(0, at, NOBODY);
     open_paced(alloc, FOUR_CELLS, gate).expect(rt, "memory")
 }
 
@@ -327,10 +276,7 @@ fn check_put<R: Abort + Threads + Wait + Sync>(
     time: Time,
     after: Got,
 ) {
-    let gate = Gate {
-        at,
-        turn: AtomicU64::new(LET_GO),
-    };
+    let gate = Gate::new(0, at, OPEN);
     let config = Config {
         patience: 0,
         ..FOUR_CELLS
@@ -343,7 +289,7 @@ fn check_put<R: Abort + Threads + Wait + Sync>(
     let second = take_seat(rt, &store, &mut seats);
     let mut first = take_seat(rt, &store, &mut seats);
     assert_eq!(rt; put(rt, &store, &mut first, KEY, &[10]), Ok(0));
-    store.pace.pass(LET_GO, NOBODY);
+    store.pace.pass(OPEN, NOBODY);
     let (one, other) = race(rt, &store, first, Call::Put, second, Call::Get);
     let (mut first, answer) = one;
     let (read, held) = other;

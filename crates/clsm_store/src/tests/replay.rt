@@ -4,6 +4,7 @@ ghost use Rattle.std.specs.Prelude.{◌≡◌};
 use super::*;
 use clsm_model::{Change, PlainMap, Slot};
 use std::test::*;
+use std::thread;
 use std::thread::{Threads, join};
 
 // read-modify-writes that overtake one another may use up the times: what is refused then is left out
@@ -15,13 +16,16 @@ const FOUR_SEATS: Config = Config {
     patience: 64,
 };
 
-const CALLS: u64 = 1_000;
+/// A thread makes so many calls that are answered, and at most so many in all.
+const CALLS: usize = 1_000;
+
+const ATTEMPTS: u64 = 20_000;
 
 const KEYS: u64 = 8;
 
 /// What a call answered: its time, its key, the value that it read, if it read, and what it wrote, if it wrote.
 #[derive(Clone, Copy, Debug)]
-struct Answered {
+pub(super) struct Answered {
     time: Time,
     key: u64,
     read: Option<Option<Value>>,
@@ -133,7 +137,7 @@ fn call<R: Abort + Wait>(
     }
 }
 
-/// Makes its calls, and answers what they answered.
+/// Makes its calls, and answers what they answered. Where one is refused, other threads go on first.
 fn work<R: Abort + Wait>(
     rt: &R,
     alloc: Global,
@@ -144,13 +148,17 @@ fn work<R: Abort + Wait>(
 {
     let mut answers = Vec::new(alloc);
     let mut word = seat.number() as u64;
-    for _ in 0..CALLS {
+    for _ in 0..ATTEMPTS {
+        if answers.len() == CALLS {
+            break;
+        }
         // Knuth's linear congruential sequence
         word = word
             .wrapping_mul(6_364_136_223_846_793_005)
             .wrapping_add(1_442_695_040_888_963_407);
-        if let Some(answer) = call(rt, store, &mut seat, word) {
-            answers.push(answer).expect(rt, "memory");
+        match call(rt, store, &mut seat, word) {
+            Some(answer) => answers.push(answer).expect(rt, "memory"),
+            None => thread::yield_now(),
         }
     }
     answers
@@ -208,7 +216,7 @@ fn replay(rt: &impl Abort, alloc: Global, answers: &[Answered]) {
 }
 
 /// Four threads work.
-fn four<R: Abort + Threads + Wait + Sync>(
+pub(super) fn four<R: Abort + Threads + Wait + Sync>(
     rt: &R,
     alloc: Global,
     store: &Store<Free>,
@@ -238,6 +246,25 @@ fn four<R: Abort + Threads + Wait + Sync>(
     )
 }
 
+/// What all threads answered, replayed.
+pub(super) fn replay_all(
+    rt: &impl Abort,
+    alloc: Global,
+    answered: (
+        (Vec<Answered>, Vec<Answered>),
+        (Vec<Answered>, Vec<Answered>),
+    ),
+) {
+    let (left, right) = answered;
+    let (mut answers, second) = left;
+    let (third, fourth) = right;
+    answers.extend_from_slice(&second).expect(rt, "memory");
+    answers.extend_from_slice(&third).expect(rt, "memory");
+    answers.extend_from_slice(&fourth).expect(rt, "memory");
+    answers.sort_by_key(place_of).expect(rt, "memory");
+    replay(rt, alloc, &answers);
+}
+
 #[test]
 fn calls_of_four_threads_answer_as_a_plain_map(rt: HostRuntime) -> Result<(), Fail> {
     let Opened {
@@ -249,13 +276,7 @@ fn calls_of_four_threads_answer_as_a_plain_map(rt: HostRuntime) -> Result<(), Fa
     let c = take_seat(&rt, &store, &mut seats);
     let b = take_seat(&rt, &store, &mut seats);
     let a = take_seat(&rt, &store, &mut seats);
-    let (left, right) = four(&rt, rt.alloc(), &store, a, b, c, d);
-    let (mut answers, second) = left;
-    let (third, fourth) = right;
-    answers.extend_from_slice(&second).expect(&rt, "memory");
-    answers.extend_from_slice(&third).expect(&rt, "memory");
-    answers.extend_from_slice(&fourth).expect(&rt, "memory");
-    answers.sort_by_key(place_of).expect(&rt, "memory");
-    replay(&rt, rt.alloc(), &answers);
+    let answered = four(&rt, rt.alloc(), &store, a, b, c, d);
+    replay_all(&rt, rt.alloc(), answered);
     Ok(())
 }

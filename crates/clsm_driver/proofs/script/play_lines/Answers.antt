@@ -21,4 +21,5 @@ loop-number-preserved g c =
       leads = subst (LeadsTo _ _) (omega arith)
           (leads_on _ _ _ _ _ _ c.loop-number.invariant.leads c.in_ok-read_line.ensures.found c.if-not-branch.false c.in_ok-read_line.ensures.takes good);
       store = c.play_line.ensures.store ∙ c.loop-number.invariant.store;
+      merger = c.in_ok-phase.ensures.merger;
     }

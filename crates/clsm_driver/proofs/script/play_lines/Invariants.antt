@@ -1,9 +1,11 @@
 use Rattle.std.proofs.Common.{◌≡◌, ◌-◌}
 use Rattle.clsm_driver.proofs.Scripts.{LeadsTo}
+use Rattle.clsm_driver.specs.Phase.{merger_of}
 use Rattle.clsm_driver.proofs.script.play_lines.Given as goal
 
 abbrev pub invariant-loop-number : goal.invariant-loop-number
 invariant-loop-number g l = record {
   leads : LeadsTo (g.R.Read.remaining l.initial.reader) (g.R.Read.remaining l.reader) (l.number - 1);
   store : l.seat.store ≡ l.store;
+  merger : (merger_of l.phase).store ≡ l.store;
 }

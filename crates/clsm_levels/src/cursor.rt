@@ -1,0 +1,29 @@
+ghost use Rattle.std.specs.Prelude.{length, MatchOption};
+ghost use Rattle.clsm_levels.specs.Cursors.{IsLeast, IsEmptied};
+
+use crate::entry::Entry;
+
+/// How far a row of entries has been read.
+#[derive(Clone, Copy)]
+pub struct Cursor {
+    pub position: u64,
+    /// The entry at the position, if the row has one.
+    pub head: Option<Entry>,
+}
+
+/// The first of the cursors whose heads have the least key, and its head. None, where no cursor has a head.
+pub fn least(cursors: &[Cursor]) -> Option<(usize, Entry)>
+    ensures { MatchOption result (IsEmptied cursors.now (length cursors.now))
+        (λ p. IsLeast cursors.now (length cursors.now) p.0 p.1) }
+{
+    let mut best: Option<(usize, Entry)> = None;
+    for (index, cursor) in cursors.iter().enumerate() {
+        if let Some(entry) = cursor.head {
+            match best {
+                Some((_, Entry { key, .. })) if key <= entry.key => {}
+                _ => best = Some((index, entry)),
+            }
+        }
+    }
+    best
+}

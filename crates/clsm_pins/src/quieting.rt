@@ -1,0 +1,43 @@
+//! Whether a seat holds anything retired.
+ghost use Rattle.std.specs.Prelude.{◌≡◌, ◌<◌, true, false};
+ghost use Rattle.clsm_core.specs.Merging.{is_retired, retiree_at, retiree_by};
+ghost use Rattle.clsm_words.specs.Plays.{IsSeatOf};
+ghost use Rattle.clsm_pins.specs.Quieting.{IsNotedOdd, LooksAtPin};
+
+use clsm_core::{Retiree, Word};
+use clsm_words::{Pace, RawMerger, Steps};
+
+/// What is noted of a seat whose pin word is this now: it is quiet where the word is even, as no read runs, or where it differs from the one first
+/// noted in this retirement, as that read has ended.
+fn noted(seen: Retiree, word: u64) -> Retiree
+    ensures noted { result ≡ retiree_by seen word }
+    ensures loud { result.quiet ≡ false → IsNotedOdd result.first_pin }
+{
+    let differs = seen.first_pin.is_some_and(|first| first != word);
+    Retiree {
+        first_pin: Some(seen.first_pin.unwrap_or(word)),
+        quiet: seen.quiet || word % 2 == 0 || differs,
+    }
+}
+
+/// Looks once at the pin word of the seat with this number, and answers whether the seat holds nothing of the retired component: it stays so
+/// until the next merge. `seen` is what was noted of the seat in this retirement. It never waits and is never refused.
+pub fn quiet<P: Pace>(
+    steps: &Steps<P>,
+    merger: &mut RawMerger,
+    seat: u64,
+    seen: &mut Retiree,
+) -> bool
+    requires of { IsSeatOf steps.now.words.now merger.old }
+    requires retired { is_retired merger.old.knows.merger.phase ≡ true }
+    requires inside { seat < merger.old.knows.layout.seats }
+    requires seen { seen.old ≡ retiree_at merger.old.knows.merger.retirees seat }
+    ensures of { IsSeatOf steps.now.words.now merger.new }
+    ensures looked { LooksAtPin merger.old.knows merger.new.knows seat seen.new }
+    ensures quiet { result ≡ seen.new.quiet }
+    ensures loud { result ≡ false → IsNotedOdd seen.new.first_pin }
+{
+    let word = steps.look_as_merger(merger, Word::Pin(seat));
+    *seen = noted(*seen, word);
+    seen.quiet
+}

@@ -1,0 +1,118 @@
+use Rattle.std.proofs.Common.{◌≡◌, ℕ, ◌<◌, ◌∷◌, [], List, Ok, Err, IfErr, length, arith, sym, ◌∙◌, ap, subst}
+use Rattle.std.specs.declared.result.Result.{Result}
+use Rattle.clsm_levels.specs.declared.entry.Entry.{Entry}
+use Rattle.clsm_levels.specs.Cursors.{HeadsOf, rests}
+use Rattle.clsm_levels.specs.Merge.{is_to_level_one, kept, merged}
+use Rattle.clsm_levels.specs.Run.{all_of}
+use Rattle.clsm_core.specs.declared.layout.Layout.{Layout}
+use Rattle.clsm_core.specs.declared.merger.MergerView.{MergerView}
+use Rattle.clsm_core.specs.Memory.{room_of}
+use Rattle.clsm_core.specs.Merging.{target_of}
+use Rattle.clsm_runs.specs.declared.merging.RunFull.{RunFull}
+use Rattle.clsm_words.specs.Changing.{Changes, NoWord}
+use Rattle.clsm_runs.specs.Placing.{IsOfPlace, rows_of}
+use Rattle.clsm_runs.specs.Outputs.{AreSources, LeavesOff, kept_of}
+use Rattle.clsm_words.proofs.Changing.{changes_more, changes_trans}
+use Rattle.clsm_runs.proofs.Remaining.{output_stays}
+use Rattle.clsm_runs.proofs.Finishing.{has_written, left_at_first, left_looked}
+use Rattle.clsm_runs.proofs.MergeRows.{rows_stay}
+use Rattle.clsm_runs.proofs.MergeSources.{are_sources}
+use Rattle.clsm_runs.proofs.merging.merge.Goals as goal
+
+where_refused : (Q : Type 0) (r : Result (Unit {0}) RunFull) → Q → IfErr r (λ refusal. Q)
+where_refused Q (Ok done) q = tt
+where_refused Q (Err refusal) q = q
+
+pub loop-entry-init : goal.loop-entry-init
+loop-entry-init g c =
+    let k = c.args.merger.now.knows in
+    let k' = c.open_cursors-cursors.new.merger.knows in
+    let looks = c.open_cursors-cursors.ensures.looks in
+    let rows = rows_of k c.args.epoch.now in
+    let first = left_at_first k' c.open_output-output.result rows c.open_cursors-cursors.result c.args.floor c.args.merges c.open_output-output.ensures.begins c.open_output-output.ensures.rule c.open_cursors-cursors.ensures.begins in
+    record {
+      of = c.open_cursors-cursors.ensures.of;
+      changes = changes_more NoWord (IsOfPlace (target_of k.merger)) k k' (λ word no. absurd no) looks;
+      output = output_stays NoWord k k' c.open_output-output.result looks c.open_output-output.ensures.output;
+      place = c.open_output-output.ensures.place;
+      long = c.open_cursors-cursors.ensures.long;
+      heads = c.open_cursors-cursors.ensures.heads;
+      left = subst (λ (m : ℕ). LeavesOff k' c.open_output-output.result (merged (rests rows c.open_cursors-cursors.result)) (kept c.args.floor (is_to_level_one m) (merged (all_of rows)))) (sym c.requires.merging.merged) first;
+    }
+
+pub next-requires-clause-sources : goal.next-requires-clause-sources
+next-requires-clause-sources g c =
+    let k = c.args.merger.now.knows in
+    let inv = c.loop-entry.invariant in
+    subst AreSources (sym (rows_stay k c.loop-entry.merger.knows c.args.epoch.now inv.changes)) (are_sources k c.is_sound.ensures c.args.epoch.now c.requires.sorted c.requires.early c.requires.few)
+
+pub next-requires-clause-heads : goal.next-requires-clause-heads
+next-requires-clause-heads g c =
+    let k = c.args.merger.now.knows in
+    let inv = c.loop-entry.invariant in
+    subst (λ (rows : List (List Entry)). HeadsOf rows c.loop-entry.cursors) (sym (rows_stay k c.loop-entry.merger.knows c.args.epoch.now inv.changes)) inv.heads
+
+pub loop-entry-smaller : goal.loop-entry-smaller
+loop-entry-smaller g c =
+    let k = c.args.merger.now.knows in
+    let inv = c.loop-entry.invariant in
+    let rows = rows_of k c.args.epoch.now in
+    let picked : merged (rests rows c.loop-entry.cursors) ≡ c.in-Some.entry ∷ merged (rests rows c.next.new.cursors) = subst (λ (rows : List (List Entry)). merged (rests rows c.loop-entry.cursors) ≡ c.in-Some.entry ∷ merged (rests rows c.next.new.cursors))
+    (rows_stay k c.loop-entry.merger.knows c.args.epoch.now inv.changes) c.in-Some.ensures.next.0 in
+    let less : length (merged (rests rows c.next.new.cursors)) < length (merged (rests rows c.loop-entry.cursors)) = omega (arith, ap (λ (l : List Entry). length l) picked) in
+    less
+
+pub loop-entry-preserved : goal.loop-entry-preserved
+loop-entry-preserved g c =
+    let k = c.args.merger.now.knows in
+    let now = c.loop-entry.merger.knows in
+    let then = c.next.new.merger.knows in
+    let inv = c.loop-entry.invariant in
+    let rows = rows_of k c.args.epoch.now in
+    let same = rows_stay k now c.args.epoch.now inv.changes in
+    let picked : merged (rests rows c.loop-entry.cursors) ≡ c.in-Some.entry ∷ merged (rests rows c.next.new.cursors) = subst (λ (rows : List (List Entry)). merged (rests rows c.loop-entry.cursors) ≡ c.in-Some.entry ∷ merged (rests rows c.next.new.cursors)) same c.in-Some.ensures.next.0 in
+    let all = kept_of k c.args.floor c.args.epoch.now in
+    let looks = c.in-Some.ensures.looks in
+    let taken = c.in_ok-take.ensures in
+    let before : LeavesOff then c.loop-entry.output (c.in-Some.entry ∷ merged (rests rows c.next.new.cursors)) all = subst (λ (l : List Entry). LeavesOff then c.loop-entry.output l all) picked (left_looked now then c.loop-entry.output (merged (rests rows c.loop-entry.cursors)) all looks inv.left) in
+    let target = target_of k.merger in
+    let first = changes_trans (IsOfPlace target) k now then inv.changes (changes_more NoWord (IsOfPlace target) now then (λ word no. absurd no) looks) in
+    record {
+      of = taken.of;
+      changes = changes_trans (IsOfPlace target) k then c.take.new.merger.knows first (subst (λ (p : ℕ). Changes (IsOfPlace p) then c.take.new.merger.knows) inv.place taken.changes);
+      output = taken.output;
+      place = taken.same.place ∙ inv.place;
+      long = c.in-Some.ensures.long;
+      heads = subst (λ (rows : List (List Entry)). HeadsOf rows c.next.new.cursors) same c.in-Some.ensures.heads;
+      left = taken.goes_on (merged (rests rows c.next.new.cursors)) all before;
+    }
+
+pub returns-in_err-take-clause-full : goal.returns-in_err-take-clause-full
+returns-in_err-take-clause-full g c =
+    let k = c.args.merger.now.knows in
+    let now = c.loop-entry.merger.knows in
+    let then = c.next.new.merger.knows in
+    let inv = c.loop-entry.invariant in
+    let o = c.loop-entry.output in
+    let rows = rows_of k c.args.epoch.now in
+    let all = kept_of k c.args.floor c.args.epoch.now in
+    let picked : merged (rests rows c.loop-entry.cursors) ≡ c.in-Some.entry ∷ merged (rests rows c.next.new.cursors) = subst (λ (rows : List (List Entry)). merged (rests rows c.loop-entry.cursors) ≡ c.in-Some.entry ∷ merged (rests rows c.next.new.cursors)) (rows_stay k now c.args.epoch.now inv.changes) c.in-Some.ensures.next.0 in
+    let before : LeavesOff then o (c.in-Some.entry ∷ merged (rests rows c.next.new.cursors)) all = subst (λ (l : List Entry). LeavesOff then o l all) picked (left_looked now then o (merged (rests rows c.loop-entry.cursors)) all c.in-Some.ensures.looks inv.left) in
+    let full = c.in_err-take.ensures.full (merged (rests rows c.next.new.cursors)) all before in
+    let room : o.room ≡ room_of k.layout (target_of k.merger) = inv.output.room ∙ ap (room_of now.layout) inv.place ∙ ap (λ (z : Layout). room_of z (target_of k.merger)) inv.changes.layout in
+    where_refused (room_of k.layout (target_of k.merger) < length all) c.from_residual.result (omega arith)
+
+pub returns-clause-written : goal.returns-clause-written
+returns-clause-written g c =
+    let k = c.args.merger.now.knows in
+    let now = c.loop-entry.merger.knows in
+    let then = c.next.new.merger.knows in
+    let inv = c.loop-entry.invariant in
+    let o = c.loop-entry.output in
+    let rows = rows_of k c.args.epoch.now in
+    let all = kept_of k c.args.floor c.args.epoch.now in
+    let none : rests rows c.loop-entry.cursors ≡ [] = subst (λ (rows : List (List Entry)). rests rows c.loop-entry.cursors ≡ []) (rows_stay k now c.args.epoch.now inv.changes) c.in_default.ensures.next in
+    let looks = c.in_default.ensures.looks in
+    let left : LeavesOff then o [] all = subst (λ (l : List Entry). LeavesOff then o (merged l) all) none (left_looked now then o (merged (rests rows c.loop-entry.cursors)) all looks inv.left) in
+    has_written then c.write_run.new.seat.knows o all c.write_run.ensures.0 left (output_stays NoWord now then o looks inv.output)
+    (inv.place ∙ ap (λ (m : MergerView). target_of m) (sym inv.changes.view) ∙ ap (λ (m : MergerView). target_of m) (sym looks.view)) c.write_run.ensures.1.1

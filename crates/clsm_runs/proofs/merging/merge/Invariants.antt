@@ -1,0 +1,23 @@
+use Rattle.std.proofs.Common.{◌≡◌, length}
+use Rattle.clsm_levels.specs.Cursors.{HeadsOf, rests}
+use Rattle.clsm_levels.specs.Merge.{merged}
+use Rattle.clsm_core.specs.Merging.{target_of}
+use Rattle.clsm_words.specs.Plays.{IsSeatOf}
+use Rattle.clsm_runs.specs.Outputs.{IsOutput, LeavesOff, kept_of}
+use Rattle.clsm_words.specs.Changing.{Changes}
+use Rattle.clsm_runs.specs.Placing.{IsOfPlace, rows_of}
+use Rattle.clsm_runs.proofs.merging.merge.Given as goal
+
+abbrev pub invariant-loop-entry : goal.invariant-loop-entry
+invariant-loop-entry g l = record {
+  of : IsSeatOf l.steps.words.now l.merger;
+  changes : Changes (IsOfPlace (target_of l.fn.merger.knows.merger)) l.fn.merger.knows l.merger.knows;
+  output : IsOutput l.merger.knows l.output;
+  place : l.output.place ≡ target_of l.fn.merger.knows.merger;
+  long : length l.cursors ≡ 5;
+  heads : HeadsOf (rows_of l.fn.merger.knows l.epoch) l.cursors;
+  left : LeavesOff l.merger.knows l.output (merged (rests (rows_of l.fn.merger.knows l.epoch) l.cursors)) (kept_of l.fn.merger.knows l.floor l.epoch);
+}
+
+abbrev pub decreases-loop-entry : goal.decreases-loop-entry
+decreases-loop-entry g l = length (merged (rests (rows_of l.fn.merger.knows l.epoch) l.cursors))

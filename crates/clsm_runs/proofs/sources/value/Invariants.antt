@@ -1,0 +1,14 @@
+use Rattle.std.proofs.Common.{◌≡◌, length, take}
+use Rattle.clsm_core.specs.Places.{value_words}
+use Rattle.clsm_words.specs.Knowing.{row_of}
+use Rattle.clsm_words.specs.Plays.{IsSeatOf}
+use Rattle.clsm_words.specs.Changing.{Changes, NoWord}
+use Rattle.clsm_runs.proofs.sources.value.Given as goal
+
+abbrev pub invariant-loop-index : goal.invariant-loop-index
+invariant-loop-index g l = record {
+  of : IsSeatOf l.steps.words.now l.merger;
+  looks : Changes NoWord l.fn.merger.knows l.merger.knows;
+  long : length l.words ≡ 8;
+  words : take l.index l.words ≡ take l.index (value_words (row_of l.fn.merger.knows) l.place l.entry);
+}

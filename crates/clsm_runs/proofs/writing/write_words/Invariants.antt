@@ -1,0 +1,14 @@
+use Rattle.std.proofs.Common.{◌≡◌, ℕ, ◌+◌, ◌<◌, get_or}
+use Rattle.clsm_core.specs.declared.word.Word.TheVariants.{Entry as EntryWord}
+use Rattle.clsm_words.specs.Knowing.{row_of}
+use Rattle.clsm_words.specs.Plays.{IsSeatOf}
+use Rattle.clsm_words.specs.Changing.{Changes}
+use Rattle.clsm_runs.specs.Placing.{IsOfEntry}
+use Rattle.clsm_runs.proofs.writing.write_words.Given as goal
+
+abbrev pub invariant-loop-index : goal.invariant-loop-index
+invariant-loop-index g l = record {
+  of : IsSeatOf l.steps.words.now l.merger;
+  changes : Changes (IsOfEntry l.place l.entry) l.fn.merger.knows l.merger.knows;
+  made : (j : ℕ) → j < l.index → row_of l.merger.knows (EntryWord l.place l.entry (3 + j)) ≡ get_or l.words j 0;
+}

@@ -1,0 +1,71 @@
+-- A merge: its sources are read by cursors, and what is kept of them is written behind one another.
+use Rattle.std.specs.Prelude.{◌≡◌, ℕ, ◌^◌, ◌<◌, ◌≤◌, true, false, List, [], ◌∷◌, ◌++◌, length, Option, Some, None}
+use Rattle.std.specs.List.{AllByRecursion}
+use Rattle.clsm_levels.specs.declared.entry.Entry.{Entry}
+use Rattle.clsm_levels.specs.declared.cursor.Cursor.{Cursor}
+use Rattle.clsm_levels.specs.Cursors.{AllRise, rests}
+use Rattle.clsm_levels.specs.Entry.{AreBelow}
+use Rattle.clsm_levels.specs.Merge.{is_to_level_one, kept, merged}
+use Rattle.clsm_levels.specs.Pass.{kept_after}
+use Rattle.clsm_levels.specs.Run.{all_of}
+use Rattle.clsm_core.specs.declared.word.Word.TheVariants.{Count}
+use Rattle.clsm_core.specs.Memory.{room_of}
+use Rattle.clsm_core.specs.Merging.{is_frozen, target_of}
+use Rattle.clsm_core.specs.Places.{entries_from, entries_in, is_named}
+use Rattle.clsm_core.specs.Worlds.{are_canonical, is_canonical, passes_from}
+use Rattle.clsm_words.specs.declared.known.Known.{Known}
+use Rattle.clsm_words.specs.Knowing.{row_of}
+use Rattle.clsm_runs.specs.declared.output.Output.{Output}
+use Rattle.clsm_runs.specs.Placing.{rows_of}
+
+-- an epoch is frozen behind so many merges
+pub record IsMerging (k : Known) (merges : ℕ) : Type 0 where
+  pub frozen : is_frozen k.merger.phase ≡ true
+  pub free : k.merger.exclusive ≡ false
+  pub merged : k.merger.merged ≡ merges
+
+-- ---- what is read
+
+-- each row is by rising key, and neither its times nor its entries' numbers are so great that words do not hold them
+pub record AreSources (rows : List (List Entry)) : Type 0 where
+  pub rise : AllRise rows
+  pub early : AllByRecursion (AreBelow (2 ^ 62)) rows
+  pub few : AllByRecursion (λ row. length row < 2 ^ 62) rows
+
+-- the next entry of the rows by rising key is taken, or there is none
+abbrev pub IsNextOf : List (List Entry) → List Cursor → List Cursor → Option Entry → Type 0
+IsNextOf rows before after None = rests rows before ≡ []
+IsNextOf rows before after (Some e) = (merged (rests rows before) ≡ e ∷ merged (rests rows after)) × (e.time < 2 ^ 62)
+
+-- ---- what is written
+
+-- an epoch is frozen, no reader searches the place, and its room is this
+pub record IsOutput (k : Known) (o : Output) : Type 0 where
+  pub frozen : is_frozen k.merger.phase ≡ true
+  pub unnamed : is_named k.merger.merged o.place ≡ false
+  pub there : o.place < 5
+  pub room : o.room ≡ room_of k.layout o.place
+  pub few : o.count ≤ o.room
+
+pub record IsSameOutput (o o' : Output) : Type 0 where
+  pub place : o'.place ≡ o.place
+  pub room : o'.room ≡ o.room
+  pub floor : o'.floor ≡ o.floor
+  pub to_level_one : o'.to_level_one ≡ o.to_level_one
+
+-- what is written, and what will be kept of the rest, are all that is to be kept; no word says more than the entries
+pub record LeavesOff (k : Known) (o : Output) (rest all : List Entry) : Type 0 where
+  pub split : entries_from (row_of k) o.place 0 o.count ++ kept_after o.settled o.floor o.to_level_one rest ≡ all
+  pub canonical : passes_from (is_canonical (row_of k) o.place) 0 o.count ≡ true
+
+-- ---- the whole
+
+-- what a merge with this floor keeps of the epoch's sorted writes, and of the runs where it writes level 1
+abbrev pub kept_of : Known → ℕ → List Entry → List Entry
+kept_of k floor epoch = kept floor (is_to_level_one k.merger.merged) (merged (all_of (rows_of k epoch)))
+
+-- the place of the next merge holds these entries, and has room for them, and no word of it says more
+pub record HasWritten (k : Known) (entries : List Entry) : Type 0 where
+  pub written : entries_in (row_of k) (target_of k.merger) ≡ entries
+  pub fits : row_of k (Count (target_of k.merger)) ≤ room_of k.layout (target_of k.merger)
+  pub canonical : are_canonical (row_of k) (target_of k.merger) ≡ true

@@ -1,0 +1,112 @@
+//! The merge of an epoch's writes, with the runs where it writes level 1.
+ghost use Rattle.std.specs.Prelude.{◌≡◌, ◌%◌, ◌==◌, ◌<◌, ◌^◌, ◌∷◌, List, None, IfErr, OnOk, length};
+ghost use Rattle.std.specs.List.{AllByRecursion};
+ghost use Rattle.clsm_core.specs.Memory.{room_of};
+ghost use Rattle.clsm_core.specs.Merging.{target_of};
+ghost use Rattle.clsm_levels.specs.declared.entry.Entry.{Entry};
+ghost use Rattle.clsm_levels.specs.Entry.{AreBelow};
+ghost use Rattle.clsm_levels.specs.Merge.{is_to_level_one};
+ghost use Rattle.clsm_levels.specs.Run.{IsRun};
+ghost use Rattle.clsm_words.specs.Plays.{IsSeatOf};
+ghost use Rattle.clsm_runs.specs.Outputs.{HasWritten, IsMerging, IsOutput, IsSameOutput, LeavesOff, kept_of};
+ghost use Rattle.clsm_words.specs.Changing.{Changes};
+ghost use Rattle.clsm_runs.specs.Placing.{IsOfPlace};
+
+use crate::output::Output;
+use crate::rows::{next, open_cursors};
+use crate::writing::write_entry;
+use clsm_core::Word;
+use clsm_levels::{Entry, judge};
+use clsm_model::Time;
+use clsm_words::{Pace, RawMerger, Steps};
+use thiserror::Error;
+
+/// The refusal of a merge, number 1: a merge into level 1 would keep more entries than a run has room for.
+#[derive(Clone, Copy, PartialEq, Eq, Debug, Error)]
+#[error("run full")]
+pub struct RunFull;
+
+/// The run that the merge after so many writes, with nothing in it.
+fn open_output<P: Pace>(steps: &Steps<P>, merger: &RawMerger, merges: u64, floor: Time) -> Output
+    requires of { IsSeatOf steps.now.words.now merger.now }
+    requires merging { IsMerging merger.now.knows merges }
+    ensures output { IsOutput merger.now.knows result }
+    ensures place { result.place ≡ target_of merger.now.knows.merger }
+    ensures begins { (result.count ≡ 0) × (result.settled ≡ None) }
+    ensures rule { (result.floor ≡ floor) × (result.to_level_one ≡ is_to_level_one merges) }
+{
+    let layout = &steps.words.layout;
+    let to_level_one = merges % 4 == 3;
+    let (place, room) = if to_level_one {
+        (3 + (merges / 4 + 1) % 2, layout.run)
+    } else {
+        (merges % 4, layout.cells)
+    };
+    Output {
+        place,
+        room,
+        count: 0,
+        floor,
+        to_level_one,
+        settled: None,
+    }
+}
+
+/// Writes the next entry by rising key, if it is kept. Refused where there is no room for it.
+fn take<P: Pace>(
+    steps: &Steps<P>,
+    merger: &mut RawMerger,
+    output: &mut Output,
+    entry: Entry,
+) -> Result<(), RunFull>
+    requires of { IsSeatOf steps.now.words.now merger.old }
+    requires output { IsOutput merger.old.knows output.old }
+    requires early { entry.time < 2 ^ 62 }
+    ensures of { IsSeatOf steps.now.words.now merger.new }
+    ensures changes { Changes (IsOfPlace output.old.place) merger.old.knows merger.new.knows }
+    ensures output { IsOutput merger.new.knows output.new }
+    ensures same { IsSameOutput output.old output.new }
+    ensures goes_on { OnOk result ((rest all : List Entry) → LeavesOff merger.old.knows output.old (entry ∷ rest) all → LeavesOff merger.new.knows output.new rest all) }
+    ensures full { IfErr result (λ refusal. (rest all : List Entry) → LeavesOff merger.old.knows output.old (entry ∷ rest) all → output.old.room < length all) }
+{
+    let (is_kept, settled) = judge(output.settled, entry, output.floor, output.to_level_one);
+    if is_kept {
+        if output.count == output.room {
+            return Err(RunFull);
+        }
+        write_entry(steps, merger, output.place, output.count, &entry);
+        output.count += 1;
+    }
+    output.settled = settled;
+    Ok(())
+}
+
+/// Writes what the next merge keeps by this floor at its place, behind one another by rising key: of the frozen epoch's writes, which are given
+/// sorted, where it writes level 0, and of these and all runs where it writes level 1. It takes no memory and never waits. Refused, with
+/// what is written there unseen by any reader, where that is more than the place has room for.
+pub fn merge<P: Pace>(
+    steps: &Steps<P>,
+    merger: &mut RawMerger,
+    merges: u64,
+    floor: Time,
+    epoch: &[Entry],
+) -> Result<(), RunFull>
+    requires of { IsSeatOf steps.now.words.now merger.old }
+    requires merging { IsMerging merger.old.knows merges }
+    requires sorted { IsRun epoch.now }
+    requires early { AreBelow (2 ^ 62) epoch.now }
+    requires few { length epoch.now < 2 ^ 62 }
+    ensures of { IsSeatOf steps.now.words.now merger.new }
+    ensures changes { Changes (IsOfPlace (target_of merger.old.knows.merger)) merger.old.knows merger.new.knows }
+    ensures written { OnOk result (HasWritten merger.new.knows (kept_of merger.old.knows floor epoch.now)) }
+    ensures full { IfErr result (λ refusal. room_of merger.old.knows.layout (target_of merger.old.knows.merger) < length (kept_of merger.old.knows floor epoch.now)) }
+{
+    merger.is_sound();
+    let mut output = open_output(steps, merger, merges, floor);
+    let mut cursors = open_cursors(steps, merger, merges, epoch);
+    while let Some(entry) = next(steps, merger, merges, epoch, &mut cursors) {
+        take(steps, merger, &mut output, entry)?;
+    }
+    steps.write_run(merger, Word::Count(output.place), output.count);
+    Ok(())
+}

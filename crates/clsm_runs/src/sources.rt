@@ -1,0 +1,89 @@
+//! Looks of the merger at the merged runs.
+ghost use Rattle.std.specs.Prelude.{◌≡◌, ◌≢◌, ◌%◌, ◌<◌, ◌≤◌, Some};
+ghost use Rattle.clsm_core.specs.Places.{entry_in};
+ghost use Rattle.clsm_words.specs.Knowing.{row_of};
+ghost use Rattle.clsm_words.specs.Plays.{IsSeatOf};
+ghost use Rattle.clsm_words.specs.Changing.{Changes, NoWord};
+ghost use Rattle.clsm_runs.specs.Placing.{IsMergedEntry};
+ghost use Rattle.clsm_runs.specs.Searching.{part_of};
+
+use crate::reading::{KEY, LENGTH, TIME, VALUE};
+use clsm_core::Word;
+use clsm_levels::Entry;
+use clsm_model::Value;
+use clsm_words::{Pace, RawMerger, Steps};
+
+/// One of the words of the entry.
+fn part<P: Pace>(steps: &Steps<P>, merger: &mut RawMerger, place: u64, entry: u64, part: u64) -> u64
+    requires of { IsSeatOf steps.now.words.now merger.old }
+    requires has { IsMergedEntry merger.old.knows place entry }
+    requires inside { part < 11 }
+    ensures of { IsSeatOf steps.now.words.now merger.new }
+    ensures looks { Changes NoWord merger.old.knows merger.new.knows }
+    ensures told { result ≡ part_of merger.old.knows place entry part }
+{
+    merger.is_sound();
+    steps.look_as_merger(merger, Word::Entry { place, entry, part })
+}
+
+/// How many words the value of an entry has that is no removal.
+fn length<P: Pace>(steps: &Steps<P>, merger: &mut RawMerger, place: u64, entry: u64) -> usize
+    requires of { IsSeatOf steps.now.words.now merger.old }
+    requires has { IsMergedEntry merger.old.knows place entry }
+    requires valued { part_of merger.old.knows place entry 1 % 2 ≢ 1 }
+    ensures of { IsSeatOf steps.now.words.now merger.new }
+    ensures looks { Changes NoWord merger.old.knows merger.new.knows }
+    ensures told { result ≡ part_of merger.old.knows place entry 2 }
+    ensures some { 1 ≤ result }
+    ensures at_most_eight { result ≤ 8 }
+{
+    merger.is_sound();
+    part(steps, merger, place, entry, LENGTH) as usize
+}
+
+/// The value of an entry that is no removal.
+fn value<P: Pace>(steps: &Steps<P>, merger: &mut RawMerger, place: u64, entry: u64) -> Value
+    requires of { IsSeatOf steps.now.words.now merger.old }
+    requires has { IsMergedEntry merger.old.knows place entry }
+    requires valued { part_of merger.old.knows place entry 1 % 2 ≢ 1 }
+    ensures of { IsSeatOf steps.now.words.now merger.new }
+    ensures looks { Changes NoWord merger.old.knows merger.new.knows }
+    ensures told { (entry_in (row_of merger.old.knows) place entry).value ≡ Some result }
+{
+    let count = length(steps, merger, place, entry);
+    let mut words = [0; 8];
+    for index in 0..count {
+        words[index] = part(steps, merger, place, entry, VALUE + index as u64);
+    }
+    match Value::new(&words[..count]) {
+        Ok(value) => value,
+        Err(_) => unreachable!(),
+    }
+}
+
+/// The entry with this number of the run at the place.
+pub(crate) fn entry<P: Pace>(
+    steps: &Steps<P>,
+    merger: &mut RawMerger,
+    place: u64,
+    entry: u64,
+) -> Entry
+    requires of { IsSeatOf steps.now.words.now merger.old }
+    requires has { IsMergedEntry merger.old.knows place entry }
+    ensures of { IsSeatOf steps.now.words.now merger.new }
+    ensures looks { Changes NoWord merger.old.knows merger.new.knows }
+    ensures told { result ≡ entry_in (row_of merger.old.knows) place entry }
+{
+    let key = part(steps, merger, place, entry, KEY);
+    let spelled = part(steps, merger, place, entry, TIME);
+    let time = spelled / 2;
+    if spelled % 2 == 1 {
+        return Entry {
+            key,
+            time,
+            value: None,
+        };
+    }
+    let value = Some(value(steps, merger, place, entry));
+    Entry { key, time, value }
+}

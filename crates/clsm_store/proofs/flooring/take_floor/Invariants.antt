@@ -1,0 +1,13 @@
+use Rattle.std.proofs.Common.{◌≡◌, None}
+use Rattle.clsm_words.specs.Plays.{IsSeatOf}
+use Rattle.clsm_store.specs.Flooring.{KeepsFrozen, floor_at, round_at}
+use Rattle.clsm_store.proofs.flooring.take_floor.Given as goal
+
+abbrev pub invariant-loop-seat : goal.invariant-loop-seat
+invariant-loop-seat g l = record {
+  of : IsSeatOf l.steps.words.now l.merger;
+  keeps : KeepsFrozen l.initial.merger.knows l.merger.knows;
+  round : l.merger.knows.merger.round ≡ round_at l.steps.words.now.layout.seats l.seat l.found l.initial.merger.knows.merger.round;
+  fresh : l.seat ≡ 0 → l.found ≡ None;
+  floor : l.merger.knows.merger.floor ≡ floor_at l.steps.words.now.layout.seats l.seat l.before l.end l.found;
+}

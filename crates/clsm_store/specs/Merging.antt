@@ -1,0 +1,56 @@
+-- What the merger's tokens carry, and what a merge makes of them.
+use Rattle.std.specs.Prelude.{◌≡◌, ℕ, ◌<◌, ◌≤◌, List, length, map, Some, vec_capacity, true}
+use Rattle.clsm_levels.specs.declared.entry.Entry.{Entry}
+use Rattle.clsm_levels.specs.Merge.{is_to_level_one, wanted}
+use Rattle.clsm_core.specs.Worlds.{epoch_of, runs_of}
+use Rattle.clsm_words.specs.declared.known.Known.{Known}
+use Rattle.clsm_words.specs.Knowing.{row_of}
+use Rattle.clsm_store.specs.declared.merger.Merger.{Merger}
+use Rattle.clsm_store.specs.Freezing.{IsFrozen}
+use Rattle.clsm_store.specs.Reclaiming.{IsRetired}
+use Rattle.clsm_store.specs.Seats.{FrozenState, MergerState, RetiredState}
+
+-- the writes of the epoch of the next merge, as far as the merger knows, and the runs
+abbrev pub epoch_known : Known → List Entry
+epoch_known k = epoch_of k.layout (map (λ slot. Some slot) k.past) k.merger.merged
+
+abbrev pub runs_known : Known → List (List Entry)
+runs_known k = runs_of (row_of k) k.merger.merged
+
+-- what contracts see of the merger
+
+abbrev pub merger_of : Merger → MergerState
+merger_of m = record { store = record { table = m.raw.table; layout = m.raw.knows.layout }; merges = m.merges }
+
+abbrev pub frozen_of : Merger → FrozenState
+frozen_of m = record { merger = merger_of m; floor = m.floor; epoch = epoch_known m.raw.knows; runs = runs_known m.raw.knows }
+
+abbrev pub retired_of : Merger → RetiredState
+retired_of m = record { merger = merger_of m; floor = m.floor; retirees = m.seen.items }
+
+-- it knows its floor, and has room for a merge
+pub record IsReady (m : Merger) : Type 0 where
+  pub floor : m.floor ≡ m.raw.knows.merger.floor
+  pub room : m.raw.knows.layout.cells ≤ vec_capacity m.row
+  pub seats : length m.seen.items ≡ m.raw.knows.layout.seats
+
+-- an epoch stays frozen, though the merger may have taken another floor
+pub record StaysFrozen (old new : Merger) : Type 0 where
+  pub frozen : IsFrozen new.raw.knows new.merges
+  pub ready : IsReady new
+  pub same : frozen_of new ≡ record (frozen_of old) { floor = new.floor }
+
+-- a component is retired
+pub record IsRetiring (m : Merger) : Type 0 where
+  pub retired : IsRetired m.raw.knows m.merges
+  pub ready : IsReady m
+  pub seen : m.seen.items ≡ m.raw.knows.merger.retirees
+
+-- what the next merge keeps by this floor
+abbrev pub kept_by : FrozenState → ℕ → List Entry
+kept_by s floor = wanted s.merger.merges floor s.epoch s.runs
+
+-- the merge is into level 1, and keeps by this floor more entries than a run has room for
+pub record IsRunFull (s : FrozenState) (floor : ℕ) : Type 0 where
+  pub to_level_one : is_to_level_one s.merger.merges ≡ true
+  pub many : s.merger.store.layout.run < length (kept_by s floor)

@@ -1,0 +1,169 @@
+//! The merger's tokens, one for each phase, and what it does in each.
+ghost use Rattle.std.specs.Prelude.{◌≡◌, ◌+◌, ◌*◌, ◌^◌, ◌<◌, IfOk, IfErr};
+ghost use Rattle.clsm_store.specs.Merging.{IsRunFull};
+
+use crate::freezing::freeze;
+use crate::merger::Merger;
+use crate::merging::merge;
+use crate::reclaiming::reclaim;
+use crate::refusal::{Pinned, Worn};
+use crate::store::Store;
+use clsm_runs::RunFull;
+use clsm_words::Pace;
+use std::marker::Model;
+use std::sync::Wait;
+
+/// The limit of times: a read's time is at most this.
+const LAST_TIME: u64 = 1 << 62;
+
+/// The merger's token, where nothing is frozen. It may be moved to another thread. Contracts see its store and the number of merges.
+#[derive(Drop)]
+pub struct Clean {
+    pub(crate) merger: Merger,
+}
+
+impl Model for Clean {
+    ghost use Rattle.clsm_store.specs.Seats.{MergerState};
+    ghost use Rattle.clsm_store.specs.Freezing.{IsClean};
+    ghost use Rattle.clsm_store.specs.Merging.{IsReady, merger_of};
+
+    ghost Value = { MergerState };
+
+    ghost view = { λ c. merger_of c.merger };
+
+    ghost invariant = { λ c. IsClean c.merger.raw.knows c.merger.merges × IsReady c.merger };
+}
+
+/// The merger's token, where an epoch is frozen. It may be moved to another thread. Contracts see its store and the number of merges, which
+/// is also the number of the frozen epoch; the floor of the last merge; the epoch's writes; and the runs.
+#[derive(Drop)]
+pub struct Frozen {
+    pub(crate) merger: Merger,
+}
+
+impl Model for Frozen {
+    ghost use Rattle.clsm_store.specs.Seats.{FrozenState};
+    ghost use Rattle.clsm_store.specs.Freezing.{IsFrozen};
+    ghost use Rattle.clsm_store.specs.Merging.{IsReady, frozen_of};
+
+    ghost Value = { FrozenState };
+
+    ghost view = { λ f. frozen_of f.merger };
+
+    ghost invariant = { λ f. IsFrozen f.merger.raw.knows f.merger.merges × IsReady f.merger };
+}
+
+/// The merger's token, where a component is retired. It may be moved to another thread. Contracts see its store and the number of merges, the one
+/// that retired the component among them; the floor of that merge; and what was noted of each seat since.
+#[derive(Drop)]
+pub struct Retired {
+    pub(crate) merger: Merger,
+}
+
+impl Model for Retired {
+    ghost use Rattle.clsm_store.specs.Seats.{RetiredState};
+    ghost use Rattle.clsm_store.specs.Merging.{IsRetiring, retired_of};
+
+    ghost Value = { RetiredState };
+
+    ghost view = { λ r. retired_of r.merger };
+
+    ghost invariant = { λ r. IsRetiring r.merger };
+}
+
+impl Clean {
+    /// The number of merges so far.
+    #[inline]
+    pub fn merges(&self) -> u64
+        ensures { result ≡ self.now.merges }
+    {
+        self.merger.merges
+    }
+
+    /// Freezes the current epoch: waits until no caller holds the lock, cancels the epoch's cells that were never drawn, and moves the clock to
+    /// its end and the limit to that of the next. Writers go on in the next epoch, and readers go on (the cLSM paper's switch of the memory
+    /// component). Refused with `Worn`, and with the token as it was, where the next limit would pass 2^62; nothing was done then.
+    pub fn freeze<P: Pace + Drop, R: Wait>(
+        mut self,
+        rt: &R,
+        store: &Store<P>,
+    ) -> Result<Frozen, (Clean, Worn)>
+        requires { self.store ≡ store.now }
+        ensures frozen { IfOk result (λ frozen. frozen.merger ≡ self) }
+        ensures worn { IfErr result (λ refused. (refused.0 ≡ self) × (2 ^ 62 < (self.merges + 2) * self.store.layout.cells)) }
+    {
+        let merges = self.merger.merges;
+        if merges > LAST_TIME / store.words.layout.cells - 2 {
+            return Err((self, Worn));
+        }
+        freeze(rt, &store.steps(), &mut self.merger.raw, merges);
+        Ok(Frozen {
+            merger: self.merger,
+        })
+    }
+}
+
+impl Frozen {
+    /// The number of merges so far, which is the number of the frozen epoch.
+    #[inline]
+    pub fn merges(&self) -> u64
+        ensures { result ≡ self.now.merger.merges }
+    {
+        self.merger.merges
+    }
+
+    /// Merges the frozen epoch into a sorted run: of three merges each writes the epoch's run into level 0, and the fourth all runs and the epoch
+    /// into level 1, as LevelDB's compactions do. Of each key it keeps every version from the floor on, and of those before it the newest; a removal
+    /// that is the newest there is left out of level 1. The floor is the end of the epoch, or the time of the oldest open snapshot where that is
+    /// earlier. Readers and writers go on beside it, and it never waits. Refused with `RunFull`, and with the token, where a merge into level 1
+    /// would keep more entries than a run has room for; nothing is published then, and a snapshot that is closed may help the next try.
+    pub fn merge<P: Pace + Drop>(mut self, store: &Store<P>) -> Result<Retired, (Frozen, RunFull)>
+        requires { self.merger.store ≡ store.now }
+        ensures retired { IfOk result (λ retired. retired.merger ≡ record self.merger { merges = self.merger.merges + 1 }) }
+        ensures fits { IfOk result (λ retired. IsRunFull self retired.floor → ⊥) }
+        ensures frozen { IfErr result (λ refused. refused.0 ≡ record self { floor = refused.0.floor }) }
+        ensures full { IfErr result (λ refused. IsRunFull self refused.0.floor) }
+    {
+        match merge(&store.steps(), &mut self.merger) {
+            Ok(()) => Ok(Retired {
+                merger: self.merger,
+            }),
+            Err(full) => Err((self, full)),
+        }
+    }
+}
+
+impl Retired {
+    ghost use Rattle.clsm_store.specs.Reclaiming.{IsLowestLoud};
+
+    /// The number of merges so far.
+    #[inline]
+    pub fn merges(&self) -> u64
+        ensures { result ≡ self.now.merger.merges }
+    {
+        self.merger.merges
+    }
+
+    /// Gives the retired component up, if no seat holds anything of it, and makes its cells free for the epoch after the next: looks at the pin word
+    /// of each seat that was not found quiet yet, in the order of their numbers. Refused with `Pinned`, and with the token, where the pin word
+    /// of that seat was found to keep the component; the seats that were found quiet stay so for the next try. It never waits.
+    pub fn reclaim<P: Pace + Drop>(mut self, store: &Store<P>) -> Result<Clean, (Retired, Pinned)>
+        requires { self.merger.store ≡ store.now }
+        ensures clean { IfOk result (λ clean. clean ≡ self.merger) }
+        ensures retired { IfErr result (λ refused. refused.0.merger ≡ self.merger) }
+        ensures pinned { IfErr result (λ refused. IsLowestLoud refused.0.retirees refused.1.0) }
+    {
+        let merges = self.merger.merges;
+        match reclaim(
+            &store.steps(),
+            &mut self.merger.raw,
+            merges,
+            &mut self.merger.seen,
+        ) {
+            Ok(()) => Ok(Clean {
+                merger: self.merger,
+            }),
+            Err(seat) => Err((self, Pinned(seat as u32))),
+        }
+    }
+}
