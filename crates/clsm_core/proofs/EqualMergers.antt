@@ -1,11 +1,12 @@
--- What `==` says of the merger's views: whether they are the same.
-use Rattle.std.proofs.Common.{◌≡◌, true, refl, sym}
+-- What `==` says of the merger's views: whether they are the same but for their counts.
+use Rattle.std.proofs.Common.{◌≡◌, true, refl, sym, ap, subst}
 use Rattle.std.proofs.Math.Bool.{true≢false}
-use Rattle.std.proofs.lemmas.Bool.Decides.{Decides-and}
+use Rattle.std.proofs.lemmas.Bool.Decides.{Decides-and, Decides-like}
 use Rattle.std.specs.Bool.{Decides}
 use Rattle.std.specs.Cmp.{unsigned_Decides, booleans_Decides}
-use Rattle.std.specs.Cmp.Lexicographic.{pointwise_decides}
 use Rattle.clsm_model.proofs.Equals.{Decides-by_same, option_eq-Decides}
+use Rattle.clsm_core.specs.Same.{uncounted_merger, uncounted_retiree}
+use Rattle.clsm_core.proofs.EqualViews.{along-Decides}
 use Rattle.clsm_core.specs.declared.merger.Phase.{Phase}
 use Rattle.clsm_core.specs.declared.merger.Phase.TheVariants.{Clean, Frozen, Retired}
 use Rattle.clsm_core.specs.declared.merger.Round.{Round}
@@ -18,7 +19,6 @@ use Rattle.clsm_core.specs.contracts.merger.RoundEq.TheImpl.Laws as round_laws
 use Rattle.clsm_core.specs.contracts.merger.RetireePartialEq.TheImpl as of_retirees
 use Rattle.clsm_core.specs.contracts.merger.RetireeEq.TheImpl.Laws as retiree_laws
 use Rattle.clsm_core.specs.contracts.merger.MergerViewPartialEq.TheImpl as of_mergers
-use Rattle.clsm_core.specs.contracts.merger.MergerViewEq.TheImpl.Laws as merger_laws
 
 phase-same : (a b : Phase) → of_phases.ghosts.eq a b ≡ true → a ≡ b
 phase-same Clean Clean h = refl
@@ -37,17 +37,20 @@ round-same a b h =
 pub Round-Decides : (a b : Round) → Decides (of_rounds.ghosts.eq a b) (a ≡ b)
 Round-Decides = Decides-by_same round_laws.laws-law round-same
 
-retiree-same : (a b : Retiree) → of_retirees.ghosts.eq a b ≡ true → a ≡ b
+-- equal retirees agree in every field but their count
+retiree-same : (a b : Retiree) → of_retirees.ghosts.eq a b ≡ true → uncounted_retiree a ≡ uncounted_retiree b
 retiree-same a b h =
     let fields = (Decides-and _ _ (option_eq-Decides unsigned_Decides a.first_pin b.first_pin) (booleans_Decides a.quiet b.quiet)).0 h in
-    λ i. record { first_pin = fields.0 i; quiet = fields.1 i }
+    λ i. record { first_pin = fields.0 i; quiet = fields.1 i; looks = 0 }
 
-pub Retiree-Decides : (a b : Retiree) → Decides (of_retirees.ghosts.eq a b) (a ≡ b)
-Retiree-Decides = Decides-by_same retiree_laws.laws-law retiree-same
+pub Retiree-Decides : (a b : Retiree) → Decides (of_retirees.ghosts.eq a b) (uncounted_retiree a ≡ uncounted_retiree b)
+Retiree-Decides a b = (retiree-same a b, λ same. subst (λ r. of_retirees.ghosts.eq (uncounted_retiree a) r ≡ true) same (retiree_laws.laws-law.refl (uncounted_retiree a)))
 
-merger-same : (m n : MergerView) → of_mergers.ghosts.eq m n ≡ true → m ≡ n
-merger-same m n h =
-    let fields = (
+-- two mergers are equal where they are the same without their counts
+pub MergerView-Decides : (m n : MergerView) → Decides (of_mergers.ghosts.eq m n) (uncounted_merger m ≡ uncounted_merger n)
+MergerView-Decides m n = Decides-like _
+    (λ e. cc)
+    (λ e. (ap (λ (v : MergerView). v.phase) e, (ap (λ (v : MergerView). v.merged) e, (ap (λ (v : MergerView). v.exclusive) e, (ap (λ (v : MergerView). v.padded) e, (ap (λ (v : MergerView). v.clock_extended) e, (ap (λ (v : MergerView). v.limit_extended) e, (ap (λ (v : MergerView). v.floor) e, (ap (λ (v : MergerView). v.round) e, (ap (λ (v : MergerView). v.merged_floor) e, (ap (λ (v : MergerView). v.former_floor) e, (ap (λ (v : MergerView). v.retirees) e)))))))))))) (
     Decides-and _ _ (Phase-Decides m.phase n.phase) (
     Decides-and _ _ (unsigned_Decides m.merged n.merged) (
     Decides-and _ _ (booleans_Decides m.exclusive n.exclusive) (
@@ -58,8 +61,4 @@ merger-same m n h =
     Decides-and _ _ (option_eq-Decides Round-Decides m.round n.round) (
     Decides-and _ _ (unsigned_Decides m.merged_floor n.merged_floor) (
     Decides-and _ _ (unsigned_Decides m.former_floor n.former_floor) (
-    pointwise_decides Retiree-Decides m.retirees n.retirees))))))))))).0 h in
-    let same : record m { phase = m.phase } ≡ record n { phase = n.phase } = cc in same
-
-pub MergerView-Decides : (m n : MergerView) → Decides (of_mergers.ghosts.eq m n) (m ≡ n)
-MergerView-Decides = Decides-by_same merger_laws.laws-law merger-same
+    along-Decides uncounted_retiree Retiree-Decides m.retirees n.retirees)))))))))))

@@ -18,7 +18,7 @@ use Rattle.clsm_core.specs.declared.merger.Round.{Round}
 use Rattle.clsm_core.specs.declared.merger.Retiree.{Retiree}
 use Rattle.clsm_core.specs.Memory.{cell_of, region_of, room_of, is_word}
 use Rattle.clsm_core.specs.Places.{number_of, is_named}
-use Rattle.clsm_core.specs.Relation.{Chains}
+use Rattle.clsm_core.specs.Relation.{Chains, next_word}
 
 -- what the merger knows of the world
 pub record Facts : Type 0 where
@@ -40,7 +40,7 @@ pub record Facts : Type 0 where
 -- ---- the merger at its beginning
 
 abbrev pub unseen : Retiree
-unseen = record { first_pin = None; quiet = false }
+unseen = record { first_pin = None; quiet = false; looks = 0 }
 
 abbrev pub opening : Layout → MergerView
 opening z = record {
@@ -52,6 +52,7 @@ opening z = record {
   limit_extended = false;
   floor = 0;
   round = None;
+  rounds = 0;
   merged_floor = 0;
   former_floor = 0;
   retirees = replicate z.seats unseen;
@@ -183,6 +184,10 @@ round_end seats round = cond (is_whole seats round) None round
 abbrev pub floor_by : Layout → MergerView → Option Round → ℕ
 floor_by z m round = cond (is_whole z.seats round) (max m.floor (least_or (epoch_end z m) round)) m.floor
 
+-- how many rounds passed all seats, with this one
+abbrev pub rounds_by : Layout → MergerView → Option Round → ℕ
+rounds_by z m round = cond (is_whole z.seats round) (next_word m.rounds) m.rounds
+
 -- a look at a pin word: a seat is quiet where it is even, or differs from the word first noted in this retirement
 abbrev pub differs : Option ℕ → ℕ → Bool
 differs None x = false
@@ -193,7 +198,7 @@ first_noted None x = Some x
 first_noted (Some first) x = Some first
 
 abbrev pub retiree_by : Retiree → ℕ → Retiree
-retiree_by r x = record { first_pin = first_noted r.first_pin x; quiet = r.quiet || x % 2 == 0 || differs r.first_pin x }
+retiree_by r x = record { first_pin = first_noted r.first_pin x; quiet = r.quiet || x % 2 == 0 || differs r.first_pin x; looks = next_word r.looks }
 
 abbrev pub retiree_at : List Retiree → ℕ → Retiree
 retiree_at retirees i = slice_index_or retirees i unseen
@@ -202,6 +207,7 @@ abbrev pub merger_looked : Layout → MergerView → Word → ℕ → MergerView
 merger_looked z m (Snap i) x = let round = cond (is_frozen m.phase) (round_by m.round i x) m.round in record m {
   round = cond (is_frozen m.phase) (round_end z.seats round) m.round;
   floor = cond (is_frozen m.phase) (floor_by z m round) m.floor;
+  rounds = cond (is_frozen m.phase) (rounds_by z m round) m.rounds;
 }
 merger_looked z m (Pin i) x = record m { retirees = cond (is_retired m.phase) (slice_set m.retirees i (retiree_by (retiree_at m.retirees i) x)) m.retirees }
 merger_looked z m _ x = m

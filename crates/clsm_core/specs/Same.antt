@@ -1,4 +1,4 @@
--- What the comparison of worlds says: whether they are the same but for the counts of the seats.
+-- What the comparison of worlds says: whether they are the same but for the counts of the seats and of the merger.
 use Rattle.std.specs.Prelude.{◌≡◌, ◌==◌, ◌&&◌, ◌++◌, Bool, true, map, pos, Option, Some, None}
 use Rattle.std.proofs.Common.{refl, sym, ap}
 use Rattle.std.proofs.Math.Bool.{true≢false}
@@ -23,17 +23,25 @@ use Rattle.clsm_core.specs.contracts.layout.LayoutHash.TheImpl.Laws as layout_ha
 use Rattle.clsm_core.specs.contracts.view.ViewHash.TheImpl.Laws as view_hash_laws
 use Rattle.clsm_core.specs.contracts.merger.MergerViewHash.TheImpl.Laws as merger_hash_laws
 use Rattle.clsm_core.specs.declared.view.View.{View}
+use Rattle.clsm_core.specs.declared.merger.Retiree.{Retiree}
+use Rattle.clsm_core.specs.declared.merger.MergerView.{MergerView}
 use Rattle.clsm_core.specs.Machine.{WorldState}
 
 -- the view without its counts
 abbrev pub uncounted : View → View
 uncounted v = record v { entries = 0; busy = 0; raced = 0; overtaken = 0 }
 
+abbrev pub uncounted_retiree : Retiree → Retiree
+uncounted_retiree r = record r { looks = 0 }
+
+abbrev pub uncounted_merger : MergerView → MergerView
+uncounted_merger m = record m { rounds = 0; retirees = map uncounted_retiree m.retirees }
+
 -- the world without them
 abbrev pub uncounted_world : WorldState → WorldState
-uncounted_world w = record w { views = map uncounted w.views }
+uncounted_world w = record w { views = map uncounted w.views; merger = uncounted_merger w.merger }
 
--- the test: field by field, a view's counts left out
+-- the test: field by field, the counts left out
 abbrev pub is_same_world : WorldState → WorldState → Bool
 is_same_world a b = of_layouts.ghosts.eq a.layout b.layout && (pointwise ◌==◌ a.words b.words && (pointwise of_views.ghosts.eq a.views b.views && (of_mergers.ghosts.eq a.merger b.merger && pointwise (option_eq of_slots.ghosts.eq) a.slots b.slots)))
 

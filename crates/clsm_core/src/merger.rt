@@ -22,17 +22,22 @@ pub struct Round {
     pub least: Option<Time>,
 }
 
-/// What the merger found of a seat in this retirement.
-#[derive(Clone, Copy, PartialEq, Eq, Hash, Debug)]
+/// What the merger found of a seat in this retirement. `==` and the hash leave the count out.
+#[derive(Clone, Copy, Debug)]
+#[derive_where(PartialEq, Eq, Hash)]
 pub struct Retiree {
     /// Its pin word as first noted.
     pub first_pin: Option<u64>,
     /// It holds nothing retired.
     pub quiet: bool,
+    /// How often its pin word was looked at, modulo 2^64.
+    #[derive_where(skip(EqHashOrd))]
+    pub looks: u64,
 }
 
-/// What the merger knows and has done.
-#[derive(PartialEq, Eq, Hash, Drop)]
+/// What the merger knows and has done. `==` and the hash leave the counts out.
+#[derive(Drop)]
+#[derive_where(PartialEq, Eq, Hash)]
 pub struct MergerView {
     pub phase: Phase,
     /// The number of merges.
@@ -45,6 +50,9 @@ pub struct MergerView {
     /// No open or coming snapshot has a time below it.
     pub floor: Time,
     pub round: Option<Round>,
+    /// How many rounds passed all seats, modulo 2^64.
+    #[derive_where(skip(EqHashOrd))]
+    pub rounds: u64,
     /// The floors that the runs of this component and of the one before were merged with.
     pub merged_floor: Time,
     pub former_floor: Time,

@@ -1,7 +1,7 @@
 -- What the merger's commands make of its token, and what they answer.
 use Rattle.std.specs.Prelude.{◌≡◌, ℕ, ◌+◌, ◌*◌, ◌^◌, ◌<◌, ⊤, Result, Ok, Err}
 use Rattle.clsm_store.specs.Seats.{MergerState}
-use Rattle.clsm_store.specs.Merging.{IsRunFull}
+use Rattle.clsm_store.specs.Merging.{IsRunFull, TakesFloor}
 use Rattle.clsm_store.specs.Reclaiming.{IsLowestLoud}
 use Rattle.clsm_driver.specs.declared.phase.Phase.{Phase}
 use Rattle.clsm_driver.specs.declared.phase.Phase.TheVariants.{Clean, Frozen, Retired}
@@ -25,16 +25,16 @@ Freezes (Clean old) (Clean new) (Err (Worn _)) = (new ≡ old) × (2 ^ 62 < (old
 Freezes (Clean _) _ _ = ⊥
 Freezes old new answer = (new ≡ old) × (answer ≡ Err NotClean)
 
--- where an epoch is frozen, it is merged by the floor of the retired phase, or there is no room for what is kept by the floor of the frozen one; else nothing is done
+-- where an epoch is frozen, a floor is taken, and it is merged by it, or there is no room for what is kept by it; else nothing is done
 abbrev pub Merges : Phase → Phase → Result ℕ MergeError → Type 0
-Merges (Frozen old) (Retired new) (Ok merges) = (new.merger ≡ record old.merger { merges = old.merger.merges + 1 }) × (merges ≡ old.merger.merges + 1) × (¬ IsRunFull old new.floor)
-Merges (Frozen old) (Frozen new) (Err (RunFull _)) = (new ≡ record old { floor = new.floor }) × IsRunFull old new.floor
+Merges (Frozen old) (Retired new) (Ok merges) = (new.merger ≡ record old.merger { merges = old.merger.merges + 1 }) × (merges ≡ old.merger.merges + 1) × TakesFloor old new.floor new.rounds × (¬ IsRunFull old new.floor)
+Merges (Frozen old) (Frozen new) (Err (RunFull _)) = (new ≡ record old { floor = new.floor; rounds = new.rounds }) × TakesFloor old new.floor new.rounds × IsRunFull old new.floor
 Merges (Frozen _) _ _ = ⊥
 Merges old new answer = (new ≡ old) × (answer ≡ Err NotFrozen)
 
--- where a component is retired, it is given up, or the lowest seat that was not found quiet is named; else nothing is done
+-- where a component is retired, it is given up, or the lowest seat that is looked at and not found quiet is named; else nothing is done
 abbrev pub Reclaims : Phase → Phase → Result ⊤ ReclaimError → Type 0
 Reclaims (Retired old) (Clean new) (Ok _) = new ≡ old.merger
-Reclaims (Retired old) (Retired new) (Err (Pinned pinned)) = (new.merger ≡ old.merger) × IsLowestLoud new.retirees pinned.0
+Reclaims (Retired old) (Retired new) (Err (Pinned pinned)) = (new.merger ≡ old.merger) × IsLowestLoud old.retirees new.retirees pinned.0
 Reclaims (Retired _) _ _ = ⊥
 Reclaims old new answer = (new ≡ old) × (answer ≡ Err NotRetired)

@@ -1,6 +1,7 @@
 //! Whether a seat holds anything retired.
 ghost use Rattle.std.specs.Prelude.{◌≡◌, ◌<◌, true, false};
 ghost use Rattle.clsm_core.specs.Merging.{is_retired, retiree_at, retiree_by};
+ghost use Rattle.clsm_core.specs.Relation.{next_word};
 ghost use Rattle.clsm_words.specs.Plays.{IsSeatOf};
 ghost use Rattle.clsm_pins.specs.Quieting.{IsNotedOdd, LooksAtPin};
 
@@ -17,6 +18,7 @@ fn noted(seen: Retiree, word: u64) -> Retiree
     Retiree {
         first_pin: Some(seen.first_pin.unwrap_or(word)),
         quiet: seen.quiet || word % 2 == 0 || differs,
+        looks: seen.looks.wrapping_add(1),
     }
 }
 
@@ -36,6 +38,7 @@ pub fn quiet<P: Pace>(
     ensures looked { LooksAtPin merger.old.knows merger.new.knows seat seen.new }
     ensures quiet { result ≡ seen.new.quiet }
     ensures loud { result ≡ false → IsNotedOdd seen.new.first_pin }
+    ensures again { seen.new.looks ≡ next_word seen.old.looks }
 {
     let word = steps.look_as_merger(merger, Word::Pin(seat));
     *seen = noted(*seen, word);

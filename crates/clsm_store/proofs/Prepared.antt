@@ -78,12 +78,12 @@ module _ (k : Known) (sound : IsSoundMerger k) where
 
 -- ---- the whole
 
--- what contracts see of the merger stays, but for the floor
-pub same_frozen : (old new : Merger) → new.raw.table ≡ old.raw.table → new.raw.knows.layout ≡ old.raw.knows.layout → new.merges ≡ old.merges → epoch_known new.raw.knows ≡ epoch_known old.raw.knows → runs_known new.raw.knows ≡ runs_known old.raw.knows → frozen_of new ≡ record (frozen_of old) { floor = new.floor }
-same_frozen old new table layout merges epoch runs = λ i. record { merger = record { store = record { table = table i; layout = layout i }; merges = merges i }; floor = new.floor; epoch = epoch i; runs = runs i }
+-- what contracts see of the merger stays, but for the floor and the rounds
+pub same_frozen : (old new : Merger) → new.raw.table ≡ old.raw.table → new.raw.knows.layout ≡ old.raw.knows.layout → new.merges ≡ old.merges → epoch_known new.raw.knows ≡ epoch_known old.raw.knows → runs_known new.raw.knows ≡ runs_known old.raw.knows → frozen_of new ≡ record (frozen_of old) { floor = new.floor; rounds = new.raw.knows.merger.rounds }
+same_frozen old new table layout merges epoch runs = λ i. record { merger = record { store = record { table = table i; layout = layout i }; merges = merges i }; floor = new.floor; rounds = new.raw.knows.merger.rounds; epoch = epoch i; runs = runs i }
 
 -- and so does the phase
-pub still_frozen : (k k' : Known) (merges : ℕ) → k'.merger ≡ record k.merger { floor = k'.merger.floor; round = k'.merger.round } → IsFrozen k merges → IsFrozen k' merges
+pub still_frozen : (k k' : Known) (merges : ℕ) → k'.merger ≡ record k.merger { floor = k'.merger.floor; round = k'.merger.round; rounds = k'.merger.rounds } → IsFrozen k merges → IsFrozen k' merges
 still_frozen k k' merges view is = record {
   out = record {
     merged = ap (λ (m : MergerView). m.merged) view ∙ is.out.merged;

@@ -6,8 +6,9 @@ use Rattle.clsm_core.specs.declared.layout.Layout.{Layout}
 use Rattle.clsm_core.specs.declared.merger.MergerView.{MergerView}
 use Rattle.clsm_core.specs.declared.merger.Round.{Round}
 use Rattle.clsm_core.specs.declared.word.Word.TheVariants.{Snap}
-use Rattle.clsm_core.specs.Merging.{epoch_end, floor_by, is_frozen, least, least_or, merger_looked, noted_time, round_by, round_end, round_on}
-use Rattle.clsm_store.specs.Flooring.{floor_at, round_at}
+use Rattle.clsm_core.specs.Relation.{next_word}
+use Rattle.clsm_core.specs.Merging.{epoch_end, floor_by, is_frozen, least, least_or, merger_looked, noted_time, round_by, round_end, round_on, rounds_by}
+use Rattle.clsm_store.specs.Flooring.{floor_at, round_at, rounds_at}
 
 module _ (z : Layout) (m : MergerView) (i x before end : ℕ) (found : Option ℕ) (r0 : Option Round) (lt : i < z.seats) (frozen : is_frozen m.phase ≡ true) (stands : m.round ≡ round_at z.seats i found r0) (fresh : i ≡ 0 → found ≡ None) (low : m.floor ≡ floor_at z.seats i before end found) (ends : epoch_end z m ≡ end) where
   abbrev round' : Round
@@ -38,3 +39,13 @@ module _ (z : Layout) (m : MergerView) (i x before end : ℕ) (found : Option �
       ∙ ap (λ (n : ℕ). cond (i + 1 == z.seats) (max m.floor (least_or n (Some round'))) m.floor) ends
       ∙ ap (λ (n : ℕ). cond (i + 1 == z.seats) (max n (least_or end (Some round'))) n) not_yet
       ∙ sym (ap (λ b. cond b before (cond (i + 1 == z.seats) (max before (least_or end (Some round'))) before)) (ne_eqb (i + 1) 0 (λ e. omega arith)))
+
+  -- a round is counted when it is whole
+  pub next_rounds : (counted : ℕ) → m.rounds ≡ rounds_at z.seats i counted → (merger_looked z m (Snap i) x).rounds ≡ rounds_at z.seats (i + 1) counted
+  next_rounds counted at =
+      let none_yet : m.rounds ≡ counted = at ∙ dite (ℕ_discrete i 0)
+      (λ (first : i ≡ 0). ap (λ b. cond b counted (cond (i == z.seats) (next_word counted) counted)) (eq-eqb i 0 first))
+      (λ ne. ap (λ b. cond b counted (cond (i == z.seats) (next_word counted) counted)) (ne_eqb i 0 ne) ∙ ap (λ b. cond b (next_word counted) counted) (ne_eqb i z.seats (λ e. omega arith))) in
+      ap (λ b. cond b (rounds_by z m (cond b (round_by m.round i x) m.round)) m.rounds) frozen ∙ ap (rounds_by z m) goes_on
+      ∙ ap (λ (n : ℕ). cond (i + 1 == z.seats) (next_word n) n) none_yet
+      ∙ sym (ap (λ b. cond b counted (cond (i + 1 == z.seats) (next_word counted) counted)) (ne_eqb (i + 1) 0 (λ e. omega arith)))

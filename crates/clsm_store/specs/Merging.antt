@@ -1,7 +1,8 @@
 -- What the merger's tokens carry, and what a merge makes of them.
-use Rattle.std.specs.Prelude.{◌≡◌, ℕ, ◌<◌, ◌≤◌, List, length, map, Some, vec_capacity, true}
+use Rattle.std.specs.Prelude.{◌≡◌, ℕ, ◌+◌, ◌*◌, ◌<◌, ◌≤◌, List, length, map, Some, vec_capacity, true}
 use Rattle.clsm_levels.specs.declared.entry.Entry.{Entry}
 use Rattle.clsm_levels.specs.Merge.{is_to_level_one, wanted}
+use Rattle.clsm_core.specs.Relation.{next_word}
 use Rattle.clsm_core.specs.Worlds.{epoch_of, runs_of}
 use Rattle.clsm_words.specs.declared.known.Known.{Known}
 use Rattle.clsm_words.specs.Knowing.{row_of}
@@ -23,14 +24,15 @@ abbrev pub merger_of : Merger → MergerState
 merger_of m = record { store = record { table = m.raw.table; layout = m.raw.knows.layout }; merges = m.merges }
 
 abbrev pub frozen_of : Merger → FrozenState
-frozen_of m = record { merger = merger_of m; floor = m.floor; epoch = epoch_known m.raw.knows; runs = runs_known m.raw.knows }
+frozen_of m = record { merger = merger_of m; floor = m.floor; rounds = m.raw.knows.merger.rounds; epoch = epoch_known m.raw.knows; runs = runs_known m.raw.knows }
 
 abbrev pub retired_of : Merger → RetiredState
-retired_of m = record { merger = merger_of m; floor = m.floor; retirees = m.seen.items }
+retired_of m = record { merger = merger_of m; floor = m.floor; rounds = m.raw.knows.merger.rounds; retirees = m.seen.items }
 
--- it knows its floor, and has room for a merge
+-- it knows its floor, which is not past the end of the epoch of the next merge, and has room for a merge
 pub record IsReady (m : Merger) : Type 0 where
   pub floor : m.floor ≡ m.raw.knows.merger.floor
+  pub early : m.floor ≤ (m.merges + 1) * m.raw.knows.layout.cells
   pub room : m.raw.knows.layout.cells ≤ vec_capacity m.row
   pub seats : length m.seen.items ≡ m.raw.knows.layout.seats
 
@@ -38,13 +40,19 @@ pub record IsReady (m : Merger) : Type 0 where
 pub record StaysFrozen (old new : Merger) : Type 0 where
   pub frozen : IsFrozen new.raw.knows new.merges
   pub ready : IsReady new
-  pub same : frozen_of new ≡ record (frozen_of old) { floor = new.floor }
+  pub same : frozen_of new ≡ record (frozen_of old) { floor = new.floor; rounds = new.raw.knows.merger.rounds }
 
 -- a component is retired
 pub record IsRetiring (m : Merger) : Type 0 where
   pub retired : IsRetired m.raw.knows m.merges
   pub ready : IsReady m
   pub seen : m.seen.items ≡ m.raw.knows.merger.retirees
+
+-- It looked at all snapshot words in one round, and took this floor from it: a floor never falls, and is not past the epoch's end
+pub record TakesFloor (s : FrozenState) (floor rounds : ℕ) : Type 0 where
+  pub looked : rounds ≡ next_word s.rounds
+  pub kept : s.floor ≤ floor
+  pub early : floor ≤ (s.merger.merges + 1) * s.merger.store.layout.cells
 
 -- what the next merge keeps by this floor
 abbrev pub kept_by : FrozenState → ℕ → List Entry

@@ -60,17 +60,20 @@ pub record MergerState : Type 0 where
   pub store : StoreId
   pub merges : ℕ
 
--- and, while an epoch is frozen, the floor of the last merge, the epoch's writes, the newest first, and the runs in the order in which they are searched
+-- and, while an epoch is frozen, the floor of the last try to merge, how many rounds of looks at all snapshot words it made, modulo 2^64, the epoch's
+-- writes, the newest first, and the runs in the order in which they are searched
 pub record FrozenState : Type 0 where
   pub merger : MergerState
   pub floor : ℕ
+  pub rounds : ℕ
   pub epoch : List Entry
   pub runs : List (List Entry)
 
--- and, while a component is retired, the floor of the merge that retired it, and what was noted of each seat since
+-- and, while a component is retired, the floor of the merge that retired it, the rounds, and what was noted of each seat since
 pub record RetiredState : Type 0 where
   pub merger : MergerState
   pub floor : ℕ
+  pub rounds : ℕ
   pub retirees : List Retiree
 
 -- the store's merger, which did nothing yet

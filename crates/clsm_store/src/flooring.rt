@@ -1,6 +1,7 @@
 //! The floor of a merge: the time below which it may forget all but the newest version of each key.
-ghost use Rattle.std.specs.Prelude.{◌≡◌, true};
+ghost use Rattle.std.specs.Prelude.{◌≡◌, ◌≤◌, true};
 ghost use Rattle.clsm_core.specs.Merging.{epoch_end, is_frozen, least, noted_time};
+ghost use Rattle.clsm_core.specs.Relation.{next_word};
 ghost use Rattle.clsm_words.specs.Plays.{IsSeatOf};
 ghost use Rattle.clsm_store.specs.Flooring.{KeepsFrozen};
 
@@ -41,6 +42,9 @@ pub(crate) fn take_floor<P: Pace>(
     ensures of { IsSeatOf steps.now.words.now merger.new }
     ensures keeps { KeepsFrozen merger.old.knows merger.new.knows }
     ensures floor { result ≡ merger.new.knows.merger.floor }
+    ensures looked { merger.new.knows.merger.rounds ≡ next_word merger.old.knows.merger.rounds }
+    ensures kept { before ≤ result }
+    ensures early { before ≤ end → result ≤ end }
 {
     let mut found = None;
     for seat in 0..steps.words.layout.seats {

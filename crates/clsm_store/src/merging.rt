@@ -5,7 +5,7 @@ ghost use Rattle.clsm_levels.specs.Entry.{TimesFall};
 ghost use Rattle.clsm_levels.specs.Merge.{merged};
 ghost use Rattle.clsm_words.specs.Plays.{IsSeatOf};
 ghost use Rattle.clsm_store.specs.Freezing.{IsFrozen};
-ghost use Rattle.clsm_store.specs.Merging.{IsReady, IsRetiring, IsRunFull, StaysFrozen, frozen_of, merger_of};
+ghost use Rattle.clsm_store.specs.Merging.{IsReady, IsRetiring, IsRunFull, StaysFrozen, TakesFloor, frozen_of, merger_of};
 
 use crate::flooring::take_floor;
 use crate::merger::Merger;
@@ -31,6 +31,7 @@ fn prepare<P: Pace>(steps: &Steps<P>, merger: &mut Merger)
     requires ready { IsReady merger.old }
     ensures of { IsSeatOf steps.now.words.now merger.new.raw }
     ensures stays { StaysFrozen merger.old merger.new }
+    ensures floor { TakesFloor (frozen_of merger.old) merger.new.floor merger.new.raw.knows.merger.rounds }
     ensures row { merger.new.row.items ≡ merged (frozen_of merger.old).epoch }
 {
     merger.raw.is_sound();
@@ -50,6 +51,7 @@ fn forget(seen: &mut Vec<Retiree>)
     seen.fill(Retiree {
         first_pin: None,
         quiet: false,
+        looks: 0,
     });
 }
 
@@ -61,6 +63,7 @@ pub(crate) fn merge<P: Pace>(steps: &Steps<P>, merger: &mut Merger) -> Result<()
     requires ready { IsReady merger.old }
     ensures retired { OnOk result (IsRetiring merger.new) }
     ensures counted { OnOk result (merger_of merger.new ≡ record (merger_of merger.old) { merges = merger.old.merges + 1 }) }
+    ensures floor { TakesFloor (frozen_of merger.old) merger.new.floor merger.new.raw.knows.merger.rounds }
     ensures fits { OnOk result (IsRunFull (frozen_of merger.old) merger.new.floor → ⊥) }
     ensures stays { IfErr result (λ refusal. StaysFrozen merger.old merger.new) }
     ensures full { IfErr result (λ refusal. IsRunFull (frozen_of merger.old) merger.new.floor) }

@@ -94,6 +94,7 @@ fn unseen(alloc: Global, seats: usize) -> Result<Vec<Retiree>, AllocError>
         seen.push(Retiree {
             first_pin: None,
             quiet: false,
+            looks: 0,
         })?;
     }
     Ok(seen)

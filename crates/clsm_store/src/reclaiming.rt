@@ -23,7 +23,7 @@ fn find_all_quiet<P: Pace>(
     ensures keeps { KeepsRetired merger.old.knows merger.new.knows }
     ensures seen { seen.new.items ≡ merger.new.knows.merger.retirees }
     ensures quiet { OnOk result (is_all_quiet merger.new.knows.merger.retirees ≡ true) }
-    ensures loud { IfErr result (IsLowestLoud merger.new.knows.merger.retirees) }
+    ensures loud { IfErr result (IsLowestLoud merger.old.knows.merger.retirees merger.new.knows.merger.retirees) }
     ensures few { IfErr result (λ number. number < 64) }
 {
     merger.is_sound();
@@ -95,7 +95,7 @@ pub(crate) fn reclaim<P: Pace>(
     ensures clean { OnOk result (IsClean merger.new.knows merges) }
     ensures retired { IfErr result (λ number. IsRetired merger.new.knows merges) }
     ensures seen { IfErr result (λ number. seen.new.items ≡ merger.new.knows.merger.retirees) }
-    ensures loud { IfErr result (IsLowestLoud merger.new.knows.merger.retirees) }
+    ensures loud { IfErr result (IsLowestLoud merger.old.knows.merger.retirees merger.new.knows.merger.retirees) }
     ensures few { IfErr result (λ number. number < 64) }
 {
     find_all_quiet(steps, merger, seen)?;

@@ -1,6 +1,6 @@
 //! The merger's tokens, one for each phase, and what it does in each.
 ghost use Rattle.std.specs.Prelude.{◌≡◌, ◌+◌, ◌*◌, ◌^◌, ◌<◌, IfOk, IfErr};
-ghost use Rattle.clsm_store.specs.Merging.{IsRunFull};
+ghost use Rattle.clsm_store.specs.Merging.{IsRunFull, TakesFloor};
 
 use crate::freezing::freeze;
 use crate::merger::Merger;
@@ -35,7 +35,8 @@ impl Model for Clean {
 }
 
 /// The merger's token, where an epoch is frozen. It may be moved to another thread. Contracts see its store and the number of merges, which
-/// is also the number of the frozen epoch; the floor of the last merge; the epoch's writes; and the runs.
+/// is also the number of the frozen epoch; the floor of the last try to merge, and how many rounds of looks at the snapshot words were made;
+/// the epoch's writes; and the runs.
 #[derive(Drop)]
 pub struct Frozen {
     pub(crate) merger: Merger,
@@ -54,7 +55,7 @@ impl Model for Frozen {
 }
 
 /// The merger's token, where a component is retired. It may be moved to another thread. Contracts see its store and the number of merges, the one
-/// that retired the component among them; the floor of that merge; and what was noted of each seat since.
+/// that retired the component among them; the floor of that merge, and the rounds; and what was noted of each seat since.
 #[derive(Drop)]
 pub struct Retired {
     pub(crate) merger: Merger,
@@ -114,14 +115,17 @@ impl Frozen {
 
     /// Merges the frozen epoch into a sorted run: of three merges each writes the epoch's run into level 0, and the fourth all runs and the epoch
     /// into level 1, as LevelDB's compactions do. Of each key it keeps every version from the floor on, and of those before it the newest; a removal
-    /// that is the newest there is left out of level 1. The floor is the end of the epoch, or the time of the oldest open snapshot where that is
-    /// earlier. Readers and writers go on beside it, and it never waits. Refused with `RunFull`, and with the token, where a merge into level 1
-    /// would keep more entries than a run has room for; nothing is published then, and a snapshot that is closed may help the next try.
+    /// that is the newest there is left out of level 1. For the floor it looks at each snapshot word in one round, and takes the end of the epoch,
+    /// or the least time that is noted there where that is earlier; a floor never falls. Readers and writers go on beside it, and it never waits.
+    /// Refused with `RunFull`, and with the token, where a merge into level 1 would keep more entries than a run has room for; nothing is published
+    /// then, and a snapshot that is closed may help the next try.
     pub fn merge<P: Pace + Drop>(mut self, store: &Store<P>) -> Result<Retired, (Frozen, RunFull)>
         requires { self.merger.store ≡ store.now }
         ensures retired { IfOk result (λ retired. retired.merger ≡ record self.merger { merges = self.merger.merges + 1 }) }
+        ensures floor { IfOk result (λ retired. TakesFloor self retired.floor retired.rounds) }
         ensures fits { IfOk result (λ retired. IsRunFull self retired.floor → ⊥) }
-        ensures frozen { IfErr result (λ refused. refused.0 ≡ record self { floor = refused.0.floor }) }
+        ensures frozen { IfErr result (λ refused. refused.0 ≡ record self { floor = refused.0.floor; rounds = refused.0.rounds }) }
+        ensures refloored { IfErr result (λ refused. TakesFloor self refused.0.floor refused.0.rounds) }
         ensures full { IfErr result (λ refused. IsRunFull self refused.0.floor) }
     {
         match merge(&store.steps(), &mut self.merger) {
@@ -151,7 +155,7 @@ impl Retired {
         requires { self.merger.store ≡ store.now }
         ensures clean { IfOk result (λ clean. clean ≡ self.merger) }
         ensures retired { IfErr result (λ refused. refused.0.merger ≡ self.merger) }
-        ensures pinned { IfErr result (λ refused. IsLowestLoud refused.0.retirees refused.1.0) }
+        ensures pinned { IfErr result (λ refused. IsLowestLoud self.retirees refused.0.retirees refused.1.0) }
     {
         let merges = self.merger.merges;
         match reclaim(

@@ -10,6 +10,7 @@ use std::alloc::{AllocError, Global};
 pub(crate) const UNSEEN: Retiree = Retiree {
     first_pin: None,
     quiet: false,
+    looks: 0,
 };
 
 /// The view of a merger that has done nothing yet.
@@ -29,6 +30,7 @@ pub(crate) fn opening(alloc: Global, layout: &Layout) -> Result<MergerView, Allo
         limit_extended: false,
         floor: 0,
         round: None,
+        rounds: 0,
         merged_floor: 0,
         former_floor: 0,
         retirees,

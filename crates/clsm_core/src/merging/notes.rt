@@ -10,7 +10,7 @@ use crate::merger::{MergerView, Phase};
 use crate::merging::facts::is_last;
 use crate::merging::phases::{is_frozen, is_retired};
 use crate::merging::retirees::{forget, retiree_at, retiree_by};
-use crate::merging::rounds::{floor_by, round_by, round_end};
+use crate::merging::rounds::{floor_by, round_by, round_end, rounds_by};
 use crate::step::Step;
 use crate::word::Word;
 
@@ -22,6 +22,7 @@ fn note_snapshot(layout: &Layout, merger: &mut MergerView, seat: u64, found: u64
     if is_frozen(merger.phase) {
         let round = round_by(layout, merger.round, seat, found);
         merger.floor = floor_by(layout, merger, round);
+        merger.rounds = rounds_by(layout, merger, round);
         merger.round = round_end(layout, round);
     }
 }

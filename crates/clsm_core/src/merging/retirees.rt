@@ -33,6 +33,7 @@ pub(crate) fn retiree_by(retiree: Retiree, found: u64) -> Retiree
     Retiree {
         first_pin: retiree.first_pin.or(Some(found)),
         quiet: retiree.quiet || found % 2 == 0 || differs(retiree.first_pin, found),
+        looks: retiree.looks.wrapping_add(1),
     }
 }
 

@@ -1,5 +1,5 @@
 ghost use Rattle.std.specs.Prelude.{◌≡◌, ◌<◌};
-ghost use Rattle.clsm_core.specs.Merging.{floor_by, is_whole, least, least_or, noted_time, round_by, round_end};
+ghost use Rattle.clsm_core.specs.Merging.{floor_by, is_whole, least, least_or, noted_time, round_by, round_end, rounds_by};
 ghost use Rattle.clsm_core.specs.Deciding.{IsMergerSmall};
 
 use crate::layout::Layout;
@@ -86,5 +86,16 @@ pub(crate) fn floor_by(layout: &Layout, merger: &MergerView, round: Option<Round
         merger.floor.max(least_or(epoch_end(layout, merger), round))
     } else {
         merger.floor
+    }
+}
+
+/// How many rounds passed all seats, with this one.
+pub(crate) fn rounds_by(layout: &Layout, merger: &MergerView, round: Option<Round>) -> u64
+    ensures { result ≡ rounds_by layout.now merger.now round }
+{
+    if is_whole(layout, round) {
+        merger.rounds.wrapping_add(1)
+    } else {
+        merger.rounds
     }
 }

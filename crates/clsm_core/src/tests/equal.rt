@@ -1,8 +1,10 @@
-//! Worlds are equal that are the same but for the counts of their seats.
-use crate::tests::SMALL;
+//! Worlds are equal that are the same but for their counts.
 use crate::tests::play::{Play, done, found, lost};
+use crate::tests::{MERGER, SMALL};
 use crate::{Step, Word, World};
+use std::alloc::Global;
 use std::hash::{DefaultHasher, Hash, Hasher};
+use std::process::Abort;
 
 fn hash_of(world: &World) -> u64 {
     let mut hasher = DefaultHasher::new();
@@ -32,4 +34,29 @@ fn counts_are_left_out(rt: HostRuntime) {
     assert_eq!(rt; hash_of(&overtaken.world), hash_of(&alone.world));
     alone.does(&rt, 0, Step::Pin);
     assert!(rt; overtaken.world != alone.world);
+}
+
+/// An empty epoch is merged, with so many looks at each snapshot word and then at the first seat's pin word.
+fn merged_with_looks(rt: &impl Abort, alloc: Global, looks: usize) -> Play {
+    let mut play = Play::new(rt, alloc, SMALL);
+    play.freezes(rt, 0);
+    for _ in 0..looks {
+        play.looks_at_snapshots(rt);
+    }
+    play.writes_run(rt, 0, &[]);
+    play.does(rt, MERGER, Step::Publish);
+    for _ in 0..looks {
+        play.rows(rt, &[found(MERGER, Word::Pin(0), 0)]);
+    }
+    play
+}
+
+#[test]
+fn counts_of_the_merger_are_left_out(rt: HostRuntime) {
+    let mut once = merged_with_looks(&rt, rt.alloc(), 1);
+    let often = merged_with_looks(&rt, rt.alloc(), 3);
+    assert!(rt; once.world == often.world);
+    assert_eq!(rt; hash_of(&once.world), hash_of(&often.world));
+    once.rows(&rt, &[found(MERGER, Word::Pin(1), 0)]);
+    assert!(rt; once.world != often.world);
 }

@@ -1,6 +1,6 @@
 use Rattle.std.proofs.Common.{◌≡◌, None}
 use Rattle.clsm_words.specs.Plays.{IsSeatOf}
-use Rattle.clsm_store.specs.Flooring.{KeepsFrozen, floor_at, round_at}
+use Rattle.clsm_store.specs.Flooring.{KeepsFrozen, floor_at, round_at, rounds_at}
 use Rattle.clsm_store.proofs.flooring.take_floor.Given as goal
 
 abbrev pub invariant-loop-seat : goal.invariant-loop-seat
@@ -10,4 +10,5 @@ invariant-loop-seat g l = record {
   round : l.merger.knows.merger.round ≡ round_at l.steps.words.now.layout.seats l.seat l.found l.initial.merger.knows.merger.round;
   fresh : l.seat ≡ 0 → l.found ≡ None;
   floor : l.merger.knows.merger.floor ≡ floor_at l.steps.words.now.layout.seats l.seat l.before l.end l.found;
+  rounds : l.merger.knows.merger.rounds ≡ rounds_at l.steps.words.now.layout.seats l.seat l.initial.merger.knows.merger.rounds;
 }

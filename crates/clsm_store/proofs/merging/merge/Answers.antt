@@ -1,4 +1,4 @@
-use Rattle.std.proofs.Common.{◌≡◌, ℕ, ◌≤◌, refl, sym, ap, ◌∙◌, List, subst, vec_capacity, Result, Ok, Err, IfErr}
+use Rattle.std.proofs.Common.{◌≡◌, ℕ, ◌+◌, ◌*◌, ◌≤◌, refl, sym, ap, ◌∙◌, List, subst, vec_capacity, Result, Ok, Err, IfErr}
 use Rattle.clsm_levels.specs.declared.entry.Entry.{Entry}
 use Rattle.clsm_levels.specs.Entry.{AreBelow}
 use Rattle.clsm_levels.specs.Merge.{merged, wanted}
@@ -47,15 +47,16 @@ returns-in_err-merge-clause-stays g c =
     let changes = c.in_err-merge.ensures.changes in
     let left : Merger = record { raw = c.merge.new.merger; merges = ready.merges; floor = ready.floor; row = ready.row; seen = ready.seen } in
     where_refused (StaysFrozen c.args.merger.now left) c.from_residual.result (record {
-      frozen = still_frozen k k' ready.merges (changes.view ∙ ap (λ (m : MergerView). record k.merger { floor = m.floor; round = m.round }) (sym changes.view)) stays.frozen;
+      frozen = still_frozen k k' ready.merges (changes.view ∙ ap (λ (m : MergerView). record k.merger { floor = m.floor; round = m.round; rounds = m.rounds }) (sym changes.view)) stays.frozen;
       ready = record {
         floor = stays.ready.floor ∙ ap (λ (m : MergerView). m.floor) (sym changes.view);
+        early = subst (λ (z : Layout). ready.floor ≤ (ready.merges + 1) * z.cells) (sym changes.layout) stays.ready.early;
         room = subst (λ (z : Layout). z.cells ≤ vec_capacity ready.row) (sym changes.layout) stays.ready.room;
         seats = stays.ready.seats ∙ ap (λ (z : Layout). z.seats) (sym changes.layout);
       };
       same = same_frozen ready left (c.in_err-merge.ensures.of.0 ∙ sym c.prepare.ensures.of.0) changes.layout refl
           (epoch_same k k' c.deref.result.now c.is_sound.ensures stays.frozen.frozen stays.frozen.out.free is changes)
-          (runs_same k k' c.deref.result.now c.is_sound.ensures stays.frozen.frozen stays.frozen.out.free is changes) ∙ ap (λ (s : FrozenState). record s { floor = ready.floor }) stays.same;
+          (runs_same k k' c.deref.result.now c.is_sound.ensures stays.frozen.frozen stays.frozen.out.free is changes) ∙ ap (λ (s : FrozenState). record s { floor = ready.floor; rounds = k'.merger.rounds }) stays.same;
     })
 
 pub returns-in_err-merge-clause-full : goal.returns-in_err-merge-clause-full

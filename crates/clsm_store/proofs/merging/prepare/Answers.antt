@@ -1,4 +1,4 @@
-use Rattle.std.proofs.Common.{◌≡◌, ℕ, ◌+◌, ◌*◌, arith, refl, sym, ap, ◌∙◌, List, subst}
+use Rattle.std.proofs.Common.{◌≡◌, ℕ, ◌+◌, ◌*◌, ◌≤◌, arith, refl, sym, ap, ◌∙◌, List, subst}
 use Rattle.clsm_levels.specs.declared.entry.Entry.{Entry}
 use Rattle.clsm_levels.specs.Entry.{TimesFall, entries_of}
 use Rattle.clsm_levels.specs.Merge.{merged}
@@ -28,6 +28,15 @@ same_epoch g c =
     epoch_stays k gathered c.is_sound.ensures c.requires.frozen.frozen c.requires.frozen.out.free (looks.layout ∙ keeps.layout)
     (ap (λ (m : MergerView). m.merged) looks.view ∙ ap (λ (m : MergerView). m.merged) keeps.view) (prefix_trans k.past floored.past gathered.past keeps.past looks.past)
 
+-- the floor is not past the end of the epoch, as it was not before
+floor_early : (g : Over) (c : goal.After-sort g) → c.take_floor-merger.result ≤ (c.args.merger.now.merges + 1) * c.args.steps.now.words.now.layout.cells
+floor_early g c =
+    let z = c.args.steps.now.words.now.layout in
+    let merges = c.args.merger.now.merges in
+    let before = subst (λ (y : Layout). c.args.merger.now.floor ≤ (merges + 1) * y.cells) c.requires.of.1 c.requires.ready.early in
+    let after = c.take_floor-merger.ensures.early (let same : (merges + 1) * z.cells ≡ merges * z.cells + z.cells = omega arith in omega arith) in
+    omega arith
+
 pub returns-clause-stays : goal.returns-clause-stays
 returns-clause-stays g c =
     let k = c.args.merger.now.raw.knows in
@@ -37,9 +46,10 @@ returns-clause-stays g c =
     let layout = looks.layout ∙ keeps.layout in
     record {
       frozen = still_frozen k gathered c.args.merger.now.merges
-          (looks.view ∙ keeps.view ∙ ap (λ (m : MergerView). record k.merger { floor = m.floor; round = m.round }) (sym looks.view)) c.requires.frozen;
+          (looks.view ∙ keeps.view ∙ ap (λ (m : MergerView). record k.merger { floor = m.floor; round = m.round; rounds = m.rounds }) (sym looks.view)) c.requires.frozen;
       ready = record {
         floor = c.take_floor-merger.ensures.floor ∙ ap (λ (m : MergerView). m.floor) (sym looks.view);
+        early = subst (λ (z : Layout). c.take_floor-merger.result ≤ (c.args.merger.now.merges + 1) * z.cells) (sym c.gather.ensures.of.1) (floor_early g c);
         room = let room = c.gather.ensures.room in let kept = c.sort.ensures.room in let cells = ap (λ (z : Layout). z.cells) c.gather.ensures.of.1 in omega arith;
         seats = c.requires.ready.seats ∙ ap (λ (z : Layout). z.seats) (sym layout);
       };

@@ -1,4 +1,4 @@
-use Rattle.std.proofs.Common.{◌≡◌, true, ℕ, ◌<◌}
+use Rattle.std.proofs.Common.{◌≡◌, true, ℕ, ◌<◌, ◌≤◌}
 use Rattle.clsm_core.specs.Merging.{retiree_at}
 use Rattle.clsm_words.specs.Plays.{IsSeatOf}
 use Rattle.clsm_store.specs.Reclaiming.{KeepsRetired}
@@ -10,4 +10,5 @@ invariant-loop-number g l = record {
   keeps : KeepsRetired l.initial.merger.knows l.merger.knows;
   seen : l.seen.items ≡ l.merger.knows.merger.retirees;
   quiet : (i : ℕ) → i < l.number → (retiree_at l.merger.knows.merger.retirees i).quiet ≡ true;
+  unseen : (i : ℕ) → l.number ≤ i → retiree_at l.merger.knows.merger.retirees i ≡ retiree_at l.initial.merger.knows.merger.retirees i;
 }
