@@ -7,6 +7,7 @@ use Rattle.clsm_model.specs.declared.record.Deed.TheVariants.{Put, Get}
 use Rattle.clsm_store.specs.Seats.{StoreId, SeatState}
 use Rattle.clsm_bench.specs.declared.counts.Counts.{Counts}
 
+-- it is a put
 abbrev pub is_put : Deed → Bool
 is_put (Put key value) = true
 is_put _ = false

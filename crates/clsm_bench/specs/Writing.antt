@@ -1,12 +1,12 @@
 -- How a seat stands between the steps of a write.
 use Rattle.std.specs.Prelude.{◌≡◌, ◌≢◌, ℕ, false, List, [], ◌∷◌, ◌++◌, Some, None}
-use Rattle.clsm_core.specs.declared.view.Mode.TheVariants.{Free, Shared}
+use Rattle.clsm_law.specs.declared.view.Mode.TheVariants.{Free, Shared}
 use Rattle.clsm_words.specs.declared.words.Words.{Words}
 use Rattle.clsm_words.specs.Seats.{SeatState}
 use Rattle.clsm_words.specs.Plays.{IsSeatOf}
 use Rattle.clsm_model.specs.declared.record.CallRecord.{CallRecord}
 use Rattle.clsm_model.specs.declared.record.Deed.TheVariants.{Put}
-use Rattle.clsm_core.specs.Relation.{call_of}
+use Rattle.clsm_law.specs.Relation.{call_of}
 
 -- the calls that the seat has made, each with its time and its deed
 abbrev pub calls_of : SeatState → List CallRecord

@@ -1,12 +1,12 @@
 ghost use Rattle.std.specs.Prelude.{◌≡◌, ◌+◌, ◌*◌, ◌^◌, ◌<◌, ◌≤◌, ◌≢◌, Any, IfOk, IfErr, length, vec_len};
-ghost use Rattle.clsm_core.specs.Relation.{idle};
+ghost use Rattle.clsm_law.specs.Relation.{idle};
 ghost use Rattle.clsm_words.specs.Plays.{IsSeatOf, AreFreshFrom};
 
 use crate::failure::Failure;
 use crate::rate::per_second;
 use crate::tally::Tally;
 use crate::writer::{Writer, write_from};
-use clsm_core::Layout;
+use clsm_law::Layout;
 use clsm_model::Config;
 use clsm_words::{RawSeat, Words};
 use std::alloc::{AllocError, Global};

@@ -1,10 +1,10 @@
 //! The parts of a write, each tried until its exchange is won.
 ghost use Rattle.std.specs.Prelude.{◌≡◌, ◌≢◌, ◌↔◌, IsTrue, IfSome, IfNone, OnSome, false, true, [], ◌∷◌, Some, None, replicate};
-ghost use Rattle.clsm_core.specs.declared.view.Mode.TheVariants.{Free, Shared};
+ghost use Rattle.clsm_law.specs.declared.view.Mode.TheVariants.{Free, Shared};
 ghost use Rattle.clsm_words.specs.Plays.{IsSeatOf};
 ghost use Rattle.clsm_bench.specs.Writing.{IsAtRest, IsInside, HasDrawn, HasFilled, MakesNone, MakesPut};
 
-use clsm_core::{Answer, Part, Word};
+use clsm_law::{Answer, Part, Word};
 use clsm_model::{Deed, Time, Value};
 use clsm_words::{RawSeat, Words};
 

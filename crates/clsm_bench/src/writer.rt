@@ -1,6 +1,6 @@
 ghost use Rattle.std.specs.Prelude.{◌≡◌, ◌+◌, ◌^◌, ◌<◌, ◌≤◌, IfSome, IfNone, length, None};
-ghost use Rattle.clsm_core.specs.declared.view.Mode.TheVariants.{Free};
-ghost use Rattle.clsm_core.specs.Relation.{idle};
+ghost use Rattle.clsm_law.specs.declared.view.Mode.TheVariants.{Free};
+ghost use Rattle.clsm_law.specs.Relation.{idle};
 ghost use Rattle.clsm_words.specs.Plays.{IsSeatOf};
 ghost use Rattle.clsm_bench.specs.Writing.{IsInside, MakesNone, MakesPut, calls_of};
 

@@ -10,6 +10,7 @@ word_sum (Some []) by = None
 word_sum (Some (word ∷ [])) by = cond (nat_lt (word + by) (2 ^ 64)) (Some (word + by)) None
 word_sum (Some (word ∷ more ∷ words)) by = None
 
+-- the word is set, or the old value is kept where there is none
 abbrev pub set_or_keep : Option ℕ → Change
 set_or_keep None = Keep
 set_or_keep (Some word) = Set (word ∷ [])

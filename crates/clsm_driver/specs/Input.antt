@@ -2,6 +2,7 @@
 use Rattle.std.specs.Prelude.{◌≡◌, ℕ, ◌+◌, ◌==◌, min, Bool, List, Option, Some, length, take, drop}
 use Rattle.std.specs.List.{before_first}
 
+-- the byte is a line feed
 abbrev pub is_line_feed : ℕ → Bool
 is_line_feed b = b == 10
 

@@ -35,6 +35,6 @@ Merges old new answer = (new ≡ old) × (answer ≡ Err NotFrozen)
 -- where a component is retired, it is given up, or the lowest seat that is looked at and not found quiet is named; else nothing is done
 abbrev pub Reclaims : Phase → Phase → Result ⊤ ReclaimError → Type 0
 Reclaims (Retired old) (Clean new) (Ok _) = new ≡ old.merger
-Reclaims (Retired old) (Retired new) (Err (Pinned pinned)) = (new.merger ≡ old.merger) × IsLowestLoud old.retirees new.retirees pinned.0
+Reclaims (Retired old) (Retired new) (Err (Pinned pinned)) = (new ≡ record old { retirees = new.retirees }) × IsLowestLoud old.retirees new.retirees pinned.0
 Reclaims (Retired _) _ _ = ⊥
 Reclaims old new answer = (new ≡ old) × (answer ≡ Err NotRetired)

@@ -49,7 +49,8 @@ fn claimed(old: &Option<Value>, value: Value) -> Change
     }
 }
 
-/// Adds to the key's word.
+/// Adds the number to the key's word, which counts as 0 where it has no value, in one read-modify-write; keeps the value where the sum passes
+/// 2^64 - 1 or it has several words. It waits and is refused as `put`.
 pub fn add<P: Pace + Drop, R: Wait>(
     rt: &R,
     store: &Store<P>,
@@ -65,7 +66,7 @@ pub fn add<P: Pace + Drop, R: Wait>(
     store.rmw(rt, seat, key, &|old| added(&old, by))
 }
 
-/// Writes the value at the key where it has none.
+/// Writes the value at the key where it has none, and else keeps what it has, in one read-modify-write. It waits and is refused as `put`.
 pub fn claim<P: Pace + Drop, R: Wait>(
     rt: &R,
     store: &Store<P>,

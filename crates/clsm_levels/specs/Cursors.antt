@@ -5,15 +5,19 @@ use Rattle.clsm_levels.specs.declared.entry.Entry.{Entry}
 use Rattle.clsm_levels.specs.declared.cursor.Cursor.{Cursor}
 use Rattle.clsm_levels.specs.Pass.{KeysRise}
 
+-- the row with this number
 abbrev pub row_at : List (List Entry) → ℕ → List Entry
 row_at rows i = slice_index_or rows i []
 
+-- a cursor that has no entry
 abbrev pub no_cursor : Cursor
 no_cursor = record { position = 0; head = None }
 
+-- the cursor in the row with this number
 abbrev pub cursor_at : List Cursor → ℕ → Cursor
 cursor_at cursors i = slice_index_or cursors i no_cursor
 
+-- the first entry, where there is one
 abbrev pub first_of : List Entry → Option Entry
 first_of [] = None
 first_of (e ∷ es) = Some e

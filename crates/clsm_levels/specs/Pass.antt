@@ -9,6 +9,7 @@ abbrev pub KeysRise : List Entry → Type 0
 KeysRise [] = Unit {0}
 KeysRise (e ∷ es) = AllByRecursion (λ x. e.key ≤ x.key) es × KeysRise es
 
+-- the key is there, and it is this one
 abbrev pub is_key : Option ℕ → ℕ → Bool
 is_key None k = false
 is_key (Some j) k = j == k

@@ -1,10 +1,10 @@
 -- What the calls on the lock leave of a seat as it was, and what they change.
 use Rattle.std.specs.Prelude.{◌≡◌, ◌*◌, true, false, length, None}
 use mathlib.Core.List.{IsPrefix}
-use Rattle.clsm_core.specs.declared.word.Word.{Word}
-use Rattle.clsm_core.specs.declared.word.Word.TheVariants.{Clock}
-use Rattle.clsm_core.specs.declared.view.Mode.TheVariants.{Free, Shared}
-use Rattle.clsm_core.specs.Relation.{blank, next_word}
+use Rattle.clsm_law.specs.declared.word.Word.{Word}
+use Rattle.clsm_law.specs.declared.word.Word.TheVariants.{Clock}
+use Rattle.clsm_law.specs.declared.view.Mode.TheVariants.{Free, Shared}
+use Rattle.clsm_law.specs.Relation.{blank, next_word}
 use Rattle.clsm_words.specs.declared.known.Known.{Known}
 use Rattle.clsm_words.specs.Knowing.{row_of, KeepsRuns}
 use Rattle.clsm_words.specs.Merging.{IsOwn}

@@ -1,17 +1,17 @@
 //! The merger's hold, which it has alone.
 ghost use Rattle.std.specs.Prelude.{◌≡◌, true, false};
-ghost use Rattle.clsm_core.specs.declared.step.Step.TheVariants.{LeaveExclusive};
-ghost use Rattle.clsm_core.specs.Merging.{is_clean, is_freeze_whole};
+ghost use Rattle.clsm_law.specs.declared.step.Step.TheVariants.{LeaveExclusive};
+ghost use Rattle.clsm_law.specs.Merging.{is_clean, is_freeze_whole};
 ghost use Rattle.clsm_words.specs.Plays.{IsSeatOf, Merges};
 ghost use Rattle.clsm_lock.specs.Keeping.{EntersAlone};
 
-use clsm_core::Answer;
+use clsm_law::Answer;
 use clsm_words::{Pace, RawMerger, Steps};
 use std::sync::Wait;
 use std::thread;
 
-/// Holds the lock alone, and waits for that as long as it takes. Nothing is frozen then. While the merger holds it no caller does, so no
-/// time is drawn, and what each time came to is known to the merger.
+/// Holds the lock alone, and waits for that as long as it takes. Nothing is frozen then. While the merger holds it no caller does (a clause of
+/// the law that the words keep), so no time is drawn, and what each time came to is known to the merger.
 pub fn exclusive<P: Pace, R: Wait>(rt: &R, steps: &Steps<P>, merger: &mut RawMerger)
     requires of { IsSeatOf steps.now.words.now merger.old }
     requires clean { is_clean merger.old.knows.merger.phase ≡ true }

@@ -1,11 +1,11 @@
 //! Shared holds.
 ghost use Rattle.std.specs.Prelude.{◌≡◌, None, OnOk, OnErr};
-ghost use Rattle.clsm_core.specs.declared.view.Mode.TheVariants.{Free, Shared};
-ghost use Rattle.clsm_core.specs.Relation.{next_word};
+ghost use Rattle.clsm_law.specs.declared.view.Mode.TheVariants.{Free, Shared};
+ghost use Rattle.clsm_law.specs.Relation.{next_word};
 ghost use Rattle.clsm_words.specs.Plays.{IsSeatOf};
 ghost use Rattle.clsm_lock.specs.Keeping.{Enters, StaysOut, Leaves};
 
-use clsm_core::{Answer, Word};
+use clsm_law::{Answer, Word};
 use clsm_words::{Pace, RawSeat, Steps};
 use std::sync::Wait;
 use std::thread;

@@ -1,10 +1,10 @@
 //! Threads that hold the lock.
 ghost use Rattle.std.specs.Prelude.{◌≡◌, None};
-ghost use Rattle.clsm_core.specs.declared.view.Mode.TheVariants.{Free, Shared};
+ghost use Rattle.clsm_law.specs.declared.view.Mode.TheVariants.{Free, Shared};
 ghost use Rattle.clsm_words.specs.Plays.{IsSeatOf, AreFreshFrom};
 
 use super::*;
-use clsm_core::{Layout, Word};
+use clsm_law::{Layout, Word};
 use clsm_model::Config;
 use clsm_words::{Kind, Pace, RawSeat, Steps, Words};
 use std::process::Abort;

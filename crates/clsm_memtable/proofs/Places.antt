@@ -1,7 +1,7 @@
 -- The words of a value in their eight places, and places that are filled one after another.
 use Rattle.std.proofs.Common.{◌≡◌, ℕ, zero, suc, ◌+◌, ◌<◌, List, [], ◌∷◌, ◌++◌, length, map, take, set, get_or, replicate, refl, ap, sym, ◌∙◌, true, Option, Some}
 use Rattle.std.proofs.lemmas.List.{take_more_set, map_more}
-use Rattle.clsm_core.specs.Relation.{is_all_some}
+use Rattle.clsm_law.specs.Relation.{is_all_some}
 
 zeros_at : (n i : ℕ) → get_or (replicate {A = ℕ} n 0) i 0 ≡ 0
 zeros_at zero i = refl

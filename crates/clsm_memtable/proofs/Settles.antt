@@ -1,14 +1,14 @@
 -- What the steps of settling make of a seat.
 use Rattle.std.proofs.Common.{◌≡◌, ◌≢◌, ℕ, ◌+◌, ◌*◌, ◌<◌, ◌≤◌, ◌==◌, ◌&&◌, not, Bool, true, false, cond, max, length, refl, sym, ap, ◌∙◌, subst, arith, inl, inr, Option, Some, None, eq-eqb, ne_eqb, lt-ltb}
 use Rattle.std.proofs.lemmas.Bool.{cases_eq, le-leb}
-use Rattle.clsm_core.specs.declared.layout.Layout.{Layout}
-use Rattle.clsm_core.specs.declared.word.Word.TheVariants.{Front, State}
-use Rattle.clsm_core.specs.declared.step.Step.TheVariants.{Cancel, Look, RaiseFront}
-use Rattle.clsm_core.specs.declared.view.View.{View}
-use Rattle.clsm_core.specs.Memory.{cell_of}
-use Rattle.clsm_core.specs.Relation.{IsBelow, is_below, is_seen, is_seen_of, is_own, given_up, one_more_if, view_after, reached_after, reached_by_state, HoldsFrom}
-use Rattle.clsm_core.proofs.Cases.{by_bool}
-use Rattle.clsm_core.proofs.Times.{cell_below}
+use Rattle.clsm_law.specs.declared.layout.Layout.{Layout}
+use Rattle.clsm_law.specs.declared.word.Word.TheVariants.{Front, State}
+use Rattle.clsm_law.specs.declared.step.Step.TheVariants.{Cancel, Look, RaiseFront}
+use Rattle.clsm_law.specs.declared.view.View.{View}
+use Rattle.clsm_law.specs.Memory.{cell_of}
+use Rattle.clsm_law.specs.Relation.{IsBelow, is_below, is_seen, is_seen_of, is_own, given_up, one_more_if, view_after, reached_after, reached_by_state, HoldsFrom}
+use Rattle.clsm_law.proofs.Cases.{by_bool}
+use Rattle.clsm_law.proofs.Times.{cell_below}
 use Rattle.clsm_words.specs.declared.known.Known.{Known}
 use Rattle.clsm_words.specs.Knowing.{Opens, Follows}
 use Rattle.clsm_words.specs.Keeping.{OnlyReads}

@@ -1,9 +1,9 @@
 -- What the calls that write leave of a seat as it was, and what they change.
 use Rattle.std.specs.Prelude.{◌≡◌, ◌≢◌, ℕ, ◌+◌, ◌≤◌, ◌⊎◌, [], ◌∷◌, ◌++◌, false, Some, None}
 use Rattle.clsm_model.specs.declared.record.Deed.{Deed}
-use Rattle.clsm_core.specs.declared.view.SnapshotState.{SnapshotState}
-use Rattle.clsm_core.specs.declared.view.SnapshotState.TheVariants.{Noted}
-use Rattle.clsm_core.specs.Relation.{blank, next_word, IsBelow, reached_after, call_of}
+use Rattle.clsm_law.specs.declared.view.SnapshotState.{SnapshotState}
+use Rattle.clsm_law.specs.declared.view.SnapshotState.TheVariants.{Noted}
+use Rattle.clsm_law.specs.Relation.{blank, next_word, IsBelow, reached_after, call_of}
 use Rattle.clsm_words.specs.declared.known.Known.{Known}
 use Rattle.clsm_words.specs.Knowing.{IsWithin, KeepsRuns}
 use Rattle.clsm_memtable.specs.declared.drawing.DrawError.{DrawError}
@@ -90,6 +90,7 @@ pub record LosesDraw (old new : Known) : Type 0 where
   pub looked : new.view.hold_limit ≢ None
   pub raced : new.view.raced ≡ next_word old.view.raced
 
+-- why no time was drawn: the clock was at the limit, or another seat drew the time first
 abbrev pub RefusesDraw : Known → Known → DrawError → Type 0
 RefusesDraw old new (Full t) = FindsFull old new t
 RefusesDraw old new Raced = LosesDraw old new
@@ -119,6 +120,7 @@ pub record LosesTime (old new : Known) (t : ℕ) : Type 0 where
   pub due : new.view.due ≡ old.view.due
   pub overtaken : new.view.overtaken ≡ next_word old.view.overtaken
 
+-- what came of a decide: the deed stands at its time, or somebody had cancelled it
 abbrev pub Publishes : Known → Known → ℕ → Deed → Published → Type 0
 Publishes old new t deed Done = Decides old new t deed
 Publishes old new t deed Overtaken = LosesTime old new t

@@ -1,10 +1,10 @@
 //! The end of a drawn time: its write stands, or nothing has it.
 ghost use Rattle.std.specs.Prelude.{◌≡◌, Some};
-ghost use Rattle.clsm_core.specs.declared.step.Step.TheVariants.{Decide};
+ghost use Rattle.clsm_law.specs.declared.step.Step.TheVariants.{Decide};
 ghost use Rattle.clsm_words.specs.Plays.{IsSeatOf, MayPlay};
 ghost use Rattle.clsm_memtable.specs.Writing.{Publishes, GivesUp};
 
-use clsm_core::Answer;
+use clsm_law::Answer;
 use clsm_model::{Deed, Time};
 use clsm_words::{Pace, RawSeat, Steps};
 

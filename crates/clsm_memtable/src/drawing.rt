@@ -1,10 +1,10 @@
 //! The draw of a time.
 ghost use Rattle.std.specs.Prelude.{◌≡◌, None, IfOk, IfErr};
-ghost use Rattle.clsm_core.specs.declared.view.Mode.TheVariants.{Shared};
+ghost use Rattle.clsm_law.specs.declared.view.Mode.TheVariants.{Shared};
 ghost use Rattle.clsm_words.specs.Plays.{IsSeatOf};
 ghost use Rattle.clsm_memtable.specs.Writing.{IsUnnoted, Draws, RefusesDraw};
 
-use clsm_core::{Answer, Word};
+use clsm_law::{Answer, Word};
 use clsm_model::Time;
 use clsm_words::{Pace, RawSeat, Steps};
 use thiserror::Error;

@@ -4,7 +4,7 @@ ghost use Rattle.clsm_model.specs.Value.{padded};
 ghost use Rattle.clsm_words.specs.Plays.{IsSeatOf};
 ghost use Rattle.clsm_memtable.specs.Filling.{Fills, FillsParts};
 
-use clsm_core::Part;
+use clsm_law::Part;
 use clsm_model::{Time, Value};
 use clsm_words::{Pace, RawSeat, Steps};
 

@@ -1,16 +1,16 @@
 //! The writes of a frozen epoch, as the merger reads them.
 ghost use Rattle.std.specs.Prelude.{◌≡◌, ◌*◌, ◌+◌, ◌<◌, ◌≤◌, true, false, [], Some, vec_capacity, vec_len};
 ghost use Rattle.clsm_levels.specs.Entry.{entries_of};
-ghost use Rattle.clsm_core.specs.Memory.{is_part};
-ghost use Rattle.clsm_core.specs.Merging.{epoch_end, is_frozen};
-ghost use Rattle.clsm_core.specs.Relation.{length_of};
+ghost use Rattle.clsm_law.specs.Memory.{is_part};
+ghost use Rattle.clsm_law.specs.Merging.{epoch_end, is_frozen};
+ghost use Rattle.clsm_law.specs.Relation.{length_of};
 ghost use Rattle.clsm_words.specs.Changing.{Changes, NoWord};
 ghost use Rattle.clsm_words.specs.Knowing.{IsPartOf, code_of};
 ghost use Rattle.clsm_words.specs.Plays.{IsSeatOf};
 ghost use Rattle.clsm_memtable.specs.Searching.{slot_in, value_in};
 ghost use Rattle.clsm_memtable.specs.Frozen.{IsEntryOf, IsFrozenIn, IsFrozenTime};
 
-use clsm_core::{Part, Word};
+use clsm_law::{Part, Word};
 use clsm_levels::Entry;
 use clsm_model::{Time, Value};
 use clsm_words::{Pace, RawMerger, Steps};

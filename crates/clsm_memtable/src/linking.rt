@@ -1,11 +1,11 @@
 //! The link of a drawn cell into its chain.
 ghost use Rattle.std.specs.Prelude.{◌≡◌, ◌≢◌, None, OnOk, OnErr};
-ghost use Rattle.clsm_core.specs.declared.view.Mode.TheVariants.{Shared};
-ghost use Rattle.clsm_core.specs.Relation.{next_word};
+ghost use Rattle.clsm_law.specs.declared.view.Mode.TheVariants.{Shared};
+ghost use Rattle.clsm_law.specs.Relation.{next_word};
 ghost use Rattle.clsm_words.specs.Plays.{IsSeatOf, IsFilled};
 ghost use Rattle.clsm_memtable.specs.Filling.{Links, StaysUnlinked};
 
-use clsm_core::{Answer, Part};
+use clsm_law::{Answer, Part};
 use clsm_model::Time;
 use clsm_words::{Pace, RawSeat, Steps};
 use std::sync::Wait;

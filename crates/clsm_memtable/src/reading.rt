@@ -1,14 +1,14 @@
 //! Looks at the cells of times that the seat knows.
 ghost use Rattle.std.specs.Prelude.{◌≡◌, ◌<◌, ◌≤◌, ◌≢◌, None, Some, length, take, slice_index};
-ghost use Rattle.clsm_core.specs.Relation.{length_of, words_of};
+ghost use Rattle.clsm_law.specs.Relation.{length_of, words_of};
 ghost use Rattle.clsm_words.specs.Knowing.{IsPartOf, code_of};
 ghost use Rattle.clsm_words.specs.Keeping.{LooksAside};
 ghost use Rattle.clsm_words.specs.Plays.{IsSeatOf};
-ghost use Rattle.clsm_core.specs.declared.word.Part.TheVariants.{Key, Length, Value as WordOf};
+ghost use Rattle.clsm_law.specs.declared.word.Part.TheVariants.{Key, Length, Value as WordOf};
 ghost use Rattle.clsm_memtable.specs.Searching.{IsKnownTime, is_write, slot_in, value_in};
 
 use crate::found::Found;
-use clsm_core::{Part, Word};
+use clsm_law::{Part, Word};
 use clsm_model::{Time, Value};
 use clsm_words::{Pace, RawSeat, Steps};
 

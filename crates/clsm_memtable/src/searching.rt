@@ -1,13 +1,13 @@
 //! The newest write of a key below a time, in the two epochs of a held component.
 ghost use Rattle.std.specs.Prelude.{◌≡◌, ◌+◌, ◌*◌, ◌%◌, ◌<◌, ◌≤◌, ◌≢◌, Some, None, length};
-ghost use Rattle.clsm_core.specs.Memory.{cell_of};
+ghost use Rattle.clsm_law.specs.Memory.{cell_of};
 ghost use Rattle.clsm_words.specs.Keeping.{Looks, LooksAside};
 ghost use Rattle.clsm_words.specs.Plays.{IsSeatOf};
 ghost use Rattle.clsm_memtable.specs.Searching.{GoesOn, IsOnChain, IsWalked, MaySearch, MayLookInto, IsNewest, IsNewestIn, IsNewestTime, better, is_later, is_write, slot_in};
 
 use crate::found::Found;
 use crate::reading::{found, is_write};
-use clsm_core::{Part, Word};
+use clsm_law::{Part, Word};
 use clsm_model::Time;
 use clsm_words::{Pace, RawSeat, Steps};
 

@@ -4,7 +4,7 @@ ghost use Rattle.clsm_words.specs.Plays.{IsSeatOf};
 ghost use Rattle.clsm_words.specs.Keeping.{OnlyReads};
 ghost use Rattle.clsm_memtable.specs.Settled.{MaySettle, MaySettleBelow};
 
-use clsm_core::Word;
+use clsm_law::Word;
 use clsm_model::Time;
 use clsm_words::{Pace, RawSeat, Steps};
 

@@ -1,11 +1,11 @@
 //! Times that are drawn, given up, and settled before a read.
 ghost use Rattle.std.specs.Prelude.{◌≡◌, false, None};
-ghost use Rattle.clsm_core.specs.declared.view.Mode.TheVariants.{Free, Shared};
-ghost use Rattle.clsm_core.specs.declared.view.SnapshotState.TheVariants.{Absent};
+ghost use Rattle.clsm_law.specs.declared.view.Mode.TheVariants.{Free, Shared};
+ghost use Rattle.clsm_law.specs.declared.view.SnapshotState.TheVariants.{Absent};
 ghost use Rattle.clsm_words.specs.Plays.{IsSeatOf, AreFreshFrom};
 
 use super::*;
-use clsm_core::{Layout, Word};
+use clsm_law::{Layout, Word};
 use clsm_lock::try_shared;
 use clsm_model::{Config, Deed, Time, Value};
 use clsm_words::{Pace, RawSeat, Steps, Words};

@@ -17,18 +17,23 @@ number_of Patience = 9
 abbrev pub IsBetween : ℕ → ℕ → ℕ → Type 0
 IsBetween low high n = (low ≤ n) × (n ≤ high)
 
+-- a region has 4 to 65,536 cells
 abbrev pub IsCells : Config → Type 0
 IsCells c = IsBetween 4 65536 c.cells
 
+-- there are 1 to 64 callers' seats
 abbrev pub IsSeats : Config → Type 0
 IsSeats c = IsBetween 1 64 c.seats
 
+-- a region has 1 to 1,024 chains
 abbrev pub IsShards : Config → Type 0
 IsShards c = IsBetween 1 1024 c.shards
 
+-- a place of level 1 has room for 4 to 4,194,304 entries
 abbrev pub IsRun : Config → Type 0
 IsRun c = IsBetween 4 4194304 c.run
 
+-- a reader looks again at an empty cell at most 64 times
 abbrev pub IsPatience : Config → Type 0
 IsPatience c = c.patience ≤ 64
 

@@ -22,6 +22,7 @@ write_by seat (Remove key) = Some (Wrote seat key None)
 write_by seat (Rmw key old change) = change_by seat key change
 write_by seat _ = None
 
+-- the key of the first row, where there is one
 abbrev pub first_key : List Pair → Option ℕ
 first_key [] = None
 first_key (pair ∷ pairs) = Some pair.0

@@ -1,10 +1,10 @@
 -- A seat after a pin and its look, and after an unpin.
 use Rattle.std.proofs.Common.{◌≡◌, ℕ, ap, ◌∙◌, arith}
-use Rattle.clsm_core.specs.declared.word.Word.TheVariants.{Merged}
-use Rattle.clsm_core.specs.declared.step.Step.TheVariants.{Pin, Unpin, Look}
-use Rattle.clsm_core.specs.declared.step.End.{End}
-use Rattle.clsm_core.specs.declared.view.View.{View}
-use Rattle.clsm_core.specs.Relation.{looked, view_after}
+use Rattle.clsm_law.specs.declared.word.Word.TheVariants.{Merged}
+use Rattle.clsm_law.specs.declared.step.Step.TheVariants.{Pin, Unpin, Look}
+use Rattle.clsm_law.specs.declared.step.End.{End}
+use Rattle.clsm_law.specs.declared.view.View.{View}
+use Rattle.clsm_law.specs.Relation.{looked, view_after}
 use Rattle.clsm_words.specs.declared.known.Known.{Known}
 use Rattle.clsm_words.specs.Knowing.{Sound, Follows}
 use Rattle.clsm_words.proofs.PastGrowth.{same_past}

@@ -1,7 +1,7 @@
 -- What a pin and an unpin make of a seat, and what they leave of it.
 use Rattle.std.specs.Prelude.{◌≡◌, ℕ, ◌*◌, ◌≤◌, ◌++◌, true, false, Some, None}
-use Rattle.clsm_core.specs.declared.step.End.{End}
-use Rattle.clsm_core.specs.Relation.{next_word, ended_calls, ended_due, ended_snapshot}
+use Rattle.clsm_law.specs.declared.step.End.{End}
+use Rattle.clsm_law.specs.Relation.{next_word, ended_calls, ended_due, ended_snapshot}
 use Rattle.clsm_words.specs.declared.known.Known.{Known}
 
 -- The seat's writes are where they were: its number and past, how it holds the lock and what it looked at in that hold, its drawn time and

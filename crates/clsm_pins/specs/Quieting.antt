@@ -1,7 +1,7 @@
 -- What the merger notes of a seat while a component is retired.
 use Rattle.std.specs.Prelude.{◌≡◌, ℕ, ◌%◌, Option, Some, None, slice_set}
 use mathlib.Core.List.{IsPrefix}
-use Rattle.clsm_core.specs.declared.merger.Retiree.{Retiree}
+use Rattle.clsm_law.specs.declared.merger.Retiree.{Retiree}
 use Rattle.clsm_words.specs.declared.known.Known.{Known}
 
 -- it noted this of the seat, and nothing else of it changed; its past goes on

@@ -1,10 +1,10 @@
 //! The beginning and the end of a read.
 ghost use Rattle.std.specs.Prelude.{◌≡◌, false};
-ghost use Rattle.clsm_core.specs.declared.step.Step.TheVariants.{Unpin};
+ghost use Rattle.clsm_law.specs.declared.step.Step.TheVariants.{Unpin};
 ghost use Rattle.clsm_words.specs.Plays.{IsSeatOf, MayPlay};
 ghost use Rattle.clsm_pins.specs.Pinning.{Pins, Unpins};
 
-use clsm_core::{End, Word};
+use clsm_law::{End, Word};
 use clsm_words::{Pace, RawSeat, Steps};
 
 /// Begins a read: two steps, the pin and one look at MERGED, which gives the component that the seat holds until it unpins. `pin` is

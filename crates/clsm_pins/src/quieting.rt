@@ -1,11 +1,11 @@
 //! Whether a seat holds anything retired.
-ghost use Rattle.std.specs.Prelude.{◌≡◌, ◌<◌, true, false};
-ghost use Rattle.clsm_core.specs.Merging.{is_retired, retiree_at, retiree_by};
-ghost use Rattle.clsm_core.specs.Relation.{next_word};
+ghost use Rattle.std.specs.Prelude.{◌≡◌, ◌<◌, ℕ, true, false};
+ghost use Rattle.clsm_law.specs.Merging.{is_retired, retiree_at, retiree_by};
+ghost use Rattle.clsm_law.specs.Relation.{next_word};
 ghost use Rattle.clsm_words.specs.Plays.{IsSeatOf};
 ghost use Rattle.clsm_pins.specs.Quieting.{IsNotedOdd, LooksAtPin};
 
-use clsm_core::{Retiree, Word};
+use clsm_law::{Retiree, Word};
 use clsm_words::{Pace, RawMerger, Steps};
 
 /// What is noted of a seat whose pin word is this now: it is quiet where the word is even, as no read runs, or where it differs from the one first
@@ -38,6 +38,7 @@ pub fn quiet<P: Pace>(
     ensures looked { LooksAtPin merger.old.knows merger.new.knows seat seen.new }
     ensures quiet { result ≡ seen.new.quiet }
     ensures loud { result ≡ false → IsNotedOdd seen.new.first_pin }
+    ensures noted { (word : ℕ) × (seen.new ≡ retiree_by seen.old word) }
     ensures again { seen.new.looks ≡ next_word seen.old.looks }
 {
     let word = steps.look_as_merger(merger, Word::Pin(seat));

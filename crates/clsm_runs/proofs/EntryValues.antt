@@ -3,12 +3,12 @@ use Rattle.std.proofs.Common.{◌≡◌, ◌≢◌, ℕ, zero, suc, ◌+◌, ◌
 use Rattle.std.specs.Prelude.{slice_index}
 use Rattle.std.proofs.lemmas.Bool.{ltb-true, ne_eqb, and_parts}
 use Rattle.std.proofs.lemmas.List.{take_more, take_more_set, length-take}
-use Rattle.clsm_core.specs.declared.word.Word.TheVariants.{Count, Entry as EntryWord}
-use Rattle.clsm_core.specs.Memory.{Memory}
-use Rattle.clsm_core.specs.Places.{value_words, entry_in}
-use Rattle.clsm_core.specs.Relation.{IsShort}
-use Rattle.clsm_core.specs.Worlds.{is_length, is_ended, is_canonical, are_canonical}
-use Rattle.clsm_core.proofs.Passes.{passes_at}
+use Rattle.clsm_law.specs.declared.word.Word.TheVariants.{Count, Entry as EntryWord}
+use Rattle.clsm_law.specs.Memory.{Memory}
+use Rattle.clsm_law.specs.Places.{value_words, entry_in}
+use Rattle.clsm_law.specs.Relation.{IsShort}
+use Rattle.clsm_law.specs.Worlds.{is_length, is_ended, is_canonical, are_canonical}
+use Rattle.clsm_law.proofs.Passes.{passes_at}
 
 -- ---- the eight words
 

@@ -9,16 +9,16 @@ use Rattle.clsm_levels.specs.Run.{all_of}
 use Rattle.clsm_levels.proofs.Merges.{keys_rise-merged}
 use Rattle.clsm_levels.proofs.Passes.{kept_after-none}
 use Rattle.clsm_levels.proofs.Picks.{all_left}
-use Rattle.clsm_core.specs.declared.layout.Layout.{Layout}
-use Rattle.clsm_core.specs.declared.merger.MergerView.{MergerView}
-use Rattle.clsm_core.specs.declared.word.Word.TheVariants.{Count, Entry as EntryWord}
-use Rattle.clsm_core.specs.declared.step.Step.TheVariants.{WriteRun}
-use Rattle.clsm_core.specs.Memory.{room_of}
-use Rattle.clsm_core.specs.Merging.{target_of}
-use Rattle.clsm_core.specs.Places.{entries_from, entries_in}
-use Rattle.clsm_core.specs.Worlds.{are_canonical, is_canonical, passes_from}
-use Rattle.clsm_core.proofs.KeptRuns.{entry_canonical}
-use Rattle.clsm_core.proofs.Passes.{passes_at, passes_if}
+use Rattle.clsm_law.specs.declared.layout.Layout.{Layout}
+use Rattle.clsm_law.specs.declared.merger.MergerView.{MergerView}
+use Rattle.clsm_law.specs.declared.word.Word.TheVariants.{Count, Entry as EntryWord}
+use Rattle.clsm_law.specs.declared.step.Step.TheVariants.{WriteRun}
+use Rattle.clsm_law.specs.Memory.{room_of}
+use Rattle.clsm_law.specs.Merging.{target_of}
+use Rattle.clsm_law.specs.Places.{entries_from, entries_in}
+use Rattle.clsm_law.specs.Worlds.{are_canonical, is_canonical, passes_from}
+use Rattle.clsm_law.proofs.KeptRuns.{entry_canonical}
+use Rattle.clsm_law.proofs.Passes.{passes_at, passes_if}
 use Rattle.clsm_words.specs.declared.known.Known.{Known}
 use Rattle.clsm_words.specs.Knowing.{row_of}
 use Rattle.clsm_words.specs.Merging.{FollowsMerger}

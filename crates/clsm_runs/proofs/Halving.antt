@@ -8,9 +8,9 @@ use Rattle.clsm_levels.specs.Entry.{first_below}
 use Rattle.clsm_levels.specs.Run.{ComesBefore, IsRun}
 use Rattle.clsm_levels.proofs.Every.{every_weaker}
 use Rattle.clsm_levels.proofs.Searches.{first_below_here}
-use Rattle.clsm_core.specs.declared.word.Word.TheVariants.{Entry as EntryWord}
-use Rattle.clsm_core.specs.Memory.{Memory}
-use Rattle.clsm_core.specs.Places.{entry_in, entries_from}
+use Rattle.clsm_law.specs.declared.word.Word.TheVariants.{Entry as EntryWord}
+use Rattle.clsm_law.specs.Memory.{Memory}
+use Rattle.clsm_law.specs.Places.{entry_in, entries_from}
 use Rattle.clsm_words.specs.declared.known.Known.{Known}
 use Rattle.clsm_words.specs.Knowing.{row_of}
 use Rattle.clsm_runs.specs.declared.side.Side.TheVariants.{Hit}

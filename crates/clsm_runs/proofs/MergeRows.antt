@@ -9,14 +9,14 @@ use Rattle.clsm_levels.specs.Cursors.{first_of, row_at}
 use Rattle.clsm_levels.specs.Merge.{is_to_level_one}
 use Rattle.clsm_levels.specs.Place.{level_zero_places, runs_at}
 use Rattle.clsm_levels.proofs.Placed.{target_one, target_zero}
-use Rattle.clsm_core.specs.declared.merger.MergerView.{MergerView}
-use Rattle.clsm_core.specs.declared.word.Word.{Word}
-use Rattle.clsm_core.specs.declared.word.Word.TheVariants.{Count, Entry as EntryWord}
-use Rattle.clsm_core.specs.Memory.{Memory}
-use Rattle.clsm_core.specs.Merging.{is_frozen, place_of, target_of}
-use Rattle.clsm_core.specs.Places.{entry_in, entries_from, entries_in, held_at, is_named, number_of}
-use Rattle.clsm_core.specs.Worlds.{runs_of}
-use Rattle.clsm_core.proofs.KeptRuns.{SamePlace, runs_same}
+use Rattle.clsm_law.specs.declared.merger.MergerView.{MergerView}
+use Rattle.clsm_law.specs.declared.word.Word.{Word}
+use Rattle.clsm_law.specs.declared.word.Word.TheVariants.{Count, Entry as EntryWord}
+use Rattle.clsm_law.specs.Memory.{Memory}
+use Rattle.clsm_law.specs.Merging.{is_frozen, place_of, target_of}
+use Rattle.clsm_law.specs.Places.{entry_in, entries_from, entries_in, held_at, is_named, number_of}
+use Rattle.clsm_law.specs.Worlds.{runs_of}
+use Rattle.clsm_law.proofs.KeptRuns.{SamePlace, runs_same}
 use Rattle.clsm_words.specs.declared.known.Known.{Known}
 use Rattle.clsm_words.specs.Knowing.{row_of}
 use Rattle.clsm_words.specs.Changing.{Changes, NoWord}

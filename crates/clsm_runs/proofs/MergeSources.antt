@@ -11,12 +11,12 @@ use Rattle.clsm_levels.specs.Place.{places}
 use Rattle.clsm_levels.specs.Run.{IsRun, all_of}
 use Rattle.clsm_levels.proofs.Every.{every-cond, every_weaker}
 use Rattle.clsm_levels.proofs.Orders.{keys_rise-run}
-use Rattle.clsm_core.specs.declared.layout.Layout.{Layout}
-use Rattle.clsm_core.specs.declared.word.Word.TheVariants.{Count}
-use Rattle.clsm_core.specs.Memory.{room_of}
-use Rattle.clsm_core.specs.Places.{held_at, is_named, number_of}
-use Rattle.clsm_core.specs.Worlds.{runs_of}
-use Rattle.clsm_core.proofs.KeptRuns.{all_named}
+use Rattle.clsm_law.specs.declared.layout.Layout.{Layout}
+use Rattle.clsm_law.specs.declared.word.Word.TheVariants.{Count}
+use Rattle.clsm_law.specs.Memory.{room_of}
+use Rattle.clsm_law.specs.Places.{held_at, is_named, number_of}
+use Rattle.clsm_law.specs.Worlds.{runs_of}
+use Rattle.clsm_law.proofs.KeptRuns.{all_named}
 use Rattle.clsm_words.specs.declared.known.Known.{Known}
 use Rattle.clsm_words.specs.Knowing.{row_of}
 use Rattle.clsm_words.specs.Merging.{IsSoundMerger}

@@ -11,13 +11,13 @@ use Rattle.clsm_levels.specs.Entry.{IsWriteOf}
 use Rattle.clsm_levels.specs.Place.{level_zero_places}
 use Rattle.clsm_levels.specs.Run.{IsRun, all_of}
 use Rattle.clsm_levels.proofs.Every.{every_left, every_right}
-use Rattle.clsm_core.specs.declared.word.Word.TheVariants.{Clock}
-use Rattle.clsm_core.specs.Memory.{Memory}
-use Rattle.clsm_core.specs.Merging.{epoch_end, is_frozen}
-use Rattle.clsm_core.specs.Places.{is_named, entry_in, entries_from, entries_in, held_at}
-use Rattle.clsm_core.specs.Worlds.{runs_of, are_canonical}
-use Rattle.clsm_core.specs.Relation.{IsShort}
-use Rattle.clsm_core.specs.Law.{AreRuns}
+use Rattle.clsm_law.specs.declared.word.Word.TheVariants.{Clock}
+use Rattle.clsm_law.specs.Memory.{Memory}
+use Rattle.clsm_law.specs.Merging.{epoch_end, is_frozen}
+use Rattle.clsm_law.specs.Places.{is_named, entry_in, entries_from, entries_in, held_at}
+use Rattle.clsm_law.specs.Worlds.{runs_of, are_canonical}
+use Rattle.clsm_law.specs.Relation.{IsShort}
+use Rattle.clsm_law.specs.Law.{AreRuns}
 use Rattle.clsm_words.specs.declared.known.Known.{Known}
 use Rattle.clsm_words.specs.Knowing.{Sound, row_of}
 use Rattle.clsm_words.specs.Merging.{IsSoundMerger}

@@ -1,12 +1,12 @@
 -- What stays over the merger's looks and writes.
 use Rattle.std.proofs.Common.{ℕ, ◌<◌, ap, sym, ◌∙◌, subst}
-use Rattle.clsm_core.specs.declared.layout.Layout.{Layout}
-use Rattle.clsm_core.specs.declared.merger.MergerView.{MergerView}
-use Rattle.clsm_core.specs.declared.word.Word.{Word}
-use Rattle.clsm_core.specs.declared.word.Word.TheVariants.{Count}
-use Rattle.clsm_core.specs.Memory.{room_of}
-use Rattle.clsm_core.specs.Merging.{is_frozen}
-use Rattle.clsm_core.specs.Places.{is_named}
+use Rattle.clsm_law.specs.declared.layout.Layout.{Layout}
+use Rattle.clsm_law.specs.declared.merger.MergerView.{MergerView}
+use Rattle.clsm_law.specs.declared.word.Word.{Word}
+use Rattle.clsm_law.specs.declared.word.Word.TheVariants.{Count}
+use Rattle.clsm_law.specs.Memory.{room_of}
+use Rattle.clsm_law.specs.Merging.{is_frozen}
+use Rattle.clsm_law.specs.Places.{is_named}
 use Rattle.clsm_words.specs.declared.known.Known.{Known}
 use Rattle.clsm_runs.specs.declared.output.Output.{Output}
 use Rattle.clsm_runs.specs.Outputs.{IsOutput}

@@ -4,8 +4,8 @@ use Rattle.clsm_model.specs.History.{or_else}
 use Rattle.clsm_levels.specs.declared.entry.Entry.{Entry}
 use Rattle.clsm_levels.specs.Entry.{first_below}
 use Rattle.clsm_levels.specs.Run.{first_in_runs}
-use Rattle.clsm_core.specs.Memory.{Memory}
-use Rattle.clsm_core.specs.Places.{entries_in}
+use Rattle.clsm_law.specs.Memory.{Memory}
+use Rattle.clsm_law.specs.Places.{entries_in}
 use Rattle.clsm_runs.specs.Searching.{runs_below}
 
 or_none : (o : Option Entry) → or_else o None ≡ o

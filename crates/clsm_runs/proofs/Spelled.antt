@@ -3,11 +3,11 @@ use Rattle.std.proofs.Common.{◌≡◌, ℕ, ◌+◌, ◌/◌, ◌%◌, ◌<◌
 use Rattle.std.proofs.lemmas.Bool.{lt-ltb, le-ltb, eq-eqb, ne_eqb, cases_lt, and_from}
 use Rattle.std.proofs.lemmas.List.{get_or_past}
 use Rattle.clsm_levels.specs.declared.entry.Entry.{Entry}
-use Rattle.clsm_core.specs.declared.word.Word.TheVariants.{Entry as EntryWord}
-use Rattle.clsm_core.specs.Memory.{Memory}
-use Rattle.clsm_core.specs.Places.{value_words, entry_in}
-use Rattle.clsm_core.specs.Worlds.{is_length, is_ended, is_canonical}
-use Rattle.clsm_core.proofs.Passes.{passes_if}
+use Rattle.clsm_law.specs.declared.word.Word.TheVariants.{Entry as EntryWord}
+use Rattle.clsm_law.specs.Memory.{Memory}
+use Rattle.clsm_law.specs.Places.{value_words, entry_in}
+use Rattle.clsm_law.specs.Worlds.{is_length, is_ended, is_canonical}
+use Rattle.clsm_law.proofs.Passes.{passes_if}
 use Rattle.clsm_runs.specs.Placing.{spelling, value_list}
 
 -- the words of the entry i of the place p spell it

@@ -4,12 +4,12 @@ use Rattle.std.proofs.lemmas.Bool.{cases_eq}
 use Rattle.clsm_levels.specs.declared.entry.Entry.{Entry}
 use Rattle.clsm_levels.specs.Pass.{kept_after}
 use Rattle.clsm_levels.proofs.Picks.{more_than, rest_dropped, rest_kept}
-use Rattle.clsm_core.specs.declared.word.Word.TheVariants.{Entry as EntryWord}
-use Rattle.clsm_core.specs.Memory.{Memory}
-use Rattle.clsm_core.specs.Places.{entry_in, entries_from}
-use Rattle.clsm_core.specs.Worlds.{is_canonical, passes_from}
-use Rattle.clsm_core.proofs.KeptRuns.{entry_canonical, entry_same}
-use Rattle.clsm_core.proofs.Passes.{passes_at, passes_if}
+use Rattle.clsm_law.specs.declared.word.Word.TheVariants.{Entry as EntryWord}
+use Rattle.clsm_law.specs.Memory.{Memory}
+use Rattle.clsm_law.specs.Places.{entry_in, entries_from}
+use Rattle.clsm_law.specs.Worlds.{is_canonical, passes_from}
+use Rattle.clsm_law.proofs.KeptRuns.{entry_canonical, entry_same}
+use Rattle.clsm_law.proofs.Passes.{passes_at, passes_if}
 use Rattle.clsm_words.specs.declared.known.Known.{Known}
 use Rattle.clsm_words.specs.Knowing.{row_of}
 use Rattle.clsm_runs.specs.declared.output.Output.{Output}

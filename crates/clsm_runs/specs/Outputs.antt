@@ -8,11 +8,11 @@ use Rattle.clsm_levels.specs.Entry.{AreBelow}
 use Rattle.clsm_levels.specs.Merge.{is_to_level_one, kept, merged}
 use Rattle.clsm_levels.specs.Pass.{kept_after}
 use Rattle.clsm_levels.specs.Run.{all_of}
-use Rattle.clsm_core.specs.declared.word.Word.TheVariants.{Count}
-use Rattle.clsm_core.specs.Memory.{room_of}
-use Rattle.clsm_core.specs.Merging.{is_frozen, target_of}
-use Rattle.clsm_core.specs.Places.{entries_from, entries_in, is_named}
-use Rattle.clsm_core.specs.Worlds.{are_canonical, is_canonical, passes_from}
+use Rattle.clsm_law.specs.declared.word.Word.TheVariants.{Count}
+use Rattle.clsm_law.specs.Memory.{room_of}
+use Rattle.clsm_law.specs.Merging.{is_frozen, target_of}
+use Rattle.clsm_law.specs.Places.{entries_from, entries_in, is_named}
+use Rattle.clsm_law.specs.Worlds.{are_canonical, is_canonical, passes_from}
 use Rattle.clsm_words.specs.declared.known.Known.{Known}
 use Rattle.clsm_words.specs.Knowing.{row_of}
 use Rattle.clsm_runs.specs.declared.output.Output.{Output}
@@ -47,6 +47,7 @@ pub record IsOutput (k : Known) (o : Output) : Type 0 where
   pub room : o.room ≡ room_of k.layout o.place
   pub few : o.count ≤ o.room
 
+-- the output is of the same merge: its place and room, its floor, and its level
 pub record IsSameOutput (o o' : Output) : Type 0 where
   pub place : o'.place ≡ o.place
   pub room : o'.room ≡ o.room

@@ -4,9 +4,9 @@ use Rattle.clsm_levels.specs.declared.entry.Entry.{Entry}
 use Rattle.clsm_levels.specs.declared.place.Place.TheVariants.{LevelOne}
 use Rattle.clsm_levels.specs.Entry.{first_below}
 use Rattle.clsm_levels.specs.Place.{level_zero_places, runs_at}
-use Rattle.clsm_core.specs.declared.word.Word.TheVariants.{Count, Entry as EntryWord}
-use Rattle.clsm_core.specs.Memory.{Memory}
-use Rattle.clsm_core.specs.Places.{is_named, entry_in, entries_from, entries_in, held_at}
+use Rattle.clsm_law.specs.declared.word.Word.TheVariants.{Count, Entry as EntryWord}
+use Rattle.clsm_law.specs.Memory.{Memory}
+use Rattle.clsm_law.specs.Places.{is_named, entry_in, entries_from, entries_in, held_at}
 use Rattle.clsm_words.specs.declared.known.Known.{Known}
 use Rattle.clsm_words.specs.Knowing.{row_of}
 use Rattle.clsm_runs.specs.declared.side.Side.{Side}
@@ -16,6 +16,7 @@ use Rattle.clsm_runs.specs.declared.side.Side.TheVariants.{Before, Hit, Behind}
 abbrev pub run_at : Known → ℕ → List Entry
 run_at k place = entries_in (row_of k) place
 
+-- how many entries the place has
 abbrev pub count_of : Known → ℕ → ℕ
 count_of k place = row_of k (Count place)
 

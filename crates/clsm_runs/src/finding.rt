@@ -1,7 +1,7 @@
 //! The first entry of a key below a time in one run.
 ghost use Rattle.std.specs.Prelude.{◌≡◌, ◌*◌, ◌≤◌, Some, true, length};
 ghost use Rattle.clsm_levels.specs.Entry.{first_below};
-ghost use Rattle.clsm_core.specs.Places.{is_named, entries_in};
+ghost use Rattle.clsm_law.specs.Places.{is_named, entries_in};
 ghost use Rattle.clsm_words.specs.Knowing.{row_of};
 ghost use Rattle.clsm_words.specs.Keeping.{LooksAside};
 ghost use Rattle.clsm_words.specs.Plays.{IsSeatOf};

@@ -1,8 +1,8 @@
 //! The merge of an epoch's writes, with the runs where it writes level 1.
 ghost use Rattle.std.specs.Prelude.{◌≡◌, ◌%◌, ◌==◌, ◌<◌, ◌^◌, ◌∷◌, List, None, IfErr, OnOk, length};
 ghost use Rattle.std.specs.List.{AllByRecursion};
-ghost use Rattle.clsm_core.specs.Memory.{room_of};
-ghost use Rattle.clsm_core.specs.Merging.{target_of};
+ghost use Rattle.clsm_law.specs.Memory.{room_of};
+ghost use Rattle.clsm_law.specs.Merging.{target_of};
 ghost use Rattle.clsm_levels.specs.declared.entry.Entry.{Entry};
 ghost use Rattle.clsm_levels.specs.Entry.{AreBelow};
 ghost use Rattle.clsm_levels.specs.Merge.{is_to_level_one};
@@ -15,7 +15,7 @@ ghost use Rattle.clsm_runs.specs.Placing.{IsOfPlace};
 use crate::output::Output;
 use crate::rows::{next, open_cursors};
 use crate::writing::write_entry;
-use clsm_core::Word;
+use clsm_law::Word;
 use clsm_levels::{Entry, judge};
 use clsm_model::Time;
 use clsm_words::{Pace, RawMerger, Steps};

@@ -1,12 +1,12 @@
 //! Looks at the runs of the component that the seat holds.
 ghost use Rattle.std.specs.Prelude.{◌≡◌, ◌≢◌, ◌%◌, ◌<◌, ◌≤◌, Some};
-ghost use Rattle.clsm_core.specs.Places.{entry_in};
+ghost use Rattle.clsm_law.specs.Places.{entry_in};
 ghost use Rattle.clsm_words.specs.Knowing.{row_of};
 ghost use Rattle.clsm_words.specs.Keeping.{LooksAside};
 ghost use Rattle.clsm_words.specs.Plays.{IsSeatOf};
 ghost use Rattle.clsm_runs.specs.Searching.{HasEntry, IsSearchable, count_of, part_of};
 
-use clsm_core::Word;
+use clsm_law::Word;
 use clsm_levels::Entry;
 use clsm_model::Value;
 use clsm_words::{Pace, RawSeat, Steps};

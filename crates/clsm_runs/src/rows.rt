@@ -1,6 +1,6 @@
 //! The sources of a merge, read by cursors.
 ghost use Rattle.std.specs.Prelude.{◌≡◌, ℕ, ◌/◌, ◌%◌, ◌<◌, ◌+◌, ◌-◌, true, drop, length, cond, nat_lt};
-ghost use Rattle.clsm_core.specs.Places.{is_named};
+ghost use Rattle.clsm_law.specs.Places.{is_named};
 ghost use Rattle.clsm_levels.specs.Cursors.{HeadsOf, cursor_at, first_of, row_at};
 ghost use Rattle.clsm_words.specs.Plays.{IsSeatOf};
 ghost use Rattle.clsm_runs.specs.Outputs.{AreSources, IsMerging, IsNextOf};
@@ -9,7 +9,7 @@ ghost use Rattle.clsm_runs.specs.Placing.{rows_of};
 ghost use Rattle.clsm_runs.specs.Searching.{run_at};
 
 use crate::sources::entry;
-use clsm_core::Word;
+use clsm_law::Word;
 use clsm_levels::{Cursor, Entry, least};
 use clsm_words::{Pace, RawMerger, Steps};
 

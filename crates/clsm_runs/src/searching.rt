@@ -1,7 +1,7 @@
 //! The first entry of a key below a time in all runs of a component.
 ghost use Rattle.std.specs.Prelude.{◌≡◌, ◌*◌, ◌≤◌, Some, length};
 ghost use Rattle.clsm_levels.specs.Run.{first_in_runs};
-ghost use Rattle.clsm_core.specs.Worlds.{runs_of};
+ghost use Rattle.clsm_law.specs.Worlds.{runs_of};
 ghost use Rattle.clsm_words.specs.Knowing.{row_of};
 ghost use Rattle.clsm_words.specs.Keeping.{LooksAside};
 ghost use Rattle.clsm_words.specs.Plays.{IsSeatOf};

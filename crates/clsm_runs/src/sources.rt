@@ -1,6 +1,6 @@
 //! Looks of the merger at the merged runs.
 ghost use Rattle.std.specs.Prelude.{◌≡◌, ◌≢◌, ◌%◌, ◌<◌, ◌≤◌, Some};
-ghost use Rattle.clsm_core.specs.Places.{entry_in};
+ghost use Rattle.clsm_law.specs.Places.{entry_in};
 ghost use Rattle.clsm_words.specs.Knowing.{row_of};
 ghost use Rattle.clsm_words.specs.Plays.{IsSeatOf};
 ghost use Rattle.clsm_words.specs.Changing.{Changes, NoWord};
@@ -8,7 +8,7 @@ ghost use Rattle.clsm_runs.specs.Placing.{IsMergedEntry};
 ghost use Rattle.clsm_runs.specs.Searching.{part_of};
 
 use crate::reading::{KEY, LENGTH, TIME, VALUE};
-use clsm_core::Word;
+use clsm_law::Word;
 use clsm_levels::Entry;
 use clsm_model::Value;
 use clsm_words::{Pace, RawMerger, Steps};

@@ -1,10 +1,10 @@
 //! A search where nothing was merged yet.
 ghost use Rattle.std.specs.Prelude.{◌≡◌, false};
-ghost use Rattle.clsm_core.specs.declared.view.SnapshotState.TheVariants.{Absent};
+ghost use Rattle.clsm_law.specs.declared.view.SnapshotState.TheVariants.{Absent};
 ghost use Rattle.clsm_words.specs.Plays.{IsSeatOf, AreFreshFrom};
 
 use super::*;
-use clsm_core::{Layout, Word};
+use clsm_law::{Layout, Word};
 use clsm_model::Config;
 use clsm_words::{RawSeat, Steps, Words};
 use std::process::Abort;

@@ -1,15 +1,15 @@
 //! Writes at a place that no reader searches.
 ghost use Rattle.std.specs.Prelude.{◌≡◌, ℕ, ◌+◌, ◌^◌, ◌<◌, ◌≤◌, true, slice_index_or, length};
-ghost use Rattle.clsm_core.specs.declared.word.Word.TheVariants.{Entry as EntryWord};
-ghost use Rattle.clsm_core.specs.Places.{entry_in};
-ghost use Rattle.clsm_core.specs.Worlds.{is_canonical};
+ghost use Rattle.clsm_law.specs.declared.word.Word.TheVariants.{Entry as EntryWord};
+ghost use Rattle.clsm_law.specs.Places.{entry_in};
+ghost use Rattle.clsm_law.specs.Worlds.{is_canonical};
 ghost use Rattle.clsm_words.specs.Knowing.{row_of};
 ghost use Rattle.clsm_words.specs.Plays.{IsSeatOf};
 ghost use Rattle.clsm_words.specs.Changing.{Changes};
 ghost use Rattle.clsm_runs.specs.Placing.{IsFree, IsOfEntry, IsPart, spelling, value_list};
 
 use crate::reading::{KEY, LENGTH, TIME, VALUE};
-use clsm_core::Word;
+use clsm_law::Word;
 use clsm_levels::Entry;
 use clsm_words::{Pace, RawMerger, Steps};
 

@@ -5,16 +5,16 @@ use native.Mathlib.Decide.{ℕ_discrete}
 use borrow.Author.Tests.{eqb-true}
 use Rattle.std.proofs.lemmas.Bool.{cases_lt, cases_Bool, lt-ltb, le-ltb}
 use Rattle.std.proofs.lemmas.Nat.{mod_below}
-use Rattle.clsm_core.specs.declared.layout.Layout.{Layout}
-use Rattle.clsm_core.specs.declared.merger.MergerView.{MergerView}
-use Rattle.clsm_core.specs.declared.merger.Phase.TheVariants.{Clean}
-use Rattle.clsm_core.specs.declared.word.Word.TheVariants.{Head, State}
-use Rattle.clsm_core.specs.declared.step.Step.{Step}
-use Rattle.clsm_core.specs.declared.step.Step.TheVariants.{ClearState, Look}
-use Rattle.clsm_core.specs.Memory.{is_same, region_of}
-use Rattle.clsm_core.specs.Merging.{retired_region, word_of_merger, changed_by_merger}
-use Rattle.clsm_core.specs.Worlds.{is_last}
-use Rattle.clsm_core.proofs.Passes.{passes_at, passes_if}
+use Rattle.clsm_law.specs.declared.layout.Layout.{Layout}
+use Rattle.clsm_law.specs.declared.merger.MergerView.{MergerView}
+use Rattle.clsm_law.specs.declared.merger.Phase.TheVariants.{Clean}
+use Rattle.clsm_law.specs.declared.word.Word.TheVariants.{Head, State}
+use Rattle.clsm_law.specs.declared.step.Step.{Step}
+use Rattle.clsm_law.specs.declared.step.Step.TheVariants.{ClearState, Look}
+use Rattle.clsm_law.specs.Memory.{is_same, region_of}
+use Rattle.clsm_law.specs.Merging.{retired_region, word_of_merger, changed_by_merger}
+use Rattle.clsm_law.specs.Worlds.{is_last}
+use Rattle.clsm_law.proofs.Passes.{passes_at, passes_if}
 use Rattle.clsm_words.specs.declared.known.Known.{Known}
 use Rattle.clsm_words.specs.Knowing.{row_of}
 use Rattle.clsm_words.specs.Merging.{FollowsMerger, IsLetGo, facts_known}

@@ -5,10 +5,10 @@ use Rattle.clsm_model.specs.History.{left_by, plain, value}
 use Rattle.clsm_levels.specs.declared.entry.Entry.{Entry}
 use Rattle.clsm_levels.specs.Entry.{value_of}
 use Rattle.clsm_levels.specs.Run.{first_in_runs}
-use Rattle.clsm_core.specs.declared.layout.Layout.{Layout}
-use Rattle.clsm_core.specs.declared.view.View.{View}
-use Rattle.clsm_core.specs.Worlds.{runs_of}
-use Rattle.clsm_core.proofs.Reading.{runs_read}
+use Rattle.clsm_law.specs.declared.layout.Layout.{Layout}
+use Rattle.clsm_law.specs.declared.view.View.{View}
+use Rattle.clsm_law.specs.Worlds.{runs_of}
+use Rattle.clsm_law.proofs.Reading.{runs_read}
 use Rattle.clsm_words.specs.declared.known.Known.{Known}
 use Rattle.clsm_words.specs.Knowing.{Sound, row_of}
 use Rattle.clsm_words.specs.Keeping.{Looks}

@@ -12,13 +12,13 @@ use Rattle.clsm_levels.proofs.Every.{every_weaker}
 use Rattle.clsm_levels.proofs.Histories.{entries_below, entries_fall, length-entries_of}
 use Rattle.clsm_levels.proofs.Merges.{every-merged, length-merged}
 use Rattle.clsm_levels.proofs.Orders.{run-merged, times_fall-of_key}
-use Rattle.clsm_core.specs.declared.layout.Layout.{Layout}
-use Rattle.clsm_core.specs.declared.merger.MergerView.{MergerView}
-use Rattle.clsm_core.specs.declared.word.Word.{Word}
-use Rattle.clsm_core.specs.declared.word.Word.TheVariants.{Count, Entry as EntryWord}
-use Rattle.clsm_core.specs.Merging.{IsRunWord, epoch_end, is_frozen}
-use Rattle.clsm_core.specs.Worlds.{runs_of}
-use Rattle.clsm_core.proofs.KeptRuns.{runs_same}
+use Rattle.clsm_law.specs.declared.layout.Layout.{Layout}
+use Rattle.clsm_law.specs.declared.merger.MergerView.{MergerView}
+use Rattle.clsm_law.specs.declared.word.Word.{Word}
+use Rattle.clsm_law.specs.declared.word.Word.TheVariants.{Count, Entry as EntryWord}
+use Rattle.clsm_law.specs.Merging.{IsRunWord, epoch_end, is_frozen}
+use Rattle.clsm_law.specs.Worlds.{runs_of}
+use Rattle.clsm_law.proofs.KeptRuns.{runs_same}
 use Rattle.clsm_words.specs.declared.known.Known.{Known}
 use Rattle.clsm_words.specs.Knowing.{row_of}
 use Rattle.clsm_words.specs.Merging.{IsSoundMerger}

@@ -9,14 +9,14 @@ use Rattle.clsm_levels.proofs.Keeps.{length-kept}
 use Rattle.clsm_levels.proofs.Merges.{length-merged}
 use Rattle.clsm_levels.proofs.Placed.{target_one, target_zero}
 use Rattle.clsm_levels.proofs.Presorted.{wanted_of_sorted}
-use Rattle.clsm_core.specs.declared.layout.Layout.{Layout}
-use Rattle.clsm_core.specs.declared.merger.MergerView.{MergerView}
-use Rattle.clsm_core.specs.declared.word.Word.TheVariants.{Count}
-use Rattle.clsm_core.specs.declared.step.Step.TheVariants.{Publish}
-use Rattle.clsm_core.specs.Memory.{room_of}
-use Rattle.clsm_core.specs.Merging.{is_frozen, target_of}
-use Rattle.clsm_core.specs.Places.{number_of}
-use Rattle.clsm_core.specs.Worlds.{runs_of}
+use Rattle.clsm_law.specs.declared.layout.Layout.{Layout}
+use Rattle.clsm_law.specs.declared.merger.MergerView.{MergerView}
+use Rattle.clsm_law.specs.declared.word.Word.TheVariants.{Count}
+use Rattle.clsm_law.specs.declared.step.Step.TheVariants.{Publish}
+use Rattle.clsm_law.specs.Memory.{room_of}
+use Rattle.clsm_law.specs.Merging.{is_frozen, target_of}
+use Rattle.clsm_law.specs.Places.{number_of}
+use Rattle.clsm_law.specs.Worlds.{runs_of}
 use Rattle.clsm_words.specs.declared.known.Known.{Known}
 use Rattle.clsm_words.specs.Changing.{Changes}
 use Rattle.clsm_words.specs.Knowing.{row_of}

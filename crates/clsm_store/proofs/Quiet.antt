@@ -1,10 +1,10 @@
 -- When all seats are quiet, and all heads of a region 0.
 use Rattle.std.proofs.Common.{◌≡◌, ℕ, suc, ◌<◌, ◌==◌, true, List, [], ◌∷◌, length, refl, ap, sym, ◌∙◌, arith, eq-eqb}
 use Rattle.std.proofs.lemmas.Bool.{and_from}
-use Rattle.clsm_core.specs.declared.merger.Retiree.{Retiree}
-use Rattle.clsm_core.specs.declared.word.Word.TheVariants.{Head}
-use Rattle.clsm_core.specs.Merging.{is_all_quiet, retired_region, retiree_at}
-use Rattle.clsm_core.proofs.Passes.{passes_if}
+use Rattle.clsm_law.specs.declared.merger.Retiree.{Retiree}
+use Rattle.clsm_law.specs.declared.word.Word.TheVariants.{Head}
+use Rattle.clsm_law.specs.Merging.{is_all_quiet, retired_region, retiree_at}
+use Rattle.clsm_law.proofs.Passes.{passes_if}
 use Rattle.clsm_words.specs.declared.known.Known.{Known}
 use Rattle.clsm_words.specs.Knowing.{row_of}
 use Rattle.clsm_words.specs.Merging.{facts_known}

@@ -4,7 +4,7 @@ use mathlib.Core.List.{IsPrefix}
 use Rattle.clsm_model.specs.declared.slot.Slot.{Slot}
 use Rattle.clsm_model.specs.declared.record.Deed.{Deed}
 use Rattle.clsm_model.specs.declared.record.CallRecord.{CallRecord}
-use Rattle.clsm_core.specs.Relation.{call_of}
+use Rattle.clsm_law.specs.Relation.{call_of}
 use Rattle.clsm_words.specs.declared.known.Known.{Known}
 use Rattle.clsm_words.proofs.Keeps.{prefix_trans}
 use Rattle.clsm_memtable.specs.Writing.{KeepsSeat, KeepsCalls, Draws, Decides, LosesTime}

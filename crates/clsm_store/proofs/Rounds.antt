@@ -2,12 +2,12 @@
 use Rattle.std.proofs.Common.{◌≡◌, ℕ, ◌+◌, ◌<◌, ◌==◌, true, cond, max, refl, ap, sym, ◌∙◌, arith, Option, Some, None, eq-eqb, ne_eqb}
 use mathlib.Core.Logic.{dite}
 use native.Mathlib.Decide.{ℕ_discrete}
-use Rattle.clsm_core.specs.declared.layout.Layout.{Layout}
-use Rattle.clsm_core.specs.declared.merger.MergerView.{MergerView}
-use Rattle.clsm_core.specs.declared.merger.Round.{Round}
-use Rattle.clsm_core.specs.declared.word.Word.TheVariants.{Snap}
-use Rattle.clsm_core.specs.Relation.{next_word}
-use Rattle.clsm_core.specs.Merging.{epoch_end, floor_by, is_frozen, least, least_or, merger_looked, noted_time, round_by, round_end, round_on, rounds_by}
+use Rattle.clsm_law.specs.declared.layout.Layout.{Layout}
+use Rattle.clsm_law.specs.declared.merger.MergerView.{MergerView}
+use Rattle.clsm_law.specs.declared.merger.Round.{Round}
+use Rattle.clsm_law.specs.declared.word.Word.TheVariants.{Snap}
+use Rattle.clsm_law.specs.Relation.{next_word}
+use Rattle.clsm_law.specs.Merging.{epoch_end, floor_by, is_frozen, least, least_or, merger_looked, noted_time, round_by, round_end, round_on, rounds_by}
 use Rattle.clsm_store.specs.Flooring.{floor_at, round_at, rounds_at}
 
 module _ (z : Layout) (m : MergerView) (i x before end : ℕ) (found : Option ℕ) (r0 : Option Round) (lt : i < z.seats) (frozen : is_frozen m.phase ≡ true) (stands : m.round ≡ round_at z.seats i found r0) (fresh : i ≡ 0 → found ≡ None) (low : m.floor ≡ floor_at z.seats i before end found) (ends : epoch_end z m ≡ end) where

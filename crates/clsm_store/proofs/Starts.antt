@@ -2,8 +2,8 @@
 use Rattle.std.proofs.Common.{◌≡◌, ℕ, ◌+◌, List, [], ◌∷◌, ◌++◌, length, get_or, refl, ap, ◌∙◌, sym, subst, arith, inl, inr, length-append}
 use Rattle.std.proofs.lemmas.Bool.{cases_lt}
 use Rattle.std.proofs.lemmas.List.{get_or_append_left, get_or_push}
-use Rattle.clsm_core.specs.declared.view.View.{View}
-use Rattle.clsm_core.specs.Relation.{open_time}
+use Rattle.clsm_law.specs.declared.view.View.{View}
+use Rattle.clsm_law.specs.Relation.{open_time}
 use Rattle.clsm_words.specs.declared.words.Words.{Words}
 use Rattle.clsm_words.specs.Seats.{SeatState as RawState}
 use Rattle.clsm_words.specs.Plays.{IsSeatOf, IsFresh, AreFreshFrom}

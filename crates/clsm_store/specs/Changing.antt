@@ -6,11 +6,11 @@ use Rattle.clsm_model.specs.declared.slot.Change.{Change}
 use Rattle.clsm_model.specs.declared.slot.Change.TheVariants.{Keep, Set, Remove}
 use Rattle.clsm_model.specs.declared.record.Deed.{Deed}
 use Rattle.clsm_model.specs.declared.record.Deed.TheVariants.{Rmw}
-use Rattle.clsm_core.specs.declared.step.End.{End}
-use Rattle.clsm_core.specs.declared.step.End.TheVariants.{Neither, Recorded}
-use Rattle.clsm_core.specs.Relation.{call_of, next_word}
-use Rattle.clsm_core.specs.Seats.{due_by}
-use Rattle.clsm_core.specs.declared.view.Mode.TheVariants.{Shared}
+use Rattle.clsm_law.specs.declared.step.End.{End}
+use Rattle.clsm_law.specs.declared.step.End.TheVariants.{Neither, Recorded}
+use Rattle.clsm_law.specs.Relation.{call_of, next_word}
+use Rattle.clsm_law.specs.Seats.{due_by}
+use Rattle.clsm_law.specs.declared.view.Mode.TheVariants.{Shared}
 use Rattle.clsm_words.specs.declared.known.Known.{Known}
 use Rattle.clsm_memtable.specs.declared.deciding.Published.{Published}
 use Rattle.clsm_memtable.specs.declared.deciding.Published.TheVariants.{Done, Overtaken}
@@ -46,6 +46,7 @@ pub record Ends (old new : Known) : Type 0 where
   pub entries : new.view.entries ≡ old.view.entries
   pub reached : old.view.reached ≤ new.view.reached
 
+-- what a decide makes of the drawn time: a write at it, which is recorded where the due was not above it, or nothing
 abbrev pub Writes : Known → Known → ℕ → Deed → Published → Type 0
 Writes old new t deed Done = Ends old new × (old.view.due ≤ t → Records old new t deed)
 Writes old new t deed Overtaken = Ends old new × Still old new
@@ -62,11 +63,13 @@ Does Keep old new component key t o = Still old new × ReadsNow new component ke
 Does (Set written) old new component key t o = Records old new t (Rmw key o (Set written))
 Does Remove old new component key t o = Records old new t (Rmw key o Remove)
 
+-- what came of one try to change the key: the change at its time, a clock at the limit, or nothing
 abbrev pub Changes : Known → Known → ℕ → ℕ → ChangeAttempt → Type 0
 Changes old new component key (Finished rmw) = Does rmw.change old new component key rmw.time rmw.old
 Changes old new component key (Full t) = FindsFull old new t
 Changes old new component key Lost = Still old new
 
+-- the change keeps the old value
 abbrev pub is_keep : Change → Bool
 is_keep Keep = true
 is_keep _ = false

@@ -1,10 +1,10 @@
 -- The merger's seat while it takes its floor.
 use Rattle.std.specs.Prelude.{◌≡◌, ℕ, ◌==◌, cond, max, Option, Some, None}
 use mathlib.Core.List.{IsPrefix}
-use Rattle.clsm_core.specs.declared.merger.Round.{Round}
-use Rattle.clsm_core.specs.declared.word.Word.{Word}
-use Rattle.clsm_core.specs.Merging.{IsRunWord, least_or}
-use Rattle.clsm_core.specs.Relation.{next_word}
+use Rattle.clsm_law.specs.declared.merger.Round.{Round}
+use Rattle.clsm_law.specs.declared.word.Word.{Word}
+use Rattle.clsm_law.specs.Merging.{IsRunWord, least_or}
+use Rattle.clsm_law.specs.Relation.{next_word}
 use Rattle.clsm_words.specs.declared.known.Known.{Known}
 use Rattle.clsm_words.specs.Knowing.{row_of}
 
@@ -19,8 +19,10 @@ pub record KeepsFrozen (old new : Known) : Type 0 where
 abbrev pub round_at : ℕ → ℕ → Option ℕ → Option Round → Option Round
 round_at seats seat found before = cond (seat == 0) before (cond (seat == seats) None (Some (record { next = seat; least = found })))
 
+-- the floor then: the whole round takes it up to the least time noted, or to the end of the epoch where that is less
 abbrev pub floor_at : ℕ → ℕ → ℕ → ℕ → Option ℕ → ℕ
 floor_at seats seat before end found = cond (seat == 0) before (cond (seat == seats) (max before (least_or end (Some (record { next = seat; least = found })))) before)
 
+-- and the number of rounds, modulo 2^64
 abbrev pub rounds_at : ℕ → ℕ → ℕ → ℕ
 rounds_at seats seat before = cond (seat == 0) before (cond (seat == seats) (next_word before) before)

@@ -1,6 +1,6 @@
 -- The merger's seat between its calls, and in a freeze.
 use Rattle.std.specs.Prelude.{◌≡◌, ℕ, true, false}
-use Rattle.clsm_core.specs.Merging.{is_clean, is_frozen}
+use Rattle.clsm_law.specs.Merging.{is_clean, is_frozen}
 use Rattle.clsm_words.specs.declared.known.Known.{Known}
 
 -- it does not hold the lock, and no freeze is half done

@@ -2,8 +2,8 @@
 use Rattle.std.specs.Prelude.{◌≡◌, ℕ, ◌+◌, ◌*◌, ◌<◌, ◌≤◌, List, length, map, Some, vec_capacity, true}
 use Rattle.clsm_levels.specs.declared.entry.Entry.{Entry}
 use Rattle.clsm_levels.specs.Merge.{is_to_level_one, wanted}
-use Rattle.clsm_core.specs.Relation.{next_word}
-use Rattle.clsm_core.specs.Worlds.{epoch_of, runs_of}
+use Rattle.clsm_law.specs.Relation.{next_word}
+use Rattle.clsm_law.specs.Worlds.{epoch_of, runs_of}
 use Rattle.clsm_words.specs.declared.known.Known.{Known}
 use Rattle.clsm_words.specs.Knowing.{row_of}
 use Rattle.clsm_store.specs.declared.merger.Merger.{Merger}
@@ -15,17 +15,21 @@ use Rattle.clsm_store.specs.Seats.{FrozenState, MergerState, RetiredState}
 abbrev pub epoch_known : Known → List Entry
 epoch_known k = epoch_of k.layout (map (λ slot. Some slot) k.past) k.merger.merged
 
+-- those that the readers of the newest component search
 abbrev pub runs_known : Known → List (List Entry)
 runs_known k = runs_of (row_of k) k.merger.merged
 
 -- what contracts see of the merger
 
+-- its store, and the number of merges
 abbrev pub merger_of : Merger → MergerState
 merger_of m = record { store = record { table = m.raw.table; layout = m.raw.knows.layout }; merges = m.merges }
 
+-- the same while an epoch is frozen: with its floor and its rounds, and with what the next merge reads
 abbrev pub frozen_of : Merger → FrozenState
 frozen_of m = record { merger = merger_of m; floor = m.floor; rounds = m.raw.knows.merger.rounds; epoch = epoch_known m.raw.knows; runs = runs_known m.raw.knows }
 
+-- and while a component is retired: with what was noted of each seat
 abbrev pub retired_of : Merger → RetiredState
 retired_of m = record { merger = merger_of m; floor = m.floor; rounds = m.raw.knows.merger.rounds; retirees = m.seen.items }
 

@@ -2,8 +2,8 @@
 use Rattle.std.specs.Prelude.{◌≡◌, ℕ, ◌+◌, ◌*◌, ◌≤◌, ◌++◌, ◌∷◌, [], true, Some, None}
 use mathlib.Core.List.{IsPrefix}
 use Rattle.clsm_model.specs.declared.record.Deed.{Deed}
-use Rattle.clsm_core.specs.declared.view.Mode.TheVariants.{Free}
-use Rattle.clsm_core.specs.Relation.{call_of, next_word}
+use Rattle.clsm_law.specs.declared.view.Mode.TheVariants.{Free}
+use Rattle.clsm_law.specs.Relation.{call_of, next_word}
 use Rattle.clsm_words.specs.declared.known.Known.{Known}
 
 -- it took no lock, and lost no try

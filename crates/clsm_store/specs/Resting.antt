@@ -3,10 +3,10 @@ use Rattle.std.specs.Prelude.{◌≡◌, ℕ, ◌+◌, ◌≤◌, ◌++◌, ◌�
 use mathlib.Core.List.{IsPrefix}
 use Rattle.clsm_model.specs.declared.record.Deed.{Deed}
 use Rattle.clsm_model.specs.declared.record.Deed.TheVariants.{Put, Remove}
-use Rattle.clsm_core.specs.declared.view.Mode.TheVariants.{Free, Shared}
-use Rattle.clsm_core.specs.declared.view.SnapshotState.{SnapshotState}
-use Rattle.clsm_core.specs.declared.view.SnapshotState.TheVariants.{Absent, Open}
-use Rattle.clsm_core.specs.Relation.{call_of, open_time}
+use Rattle.clsm_law.specs.declared.view.Mode.TheVariants.{Free, Shared}
+use Rattle.clsm_law.specs.declared.view.SnapshotState.{SnapshotState}
+use Rattle.clsm_law.specs.declared.view.SnapshotState.TheVariants.{Absent, Open}
+use Rattle.clsm_law.specs.Relation.{call_of, open_time}
 use Rattle.clsm_words.specs.declared.known.Known.{Known}
 use Rattle.clsm_words.specs.declared.words.Words.{Words}
 use Rattle.clsm_words.specs.Seats.{SeatState as RawState}
@@ -30,6 +30,7 @@ state_of s = let v = s.knows.view in record {
 abbrev pub AreStepsOf : Words → StoreId → Type 0
 AreStepsOf words store = (words.table.shared.table_id ≡ store.table) × (words.layout ≡ store.layout)
 
+-- the store that has these words
 abbrev pub store_of : Words → StoreId
 store_of words = record { table = words.table.shared.table_id; layout = words.layout }
 
@@ -87,6 +88,7 @@ deed_of key (Some words) = Put key words
 
 -- ---- one try in a hold
 
+-- what came of one try to write: the write at its time, a clock at the limit, or nothing
 abbrev pub Tries : Known → Known → Deed → Attempt → Type 0
 Tries old new deed (Written t) = Records old new t deed
 Tries old new deed (Full t) = FindsFull old new t

@@ -9,11 +9,11 @@ use Rattle.clsm_model.specs.declared.record.CallRecord.{CallRecord}
 use Rattle.clsm_model.specs.History.{plain}
 use Rattle.clsm_model.specs.declared.config.Config.{Config}
 use Rattle.clsm_levels.specs.declared.entry.Entry.{Entry}
-use Rattle.clsm_core.specs.declared.layout.Layout.{Layout}
-use Rattle.clsm_core.specs.declared.merger.Retiree.{Retiree}
-use Rattle.clsm_core.specs.Layout.{HasSizesOf}
-use Rattle.clsm_core.specs.Relation.{call_of, next_word}
-use Rattle.clsm_core.specs.Seats.{IsNext, IsRightRecord, IsRising, due_after, open_after}
+use Rattle.clsm_law.specs.declared.layout.Layout.{Layout}
+use Rattle.clsm_law.specs.declared.merger.Retiree.{Retiree}
+use Rattle.clsm_law.specs.Layout.{HasSizesOf}
+use Rattle.clsm_law.specs.Relation.{call_of, next_word}
+use Rattle.clsm_law.specs.Seats.{IsNext, IsRightRecord, IsRising, due_after, open_after}
 use Rattle.clsm_words.specs.Knowing.{Agrees}
 
 -- which store it is, and its sizes
@@ -90,6 +90,7 @@ pub record IsLawfulIn (h : List Slot) (s : SeatState) : Type 0 where
   pub right : AllByRecursion (IsRightRecord (plain h)) s.calls
   pub rising : IsRising s.calls s.due s.snapshot
 
+-- it is lawful in as much of the history as it knows itself
 abbrev pub IsLawfulAlone : SeatState → Type 0
 IsLawfulAlone s = IsLawfulIn s.past s
 

@@ -1,6 +1,6 @@
 -- Why a write that tries each exchange once fails, as its seat counts it.
 use Rattle.std.specs.Prelude.{◌≡◌}
-use Rattle.clsm_core.specs.Relation.{next_word}
+use Rattle.clsm_law.specs.Relation.{next_word}
 use Rattle.clsm_words.specs.declared.known.Known.{Known}
 use Rattle.clsm_store.specs.Seats.{SeatState, IsFull, Refuses}
 use Rattle.clsm_store.specs.Resting.{FindsFull, Still}

@@ -3,8 +3,8 @@ ghost use Rattle.std.specs.Prelude.{◌≡◌, ◌≢◌, ◌*◌, ◌≤◌, fa
 ghost use Rattle.clsm_model.specs.declared.slot.Slot.TheVariants.{Wrote};
 ghost use Rattle.clsm_model.specs.History.{plain, value};
 ghost use Rattle.clsm_model.specs.Right.{write_by};
-ghost use Rattle.clsm_core.specs.declared.view.Mode.TheVariants.{Shared};
-ghost use Rattle.clsm_core.specs.Relation.{IsReadBelow, next_word};
+ghost use Rattle.clsm_law.specs.declared.view.Mode.TheVariants.{Shared};
+ghost use Rattle.clsm_law.specs.Relation.{IsReadBelow, next_word};
 ghost use Rattle.clsm_words.specs.Keeping.{OnlyReads};
 ghost use Rattle.clsm_words.specs.Plays.{IsSeatOf};
 ghost use Rattle.clsm_memtable.specs.Settled.{MaySettleBelow};
@@ -16,7 +16,7 @@ ghost use Rattle.clsm_store.specs.Changing.{Changes, ChangesAt, Does, EndsFull, 
 use crate::got::{Got, Rmw};
 use crate::reading::value_below;
 use crate::refusal::Full;
-use clsm_core::{End, Word};
+use clsm_law::{End, Word};
 use clsm_lock::{leave, shared};
 use clsm_memtable::{
     DrawError, Published, draw, fill, give_up, link, newest, publish, settle_below,

@@ -1,11 +1,11 @@
 //! The freeze of an epoch.
 ghost use Rattle.std.specs.Prelude.{◌≡◌, ◌+◌, ◌*◌, ◌^◌, ◌≤◌, true};
-ghost use Rattle.clsm_core.specs.Merging.{epoch_end};
+ghost use Rattle.clsm_law.specs.Merging.{epoch_end};
 ghost use Rattle.clsm_words.specs.Merging.{facts_known};
 ghost use Rattle.clsm_words.specs.Plays.{IsSeatOf};
 ghost use Rattle.clsm_store.specs.Freezing.{HoldsOn, IsClean, IsFrozen};
 
-use clsm_core::Word;
+use clsm_law::Word;
 use clsm_lock::{exclusive, leave_exclusive};
 use clsm_words::{Pace, RawMerger, Steps};
 use std::sync::Wait;

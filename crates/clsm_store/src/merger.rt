@@ -1,5 +1,7 @@
 //! What the merger keeps from call to call.
-use clsm_core::Retiree;
+ghost use Rattle.std.specs.Prelude.{◌≡◌};
+
+use clsm_law::Retiree;
 use clsm_levels::Entry;
 use clsm_model::Time;
 use clsm_words::RawMerger;
@@ -16,4 +18,14 @@ pub(crate) struct Merger {
     pub(crate) row: Vec<Entry>,
     /// What was noted of each seat since the last merge.
     pub(crate) seen: Vec<Retiree>,
+}
+
+impl Merger {
+    /// The number of merges so far.
+    #[inline]
+    pub(crate) fn merges(&self) -> u64
+        ensures { result ≡ self.now.merges }
+    {
+        self.merges
+    }
 }

@@ -1,6 +1,6 @@
 //! The merge of the frozen epoch.
 ghost use Rattle.std.specs.Prelude.{◌≡◌, ◌+◌, IfErr, OnOk, length, replicate, vec_capacity};
-ghost use Rattle.clsm_core.specs.Merging.{unseen};
+ghost use Rattle.clsm_law.specs.Merging.{unseen};
 ghost use Rattle.clsm_levels.specs.Entry.{TimesFall};
 ghost use Rattle.clsm_levels.specs.Merge.{merged};
 ghost use Rattle.clsm_words.specs.Plays.{IsSeatOf};
@@ -9,7 +9,7 @@ ghost use Rattle.clsm_store.specs.Merging.{IsReady, IsRetiring, IsRunFull, Stays
 
 use crate::flooring::take_floor;
 use crate::merger::Merger;
-use clsm_core::Retiree;
+use clsm_law::Retiree;
 use clsm_levels::{Entry, sort_writes};
 use clsm_memtable::gather;
 use clsm_runs::RunFull;

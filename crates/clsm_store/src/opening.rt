@@ -12,7 +12,7 @@ use crate::merger::Merger;
 use crate::seat::Seat;
 use crate::store::Store;
 use crate::tokens::Clean;
-use clsm_core::{Layout, Retiree};
+use clsm_law::{Layout, Retiree};
 use clsm_model::{Config, OpenError};
 use clsm_words::pace::Free;
 use clsm_words::{Pace, RawMerger, RawSeat, Words};

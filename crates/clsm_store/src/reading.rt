@@ -2,15 +2,15 @@
 ghost use Rattle.std.specs.Prelude.{◌≡◌, ◌*◌, ◌+◌, ◌≤◌, None, Some, length};
 ghost use Rattle.clsm_model.specs.History.{plain, value};
 ghost use Rattle.clsm_model.specs.declared.record.Deed.TheVariants.{Get};
-ghost use Rattle.clsm_core.specs.declared.step.End.TheVariants.{Recorded};
-ghost use Rattle.clsm_core.specs.Relation.{next_word};
+ghost use Rattle.clsm_law.specs.declared.step.End.TheVariants.{Recorded};
+ghost use Rattle.clsm_law.specs.Relation.{next_word};
 ghost use Rattle.clsm_words.specs.Keeping.{Looks, OnlyReads};
 ghost use Rattle.clsm_words.specs.Plays.{IsSeatOf};
 ghost use Rattle.clsm_store.specs.Resting.{IsAtRest};
 ghost use Rattle.clsm_store.specs.Reading.{Begins, ReadsAt};
 
 use crate::got::Got;
-use clsm_core::{End, Word};
+use clsm_law::{End, Word};
 use clsm_memtable::{newest, settle_below};
 use clsm_model::{Deed, Time, Value};
 use clsm_pins::{pin, unpin};

@@ -1,12 +1,12 @@
 //! The reclaim of a retired component: it is given up when no reader has it, and its region cleaned for the epoch after the next.
 ghost use Rattle.std.specs.Prelude.{◌≡◌, ◌+◌, ◌*◌, ◌%◌, ◌<◌, ◌≤◌, true, false, length, IfErr, OnOk};
-ghost use Rattle.clsm_core.specs.declared.merger.Phase.TheVariants.{Clean};
-ghost use Rattle.clsm_core.specs.Merging.{is_all_quiet, is_retired, retired_region};
+ghost use Rattle.clsm_law.specs.declared.merger.Phase.TheVariants.{Clean};
+ghost use Rattle.clsm_law.specs.Merging.{is_all_quiet, is_retired, retired_region};
 ghost use Rattle.clsm_words.specs.Plays.{IsSeatOf};
 ghost use Rattle.clsm_store.specs.Freezing.{IsClean};
 ghost use Rattle.clsm_store.specs.Reclaiming.{HasHeadsCleared, IsCleaning, IsLastWritten, IsLowestLoud, IsRetired, KeepsRetired};
 
-use clsm_core::{Retiree, Word};
+use clsm_law::{Retiree, Word};
 use clsm_pins::quiet;
 use clsm_words::{Pace, RawMerger, Steps};
 
@@ -91,6 +91,7 @@ pub(crate) fn reclaim<P: Pace>(
     requires seen { seen.old.items ≡ merger.old.knows.merger.retirees }
     ensures of { IsSeatOf steps.now.words.now merger.new }
     ensures floor { merger.new.knows.merger.floor ≡ merger.old.knows.merger.floor }
+    ensures rounds { merger.new.knows.merger.rounds ≡ merger.old.knows.merger.rounds }
     ensures counted { length seen.new.items ≡ length seen.old.items }
     ensures clean { OnOk result (IsClean merger.new.knows merges) }
     ensures retired { IfErr result (λ number. IsRetired merger.new.knows merges) }

@@ -16,7 +16,7 @@ pub struct Seat {
 
 impl Model for Seat {
     ghost use Rattle.std.specs.Prelude.{◌≡◌};
-    ghost use Rattle.clsm_core.specs.Relation.{open_time};
+    ghost use Rattle.clsm_law.specs.Relation.{open_time};
     ghost use Rattle.clsm_store.specs.Seats.{SeatState};
     ghost use Rattle.clsm_store.specs.Resting.{IsAtRest, state_of};
 

@@ -93,6 +93,17 @@ fn try_put<P: Pace + Drop>(
     store.try_put(seat, key, value)
 }
 
+/// Freezes the epoch.
+fn freeze<P: Pace + Drop, R: Abort + Wait>(rt: &R, store: &Store<P>, merger: Clean) -> Frozen
+    requires { merger.store ≡ store.now }
+    ensures { result.merger.store ≡ store.now }
+{
+    let Ok(frozen) = merger.freeze(rt, store) else {
+        panic!(rt; "worn");
+    };
+    frozen
+}
+
 /// A read that answers so.
 fn got(rt: &impl Abort, time: Time, words: &[u64]) -> Got {
     let value = Value::new(words).ok();

@@ -78,7 +78,7 @@ impl Clean {
     pub fn merges(&self) -> u64
         ensures { result ≡ self.now.merges }
     {
-        self.merger.merges
+        self.merger.merges()
     }
 
     /// Freezes the current epoch: waits until no caller holds the lock, cancels the epoch's cells that were never drawn, and moves the clock to
@@ -110,7 +110,7 @@ impl Frozen {
     pub fn merges(&self) -> u64
         ensures { result ≡ self.now.merger.merges }
     {
-        self.merger.merges
+        self.merger.merges()
     }
 
     /// Merges the frozen epoch into a sorted run: of three merges each writes the epoch's run into level 0, and the fourth all runs and the epoch
@@ -145,7 +145,7 @@ impl Retired {
     pub fn merges(&self) -> u64
         ensures { result ≡ self.now.merger.merges }
     {
-        self.merger.merges
+        self.merger.merges()
     }
 
     /// Gives the retired component up, if no seat holds anything of it, and makes its cells free for the epoch after the next: looks at the pin word
@@ -154,7 +154,7 @@ impl Retired {
     pub fn reclaim<P: Pace + Drop>(mut self, store: &Store<P>) -> Result<Clean, (Retired, Pinned)>
         requires { self.merger.store ≡ store.now }
         ensures clean { IfOk result (λ clean. clean ≡ self.merger) }
-        ensures retired { IfErr result (λ refused. refused.0.merger ≡ self.merger) }
+        ensures retired { IfErr result (λ refused. refused.0 ≡ record self { retirees = refused.0.retirees }) }
         ensures pinned { IfErr result (λ refused. IsLowestLoud self.retirees refused.0.retirees refused.1.0) }
     {
         let merges = self.merger.merges;

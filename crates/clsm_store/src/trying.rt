@@ -1,7 +1,7 @@
 //! Writes that try each exchange once.
 ghost use Rattle.std.specs.Prelude.{◌≡◌, Some, IfOk, IfErr};
 ghost use Rattle.clsm_model.specs.declared.record.Deed.TheVariants.{Put};
-ghost use Rattle.clsm_core.specs.Relation.{next_word};
+ghost use Rattle.clsm_law.specs.Relation.{next_word};
 ghost use Rattle.clsm_words.specs.Plays.{IsSeatOf};
 ghost use Rattle.clsm_memtable.specs.Writing.{Draws};
 ghost use Rattle.clsm_store.specs.Resting.{IsAtRest, IsInHold, Records};

@@ -3,9 +3,9 @@ use Rattle.std.proofs.Common.{◌≡◌, ℕ, ◌≤◌, true, length, refl, ari
 use mathlib.Core.Option.{some}
 use lib.ListN.{get_elem?}
 use Rattle.atomic_table.specs.Table.{State, Me, keeps, Allows}
-use Rattle.clsm_core.specs.declared.step.Step.{Step}
-use Rattle.clsm_core.specs.Layout.{index_of}
-use Rattle.clsm_core.specs.Relation.{word_of, changed}
+use Rattle.clsm_law.specs.declared.step.Step.{Step}
+use Rattle.clsm_law.specs.Layout.{index_of}
+use Rattle.clsm_law.specs.Relation.{word_of, changed}
 use Rattle.clsm_words.specs.declared.known.Known.{Known}
 use Rattle.clsm_words.specs.Knowing.{Opens, Sound, Follows}
 use Rattle.clsm_words.specs.Ruled.{Begins, Ruled}

@@ -5,10 +5,10 @@ use Rattle.std.proofs.lemmas.Bool.{cases_lt}
 use mathlib.Core.List.{IsPrefix}
 use Rattle.clsm_model.specs.declared.slot.Slot.{Slot}
 use Rattle.clsm_model.specs.declared.slot.Slot.TheVariants.{Nothing}
-use Rattle.clsm_core.specs.Worlds.{slot_at, settled}
-use Rattle.clsm_core.proofs.Frames.{past_end}
-use Rattle.clsm_core.proofs.KeptRuns.{settled_at}
-use Rattle.clsm_core.proofs.Histories.{slot_of-past, end_of-past, past-equal, decided-same}
+use Rattle.clsm_law.specs.Worlds.{slot_at, settled}
+use Rattle.clsm_law.proofs.Frames.{past_end}
+use Rattle.clsm_law.proofs.KeptRuns.{settled_at}
+use Rattle.clsm_law.proofs.Histories.{slot_of-past, end_of-past, past-equal, decided-same}
 use Rattle.clsm_words.specs.Ruled.{Begins}
 
 take_prefix : (xs : List Slot) (p q : ℕ) → p ≤ q → IsPrefix (take p xs) (take q xs)

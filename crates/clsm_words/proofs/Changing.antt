@@ -1,15 +1,15 @@
 -- What several steps of the merger's seat change of the words of runs.
 use Rattle.std.proofs.Common.{◌≡◌, ℕ, cond, [], append-nil, refl, ap, sym, ◌∙◌, subst}
-use Rattle.clsm_core.specs.declared.layout.Layout.{Layout}
-use Rattle.clsm_core.specs.declared.merger.MergerView.{MergerView}
-use Rattle.clsm_core.specs.declared.word.Word.{Word}
-use Rattle.clsm_core.specs.declared.word.Word.TheVariants.{Count, Entry as EntryWord}
-use Rattle.clsm_core.specs.declared.step.Step.TheVariants.{Look, WriteRun}
-use Rattle.clsm_core.specs.Memory.{is_same}
-use Rattle.clsm_core.specs.Merging.{IsRunWord, merger_after}
-use Rattle.clsm_core.proofs.Cases.{by_bool}
-use Rattle.clsm_core.proofs.Frames.{put_other}
-use Rattle.clsm_core.proofs.LayoutWords.{same_word}
+use Rattle.clsm_law.specs.declared.layout.Layout.{Layout}
+use Rattle.clsm_law.specs.declared.merger.MergerView.{MergerView}
+use Rattle.clsm_law.specs.declared.word.Word.{Word}
+use Rattle.clsm_law.specs.declared.word.Word.TheVariants.{Count, Entry as EntryWord}
+use Rattle.clsm_law.specs.declared.step.Step.TheVariants.{Look, WriteRun}
+use Rattle.clsm_law.specs.Memory.{is_same}
+use Rattle.clsm_law.specs.Merging.{IsRunWord, merger_after}
+use Rattle.clsm_law.proofs.Cases.{by_bool}
+use Rattle.clsm_law.proofs.Frames.{put_other}
+use Rattle.clsm_law.proofs.LayoutWords.{same_word}
 use Rattle.clsm_words.specs.declared.known.Known.{Known}
 use Rattle.clsm_words.specs.Changing.{Changes, NoWord}
 use Rattle.clsm_words.specs.Knowing.{row_of}

@@ -5,17 +5,17 @@ use lib.ListN.{get_elem?}
 use Rattle.atomic_table.specs.Table.{State, Splits, Joins, opening}
 use Rattle.atomic_table.proofs.Lists.{at_set, set_again}
 use Rattle.clsm_model.specs.declared.slot.Slot.{Slot}
-use Rattle.clsm_core.specs.declared.layout.Layout.{Layout}
-use Rattle.clsm_core.specs.declared.word.Word.{Word}
-use Rattle.clsm_core.specs.declared.view.View.{View}
-use Rattle.clsm_core.specs.declared.merger.MergerView.{MergerView}
-use Rattle.clsm_core.specs.Layout.{size_of, memory}
-use Rattle.clsm_core.specs.Relation.{Chains, idle}
-use Rattle.clsm_core.specs.Merging.{opening as opening_merger}
-use Rattle.clsm_core.specs.Worlds.{view_at, settled}
-use Rattle.clsm_core.specs.Machine.{IsLawful, opened}
-use Rattle.clsm_core.proofs.Layouts.{is_layout}
-use Rattle.clsm_core.proofs.Opening.{opened_lawful, idle_at}
+use Rattle.clsm_law.specs.declared.layout.Layout.{Layout}
+use Rattle.clsm_law.specs.declared.word.Word.{Word}
+use Rattle.clsm_law.specs.declared.view.View.{View}
+use Rattle.clsm_law.specs.declared.merger.MergerView.{MergerView}
+use Rattle.clsm_law.specs.Layout.{size_of, memory}
+use Rattle.clsm_law.specs.Relation.{Chains, idle}
+use Rattle.clsm_law.specs.Merging.{opening as opening_merger}
+use Rattle.clsm_law.specs.Worlds.{view_at, settled}
+use Rattle.clsm_law.specs.Machine.{IsLawful, opened}
+use Rattle.clsm_law.proofs.Layouts.{is_layout}
+use Rattle.clsm_law.proofs.Opening.{opened_lawful, idle_at}
 use Rattle.clsm_words.specs.declared.known.Known.{Known}
 use Rattle.clsm_words.specs.Knowing.{newcomer, new_merger, deals, messenger, learns, HasRows, IsHeldEpoch, IsNamedWord, Sound}
 use Rattle.clsm_words.specs.Merging.{IsOwn, known_end, IsSoundMerger}

@@ -2,18 +2,18 @@
 use Rattle.std.proofs.Common.{◌≡◌, ℕ, ◌+◌, ◌-◌, ◌*◌, ◌<◌, ◌≤◌, ⊎_elim, Bool, true, List, length, refl, sym, ap, subst, arith, Some}
 use Rattle.clsm_model.specs.declared.slot.Slot.{Slot}
 use Rattle.clsm_model.specs.History.{plain}
-use Rattle.clsm_core.specs.declared.word.Word.{Word}
-use Rattle.clsm_core.specs.declared.word.Word.TheVariants.{Count, Entry}
-use Rattle.clsm_core.specs.declared.view.SnapshotState.{SnapshotState}
-use Rattle.clsm_core.specs.declared.view.SnapshotState.TheVariants.{Open}
-use Rattle.clsm_core.specs.Memory.{Memory}
-use Rattle.clsm_core.specs.Places.{is_named}
-use Rattle.clsm_core.specs.Relation.{or_zero, open_time}
-use Rattle.clsm_core.specs.Merging.{is_retired}
-use Rattle.clsm_core.specs.Worlds.{history_of}
-use Rattle.clsm_core.specs.Law.{AreRuns, IsSnapshot, IsRetiredFor, each, held_of, pin_of, is_held_back}
-use Rattle.clsm_core.proofs.KeptRuns.{SamePlace, runs_stay}
-use Rattle.clsm_core.proofs.Setting.{Ground, not_all_quiet}
+use Rattle.clsm_law.specs.declared.word.Word.{Word}
+use Rattle.clsm_law.specs.declared.word.Word.TheVariants.{Count, Entry}
+use Rattle.clsm_law.specs.declared.view.SnapshotState.{SnapshotState}
+use Rattle.clsm_law.specs.declared.view.SnapshotState.TheVariants.{Open}
+use Rattle.clsm_law.specs.Memory.{Memory}
+use Rattle.clsm_law.specs.Places.{is_named}
+use Rattle.clsm_law.specs.Relation.{or_zero, open_time}
+use Rattle.clsm_law.specs.Merging.{is_retired}
+use Rattle.clsm_law.specs.Worlds.{history_of}
+use Rattle.clsm_law.specs.Law.{AreRuns, IsSnapshot, IsRetiredFor, each, held_of, pin_of, is_held_back}
+use Rattle.clsm_law.proofs.KeptRuns.{SamePlace, runs_stay}
+use Rattle.clsm_law.proofs.Setting.{Ground, not_all_quiet}
 use Rattle.clsm_words.specs.Knowing.{IsNamedWord}
 use Rattle.clsm_words.specs.Ruled.{Begins, HasFloor}
 use Rattle.clsm_words.proofs.Beginnings.{begins_settled}

@@ -2,9 +2,9 @@
 use Rattle.std.proofs.Common.{◌≡◌, ℕ, ◌≤◌, List, ◌++◌, sym, ap, refl, ◌∙◌, subst, arith, append_assoc, append-nil, Option, [], Some}
 use mathlib.Core.List.{IsPrefix}
 use Rattle.clsm_model.specs.declared.slot.Slot.{Slot}
-use Rattle.clsm_core.specs.declared.step.Step.{Step}
-use Rattle.clsm_core.specs.declared.view.View.{View}
-use Rattle.clsm_core.specs.Relation.{view_after}
+use Rattle.clsm_law.specs.declared.step.Step.{Step}
+use Rattle.clsm_law.specs.declared.view.View.{View}
+use Rattle.clsm_law.specs.Relation.{view_after}
 use Rattle.clsm_words.specs.declared.known.Known.{Known}
 use Rattle.clsm_words.specs.Knowing.{Follows}
 use Rattle.clsm_words.specs.Keeping.{KeepsSeat, OnlyReads, Looks, LooksAside}

@@ -8,31 +8,31 @@ use Rattle.clsm_model.specs.declared.slot.Slot.{Slot}
 use Rattle.clsm_model.specs.declared.slot.Slot.TheVariants.{Nothing, Wrote}
 use Rattle.clsm_model.specs.History.{History, plain}
 use Rattle.clsm_model.specs.Right.{write_by}
-use Rattle.clsm_core.specs.declared.layout.Layout.{Layout}
-use Rattle.clsm_core.specs.declared.word.Word.{Word}
-use Rattle.clsm_core.specs.declared.word.Word.TheVariants.{Merged}
-use Rattle.clsm_core.specs.declared.step.Step.{Step}
-use Rattle.clsm_core.specs.declared.step.Step.TheVariants.{EnterShared, Draw, Decide, Look, Note}
-use Rattle.clsm_core.specs.declared.view.View.{View}
-use Rattle.clsm_core.specs.declared.view.SnapshotState.{SnapshotState}
-use Rattle.clsm_core.specs.declared.view.SnapshotState.TheVariants.{Open}
-use Rattle.clsm_core.specs.declared.merger.MergerView.{MergerView}
-use Rattle.clsm_core.specs.Memory.{cell_of, region_of, is_word}
-use Rattle.clsm_core.specs.Relation.{idle, or_zero, open_time, IsOpen, word_of}
-use Rattle.clsm_core.specs.Merging.{is_frozen}
-use Rattle.clsm_core.specs.Worlds.{view_at, slot_at, past_of}
-use Rattle.clsm_core.specs.Law.{IsSnapshot, first_free}
-use Rattle.clsm_core.specs.Seats.{IsRightRecord, StandsAs, IsStandingRecord, HasWrite, IsRising}
-use Rattle.clsm_core.specs.SeatBounds.{IsSmall, IsSmallLook}
-use Rattle.clsm_core.specs.Machine.{WorldState}
-use Rattle.clsm_core.proofs.Histories.{end_of-past}
-use Rattle.clsm_core.proofs.Records.{all_map}
-use Rattle.clsm_core.proofs.SeatSmall.{step_small}
-use Rattle.clsm_core.proofs.Setting.{Setting, Opens as OpensIn, ground, past_below, x}
-use Rattle.clsm_core.proofs.Stepped.{seat_setting}
-use Rattle.clsm_core.proofs.Cases.{by_bool}
-use Rattle.clsm_core.proofs.Times.{region_of_epoch}
-use Rattle.clsm_core.proofs.WordsThere.{word_there}
+use Rattle.clsm_law.specs.declared.layout.Layout.{Layout}
+use Rattle.clsm_law.specs.declared.word.Word.{Word}
+use Rattle.clsm_law.specs.declared.word.Word.TheVariants.{Merged}
+use Rattle.clsm_law.specs.declared.step.Step.{Step}
+use Rattle.clsm_law.specs.declared.step.Step.TheVariants.{EnterShared, Draw, Decide, Look, Note}
+use Rattle.clsm_law.specs.declared.view.View.{View}
+use Rattle.clsm_law.specs.declared.view.SnapshotState.{SnapshotState}
+use Rattle.clsm_law.specs.declared.view.SnapshotState.TheVariants.{Open}
+use Rattle.clsm_law.specs.declared.merger.MergerView.{MergerView}
+use Rattle.clsm_law.specs.Memory.{cell_of, region_of, is_word}
+use Rattle.clsm_law.specs.Relation.{idle, or_zero, open_time, IsOpen, word_of}
+use Rattle.clsm_law.specs.Merging.{is_frozen}
+use Rattle.clsm_law.specs.Worlds.{view_at, slot_at, past_of}
+use Rattle.clsm_law.specs.Law.{IsSnapshot, first_free}
+use Rattle.clsm_law.specs.Seats.{IsRightRecord, StandsAs, IsStandingRecord, HasWrite, IsRising}
+use Rattle.clsm_law.specs.SeatBounds.{IsSmall, IsSmallLook}
+use Rattle.clsm_law.specs.Machine.{WorldState}
+use Rattle.clsm_law.proofs.Histories.{end_of-past}
+use Rattle.clsm_law.proofs.Records.{all_map}
+use Rattle.clsm_law.proofs.SeatSmall.{step_small}
+use Rattle.clsm_law.proofs.Setting.{Setting, Opens as OpensIn, ground, past_below, x}
+use Rattle.clsm_law.proofs.Stepped.{seat_setting}
+use Rattle.clsm_law.proofs.Cases.{by_bool}
+use Rattle.clsm_law.proofs.Times.{region_of_epoch}
+use Rattle.clsm_law.proofs.WordsThere.{word_there}
 use Rattle.clsm_words.specs.declared.known.Known.{Known}
 use Rattle.clsm_words.specs.Knowing.{row_of, IsReading, IsRecordIn, Agrees, Opens, Sound}
 use Rattle.clsm_words.specs.Ruled.{world_of, IsSeated, Begins, Ruled}

@@ -2,12 +2,12 @@
 use Rattle.std.proofs.Common.{◌≡◌, ℕ, ◌<◌, true, sym, ◌∙◌, subst, arith, get_or}
 use Rattle.atomic_table.specs.Table.{Me, Allows}
 use Rattle.atomic_table.specs.Seated.{TableId}
-use Rattle.clsm_core.specs.declared.layout.Layout.{Layout}
-use Rattle.clsm_core.specs.declared.word.Word.{Word}
-use Rattle.clsm_core.specs.declared.step.Step.{Step}
-use Rattle.clsm_core.specs.Memory.{is_word}
-use Rattle.clsm_core.specs.Layout.{index_of, size_of}
-use Rattle.clsm_core.specs.Relation.{word_of, changed}
+use Rattle.clsm_law.specs.declared.layout.Layout.{Layout}
+use Rattle.clsm_law.specs.declared.word.Word.{Word}
+use Rattle.clsm_law.specs.declared.step.Step.{Step}
+use Rattle.clsm_law.specs.Memory.{is_word}
+use Rattle.clsm_law.specs.Layout.{index_of, size_of}
+use Rattle.clsm_law.specs.Relation.{word_of, changed}
 use Rattle.clsm_words.specs.declared.known.Known.{Known}
 use Rattle.clsm_words.specs.declared.words.Words.{Words}
 use Rattle.clsm_words.specs.Seats.{SeatState}

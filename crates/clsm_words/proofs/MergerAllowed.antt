@@ -3,13 +3,13 @@ use Rattle.std.proofs.Common.{◌≡◌, ℕ, true, cond, refl, sym, ap, ◌∙�
 use mathlib.Core.Option.{some}
 use lib.ListN.{get_elem?}
 use Rattle.atomic_table.specs.Table.{State, Me, keeps, Allows}
-use Rattle.clsm_core.specs.declared.word.Word.{Word}
-use Rattle.clsm_core.specs.declared.step.Step.{Step}
-use Rattle.clsm_core.specs.declared.merger.MergerView.{MergerView}
-use Rattle.clsm_core.specs.Memory.{is_same, put}
-use Rattle.clsm_core.specs.Layout.{index_of, memory}
-use Rattle.clsm_core.specs.Merging.{word_of_merger, changed_by_merger}
-use Rattle.clsm_core.proofs.Frames.{put_here}
+use Rattle.clsm_law.specs.declared.word.Word.{Word}
+use Rattle.clsm_law.specs.declared.step.Step.{Step}
+use Rattle.clsm_law.specs.declared.merger.MergerView.{MergerView}
+use Rattle.clsm_law.specs.Memory.{is_same, put}
+use Rattle.clsm_law.specs.Layout.{index_of, memory}
+use Rattle.clsm_law.specs.Merging.{word_of_merger, changed_by_merger}
+use Rattle.clsm_law.proofs.Frames.{put_here}
 use Rattle.clsm_words.specs.declared.known.Known.{Known}
 use Rattle.clsm_words.specs.Knowing.{row_of}
 use Rattle.clsm_words.specs.Merging.{IsOwn, OpensToMerger, FollowsMerger}

@@ -7,19 +7,19 @@ use Rattle.clsm_levels.specs.declared.place.Place.{Place}
 use Rattle.clsm_levels.specs.Entry.{entry_of, entries_of}
 use Rattle.clsm_levels.specs.Merge.{wanted}
 use Rattle.clsm_levels.specs.Place.{places, runs_at}
-use Rattle.clsm_core.specs.declared.layout.Layout.{Layout}
-use Rattle.clsm_core.specs.declared.word.Word.{Word}
-use Rattle.clsm_core.specs.declared.word.Word.TheVariants.{Clock, Head, State, Count, Entry as EntryWord}
-use Rattle.clsm_core.specs.declared.step.Step.{Step}
-use Rattle.clsm_core.specs.declared.step.Step.TheVariants.{Pad, ClearState, Publish, ExtendClock}
-use Rattle.clsm_core.specs.declared.merger.Phase.{Phase}
-use Rattle.clsm_core.specs.declared.merger.Phase.TheVariants.{Clean, Frozen, Retired}
-use Rattle.clsm_core.specs.Memory.{Memory, cell_of, region_of}
-use Rattle.clsm_core.specs.Places.{number_of}
-use Rattle.clsm_core.specs.Merging.{Facts, is_clean, is_frozen, epoch_end, retired_region, target_of, IsOpenToMerger, merger_after}
-use Rattle.clsm_core.specs.Worlds.{settled, passes_from, is_padded, is_headless, is_last, runs_of, epoch_of, facts_of}
-use Rattle.clsm_core.proofs.Setting.{Ground, facts, OpensTo}
-use Rattle.clsm_core.proofs.KeptRuns.{SamePlace, place_same, canonical_same}
+use Rattle.clsm_law.specs.declared.layout.Layout.{Layout}
+use Rattle.clsm_law.specs.declared.word.Word.{Word}
+use Rattle.clsm_law.specs.declared.word.Word.TheVariants.{Clock, Head, State, Count, Entry as EntryWord}
+use Rattle.clsm_law.specs.declared.step.Step.{Step}
+use Rattle.clsm_law.specs.declared.step.Step.TheVariants.{Pad, ClearState, Publish, ExtendClock}
+use Rattle.clsm_law.specs.declared.merger.Phase.{Phase}
+use Rattle.clsm_law.specs.declared.merger.Phase.TheVariants.{Clean, Frozen, Retired}
+use Rattle.clsm_law.specs.Memory.{Memory, cell_of, region_of}
+use Rattle.clsm_law.specs.Places.{number_of}
+use Rattle.clsm_law.specs.Merging.{Facts, is_clean, is_frozen, epoch_end, retired_region, target_of, IsOpenToMerger, merger_after}
+use Rattle.clsm_law.specs.Worlds.{settled, passes_from, is_padded, is_headless, is_last, runs_of, epoch_of, facts_of}
+use Rattle.clsm_law.proofs.Setting.{Ground, facts, OpensTo}
+use Rattle.clsm_law.proofs.KeptRuns.{SamePlace, place_same, canonical_same}
 use Rattle.clsm_words.specs.Merging.{IsLetGo, IsOwn, known_end}
 use Rattle.clsm_words.specs.Ruled.{Begins}
 use Rattle.clsm_words.proofs.Beginnings.{begins_settled}

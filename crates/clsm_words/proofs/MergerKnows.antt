@@ -4,22 +4,22 @@ use Rattle.atomic_table.specs.Table.{State}
 use Rattle.clsm_model.specs.declared.slot.Slot.{Slot}
 use Rattle.clsm_model.specs.History.{plain}
 use Rattle.clsm_levels.specs.Content.{AgreeBelow}
-use Rattle.clsm_core.specs.declared.word.Word.TheVariants.{Clock}
-use Rattle.clsm_core.specs.declared.step.Step.{Step}
-use Rattle.clsm_core.specs.declared.merger.MergerView.{MergerView}
-use Rattle.clsm_core.specs.Memory.{is_word}
-use Rattle.clsm_core.specs.Layout.{memory}
-use Rattle.clsm_core.specs.Merging.{is_frozen, epoch_end, IsOpenToMerger, word_of_merger}
-use Rattle.clsm_core.specs.Worlds.{history_of, facts_of}
-use Rattle.clsm_core.specs.Law.{AreRuns}
-use Rattle.clsm_core.specs.Deciding.{IsMergeable}
-use Rattle.clsm_core.specs.Machine.{WorldState}
-use Rattle.clsm_core.proofs.Cases.{by_bool}
-use Rattle.clsm_core.proofs.KeptRuns.{runs_stay}
-use Rattle.clsm_core.proofs.MergingLawful.{lawful_is_mergeable}
-use Rattle.clsm_core.proofs.Setting.{Ground, OpensTo}
-use Rattle.clsm_core.proofs.Stepped.{lawful_ground}
-use Rattle.clsm_core.proofs.WordsThere.{word_there'}
+use Rattle.clsm_law.specs.declared.word.Word.TheVariants.{Clock}
+use Rattle.clsm_law.specs.declared.step.Step.{Step}
+use Rattle.clsm_law.specs.declared.merger.MergerView.{MergerView}
+use Rattle.clsm_law.specs.Memory.{is_word}
+use Rattle.clsm_law.specs.Layout.{memory}
+use Rattle.clsm_law.specs.Merging.{is_frozen, epoch_end, IsOpenToMerger, word_of_merger}
+use Rattle.clsm_law.specs.Worlds.{history_of, facts_of}
+use Rattle.clsm_law.specs.Law.{AreRuns}
+use Rattle.clsm_law.specs.Deciding.{IsMergeable}
+use Rattle.clsm_law.specs.Machine.{WorldState}
+use Rattle.clsm_law.proofs.Cases.{by_bool}
+use Rattle.clsm_law.proofs.KeptRuns.{runs_stay}
+use Rattle.clsm_law.proofs.MergingLawful.{lawful_is_mergeable}
+use Rattle.clsm_law.proofs.Setting.{Ground, OpensTo}
+use Rattle.clsm_law.proofs.Stepped.{lawful_ground}
+use Rattle.clsm_law.proofs.WordsThere.{word_there'}
 use Rattle.clsm_words.specs.declared.known.Known.{Known}
 use Rattle.clsm_words.specs.Knowing.{row_of}
 use Rattle.clsm_words.specs.Merging.{OpensToMerger, known_end, IsSoundMerger}

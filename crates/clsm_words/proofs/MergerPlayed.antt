@@ -6,29 +6,29 @@ use lib.ListN.{get_elem?}
 use Rattle.atomic_table.specs.Table.{State}
 use Rattle.atomic_table.proofs.Lists.{at_set}
 use Rattle.clsm_model.specs.declared.slot.Slot.{Slot}
-use Rattle.clsm_core.specs.declared.word.Word.{Word}
-use Rattle.clsm_core.specs.declared.word.Word.TheVariants.{Pin, Snap, Count, Entry}
-use Rattle.clsm_core.specs.declared.step.Step.{Step}
-use Rattle.clsm_core.specs.declared.step.Step.TheVariants.{LeaveExclusive, Look, ClearHead, ClearState, Publish}
-use Rattle.clsm_core.specs.declared.view.View.{View}
-use Rattle.clsm_core.specs.declared.merger.MergerView.{MergerView}
-use Rattle.clsm_core.specs.declared.merger.Phase.{Phase}
-use Rattle.clsm_core.specs.declared.merger.Phase.TheVariants.{Clean, Frozen, Retired}
-use Rattle.clsm_core.specs.Memory.{Memory, is_word, put}
-use Rattle.clsm_core.specs.Layout.{index_of, memory}
-use Rattle.clsm_core.specs.Relation.{Chains}
-use Rattle.clsm_core.specs.Merging.{is_clean, is_frozen, is_retired, epoch_end, word_of_merger, changed_by_merger, merger_after, slots_after_merger, chains_after_merger}
-use Rattle.clsm_core.specs.Worlds.{slot_at, settled, facts_of}
-use Rattle.clsm_core.specs.Law.{LawOf, each, held_of}
-use Rattle.clsm_core.specs.Machine.{IsLawful, memory_of}
-use Rattle.clsm_core.proofs.GrowthMerger.{slots_stay', longer'}
-use Rattle.clsm_core.proofs.KeptDecided.{frozen_decided}
-use Rattle.clsm_core.proofs.Layouts.{memory-at, memory-set}
-use Rattle.clsm_core.proofs.MachineSteps.{merger_word, merger_there}
-use Rattle.clsm_core.proofs.Setting.{Ground, facts, OpensTo, merger', memory', none_drawn, past_below}
-use Rattle.clsm_core.proofs.Kept.{kept'}
-use Rattle.clsm_core.proofs.Keeping.{holds_quiet, places_stay}
-use Rattle.clsm_core.proofs.Stepped.{lawful_ground}
+use Rattle.clsm_law.specs.declared.word.Word.{Word}
+use Rattle.clsm_law.specs.declared.word.Word.TheVariants.{Pin, Snap, Count, Entry}
+use Rattle.clsm_law.specs.declared.step.Step.{Step}
+use Rattle.clsm_law.specs.declared.step.Step.TheVariants.{LeaveExclusive, Look, ClearHead, ClearState, Publish}
+use Rattle.clsm_law.specs.declared.view.View.{View}
+use Rattle.clsm_law.specs.declared.merger.MergerView.{MergerView}
+use Rattle.clsm_law.specs.declared.merger.Phase.{Phase}
+use Rattle.clsm_law.specs.declared.merger.Phase.TheVariants.{Clean, Frozen, Retired}
+use Rattle.clsm_law.specs.Memory.{Memory, is_word, put}
+use Rattle.clsm_law.specs.Layout.{index_of, memory}
+use Rattle.clsm_law.specs.Relation.{Chains}
+use Rattle.clsm_law.specs.Merging.{is_clean, is_frozen, is_retired, epoch_end, word_of_merger, changed_by_merger, merger_after, slots_after_merger, chains_after_merger}
+use Rattle.clsm_law.specs.Worlds.{slot_at, settled, facts_of}
+use Rattle.clsm_law.specs.Law.{LawOf, each, held_of}
+use Rattle.clsm_law.specs.Machine.{IsLawful, memory_of}
+use Rattle.clsm_law.proofs.GrowthMerger.{slots_stay', longer'}
+use Rattle.clsm_law.proofs.KeptDecided.{frozen_decided}
+use Rattle.clsm_law.proofs.Layouts.{memory-at, memory-set}
+use Rattle.clsm_law.proofs.MachineSteps.{merger_word, merger_there}
+use Rattle.clsm_law.proofs.Setting.{Ground, facts, OpensTo, merger', memory', none_drawn, past_below}
+use Rattle.clsm_law.proofs.Kept.{kept'}
+use Rattle.clsm_law.proofs.Keeping.{holds_quiet, places_stay}
+use Rattle.clsm_law.proofs.Stepped.{lawful_ground}
 use Rattle.clsm_words.specs.declared.known.Known.{Known}
 use Rattle.clsm_words.specs.Knowing.{row_of, IsHeldEpoch, IsNamedWord}
 use Rattle.clsm_words.specs.Merging.{facts_known, OpensToMerger, known_end}

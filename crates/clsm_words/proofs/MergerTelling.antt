@@ -6,18 +6,18 @@ use lib.ListN.{get_elem?}
 use Rattle.atomic_table.specs.Table.{State}
 use Rattle.clsm_model.specs.declared.slot.Slot.{Slot}
 use Rattle.clsm_model.specs.declared.slot.Slot.TheVariants.{Nothing}
-use Rattle.clsm_core.specs.declared.word.Word.TheVariants.{Cell, State as StateOf}
-use Rattle.clsm_core.specs.declared.step.Step.{Step}
-use Rattle.clsm_core.specs.declared.step.Step.TheVariants.{Look}
-use Rattle.clsm_core.specs.declared.merger.MergerView.{MergerView}
-use Rattle.clsm_core.specs.Memory.{cell_of, is_part}
-use Rattle.clsm_core.specs.Layout.{memory}
-use Rattle.clsm_core.specs.Merging.{is_frozen, epoch_end}
-use Rattle.clsm_core.specs.Worlds.{slot_at}
-use Rattle.clsm_core.specs.Law.{Shows}
-use Rattle.clsm_core.proofs.Frames.{slot_below}
-use Rattle.clsm_core.proofs.KeptDecided.{frozen_decided}
-use Rattle.clsm_core.proofs.Setting.{shown_below_merged}
+use Rattle.clsm_law.specs.declared.word.Word.TheVariants.{Cell, State as StateOf}
+use Rattle.clsm_law.specs.declared.step.Step.{Step}
+use Rattle.clsm_law.specs.declared.step.Step.TheVariants.{Look}
+use Rattle.clsm_law.specs.declared.merger.MergerView.{MergerView}
+use Rattle.clsm_law.specs.Memory.{cell_of, is_part}
+use Rattle.clsm_law.specs.Layout.{memory}
+use Rattle.clsm_law.specs.Merging.{is_frozen, epoch_end}
+use Rattle.clsm_law.specs.Worlds.{slot_at}
+use Rattle.clsm_law.specs.Law.{Shows}
+use Rattle.clsm_law.proofs.Frames.{slot_below}
+use Rattle.clsm_law.proofs.KeptDecided.{frozen_decided}
+use Rattle.clsm_law.proofs.Setting.{shown_below_merged}
 use Rattle.clsm_words.specs.declared.known.Known.{Known}
 use Rattle.clsm_words.specs.Knowing.{row_of, IsPartOf}
 use Rattle.clsm_words.specs.Merging.{OpensToMerger, IsFrozenIn, TellsMerger}

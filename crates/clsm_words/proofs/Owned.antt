@@ -1,23 +1,23 @@
 -- No open step of a caller changes a word of the merger's own.
 use Rattle.std.proofs.Common.{◌≡◌, ◌≢◌, ℕ, ◌%◌, ◌<◌, ◌≤◌, ⊎_elim, true, length, refl, ap, ◌∙◌, arith, Some, None}
 use prog.Atomic.{either}
-use Rattle.clsm_core.specs.declared.word.Word.{Word}
-use Rattle.clsm_core.specs.declared.word.Word.TheVariants.{Clock, Head, State, Count, Entry}
-use Rattle.clsm_core.specs.declared.step.Step.{Step}
-use Rattle.clsm_core.specs.declared.step.Step.TheVariants.{Draw, Link, Decide, Cancel, Look}
-use Rattle.clsm_core.specs.declared.view.Mode.TheVariants.{Shared}
-use Rattle.clsm_core.specs.Memory.{cell_of, region_of, put}
-use Rattle.clsm_core.specs.Relation.{is_shared, or_zero}
-use Rattle.clsm_core.specs.Merging.{retired_region}
-use Rattle.clsm_core.specs.Worlds.{slot_at}
-use Rattle.clsm_core.specs.Law.{first_shown, each, drawn_of}
-use Rattle.clsm_core.proofs.Cases.{by_test}
-use Rattle.clsm_core.proofs.Frames.{put_other, put_same}
-use Rattle.clsm_core.proofs.Setting.{Setting, v, M, x, own, own_drawn, Opens, ground, drawn_shown, none_drawn, undecided}
-use Rattle.clsm_core.proofs.Growth.{cancels_shown}
-use Rattle.clsm_core.proofs.KeptCells.{first_if_quiet, retired_end}
-use Rattle.clsm_core.proofs.KeptRuns.{seat_same}
-use Rattle.clsm_core.proofs.Times.{region_of_epoch}
+use Rattle.clsm_law.specs.declared.word.Word.{Word}
+use Rattle.clsm_law.specs.declared.word.Word.TheVariants.{Clock, Head, State, Count, Entry}
+use Rattle.clsm_law.specs.declared.step.Step.{Step}
+use Rattle.clsm_law.specs.declared.step.Step.TheVariants.{Draw, Link, Decide, Cancel, Look}
+use Rattle.clsm_law.specs.declared.view.Mode.TheVariants.{Shared}
+use Rattle.clsm_law.specs.Memory.{cell_of, region_of, put}
+use Rattle.clsm_law.specs.Relation.{is_shared, or_zero}
+use Rattle.clsm_law.specs.Merging.{retired_region}
+use Rattle.clsm_law.specs.Worlds.{slot_at}
+use Rattle.clsm_law.specs.Law.{first_shown, each, drawn_of}
+use Rattle.clsm_law.proofs.Cases.{by_test}
+use Rattle.clsm_law.proofs.Frames.{put_other, put_same}
+use Rattle.clsm_law.proofs.Setting.{Setting, v, M, x, own, own_drawn, Opens, ground, drawn_shown, none_drawn, undecided}
+use Rattle.clsm_law.proofs.Growth.{cancels_shown}
+use Rattle.clsm_law.proofs.KeptCells.{first_if_quiet, retired_end}
+use Rattle.clsm_law.proofs.KeptRuns.{seat_same}
+use Rattle.clsm_law.proofs.Times.{region_of_epoch}
 use Rattle.clsm_words.specs.Merging.{IsLetGo, IsOwn}
 
 -- while the merger holds the lock each drawn time is decided

@@ -5,24 +5,24 @@ use lib.ListN.{get_elem?}
 use Rattle.atomic_table.specs.Table.{State}
 use Rattle.atomic_table.proofs.Lists.{at_set}
 use Rattle.clsm_model.specs.declared.slot.Slot.{Slot}
-use Rattle.clsm_core.specs.declared.word.Word.{Word}
-use Rattle.clsm_core.specs.declared.word.Word.TheVariants.{Clock, Count, Entry}
-use Rattle.clsm_core.specs.declared.step.Step.{Step}
-use Rattle.clsm_core.specs.declared.view.View.{View}
-use Rattle.clsm_core.specs.Layout.{index_of, memory}
-use Rattle.clsm_core.specs.Relation.{Chains, idle, word_of, changed, view_after, slots_after, chains_after}
-use Rattle.clsm_core.specs.Worlds.{view_at, slot_at, settled}
-use Rattle.clsm_core.specs.Memory.{Memory, is_word}
-use Rattle.clsm_core.specs.Law.{LawOf}
-use Rattle.clsm_core.specs.Merging.{is_frozen, epoch_end, IsRunWord}
-use Rattle.clsm_core.specs.Machine.{WorldState, IsLawful, memory_of}
-use Rattle.clsm_core.proofs.Growth.{slots_stay, longer}
-use Rattle.clsm_core.proofs.Cases.{by_bool}
-use Rattle.clsm_core.proofs.Layouts.{memory-at, memory-set}
-use Rattle.clsm_core.proofs.MachineSteps.{seat_word, seat_there, seat_writes}
-use Rattle.clsm_core.proofs.Setting.{Setting, v, x, M, S, ground, past_below, Opens as OpensIn}
-use Rattle.clsm_core.proofs.Kept.{kept}
-use Rattle.clsm_core.proofs.KeptRuns.{seat_same}
+use Rattle.clsm_law.specs.declared.word.Word.{Word}
+use Rattle.clsm_law.specs.declared.word.Word.TheVariants.{Clock, Count, Entry}
+use Rattle.clsm_law.specs.declared.step.Step.{Step}
+use Rattle.clsm_law.specs.declared.view.View.{View}
+use Rattle.clsm_law.specs.Layout.{index_of, memory}
+use Rattle.clsm_law.specs.Relation.{Chains, idle, word_of, changed, view_after, slots_after, chains_after}
+use Rattle.clsm_law.specs.Worlds.{view_at, slot_at, settled}
+use Rattle.clsm_law.specs.Memory.{Memory, is_word}
+use Rattle.clsm_law.specs.Law.{LawOf}
+use Rattle.clsm_law.specs.Merging.{is_frozen, epoch_end, IsRunWord}
+use Rattle.clsm_law.specs.Machine.{WorldState, IsLawful, memory_of}
+use Rattle.clsm_law.proofs.Growth.{slots_stay, longer}
+use Rattle.clsm_law.proofs.Cases.{by_bool}
+use Rattle.clsm_law.proofs.Layouts.{memory-at, memory-set}
+use Rattle.clsm_law.proofs.MachineSteps.{seat_word, seat_there, seat_writes}
+use Rattle.clsm_law.proofs.Setting.{Setting, v, x, M, S, ground, past_below, Opens as OpensIn}
+use Rattle.clsm_law.proofs.Kept.{kept}
+use Rattle.clsm_law.proofs.KeptRuns.{seat_same}
 use Rattle.clsm_words.specs.declared.known.Known.{Known}
 use Rattle.clsm_words.specs.Knowing.{Opens}
 use Rattle.clsm_words.specs.Merging.{IsOwn, known_end}

@@ -1,15 +1,15 @@
 -- How long the rows in a view are, after each step.
 use Rattle.std.proofs.Common.{◌≡◌, ℕ, ◌*◌, ◌==◌, Bool, true, false, cond, List, length, replicate, set, ◌∙◌, Option, Some, None, length-set}
 use Rattle.std.proofs.lemmas.List.{length-replicate}
-use Rattle.clsm_core.specs.declared.layout.Layout.{Layout}
-use Rattle.clsm_core.specs.declared.word.Word.{Word}
-use Rattle.clsm_core.specs.declared.word.Word.TheVariants.{Lock, Clock, Limit, Front, Merged, Head, State}
-use Rattle.clsm_core.specs.declared.word.Part.{Part}
-use Rattle.clsm_core.specs.declared.word.Part.TheVariants.{Key, Length, Value, Next}
-use Rattle.clsm_core.specs.declared.step.Step.{Step}
-use Rattle.clsm_core.specs.declared.step.Step.TheVariants.{EnterShared, LeaveShared, Draw, Fill, Link, Look}
-use Rattle.clsm_core.specs.declared.view.View.{View}
-use Rattle.clsm_core.specs.Relation.{blank, idle, line_of, own_line, holds_lock, looked, filled, view_after}
+use Rattle.clsm_law.specs.declared.layout.Layout.{Layout}
+use Rattle.clsm_law.specs.declared.word.Word.{Word}
+use Rattle.clsm_law.specs.declared.word.Word.TheVariants.{Lock, Clock, Limit, Front, Merged, Head, State}
+use Rattle.clsm_law.specs.declared.word.Part.{Part}
+use Rattle.clsm_law.specs.declared.word.Part.TheVariants.{Key, Length, Value, Next}
+use Rattle.clsm_law.specs.declared.step.Step.{Step}
+use Rattle.clsm_law.specs.declared.step.Step.TheVariants.{EnterShared, LeaveShared, Draw, Fill, Link, Look}
+use Rattle.clsm_law.specs.declared.view.View.{View}
+use Rattle.clsm_law.specs.Relation.{blank, idle, line_of, own_line, holds_lock, looked, filled, view_after}
 use Rattle.clsm_words.specs.Knowing.{HasRows}
 
 blank_long : (n : ℕ) → length (blank n) ≡ n

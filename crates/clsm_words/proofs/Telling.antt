@@ -7,20 +7,20 @@ use lib.ListN.{get_elem?}
 use Rattle.atomic_table.specs.Table.{State}
 use Rattle.clsm_model.specs.declared.slot.Slot.{Slot}
 use Rattle.clsm_model.specs.declared.slot.Slot.TheVariants.{Nothing, Wrote}
-use Rattle.clsm_core.specs.declared.layout.Layout.{Layout}
-use Rattle.clsm_core.specs.declared.word.Word.TheVariants.{Lock, Clock, Cell, State as StateOf, Count, Entry}
-use Rattle.clsm_core.specs.declared.word.Part.{Part}
-use Rattle.clsm_core.specs.declared.word.Part.TheVariants.{Key, Length, Value}
-use Rattle.clsm_core.specs.declared.step.Step.{Step}
-use Rattle.clsm_core.specs.declared.step.Step.TheVariants.{Look}
-use Rattle.clsm_core.specs.declared.view.View.{View}
-use Rattle.clsm_core.specs.Memory.{Memory, cell_of, is_part, put}
-use Rattle.clsm_core.specs.Relation.{is_shared, HoldsFrom, word_of, changed}
-use Rattle.clsm_core.specs.Layout.{memory}
-use Rattle.clsm_core.specs.Worlds.{view_at, settled}
-use Rattle.clsm_core.specs.Law.{Shows, first_shown, first_live, holders, IsRetiredFor, each, pin_of}
-use Rattle.clsm_core.proofs.Frames.{put_same}
-use Rattle.clsm_core.proofs.Setting.{Ground, ground, x, M, held_shown, clock_live, live_below_shown, past_below, shown_below_merged}
+use Rattle.clsm_law.specs.declared.layout.Layout.{Layout}
+use Rattle.clsm_law.specs.declared.word.Word.TheVariants.{Lock, Clock, Cell, State as StateOf, Count, Entry}
+use Rattle.clsm_law.specs.declared.word.Part.{Part}
+use Rattle.clsm_law.specs.declared.word.Part.TheVariants.{Key, Length, Value}
+use Rattle.clsm_law.specs.declared.step.Step.{Step}
+use Rattle.clsm_law.specs.declared.step.Step.TheVariants.{Look}
+use Rattle.clsm_law.specs.declared.view.View.{View}
+use Rattle.clsm_law.specs.Memory.{Memory, cell_of, is_part, put}
+use Rattle.clsm_law.specs.Relation.{is_shared, HoldsFrom, word_of, changed}
+use Rattle.clsm_law.specs.Layout.{memory}
+use Rattle.clsm_law.specs.Worlds.{view_at, settled}
+use Rattle.clsm_law.specs.Law.{Shows, first_shown, first_live, holders, IsRetiredFor, each, pin_of}
+use Rattle.clsm_law.proofs.Frames.{put_same}
+use Rattle.clsm_law.proofs.Setting.{Ground, ground, x, M, held_shown, clock_live, live_below_shown, past_below, shown_below_merged}
 use Rattle.clsm_words.specs.declared.known.Known.{Known}
 use Rattle.clsm_words.specs.Knowing.{row_of, Opens, code_of, IsPartOf, IsWithin, Tells}
 use Rattle.clsm_words.specs.Ruled.{Begins, Ruled}

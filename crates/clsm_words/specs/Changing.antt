@@ -1,8 +1,8 @@
 -- What several steps of the merger's seat change of the words of runs.
 use Rattle.std.specs.Prelude.{◌≡◌}
 use mathlib.Core.List.{IsPrefix}
-use Rattle.clsm_core.specs.declared.word.Word.{Word}
-use Rattle.clsm_core.specs.Merging.{IsRunWord}
+use Rattle.clsm_law.specs.declared.word.Word.{Word}
+use Rattle.clsm_law.specs.Merging.{IsRunWord}
 use Rattle.clsm_words.specs.declared.known.Known.{Known}
 use Rattle.clsm_words.specs.Knowing.{row_of}
 
@@ -13,5 +13,6 @@ pub record Changes (Those : Word → Type 0) (k k' : Known) : Type 0 where
   pub past : IsPrefix k.past k'.past
   pub stays : (word : Word) → IsRunWord word → (Those word → ⊥) → row_of k' word ≡ row_of k word
 
+-- none of them changes
 abbrev pub NoWord : Word → Type 0
 NoWord word = ⊥

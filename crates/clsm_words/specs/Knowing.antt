@@ -8,24 +8,24 @@ use Rattle.clsm_model.specs.declared.slot.Slot.TheVariants.{Nothing, Wrote}
 use Rattle.clsm_model.specs.declared.record.CallRecord.{CallRecord}
 use Rattle.clsm_model.specs.History.{plain}
 use Rattle.clsm_model.specs.Right.{write_by}
-use Rattle.clsm_core.specs.declared.layout.Layout.{Layout}
-use Rattle.clsm_core.specs.declared.word.Word.{Word}
-use Rattle.clsm_core.specs.declared.word.Word.TheVariants.{Lock, Clock, Head, Cell, State, Count, Entry}
-use Rattle.clsm_core.specs.declared.word.Part.{Part}
-use Rattle.clsm_core.specs.declared.word.Part.TheVariants.{Key, Length, Value, Next}
-use Rattle.clsm_core.specs.declared.step.Step.{Step}
-use Rattle.clsm_core.specs.declared.step.Step.TheVariants.{Pin, Unpin, Look}
-use Rattle.clsm_core.specs.declared.view.View.{View}
-use Rattle.clsm_core.specs.declared.view.Mode.TheVariants.{Shared}
-use Rattle.clsm_core.specs.Memory.{Memory, cell_of, region_of, is_word}
-use Rattle.clsm_core.specs.Layout.{memory}
-use Rattle.clsm_core.specs.Places.{is_named}
-use Rattle.clsm_core.specs.Law.{In, Distinct, AreRuns}
-use Rattle.clsm_core.specs.Relation.{IsShort, idle, length_of, words_of, state_of, open_time, HoldsFrom, IsOpen, word_of, view_after}
-use Rattle.clsm_core.specs.Merging.{opening, IsRunWord, place_of}
-use Rattle.clsm_core.specs.Machine.{opened}
-use Rattle.clsm_core.specs.Seats.{IsRightRecord, StandsAs, HasWrite, IsRising}
-use Rattle.clsm_core.specs.SeatBounds.{IsSmall}
+use Rattle.clsm_law.specs.declared.layout.Layout.{Layout}
+use Rattle.clsm_law.specs.declared.word.Word.{Word}
+use Rattle.clsm_law.specs.declared.word.Word.TheVariants.{Lock, Clock, Head, Cell, State, Count, Entry}
+use Rattle.clsm_law.specs.declared.word.Part.{Part}
+use Rattle.clsm_law.specs.declared.word.Part.TheVariants.{Key, Length, Value, Next}
+use Rattle.clsm_law.specs.declared.step.Step.{Step}
+use Rattle.clsm_law.specs.declared.step.Step.TheVariants.{Pin, Unpin, Look}
+use Rattle.clsm_law.specs.declared.view.View.{View}
+use Rattle.clsm_law.specs.declared.view.Mode.TheVariants.{Shared}
+use Rattle.clsm_law.specs.Memory.{Memory, cell_of, region_of, is_word}
+use Rattle.clsm_law.specs.Layout.{memory}
+use Rattle.clsm_law.specs.Places.{is_named}
+use Rattle.clsm_law.specs.Law.{In, Distinct, AreRuns}
+use Rattle.clsm_law.specs.Relation.{IsShort, idle, length_of, words_of, state_of, open_time, HoldsFrom, IsOpen, word_of, view_after}
+use Rattle.clsm_law.specs.Merging.{opening, IsRunWord, place_of}
+use Rattle.clsm_law.specs.Machine.{opened}
+use Rattle.clsm_law.specs.Seats.{IsRightRecord, StandsAs, HasWrite, IsRising}
+use Rattle.clsm_law.specs.SeatBounds.{IsSmall}
 use Rattle.clsm_words.specs.declared.known.Known.{Known}
 
 -- ---- seats, and what carries a past
@@ -50,6 +50,7 @@ deals k = record k { dealt = k.dealt + 1 }
 abbrev pub messenger : List Slot → ℕ → Known
 messenger told heard = record { seated = false; merges = false; number = 0; dealt = 0; layout = least; view = idle least; merger = opening least; row = []; trail = []; region = 0; shard = 0; floor = 0; past = []; told = told; heard = heard }
 
+-- a seat that takes in what another carries: its beginning of the history, and its due where that is greater
 abbrev pub learns : Known → Known → Known
 learns k m = record k { told = m.told; heard = max k.heard m.heard }
 

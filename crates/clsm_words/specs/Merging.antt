@@ -4,18 +4,18 @@ use Rattle.std.specs.Prelude.{true, ◌≡◌, ℕ, ◌*◌, ◌<◌, ◌≤◌,
 use mathlib.Core.List.{IsPrefix}
 use Rattle.clsm_model.specs.declared.slot.Slot.TheVariants.{Nothing, Wrote}
 use Rattle.clsm_model.specs.History.{plain}
-use Rattle.clsm_core.specs.declared.layout.Layout.{Layout}
-use Rattle.clsm_core.specs.declared.word.Word.{Word}
-use Rattle.clsm_core.specs.declared.word.Word.TheVariants.{Clock, Head, Cell, State, Count, Entry}
-use Rattle.clsm_core.specs.declared.step.Step.{Step}
-use Rattle.clsm_core.specs.declared.step.Step.TheVariants.{Look}
-use Rattle.clsm_core.specs.declared.merger.MergerView.{MergerView}
-use Rattle.clsm_core.specs.Memory.{cell_of, region_of, is_word, put}
-use Rattle.clsm_core.specs.Merging.{Facts, is_frozen, is_retired, is_all_quiet, epoch_end, retired_region, IsOpenToMerger, word_of_merger, changed_by_merger, merger_after}
-use Rattle.clsm_core.specs.Relation.{IsShort}
-use Rattle.clsm_core.specs.Worlds.{facts_of}
-use Rattle.clsm_core.specs.Law.{AreRuns}
-use Rattle.clsm_core.specs.Deciding.{IsMergeable}
+use Rattle.clsm_law.specs.declared.layout.Layout.{Layout}
+use Rattle.clsm_law.specs.declared.word.Word.{Word}
+use Rattle.clsm_law.specs.declared.word.Word.TheVariants.{Clock, Head, Cell, State, Count, Entry}
+use Rattle.clsm_law.specs.declared.step.Step.{Step}
+use Rattle.clsm_law.specs.declared.step.Step.TheVariants.{Look}
+use Rattle.clsm_law.specs.declared.merger.MergerView.{MergerView}
+use Rattle.clsm_law.specs.Memory.{cell_of, region_of, is_word, put}
+use Rattle.clsm_law.specs.Merging.{Facts, is_frozen, is_retired, is_all_quiet, epoch_end, retired_region, IsOpenToMerger, word_of_merger, changed_by_merger, merger_after}
+use Rattle.clsm_law.specs.Relation.{IsShort}
+use Rattle.clsm_law.specs.Worlds.{facts_of}
+use Rattle.clsm_law.specs.Law.{AreRuns}
+use Rattle.clsm_law.specs.Deciding.{IsMergeable}
 use Rattle.clsm_words.specs.declared.known.Known.{Known}
 use Rattle.clsm_words.specs.Knowing.{row_of, code_of, IsPartOf}
 
@@ -41,6 +41,7 @@ IsOwn z m _ = ⊥
 abbrev pub facts_known : Known → Facts
 facts_known k = facts_of k.layout (row_of k) k.merger (map (λ slot. Some slot) k.past)
 
+-- the step is open to the merger's seat, by the facts as it knows them
 abbrev pub OpensToMerger : Known → Step → Type 0
 OpensToMerger k step = IsOpenToMerger k.layout (facts_known k) k.merger step
 

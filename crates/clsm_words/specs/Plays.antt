@@ -1,11 +1,11 @@
 -- What the step functions ask and tell.
 use Rattle.std.specs.Prelude.{◌≡◌, ◌≢◌, ℕ, ◌+◌, ◌<◌, max, true, false, [], List, length, slice_index_or, Some, None}
-use Rattle.clsm_core.specs.declared.word.Word.{Word}
-use Rattle.clsm_core.specs.declared.step.Step.{Step}
-use Rattle.clsm_core.specs.declared.step.Answer.{Answer}
-use Rattle.clsm_core.specs.declared.view.View.{View}
-use Rattle.clsm_core.specs.Relation.{idle, is_all_some, word_of, answer_of}
-use Rattle.clsm_core.specs.Merging.{opening, word_of_merger}
+use Rattle.clsm_law.specs.declared.word.Word.{Word}
+use Rattle.clsm_law.specs.declared.step.Step.{Step}
+use Rattle.clsm_law.specs.declared.step.Answer.{Answer}
+use Rattle.clsm_law.specs.declared.view.View.{View}
+use Rattle.clsm_law.specs.Relation.{idle, is_all_some, word_of, answer_of}
+use Rattle.clsm_law.specs.Merging.{opening, word_of_merger}
 use Rattle.clsm_words.specs.declared.known.Known.{Known}
 use Rattle.clsm_words.specs.declared.words.Words.{Words}
 use Rattle.clsm_words.specs.Seats.{SeatState, MessageState}

@@ -4,15 +4,15 @@ use mathlib.Core.Option.{some}
 use lib.ListN.{get_elem?}
 use Rattle.atomic_table.specs.Table.{State}
 use Rattle.clsm_model.specs.declared.slot.Slot.{Slot}
-use Rattle.clsm_core.specs.declared.layout.Layout.{Layout}
-use Rattle.clsm_core.specs.declared.view.View.{View}
-use Rattle.clsm_core.specs.declared.merger.MergerView.{MergerView}
-use Rattle.clsm_core.specs.declared.word.Word.{Word}
-use Rattle.clsm_core.specs.Layout.{memory, size_of}
-use Rattle.clsm_core.specs.Relation.{Chains, idle}
-use Rattle.clsm_core.specs.Merging.{is_retired}
-use Rattle.clsm_core.specs.Worlds.{view_at, slot_at, settled}
-use Rattle.clsm_core.specs.Machine.{WorldState, IsLawful}
+use Rattle.clsm_law.specs.declared.layout.Layout.{Layout}
+use Rattle.clsm_law.specs.declared.view.View.{View}
+use Rattle.clsm_law.specs.declared.merger.MergerView.{MergerView}
+use Rattle.clsm_law.specs.declared.word.Word.{Word}
+use Rattle.clsm_law.specs.Layout.{memory, size_of}
+use Rattle.clsm_law.specs.Relation.{Chains, idle}
+use Rattle.clsm_law.specs.Merging.{is_retired}
+use Rattle.clsm_law.specs.Worlds.{view_at, slot_at, settled}
+use Rattle.clsm_law.specs.Machine.{WorldState, IsLawful}
 use Rattle.clsm_words.specs.declared.known.Known.{Known}
 use Rattle.clsm_words.specs.Knowing.{HasRows, IsHeldEpoch, IsNamedWord}
 use Rattle.clsm_words.specs.Merging.{IsOwn, known_end}

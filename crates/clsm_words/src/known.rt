@@ -1,4 +1,4 @@
-use clsm_core::{Layout, MergerView, View};
+use clsm_law::{Layout, MergerView, View};
 use clsm_model::{Slot, Time};
 use std::collections::LinkedList;
 

@@ -1,12 +1,12 @@
 //! The merger's kinds of step, each behind a call of the pace.
 ghost use Rattle.std.specs.Prelude.{◌≡◌};
-ghost use Rattle.clsm_core.specs.declared.step.Step.TheVariants.{EnterExclusive, LeaveExclusive, Look, Pad, WriteRun, ClearHead, ClearState, Publish, ExtendClock, ExtendLimit};
+ghost use Rattle.clsm_law.specs.declared.step.Step.TheVariants.{EnterExclusive, LeaveExclusive, Look, Pad, WriteRun, ClearHead, ClearState, Publish, ExtendClock, ExtendLimit};
 ghost use Rattle.clsm_words.specs.Plays.{MayMerge, Merged, Merges, MergerAnswers};
 
 use crate::pace::{Kind, Pace};
 use crate::steps::Steps;
 use crate::words::RawMerger;
-use clsm_core::{Answer, Word};
+use clsm_law::{Answer, Word};
 use clsm_model::Time;
 
 impl<P: Pace> Steps<'_, P> {
@@ -16,7 +16,7 @@ impl<P: Pace> Steps<'_, P> {
         self.pace.step(self.words.layout.seats, kind);
     }
 
-    /// Enters the lock alone, if nobody holds it.
+    /// Enters the lock alone, if nobody holds it. Answers `Lost` where somebody does: the merger is outside then.
     #[inline]
     pub fn enter_exclusive(&self, seat: &mut RawMerger) -> Answer
         requires { MayMerge self.now.words.now seat.old EnterExclusive }

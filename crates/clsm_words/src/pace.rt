@@ -1,5 +1,5 @@
 //! The pace: what is called before each atomic step, by which tests hold a thread at a step.
-use clsm_core::Word;
+use clsm_law::Word;
 
 /// A kind of step.
 #[derive(Clone, Copy, PartialEq, Eq, Debug)]

@@ -1,8 +1,8 @@
-ghost use Rattle.clsm_core.specs.declared.step.Step.{Step};
+ghost use Rattle.clsm_law.specs.declared.step.Step.{Step};
 
 use crate::known::Known;
 use atomic_table::{Join, Play, Split, TableRule};
-use clsm_core::Layout;
+use clsm_law::Layout;
 use std::marker::{Brand, PhantomData};
 
 /// What holds of the words between any two steps.
@@ -23,7 +23,7 @@ pub trait Told {
 }
 
 impl Told for Brand {
-    ghost use Rattle.clsm_core.specs.declared.step.Step.TheVariants.{Pin};
+    ghost use Rattle.clsm_law.specs.declared.step.Step.TheVariants.{Pin};
 
     ghost step = { Pin };
 }

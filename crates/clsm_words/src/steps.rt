@@ -1,11 +1,11 @@
 //! The callers' kinds of step, each behind a call of the pace.
 ghost use Rattle.std.specs.Prelude.{◌≡◌, Some};
-ghost use Rattle.clsm_core.specs.declared.step.Step.TheVariants.{EnterShared, LeaveShared, Draw, Fill, Link, Decide, Cancel, Pin, Unpin, Look, RaiseFront, Note, CloseSnapshot};
+ghost use Rattle.clsm_law.specs.declared.step.Step.TheVariants.{EnterShared, LeaveShared, Draw, Fill, Link, Decide, Cancel, Pin, Unpin, Look, RaiseFront, Note, CloseSnapshot};
 ghost use Rattle.clsm_words.specs.Plays.{MayPlay, Played, Plays, Answers};
 
 use crate::pace::{Kind, Pace};
 use crate::words::{RawSeat, Words};
-use clsm_core::{Answer, End, Part, Word};
+use clsm_law::{Answer, End, Part, Word};
 use clsm_model::{Deed, Time};
 
 /// The words and the pace at which steps on them are made. Each step of `Words` stands here under its own name and contract,
@@ -17,7 +17,8 @@ pub struct Steps<'a, P> {
 }
 
 impl<P: Pace> Steps<'_, P> {
-    /// Enters the lock beside so many other holders.
+    /// Enters the lock beside so many other holders. Answers `Lost` where there were not just so many, or the merger held it: the seat is outside
+    /// then, and its count `busy` moves by one.
     #[inline]
     pub fn enter_shared(&self, seat: &mut RawSeat, holders: u64) -> Answer
         requires { MayPlay self.now.words.now seat.old (EnterShared holders) }
@@ -37,7 +38,7 @@ impl<P: Pace> Steps<'_, P> {
         self.words.leave_shared(seat);
     }
 
-    /// Draws the time, if it is the next.
+    /// Draws the time, if it is the next. Answers `Lost` where it is not: nothing is drawn then, and the seat's count `raced` moves by one.
     #[inline]
     pub fn draw(&self, seat: &mut RawSeat, time: Time) -> Answer
         requires { MayPlay self.now.words.now seat.old (Draw time) }
@@ -58,7 +59,8 @@ impl<P: Pace> Steps<'_, P> {
         self.words.fill(seat, time, part, word);
     }
 
-    /// Links the cell of the drawn time, in which the seat filled this key, where the chain's head is still this word.
+    /// Links the cell of the drawn time, in which the seat filled this key, where the chain's head is still this word. Answers `Lost` where it is
+    /// not: the cell is not linked then, and the seat's count `raced` moves by one.
     #[inline]
     pub fn link(&self, seat: &mut RawSeat, time: Time, key: u64, head: u64) -> Answer
         requires opens { MayPlay self.now.words.now seat.old (Link head) }
@@ -70,7 +72,8 @@ impl<P: Pace> Steps<'_, P> {
         self.words.link(seat, time, key, head)
     }
 
-    /// Decides the drawn time: the deed's write stands, if nobody cancelled the time.
+    /// Decides the drawn time: the deed's write stands and is recorded, if nobody cancelled the time. Answers `Lost` where it was cancelled: nothing
+    /// is recorded then, and the seat's count `overtaken` moves by one. Either way the seat has no drawn time any more.
     #[inline]
     pub fn decide(&self, seat: &mut RawSeat, time: Time, deed: &Deed) -> Answer
         requires { MayPlay self.now.words.now seat.old (Decide time deed.now) }
@@ -80,7 +83,8 @@ impl<P: Pace> Steps<'_, P> {
         self.words.decide(seat, time, deed)
     }
 
-    /// Cancels the time, if it is not decided.
+    /// Cancels the time, if it is not decided. Answers `Lost` where it was decided before, which stands then. A time of the seat's own is given up
+    /// either way, and where another cancelled it the seat's count `overtaken` moves by one.
     #[inline]
     pub fn cancel(&self, seat: &mut RawSeat, time: Time) -> Answer
         requires { MayPlay self.now.words.now seat.old (Cancel time) }

@@ -1,10 +1,10 @@
 //! Threads that write through the step functions.
 ghost use Rattle.std.specs.Prelude.{◌≡◌, None};
-ghost use Rattle.clsm_core.specs.declared.view.Mode.TheVariants.{Free};
+ghost use Rattle.clsm_law.specs.declared.view.Mode.TheVariants.{Free};
 ghost use Rattle.clsm_words.specs.Plays.{IsSeatOf, AreFreshFrom};
 
 use super::*;
-use clsm_core::{Layout, Word};
+use clsm_law::{Layout, Word};
 use clsm_model::{Config, Time};
 use std::process::Abort;
 use std::test::*;
@@ -89,6 +89,24 @@ fn four<R: Threads + Sync>(
     )
 }
 
+/// How many times below the clock came to a write. None where one of them is not decided.
+fn writes_below(words: &Words, merger: &mut RawMerger, clock: Time) -> Option<u64>
+    requires of { IsSeatOf words.now merger.old }
+    ensures of { IsSeatOf words.now merger.new }
+    ensures view { merger.new.knows.merger ≡ merger.old.knows.merger }
+{
+    let mut writes = 0;
+    for time in 0..clock {
+        let cell = words.layout.cell_of(time);
+        match words.look_as_merger(merger, Word::State(cell)) {
+            0 => return None,
+            1 => {}
+            _ => writes += 1,
+        }
+    }
+    Some(writes)
+}
+
 #[test]
 fn four_threads_write(rt: HostRuntime) -> Result<(), Fail> {
     let layout = Layout::new(FOUR_SEATS).expect(&rt, "sizes in their ranges");
@@ -108,7 +126,9 @@ fn four_threads_write(rt: HostRuntime) -> Result<(), Fail> {
     assert!(rt; first != second && first != third && first != fourth);
     assert!(rt; second != third && second != fourth && third != fourth);
     assert_eq!(rt; words.look(&mut a, Word::Lock), 0);
-    assert!(rt; words.look(&mut a, Word::Clock) >= 4);
+    let clock = words.look(&mut a, Word::Clock);
+    assert!(rt; clock >= 4);
+    assert_eq!(rt; writes_below(&words, &mut merger, clock), Some(4));
     assert!(rt; freezing::freeze(&words, &mut merger));
     assert_eq!(rt; words.look(&mut a, Word::Clock), 65_536);
     assert_eq!(rt; words.look(&mut a, Word::Limit), 131_072);

@@ -1,10 +1,10 @@
 ghost use Rattle.std.specs.Prelude.{◌≡◌};
-ghost use Rattle.clsm_core.specs.Layout.{size_of};
+ghost use Rattle.clsm_law.specs.Layout.{size_of};
 
 use crate::known::Known;
 use crate::rule::Law;
 use atomic_table::{Seat, Table};
-use clsm_core::Layout;
+use clsm_law::Layout;
 use std::alloc::Global;
 use std::marker::Model;
 

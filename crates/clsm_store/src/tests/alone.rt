@@ -1,5 +1,6 @@
 //! The calls of one thread.
 use super::*;
+use clsm_model::Change;
 use std::fmt::Display;
 use std::test::*;
 
@@ -93,6 +94,46 @@ fn remove_takes_a_time_with_and_without_a_value(rt: HostRuntime) -> Result<(), F
     assert_eq!(rt; store.get(&mut seat, 7), got(&rt, 2, &[70]));
     assert_eq!(rt; remove(&rt, &store, &mut seat, 7), Ok(2));
     assert_eq!(rt; store.get(&mut seat, 7), got(&rt, 3, &[]));
+    Ok(())
+}
+
+/// Removes a value, and keeps where there is none.
+fn take_away(old: Option<Value>) -> Change {
+    match old {
+        Some(_) => Change::Remove,
+        None => Change::Keep,
+    }
+}
+
+#[test]
+fn rmw_removes_and_keeps(rt: HostRuntime) -> Result<(), Fail> {
+    let Opened {
+        store,
+        mut seats,
+        ..
+    } = opened(&rt, rt.alloc(), FOUR_CELLS);
+    let mut seat = take_seat(&rt, &store, &mut seats);
+    assert_eq!(rt; put(&rt, &store, &mut seat, 7, &[70]), Ok(0));
+    let removed = Rmw {
+        time: 1,
+        old: Value::new(&[70]).ok(),
+        change: Change::Remove,
+    };
+    assert_eq!(rt;
+        store.rmw(&rt, &mut seat, 7, &|old| take_away(old)),
+        Ok(removed)
+    );
+    assert_eq!(rt; store.get(&mut seat, 7), got(&rt, 2, &[]));
+    let kept = Rmw {
+        time: 2,
+        old: None,
+        change: Change::Keep,
+    };
+    assert_eq!(rt;
+        store.rmw(&rt, &mut seat, 7, &|old| take_away(old)),
+        Ok(kept)
+    );
+    assert_eq!(rt; put(&rt, &store, &mut seat, 7, &[71]), Ok(2));
     Ok(())
 }
 

@@ -15,9 +15,7 @@ fn a_freeze_makes_room_for_an_epoch(rt: HostRuntime) -> Result<(), Fail> {
     assert_eq!(rt; put(&rt, &store, &mut seat, 1, &[10]), Ok(0));
     assert_eq!(rt; put(&rt, &store, &mut seat, 2, &[20]), Ok(1));
     assert_eq!(rt; merger.merges(), 0);
-    let Ok(frozen) = merger.freeze(&rt, &store) else {
-        panic!(rt; "worn");
-    };
+    let frozen = freeze(&rt, &store, merger);
     assert_eq!(rt; frozen.merges(), 0);
     assert_eq!(rt; store.get(&mut seat, 1), got(&rt, 4, &[10]));
     assert_eq!(rt; put(&rt, &store, &mut seat, 1, &[11]), Ok(4));

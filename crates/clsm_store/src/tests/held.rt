@@ -1,26 +1,50 @@
 //! Readers are held in a get while the component that they hold is merged and retired.
 ghost use Rattle.std.specs.Prelude.{◌≡◌, IfSome};
-ghost use Rattle.clsm_store.specs.Seats.{AreNew, IsNewMerger};
 
 use super::gate::{ANSWERED, Gate, Gates, HELD, LET_GO, NOBODY, OPEN};
+use super::merging::retire;
 use super::*;
-use clsm_core::Word;
+use clsm_law::Word;
 use clsm_words::Kind;
 use std::test::*;
 use std::thread::{Threads, join};
 
 const KEY: u64 = 1;
 
-/// A store of three seats with these gates.
-fn gated(rt: &impl Abort, alloc: Global, first: Gate, second: Gate) -> Opened<Gates>
-    ensures seats { AreNew result.store 3 result.seats.items }
-    ensures merger { IsNewMerger result.store result.merger }
+/// A store where the key was put, its other two seats, and the merger's token.
+#[derive(Drop)]
+struct Begun {
+    store: Store<Gates>,
+    reader: Seat,
+    third: Seat,
+    merger: Clean,
+}
+
+/// Opens a store of three seats with these gates, and puts the key by the first seat.
+fn begin<R: Abort + Wait>(rt: &R, alloc: Global, first: Gate, second: Gate) -> Begun
+    ensures reader { result.reader.store ≡ result.store }
+    ensures third { result.third.store ≡ result.store }
+    ensures merger { result.merger.store ≡ result.store }
 {
     let config = Config {
         seats: 3,
         ..FOUR_CELLS
     };
-    open_paced(alloc, config, Gates { first, second }).expect(rt, "memory")
+    let Opened {
+        store,
+        mut seats,
+        merger,
+    } = open_paced(alloc, config, Gates { first, second }).expect(rt, "memory");
+    let third = take_seat(rt, &store, &mut seats);
+    let reader = take_seat(rt, &store, &mut seats);
+    let mut writer = take_seat(rt, &store, &mut seats);
+    assert_eq!(rt; put(rt, &store, &mut writer, KEY, &[10]), Ok(0));
+    Begun {
+        store,
+        reader,
+        third,
+        merger,
+    }
 }
 
 /// What tries to reclaim met: the seats that kept the component, and whether it is clean at last.
@@ -29,20 +53,6 @@ struct Met {
     first: Option<u32>,
     second: Option<u32>,
     clean: bool,
-}
-
-/// Freezes the epoch and merges it.
-fn retire<R: Abort + Wait>(rt: &R, store: &Store<Gates>, merger: Clean) -> Retired
-    requires { merger.store ≡ store.now }
-    ensures { result.merger.store ≡ store.now }
-{
-    let Ok(frozen) = merger.freeze(rt, store) else {
-        panic!(rt; "worn");
-    };
-    let Ok(retired) = frozen.merge(store) else {
-        panic!(rt; "run full");
-    };
-    retired
 }
 
 /// The get of a reader that the gate holds.
@@ -69,8 +79,32 @@ fn let_go(gate: &Gate) -> bool {
     held
 }
 
-/// Retires the component that the reader at the first gate holds, tries to reclaim it, lets the reader go, and tries again. Answers the token,
-/// where the component is not clean yet, what the tries met, and whether the reader was held all the while.
+/// Retires the component that the reader at the first gate holds, and tries to reclaim it. Answers the token, where the component is not clean
+/// yet, what the try met, and whether the reader came to its gate.
+fn retire_held<R: Abort + Wait>(
+    rt: &R,
+    store: &Store<Gates>,
+    merger: Clean,
+) -> (Option<Retired>, Met, bool)
+    requires { merger.store ≡ store.now }
+    ensures { IfSome result.0 (λ retired. retired.merger.store ≡ store.now) }
+{
+    let came = store.pace.first.wait_while(NOBODY);
+    let mut met = Met {
+        first: None,
+        second: None,
+        clean: true,
+    };
+    match retire(rt, store, merger).reclaim(store) {
+        Ok(_) => (None, met, came),
+        Err((retired, Pinned(seat))) => {
+            met.first = Some(seat);
+            (Some(retired), met, came)
+        }
+    }
+}
+
+/// The same, and then lets the reader go and tries again. Answers so too, with whether the reader was held all the while.
 fn retire_beside_one<R: Abort + Wait>(
     rt: &R,
     store: &Store<Gates>,
@@ -79,20 +113,11 @@ fn retire_beside_one<R: Abort + Wait>(
     requires { merger.store ≡ store.now }
     ensures { IfSome result.0 (λ retired. retired.merger.store ≡ store.now) }
 {
-    let gate = &store.pace.first;
-    let came = gate.wait_while(NOBODY);
-    let retired = retire(rt, store, merger);
-    let mut met = Met {
-        first: None,
-        second: None,
-        clean: true,
+    let (kept, mut met, came) = retire_held(rt, store, merger);
+    let Some(retired) = kept else {
+        return (None, met, false);
     };
-    let (retired, Pinned(seat)) = match retired.reclaim(store) {
-        Ok(_) => return (None, met, false),
-        Err(kept) => kept,
-    };
-    met.first = Some(seat);
-    let held = let_go(gate);
+    let held = let_go(&store.pace.first);
     match retired.reclaim(store) {
         Ok(_) => (None, met, came && held),
         Err((retired, Pinned(seat))) => {
@@ -136,25 +161,21 @@ fn get_and_retire<R: Abort + Threads + Wait + Sync>(
 fn a_held_reader_keeps_its_component(rt: HostRuntime) -> Result<(), Fail> {
     let gate = Gate::new(1, Kind::Look(Word::Clock), NOBODY);
     let other = Gate::new(2, Kind::Pin, OPEN);
-    let Opened {
+    let Begun {
         store,
-        mut seats,
+        reader,
         merger,
-    } = gated(&rt, rt.alloc(), gate, other);
-    let _third = take_seat(&rt, &store, &mut seats);
-    let reader = take_seat(&rt, &store, &mut seats);
-    let mut writer = take_seat(&rt, &store, &mut seats);
-    assert_eq!(rt; put(&rt, &store, &mut writer, KEY, &[10]), Ok(0));
+        ..
+    } = begin(&rt, rt.alloc(), gate, other);
     let (read, (met, held)) = get_and_retire(&rt, &store, reader, merger);
-    if held {
-        let expected = Met {
-            first: Some(1),
-            second: None,
-            clean: true,
-        };
-        assert_eq!(rt; met, expected);
-        assert_eq!(rt; read, got(&rt, 4, &[10]));
-    }
+    assert!(rt; held, "nobody was held");
+    let expected = Met {
+        first: Some(1),
+        second: None,
+        clean: true,
+    };
+    assert_eq!(rt; met, expected);
+    assert_eq!(rt; read, got(&rt, 4, &[10]));
     Ok(())
 }
 
@@ -225,33 +246,30 @@ fn get_both_and_retire<R: Abort + Threads + Wait + Sync>(
 fn two_held_readers_are_named_one_after_the_other(rt: HostRuntime) -> Result<(), Fail> {
     let first = Gate::new(1, Kind::Look(Word::Clock), NOBODY);
     let second = Gate::new(2, Kind::Look(Word::Clock), NOBODY);
-    let Opened {
+    let Begun {
         store,
-        mut seats,
+        reader,
+        third,
         merger,
-    } = gated(&rt, rt.alloc(), first, second);
-    let third = take_seat(&rt, &store, &mut seats);
-    let reader = take_seat(&rt, &store, &mut seats);
-    let mut writer = take_seat(&rt, &store, &mut seats);
-    assert_eq!(rt; put(&rt, &store, &mut writer, KEY, &[10]), Ok(0));
+    } = begin(&rt, rt.alloc(), first, second);
     let (reads, (met, held)) = get_both_and_retire(&rt, &store, reader, third, merger);
-    if held {
-        let expected = Met {
-            first: Some(1),
-            second: Some(2),
-            clean: true,
-        };
-        assert_eq!(rt; met, expected);
-        assert_eq!(rt; reads, (got(&rt, 4, &[10]), got(&rt, 4, &[10])));
-    }
+    assert!(rt; held, "nobody was held");
+    let expected = Met {
+        first: Some(1),
+        second: Some(2),
+        clean: true,
+    };
+    assert_eq!(rt; met, expected);
+    assert_eq!(rt; reads, (got(&rt, 4, &[10]), got(&rt, 4, &[10])));
     Ok(())
 }
 
-/// A reader gets slowly, and again: it is held in the second get before it pins.
+/// A reader gets slowly, and again: it is held in the second get under its new pin.
 fn get_twice(store: &Store<Gates>, mut seat: Seat) -> (Got, Got)
     requires { seat.store ≡ store.now }
 {
     let first = get_slowly(store, &store.pace.first, &mut seat);
+    store.pace.second.pass(OPEN, NOBODY);
     let second = get_slowly(store, &store.pace.second, &mut seat);
     (first, second)
 }
@@ -261,20 +279,12 @@ fn retire_between<R: Abort + Wait>(rt: &R, store: &Store<Gates>, merger: Clean) 
     requires { merger.store ≡ store.now }
 {
     let Gates { first, second } = &store.pace;
-    let came = first.wait_while(NOBODY);
-    let retired = retire(rt, store, merger);
-    let mut met = Met {
-        first: None,
-        second: None,
-        clean: true,
+    let (kept, mut met, came) = retire_held(rt, store, merger);
+    let Some(retired) = kept else {
+        return (met, false);
     };
-    let (retired, Pinned(seat)) = match retired.reclaim(store) {
-        Ok(_) => return (met, false),
-        Err(kept) => kept,
-    };
-    met.first = Some(seat);
-    second.pass(OPEN, NOBODY);
     let held = let_go(first);
+    second.wait_while(OPEN);
     let again = second.wait_while(NOBODY);
     if let Err((_, Pinned(seat))) = retired.reclaim(store) {
         met.second = Some(seat);
@@ -308,25 +318,21 @@ fn get_twice_and_retire<R: Abort + Threads + Wait + Sync>(
 #[test]
 fn a_reader_that_began_anew_keeps_nothing_retired(rt: HostRuntime) -> Result<(), Fail> {
     let first = Gate::new(1, Kind::Look(Word::Clock), NOBODY);
-    let second = Gate::new(1, Kind::Pin, OPEN);
-    let Opened {
+    let second = Gate::new(1, Kind::Look(Word::Clock), OPEN);
+    let Begun {
         store,
-        mut seats,
+        reader,
         merger,
-    } = gated(&rt, rt.alloc(), first, second);
-    let _third = take_seat(&rt, &store, &mut seats);
-    let reader = take_seat(&rt, &store, &mut seats);
-    let mut writer = take_seat(&rt, &store, &mut seats);
-    assert_eq!(rt; put(&rt, &store, &mut writer, KEY, &[10]), Ok(0));
+        ..
+    } = begin(&rt, rt.alloc(), first, second);
     let (reads, (met, held)) = get_twice_and_retire(&rt, &store, reader, merger);
-    if held {
-        let expected = Met {
-            first: Some(1),
-            second: None,
-            clean: true,
-        };
-        assert_eq!(rt; met, expected);
-        assert_eq!(rt; reads, (got(&rt, 4, &[10]), got(&rt, 4, &[10])));
-    }
+    assert!(rt; held, "nobody was held");
+    let expected = Met {
+        first: Some(1),
+        second: None,
+        clean: true,
+    };
+    assert_eq!(rt; met, expected);
+    assert_eq!(rt; reads, (got(&rt, 4, &[10]), got(&rt, 4, &[10])));
     Ok(())
 }

@@ -84,14 +84,11 @@ fn a_held_writer_holds_up_no_merge(rt: HostRuntime) -> Result<(), Fail> {
     let reader = take_seat(&rt, &store, &mut seats);
     let mut writer = take_seat(&rt, &store, &mut seats);
     assert_eq!(rt; put(&rt, &store, &mut writer, KEY, &[10]), Ok(0));
-    let Ok(frozen) = merger.freeze(&rt, &store) else {
-        panic!(rt; "worn");
-    };
+    let frozen = freeze(&rt, &store, merger);
     store.pace.pass(OPEN, NOBODY);
     let (wrote, (read, held)) = put_and_merge(&rt, &store, writer, reader, frozen);
-    if held {
-        assert_eq!(rt; read, got(&rt, 5, &[10]));
-        assert_eq!(rt; wrote, (Ok(5), got(&rt, 6, &[11])));
-    }
+    assert!(rt; held, "nobody was held");
+    assert_eq!(rt; read, got(&rt, 5, &[10]));
+    assert_eq!(rt; wrote, (Ok(5), got(&rt, 6, &[11])));
     Ok(())
 }

@@ -5,14 +5,15 @@ use super::*;
 use std::test::*;
 
 /// Freezes the epoch and merges it.
-fn retire<P: Pace + Drop, R: Abort + Wait>(rt: &R, store: &Store<P>, merger: Clean) -> Retired
+pub(super) fn retire<P: Pace + Drop, R: Abort + Wait>(
+    rt: &R,
+    store: &Store<P>,
+    merger: Clean,
+) -> Retired
     requires { merger.store ≡ store.now }
     ensures { result.merger.store ≡ store.now }
 {
-    let Ok(frozen) = merger.freeze(rt, store) else {
-        panic!(rt; "worn");
-    };
-    let Ok(retired) = frozen.merge(store) else {
+    let Ok(retired) = freeze(rt, store, merger).merge(store) else {
         panic!(rt; "run full");
     };
     retired
@@ -221,9 +222,7 @@ fn a_full_run_is_refused_with_its_token(rt: HostRuntime) -> Result<(), Fail> {
     } = opened(&rt, rt.alloc(), config);
     let mut seat = take_seat(&rt, &store, &mut seats);
     let clean = write_five(&rt, &store, &mut seat, merger);
-    let Ok(frozen) = clean.freeze(&rt, &store) else {
-        panic!(rt; "worn");
-    };
+    let frozen = freeze(&rt, &store, clean);
     let frozen = is_refused(&rt, &store, frozen);
     assert_eq!(rt; store.get(&mut seat, 5), got(&rt, 16, &[5]));
     assert_eq!(rt; put(&rt, &store, &mut seat, 6, &[6]), Ok(16));

@@ -4,7 +4,7 @@ ghost use Rattle.clsm_store.specs.Seats.{AreNew};
 
 use super::gate::{Gate, HELD, LET_GO, NOBODY, OPEN};
 use super::*;
-use clsm_core::Word;
+use clsm_law::Word;
 use clsm_words::Kind;
 use std::test::*;
 use std::thread::{Threads, join};
@@ -100,8 +100,7 @@ fn gated(rt: &impl Abort, alloc: Global, at: Kind) -> Opened<Gate>
     open_paced(alloc, FOUR_CELLS, gate).expect(rt, "memory")
 }
 
-/// Seat 0 makes its call, and while it is held at such a step seat 1 makes the other; then seat 0 reads these words. The answers are these,
-/// if it was held: on a busy machine its thread may come too late.
+/// Seat 0 makes its call, and while it is held at such a step seat 1 makes the other; then seat 0 reads these words. The answers are these.
 fn check<R: Abort + Threads + Wait + Sync>(
     rt: &R,
     alloc: Global,
@@ -121,11 +120,10 @@ fn check<R: Abort + Threads + Wait + Sync>(
     let (mut first, slow_answer) = one;
     let (quick_answer, held) = other;
     let read = store.get(&mut first, KEY);
-    if held {
-        assert_eq!(rt; slow_answer, slow.1, "held at {at:?}");
-        assert_eq!(rt; quick_answer, quick.1, "beside one held at {at:?}");
-        assert_eq!(rt; read, after, "after one held at {at:?}");
-    }
+    assert!(rt; held, "nobody was held at {at:?}");
+    assert_eq!(rt; slow_answer, slow.1, "held at {at:?}");
+    assert_eq!(rt; quick_answer, quick.1, "beside one held at {at:?}");
+    assert_eq!(rt; read, after, "after one held at {at:?}");
 }
 
 fn put_at(time: Time) -> (Call, Answer) {
@@ -154,17 +152,23 @@ fn second_at(rt: &impl Abort, time: Time) -> Got {
     got(rt, time, &[1])
 }
 
+/// Seat 0 is held after its draw until the put of seat 1 has answered.
 #[test]
-fn a_held_writer_holds_up_no_other(rt: HostRuntime) -> Result<(), Fail> {
-    let decide = Kind::Decide;
+fn writers_overlap(rt: HostRuntime) -> Result<(), Fail> {
     check(
         &rt,
         rt.alloc(),
-        decide,
+        Kind::Decide,
         put_at(0),
         put_at(1),
         second_at(&rt, 2),
     );
+    Ok(())
+}
+
+#[test]
+fn a_held_writer_holds_up_no_other(rt: HostRuntime) -> Result<(), Fail> {
+    let decide = Kind::Decide;
     check(
         &rt,
         rt.alloc(),
@@ -294,11 +298,10 @@ fn check_put<R: Abort + Threads + Wait + Sync>(
     let (mut first, answer) = one;
     let (read, held) = other;
     let again = store.get(&mut first, KEY);
-    if held {
-        assert_eq!(rt; read, Answer::Get(during), "beside one held at {at:?}");
-        assert_eq!(rt; answer, Answer::Put(Ok(time)), "held at {at:?}");
-        assert_eq!(rt; again, after, "after one held at {at:?}");
-    }
+    assert!(rt; held, "nobody was held at {at:?}");
+    assert_eq!(rt; read, Answer::Get(during), "beside one held at {at:?}");
+    assert_eq!(rt; answer, Answer::Put(Ok(time)), "held at {at:?}");
+    assert_eq!(rt; again, after, "after one held at {at:?}");
 }
 
 #[test]

@@ -1,11 +1,11 @@
 //! The merger freezes an epoch.
 ghost use Rattle.std.specs.Prelude.{◌≡◌, true, false};
-ghost use Rattle.clsm_core.specs.Merging.{is_clean, is_frozen};
+ghost use Rattle.clsm_law.specs.Merging.{is_clean, is_frozen};
 ghost use Rattle.clsm_words.specs.Merging.{facts_known};
 ghost use Rattle.clsm_words.specs.Plays.{IsSeatOf};
 
 use super::*;
-use clsm_core::{Answer, Word};
+use clsm_law::{Answer, Word};
 
 /// Cancels the cells of the undrawn times of the first epoch.
 fn pad(words: &Words, merger: &mut RawMerger)

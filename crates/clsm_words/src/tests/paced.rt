@@ -1,12 +1,12 @@
 //! Each paced step tells the pace of its seat and its kind, once.
 ghost use Rattle.std.specs.Prelude.{◌≡◌, false, None};
-ghost use Rattle.clsm_core.specs.declared.view.Mode.TheVariants.{Free};
-ghost use Rattle.clsm_core.specs.declared.view.SnapshotState.TheVariants.{Absent};
+ghost use Rattle.clsm_law.specs.declared.view.Mode.TheVariants.{Free};
+ghost use Rattle.clsm_law.specs.declared.view.SnapshotState.TheVariants.{Absent};
 ghost use Rattle.clsm_words.specs.Plays.{IsSeatOf, IsFresh, AreFreshFrom};
 
 use super::*;
 use crate::Kind::*;
-use clsm_core::{Answer, End, Layout, Part, Word};
+use clsm_law::{Answer, End, Layout, Part, Word};
 use clsm_model::Deed;
 use std::cell::Cell;
 use std::process::Abort;

@@ -1,10 +1,10 @@
 //! A write of one word, each step tried once.
 ghost use Rattle.std.specs.Prelude.{◌≡◌, ◌≢◌, IfSome, IfNone, true, false, map, replicate, [], ◌∷◌, Some, None};
-ghost use Rattle.clsm_core.specs.declared.view.Mode.TheVariants.{Free, Shared};
+ghost use Rattle.clsm_law.specs.declared.view.Mode.TheVariants.{Free, Shared};
 ghost use Rattle.clsm_words.specs.Plays.{IsSeatOf};
 
 use super::*;
-use clsm_core::{Answer, Part, Word};
+use clsm_law::{Answer, Part, Word};
 use clsm_model::{Deed, Time, Value};
 
 /// Tries to hold the lock.

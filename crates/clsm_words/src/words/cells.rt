@@ -1,11 +1,11 @@
 //! The cells of times, the states that deeds leave, and answers.
 ghost use Rattle.std.specs.Prelude.{◌≡◌};
 ghost use Rattle.clsm_model.specs.Right.{write_by};
-ghost use Rattle.clsm_core.specs.Memory.{cell_of, head_of};
-ghost use Rattle.clsm_core.specs.Relation.{state_by, won_if};
+ghost use Rattle.clsm_law.specs.Memory.{cell_of, head_of};
+ghost use Rattle.clsm_law.specs.Relation.{state_by, won_if};
 
 use super::Words;
-use clsm_core::{Answer, Word};
+use clsm_law::{Answer, Word};
 use clsm_model::{Change, Deed, Time};
 
 impl Words {

@@ -7,7 +7,7 @@ use super::{Message, RawSeat, Words};
 use crate::rule::Tells;
 
 impl Words {
-    /// The seat tells of its past and its due.
+    /// Answers a message that tells of the seat's past and its due.
     pub fn tell(&self, from: &mut RawSeat) -> Message
         requires { IsSeatOf self.now from.old }
         ensures seat { from.new ≡ from.old }
@@ -27,7 +27,7 @@ impl Words {
         self.table.shared.join_seat::<Tells>(&mut to.seat, other);
     }
 
-    /// Another seat learns of it. From its next step on its past begins with what it was told, or the other way round.
+    /// The seat learns of the message. From its next step on its past begins with what it was told, or the other way round.
     pub fn learn(&self, to: &mut RawSeat, message: Message)
         requires seat { IsSeatOf self.now to.old }
         requires message { IsMessageOf self.now message }

@@ -1,12 +1,12 @@
 //! One function for each operation of the merger's on a word, told which step it is. The step costs nothing when it runs.
 ghost use Rattle.std.specs.Prelude.{◌≡◌, ℕ, ◌+◌, ◌-◌, ◌%◌, ◌^◌, ◌==◌};
 ghost use prog.Atomic.{either};
-ghost use Rattle.clsm_core.specs.Merging.{changed_by_merger};
+ghost use Rattle.clsm_law.specs.Merging.{changed_by_merger};
 ghost use Rattle.clsm_words.specs.Plays.{IsMergersWord, MayMerge, Merged, Merges};
 
 use super::{RawMerger, Words};
 use crate::rule::{DoesAsMerger, StoresAsMerger, Told};
-use clsm_core::{Step, Word};
+use clsm_law::{Step, Word};
 use std::marker::Brand;
 
 impl Words {

@@ -1,19 +1,19 @@
 //! The merger's steps: its hold of the lock, a freeze, the words of runs, a merge's end, and a reclaim.
 ghost use Rattle.std.specs.Prelude.{◌≡◌};
-ghost use Rattle.clsm_core.specs.Merging.{epoch_end};
-ghost use Rattle.clsm_core.specs.declared.step.Step.TheVariants.{EnterExclusive, LeaveExclusive, Look, Pad, WriteRun, ClearHead, ClearState, Publish, ExtendClock, ExtendLimit};
+ghost use Rattle.clsm_law.specs.Merging.{epoch_end};
+ghost use Rattle.clsm_law.specs.declared.step.Step.TheVariants.{EnterExclusive, LeaveExclusive, Look, Pad, WriteRun, ClearHead, ClearState, Publish, ExtendClock, ExtendLimit};
 ghost use Rattle.clsm_words.specs.Plays.{MayMerge, Merged, Merges, MergerAnswers};
 
 use super::cells::won_if;
 use super::{RawMerger, Words};
-use clsm_core::{Answer, Step, Word};
+use clsm_law::{Answer, Step, Word};
 use clsm_model::Time;
 
 /// What LOCK is while the merger holds it.
 const HELD: u64 = 1 << 32;
 
 impl Words {
-    /// Enters the lock alone, if nobody holds it.
+    /// Enters the lock alone, if nobody holds it. Answers `Lost` where somebody does: the merger is outside then.
     #[inline]
     pub fn enter_exclusive(&self, seat: &mut RawMerger) -> Answer
         requires { MayMerge self.now seat.old EnterExclusive }

@@ -1,11 +1,11 @@
 //! The steps on the seat's own pin and snapshot words.
 ghost use Rattle.std.specs.Prelude.{◌≡◌, ◌+◌, ◌%◌, ◌^◌};
-ghost use Rattle.clsm_core.specs.declared.step.Step.TheVariants.{Pin, Unpin, Note, CloseSnapshot};
+ghost use Rattle.clsm_law.specs.declared.step.Step.TheVariants.{Pin, Unpin, Note, CloseSnapshot};
 ghost use Rattle.clsm_words.specs.Plays.{MayPlay, Plays};
 
 use super::{RawSeat, Words};
 use crate::rule::{Stores, Told};
-use clsm_core::{End, Step, Word};
+use clsm_law::{End, Step, Word};
 use clsm_model::Time;
 use std::marker::Brand;
 

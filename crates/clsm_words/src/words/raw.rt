@@ -1,14 +1,14 @@
 //! One function for each operation on a word, told which step it is. The step costs nothing when it runs.
 ghost use Rattle.std.specs.Prelude.{◌≡◌, ℕ, ◌+◌, ◌-◌, ◌%◌, ◌^◌, ◌<◌, ◌==◌, true, max};
 ghost use prog.Atomic.{either};
-ghost use Rattle.clsm_core.specs.Memory.{is_word};
-ghost use Rattle.clsm_core.specs.Layout.{index_of, size_of};
-ghost use Rattle.clsm_core.specs.Relation.{changed};
+ghost use Rattle.clsm_law.specs.Memory.{is_word};
+ghost use Rattle.clsm_law.specs.Layout.{index_of, size_of};
+ghost use Rattle.clsm_law.specs.Relation.{changed};
 ghost use Rattle.clsm_words.specs.Plays.{IsWordOf, MayPlay, Played, Plays};
 
 use super::{RawSeat, Words};
 use crate::rule::{Does, Stores, Told};
-use clsm_core::{Step, Word};
+use clsm_law::{Step, Word};
 use std::marker::Brand;
 
 impl Words {

@@ -1,14 +1,15 @@
 //! The steps on the lock, the clock and the front, and looks at any word.
-ghost use Rattle.clsm_core.specs.declared.step.Step.TheVariants.{EnterShared, LeaveShared, Draw, Look, RaiseFront};
+ghost use Rattle.clsm_law.specs.declared.step.Step.TheVariants.{EnterShared, LeaveShared, Draw, Look, RaiseFront};
 ghost use Rattle.clsm_words.specs.Plays.{MayPlay, Played, Plays, Answers};
 
 use super::cells::won_if;
 use super::{RawSeat, Words};
-use clsm_core::{Answer, Step, Word};
+use clsm_law::{Answer, Step, Word};
 use clsm_model::Time;
 
 impl Words {
-    /// Enters the lock beside so many other holders.
+    /// Enters the lock beside so many other holders. Answers `Lost` where there were not just so many, or the merger held it: the seat is outside
+    /// then, and its count `busy` moves by one.
     #[inline]
     pub fn enter_shared(&self, seat: &mut RawSeat, holders: u64) -> Answer
         requires { MayPlay self.now seat.old (EnterShared holders) }
@@ -28,7 +29,7 @@ impl Words {
         self.subtract(seat, &Step::LeaveShared, Word::Lock, 1);
     }
 
-    /// Draws the time, if it is the next.
+    /// Draws the time, if it is the next. Answers `Lost` where it is not: nothing is drawn then, and the seat's count `raced` moves by one.
     #[inline]
     pub fn draw(&self, seat: &mut RawSeat, time: Time) -> Answer
         requires { MayPlay self.now seat.old (Draw time) }

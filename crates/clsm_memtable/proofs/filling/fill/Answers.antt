@@ -1,6 +1,6 @@
 use Rattle.std.proofs.Common.{◌∙◌, ap, sym, subst, map, length, List, ℕ, Some, option_copied}
 use Rattle.clsm_model.specs.Value.{padded}
-use Rattle.clsm_core.specs.Relation.{is_all_some}
+use Rattle.clsm_law.specs.Relation.{is_all_some}
 use Rattle.clsm_memtable.specs.Filling.{Fills}
 use Rattle.clsm_memtable.proofs.Places.{all_there}
 use Rattle.clsm_memtable.proofs.filling.fill.Goals as goal

@@ -1,4 +1,4 @@
-use Rattle.clsm_core.specs.declared.word.Part.TheVariants.{Length}
+use Rattle.clsm_law.specs.declared.word.Part.TheVariants.{Length}
 use Rattle.clsm_memtable.proofs.Looking.{looks_at_part, part_told}
 use Rattle.clsm_memtable.proofs.reading.length.Goals as goal
 

@@ -1,7 +1,7 @@
 use Rattle.std.proofs.Common.{◌≡◌, ℕ, List, length, sym, ap, ◌∙◌, arith, subst}
 use Rattle.clsm_model.specs.declared.slot.Slot.{Slot}
-use Rattle.clsm_core.specs.declared.layout.Layout.{Layout}
-use Rattle.clsm_core.specs.Memory.{cell_of}
+use Rattle.clsm_law.specs.declared.layout.Layout.{Layout}
+use Rattle.clsm_law.specs.Memory.{cell_of}
 use Rattle.clsm_memtable.specs.Searching.{IsWalked, better, is_hit}
 use Rattle.clsm_words.proofs.Keeps.{looks_none, looks_trans}
 use Rattle.clsm_memtable.proofs.Chains.{chain_short, first_ahead, its_cell, its_bounds, its_time, chain_goes_on, walked_on}

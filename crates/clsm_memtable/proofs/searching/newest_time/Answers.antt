@@ -1,5 +1,5 @@
 use Rattle.std.proofs.Common.{◌%◌, ℕ, sym, ap, refl, ◌∙◌, subst}
-use Rattle.clsm_core.specs.declared.layout.Layout.{Layout}
+use Rattle.clsm_law.specs.declared.layout.Layout.{Layout}
 use Rattle.clsm_words.specs.Knowing.{IsTrail}
 use Rattle.clsm_words.proofs.Keeps.{looks_trans}
 use Rattle.clsm_memtable.proofs.Looking.{looks_at_head}

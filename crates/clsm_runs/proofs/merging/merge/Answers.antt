@@ -4,10 +4,10 @@ use Rattle.clsm_levels.specs.declared.entry.Entry.{Entry}
 use Rattle.clsm_levels.specs.Cursors.{HeadsOf, rests}
 use Rattle.clsm_levels.specs.Merge.{is_to_level_one, kept, merged}
 use Rattle.clsm_levels.specs.Run.{all_of}
-use Rattle.clsm_core.specs.declared.layout.Layout.{Layout}
-use Rattle.clsm_core.specs.declared.merger.MergerView.{MergerView}
-use Rattle.clsm_core.specs.Memory.{room_of}
-use Rattle.clsm_core.specs.Merging.{target_of}
+use Rattle.clsm_law.specs.declared.layout.Layout.{Layout}
+use Rattle.clsm_law.specs.declared.merger.MergerView.{MergerView}
+use Rattle.clsm_law.specs.Memory.{room_of}
+use Rattle.clsm_law.specs.Merging.{target_of}
 use Rattle.clsm_runs.specs.declared.merging.RunFull.{RunFull}
 use Rattle.clsm_words.specs.Changing.{Changes, NoWord}
 use Rattle.clsm_runs.specs.Placing.{IsOfPlace, rows_of}

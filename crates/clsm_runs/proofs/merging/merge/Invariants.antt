@@ -1,7 +1,7 @@
 use Rattle.std.proofs.Common.{◌≡◌, length}
 use Rattle.clsm_levels.specs.Cursors.{HeadsOf, rests}
 use Rattle.clsm_levels.specs.Merge.{merged}
-use Rattle.clsm_core.specs.Merging.{target_of}
+use Rattle.clsm_law.specs.Merging.{target_of}
 use Rattle.clsm_words.specs.Plays.{IsSeatOf}
 use Rattle.clsm_runs.specs.Outputs.{IsOutput, LeavesOff, kept_of}
 use Rattle.clsm_words.specs.Changing.{Changes}

@@ -1,5 +1,5 @@
 use Rattle.std.proofs.Common.{◌≡◌, length, take}
-use Rattle.clsm_core.specs.Places.{value_words}
+use Rattle.clsm_law.specs.Places.{value_words}
 use Rattle.clsm_words.specs.Knowing.{row_of}
 use Rattle.clsm_words.specs.Keeping.{LooksAside}
 use Rattle.clsm_words.specs.Plays.{IsSeatOf}

@@ -1,8 +1,8 @@
 use Rattle.std.proofs.Common.{◌≡◌, ◌+◌, ℕ, refl, sym, ap, ◌∙◌, arith, Some}
 use Rattle.clsm_levels.specs.declared.entry.Entry.{Entry}
-use Rattle.clsm_core.specs.declared.word.Word.TheVariants.{Count, Entry as EntryWord}
-use Rattle.clsm_core.specs.Places.{entry_in}
-use Rattle.clsm_core.proofs.KeptRuns.{entry_same}
+use Rattle.clsm_law.specs.declared.word.Word.TheVariants.{Count, Entry as EntryWord}
+use Rattle.clsm_law.specs.Places.{entry_in}
+use Rattle.clsm_law.proofs.KeptRuns.{entry_same}
 use Rattle.clsm_words.specs.Knowing.{row_of}
 use Rattle.clsm_words.proofs.Changing.{found_left, looks_only}
 use Rattle.clsm_runs.proofs.MergeRows.{first_past, first_there}

@@ -1,5 +1,5 @@
 use Rattle.std.proofs.Common.{◌+◌, ◌-◌, ◌/◌, ◌%◌, Some, None, arith}
-use Rattle.clsm_core.specs.Worlds.{runs_of}
+use Rattle.clsm_law.specs.Worlds.{runs_of}
 use Rattle.clsm_words.specs.Knowing.{row_of}
 use Rattle.clsm_words.proofs.Keeps.{aside_trans}
 use Rattle.clsm_runs.specs.Searching.{IsSearchable}

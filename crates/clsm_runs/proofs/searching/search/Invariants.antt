@@ -1,6 +1,6 @@
 use Rattle.std.proofs.Common.{◌≡◌, ◌≤◌, ◌%◌}
 use Rattle.clsm_levels.specs.Run.{first_in_runs}
-use Rattle.clsm_core.specs.Worlds.{runs_of}
+use Rattle.clsm_law.specs.Worlds.{runs_of}
 use Rattle.clsm_words.specs.Knowing.{row_of}
 use Rattle.clsm_words.specs.Keeping.{LooksAside}
 use Rattle.clsm_words.specs.Plays.{IsSeatOf}

@@ -1,5 +1,5 @@
 use Rattle.std.proofs.Common.{◌+◌, ◌∙◌, arith, length-set}
-use Rattle.clsm_core.specs.declared.word.Word.TheVariants.{Entry as EntryWord}
+use Rattle.clsm_law.specs.declared.word.Word.TheVariants.{Entry as EntryWord}
 use Rattle.clsm_words.specs.Knowing.{row_of}
 use Rattle.clsm_words.specs.Changing.{NoWord}
 use Rattle.clsm_words.proofs.Changing.{changes_trans}

@@ -1,6 +1,6 @@
 use Rattle.std.proofs.Common.{◌*◌, ◌≤◌, sym, subst}
 use Rattle.std.proofs.lemmas.Bool.{ltb-true}
-use Rattle.clsm_core.specs.declared.layout.Layout.{Layout}
+use Rattle.clsm_law.specs.declared.layout.Layout.{Layout}
 use Rattle.clsm_store.proofs.Unchanged.{unchanged_found, unchanged_none}
 use Rattle.clsm_store.proofs.changing.is_unchanged.Goals as goal
 

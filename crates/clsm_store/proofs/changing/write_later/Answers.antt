@@ -1,6 +1,6 @@
 use Rattle.std.proofs.Common.{sym, ◌∙◌, arith, subst, refl}
 use Rattle.clsm_model.specs.History.{plain}
-use Rattle.clsm_core.specs.Relation.{IsReadBelow}
+use Rattle.clsm_law.specs.Relation.{IsReadBelow}
 use Rattle.clsm_store.proofs.Unchanged.{value_later}
 use Rattle.clsm_store.proofs.changing.write_later.Goals as goal
 

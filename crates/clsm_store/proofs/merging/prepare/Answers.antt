@@ -3,8 +3,8 @@ use Rattle.clsm_levels.specs.declared.entry.Entry.{Entry}
 use Rattle.clsm_levels.specs.Entry.{TimesFall, entries_of}
 use Rattle.clsm_levels.specs.Merge.{merged}
 use Rattle.clsm_levels.proofs.Histories.{entries_fall}
-use Rattle.clsm_core.specs.declared.layout.Layout.{Layout}
-use Rattle.clsm_core.specs.declared.merger.MergerView.{MergerView}
+use Rattle.clsm_law.specs.declared.layout.Layout.{Layout}
+use Rattle.clsm_law.specs.declared.merger.MergerView.{MergerView}
 use Rattle.clsm_words.proofs.Keeps.{prefix_trans}
 use Rattle.clsm_store.specs.Merging.{epoch_known}
 use Rattle.clsm_store.proofs.Prepared.{epoch_is, epoch_stays, runs_stay, same_frozen, still_frozen}

@@ -1,6 +1,6 @@
 use Rattle.std.proofs.Common.{arith, ap, sym, ◌∙◌}
-use Rattle.clsm_core.specs.declared.layout.Layout.{Layout}
-use Rattle.clsm_core.specs.Merging.{retired_region}
+use Rattle.clsm_law.specs.declared.layout.Layout.{Layout}
+use Rattle.clsm_law.specs.Merging.{retired_region}
 use Rattle.clsm_store.proofs.Quiet.{headless_if}
 use Rattle.clsm_store.proofs.reclaiming.clear_heads.Goals as goal
 

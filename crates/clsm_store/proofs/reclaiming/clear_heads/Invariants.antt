@@ -1,5 +1,5 @@
 use Rattle.std.proofs.Common.{◌≡◌, ℕ, ◌<◌}
-use Rattle.clsm_core.specs.declared.word.Word.TheVariants.{Head}
+use Rattle.clsm_law.specs.declared.word.Word.TheVariants.{Head}
 use Rattle.clsm_words.specs.Knowing.{row_of}
 use Rattle.clsm_words.specs.Plays.{IsSeatOf}
 use Rattle.clsm_store.proofs.reclaiming.clear_heads.Given as goal

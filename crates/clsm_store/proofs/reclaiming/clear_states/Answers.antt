@@ -2,9 +2,9 @@ use Rattle.std.proofs.Common.{◌≡◌, ◌≢◌, ◌∙◌, ℕ, ◌<◌, ◌
 use Rattle.std.proofs.lemmas.Bool.{cases_lt}
 use mathlib.Core.Logic.{dite}
 use native.Mathlib.Decide.{ℕ_discrete}
-use Rattle.clsm_core.specs.declared.merger.MergerView.{MergerView}
-use Rattle.clsm_core.specs.declared.merger.Phase.TheVariants.{Clean}
-use Rattle.clsm_core.specs.declared.word.Word.TheVariants.{State}
+use Rattle.clsm_law.specs.declared.merger.MergerView.{MergerView}
+use Rattle.clsm_law.specs.declared.merger.Phase.TheVariants.{Clean}
+use Rattle.clsm_law.specs.declared.word.Word.TheVariants.{State}
 use Rattle.clsm_words.specs.Knowing.{row_of}
 use Rattle.clsm_words.specs.Merging.{facts_known}
 use Rattle.clsm_store.proofs.Cleaning.{cleared_cleaning, cleared_here, cleared_last, cleared_states, cleared_view, is_the_last, not_last}

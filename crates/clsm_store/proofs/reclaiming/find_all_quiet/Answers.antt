@@ -1,5 +1,5 @@
 use Rattle.std.proofs.Common.{length, arith, ap, List}
-use Rattle.clsm_core.specs.declared.merger.Retiree.{Retiree}
+use Rattle.clsm_law.specs.declared.merger.Retiree.{Retiree}
 use Rattle.clsm_store.proofs.Quiet.{all_quiet_if}
 use Rattle.clsm_store.proofs.reclaiming.find_all_quiet.Goals as goal
 

@@ -1,5 +1,5 @@
 use Rattle.std.proofs.Common.{◌≡◌, true, ℕ, ◌<◌, ◌≤◌}
-use Rattle.clsm_core.specs.Merging.{retiree_at}
+use Rattle.clsm_law.specs.Merging.{retiree_at}
 use Rattle.clsm_words.specs.Plays.{IsSeatOf}
 use Rattle.clsm_store.specs.Reclaiming.{KeepsRetired}
 use Rattle.clsm_store.proofs.reclaiming.find_all_quiet.Given as goal

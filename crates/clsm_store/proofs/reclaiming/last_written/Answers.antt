@@ -1,7 +1,7 @@
 use Rattle.std.proofs.Common.{◌≡◌, ◌∙◌, ℕ, ◌-◌, ◌<◌, ◌≤◌, sym, ap, arith}
 use mathlib.Core.Logic.{dite}
 use native.Mathlib.Decide.{ℕ_discrete}
-use Rattle.clsm_core.specs.declared.word.Word.TheVariants.{State}
+use Rattle.clsm_law.specs.declared.word.Word.TheVariants.{State}
 use Rattle.clsm_words.specs.Knowing.{row_of}
 use Rattle.clsm_store.proofs.Cleaning.{looked_cleaning, looked_found, looked_states}
 use Rattle.clsm_store.proofs.reclaiming.last_written.Goals as goal

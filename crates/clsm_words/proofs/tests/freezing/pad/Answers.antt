@@ -1,9 +1,9 @@
 use Rattle.std.proofs.Common.{◌≡◌, ℕ, ◌+◌, ◌-◌, ◌*◌, ◌<◌, ◌≤◌, ◌==◌, eq-eqb, ap, sym, ◌∙◌, arith}
-use Rattle.clsm_core.specs.declared.layout.Layout.{Layout}
-use Rattle.clsm_core.specs.declared.word.Word.TheVariants.{Clock, State}
-use Rattle.clsm_core.specs.Memory.{cell_of}
-use Rattle.clsm_core.specs.Merging.{epoch_end}
-use Rattle.clsm_core.proofs.Passes.{passes_if}
+use Rattle.clsm_law.specs.declared.layout.Layout.{Layout}
+use Rattle.clsm_law.specs.declared.word.Word.TheVariants.{Clock, State}
+use Rattle.clsm_law.specs.Memory.{cell_of}
+use Rattle.clsm_law.specs.Merging.{epoch_end}
+use Rattle.clsm_law.proofs.Passes.{passes_if}
 use Rattle.clsm_words.specs.declared.known.Known.{Known}
 use Rattle.clsm_words.specs.Knowing.{row_of}
 use Rattle.clsm_words.proofs.tests.freezing.pad.Goals as goal

@@ -1,6 +1,6 @@
 use Rattle.std.proofs.Common.{◌≡◌, true, ℕ, ◌<◌, ◌≤◌}
-use Rattle.clsm_core.specs.declared.word.Word.TheVariants.{Clock, State}
-use Rattle.clsm_core.specs.Memory.{cell_of}
+use Rattle.clsm_law.specs.declared.word.Word.TheVariants.{Clock, State}
+use Rattle.clsm_law.specs.Memory.{cell_of}
 use Rattle.clsm_words.specs.Knowing.{row_of}
 use Rattle.clsm_words.specs.Plays.{IsSeatOf}
 use Rattle.clsm_words.proofs.tests.freezing.pad.Given as goal

@@ -1,8 +1,8 @@
 use Rattle.std.proofs.Common.{◌≡◌, true, ◌∙◌, ap, sym, subst}
-use Rattle.clsm_core.specs.declared.layout.Layout.{Layout}
-use Rattle.clsm_core.specs.declared.word.Word.{Word}
-use Rattle.clsm_core.specs.Memory.{is_word, head_of}
-use Rattle.clsm_core.specs.Relation.{IsLookable}
+use Rattle.clsm_law.specs.declared.layout.Layout.{Layout}
+use Rattle.clsm_law.specs.declared.word.Word.{Word}
+use Rattle.clsm_law.specs.Memory.{is_word, head_of}
+use Rattle.clsm_law.specs.Relation.{IsLookable}
 use Rattle.clsm_words.proofs.Heads.{head_there, head_lookable}
 use Rattle.clsm_words.proofs.tests.writing.link.Goals as goal
 

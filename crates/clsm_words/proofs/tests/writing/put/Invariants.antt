@@ -1,5 +1,5 @@
 use Rattle.std.proofs.Common.{◌≡◌, None}
-use Rattle.clsm_core.specs.declared.view.Mode.TheVariants.{Free}
+use Rattle.clsm_law.specs.declared.view.Mode.TheVariants.{Free}
 use Rattle.clsm_words.specs.Plays.{IsSeatOf}
 use Rattle.clsm_words.proofs.tests.writing.put.Given as goal
 

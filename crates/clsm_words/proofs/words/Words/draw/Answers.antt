@@ -1,5 +1,5 @@
 use Rattle.std.proofs.Common.{arith}
-use Rattle.clsm_core.specs.declared.step.Step.TheVariants.{Draw}
+use Rattle.clsm_law.specs.declared.step.Step.TheVariants.{Draw}
 use Rattle.clsm_words.proofs.words.Words.draw.Goals as goal
 
 pub overflow_add-time : goal.overflow_add-time

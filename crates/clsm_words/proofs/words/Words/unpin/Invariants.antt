@@ -1,4 +1,4 @@
-use Rattle.clsm_core.specs.declared.step.Step.TheVariants.{Unpin}
+use Rattle.clsm_law.specs.declared.step.Step.TheVariants.{Unpin}
 use Rattle.clsm_words.proofs.words.Words.unpin.Given as goal
 
 abbrev pub ghosts-unpin_told : goal.ghosts-unpin_told

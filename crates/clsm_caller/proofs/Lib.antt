@@ -1,0 +1,5 @@
+pub mod SeatRows
+pub mod SeatRanges
+pub mod SeatPages
+pub mod SeatRights
+pub mod SeatWords

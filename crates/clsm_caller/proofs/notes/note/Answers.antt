@@ -1,0 +1,26 @@
+-- What each kind of step notes holds in every layout, at every seat, and whatever was found, where the view takes none of these in.
+use Rattle.clsm_caller.proofs.notes.note.Goals as goal
+
+pub returns-in_ok-note_entry-in-EnterShared : goal.returns-in_ok-note_entry-in-EnterShared
+returns-in_ok-note_entry-in-EnterShared c = rw c.in-EnterShared.is (c.in_ok-note_entry-in-EnterShared.ensures c.args.seat)
+
+pub returns-in_ok-note_leaving-in-LeaveShared : goal.returns-in_ok-note_leaving-in-LeaveShared
+returns-in_ok-note_leaving-in-LeaveShared c = rw c.in-LeaveShared.is (c.in_ok-note_leaving-in-LeaveShared.ensures c.args.seat c.args.found)
+
+pub returns-in_ok-note_draw-in-Draw : goal.returns-in_ok-note_draw-in-Draw
+returns-in_ok-note_draw-in-Draw c = rw c.in-Draw.is (c.in_ok-note_draw-in-Draw.ensures c.args.layout.now c.args.seat)
+
+pub returns-in-Link : goal.returns-in-Link
+returns-in-Link c = rw c.in-Link.is (c.note_link.ensures c.args.seat)
+
+pub returns-in-Cancel : goal.returns-in-Cancel
+returns-in-Cancel c = rw c.in-Cancel.is (c.note_cancel.ensures c.args.seat)
+
+pub returns-in-Pin : goal.returns-in-Pin
+returns-in-Pin c = rw c.in-Pin.is (c.note_pin.ensures c.args.layout.now c.args.seat c.args.found)
+
+pub returns-in_ok-note_end-in-Unpin : goal.returns-in_ok-note_end-in-Unpin
+returns-in_ok-note_end-in-Unpin c = rw c.in-Unpin.is (c.in_ok-note_end-in-Unpin.ensures c.args.layout.now c.args.found)
+
+pub returns-in_ok-note_close-in-CloseSnapshot : goal.returns-in_ok-note_close-in-CloseSnapshot
+returns-in_ok-note_close-in-CloseSnapshot c = rw c.in-CloseSnapshot.is (c.in_ok-note_close-in-CloseSnapshot.ensures c.args.layout.now c.args.found)

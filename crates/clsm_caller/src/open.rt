@@ -1,0 +1,96 @@
+ghost use Rattle.std.specs.Prelude.{◌≡◌, ◌≢◌, ◌↔◌, IsTrue, ℕ};
+ghost use Rattle.clsm_model.specs.History.{History};
+ghost use Rattle.clsm_law.specs.declared.layout.Layout.{Layout};
+ghost use Rattle.clsm_law.specs.declared.step.Step.{Step};
+ghost use Rattle.clsm_law.specs.Relation.{IsOpen, is_all_some};
+ghost use Rattle.clsm_law.specs.Worlds.{past_of};
+
+use crate::drawn::{fresh_head, is_all_some, says_write};
+use crate::ends::{is_ending, is_read_below};
+use crate::reaches::is_below;
+use crate::visits::{holds_from, is_lookable};
+use crate::words::write_by;
+use clsm_law::{Layout, Mode, Part, SnapshotState, Step, View, Word};
+use clsm_model::{Deed, Slot, Time};
+
+fn may_enter(view: &View, holders: u64) -> bool
+    ensures { (z : Layout) (h : History) → IsTrue result ↔ IsOpen z h view.now (Step.EnterShared holders) }
+{
+    view.mode == Mode::Free && view.fresh_lock == Some(holders) && holders < 1 << 32
+}
+
+fn may_draw(view: &View, time: Time) -> bool
+    ensures { (z : Layout) (h : History) → IsTrue result ↔ IsOpen z h view.now (Step.Draw time) }
+{
+    view.mode == Mode::Shared
+        && view.drawn.is_none()
+        && view.fresh_clock == Some(time)
+        && is_below(time, view.hold_limit)
+}
+
+/// Whether a cell has the part, and the drawn one is not linked.
+fn may_fill(layout: &Layout, view: &View, part: Part) -> bool
+    ensures { (h : History) (w : ℕ) → IsTrue result ↔ IsOpen layout.now h view.now (Step.Fill part w) }
+{
+    view.drawn.is_some() && !view.linked && layout.is_word(Word::Cell { cell: 0, part })
+}
+
+/// Whether each part of the drawn cell is filled.
+fn is_filled(view: &View) -> bool
+    ensures { IsTrue result ↔ ((view.now.key ≢ None) × (view.now.length ≢ None) × IsTrue (is_all_some view.now.words)) }
+{
+    view.key.is_some() && view.length.is_some() && is_all_some(view.words.as_slice())
+}
+
+fn may_link(layout: &Layout, view: &View, head: u64) -> bool
+    ensures { (h : History) → IsTrue result ↔ IsOpen layout.now h view.now (Step.Link head) }
+{
+    view.drawn.is_some()
+        && !view.linked
+        && is_filled(view)
+        && view.next == Some(head)
+        && fresh_head(layout, view) == Some(head)
+}
+
+fn may_decide(slots: &[Option<Slot>], view: &View, time: Time, deed: &Deed) -> bool
+    ensures { (z : Layout) → IsTrue result ↔ IsOpen z (past_of slots.now view.now.past) view.now (Step.Decide time deed.now) }
+{
+    view.drawn == Some(time)
+        && view.linked
+        && says_write(view, write_by(0, deed))
+        && is_read_below(slots, view, time, deed)
+}
+
+fn may_cancel(layout: &Layout, view: &View, time: Time) -> bool
+    ensures { (h : History) → IsTrue result ↔ IsOpen layout.now h view.now (Step.Cancel time) }
+{
+    view.drawn == Some(time) || holds_from(layout, view.held, time) && is_below(time, view.clock)
+}
+
+fn may_note(view: &View, time: Time) -> bool
+    ensures { (z : Layout) (h : History) → IsTrue result ↔ IsOpen z h view.now (Step.Note time) }
+{
+    view.snapshot == SnapshotState::Absent && view.pinned && view.pin_clock == Some(time)
+}
+
+/// Whether the seat with this view may make the step, in a world of these slots.
+pub fn is_open(layout: &Layout, slots: &[Option<Slot>], view: &View, step: &Step) -> bool
+    ensures { IsTrue result ↔ IsOpen layout.now (past_of slots.now view.now.past) view.now step.now }
+{
+    match step {
+        Step::EnterShared(holders) => may_enter(view, *holders),
+        Step::LeaveShared => view.mode == Mode::Shared && view.drawn.is_none(),
+        Step::Draw(time) => may_draw(view, *time),
+        Step::Fill(part, _) => may_fill(layout, view, *part),
+        Step::Link(head) => may_link(layout, view, *head),
+        Step::Decide(time, deed) => may_decide(slots, view, *time, deed),
+        Step::Cancel(time) => may_cancel(layout, view, *time),
+        Step::Pin => !view.pinned,
+        Step::Unpin(end) => view.pinned && is_ending(slots, view, end),
+        Step::Look(word) => layout.is_word(*word) && is_lookable(layout, view, *word),
+        Step::RaiseFront(time) => *time <= view.reached,
+        Step::Note(time) => may_note(view, *time),
+        Step::CloseSnapshot => matches!(view.snapshot, SnapshotState::Open { .. }),
+        _ => false,
+    }
+}

@@ -1,0 +1,62 @@
+ghost use Rattle.std.specs.Prelude.{◌↔◌, IsTrue, length};
+ghost use Rattle.clsm_law.specs.SeatReads.{IsNextKey, IsPageOf, IsRangeBelow};
+ghost use Rattle.clsm_law.specs.Worlds.{history_of};
+
+use crate::ranges::{is_range, value_of};
+use clsm_model::{Slot, Value};
+
+/// Whether the rows are all keys from `lo` on, below `hi`, that have a value after the slots, by rising key.
+fn is_range_below(seen: &[Option<Slot>], lo: u64, hi: u64, rows: &[(u64, Value)]) -> bool
+    ensures { IsTrue result ↔ IsRangeBelow (history_of seen.now) (length seen.now) lo hi rows.now }
+{
+    if hi == 0 {
+        return rows.is_empty();
+    }
+    is_range(seen, lo, hi - 1, rows)
+}
+
+/// Whether the rows are the last of the pairs from `from` to `hi` after the slots, at most `max` of them.
+fn is_last_page(seen: &[Option<Slot>], from: u64, hi: u64, max: u64, rows: &[(u64, Value)]) -> bool
+    ensures { IsTrue result ↔ IsPageOf (history_of seen.now) (length seen.now) from hi max rows.now None }
+{
+    rows.len() as u64 <= max && is_range(seen, from, hi, rows)
+}
+
+fn is_next_key(seen: &[Option<Slot>], from: u64, hi: u64, key: u64) -> bool
+    ensures { IsTrue result ↔ IsNextKey (history_of seen.now) (length seen.now) from hi key }
+{
+    from <= key && key <= hi && value_of(seen, key).is_some()
+}
+
+/// Whether they are the first `max` of those pairs, and the next one's key is `next`.
+fn is_page_before(
+    seen: &[Option<Slot>],
+    from: u64,
+    hi: u64,
+    max: u64,
+    rows: &[(u64, Value)],
+    next: u64,
+) -> bool
+    ensures { IsTrue result ↔ IsPageOf (history_of seen.now) (length seen.now) from hi max rows.now (Some next) }
+{
+    rows.len() as u64 == max
+        && is_next_key(seen, from, hi, next)
+        && is_range_below(seen, from, next, rows)
+}
+
+/// Whether the rows are the first `max` pairs with keys from `from` to `hi` after the slots, and `more` the key of the next one.
+pub(crate) fn is_page(
+    seen: &[Option<Slot>],
+    from: u64,
+    hi: u64,
+    max: u64,
+    rows: &[(u64, Value)],
+    more: Option<u64>,
+) -> bool
+    ensures { IsTrue result ↔ IsPageOf (history_of seen.now) (length seen.now) from hi max rows.now more }
+{
+    match more {
+        None => is_last_page(seen, from, hi, max, rows),
+        Some(next) => is_page_before(seen, from, hi, max, rows, next),
+    }
+}

@@ -1,0 +1,37 @@
+ghost use Rattle.std.specs.Prelude.{◌↔◌, IsTrue, length};
+ghost use Rattle.clsm_model.specs.Right.{IsRight, Reads};
+ghost use Rattle.clsm_law.specs.Worlds.{history_of, past_of};
+
+use crate::pages::is_page;
+use crate::ranges::{is_range, is_value};
+use clsm_model::{Deed, Slot, Time};
+
+/// Whether what the deed read, if it read, is what the slots give.
+fn reads(seen: &[Option<Slot>], deed: &Deed) -> bool
+    ensures { IsTrue result ↔ Reads (history_of seen.now) (length seen.now) deed.now }
+{
+    match deed {
+        Deed::Rmw { key, old, .. } => is_value(seen, *key, *old),
+        Deed::Get { key, reply } => is_value(seen, *key, *reply),
+        Deed::GetAt { key, reply } => is_value(seen, *key, *reply),
+        Deed::Scan { lo, hi, rows } => is_range(seen, *lo, *hi, rows.as_slice()),
+        Deed::Page {
+            from,
+            hi,
+            max,
+            rows,
+            more,
+        } => is_page(seen, *from, *hi, *max, rows.as_slice(), *more),
+        _ => true,
+    }
+}
+
+/// Whether the deed stands at a time of the past, and what it read is what the slots below that time give.
+pub(crate) fn is_right(slots: &[Option<Slot>], past: Time, time: Time, deed: &Deed) -> bool
+    ensures { IsTrue result ↔ IsRight (past_of slots.now past) time deed.now }
+{
+    if time > past || time > slots.len() as u64 {
+        return false;
+    }
+    reads(&slots[..time as usize], deed)
+}

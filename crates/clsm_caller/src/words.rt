@@ -1,0 +1,108 @@
+ghost use Rattle.std.specs.Prelude.{◌≡◌};
+ghost use Rattle.clsm_model.specs.Right.{write_by};
+ghost use Rattle.clsm_law.specs.Memory.{head_of};
+ghost use Rattle.clsm_law.specs.SeatBounds.{IsSmall};
+ghost use Rattle.clsm_law.specs.Relation.{changed, or_zero, own_time, own_line, state_by, next_word, word_of};
+
+use clsm_law::{Layout, Step, View, Word};
+use clsm_model::{Change, Deed, Slot, Time};
+
+/// The number, or 0.
+pub(crate) fn or_zero(number: Option<u64>) -> u64
+    ensures { result ≡ or_zero number }
+{
+    number.unwrap_or(0)
+}
+
+/// The place of the head of the drawn cell's chain among the fresh heads.
+pub(crate) fn own_line(layout: &Layout, view: &View) -> usize
+    ensures { result ≡ own_line layout.now view.now }
+{
+    let shard = or_zero(view.key) % layout.shards;
+    let region = layout.region_of(layout.cell_of(or_zero(view.drawn)));
+    (2 * shard + region) as usize
+}
+
+fn head_of(layout: &Layout, time: Time, key: u64) -> Word
+    ensures { result ≡ head_of layout.now time key }
+{
+    Word::Head {
+        region: layout.region_of(layout.cell_of(time)),
+        shard: key % layout.shards,
+    }
+}
+
+/// The word that the step of this seat is on.
+pub fn word_of(layout: &Layout, seat: u32, view: &View, step: &Step) -> Word
+    ensures { result ≡ word_of layout.now seat view.now step.now }
+{
+    match step {
+        Step::Draw(_) => Word::Clock,
+        Step::Fill(part, _) => Word::Cell {
+            cell: layout.cell_of(or_zero(view.drawn)),
+            part: *part,
+        },
+        Step::Link(_) => head_of(layout, or_zero(view.drawn), or_zero(view.key)),
+        Step::Decide(time, _) => Word::State(layout.cell_of(*time)),
+        Step::Cancel(time) => Word::State(layout.cell_of(*time)),
+        Step::Pin | Step::Unpin(_) => Word::Pin(u64::from(seat)),
+        Step::Look(word) => *word,
+        Step::RaiseFront(_) => Word::Front,
+        Step::Note(_) | Step::CloseSnapshot => Word::Snap(u64::from(seat)),
+        _ => Word::Lock,
+    }
+}
+
+/// The write that the deed is, where the seat does it.
+pub(crate) fn write_by(seat: u32, deed: &Deed) -> Option<Slot>
+    ensures { result ≡ write_by seat deed.now }
+{
+    let (key, value) = match deed {
+        Deed::Put { key, value } => (*key, Some(*value)),
+        Deed::Remove { key } => (*key, None),
+        Deed::Rmw {
+            key,
+            change: Change::Set(value),
+            ..
+        } => (*key, Some(*value)),
+        Deed::Rmw {
+            key,
+            change: Change::Remove,
+            ..
+        } => (*key, None),
+        _ => return None,
+    };
+    Some(Slot::Wrote { seat, key, value })
+}
+
+/// The number of the state that the write leaves in its cell.
+fn state_by(write: Option<Slot>) -> u64
+    ensures { result ≡ state_by write }
+{
+    match write {
+        Some(Slot::Wrote { value: Some(_), .. }) => 2,
+        Some(Slot::Wrote { value: None, .. }) => 3,
+        _ => 0,
+    }
+}
+
+/// What the step makes of the word that it finds.
+pub fn changed(layout: &Layout, view: &View, step: &Step, found: u64) -> u64
+    requires { IsSmall layout.now step.now found }
+    ensures { result ≡ changed layout.now view.now step.now found }
+{
+    match step {
+        Step::EnterShared(lock) if found == *lock => *lock + 1,
+        Step::LeaveShared => found.wrapping_sub(1),
+        Step::Draw(time) if found == *time => *time + 1,
+        Step::Fill(_, word) => *word,
+        Step::Link(head) if found == *head => layout.cell_of(or_zero(view.drawn)) + 1,
+        Step::Decide(_, deed) if found == 0 => state_by(write_by(0, deed)),
+        Step::Cancel(_) if found == 0 => 1,
+        Step::Pin | Step::Unpin(_) => view.pin.wrapping_add(1),
+        Step::RaiseFront(time) => found.max(*time),
+        Step::Note(time) => *time + 1,
+        Step::CloseSnapshot => 0,
+        _ => found,
+    }
+}

@@ -1,0 +1,149 @@
+ghost use Rattle.std.specs.Prelude.{◌≡◌, ◌+◌, ◌<◌, ◌^◌, ℕ, MatchResult};
+ghost use Rattle.clsm_law.specs.Relation.{filled, given_up, is_own, view_after};
+ghost use Rattle.clsm_law.specs.declared.layout.Layout.{Layout};
+ghost use Rattle.clsm_law.specs.declared.step.Step.{Step};
+
+use crate::reaches::reached_after;
+use crate::words::own_line;
+use clsm_law::{Layout, Mode, Part, View};
+use clsm_model::{CallRecord, Deed, Time};
+use std::alloc::AllocError;
+
+/// Notes an exchange on LOCK for one holder more than these.
+pub(crate) fn note_entry(
+    layout: &Layout,
+    view: &mut View,
+    holders: u64,
+    found: u64,
+) -> Result<(), AllocError>
+    ensures { MatchResult result
+        (λ _. (i : ℕ) → view.new ≡ view_after layout.now i view.old (Step.EnterShared holders) found)
+        (λ _. view.new ≡ view.old) }
+{
+    if found == holders {
+        view.fresh_heads.blank(2 * layout.shards as usize)?;
+        view.mode = Mode::Shared;
+        view.fresh_clock = None;
+        view.hold_limit = None;
+        view.hold_clock = None;
+        view.entries = view.entries.wrapping_add(1);
+    } else {
+        view.busy = view.busy.wrapping_add(1);
+    }
+    view.fresh_lock = None;
+    Ok(())
+}
+
+/// Notes that the lock is left.
+pub(crate) fn note_leaving(layout: &Layout, view: &mut View) -> Result<(), AllocError>
+    ensures { MatchResult result
+        (λ _. (i x : ℕ) → view.new ≡ view_after layout.now i view.old Step.LeaveShared x)
+        (λ _. view.new ≡ view.old) }
+{
+    view.fresh_heads.blank(2 * layout.shards as usize)?;
+    view.mode = Mode::Free;
+    view.fresh_lock = None;
+    view.fresh_clock = None;
+    Ok(())
+}
+
+/// Notes an exchange on CLOCK from this time.
+pub(crate) fn note_draw(view: &mut View, time: Time, found: u64) -> Result<(), AllocError>
+    ensures { MatchResult result
+        (λ _. (z : Layout) (i : ℕ) → view.new ≡ view_after z i view.old (Step.Draw time) found)
+        (λ _. view.new ≡ view.old) }
+{
+    if found == time {
+        view.words.blank(8)?;
+        view.drawn = Some(time);
+        view.key = None;
+        view.length = None;
+        view.next = None;
+        view.linked = false;
+    } else {
+        view.raced = view.raced.wrapping_add(1);
+    }
+    view.fresh_clock = None;
+    Ok(())
+}
+
+/// Notes a part of the drawn cell that is filled.
+pub(crate) fn note_filling(view: &mut View, part: Part, word: u64)
+    ensures { view.new ≡ filled view.old part word }
+{
+    match part {
+        Part::Key => view.key = Some(word),
+        Part::Length => view.length = Some(word),
+        Part::Value(place) => view.words.set(place as usize, Some(word)),
+        Part::Next => view.next = Some(word),
+    }
+}
+
+/// Notes an exchange on the head of the drawn cell's chain from this word.
+pub(crate) fn note_link(layout: &Layout, view: &mut View, head: u64, found: u64)
+    ensures { (i : ℕ) → view.new ≡ view_after layout.now i view.old (Step.Link head) found }
+{
+    let line = own_line(layout, view);
+    view.fresh_heads.set(line, None);
+    if found == head {
+        view.linked = true;
+    } else {
+        view.raced = view.raced.wrapping_add(1);
+    }
+}
+
+/// Notes an exchange on the state of the drawn time, with what the write does.
+pub(crate) fn note_decision(
+    layout: &Layout,
+    seat: u32,
+    view: &mut View,
+    time: Time,
+    deed: Deed,
+    found: u64,
+) -> Result<(), AllocError>
+    requires { time + 1 < 2 ^ 64 }
+    ensures { MatchResult result
+        (λ _. view.new ≡ view_after layout.now seat view.old (Step.Decide time deed) found)
+        (λ _. view.new ≡ view.old) }
+{
+    let reached = reached_after(layout, view, time);
+    if found == 0 {
+        view.calls.push(CallRecord { seat, time, deed })?;
+        view.due = time + 1;
+    } else {
+        view.overtaken = view.overtaken.wrapping_add(1);
+    }
+    view.drawn = None;
+    view.reached = reached;
+    Ok(())
+}
+
+fn given_up(drawn: Option<Time>, time: Time) -> Option<Time>
+    ensures { result ≡ given_up drawn time }
+{
+    match drawn {
+        Some(own) if own == time => None,
+        _ => drawn,
+    }
+}
+
+fn is_own(drawn: Option<Time>, time: Time) -> bool
+    ensures { result ≡ is_own drawn time }
+{
+    match drawn {
+        Some(own) => own == time,
+        None => false,
+    }
+}
+
+/// Notes an exchange on the state of the time, to cancel it.
+pub(crate) fn note_cancel(layout: &Layout, view: &mut View, time: Time, found: u64)
+    ensures { (i : ℕ) → view.new ≡ view_after layout.now i view.old (Step.Cancel time) found }
+{
+    let reached = reached_after(layout, view, time);
+    if is_own(view.drawn, time) && found != 0 {
+        view.overtaken = view.overtaken.wrapping_add(1);
+    }
+    view.drawn = given_up(view.drawn, time);
+    view.reached = reached;
+}

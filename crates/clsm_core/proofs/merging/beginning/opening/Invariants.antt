@@ -1,6 +1,0 @@
-use Rattle.std.proofs.Common.{◌≡◌, replicate}
-use Rattle.clsm_core.specs.Merging.{unseen}
-use Rattle.clsm_core.proofs.merging.beginning.opening.Given as goal
-
-abbrev pub invariant-loop : goal.invariant-loop
-invariant-loop l = l.retirees ≡ replicate l.counter unseen

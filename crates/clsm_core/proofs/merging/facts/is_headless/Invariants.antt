@@ -1,7 +1,0 @@
-use Rattle.std.proofs.Common.{◌≡◌, ℕ, ◌<◌}
-use Rattle.clsm_core.specs.declared.word.Word.TheVariants.{Head}
-use Rattle.clsm_core.specs.Layout.{memory}
-use Rattle.clsm_core.proofs.merging.facts.is_headless.Given as goal
-
-abbrev pub invariant-loop-shard : goal.invariant-loop-shard
-invariant-loop-shard l = (s : ℕ) → s < l.shard → memory l.layout l.words (Head l.region s) ≡ 0

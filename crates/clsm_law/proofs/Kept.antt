@@ -1,0 +1,128 @@
+-- A lawful world stays lawful under every open step: each clause by its own lemma.
+use Rattle.clsm_law.specs.declared.step.Step.{Step}
+use Rattle.clsm_law.specs.Law.{LawOf}
+use Rattle.clsm_law.proofs.Setting.{Setting, Ground, M, V, S, C, Opens, merger', memory', slots', chains', OpensTo}
+use Rattle.clsm_law.proofs.KeptCells.{shown_kept, shown_merged, empty_kept, empty_merged}
+use Rattle.clsm_law.proofs.KeptChains.{chained_kept, lies_kept, once_kept, standing_kept, linked_kept, loose_kept}
+use Rattle.clsm_law.proofs.KeptChainsMerger.{chained_merged, lies_merged, once_merged, standing_merged, linked_merged, loose_merged}
+use Rattle.clsm_law.proofs.KeptClock.{clock_kept, clock_merged, limit_kept, limit_merged, begun_kept, begun_merged, bounded_kept, bounded_merged, current_kept, current_merged, top_kept, top_merged, merged_kept, merged_merged}
+use Rattle.clsm_law.proofs.KeptDecided.{front_kept, front_merged, merged_decided_kept, merged_decided_merged, past_kept, past_merged, reached_kept, reached_merged}
+use Rattle.clsm_law.proofs.KeptDrawn.{holding_kept, holding_merged, pending_kept, pending_merged, owned_kept, owned_merged, alone_kept, alone_merged, filled_kept, filled_merged}
+use Rattle.clsm_law.proofs.KeptLock.{seated_kept, seated_merged, lock_kept, lock_merged, locked_out_kept, locked_out_merged, callers_kept, callers_merged, merger_kept, merger_merged}
+use Rattle.clsm_law.proofs.KeptNotes.{limits_kept, limits_merged, fresh_clocks_kept, fresh_clocks_merged, hold_clocks_kept, hold_clocks_merged, clocks_kept, clocks_merged, pin_clocks_kept, pin_clocks_merged}
+use Rattle.clsm_law.proofs.KeptPins.{pins_kept, pins_merged, odd_kept, odd_merged, held_kept, held_merged, notes_kept, notes_merged}
+use Rattle.clsm_law.proofs.KeptRecords.{right_kept, right_merged, stand_kept, stand_merged, recorded_kept, recorded_merged, dues_kept, dues_merged, own_dues_kept, own_dues_merged}
+use Rattle.clsm_law.proofs.KeptRising.{rising_kept, rising_merged}
+use Rattle.clsm_law.proofs.KeptRuns.{runs_kept, runs_merged, former_runs_kept, former_runs_merged}
+use Rattle.clsm_law.proofs.KeptShort.{short_kept, short_merged}
+use Rattle.clsm_law.proofs.KeptSnapshots.{snapshots_kept, snapshots_merged, passed_kept, passed_merged, floors_kept, floors_merged}
+
+-- a caller's step
+pub kept : (s : Setting) (step : Step) → Opens s step → LawOf s.z (M s step) (V s step) s.merger (S s step) (C s step)
+kept s step o = record {
+  seated = seated_kept s step o;
+  lock = lock_kept s step o;
+  locked_out = locked_out_kept s step o;
+  callers = callers_kept s step o;
+  merger = merger_kept s step o;
+  clock = clock_kept s step o;
+  limit = limit_kept s step o;
+  begun = begun_kept s step o;
+  bounded = bounded_kept s step o;
+  current = current_kept s step o;
+  top = top_kept s step o;
+  merged = merged_kept s step o;
+  holding = holding_kept s step o;
+  pending = pending_kept s step o;
+  owned = owned_kept s step o;
+  alone = alone_kept s step o;
+  filled = filled_kept s step o;
+  front = front_kept s step o;
+  merged_decided = merged_decided_kept s step o;
+  short = short_kept s step o;
+  shown = shown_kept s step o;
+  empty = empty_kept s step o;
+  chained = chained_kept s step o;
+  lies = lies_kept s step o;
+  once = once_kept s step o;
+  standing = standing_kept s step o;
+  linked = linked_kept s step o;
+  loose = loose_kept s step o;
+  limits = limits_kept s step o;
+  fresh_clocks = fresh_clocks_kept s step o;
+  hold_clocks = hold_clocks_kept s step o;
+  clocks = clocks_kept s step o;
+  pin_clocks = pin_clocks_kept s step o;
+  past = past_kept s step o;
+  reached = reached_kept s step o;
+  pins = pins_kept s step o;
+  odd = odd_kept s step o;
+  held = held_kept s step o;
+  notes = notes_kept s step o;
+  snapshots = snapshots_kept s step o;
+  passed = passed_kept s step o;
+  floors = floors_kept s step o;
+  runs = runs_kept s step o;
+  former_runs = former_runs_kept s step o;
+  right = right_kept s step o;
+  stand = stand_kept s step o;
+  recorded = recorded_kept s step o;
+  rising = rising_kept s step o;
+  dues = dues_kept s step o;
+  own_dues = own_dues_kept s step o;
+}
+
+-- a step of the merger
+pub kept' : (g : Ground) (step : Step) → OpensTo g step → LawOf g.z (memory' g step) g.views (merger' g step) (slots' g step) (chains' g step)
+kept' g step o = record {
+  seated = seated_merged g step o;
+  lock = lock_merged g step o;
+  locked_out = locked_out_merged g step o;
+  callers = callers_merged g step o;
+  merger = merger_merged g step o;
+  clock = clock_merged g step o;
+  limit = limit_merged g step o;
+  begun = begun_merged g step o;
+  bounded = bounded_merged g step o;
+  current = current_merged g step o;
+  top = top_merged g step o;
+  merged = merged_merged g step o;
+  holding = holding_merged g step o;
+  pending = pending_merged g step o;
+  owned = owned_merged g step o;
+  alone = alone_merged g step o;
+  filled = filled_merged g step o;
+  front = front_merged g step o;
+  merged_decided = merged_decided_merged g step o;
+  short = short_merged g step o;
+  shown = shown_merged g step o;
+  empty = empty_merged g step o;
+  chained = chained_merged g step o;
+  lies = lies_merged g step o;
+  once = once_merged g step o;
+  standing = standing_merged g step o;
+  linked = linked_merged g step o;
+  loose = loose_merged g step o;
+  limits = limits_merged g step o;
+  fresh_clocks = fresh_clocks_merged g step o;
+  hold_clocks = hold_clocks_merged g step o;
+  clocks = clocks_merged g step o;
+  pin_clocks = pin_clocks_merged g step o;
+  past = past_merged g step o;
+  reached = reached_merged g step o;
+  pins = pins_merged g step o;
+  odd = odd_merged g step o;
+  held = held_merged g step o;
+  notes = notes_merged g step o;
+  snapshots = snapshots_merged g step o;
+  passed = passed_merged g step o;
+  floors = floors_merged g step o;
+  runs = runs_merged g step o;
+  former_runs = former_runs_merged g step o;
+  right = right_merged g step o;
+  stand = stand_merged g step o;
+  recorded = recorded_merged g step o;
+  rising = rising_merged g step o;
+  dues = dues_merged g step o;
+  own_dues = own_dues_merged g step o;
+}

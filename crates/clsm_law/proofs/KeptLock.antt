@@ -1,0 +1,315 @@
+-- How the clauses on the lock, and on the merger's hold of it, are kept.
+use Rattle.std.proofs.Common.{◌≡◌, ◌≢◌, ℕ, zero, suc, ◌+◌, ◌%◌, ◌^◌, ◌≤◌, Bool, true, false, cond, List, [], ◌∷◌, length, set, sym, refl, ap, ◌∙◌, subst, arith, sum_by, Some, length-set}
+use prog.Atomic.{either}
+use Rattle.std.proofs.lemmas.List.Sums.{sum_by-set, sum_by-cons}
+use Rattle.std.proofs.Math.ListN.{length-replicate}
+use Rattle.clsm_model.specs.declared.slot.Slot.TheVariants.{Nothing}
+use Rattle.clsm_model.specs.declared.record.Deed.{Deed}
+use Rattle.clsm_model.specs.Right.{write_by}
+use Rattle.clsm_law.specs.declared.layout.Layout.{Layout}
+use Rattle.clsm_law.specs.declared.word.Word.{Word}
+use Rattle.clsm_law.specs.declared.word.Word.TheVariants.{Lock, Snap, Pin as PinOf}
+use Rattle.clsm_law.specs.declared.word.Part.{Part}
+use Rattle.clsm_law.specs.declared.word.Part.TheVariants.{Key}
+use Rattle.clsm_law.specs.declared.step.Step.{Step}
+use Rattle.clsm_law.specs.declared.step.Step.TheVariants.{EnterShared, LeaveShared, EnterExclusive, LeaveExclusive, Draw, Fill, Decide, Cancel, Look, Pad, WriteRun, ClearState, Publish, ExtendClock, ExtendLimit}
+use Rattle.clsm_law.specs.declared.view.View.{View}
+use Rattle.clsm_law.specs.declared.view.Mode.{Mode}
+use Rattle.clsm_law.specs.declared.view.Mode.TheVariants.{Shared, Exclusive}
+use Rattle.clsm_law.specs.declared.merger.MergerView.{MergerView}
+use Rattle.clsm_law.specs.declared.merger.Phase.{Phase}
+use Rattle.clsm_law.specs.declared.merger.Phase.TheVariants.{Clean, Frozen, Retired}
+use Rattle.clsm_law.specs.Memory.{Memory}
+use Rattle.clsm_law.specs.Relation.{idle, is_shared, looked, filled}
+use Rattle.clsm_law.specs.Merging.{is_clean, is_frozen, is_retired, merger_looked, unseen, retiree_at, retiree_by}
+use Rattle.clsm_law.specs.Law.{each, mode_of, holders, IsLockedOut, AreCallers, IsMerger}
+use Rattle.clsm_law.proofs.Cases.{by_test, by_bool}
+use Rattle.clsm_law.proofs.Frames.{at_each, keep1, puts_each, same_each}
+use Rattle.clsm_law.proofs.Setting.{Setting, ground, v, x, w, M, V, S, Opens, looked_same, Ground, found, merger', memory', slots', OpensTo, merger_looked_same}
+use Rattle.clsm_law.proofs.GrowthMerger.{length_passed}
+use Rattle.clsm_law.proofs.KeptDecided.{run_other}
+
+-- ---- phases and modes
+
+-- a test does not come out both ways
+pub not_both : {b : Bool} → b ≡ true → b ≡ false → ⊥
+not_both e f = cc
+
+-- the three phases exclude one another
+pub retired_not_clean : (p : Phase) → is_retired p ≡ true → is_clean p ≡ true → ⊥
+retired_not_clean Clean e f = cc
+retired_not_clean Frozen e f = cc
+retired_not_clean Retired e f = cc
+
+pub frozen_not_clean : (p : Phase) → is_frozen p ≡ true → is_clean p ≡ true → ⊥
+frozen_not_clean Clean e f = cc
+frozen_not_clean Frozen e f = cc
+frozen_not_clean Retired e f = cc
+
+pub frozen_not_retired : (p : Phase) → is_frozen p ≡ true → is_retired p ≡ true → ⊥
+frozen_not_retired Clean e f = cc
+frozen_not_retired Frozen e f = cc
+frozen_not_retired Retired e f = cc
+
+-- a look and a fill leave the mode
+pub mode_looked : (z : Layout) (y : View) (word : Word) (n : ℕ) → (looked z y word n).mode ≡ y.mode
+mode_looked z y Lock n = refl
+mode_looked z y word n = refl
+
+pub mode_filled : (y : View) (part : Part) (n : ℕ) → (filled y part n).mode ≡ y.mode
+mode_filled y Key n = refl
+mode_filled y part n = refl
+
+-- a look leaves the merger's hold
+pub exclusive_looked : (z : Layout) (m : MergerView) (word : Word) (n : ℕ) → (merger_looked z m word n).exclusive ≡ m.exclusive
+exclusive_looked z m (Snap i) n = refl
+exclusive_looked z m word n = refl
+
+-- ---- seats
+
+pub seated_kept : (s : Setting) (step : Step) → Opens s step → length (V s step) ≡ s.z.seats
+seated_kept s step o = length-set s.views s.me (w s step) ∙ s.law.seated
+
+pub seated_merged : (g : Ground) (step : Step) → OpensTo g step → length g.views ≡ g.z.seats
+seated_merged g step o = g.law.seated
+
+-- ---- the holders
+
+-- who holds the lock exclusively has its word
+lock_held : (g : Ground) → g.merger.exclusive ≡ true → g.memory Lock ≡ 4294967296
+lock_held g e = g.law.lock ∙ ap (λ b. cond b 4294967296 (sum_by holders g.views)) e
+
+-- else its word counts the shared holders
+lock_shared : (g : Ground) → g.merger.exclusive ≡ false → g.memory Lock ≡ sum_by holders g.views
+lock_shared g e = g.law.lock ∙ ap (λ b. cond b 4294967296 (sum_by holders g.views)) e
+
+-- a seat holds the lock once at most
+one_at_most : (y : View) → holders y ≤ 1
+one_at_most y = elim (is_shared y.mode) as (λ b. cond b 1 0 ≤ 1) [ true ↦ omega arith | false ↦ omega arith ]
+
+-- so no more hold it than there are seats
+holders_below : (views : List View) → sum_by holders views ≤ length views
+holders_below [] = omega arith
+holders_below (y ∷ ys) = let a = sum_by-cons holders y ys in let b = holders_below ys in let c = one_at_most y in omega arith
+
+-- where no seat holds the lock shared the count is 0
+none_shared : (z : Layout) (views : List View) → ((i : ℕ) → is_shared (each z mode_of views i) ≡ false) → sum_by holders views ≡ 0
+none_shared z [] h = refl
+none_shared z (y ∷ ys) h = let a = sum_by-cons holders y ys in let b = none_shared z ys (λ i. h (suc i)) in let c : holders y ≡ 0 = ap (λ b. cond b 1 0) (h 0) in omega arith
+
+-- and where a seat counts for nothing it is no holder
+no_holder : (b : Bool) → ◌≡◌ {A = ℕ} (cond b 1 0) 0 → b ≡ false
+no_holder true e = absurd (omega arith)
+no_holder false e = refl
+
+-- and so where the count is 0, no seat is
+shared_none : (z : Layout) (views : List View) → sum_by holders views ≡ 0 → (i : ℕ) → is_shared (each z mode_of views i) ≡ false
+shared_none z [] e i = refl
+shared_none z (y ∷ ys) e zero = let a = sum_by-cons holders y ys in no_holder (is_shared y.mode) (omega arith)
+shared_none z (y ∷ ys) e (suc i) = let a = sum_by-cons holders y ys in shared_none z ys (omega arith) i
+
+-- a shared holder keeps the merger out
+pub shared_free : (g : Ground) (i : ℕ) → each g.z mode_of g.views i ≡ Shared → g.merger.exclusive ≡ false
+shared_free g i e = by_bool (λ b. g.merger.exclusive ≡ b → g.merger.exclusive ≡ false) g.merger.exclusive (λ _ h. let a = g.law.locked_out h i in let b : is_shared (each g.z mode_of g.views i) ≡ true = ap is_shared e in absurd cc) (λ _ h. h) refl
+
+-- ---- the lock's word
+module _ (s : Setting) where
+  -- the count after the step: the seat's old view is taken out and its new one counted
+  counted : (y : View) → sum_by holders (set s.views s.me y) + holders (v s) ≡ sum_by holders s.views + holders y
+  counted y = sum_by-set holders s.views s.me y (idle s.z) s.inside
+
+  -- a step that leaves the mode leaves the count
+  same_count : (y : View) → y.mode ≡ (v s).mode → cond s.merger.exclusive 4294967296 (sum_by holders s.views) ≡ cond s.merger.exclusive 4294967296 (sum_by holders (set s.views s.me y))
+  same_count y e = let a = counted y in let b : holders y ≡ holders (v s) = ap (λ (k : Mode). cond (is_shared k) 1 0) e in let c : sum_by holders s.views ≡ sum_by holders (set s.views s.me y) = omega arith in ap (cond s.merger.exclusive 4294967296) c
+
+  -- who enters finds no exclusive holder
+  enters_free : (l : ℕ) → Opens s (EnterShared l) → x s (EnterShared l) ≡ l → s.merger.exclusive ≡ false
+  enters_free l o e = by_bool (λ b. s.merger.exclusive ≡ b → s.merger.exclusive ≡ false) s.merger.exclusive (λ _ h. let a = lock_held (ground s) h in let b = o.2 in absurd (omega arith)) (λ _ h. h) refl
+
+  -- an entry that wins adds the seat to the count, and one that loses leaves it
+  lock_enters : (l n : ℕ) → Opens s (EnterShared l) → (b : Bool) → (b ≡ true → x s (EnterShared l) ≡ l) → n + holders (v s) ≡ sum_by holders s.views + cond (is_shared (cond b Shared (v s).mode)) 1 0
+      → either b (l + 1) (s.memory Lock) ≡ cond s.merger.exclusive 4294967296 n
+  lock_enters l n o true won e = let free = enters_free l o (won refl) in let found = lock_shared (ground s) free in let here = won refl in let none : holders (v s) ≡ 0 = ap (λ k. cond (is_shared k) 1 0) o.0 in rw free (omega arith)
+  lock_enters l n o false won e = let same : sum_by holders s.views ≡ n = omega arith in s.law.lock ∙ ap (cond s.merger.exclusive 4294967296) same
+
+  -- a holder that leaves takes 1 from the word and from the count
+  lock_leaves : (n : ℕ) → Opens s LeaveShared → n + holders (v s) ≡ sum_by holders s.views + 0 → (s.memory Lock + 18446744073709551615) % 2 ^ 64 ≡ cond s.merger.exclusive 4294967296 n
+  lock_leaves n o e = let free = shared_free (ground s) s.me o.0 in let found = lock_shared (ground s) free in let one : holders (v s) ≡ 1 = ap (λ k. cond (is_shared k) 1 0) o.0 in let few = holders_below s.views in let seats = s.law.seated in let most = s.sound.1.1 in
+      rw free (omega arith)
+
+pub lock_kept : (s : Setting) (step : Step) → Opens s step → M s step Lock ≡ cond s.merger.exclusive 4294967296 (sum_by holders (V s step))
+lock_kept s (EnterShared l) o = by_test (λ b. (n : ℕ) → n + holders (v s) ≡ sum_by holders s.views + cond (is_shared (cond b Shared (v s).mode)) 1 0 → either b (l + 1) (s.memory Lock) ≡ cond s.merger.exclusive 4294967296 n) (x s (EnterShared l)) l
+    (λ e n. lock_enters s l n o true (λ _. e)) (λ _ n. lock_enters s l n o false (λ f. absurd cc)) (sum_by holders (V s (EnterShared l))) (counted s (w s (EnterShared l)))
+lock_kept s LeaveShared o = lock_leaves s (sum_by holders (V s LeaveShared)) o (counted s (w s LeaveShared))
+lock_kept s (Fill part n) o = s.law.lock ∙ same_count s (w s (Fill part n)) (mode_filled (v s) part n)
+lock_kept s (Look word) o = ap (λ (m : Memory). m Lock) (looked_same s word) ∙ s.law.lock ∙ same_count s (w s (Look word)) (mode_looked s.z (v s) word (x s (Look word)))
+lock_kept s step o = s.law.lock ∙ same_count s (w s step) refl
+
+-- the merger leaves the word at 0, and no seat holds the lock
+lock_frees : (g : Ground) → OpensTo g LeaveExclusive → (g.memory Lock + 18446744069414584320) % 2 ^ 64 ≡ sum_by holders g.views
+lock_frees g o = let found = lock_held g o.0 in let none = none_shared g.z g.views (g.law.locked_out o.0) in omega arith
+
+pub lock_merged : (g : Ground) (step : Step) → OpensTo g step → memory' g step Lock ≡ cond (merger' g step).exclusive 4294967296 (sum_by holders g.views)
+lock_merged g EnterExclusive o = by_test (λ b. either b 4294967296 (g.memory Lock) ≡ cond (cond b true g.merger.exclusive) 4294967296 (sum_by holders g.views)) (found g EnterExclusive) 0 (λ _. refl) (λ _. g.law.lock)
+lock_merged g LeaveExclusive o = lock_frees g o
+lock_merged g (Look word) o = ap (λ (m : Memory). m Lock) (merger_looked_same g word) ∙ g.law.lock ∙ ap (λ b. cond b 4294967296 (sum_by holders g.views)) (sym (exclusive_looked g.z g.merger word (found g (Look word))))
+lock_merged g (WriteRun word n) o = run_other g.memory word Lock n o.1 (λ r. r) ∙ g.law.lock
+lock_merged g step o = g.law.lock
+
+-- ---- the merger locks the callers out, and its end is its own
+
+pub locked_out_kept : (s : Setting) (step : Step) → Opens s step → IsLockedOut s.merger.exclusive (each s.z mode_of (V s step))
+locked_out_kept s (EnterShared l) o = λ e. let p = puts_each s.z mode_of s.views s.me (w s (EnterShared l)) s.inside in
+    at_each (λ i. is_shared (each s.z mode_of (V s (EnterShared l)) i) ≡ false) s.me
+    (ap is_shared p.here ∙ by_test (λ b. is_shared (cond b Shared (v s).mode) ≡ false) (x s (EnterShared l)) l (λ won. absurd (not_both e (enters_free s l o won))) (λ _. ap is_shared o.0))
+    (λ i ne. ap is_shared (p.other i ne) ∙ s.law.locked_out e i)
+locked_out_kept s LeaveShared o = λ e. let p = puts_each s.z mode_of s.views s.me (w s LeaveShared) s.inside in
+    at_each (λ i. is_shared (each s.z mode_of (V s LeaveShared) i) ≡ false) s.me (ap is_shared p.here) (λ i ne. ap is_shared (p.other i ne) ∙ s.law.locked_out e i)
+locked_out_kept s (Fill part n) o = keep1 (IsLockedOut s.merger.exclusive) (same_each s.z mode_of s.views s.me (w s (Fill part n)) s.inside (mode_filled (v s) part n)) s.law.locked_out
+locked_out_kept s (Look word) o = keep1 (IsLockedOut s.merger.exclusive) (same_each s.z mode_of s.views s.me (w s (Look word)) s.inside (mode_looked s.z (v s) word (x s (Look word)))) s.law.locked_out
+locked_out_kept s step o = keep1 (IsLockedOut s.merger.exclusive) (same_each s.z mode_of s.views s.me (w s step) s.inside refl) s.law.locked_out
+
+pub locked_out_merged : (g : Ground) (step : Step) → OpensTo g step → IsLockedOut (merger' g step).exclusive (each g.z mode_of g.views)
+locked_out_merged g EnterExclusive o = by_test (λ b. IsLockedOut (cond b true g.merger.exclusive) (each g.z mode_of g.views)) (found g EnterExclusive) 0
+    (λ e _. let a = lock_shared g o.1 in shared_none g.z g.views (omega arith)) (λ _. g.law.locked_out)
+locked_out_merged g LeaveExclusive o = λ e. absurd cc
+locked_out_merged g (Look word) o = keep1 (λ b. IsLockedOut b (each g.z mode_of g.views)) (exclusive_looked g.z g.merger word (found g (Look word))) g.law.locked_out
+locked_out_merged g step o = g.law.locked_out
+
+pub callers_kept : (s : Setting) (step : Step) → Opens s step → AreCallers (each s.z mode_of (V s step))
+callers_kept s (EnterShared l) o = let p = puts_each s.z mode_of s.views s.me (w s (EnterShared l)) s.inside in
+    at_each (λ i. each s.z mode_of (V s (EnterShared l)) i ≢ Exclusive) s.me
+    (subst (λ (k : Mode). k ≢ Exclusive) (sym p.here) (by_test (λ b. cond b Shared (v s).mode ≢ Exclusive) (x s (EnterShared l)) l (λ _ e. cc) (λ _. s.law.callers s.me)))
+    (λ i ne e. s.law.callers i (sym (p.other i ne) ∙ e))
+callers_kept s LeaveShared o = let p = puts_each s.z mode_of s.views s.me (w s LeaveShared) s.inside in
+    at_each (λ i. each s.z mode_of (V s LeaveShared) i ≢ Exclusive) s.me (λ e. let a = p.here in cc) (λ i ne e. s.law.callers i (sym (p.other i ne) ∙ e))
+callers_kept s (Fill part n) o = keep1 AreCallers (same_each s.z mode_of s.views s.me (w s (Fill part n)) s.inside (mode_filled (v s) part n)) s.law.callers
+callers_kept s (Look word) o = keep1 AreCallers (same_each s.z mode_of s.views s.me (w s (Look word)) s.inside (mode_looked s.z (v s) word (x s (Look word)))) s.law.callers
+callers_kept s step o = keep1 AreCallers (same_each s.z mode_of s.views s.me (w s step) s.inside refl) s.law.callers
+
+pub callers_merged : (g : Ground) (step : Step) → OpensTo g step → AreCallers (each g.z mode_of g.views)
+callers_merged g step o = g.law.callers
+
+-- ---- the merger's own clause
+
+-- a decide and a cancel leave the clock
+pub decide_length : (s : Setting) (t : ℕ) (deed : Deed) → length (S s (Decide t deed)) ≡ length s.slots
+decide_length s t deed = by_test (λ b. length (cond b (set s.slots t (write_by s.me deed)) s.slots) ≡ length s.slots) (x s (Decide t deed)) 0 (λ _. length-set s.slots t (write_by s.me deed)) (λ _. refl)
+
+pub cancel_length : (s : Setting) (t : ℕ) → length (S s (Cancel t)) ≡ length s.slots
+cancel_length s t = by_test (λ b. length (cond b (set s.slots t (Some Nothing)) s.slots) ≡ length s.slots) (x s (Cancel t)) 0 (λ _. length-set s.slots t (Some Nothing)) (λ _. refl)
+
+pub merger_kept : (s : Setting) (step : Step) → Opens s step → IsMerger s.z s.merger (length (S s step))
+merger_kept s (Draw t) o = let m = s.law.merger in record {
+  seats = m.seats;
+  some_merged = m.some_merged;
+  clean = m.clean;
+  pads = m.pads;
+  extends = m.extends;
+  limit_after = m.limit_after;
+  at_end = λ e. absurd (not_both (m.extends e) (shared_free (ground s) s.me o.0));
+  top = m.top;
+}
+merger_kept s (Decide t deed) o = keep1 (IsMerger s.z s.merger) (decide_length s t deed) s.law.merger
+merger_kept s (Cancel t) o = keep1 (IsMerger s.z s.merger) (cancel_length s t) s.law.merger
+merger_kept s step o = s.law.merger
+
+-- a freeze ends in phase frozen, and another hold leaves the phase
+merger_leaves : (m : MergerView) (n : ℕ) (z : Layout) → IsMerger z m n → (b : Bool) → is_retired (cond b Frozen m.phase) ≡ true → 1 ≤ m.merged
+merger_leaves m n z h true f = absurd cc
+merger_leaves m n z h false f = h.some_merged f
+
+pub merger_merged : (g : Ground) (step : Step) → OpensTo g step → IsMerger g.z (merger' g step) (length (slots' g step))
+merger_merged g EnterExclusive o = let h = g.law.merger in record {
+  seats = h.seats;
+  some_merged = h.some_merged;
+  clean = λ _. o.0;
+  pads = λ e. absurd (not_both (h.pads e) o.1);
+  extends = λ e. absurd (not_both (h.extends e) o.1);
+  limit_after = h.limit_after;
+  at_end = h.at_end;
+  top = h.top;
+}
+merger_merged g LeaveExclusive o = let h = g.law.merger in record {
+  seats = h.seats;
+  some_merged = merger_leaves g.merger (length g.slots) g.z h g.merger.limit_extended;
+  clean = λ e. absurd cc;
+  pads = λ e. absurd cc;
+  extends = λ e. absurd cc;
+  limit_after = λ e. absurd cc;
+  at_end = λ e. absurd cc;
+  top = λ e. absurd cc;
+}
+merger_merged g (Look (Snap i)) o = let h = g.law.merger in record {
+  seats = h.seats;
+  some_merged = h.some_merged;
+  clean = h.clean;
+  pads = h.pads;
+  extends = h.extends;
+  limit_after = h.limit_after;
+  at_end = h.at_end;
+  top = h.top;
+}
+merger_merged g (Look (PinOf i)) o = let h = g.law.merger in let n = found g (Look (PinOf i)) in record {
+  seats = by_bool (λ b. length (cond b (set g.merger.retirees i (retiree_by (retiree_at g.merger.retirees i) n)) g.merger.retirees) ≡ g.z.seats) (is_retired g.merger.phase)
+      (λ _. length-set g.merger.retirees i (retiree_by (retiree_at g.merger.retirees i) n) ∙ h.seats) (λ _. h.seats);
+  some_merged = h.some_merged;
+  clean = h.clean;
+  pads = h.pads;
+  extends = h.extends;
+  limit_after = h.limit_after;
+  at_end = h.at_end;
+  top = h.top;
+}
+merger_merged g (Look word) o = g.law.merger
+merger_merged g (Pad t) o = let h = g.law.merger in record {
+  seats = h.seats;
+  some_merged = h.some_merged;
+  clean = h.clean;
+  pads = λ _. o.0;
+  extends = h.extends;
+  limit_after = h.limit_after;
+  at_end = h.at_end;
+  top = h.top;
+}
+merger_merged g (ClearState cell) o = let h = g.law.merger in record {
+  seats = h.seats;
+  some_merged = λ _. h.some_merged o.0;
+  clean = λ e. absurd (retired_not_clean g.merger.phase o.0 (h.clean e));
+  pads = h.pads;
+  extends = h.extends;
+  limit_after = h.limit_after;
+  at_end = h.at_end;
+  top = h.top;
+}
+merger_merged g Publish o = let h = g.law.merger in let not_held : g.merger.exclusive ≡ true → ⊥ = λ e. frozen_not_clean g.merger.phase o.0 (h.clean e) in record {
+  seats = length-replicate g.z.seats unseen;
+  some_merged = λ _. omega arith;
+  clean = λ e. absurd (not_held e);
+  pads = h.pads;
+  extends = h.extends;
+  limit_after = h.limit_after;
+  at_end = λ e. absurd (not_held (h.extends e));
+  top = λ e. absurd (not_held (h.extends e));
+}
+merger_merged g ExtendClock o = let h = g.law.merger in record {
+  seats = h.seats;
+  some_merged = h.some_merged;
+  clean = h.clean;
+  pads = h.pads;
+  extends = λ _. o.0;
+  limit_after = λ _. refl;
+  at_end = λ _. length_passed g o;
+  top = λ _. o.2;
+}
+merger_merged g ExtendLimit o = let h = g.law.merger in record {
+  seats = h.seats;
+  some_merged = h.some_merged;
+  clean = h.clean;
+  pads = h.pads;
+  extends = h.extends;
+  limit_after = λ _. o.1;
+  at_end = h.at_end;
+  top = h.top;
+}
+merger_merged g step o = g.law.merger

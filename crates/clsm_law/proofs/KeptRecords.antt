@@ -1,0 +1,226 @@
+-- How the clauses of the seats' records are kept: they are right in the seat's past, their writes stand, each write is recorded, and the dues.
+use Rattle.std.proofs.Common.{◌≡◌, ◌≢◌, ℕ, zero, suc, ◌+◌, ◌-◌, ◌<◌, ◌≤◌, ◌==◌, ◌⊎◌, Bool, cond, List, [], ◌∷◌, ◌++◌, length, set, sym, refl, ap, ◌∙◌, subst, arith, inl, inr, ⊎_elim, Option, Some, None}
+use Rattle.std.specs.Prelude.{replicate}
+use Rattle.std.specs.List.{AllByRecursion}
+use Rattle.std.proofs.lemmas.Bool.{cases_lt}
+use Rattle.clsm_model.specs.declared.slot.Slot.{Slot}
+use Rattle.clsm_model.specs.declared.slot.Slot.TheVariants.{Nothing, Wrote}
+use Rattle.clsm_model.specs.declared.record.Deed.{Deed}
+use Rattle.clsm_model.specs.declared.record.Deed.TheVariants.{Close}
+use Rattle.clsm_model.specs.History.{History, end_of}
+use Rattle.clsm_model.specs.Right.{IsRight, write_by}
+use Rattle.clsm_law.specs.declared.step.Step.{Step}
+use Rattle.clsm_law.specs.declared.step.Step.TheVariants.{Draw, Fill, Decide, Cancel, Unpin, Look, CloseSnapshot, ExtendClock}
+use Rattle.clsm_law.specs.declared.word.Word.TheVariants.{Clock}
+use Rattle.clsm_law.specs.declared.word.Part.TheVariants.{Key}
+use Rattle.clsm_law.specs.declared.view.SnapshotState.{SnapshotState}
+use Rattle.clsm_law.specs.declared.view.SnapshotState.TheVariants.{Absent, Open}
+use Rattle.clsm_law.specs.Relation.{or_zero, open_time, IsOpenSnapshot, ended_calls, call_of, given_up}
+use Rattle.clsm_law.specs.Merging.{epoch_end}
+use Rattle.clsm_law.specs.Worlds.{slot_at, past_of}
+use Rattle.clsm_law.specs.Seats.{IsRightRecord, IsStandingRecord, HasWrite}
+use Rattle.clsm_law.specs.Law.{each, drawn_of, past_time_of, due_of, calls_of, IsSnapshot, AreRight, AreRecordsStanding, AreRecorded, AreAtMost, AreDuesBelowOwn}
+use Rattle.clsm_law.proofs.Cases.{by_test}
+use Rattle.clsm_law.proofs.Frames.{at_each, puts_each, puts_slot, slots_grown}
+use Rattle.clsm_law.proofs.Setting.{Setting, Ground, ground, v, x, w, V, S, Opens, drawn_shown, past_below, slots', OpensTo}
+use Rattle.clsm_law.proofs.Growth.{slots_stay, longer, cancels_shown}
+use Rattle.clsm_law.proofs.GrowthMerger.{slots_stay', longer'}
+use Rattle.clsm_law.proofs.Histories.{GoesOn, records_right-go_on, decided_past-goes_on, end_of-past}
+use Rattle.clsm_law.proofs.Records.{at_views, all_append, has_before, has_last, stands_itself, all_stand_stay, decided_right, writer_of, ended_right, ended_stands, ended_within}
+
+-- a seat's past before the step
+abbrev past_in : Setting → ℕ → History
+past_in s i = past_of s.slots (each s.z past_time_of s.views i)
+
+-- ---- the records are right in the seats' pasts
+
+-- a past after the step goes on from the one before
+pub past_on : (s : Setting) (step : Step) → Opens s step → (i p : ℕ) → each s.z past_time_of s.views i ≤ p → GoesOn (past_in s i) (past_of (S s step) p)
+past_on s step o i p le = decided_past-goes_on s.slots (S s step) (each s.z past_time_of s.views i) p le (longer s step) (s.law.past i) (slots_stay s step o)
+
+-- and the seat's past time only rises
+pub past_rises : (s : Setting) (step : Step) → (v s).past ≤ (w s step).past
+past_rises s (Fill Key a) = omega arith
+past_rises s (Look Clock) = omega arith
+past_rises s step = omega arith
+
+-- the seat's records before the step are right in its past after it
+right_before : (s : Setting) (step : Step) → Opens s step → AllByRecursion (IsRightRecord (past_of (S s step) (w s step).past)) (v s).calls
+right_before s step o = records_right-go_on (past_in s s.me) (past_of (S s step) (w s step).past) (v s).calls (past_on s step o s.me (w s step).past (past_rises s step)) (s.law.right s.me)
+
+-- the end of an open snapshot stands at a time of the past
+close_right : (slots : List (Option Slot)) (floor clock past : ℕ) (pinned : Bool) (n : SnapshotState) → IsOpenSnapshot n → IsSnapshot floor clock past pinned n → past ≤ length slots → IsRight (past_of slots past) (or_zero (open_time n)) Close
+close_right slots floor clock past pinned (Open b t) opened is le = let a = is.2 in let e = end_of-past slots past le in record { readable = record { reached = omega arith; uncut = tt }; reads = tt }
+close_right slots floor clock past pinned Absent opened is le = absurd opened
+close_right slots floor clock past pinned n opened is le = absurd opened
+
+-- the records of the seat that made the step
+own_right : (s : Setting) (step : Step) → Opens s step → AllByRecursion (IsRightRecord (past_of (S s step) (w s step).past)) (w s step).calls
+own_right s (Decide t deed) o = let h' = past_of (S s (Decide t deed)) (v s).past in let before = right_before s (Decide t deed) o in
+    by_test (λ b. AllByRecursion (IsRightRecord h') (cond b ((v s).calls ++ call_of s.me t deed ∷ []) (v s).calls)) (x s (Decide t deed)) 0
+    (λ _. all_append (IsRightRecord h') (v s).calls (call_of s.me t deed ∷ []) before
+    (decided_right (past_in s s.me) h' (v s) t deed (past_on s (Decide t deed) o s.me (v s).past (omega arith)) o.2 o.3, tt))
+    (λ _. before)
+own_right s (Unpin end) o = all_append (IsRightRecord (past_in s s.me)) (v s).calls (ended_calls s.me (v s) end) (s.law.right s.me) (ended_right (past_in s s.me) s.me (v s) (v s).snapshot end refl o.1)
+own_right s CloseSnapshot o = all_append (IsRightRecord (past_in s s.me)) (v s).calls (call_of s.me (or_zero (open_time (v s).snapshot)) Close ∷ []) (s.law.right s.me)
+    (close_right s.slots s.merger.floor (length s.slots) (v s).past (v s).pinned (v s).snapshot o (s.law.snapshots s.me) (past_below (ground s) s.me), tt)
+own_right s (Fill Key a) o = right_before s (Fill Key a) o
+own_right s (Look Clock) o = right_before s (Look Clock) o
+own_right s step o = right_before s step o
+
+pub right_kept : (s : Setting) (step : Step) → Opens s step → AreRight (λ i. past_of (S s step) (each s.z past_time_of (V s step) i)) (each s.z calls_of (V s step))
+right_kept s step o = at_views s.z s.views s.me (w s step) s.inside (λ i u. AllByRecursion (IsRightRecord (past_of (S s step) u.past)) u.calls) (own_right s step o)
+    (λ i ne. records_right-go_on (past_in s i) (past_of (S s step) (each s.z past_time_of s.views i)) (each s.z calls_of s.views i) (past_on s step o i (each s.z past_time_of s.views i) (omega arith)) (s.law.right i))
+
+pub right_merged : (g : Ground) (step : Step) → OpensTo g step → AreRight (λ i. past_of (slots' g step) (each g.z past_time_of g.views i)) (each g.z calls_of g.views)
+right_merged g step o i = let p = each g.z past_time_of g.views i in
+    records_right-go_on (past_of g.slots p) (past_of (slots' g step) p) (each g.z calls_of g.views i) (decided_past-goes_on g.slots (slots' g step) p p (omega arith) (longer' g step) (g.law.past i) (slots_stay' g step o)) (g.law.right i)
+
+-- ---- their writes stand
+
+-- each seat's records before the step stand after it
+stand_before : (s : Setting) (step : Step) → Opens s step → (i : ℕ) → AllByRecursion (IsStandingRecord (slot_at (S s step)) i) (each s.z calls_of s.views i)
+stand_before s step o i = all_stand_stay (slot_at s.slots) (slot_at (S s step)) i (each s.z calls_of s.views i) (slots_stay s step o) (s.law.stand i)
+
+-- the slot of a Decide that wins
+decides_slot : (s : Setting) (t : ℕ) (deed : Deed) → Opens s (Decide t deed) → x s (Decide t deed) ≡ 0 → slot_at (S s (Decide t deed)) t ≡ write_by s.me deed
+decides_slot s t deed o e = ap (λ (n : ℕ). slot_at (cond (n == 0) (set s.slots t (write_by s.me deed)) s.slots) t) e ∙ (puts_slot s.slots t (write_by s.me deed) (drawn_shown (ground s) s.me t o.0).1).here
+
+-- those of the seat that made the step
+own_stand : (s : Setting) (step : Step) → Opens s step → AllByRecursion (IsStandingRecord (slot_at (S s step)) s.me) (w s step).calls
+own_stand s (Decide t deed) o = let slot' = slot_at (S s (Decide t deed)) in let before = stand_before s (Decide t deed) o s.me in
+    by_test (λ b. AllByRecursion (IsStandingRecord slot' s.me) (cond b ((v s).calls ++ call_of s.me t deed ∷ []) (v s).calls)) (x s (Decide t deed)) 0
+    (λ e. all_append (IsStandingRecord slot' s.me) (v s).calls (call_of s.me t deed ∷ []) before ((refl, stands_itself (write_by s.me deed) (slot' t) (decides_slot s t deed o e)), tt))
+    (λ _. before)
+own_stand s (Unpin end) o = all_append (IsStandingRecord (slot_at s.slots) s.me) (v s).calls (ended_calls s.me (v s) end) (s.law.stand s.me) (ended_stands (past_in s s.me) s.me (v s) (slot_at s.slots) (v s).snapshot end o.1)
+own_stand s CloseSnapshot o = all_append (IsStandingRecord (slot_at s.slots) s.me) (v s).calls (call_of s.me (or_zero (open_time (v s).snapshot)) Close ∷ []) (s.law.stand s.me) ((refl, tt), tt)
+own_stand s (Fill Key a) o = stand_before s (Fill Key a) o s.me
+own_stand s (Look Clock) o = stand_before s (Look Clock) o s.me
+own_stand s step o = stand_before s step o s.me
+
+pub stand_kept : (s : Setting) (step : Step) → Opens s step → AreRecordsStanding (slot_at (S s step)) (each s.z calls_of (V s step))
+stand_kept s step o = at_views s.z s.views s.me (w s step) s.inside (λ i u. AllByRecursion (IsStandingRecord (slot_at (S s step)) i) u.calls) (own_stand s step o) (λ i ne. stand_before s step o i)
+
+pub stand_merged : (g : Ground) (step : Step) → OpensTo g step → AreRecordsStanding (slot_at (slots' g step)) (each g.z calls_of g.views)
+stand_merged g step o i = all_stand_stay (slot_at g.slots) (slot_at (slots' g step)) i (each g.z calls_of g.views i) (slots_stay' g step o) (g.law.stand i)
+
+-- ---- each write is recorded
+
+-- a seat's records stay
+more_calls : (s : Setting) (step : Step) (t : ℕ) (write : Slot) → HasWrite s.me t write (v s).calls → HasWrite s.me t write (w s step).calls
+more_calls s (Decide t deed) u write h = by_test (λ b. HasWrite s.me u write (cond b ((v s).calls ++ call_of s.me t deed ∷ []) (v s).calls)) (x s (Decide t deed)) 0 (λ _. has_before s.me u write (v s).calls (call_of s.me t deed ∷ []) h) (λ _. h)
+more_calls s (Unpin end) u write h = has_before s.me u write (v s).calls (ended_calls s.me (v s) end) h
+more_calls s CloseSnapshot u write h = has_before s.me u write (v s).calls (call_of s.me (or_zero (open_time (v s).snapshot)) Close ∷ []) h
+more_calls s (Fill Key a) u write h = h
+more_calls s (Look Clock) u write h = h
+more_calls s step u write h = h
+
+-- and so does what was recorded
+still_recorded : (s : Setting) (step : Step) (i t : ℕ) (write : Slot) → HasWrite i t write (each s.z calls_of s.views i) → HasWrite i t write (each s.z calls_of (V s step) i)
+still_recorded s step i t write = at_views s.z s.views s.me (w s step) s.inside (λ i u. HasWrite i t write (each s.z calls_of s.views i) → HasWrite i t write u.calls) (more_calls s step t write) (λ i ne h. h) i
+
+-- a write after the step stood before it, or is the seat's and recorded
+stood_or_new : (s : Setting) (step : Step) → Opens s step → (u i key : ℕ) (written : Option (List ℕ)) → slot_at (S s step) u ≡ Some (Wrote i key written)
+    → (slot_at s.slots u ≡ Some (Wrote i key written)) ⊎ ((s.me ≡ i) × HasWrite s.me u (Wrote i key written) (w s step).calls)
+stood_or_new s (Decide t deed) o u i key written = by_test (λ b. slot_at (cond b (set s.slots t (write_by s.me deed)) s.slots) u ≡ Some (Wrote i key written)
+    → (slot_at s.slots u ≡ Some (Wrote i key written)) ⊎ ((s.me ≡ i) × HasWrite s.me u (Wrote i key written) (cond b ((v s).calls ++ call_of s.me t deed ∷ []) (v s).calls))) (x s (Decide t deed)) 0
+    (λ _. let p = puts_slot s.slots t (write_by s.me deed) (drawn_shown (ground s) s.me t o.0).1 in
+    at_each (λ u. slot_at (set s.slots t (write_by s.me deed)) u ≡ Some (Wrote i key written) → (slot_at s.slots u ≡ Some (Wrote i key written)) ⊎ ((s.me ≡ i) × HasWrite s.me u (Wrote i key written) ((v s).calls ++ call_of s.me t deed ∷ []))) t
+    (λ e. let is : write_by s.me deed ≡ Some (Wrote i key written) = sym p.here ∙ e in inr (writer_of s.me i key written deed is, has_last s.me t (Wrote i key written) (v s).calls (call_of s.me t deed) refl is))
+    (λ u ne e. inl (sym (p.other u ne) ∙ e)) u)
+    (λ _ e. inl e)
+stood_or_new s (Cancel t) o u i key written = by_test (λ b. slot_at (cond b (set s.slots t (Some Nothing)) s.slots) u ≡ Some (Wrote i key written) → (slot_at s.slots u ≡ Some (Wrote i key written)) ⊎ ((s.me ≡ i) × HasWrite s.me u (Wrote i key written) (v s).calls)) (x s (Cancel t)) 0
+    (λ _. let p = puts_slot s.slots t (Some Nothing) (cancels_shown s t o).1 in
+    at_each (λ u. slot_at (set s.slots t (Some Nothing)) u ≡ Some (Wrote i key written) → (slot_at s.slots u ≡ Some (Wrote i key written)) ⊎ ((s.me ≡ i) × HasWrite s.me u (Wrote i key written) (v s).calls)) t
+    (λ e. absurd (let here = p.here in cc (here, e)))
+    (λ u ne e. inl (sym (p.other u ne) ∙ e)) u)
+    (λ _ e. inl e)
+stood_or_new s (Draw t) o u i key written = by_test (λ b. slot_at (cond b (s.slots ++ None ∷ []) s.slots) u ≡ Some (Wrote i key written) → (slot_at s.slots u ≡ Some (Wrote i key written)) ⊎ ((s.me ≡ i) × HasWrite s.me u (Wrote i key written) (v s).calls)) (x s (Draw t)) t
+    (λ _ e. inl (sym (λ k. slots_grown s.slots k u) ∙ e))
+    (λ _ e. inl e)
+stood_or_new s step o u i key written = λ e. inl e
+
+pub recorded_kept : (s : Setting) (step : Step) → Opens s step → AreRecorded (slot_at (S s step)) (each s.z calls_of (V s step))
+recorded_kept s step o u i key written e = let write = Wrote i key written in ⊎_elim
+    (λ (old : slot_at s.slots u ≡ Some write). still_recorded s step i u write (s.law.recorded u i key written old))
+    (λ (new : (s.me ≡ i) × HasWrite s.me u write (w s step).calls). subst (λ (j : ℕ). HasWrite j u write (each s.z calls_of (V s step) j)) new.0
+    (subst (HasWrite s.me u write) (sym (puts_each s.z calls_of s.views s.me (w s step) s.inside).here) new.1))
+    (stood_or_new s step o u i key written e)
+
+-- times that are passed over have no write
+passed_nothing : (n u i key : ℕ) (written : Option (List ℕ)) → slot_at (replicate n (Some Nothing)) u ≢ Some (Wrote i key written)
+passed_nothing zero u i key written e = absurd cc
+passed_nothing (suc n) zero i key written e = absurd cc
+passed_nothing (suc n) (suc u) i key written e = passed_nothing n u i key written e
+
+-- so a write after them stood before them
+passed_stood : (slots : List (Option Slot)) (n u i key : ℕ) (written : Option (List ℕ)) → slot_at (slots ++ replicate n (Some Nothing)) u ≡ Some (Wrote i key written) → slot_at slots u ≡ Some (Wrote i key written)
+passed_stood [] n u i key written e = absurd (passed_nothing n u i key written e)
+passed_stood (a ∷ slots) n zero i key written e = e
+passed_stood (a ∷ slots) n (suc u) i key written e = passed_stood slots n u i key written e
+
+pub recorded_merged : (g : Ground) (step : Step) → OpensTo g step → AreRecorded (slot_at (slots' g step)) (each g.z calls_of g.views)
+recorded_merged g ExtendClock o u i key written e = g.law.recorded u i key written (passed_stood g.slots (epoch_end g.z g.merger - length g.slots) u i key written e)
+recorded_merged g step o u i key written e = g.law.recorded u i key written e
+
+-- ---- no due is above the clock
+
+-- the seat's past ends within the slots
+past_ends : (s : Setting) → end_of (past_in s s.me) ≤ (v s).past
+past_ends s = let e = end_of-past s.slots (v s).past (past_below (ground s) s.me) in omega arith
+
+-- the due of the seat that made the step
+own_due : (s : Setting) (step : Step) → Opens s step → (w s step).due ≤ length (S s step)
+own_due s (Decide t deed) o = let le = longer s (Decide t deed) in let due = s.law.dues s.me in let lt = (drawn_shown (ground s) s.me t o.0).1 in
+    by_test (λ b. cond b (t + 1) (v s).due ≤ length (S s (Decide t deed))) (x s (Decide t deed)) 0 (λ _. omega arith) (λ _. omega arith)
+own_due s (Unpin end) o = let past = past_below (ground s) s.me in ended_within (past_in s s.me) s.me (v s) (length s.slots) (s.law.dues s.me) past (let reach = past_ends s in omega arith) (v s).snapshot end refl o.1
+own_due s (Fill Key a) o = s.law.dues s.me
+own_due s (Look Clock) o = s.law.dues s.me
+own_due s step o = let le = longer s step in let due = s.law.dues s.me in omega arith
+
+pub dues_kept : (s : Setting) (step : Step) → Opens s step → AreAtMost (each s.z due_of (V s step)) (length (S s step))
+dues_kept s step o = at_views s.z s.views s.me (w s step) s.inside (λ i u. u.due ≤ length (S s step)) (own_due s step o) (λ i ne. let le = longer s step in let due = s.law.dues i in omega arith)
+
+pub dues_merged : (g : Ground) (step : Step) → OpensTo g step → AreAtMost (each g.z due_of g.views) (length (slots' g step))
+dues_merged g step o i = let le = longer' g step in let due = g.law.dues i in omega arith
+
+-- ---- no due is above an own undecided time
+
+-- what is undecided after the step was so before it
+was_undecided : (slot slot' : ℕ → Option Slot) (t : ℕ) → ((b : Slot) → slot t ≡ Some b → slot' t ≡ Some b) → slot' t ≡ None → slot t ≡ None
+was_undecided slot slot' t stays none = is (slot t) refl where
+  is : (o : Option Slot) → slot t ≡ o → slot t ≡ None
+  is None e = e
+  is (Some b) e = absurd (let kept = stays b e in cc (kept, none))
+
+-- a time that is not given up was drawn
+still_drawn : (d : Option ℕ) (t u : ℕ) → given_up d t ≡ Some u → d ≡ Some u
+still_drawn None t u e = e
+still_drawn (Some y) t u e = by_test (λ b. cond b None (Some y) ≡ Some u → Some y ≡ Some u) y t (λ _ e. absurd cc) (λ _ e. e) e
+
+-- each due before the step is not above an own time that is undecided after it
+own_dues_before : (s : Setting) (step : Step) → Opens s step → (i u : ℕ) → each s.z drawn_of s.views i ≡ Some u → slot_at (S s step) u ≡ None → each s.z due_of s.views i ≤ u
+own_dues_before s step o i u d none = s.law.own_dues i u d (was_undecided (slot_at s.slots) (slot_at (S s step)) u (slots_stay s step o u) none)
+
+-- and the due after it, of the seat that made the step
+own_due_below : (s : Setting) (step : Step) → Opens s step → (u : ℕ) → (w s step).drawn ≡ Some u → slot_at (S s step) u ≡ None → (w s step).due ≤ u
+own_due_below s (Draw t) o u = by_test (λ b. cond b (Some t) (v s).drawn ≡ Some u → slot_at (S s (Draw t)) u ≡ None → (v s).due ≤ u) (x s (Draw t)) t
+    (λ e d none. let due = s.law.dues s.me in let clock = s.law.clock in let same : t ≡ u = cc in let at : x s (Draw t) ≡ length s.slots = clock in omega arith)
+    (λ _ d none. own_dues_before s (Draw t) o s.me u d none)
+own_due_below s (Decide t deed) o u = λ d none. absurd cc
+own_due_below s (Cancel t) o u = λ d none. own_dues_before s (Cancel t) o s.me u (still_drawn (v s).drawn t u d) none
+own_due_below s (Unpin end) o u = λ d none. let past = past_under s.slots (v s).past u (s.law.past s.me) none in
+    ended_within (past_in s s.me) s.me (v s) u (s.law.own_dues s.me u d none) past (let reach = past_ends s in omega arith) (v s).snapshot end refl o.1
+  where
+    -- what is undecided is not below a past
+    past_under : (slots : List (Option Slot)) (past u : ℕ) → ((t : ℕ) → t < past → slot_at slots t ≢ None) → slot_at slots u ≡ None → past ≤ u
+    past_under slots past u decided none = elim (cases_lt u past) [ inl lt ↦ absurd (decided u lt none) | inr le ↦ le ]
+own_due_below s (Fill Key a) o u = own_dues_before s (Fill Key a) o s.me u
+own_due_below s (Look Clock) o u = own_dues_before s (Look Clock) o s.me u
+own_due_below s step o u = own_dues_before s step o s.me u
+
+pub own_dues_kept : (s : Setting) (step : Step) → Opens s step → AreDuesBelowOwn (each s.z drawn_of (V s step)) (slot_at (S s step)) (each s.z due_of (V s step))
+own_dues_kept s step o = at_views s.z s.views s.me (w s step) s.inside (λ i u. (t : ℕ) → u.drawn ≡ Some t → slot_at (S s step) t ≡ None → u.due ≤ t) (own_due_below s step o) (λ i ne. own_dues_before s step o i)
+
+pub own_dues_merged : (g : Ground) (step : Step) → OpensTo g step → AreDuesBelowOwn (each g.z drawn_of g.views) (slot_at (slots' g step)) (each g.z due_of g.views)
+own_dues_merged g step o i u d none = g.law.own_dues i u d (was_undecided (slot_at g.slots) (slot_at (slots' g step)) u (slots_stay' g step o u) none)

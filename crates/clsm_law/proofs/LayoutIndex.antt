@@ -1,0 +1,115 @@
+-- Each word there is stands in the row, and no two stand at one place.
+use Rattle.std.proofs.Common.{◌≡◌, ℕ, zero, suc, ◌+◌, ◌*◌, ◌<◌, ◌&&◌, true, length, get_or, nat_lt, refl, ap, arith}
+use Rattle.std.proofs.lemmas.Bool.{and_parts, ltb-true}
+use Rattle.clsm_law.specs.declared.layout.Layout.{Layout}
+use Rattle.clsm_law.specs.declared.word.Word.{Word}
+use Rattle.clsm_law.specs.declared.word.Word.TheVariants.{Lock, Clock, Limit, Front, Merged, Pin, Snap, Head, Cell, State, Count, Entry}
+use Rattle.clsm_law.specs.declared.word.Part.{Part}
+use Rattle.clsm_law.specs.declared.word.Part.TheVariants.{Key, Length, Value, Next}
+use Rattle.clsm_law.specs.Memory.{is_part, is_word, room_of}
+use Rattle.clsm_law.specs.Layout.{blocks, block_of, offset_of, part_offset, place_size, start_of, index_of, size_of}
+use Rattle.clsm_law.proofs.LayoutBlocks.{block_inside, same_block}
+
+-- ---- each word in its block
+
+-- the block of a place has the place's size
+place_block : (z : Layout) (p : ℕ) → p < 5 → get_or (blocks z) (9 + p) 0 ≡ place_size z p
+place_block z zero h = refl
+place_block z (suc zero) h = refl
+place_block z (suc (suc zero)) h = refl
+place_block z (suc (suc (suc zero))) h = refl
+place_block z (suc (suc (suc (suc zero)))) h = refl
+place_block z (suc (suc (suc (suc (suc p))))) h = absurd (omega arith)
+
+part_inside : (part : Part) → is_part part ≡ true → part_offset part < 11
+part_inside (Value j) h = omega (arith, ltb-true j 8 h)
+part_inside Key h = omega arith
+part_inside Length h = omega arith
+part_inside Next h = omega arith
+
+record Entered (z : Layout) (p e i : ℕ) : Type 0 where
+  place : p < 5
+  entry : e < room_of z p
+  part : i < 11
+
+entered : (z : Layout) (p e i : ℕ) → is_word z (Entry p e i) ≡ true → Entered z p e i
+entered z p e i h =
+    let a = and_parts (nat_lt p 5 && nat_lt e (room_of z p)) (nat_lt i 11) h in
+    let b = and_parts (nat_lt p 5) (nat_lt e (room_of z p)) a.0 in
+    record { place = ltb-true p 5 b.0; entry = ltb-true e (room_of z p) b.1; part = ltb-true i 11 a.1 }
+
+block_below : (z : Layout) (w : Word) → is_word z w ≡ true → block_of w < length (blocks z)
+block_below z (Count p) h = omega (arith, ltb-true p 5 h)
+block_below z (Entry p e i) h = let x = entered z p e i h in omega arith
+block_below z _ h = omega arith
+
+offset_below : (z : Layout) (w : Word) → is_word z w ≡ true → offset_of w < get_or (blocks z) (block_of w) 0
+offset_below z (Pin i) h = omega (arith, ltb-true i z.seats h)
+offset_below z (Snap i) h = omega (arith, ltb-true i z.seats h)
+offset_below z (Cell c part) h =
+    let a = and_parts (nat_lt c (2 * z.cells)) (is_part part) h in
+    omega (arith, ltb-true c (2 * z.cells) a.0, part_inside part a.1)
+offset_below z (State c) h = omega (arith, ltb-true c (2 * z.cells) h)
+offset_below z (Head region shard) h =
+    let a = and_parts (nat_lt region 2) (nat_lt shard z.shards) h in
+    omega (arith, ltb-true region 2 a.0, ltb-true shard z.shards a.1)
+offset_below z (Count p) h = rw (place_block z p (ltb-true p 5 h)) (omega arith)
+offset_below z (Entry p e i) h = let x = entered z p e i h in rw (place_block z p x.place) (omega arith)
+offset_below z _ h = omega arith
+
+-- each word stands in the row
+pub index_inside : (z : Layout) (w : Word) → is_word z w ≡ true → index_of z w < size_of z
+unfolding index_of size_of start_of
+index_inside z w h = block_inside (blocks z) (block_of w) (offset_of w) (block_below z w h) (offset_below z w h)
+
+-- ---- one word at each place of a block
+
+same_part_offset : (p q : Part) → is_part p ≡ true → is_part q ≡ true → part_offset p ≡ part_offset q → p ≡ q
+same_part_offset Key Key h k e = refl
+same_part_offset Length Length h k e = refl
+same_part_offset (Value i) (Value j) h k e = let f : i ≡ j = omega arith in ap Value f
+same_part_offset Next Next h k e = refl
+same_part_offset (Value i) Next h k e = absurd (omega (arith, ltb-true i 8 h))
+same_part_offset Next (Value j) h k e = absurd (omega (arith, ltb-true j 8 k))
+same_part_offset _ _ h k e = absurd (omega arith)
+
+same_place : (z : Layout) (v w : Word) → is_word z v ≡ true → is_word z w ≡ true → block_of v ≡ block_of w → offset_of v ≡ offset_of w → v ≡ w
+same_place z Lock Lock h k b e = refl
+same_place z Clock Clock h k b e = refl
+same_place z Limit Limit h k b e = refl
+same_place z Front Front h k b e = refl
+same_place z Merged Merged h k b e = refl
+same_place z (Pin i) (Pin j) h k b e = let f : i ≡ j = omega arith in ap Pin f
+same_place z (Snap i) (Snap j) h k b e = let f : i ≡ j = omega arith in ap Snap f
+same_place z (Head r s) (Head q t) h k b e =
+    let x = ltb-true r 2 (and_parts (nat_lt r 2) (nat_lt s z.shards) h).0 in
+    let y = ltb-true q 2 (and_parts (nat_lt q 2) (nat_lt t z.shards) k).0 in
+    let f : r ≡ q = omega arith in
+    let g : s ≡ t = omega arith in cc
+same_place z (Cell c p) (Cell d q) h k b e =
+    let x = and_parts (nat_lt c (2 * z.cells)) (is_part p) h in
+    let y = and_parts (nat_lt d (2 * z.cells)) (is_part q) k in
+    let m = part_inside p x.1 in
+    let n = part_inside q y.1 in
+    let f : c ≡ d = omega arith in
+    let g = same_part_offset p q x.1 y.1 (omega arith) in cc
+same_place z (State c) (State d) h k b e = let f : c ≡ d = omega arith in ap State f
+same_place z (Cell c p) (State d) h k b e =
+    let m = part_inside p (and_parts (nat_lt c (2 * z.cells)) (is_part p) h).1 in absurd (omega arith)
+same_place z (State c) (Cell d q) h k b e =
+    let m = part_inside q (and_parts (nat_lt d (2 * z.cells)) (is_part q) k).1 in absurd (omega arith)
+same_place z (Count p) (Count q) h k b e = let f : p ≡ q = omega arith in ap Count f
+same_place z (Entry p x i) (Entry q y j) h k b e =
+    let m = entered z p x i h in
+    let n = entered z q y j k in
+    let f : p ≡ q = omega arith in
+    let g : x ≡ y = omega arith in
+    let u : i ≡ j = omega arith in cc
+same_place z _ _ h k b e = absurd (omega arith)
+
+-- no two words stand at one place
+pub index_apart : (z : Layout) (v w : Word) → is_word z v ≡ true → is_word z w ≡ true → index_of z v ≡ index_of z w → v ≡ w
+unfolding index_of start_of
+index_apart z v w h k e =
+    let s = same_block (blocks z) (block_of v) (block_of w) (offset_of v) (offset_of w) (block_below z v h) (block_below z w k) (offset_below z v h) (offset_below z w k) e in
+    same_place z v w h k s.0 s.1

@@ -1,0 +1,147 @@
+-- A seat's records by themselves: one record more, what a read's end adds, and how far the due moves.
+use Rattle.std.proofs.Common.{◌≡◌, ◌≢◌, ℕ, ◌<◌, ◌≤◌, true, false, cond, List, [], ◌∷◌, ◌++◌, length, set, sym, refl, subst, arith, inl, inr, Option, Some, None, get_or-set_other, get_or-set_same}
+use Rattle.std.specs.List.{AllByRecursion}
+use Rattle.clsm_model.specs.declared.slot.Slot.{Slot}
+use Rattle.clsm_model.specs.declared.slot.Slot.TheVariants.{Wrote}
+use Rattle.clsm_model.specs.declared.slot.Change.TheVariants.{Keep, Set, Remove as Erase}
+use Rattle.clsm_model.specs.declared.record.Deed.{Deed}
+use Rattle.clsm_model.specs.declared.record.Deed.TheVariants.{Put, Remove, Rmw, Snapshot}
+use Rattle.clsm_model.specs.declared.record.CallRecord.{CallRecord}
+use Rattle.clsm_model.specs.History.{History, end_of}
+use Rattle.clsm_model.specs.Right.{IsRight, write_by}
+use Rattle.clsm_law.specs.declared.layout.Layout.{Layout}
+use Rattle.clsm_law.specs.declared.step.End.{End}
+use Rattle.clsm_law.specs.declared.step.End.TheVariants.{Neither, Meeting, Recorded}
+use Rattle.clsm_law.specs.declared.view.View.{View}
+use Rattle.clsm_law.specs.declared.view.SnapshotState.{SnapshotState}
+use Rattle.clsm_law.specs.declared.view.SnapshotState.TheVariants.{Noted, Timed}
+use Rattle.clsm_law.specs.Relation.{idle, or_zero, SaysWrite, IsReadBelow, timed, time_of_read, is_old, IsRightAt, IsMetAt, IsEndingWith, ended_calls, ended_due}
+use Rattle.clsm_law.specs.Worlds.{view_at}
+use Rattle.clsm_law.specs.Seats.{IsRightDeed, IsRightRecord, StandsAs, IsStandingRecord, HasWrite}
+use Rattle.clsm_law.proofs.Frames.{at_each}
+use Rattle.clsm_law.proofs.Histories.{GoesOn, IsRightDeed-right, IsRight-goes_on}
+
+-- ---- a fact of each seat's view, from the one of the seat that made the step and those of the others
+pub at_views : (z : Layout) (views : List View) (me : ℕ) (w : View) → me < length views → (P : ℕ → View → Type 0) → P me w → ((i : ℕ) → i ≢ me → P i (view_at z views i)) → (i : ℕ) → P i (view_at z (set views me w) i)
+at_views z views me w lt P here other = at_each (λ i. P i (view_at z (set views me w) i)) me
+    (subst (P me) (sym (get_or-set_same views me w (idle z) lt)) here)
+    (λ i ne. subst (P i) (sym (get_or-set_other views me i w (idle z) ne)) (other i ne))
+
+-- ---- rows of records
+
+pub all_append : {X : Type 0} (P : X → Type 0) (xs ys : List X) → AllByRecursion P xs → AllByRecursion P ys → AllByRecursion P (xs ++ ys)
+all_append P [] ys a b = b
+all_append P (x ∷ xs) ys a b = (a.0, all_append P xs ys a.1 b)
+
+pub all_map : {X : Type 0} (P Q : X → Type 0) (xs : List X) → ((x : X) → P x → Q x) → AllByRecursion P xs → AllByRecursion Q xs
+all_map P Q [] f a = tt
+all_map P Q (x ∷ xs) f a = (f x a.0, all_map P Q xs f a.1)
+
+-- a write recorded stays so with records behind it
+pub has_before : (i t : ℕ) (write : Slot) (xs ys : List CallRecord) → HasWrite i t write xs → HasWrite i t write (xs ++ ys)
+has_before i t write [] ys h = absurd h
+has_before i t write (x ∷ xs) ys (inl here) = inl here
+has_before i t write (x ∷ xs) ys (inr there) = inr (has_before i t write xs ys there)
+
+-- and the last record may be it
+pub has_last : (i t : ℕ) (write : Slot) (xs : List CallRecord) (r : CallRecord) → r.time ≡ t → write_by i r.deed ≡ Some write → HasWrite i t write (xs ++ r ∷ [])
+has_last i t write [] r at is = inl (at, is)
+has_last i t write (x ∷ xs) r at is = inr (has_last i t write xs r at is)
+
+-- ---- what stands
+
+pub stands_itself : (write slot : Option Slot) → slot ≡ write → StandsAs write slot
+stands_itself None slot e = tt
+stands_itself (Some write) slot e = e
+
+pub stands_stays : (write slot slot' : Option Slot) → ((b : Slot) → slot ≡ Some b → slot' ≡ Some b) → StandsAs write slot → StandsAs write slot'
+stands_stays None slot slot' stays h = tt
+stands_stays (Some write) slot slot' stays h = stays write h
+
+-- records that stand go on standing where decided slots stay
+pub all_stand_stay : (slot slot' : ℕ → Option Slot) (i : ℕ) (calls : List CallRecord) → ((t : ℕ) (b : Slot) → slot t ≡ Some b → slot' t ≡ Some b) → AllByRecursion (IsStandingRecord slot i) calls → AllByRecursion (IsStandingRecord slot' i) calls
+all_stand_stay slot slot' i [] stays all = tt
+all_stand_stay slot slot' i (r ∷ rs) stays all = ((all.0.0, stands_stays (write_by i r.deed) (slot r.time) (slot' r.time) (stays r.time) all.0.1), all_stand_stay slot slot' i rs stays all.1)
+
+-- ---- a deed that writes
+
+-- what a Decide writes is right where its read is
+pub decided_right : (h h' : History) (u : View) (t : ℕ) (deed : Deed) → GoesOn h h' → SaysWrite u (write_by 0 deed) → IsReadBelow h u t deed → IsRightDeed h' t deed
+decided_right h h' u t (Put key written) on says below = tt
+decided_right h h' u t (Remove key) on says below = tt
+decided_right h h' u t (Rmw key old change) on says below = IsRight-goes_on h h' t (Rmw key old change) on below.1
+decided_right h h' u t deed on says below = absurd says
+
+-- the seat that a deed's write names is the seat that does it
+pub writer_of : (i j key : ℕ) (written : Option (List ℕ)) (deed : Deed) → write_by i deed ≡ Some (Wrote j key written) → i ≡ j
+writer_of i j key written (Put k words) e = cc
+writer_of i j key written (Remove k) e = cc
+writer_of i j key written (Rmw k old Keep) e = absurd cc
+writer_of i j key written (Rmw k old (Set words)) e = cc
+writer_of i j key written (Rmw k old Erase) e = cc
+writer_of i j key written deed e = absurd cc
+
+-- ---- the end of a read: u is the seat's view and n its snapshot's state, h its past
+
+-- the record of a read that stands at a time is right there
+read_right : (h : History) (u : View) (deed : Deed) (o : Option ℕ) → IsRightAt h u deed o → IsRightDeed h (or_zero o) deed
+read_right h u deed None r = absurd r
+read_right h u deed (Some s) r = IsRightDeed-right h s deed r.1
+
+-- such a deed writes nothing
+read_stands : (h : History) (i : ℕ) (u : View) (slot : Option Slot) (deed : Deed) → IsRightAt h u deed (time_of_read u deed) → StandsAs (write_by i deed) slot
+read_stands h i u slot (Put key written) r = absurd r
+read_stands h i u slot (Remove key) r = absurd r
+read_stands h i u slot (Rmw key old Keep) r = tt
+read_stands h i u slot (Rmw key old (Set written)) r = absurd r
+read_stands h i u slot (Rmw key old Erase) r = absurd r
+read_stands h i u slot deed r = tt
+
+module _ (h : History) (i : ℕ) (u : View) where
+  -- the records with which a read ends are right
+  pub ended_right : (n : SnapshotState) (end : End) → u.snapshot ≡ n → IsEndingWith h u n end → AllByRecursion (IsRightRecord h) (ended_calls i u end)
+  ended_right (Noted b) end e p = absurd p
+  ended_right (Timed b s) Neither e p = absurd p
+  ended_right (Timed b s) Meeting e p = absurd p
+  ended_right (Timed b s) (Recorded Snapshot) e p = (subst (λ (n : SnapshotState). IsRight h (or_zero (timed n)) Snapshot) (sym e) p.1, tt)
+  ended_right (Timed b s) (Recorded deed) e p = absurd p
+  ended_right n Neither e p = tt
+  ended_right n Meeting e p = tt
+  ended_right n (Recorded Snapshot) e p = absurd p
+  ended_right n (Recorded deed) e p = (read_right h u deed (time_of_read u deed) p, tt)
+
+  -- and write nothing
+  pub ended_stands : (slot : ℕ → Option Slot) (n : SnapshotState) (end : End) → IsEndingWith h u n end → AllByRecursion (IsStandingRecord slot i) (ended_calls i u end)
+  ended_stands slot (Noted b) end p = absurd p
+  ended_stands slot (Timed b s) Neither p = absurd p
+  ended_stands slot (Timed b s) Meeting p = absurd p
+  ended_stands slot (Timed b s) (Recorded Snapshot) p = ((refl, tt), tt)
+  ended_stands slot (Timed b s) (Recorded deed) p = absurd p
+  ended_stands slot n Neither p = tt
+  ended_stands slot n Meeting p = tt
+  ended_stands slot n (Recorded Snapshot) p = absurd p
+  ended_stands slot n (Recorded deed) p = ((refl, read_stands h i u (slot (or_zero (time_of_read u deed))) deed p), tt)
+
+  -- the due after a read moves no further than the past
+  module _ (bound : ℕ) (due : u.due ≤ bound) (past : u.past ≤ bound) (reach : end_of h ≤ bound) where
+    met_within : (o : Option ℕ) → IsMetAt u o → or_zero o ≤ bound
+    met_within None p = absurd p
+    met_within (Some s) p = let le = p.1 in omega arith
+
+    read_within : (deed : Deed) (o : Option ℕ) → IsRightAt h u deed o → or_zero o ≤ bound
+    read_within deed None p = absurd p
+    read_within deed (Some s) p = let le = p.1.readable.reached in omega arith
+
+    due_within : (deed : Deed) (o : Option ℕ) → IsRightAt h u deed o → cond (is_old u deed) u.due (or_zero o) ≤ bound
+    due_within deed o p = let le = read_within deed o p in elim (is_old u deed) as (λ b. cond b u.due (or_zero o) ≤ bound) [ true ↦ due | false ↦ le ]
+
+    pub ended_within : (n : SnapshotState) (end : End) → u.snapshot ≡ n → IsEndingWith h u n end → ended_due u end ≤ bound
+    ended_within (Noted b) end e p = absurd p
+    ended_within (Timed b s) Neither e p = absurd p
+    ended_within (Timed b s) Meeting e p = absurd p
+    ended_within (Timed b s) (Recorded Snapshot) e p = let le = p.1.readable.reached in subst (λ (n : SnapshotState). or_zero (timed n) ≤ bound) (sym e) (omega arith)
+    ended_within (Timed b s) (Recorded deed) e p = absurd p
+    ended_within n Neither e p = due
+    ended_within n Meeting e p = met_within u.pin_clock p
+    ended_within n (Recorded Snapshot) e p = absurd p
+    ended_within n (Recorded deed) e p = due_within deed (time_of_read u deed) p

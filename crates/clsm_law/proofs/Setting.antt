@@ -1,0 +1,234 @@
+-- A lawful world and a step of one caller's seat; and a lawful world and a step of the merger.
+use Rattle.std.proofs.Common.{◌≡◌, ◌≢◌, ℕ, zero, suc, ◌+◌, ◌-◌, ◌*◌, ◌<◌, ◌≤◌, ◌||◌, ◌&&◌, not, Bool, true, false, cond, List, [], ◌∷◌, length, set, sym, refl, ap, ◌∙◌, subst, arith, inl, inr, ⊎_elim, Option, Some, None}
+use Rattle.std.proofs.lemmas.Bool.{cases_lt}
+use Rattle.clsm_model.specs.declared.slot.Slot.{Slot}
+use Rattle.clsm_model.specs.declared.slot.Slot.TheVariants.{Nothing, Wrote}
+use Rattle.clsm_law.specs.declared.layout.Layout.{Layout}
+use Rattle.clsm_law.specs.declared.word.Word.{Word}
+use Rattle.clsm_law.specs.declared.word.Word.TheVariants.{Limit, State}
+use Rattle.clsm_law.specs.declared.step.Step.{Step}
+use Rattle.clsm_law.specs.declared.step.Step.TheVariants.{Look}
+use Rattle.clsm_law.specs.declared.view.View.{View}
+use Rattle.clsm_law.specs.declared.merger.MergerView.{MergerView}
+use Rattle.clsm_law.specs.declared.merger.Retiree.{Retiree}
+use Rattle.clsm_law.specs.declared.merger.Phase.{Phase}
+use Rattle.clsm_law.specs.declared.merger.Phase.TheVariants.{Clean, Frozen, Retired}
+use Rattle.clsm_law.specs.Memory.{Memory, cell_of, put}
+use Rattle.clsm_law.specs.Layout.{IsLayout}
+use Rattle.clsm_law.specs.Relation.{Chains, is_shared, or_zero, IsOpen, own_time, word_of, changed, view_after, slots_after, chains_after}
+use Rattle.clsm_law.specs.Merging.{is_clean, Facts, IsOpenToMerger, word_of_merger, changed_by_merger, merger_after, slots_after_merger, chains_after_merger, is_retired, is_frozen, is_all_quiet, retiree_at}
+use Rattle.clsm_law.specs.Worlds.{view_at, slot_at, past_of, facts_of}
+use Rattle.clsm_law.specs.Law.{LawOf, Shows, each, mode_of, drawn_of, held_of, pin_of, past_time_of, IsRetiredFor, first_shown, first_live, is_held_back}
+use Rattle.clsm_law.proofs.Frames.{put_same, past_end}
+use Rattle.clsm_law.proofs.Cases.{by_bool}
+use Rattle.clsm_law.proofs.Times.{Live}
+
+-- a lawful world and one of its seats
+pub record Setting : Type 0 where
+  pub z : Layout
+  pub sound : IsLayout z
+  pub memory : Memory
+  pub views : List View
+  pub merger : MergerView
+  pub slots : List (Option Slot)
+  pub chains : Chains
+  pub law : LawOf z memory views merger slots chains
+  pub me : ℕ
+  pub inside : me < length views
+
+-- the seat's view
+abbrev pub v : Setting → View
+v s = view_at s.z s.views s.me
+
+-- the word that the step finds
+abbrev pub x : Setting → Step → ℕ
+x s step = s.memory (word_of s.z s.me (v s) step)
+
+-- after the step: the seat's view, the memory, the views, the slots, the chains
+abbrev pub w : Setting → Step → View
+w s step = view_after s.z s.me (v s) step (x s step)
+
+abbrev pub M : Setting → Step → Memory
+M s step = put s.memory (word_of s.z s.me (v s) step) (changed s.z (v s) step (x s step))
+
+abbrev pub V : Setting → Step → List View
+V s step = set s.views s.me (w s step)
+
+abbrev pub S : Setting → Step → List (Option Slot)
+S s step = slots_after s.me s.slots step (x s step)
+
+abbrev pub C : Setting → Step → Chains
+C s step = chains_after s.z (v s) s.chains step (x s step)
+
+-- the step is open to the seat
+abbrev pub Opens : Setting → Step → Type 0
+Opens s step = IsOpen s.z (past_of s.slots (v s).past) (v s) step
+
+-- the seat's drawn time
+abbrev pub own : Setting → ℕ
+own s = own_time (v s)
+
+pub looked_same : (s : Setting) (c : Word) → M s (Look c) ≡ s.memory
+looked_same s c = put_same s.memory c
+
+pub own_drawn : (s : Setting) → (v s).drawn ≢ None → (v s).drawn ≡ Some (own s)
+own_drawn s ne = is (v s).drawn ne where
+  is : (o : Option ℕ) → o ≢ None → o ≡ Some (or_zero o)
+  is None ne = absurd (ne refl)
+  is (Some t) ne = refl
+
+-- a lawful world
+pub record Ground : Type 0 where
+  pub z : Layout
+  pub sound : IsLayout z
+  pub memory : Memory
+  pub views : List View
+  pub merger : MergerView
+  pub slots : List (Option Slot)
+  pub chains : Chains
+  pub law : LawOf z memory views merger slots chains
+
+abbrev pub ground : Setting → Ground
+ground s = record { z = s.z; sound = s.sound; memory = s.memory; views = s.views; merger = s.merger; slots = s.slots; chains = s.chains; law = s.law }
+
+-- ---- a step of the merger
+
+abbrev pub facts : Ground → Facts
+facts g = facts_of g.z g.memory g.merger g.slots
+
+-- the word that the merger's step finds
+abbrev pub found : Ground → Step → ℕ
+found g step = g.memory (word_of_merger g.z g.merger step)
+
+-- after the merger's step: its view, the memory, the slots, the chains
+abbrev pub merger' : Ground → Step → MergerView
+merger' g step = merger_after g.z (facts g) g.merger step (found g step)
+
+abbrev pub memory' : Ground → Step → Memory
+memory' g step = put g.memory (word_of_merger g.z g.merger step) (changed_by_merger g.z g.merger step (found g step))
+
+abbrev pub slots' : Ground → Step → List (Option Slot)
+slots' g step = slots_after_merger g.z g.merger g.slots step
+
+abbrev pub chains' : Ground → Step → Chains
+chains' g step = chains_after_merger g.chains step
+
+abbrev pub OpensTo : Ground → Step → Type 0
+OpensTo g step = IsOpenToMerger g.z (facts g) g.merger step
+
+pub merger_looked_same : (g : Ground) (c : Word) → memory' g (Look c) ≡ g.memory
+merger_looked_same g c = put_same g.memory c
+
+-- ---- plain facts of a lawful world
+
+-- one seat that is not quiet
+pub not_all_quiet : (rs : List Retiree) (i : ℕ) → i < length rs → (retiree_at rs i).quiet ≡ false → is_all_quiet rs ≡ false
+not_all_quiet [] i lt e = absurd (omega arith)
+not_all_quiet (r ∷ rs) zero lt e = ap (λ b. b && is_all_quiet rs) e
+not_all_quiet (r ∷ rs) (suc i) lt e = ap (λ b. r.quiet && b) (not_all_quiet rs i (omega arith) e) ∙ and_false r.quiet
+  where
+    and_false : (b : Bool) → (b && false) ≡ false
+    and_false true = refl
+    and_false false = refl
+
+-- where the phase is one of three, and the limit is extended only in the first
+module _ (n merged : ℕ) (extended quiet : Bool) where
+  abbrev shown : Phase → ℕ
+  shown p = cond (is_retired p && not quiet) ((merged - 1) * n) (merged * n)
+
+  abbrev live : Phase → ℕ
+  live p = cond (is_retired p) ((merged - 1) * n) (merged * n)
+
+  abbrev free : Phase → ℕ
+  free p = cond (is_frozen p || extended) ((merged + 2) * n) ((merged + 1) * n)
+
+  below : (merged - 1) * n ≤ merged * n
+  below = grind arith
+
+  live_shown : (p : Phase) → live p ≤ shown p
+  live_shown Clean = omega arith
+  live_shown Frozen = omega arith
+  live_shown Retired = elim quiet as (λ q. (merged - 1) * n ≤ cond (not q) ((merged - 1) * n) (merged * n)) [ true ↦ below | false ↦ omega arith ]
+
+  shown_merged : (p : Phase) → shown p ≤ merged * n
+  shown_merged Clean = omega arith
+  shown_merged Frozen = omega arith
+  shown_merged Retired = elim quiet as (λ q. cond (not q) ((merged - 1) * n) (merged * n) ≤ merged * n) [ true ↦ omega arith | false ↦ below ]
+
+  turn : 1 ≤ merged → (merged + 1) * n ≤ (merged - 1) * n + 2 * n
+  turn some = let e : merged - 1 + 1 ≡ merged = omega arith in subst (λ (k : ℕ). (k + 1) * n ≤ (merged - 1) * n + 2 * n) e (omega arith)
+
+  free_live : (p : Phase) → (is_retired p ≡ true → 1 ≤ merged) → (extended ≡ true → is_clean p ≡ true) → free p ≤ live p + 2 * n
+  free_live Clean some clean = elim extended as (λ e. cond e ((merged + 2) * n) ((merged + 1) * n) ≤ merged * n + 2 * n) [ true ↦ omega arith | false ↦ omega arith ]
+  free_live Frozen some clean = omega arith
+  free_live Retired some clean = by_bool (λ e. cond e ((merged + 2) * n) ((merged + 1) * n) ≤ (merged - 1) * n + 2 * n) extended (λ e. absurd (let f = clean e in cc)) (λ _. turn (some refl))
+
+module _ (g : Ground) where
+  -- what is shown is live
+  pub live_below_shown : first_live g.z g.merger ≤ first_shown g.z g.merger
+  live_below_shown = live_shown g.z.cells g.merger.merged g.merger.limit_extended (is_all_quiet g.merger.retirees) g.merger.phase
+
+  pub shown_below_merged : first_shown g.z g.merger ≤ g.merger.merged * g.z.cells
+  shown_below_merged = shown_merged g.z.cells g.merger.merged g.merger.limit_extended (is_all_quiet g.merger.retirees) g.merger.phase
+
+  -- the limit, and so the clock, is within the live times
+  pub limit_live : g.memory Limit ≤ first_live g.z g.merger + 2 * g.z.cells
+  limit_live = subst (λ (n : ℕ). n ≤ first_live g.z g.merger + 2 * g.z.cells) (sym g.law.limit)
+      (free_live g.z.cells g.merger.merged g.merger.limit_extended (is_all_quiet g.merger.retirees) g.merger.phase g.law.merger.some_merged (λ e. g.law.merger.clean (g.law.merger.extends (g.law.merger.limit_after e))))
+
+  pub clock_live : length g.slots ≤ first_live g.z g.merger + 2 * g.z.cells
+  clock_live = let a = limit_live in let b = g.law.bounded in omega arith
+
+  pub shown_live : (t : ℕ) → first_shown g.z g.merger ≤ t → t < length g.slots → Live g.z (first_live g.z g.merger) t
+  shown_live t from until = record { from = let a = live_below_shown in omega arith; until = let b = clock_live in omega arith }
+
+  -- a drawn time is of the current epoch
+  pub merged_below_limit : g.merger.merged * g.z.cells + g.z.cells ≤ g.memory Limit
+  merged_below_limit = subst (λ (n : ℕ). g.merger.merged * g.z.cells + g.z.cells ≤ n) (sym g.law.limit)
+      (elim (is_frozen g.merger.phase || g.merger.limit_extended) as (λ b. g.merger.merged * g.z.cells + g.z.cells ≤ cond b ((g.merger.merged + 2) * g.z.cells) ((g.merger.merged + 1) * g.z.cells)) [ true ↦ omega arith | false ↦ omega arith ])
+
+  pub drawn_shown : (i t : ℕ) → each g.z drawn_of g.views i ≡ Some t → (g.merger.merged * g.z.cells ≤ t) × (t < length g.slots)
+  drawn_shown i t e = let p = g.law.pending i t e in let a = p.0 in let b = merged_below_limit in (omega arith, p.1)
+
+  pub drawn_live : (i t : ℕ) → each g.z drawn_of g.views i ≡ Some t → Live g.z (first_live g.z g.merger) t
+  drawn_live i t e = let p = drawn_shown i t e in shown_live t (let a = shown_below_merged in let b = p.0 in omega arith) p.1
+
+  -- the state of a shown time tells whether it is decided
+  undecided_if : (c : ℕ) (o : Option Slot) → Shows g.memory c o → g.memory (State c) ≡ 0 → o ≡ None
+  undecided_if c None h e = refl
+  undecided_if c (Some Nothing) h e = absurd (omega arith)
+  undecided_if c (Some (Wrote i key None)) h e = absurd (omega (arith, h.0))
+  undecided_if c (Some (Wrote i key (Some written))) h e = absurd (omega (arith, h.0))
+
+  pub undecided : (t : ℕ) → first_shown g.z g.merger ≤ t → t < length g.slots → g.memory (State (cell_of g.z t)) ≡ 0 → slot_at g.slots t ≡ None
+  undecided t from until e = undecided_if (cell_of g.z t) (slot_at g.slots t) (g.law.shown t from until) e
+
+  decided_if : (c : ℕ) (o : Option Slot) → Shows g.memory c o → g.memory (State c) ≢ 0 → o ≢ None
+  decided_if c None h ne e = ne h
+  decided_if c (Some slot) h ne e = absurd cc
+
+  pub decided : (t : ℕ) → first_shown g.z g.merger ≤ t → t < length g.slots → g.memory (State (cell_of g.z t)) ≢ 0 → slot_at g.slots t ≢ None
+  decided t from until ne = decided_if (cell_of g.z t) (slot_at g.slots t) (g.law.shown t from until) ne
+
+  -- only drawn times are known
+  pub past_below : (i : ℕ) → each g.z past_time_of g.views i ≤ length g.slots
+  past_below i = elim (cases_lt (length g.slots) (each g.z past_time_of g.views i)) [
+    | inl lt ↦ absurd (g.law.past i (length g.slots) lt (past_end g.slots))
+    | inr le ↦ le
+  ]
+
+  -- no seat has drawn a time while the merger holds the lock
+  pub none_drawn : g.merger.exclusive ≡ true → (i t : ℕ) → each g.z drawn_of g.views i ≢ Some t
+  none_drawn e i t d = let free = g.law.locked_out e i in let holds = g.law.holding i t d in
+      absurd (let yes : is_shared (each g.z mode_of g.views i) ≡ true = ap is_shared holds in cc)
+
+  -- who holds a component holds one whose cells are shown
+  pub held_shown : (i c : ℕ) → i < length g.views → each g.z held_of g.views i ≡ Some c → first_shown g.z g.merger ≤ c * g.z.cells
+  held_shown i c lt e = ⊎_elim
+      (λ (same : c ≡ g.merger.merged). let a = shown_below_merged in subst (λ (k : ℕ). first_shown g.z g.merger ≤ k * g.z.cells) (sym same) a)
+      (λ (r : IsRetiredFor g.merger i (each g.z pin_of g.views i) c).
+      let loud : is_all_quiet g.merger.retirees ≡ false = not_all_quiet g.merger.retirees i (let a = g.law.merger.seats in let b = g.law.seated in omega arith) r.loud in
+      let back : is_held_back g.merger ≡ true = rw (r.retired, loud) refl in
+      let before : g.merger.merged - 1 ≡ c = let a = r.before in omega arith in
+      rw (back, before) (omega arith))
+      (g.law.held i c e).1

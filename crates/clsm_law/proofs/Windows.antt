@@ -1,0 +1,100 @@
+-- The window of the live and of the shown times never falls back under a step of the merger.
+use Rattle.std.proofs.Common.{◌≡◌, ℕ, zero, suc, ◌+◌, ◌-◌, ◌*◌, ◌≤◌, ◌&&◌, not, Bool, true, false, cond, List, [], ◌∷◌, set, replicate, sym, refl, ap, subst, arith}
+use Rattle.std.proofs.lemmas.Bool.{and_parts}
+use Rattle.clsm_law.specs.declared.word.Word.TheVariants.{Pin}
+use Rattle.clsm_law.specs.declared.step.Step.{Step}
+use Rattle.clsm_law.specs.declared.step.Step.TheVariants.{LeaveExclusive, Look, ClearState, Publish}
+use Rattle.clsm_law.specs.declared.merger.Phase.{Phase}
+use Rattle.clsm_law.specs.declared.merger.Phase.TheVariants.{Clean, Frozen, Retired}
+use Rattle.clsm_law.specs.declared.merger.Retiree.{Retiree}
+use Rattle.clsm_law.specs.Merging.{unseen, is_retired, is_all_quiet, retiree_at, retiree_by}
+use Rattle.clsm_law.specs.Law.{first_shown, first_live}
+use Rattle.clsm_law.proofs.Setting.{Ground, facts, merger', found, OpensTo}
+
+-- a look at a pin word takes no seat's quiet back
+quiet_stays : (r : Retiree) (x : ℕ) → r.quiet ≡ true → (retiree_by r x).quiet ≡ true
+quiet_stays r x e = rw e refl
+
+pub all_quiet_stays : (rs : List Retiree) (i x : ℕ) → is_all_quiet rs ≡ true → is_all_quiet (set rs i (retiree_by (retiree_at rs i) x)) ≡ true
+all_quiet_stays [] i x e = refl
+all_quiet_stays (r ∷ rs) zero x e = let p = and_parts r.quiet (is_all_quiet rs) e in rw (quiet_stays r x p.0) p.1
+all_quiet_stays (r ∷ rs) (suc i) x e = let p = and_parts r.quiet (is_all_quiet rs) e in rw p.0 (all_quiet_stays rs i x p.1)
+
+-- at first no seat is quiet
+pub none_quiet : (seats : ℕ) → 1 ≤ seats → is_all_quiet (replicate seats unseen) ≡ false
+none_quiet zero some = absurd (omega arith)
+none_quiet (suc n) some = refl
+
+-- the first shown time by the phase and by whether all are quiet, and the first live time by the phase
+module _ (n merged : ℕ) where
+  abbrev shown : Phase → Bool → ℕ
+  shown p quiet = cond (is_retired p && not quiet) ((merged - 1) * n) (merged * n)
+
+  abbrev live : Phase → ℕ
+  live p = cond (is_retired p) ((merged - 1) * n) (merged * n)
+
+  below : (merged - 1) * n ≤ merged * n
+  below = grind arith
+
+  shown_quiet : (p : Phase) → shown p true ≡ merged * n
+  shown_quiet Clean = refl
+  shown_quiet Frozen = refl
+  shown_quiet Retired = refl
+
+  shown_most : (p : Phase) (quiet : Bool) → shown p quiet ≤ merged * n
+  shown_most Clean quiet = omega arith
+  shown_most Frozen quiet = omega arith
+  shown_most Retired true = omega arith
+  shown_most Retired false = below
+
+  live_most : (p : Phase) → live p ≤ merged * n
+  live_most Clean = omega arith
+  live_most Frozen = omega arith
+  live_most Retired = below
+
+  -- where more are quiet, no less is passed
+  quieter : (p : Phase) (a b : Bool) → (a ≡ true → b ≡ true) → shown p a ≤ shown p b
+  quieter p a true more = subst (λ (k : ℕ). shown p a ≤ k) (sym (shown_quiet p)) (shown_most p a)
+  quieter p true false more = absurd (let e = more refl in cc)
+  quieter p false false more = omega arith
+
+  -- a freeze begins where nothing is retired
+  frozen_shown : (b : Bool) (p : Phase) (quiet : Bool) → shown p quiet ≤ shown (cond b Frozen p) quiet
+  frozen_shown true p quiet = shown_most p quiet
+  frozen_shown false p quiet = omega arith
+
+  frozen_live : (b : Bool) (p : Phase) → live p ≤ live (cond b Frozen p)
+  frozen_live true p = live_most p
+  frozen_live false p = omega arith
+
+  -- the end of a cleaning
+  cleaned_shown : (b : Bool) (p : Phase) (quiet : Bool) → shown p quiet ≤ shown (cond b Clean p) quiet
+  cleaned_shown true p quiet = shown_most p quiet
+  cleaned_shown false p quiet = omega arith
+
+  cleaned_live : (b : Bool) (p : Phase) → live p ≤ live (cond b Clean p)
+  cleaned_live true p = live_most p
+  cleaned_live false p = omega arith
+
+-- one merge more: the first time of the component that is now retired
+one_back : (merged n : ℕ) → (merged + 1 - 1) * n ≡ merged * n
+one_back merged n = let e : merged + 1 - 1 ≡ merged = omega arith in ap (λ (k : ℕ). k * n) e
+
+pub shown_rises : (g : Ground) (step : Step) → OpensTo g step → first_shown g.z g.merger ≤ first_shown g.z (merger' g step)
+shown_rises g LeaveExclusive o = frozen_shown g.z.cells g.merger.merged g.merger.limit_extended g.merger.phase (is_all_quiet g.merger.retirees)
+shown_rises g (Look (Pin i)) o = elim (is_retired g.merger.phase) as (λ b. first_shown g.z g.merger ≤ first_shown g.z (record g.merger { retirees = cond b (set g.merger.retirees i (retiree_by (retiree_at g.merger.retirees i) (found g (Look (Pin i))))) g.merger.retirees })) [
+  | true ↦ quieter g.z.cells g.merger.merged g.merger.phase (is_all_quiet g.merger.retirees) _ (all_quiet_stays g.merger.retirees i (found g (Look (Pin i))))
+  | false ↦ omega arith
+]
+shown_rises g (Look word) o = omega arith
+shown_rises g (ClearState cell) o = cleaned_shown g.z.cells g.merger.merged ((facts g).last cell) g.merger.phase (is_all_quiet g.merger.retirees)
+shown_rises g Publish o = rw (none_quiet g.z.seats g.sound.1.0, one_back g.merger.merged g.z.cells) (shown_most g.z.cells g.merger.merged g.merger.phase (is_all_quiet g.merger.retirees))
+shown_rises g step o = omega arith
+
+pub live_rises : (g : Ground) (step : Step) → OpensTo g step → first_live g.z g.merger ≤ first_live g.z (merger' g step)
+live_rises g LeaveExclusive o = frozen_live g.z.cells g.merger.merged g.merger.limit_extended g.merger.phase
+live_rises g (Look (Pin i)) o = omega arith
+live_rises g (Look word) o = omega arith
+live_rises g (ClearState cell) o = cleaned_live g.z.cells g.merger.merged ((facts g).last cell) g.merger.phase
+live_rises g Publish o = rw (one_back g.merger.merged g.z.cells) (live_most g.z.cells g.merger.merged g.merger.phase)
+live_rises g step o = omega arith

@@ -1,0 +1,41 @@
+-- The word of an open step is there.
+use Rattle.std.proofs.Common.{◌≡◌, ℕ, ◌*◌, ◌%◌, ◌<◌, ◌&&◌, true, Bool, nat_lt, refl, arith}
+use Rattle.std.proofs.lemmas.Bool.{lt-ltb}
+use Rattle.std.proofs.lemmas.Nat.{mod_below}
+use Rattle.clsm_law.specs.declared.step.Step.{Step}
+use Rattle.clsm_law.specs.declared.step.Step.TheVariants.{Fill, Link, Decide, Cancel, Pin, Unpin, Look, Note, CloseSnapshot, Pad, WriteRun, ClearHead, ClearState}
+use Rattle.clsm_law.specs.Memory.{cell_of, is_word, is_part}
+use Rattle.clsm_law.specs.Relation.{word_of, own_time, or_zero}
+use Rattle.clsm_law.specs.Merging.{word_of_merger}
+use Rattle.clsm_law.proofs.Times.{cell_below, region_below}
+use Rattle.clsm_law.proofs.Setting.{Setting, Ground, v, Opens, OpensTo}
+
+both : (a b : Bool) → a ≡ true → b ≡ true → (a && b) ≡ true
+both a b e f = rw (e, f) refl
+
+some_cells : (s : Setting) → 0 < s.z.cells
+some_cells s = let a = s.sound.0 in omega (arith, a.0)
+
+module _ (g : Ground) where
+  pub cell_there : (t : ℕ) → nat_lt (cell_of g.z t) (2 * g.z.cells) ≡ true
+  cell_there t = lt-ltb (cell_of g.z t) (2 * g.z.cells) (cell_below g.z t (omega (arith, g.sound.0.0)))
+
+  pub word_there' : (step : Step) → OpensTo g step → is_word g.z (word_of_merger g.z g.merger step) ≡ true
+  word_there' (Look word) o = o
+  word_there' (Pad t) o = cell_there t
+  word_there' (WriteRun word x) o = o.2
+  word_there' (ClearHead region shard) o = both (nat_lt region 2) (nat_lt shard g.z.shards) (lt-ltb region 2 (let a = o.2 in omega arith)) (lt-ltb shard g.z.shards o.3)
+  word_there' (ClearState cell) o = lt-ltb cell (2 * g.z.cells) o.2
+  word_there' step o = refl
+
+pub word_there : (s : Setting) (step : Step) → Opens s step → is_word s.z (word_of s.z s.me (v s) step) ≡ true
+word_there s (Fill part w) o = both (nat_lt (cell_of s.z (own_time (v s))) (2 * s.z.cells)) (is_part part) (lt-ltb _ _ (cell_below s.z (own_time (v s)) (some_cells s))) o.2
+word_there s (Link head) o = both _ _ (lt-ltb _ 2 (region_below s.z (cell_of s.z (own_time (v s))))) (lt-ltb (or_zero (v s).key % s.z.shards) s.z.shards (mod_below (or_zero (v s).key) s.z.shards (omega (arith, s.sound.2.0))))
+word_there s (Decide t deed) o = lt-ltb _ _ (cell_below s.z t (some_cells s))
+word_there s (Cancel t) o = lt-ltb _ _ (cell_below s.z t (some_cells s))
+word_there s Pin o = let a = s.inside in let b = s.law.seated in lt-ltb s.me s.z.seats (omega arith)
+word_there s (Unpin end) o = let a = s.inside in let b = s.law.seated in lt-ltb s.me s.z.seats (omega arith)
+word_there s (Look word) o = o.0
+word_there s (Note b) o = let a = s.inside in let b = s.law.seated in lt-ltb s.me s.z.seats (omega arith)
+word_there s CloseSnapshot o = let a = s.inside in let b = s.law.seated in lt-ltb s.me s.z.seats (omega arith)
+word_there s step o = refl

@@ -1,0 +1,419 @@
+-- The law of a world: what every open step keeps. Each clause is stated over the few functions that it names.
+use Rattle.std.specs.Prelude.{◌≡◌, ◌≢◌, ℕ, ◌+◌, ◌-◌, ◌*◌, ◌%◌, ◌^◌, ◌<◌, ◌≤◌, ◌&&◌, ◌||◌, ◌⊎◌, Bool, true, false, not, cond, List, [], ◌∷◌, length, slice_index, slice_index_or, Option, Some, None}
+use Rattle.std.specs.List.{AllByRecursion, sum_by}
+use Rattle.clsm_model.specs.declared.slot.Slot.{Slot}
+use Rattle.clsm_model.specs.declared.slot.Slot.TheVariants.{Nothing, Wrote}
+use Rattle.clsm_model.specs.declared.record.CallRecord.{CallRecord}
+use Rattle.clsm_model.specs.History.{History}
+use Rattle.clsm_levels.specs.Content.{IsContent}
+use Rattle.clsm_levels.specs.Place.{AreWithin}
+use Rattle.clsm_law.specs.declared.layout.Layout.{Layout}
+use Rattle.clsm_law.specs.declared.word.Word.TheVariants.{Lock, Clock, Limit, Front, Merged, Pin, Snap, Head, Cell, State, Count}
+use Rattle.clsm_law.specs.declared.word.Part.{Part}
+use Rattle.clsm_law.specs.declared.word.Part.TheVariants.{Key, Length, Value, Next}
+use Rattle.clsm_law.specs.declared.view.View.{View}
+use Rattle.clsm_law.specs.declared.view.Mode.{Mode}
+use Rattle.clsm_law.specs.declared.view.Mode.TheVariants.{Shared, Exclusive}
+use Rattle.clsm_law.specs.declared.view.SnapshotState.{SnapshotState}
+use Rattle.clsm_law.specs.declared.view.SnapshotState.TheVariants.{Absent, Noted, Timed, Open}
+use Rattle.clsm_law.specs.declared.merger.MergerView.{MergerView}
+use Rattle.clsm_law.specs.declared.merger.Round.{Round}
+use Rattle.clsm_law.specs.Memory.{Memory, cell_of, region_of, room_of}
+use Rattle.clsm_law.specs.Places.{is_named, held_at}
+use Rattle.clsm_law.specs.Relation.{IsShort, Chains, is_shared, length_of, words_of, state_of, open_time}
+use Rattle.clsm_law.specs.Merging.{is_clean, is_frozen, is_retired, is_all_quiet, retiree_at, epoch_end}
+use Rattle.clsm_law.specs.Seats.{IsRightRecord, IsStandingRecord, HasWrite, IsRising}
+use Rattle.clsm_law.specs.Worlds.{view_at, slot_at, past_of, history_of, runs_of, are_canonical}
+
+-- ---- the functions that the clauses name
+
+-- a field of each view
+abbrev pub each : {A : Type 0} → Layout → (View → A) → List View → ℕ → A
+each z f views i = f (view_at z views i)
+
+-- how the seat holds the lock
+abbrev pub mode_of : View → Mode
+mode_of v = v.mode
+
+-- the time that it drew and has neither decided nor given up
+abbrev pub drawn_of : View → Option ℕ
+drawn_of v = v.drawn
+
+-- the key that it filled in the drawn cell
+abbrev pub key_of : View → Option ℕ
+key_of v = v.key
+
+-- the drawn cell is linked
+abbrev pub linked_of : View → Bool
+linked_of v = v.linked
+
+-- the last look at CLOCK, while it is fresh
+abbrev pub fresh_clock_of : View → Option ℕ
+fresh_clock_of v = v.fresh_clock
+
+-- the look at LIMIT in the last hold of the lock
+abbrev pub hold_limit_of : View → Option ℕ
+hold_limit_of v = v.hold_limit
+
+-- the look at CLOCK in the last hold of the lock
+abbrev pub hold_clock_of : View → Option ℕ
+hold_clock_of v = v.hold_clock
+
+-- its pin word
+abbrev pub pin_of : View → ℕ
+pin_of v = v.pin
+
+-- a read of the seat runs
+abbrev pub pinned_of : View → Bool
+pinned_of v = v.pinned
+
+-- the component that it holds
+abbrev pub held_of : View → Option ℕ
+held_of v = v.held
+
+-- the last look at CLOCK, whenever it was
+abbrev pub clock_of : View → Option ℕ
+clock_of v = v.clock
+
+-- the last look at CLOCK under the pin
+abbrev pub pin_clock_of : View → Option ℕ
+pin_clock_of v = v.pin_clock
+
+-- how far it is with its snapshot
+abbrev pub snapshot_of : View → SnapshotState
+snapshot_of v = v.snapshot
+
+-- the time below which it found each one decided
+abbrev pub reached_of : View → ℕ
+reached_of v = v.reached
+
+-- the end of its past: the history below that time
+abbrev pub past_time_of : View → ℕ
+past_time_of v = v.past
+
+-- the time below which it makes no later call, those under an open snapshot apart
+abbrev pub due_of : View → ℕ
+due_of v = v.due
+
+-- its records, in order
+abbrev pub calls_of : View → List CallRecord
+calls_of v = v.calls
+
+-- a part of the drawn cell, where the seat has filled it
+abbrev pub part_of : View → Part → Option ℕ
+part_of v Key = v.key
+part_of v Length = v.length
+part_of v (Value j) = slice_index_or v.words j None
+part_of v Next = v.next
+
+-- 1 for a seat that holds the lock shared
+abbrev pub holders : View → ℕ
+holders v = cond (is_shared v.mode) 1 0
+
+-- readers may still hold the retired component
+abbrev pub is_held_back : MergerView → Bool
+is_held_back m = is_retired m.phase && not (is_all_quiet m.retirees)
+
+-- the first time whose cell still shows its slot
+abbrev pub first_shown : Layout → MergerView → ℕ
+first_shown z m = cond (is_held_back m) ((m.merged - 1) * z.cells) (m.merged * z.cells)
+
+-- the first of the 2N times that have the cells
+abbrev pub first_live : Layout → MergerView → ℕ
+first_live z m = cond (is_retired m.phase) ((m.merged - 1) * z.cells) (m.merged * z.cells)
+
+-- the first time that may not be drawn: the end of the epoch that is written, which is the next one as soon as a freeze moved the limit
+abbrev pub first_free : Layout → MergerView → ℕ
+first_free z m = cond (is_frozen m.phase || m.limit_extended) ((m.merged + 2) * z.cells) ((m.merged + 1) * z.cells)
+
+-- ---- lists of times
+
+-- the time stands in the list
+abbrev pub In : ℕ → List ℕ → Type 0
+In t [] = ⊥
+In t (u ∷ us) = (u ≡ t) ⊎ In t us
+
+-- no time stands twice in the list
+abbrev pub Distinct : List ℕ → Type 0
+Distinct [] = Unit {0}
+Distinct (u ∷ us) = (¬ In u us) × Distinct us
+
+-- ---- the clauses
+
+-- each slot below the time is decided
+abbrev pub IsDecidedBelow : (ℕ → Option Slot) → ℕ → Type 0
+IsDecidedBelow slot bound = (t : ℕ) → t < bound → slot t ≢ None
+
+-- each slot below a bound that the seat has is decided
+abbrev pub AreDecidedBelow : (ℕ → Option Slot) → (ℕ → ℕ) → Type 0
+AreDecidedBelow slot bound = (i t : ℕ) → t < bound i → slot t ≢ None
+
+-- while the merger holds the lock no caller does
+abbrev pub IsLockedOut : Bool → (ℕ → Mode) → Type 0
+IsLockedOut exclusive mode = exclusive ≡ true → (i : ℕ) → is_shared (mode i) ≡ false
+
+-- no caller holds the lock exclusively
+abbrev pub AreCallers : (ℕ → Mode) → Type 0
+AreCallers mode = (i : ℕ) → mode i ≢ Exclusive
+
+-- who has drawn a time holds the lock
+abbrev pub AreHolding : (ℕ → Option ℕ) → (ℕ → Mode) → Type 0
+AreHolding drawn mode = (i t : ℕ) → drawn i ≡ Some t → mode i ≡ Shared
+
+-- a drawn time is of the current epoch, and undecided, or another seat cancelled it
+abbrev pub ArePending : Layout → ℕ → (ℕ → Option ℕ) → ℕ → (ℕ → Option Slot) → Type 0
+ArePending z limit drawn clock slot = (i t : ℕ) → drawn i ≡ Some t → (limit ≤ t + z.cells) × (t < clock) × ((slot t ≡ None) ⊎ (slot t ≡ Some Nothing))
+
+-- an undecided time has an owner
+abbrev pub AreOwned : (ℕ → Option ℕ) → ℕ → (ℕ → Option Slot) → Type 0
+AreOwned drawn clock slot = (t : ℕ) → t < clock → slot t ≡ None → (i : ℕ) × (drawn i ≡ Some t)
+
+-- and no more than one
+abbrev pub AreAlone : (ℕ → Option ℕ) → Type 0
+AreAlone drawn = (i j t : ℕ) → drawn i ≡ Some t → drawn j ≡ Some t → i ≡ j
+
+-- a part that is filled equals the word
+abbrev pub AreFilled : Layout → Memory → (ℕ → Option ℕ) → (ℕ → Part → Option ℕ) → Type 0
+AreFilled z memory drawn part = (i t w : ℕ) (p : Part) → drawn i ≡ Some t → part i p ≡ Some w → memory (Cell (cell_of z t) p) ≡ w
+
+-- no write has more words than a cell, and a value has at least one
+abbrev pub AreShort : (ℕ → Option Slot) → Type 0
+AreShort slot = (t i key : ℕ) (written : Option (List ℕ)) → slot t ≡ Some (Wrote i key written) → IsShort written
+
+-- the cell shows what its time came to
+abbrev pub Shows : Memory → ℕ → Option Slot → Type 0
+Shows memory c None = memory (State c) ≡ 0
+Shows memory c (Some Nothing) = memory (State c) ≡ 1
+Shows memory c (Some (Wrote i key written)) = (memory (State c) ≡ state_of written) × (memory (Cell c Key) ≡ key) × (memory (Cell c Length) ≡ length_of written) × ((j : ℕ) → j < 8 → memory (Cell c (Value j)) ≡ slice_index (words_of written) j)
+
+-- each cell from the first time shown on shows what its time came to
+abbrev pub AreShown : Layout → Memory → ℕ → ℕ → (ℕ → Option Slot) → Type 0
+AreShown z memory first clock slot = (t : ℕ) → first ≤ t → t < clock → Shows memory (cell_of z t) (slot t)
+
+-- the cell of an undrawn time is empty; a freeze cancels those of its epoch
+abbrev pub AreEmpty : Layout → Memory → Bool → ℕ → ℕ → ℕ → Type 0
+AreEmpty z memory padded clock epoch_end end = (t : ℕ) → clock ≤ t → t < end → (memory (State (cell_of z t)) ≡ 0) ⊎ ((padded ≡ true) × (t < epoch_end) × (memory (State (cell_of z t)) ≡ 1))
+
+-- from the word h on, the words NEXT lead through the cells of these times, and end
+abbrev pub IsChain : Layout → Memory → ℕ → List ℕ → Type 0
+IsChain z memory h [] = h ≡ 0
+IsChain z memory h (t ∷ ts) = (h ≡ cell_of z t + 1) × IsChain z memory (memory (Cell (cell_of z t) Next)) ts
+
+-- from each head the words NEXT lead through the cells of its chain and end
+abbrev pub AreChained : Layout → Memory → Chains → Type 0
+AreChained z memory chains = (r s : ℕ) → r < 2 → s < z.shards → IsChain z memory (memory (Head r s)) (chains r s)
+
+-- a chain holds drawn times of the epoch in its region, whose keys are of its shard
+pub record IsIn (z : Layout) (memory : Memory) (first clock r s t : ℕ) : Type 0 where
+  pub live : first ≤ t
+  pub drawn : t < clock
+  pub region : region_of z (cell_of z t) ≡ r
+  pub shard : memory (Cell (cell_of z t) Key) % z.shards ≡ s
+
+-- and that is so of each time in each chain
+abbrev pub AreIn : Layout → Memory → ℕ → ℕ → Chains → Type 0
+AreIn z memory first clock chains = (r s t : ℕ) → In t (chains r s) → IsIn z memory first clock r s t
+
+-- no time stands twice in a chain
+abbrev pub AreOnce : Chains → Type 0
+AreOnce chains = (r s : ℕ) → Distinct (chains r s)
+
+-- the time stands in the chain of the key
+abbrev pub IsLinkedAt : Layout → Chains → ℕ → ℕ → Type 0
+IsLinkedAt z chains t key = In t (chains (region_of z (cell_of z t)) (key % z.shards))
+
+-- each write from the first time shown on stands in the chain of its key
+abbrev pub AreStanding : Layout → ℕ → (ℕ → Option Slot) → Chains → Type 0
+AreStanding z first slot chains = (t i key : ℕ) (written : Option (List ℕ)) → first ≤ t → slot t ≡ Some (Wrote i key written) → IsLinkedAt z chains t key
+
+-- a drawn time whose cell is linked stands in the chain of the key that was filled
+abbrev pub AreLinked : Layout → (ℕ → Option ℕ) → (ℕ → Option ℕ) → (ℕ → Bool) → Chains → Type 0
+AreLinked z drawn key linked chains = (i t : ℕ) → drawn i ≡ Some t → linked i ≡ true → (k : ℕ) × (key i ≡ Some k) × IsLinkedAt z chains t k
+
+-- a drawn time whose cell is not linked stands in no chain
+abbrev pub AreLoose : (ℕ → Option ℕ) → (ℕ → Bool) → Chains → Type 0
+AreLoose drawn linked chains = (i t : ℕ) → drawn i ≡ Some t → linked i ≡ false → (r s : ℕ) → ¬ In t (chains r s)
+
+-- a number noted is at most the bound
+abbrev pub AreNotedBelow : (ℕ → Option ℕ) → ℕ → Type 0
+AreNotedBelow noted bound = (i x : ℕ) → noted i ≡ Some x → x ≤ bound
+
+-- the limit noted in a hold is the limit
+abbrev pub AreLimits : (ℕ → Mode) → (ℕ → Option ℕ) → ℕ → Type 0
+AreLimits mode noted limit = (i x : ℕ) → mode i ≡ Shared → noted i ≡ Some x → x ≡ limit
+
+-- PIN is the pin word that the seat knows
+abbrev pub ArePins : Layout → Memory → (ℕ → ℕ) → Type 0
+ArePins z memory pin = (i : ℕ) → i < z.seats → memory (Pin i) ≡ pin i
+
+-- a pin word is odd exactly where a read runs
+abbrev pub AreOdd : (ℕ → ℕ) → (ℕ → Bool) → Type 0
+AreOdd pin pinned = (i : ℕ) → pin i % 2 ≡ cond (pinned i) 1 0
+
+-- the pin word is the one first noted, if one was noted
+abbrev pub IsFirst : Option ℕ → ℕ → Type 0
+IsFirst None pin = Unit {0}
+IsFirst (Some first) pin = first ≡ pin
+
+-- the component is the retired one, and the seat was not found quiet
+pub record IsRetiredFor (m : MergerView) (i pin c : ℕ) : Type 0 where
+  pub before : c + 1 ≡ m.merged
+  pub retired : is_retired m.phase ≡ true
+  pub loud : (retiree_at m.retirees i).quiet ≡ false
+  pub first : IsFirst (retiree_at m.retirees i).first_pin pin
+
+-- a held component is the newest, or the retired one
+abbrev pub AreHeld : MergerView → (ℕ → Option ℕ) → (ℕ → Bool) → (ℕ → ℕ) → Type 0
+AreHeld m held pinned pin = (i c : ℕ) → held i ≡ Some c → (pinned i ≡ true) × ((c ≡ m.merged) ⊎ IsRetiredFor m i (pin i) c)
+
+-- a snapshot's time, once it has one, is not below its note and the floor
+abbrev pub IsSnapshot : ℕ → ℕ → ℕ → Bool → SnapshotState → Type 0
+IsSnapshot floor clock past pinned Absent = Unit {0}
+IsSnapshot floor clock past pinned (Noted b) = (b ≤ clock) × (pinned ≡ true)
+IsSnapshot floor clock past pinned (Timed b s) = (b ≤ s) × (floor ≤ s) × (s ≤ clock) × (pinned ≡ true)
+IsSnapshot floor clock past pinned (Open b s) = (b ≤ s) × (floor ≤ s) × (s ≤ past)
+
+-- and so of each seat's snapshot, by the seat's own past and pin
+abbrev pub AreSnapshots : ℕ → ℕ → (ℕ → ℕ) → (ℕ → Bool) → (ℕ → SnapshotState) → Type 0
+AreSnapshots floor clock past pinned snapshot = (i : ℕ) → IsSnapshot floor clock (past i) (pinned i) (snapshot i)
+
+-- what SNAP says: 0 of no snapshot, else the note plus 1
+abbrev pub note_of : SnapshotState → ℕ
+note_of Absent = 0
+note_of (Noted b) = b + 1
+note_of (Timed b s) = b + 1
+note_of (Open b s) = b + 1
+
+-- SNAP says what the seat noted
+abbrev pub AreNotes : Layout → Memory → (ℕ → SnapshotState) → Type 0
+AreNotes z memory snapshot = (i : ℕ) → i < z.seats → memory (Snap i) ≡ note_of (snapshot i)
+
+-- a snapshot's time is at or above the least noted, or the end of the epoch
+abbrev pub IsPassed : ℕ → Option ℕ → SnapshotState → Type 0
+IsPassed end None (Timed b s) = end ≤ s
+IsPassed end None (Open b s) = end ≤ s
+IsPassed end (Some least) (Timed b s) = (least ≤ s) ⊎ (end ≤ s)
+IsPassed end (Some least) (Open b s) = (least ≤ s) ⊎ (end ≤ s)
+IsPassed end least _ = Unit {0}
+
+-- of the seats that the round has passed
+abbrev pub ArePassed : Bool → Option Round → ℕ → (ℕ → SnapshotState) → Type 0
+ArePassed frozen None end snapshot = Unit {0}
+ArePassed frozen (Some r) end snapshot = frozen ≡ true → (i : ℕ) → i < r.next → IsPassed end r.least (snapshot i)
+
+-- the floors
+pub record AreFloors (z : Layout) (m : MergerView) : Type 0 where
+  pub below_end : m.floor ≤ epoch_end z m
+  pub at_rest : is_frozen m.phase ≡ false → m.floor ≤ m.merged * z.cells
+  pub merged : m.merged_floor ≤ m.floor
+  pub former : m.former_floor ≤ m.merged_floor
+  pub below_merged : m.merged_floor ≤ m.merged * z.cells
+  pub below_former : m.former_floor ≤ (m.merged - 1) * z.cells
+
+-- what the readers of a component search is exact from its floor on, and fits its places, and no word there says more than its entries
+pub record AreRuns (z : Layout) (memory : Memory) (h : History) (component floor : ℕ) : Type 0 where
+  pub content : IsContent h (runs_of memory component) floor (component * z.cells)
+  pub within : AreWithin z.cells component (held_at memory)
+  pub counts : (p : ℕ) → is_named component p ≡ true → memory (Count p) ≤ room_of z p
+  pub canonical : (p : ℕ) → is_named component p ≡ true → are_canonical memory p ≡ true
+
+-- the merger's hold of the lock, and its freeze
+pub record IsMerger (z : Layout) (m : MergerView) (clock : ℕ) : Type 0 where
+  pub seats : length m.retirees ≡ z.seats
+  pub some_merged : is_retired m.phase ≡ true → 1 ≤ m.merged
+  pub clean : m.exclusive ≡ true → is_clean m.phase ≡ true
+  pub pads : m.padded ≡ true → m.exclusive ≡ true
+  pub extends : m.clock_extended ≡ true → m.exclusive ≡ true
+  pub limit_after : m.limit_extended ≡ true → m.clock_extended ≡ true
+  pub at_end : m.clock_extended ≡ true → clock ≡ epoch_end z m
+  pub top : m.clock_extended ≡ true → (m.merged + 2) * z.cells ≤ 2 ^ 62
+
+-- ---- the seats' records
+
+-- each record of a seat is right in the seat's past
+abbrev pub AreRight : (ℕ → History) → (ℕ → List CallRecord) → Type 0
+AreRight past calls = (i : ℕ) → AllByRecursion (IsRightRecord (past i)) (calls i)
+
+-- each record of a seat has the seat's number, and the write that it made is the slot at its time
+abbrev pub AreRecordsStanding : (ℕ → Option Slot) → (ℕ → List CallRecord) → Type 0
+AreRecordsStanding slot calls = (i : ℕ) → AllByRecursion (IsStandingRecord slot i) (calls i)
+
+-- each written slot is in the records of its seat
+abbrev pub AreRecorded : (ℕ → Option Slot) → (ℕ → List CallRecord) → Type 0
+AreRecorded slot calls = (t i key : ℕ) (written : Option (List ℕ)) → slot t ≡ Some (Wrote i key written) → HasWrite i t (Wrote i key written) (calls i)
+
+-- each seat's times rise to its due, and its calls leave its snapshot open or closed
+abbrev pub AreRising : (ℕ → List CallRecord) → (ℕ → ℕ) → (ℕ → SnapshotState) → Type 0
+AreRising calls due snapshot = (i : ℕ) → IsRising (calls i) (due i) (open_time (snapshot i))
+
+-- the number that each seat has is at most the bound
+abbrev pub AreAtMost : (ℕ → ℕ) → ℕ → Type 0
+AreAtMost f bound = (i : ℕ) → f i ≤ bound
+
+-- no due is above an own undecided time
+abbrev pub AreDuesBelowOwn : (ℕ → Option ℕ) → (ℕ → Option Slot) → (ℕ → ℕ) → Type 0
+AreDuesBelowOwn drawn slot due = (i t : ℕ) → drawn i ≡ Some t → slot t ≡ None → due i ≤ t
+
+-- ---- the law
+
+-- the law of a world with these words, views, merger and slots, and with these chains of times: one field a clause
+pub record LawOf (z : Layout) (memory : Memory) (views : List View) (m : MergerView) (slots : List (Option Slot)) (chains : Chains) : Type 0 where
+  -- the lock
+  pub seated : length views ≡ z.seats
+  pub lock : memory Lock ≡ cond m.exclusive 4294967296 (sum_by holders views)
+  pub locked_out : IsLockedOut m.exclusive (each z mode_of views)
+  pub callers : AreCallers (each z mode_of views)
+  pub merger : IsMerger z m (length slots)
+  -- the clock
+  pub clock : memory Clock ≡ length slots
+  pub limit : memory Limit ≡ first_free z m
+  pub begun : m.merged * z.cells ≤ length slots
+  pub bounded : length slots ≤ memory Limit
+  pub current : memory Limit ≤ length slots + z.cells
+  pub top : memory Limit ≤ 2 ^ 62
+  pub merged : memory Merged ≡ m.merged
+  -- drawn times
+  pub holding : AreHolding (each z drawn_of views) (each z mode_of views)
+  pub pending : ArePending z (memory Limit) (each z drawn_of views) (length slots) (slot_at slots)
+  pub owned : AreOwned (each z drawn_of views) (length slots) (slot_at slots)
+  pub alone : AreAlone (each z drawn_of views)
+  pub filled : AreFilled z memory (each z drawn_of views) (each z part_of views)
+  -- decided times
+  pub front : IsDecidedBelow (slot_at slots) (memory Front)
+  pub merged_decided : IsDecidedBelow (slot_at slots) (m.merged * z.cells)
+  pub short : AreShort (slot_at slots)
+  pub shown : AreShown z memory (first_shown z m) (length slots) (slot_at slots)
+  pub empty : AreEmpty z memory m.padded (length slots) (epoch_end z m) (first_live z m + 2 * z.cells)
+  -- chains
+  pub chained : AreChained z memory chains
+  pub lies : AreIn z memory (first_live z m) (length slots) chains
+  pub once : AreOnce chains
+  pub standing : AreStanding z (first_shown z m) (slot_at slots) chains
+  pub linked : AreLinked z (each z drawn_of views) (each z key_of views) (each z linked_of views) chains
+  pub loose : AreLoose (each z drawn_of views) (each z linked_of views) chains
+  -- what is noted
+  pub limits : AreLimits (each z mode_of views) (each z hold_limit_of views) (memory Limit)
+  pub fresh_clocks : AreNotedBelow (each z fresh_clock_of views) (length slots)
+  pub hold_clocks : AreNotedBelow (each z hold_clock_of views) (length slots)
+  pub clocks : AreNotedBelow (each z clock_of views) (length slots)
+  pub pin_clocks : AreNotedBelow (each z pin_clock_of views) (length slots)
+  pub past : AreDecidedBelow (slot_at slots) (each z past_time_of views)
+  pub reached : AreDecidedBelow (slot_at slots) (each z reached_of views)
+  -- pins and snapshots
+  pub pins : ArePins z memory (each z pin_of views)
+  pub odd : AreOdd (each z pin_of views) (each z pinned_of views)
+  pub held : AreHeld m (each z held_of views) (each z pinned_of views) (each z pin_of views)
+  pub notes : AreNotes z memory (each z snapshot_of views)
+  pub snapshots : AreSnapshots m.floor (length slots) (each z past_time_of views) (each z pinned_of views) (each z snapshot_of views)
+  pub passed : ArePassed (is_frozen m.phase) m.round (epoch_end z m) (each z snapshot_of views)
+  -- runs
+  pub floors : AreFloors z m
+  pub runs : AreRuns z memory (history_of slots) m.merged m.merged_floor
+  pub former_runs : is_held_back m ≡ true → AreRuns z memory (history_of slots) (m.merged - 1) m.former_floor
+  -- records
+  pub right : AreRight (λ i. past_of slots (each z past_time_of views i)) (each z calls_of views)
+  pub stand : AreRecordsStanding (slot_at slots) (each z calls_of views)
+  pub recorded : AreRecorded (slot_at slots) (each z calls_of views)
+  pub rising : AreRising (each z calls_of views) (each z due_of views) (each z snapshot_of views)
+  pub dues : AreAtMost (each z due_of views) (length slots)
+  pub own_dues : AreDuesBelowOwn (each z drawn_of views) (slot_at slots) (each z due_of views)

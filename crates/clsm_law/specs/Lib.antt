@@ -1,0 +1,16 @@
+pub mod Memory
+pub mod Layout
+pub mod Places
+pub mod Relation
+pub mod Merging
+pub mod Worlds
+pub mod Seats
+pub mod Law
+pub mod Machine
+pub mod Reading
+pub mod Keeping
+pub mod Running
+pub mod SeatBounds
+pub mod SeatReads
+pub mod Deciding
+pub mod Same

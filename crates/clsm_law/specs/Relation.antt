@@ -1,0 +1,538 @@
+-- The steps of a caller's seat, by cases in the order of the step's members: where each is open, its word, what it makes of the word,
+-- the view after it, the slots and chains after it, and its answer. `x` is the word that the step finds.
+use Rattle.std.specs.Prelude.{◌≡◌, ◌≢◌, ℕ, ◌+◌, ◌-◌, ◌*◌, ◌%◌, ◌^◌, ◌<◌, ◌≤◌, ◌==◌, ◌&&◌, ◌⊎◌, Bool, true, false, not, cond, nat_lt, nat_le, max, List, [], ◌∷◌, ◌++◌, length, map, replicate, slice_index_or, slice_set, Option, Some, None, is_some}
+use prog.Atomic.{either}
+use Rattle.clsm_model.specs.declared.slot.Slot.{Slot}
+use Rattle.clsm_model.specs.declared.slot.Slot.TheVariants.{Nothing, Wrote}
+use Rattle.clsm_model.specs.declared.slot.Change.TheVariants.{Keep}
+use Rattle.clsm_model.specs.declared.record.Deed.{Deed}
+use Rattle.clsm_model.specs.declared.record.Deed.TheVariants.{Rmw, Get, Snapshot, Close, GetAt, Scan, Page}
+use Rattle.clsm_model.specs.declared.record.CallRecord.{CallRecord}
+use Rattle.clsm_model.specs.Value.{padded}
+use Rattle.clsm_model.specs.History.{History, or_else}
+use Rattle.clsm_model.specs.Right.{IsRight, write_by}
+use Rattle.clsm_law.specs.declared.layout.Layout.{Layout}
+use Rattle.clsm_law.specs.declared.word.Word.{Word}
+use Rattle.clsm_law.specs.declared.word.Word.TheVariants.{Lock, Clock, Limit, Front, Merged, Pin as PinOf, Snap, Head, Cell, State, Count, Entry}
+use Rattle.clsm_law.specs.declared.word.Part.{Part}
+use Rattle.clsm_law.specs.declared.word.Part.TheVariants.{Key, Length, Value, Next}
+use Rattle.clsm_law.specs.declared.step.Step.{Step}
+use Rattle.clsm_law.specs.declared.step.Step.TheVariants.{EnterShared, LeaveShared, EnterExclusive, Draw, Fill, Link, Decide, Cancel, Pin, Unpin, Look, RaiseFront, Note, CloseSnapshot}
+use Rattle.clsm_law.specs.declared.step.End.{End}
+use Rattle.clsm_law.specs.declared.step.End.TheVariants.{Neither, Meeting, Recorded}
+use Rattle.clsm_law.specs.declared.step.Answer.{Answer}
+use Rattle.clsm_law.specs.declared.step.Answer.TheVariants as answers
+use Rattle.clsm_law.specs.declared.view.View.{View}
+use Rattle.clsm_law.specs.declared.view.Mode.{Mode}
+use Rattle.clsm_law.specs.declared.view.Mode.TheVariants.{Free, Shared}
+use Rattle.clsm_law.specs.declared.view.SnapshotState.{SnapshotState}
+use Rattle.clsm_law.specs.declared.view.SnapshotState.TheVariants.{Absent, Noted, Timed, Open}
+use Rattle.clsm_law.specs.Memory.{cell_of, region_of, head_of, is_part, is_word}
+use Rattle.clsm_law.specs.Places.{is_named}
+
+-- ---- a seat at its beginning
+
+-- n numbers none of which is there yet
+abbrev pub blank : ℕ → List (Option ℕ)
+blank n = replicate n None
+
+-- the view of a seat that did nothing yet
+abbrev pub idle : Layout → View
+idle z = record {
+  mode = Free;
+  fresh_lock = None;
+  fresh_clock = None;
+  fresh_heads = blank (2 * z.shards);
+  hold_limit = None;
+  hold_clock = None;
+  drawn = None;
+  key = None;
+  length = None;
+  words = blank 8;
+  next = None;
+  linked = false;
+  pin = 0;
+  pinned = false;
+  held = None;
+  clock = None;
+  pin_clock = None;
+  snapshot = Absent;
+  reached = 0;
+  past = 0;
+  due = 0;
+  calls = [];
+  entries = 0;
+  busy = 0;
+  raced = 0;
+  overtaken = 0;
+}
+
+-- ---- small words
+
+-- the number, or 0 where there is none
+abbrev pub or_zero : Option ℕ → ℕ
+or_zero None = 0
+or_zero (Some t) = t
+
+-- a word of 64 bits plus 1
+abbrev pub next_word : ℕ → ℕ
+next_word n = (n + 1) % 2 ^ 64
+
+-- the number is there, and t is below it
+abbrev pub IsBelow : ℕ → Option ℕ → Type 0
+IsBelow t None = ⊥
+IsBelow t (Some n) = t < n
+
+-- the test of the same
+abbrev pub is_below : ℕ → Option ℕ → Bool
+is_below t None = false
+is_below t (Some n) = nat_lt t n
+
+-- the lock is not held
+abbrev pub is_free : Mode → Bool
+is_free Free = true
+is_free _ = false
+
+-- the lock is held shared
+abbrev pub is_shared : Mode → Bool
+is_shared Shared = true
+is_shared _ = false
+
+-- the place of a chain's head among the fresh heads
+abbrev pub line_of : ℕ → ℕ → ℕ
+line_of region shard = 2 * shard + region
+
+-- ---- the drawn cell
+
+-- the drawn time
+abbrev pub own_time : View → ℕ
+own_time v = or_zero v.drawn
+
+-- the line of the drawn cell's chain
+abbrev pub own_line : Layout → View → ℕ
+own_line z v = line_of (region_of z (cell_of z (own_time v))) (or_zero v.key % z.shards)
+
+-- each of the numbers is there
+abbrev pub is_all_some : List (Option ℕ) → Bool
+is_all_some [] = true
+is_all_some (o ∷ os) = is_some o && is_all_some os
+
+-- the value as a cell holds it: how many words, and eight of them; nothing of a removal
+abbrev pub length_of : Option (List ℕ) → ℕ
+length_of None = 0
+length_of (Some words) = length words
+
+-- a removal, or a value of one to eight words
+abbrev pub IsShort : Option (List ℕ) → Type 0
+IsShort None = Unit {0}
+IsShort (Some words) = (1 ≤ length words) × (length words ≤ 8)
+
+-- its words, with zeros behind them up to eight; eight zeros of a removal
+abbrev pub words_of : Option (List ℕ) → List ℕ
+words_of None = replicate 8 0
+words_of (Some words) = padded words
+
+-- the state of its cell: 2 where a value is set, 3 where the key is removed
+abbrev pub state_of : Option (List ℕ) → ℕ
+state_of None = 3
+state_of (Some words) = 2
+
+-- the filled parts say this write
+abbrev pub SaysWrite : View → Option Slot → Type 0
+SaysWrite v (Some (Wrote seat key written)) = (v.key ≡ Some key) × (v.length ≡ Some (length_of written)) × (v.words ≡ map (λ w. Some w) (words_of written)) × IsShort written
+SaysWrite v _ = ⊥
+
+-- a read-modify-write has read what stands below its time
+abbrev pub IsReadBelow : History → View → ℕ → Deed → Type 0
+IsReadBelow h v t (Rmw key old change) = (t ≤ v.past) × IsRight h t (Rmw key old change)
+IsReadBelow h v t _ = Unit {0}
+
+-- the state that a decide to this slot writes; 0 where the slot is no write
+abbrev pub state_by : Option Slot → ℕ
+state_by (Some (Wrote seat key written)) = state_of written
+state_by _ = 0
+
+-- ---- the component held
+
+-- a time of the held component, below a clock that the seat looked at
+abbrev pub is_seen_of : Layout → Option ℕ → Option ℕ → ℕ → Bool
+is_seen_of z None clock t = false
+is_seen_of z (Some m) clock t = nat_le (m * z.cells) t && nat_lt t ((m + 2) * z.cells) && is_below t clock
+
+-- the same, by what the seat holds and looked at last
+abbrev pub is_seen : Layout → View → ℕ → Bool
+is_seen z v t = is_seen_of z v.held v.clock t
+
+-- the held component reaches down to t
+abbrev pub HoldsFrom : Layout → Option ℕ → ℕ → Type 0
+HoldsFrom z None t = ⊥
+HoldsFrom z (Some m) t = m * z.cells ≤ t
+
+-- the region of the current epoch, by the limit looked at in this hold of the lock
+abbrev pub IsCurrentRegion : Layout → Option ℕ → ℕ → Type 0
+IsCurrentRegion z None region = ⊥
+IsCurrentRegion z (Some limit) region = region_of z (cell_of z (limit - 1)) ≡ region
+
+-- the seat may look into the region: it holds a component, or it holds the lock and the region is the current epoch's
+abbrev pub MayVisit : Layout → View → ℕ → Type 0
+MayVisit z v region = (v.held ≢ None) ⊎ ((v.mode ≢ Free) × IsCurrentRegion z v.hold_limit region)
+
+-- the held component names the place
+abbrev pub IsNamedBy : Option ℕ → ℕ → Type 0
+IsNamedBy None place = ⊥
+IsNamedBy (Some m) place = is_named m place ≡ true
+
+-- the word may be looked at by the seat
+abbrev pub IsLookable : Layout → View → Word → Type 0
+IsLookable z v (Head region shard) = MayVisit z v region
+IsLookable z v (Cell cell part) = MayVisit z v (region_of z cell)
+IsLookable z v (State cell) = MayVisit z v (region_of z cell)
+IsLookable z v (Count place) = IsNamedBy v.held place
+IsLookable z v (Entry place entry part) = IsNamedBy v.held place
+IsLookable z v _ = Unit {0}
+
+-- ---- how a read ends
+
+-- the time of the open snapshot
+abbrev pub open_time : SnapshotState → Option ℕ
+open_time (Open noted time) = Some time
+open_time _ = None
+
+-- the time at which a read with this deed stands: the open snapshot's, or the clock looked at under this pin
+abbrev pub time_of_read : View → Deed → Option ℕ
+time_of_read v (Get key reply) = v.pin_clock
+time_of_read v (Rmw key old Keep) = v.pin_clock
+time_of_read v (GetAt key reply) = open_time v.snapshot
+time_of_read v (Scan lo hi rows) = or_else (open_time v.snapshot) v.pin_clock
+time_of_read v (Page from hi max rows more) = or_else (open_time v.snapshot) v.pin_clock
+time_of_read v _ = None
+
+-- a read under an open snapshot: it may stand below the due, and leaves it
+abbrev pub is_old : View → Deed → Bool
+is_old v (GetAt key reply) = true
+is_old v (Scan lo hi rows) = is_some (open_time v.snapshot)
+is_old v (Page from hi max rows more) = is_some (open_time v.snapshot)
+is_old v _ = false
+
+-- the time of the snapshot that this pin noted
+abbrev pub timed : SnapshotState → Option ℕ
+timed (Timed noted time) = Some time
+timed _ = None
+
+-- the deed is right at the time, where there is one, and that is not below the due, reads under an open snapshot apart
+abbrev pub IsRightAt : History → View → Deed → Option ℕ → Type 0
+IsRightAt h v deed None = ⊥
+IsRightAt h v deed (Some s) = (is_old v deed ≡ false → v.due ≤ s) × IsRight h s deed
+
+-- a meeting may be at the time: it is not below the due, and within the seat's past
+abbrev pub IsMetAt : View → Option ℕ → Type 0
+IsMetAt v None = ⊥
+IsMetAt v (Some s) = (v.due ≤ s) × (s ≤ v.past)
+
+-- where a snapshot was noted under this pin, the read ends with it
+abbrev pub IsEndingWith : History → View → SnapshotState → End → Type 0
+IsEndingWith h v (Noted noted) end = ⊥
+IsEndingWith h v (Timed noted time) (Recorded Snapshot) = (v.due ≤ time) × IsRight h time Snapshot
+IsEndingWith h v (Timed noted time) end = ⊥
+IsEndingWith h v _ Neither = Unit {0}
+IsEndingWith h v _ Meeting = IsMetAt v v.pin_clock
+IsEndingWith h v _ (Recorded deed) = IsRightAt h v deed (time_of_read v deed)
+
+-- the snapshot is recorded and open
+abbrev pub IsOpenSnapshot : SnapshotState → Type 0
+IsOpenSnapshot (Open noted time) = Unit {0}
+IsOpenSnapshot _ = ⊥
+
+-- ---- where a step is open to a seat: h is the seat's past
+
+-- a caller's seat with this view may make the step
+abbrev pub IsOpen : Layout → History → View → Step → Type 0
+-- the seat does not hold the lock, and its fresh look found l there, which is no exclusive hold
+IsOpen z h v (EnterShared l) = (v.mode ≡ Free) × (v.fresh_lock ≡ Some l) × (l < 2 ^ 32)
+-- it holds the lock shared, and has no drawn time
+IsOpen z h v LeaveShared = (v.mode ≡ Shared) × (v.drawn ≡ None)
+-- the same; its fresh look found the clock at t, and t is below the limit that it looked at in this hold
+IsOpen z h v (Draw t) = (v.mode ≡ Shared) × (v.drawn ≡ None) × (v.fresh_clock ≡ Some t) × IsBelow t v.hold_limit
+-- it has a drawn time whose cell is not linked, and a cell has that part
+IsOpen z h v (Fill part w) = (v.drawn ≢ None) × (v.linked ≡ false) × (is_part part ≡ true)
+-- the same; all parts are filled, and NEXT is the head, as the fresh look found it
+IsOpen z h v (Link head) = (v.drawn ≢ None) × (v.linked ≡ false) × (v.key ≢ None) × (v.length ≢ None) × (is_all_some v.words ≡ true) × (v.next ≡ Some head) × (slice_index_or v.fresh_heads (own_line z v) None ≡ Some head)
+-- t is drawn and its cell linked; what the parts say is the write that the deed makes; and what a read-modify-write read is right at t,
+-- which the past of the seat has reached
+IsOpen z h v (Decide t deed) = (v.drawn ≡ Some t) × (v.linked ≡ true) × SaysWrite v (write_by 0 deed) × IsReadBelow h v t deed
+-- t is drawn by the seat, or it is not before the held component and below the clock as the seat last looked at it
+IsOpen z h v (Cancel t) = (v.drawn ≡ Some t) ⊎ (HoldsFrom z v.held t × IsBelow t v.clock)
+-- no read runs
+IsOpen z h v Pin = v.pinned ≡ false
+-- a read runs, and may end so: with a right record, a meeting or neither, and with a snapshot exactly where one was noted under this pin
+IsOpen z h v (Unpin end) = (v.pinned ≡ true) × IsEndingWith h v v.snapshot end
+-- there is such a word; cells and heads ask for a component, or a hold of the lock for the current region; runs for a component that names them
+IsOpen z h v (Look word) = (is_word z word ≡ true) × IsLookable z v word
+-- the seat has found each time below s decided
+IsOpen z h v (RaiseFront s) = s ≤ v.reached
+-- there is no snapshot, a read runs, and its look at the clock found b
+IsOpen z h v (Note b) = (v.snapshot ≡ Absent) × (v.pinned ≡ true) × (v.pin_clock ≡ Some b)
+-- a snapshot is open
+IsOpen z h v CloseSnapshot = IsOpenSnapshot v.snapshot
+-- the merger's steps are open to no caller
+IsOpen z h v _ = ⊥
+
+-- ---- the word that the step is on, of the seat i
+
+-- the word that the step of the seat i loads or changes; LOCK stands for the merger's steps
+abbrev pub word_of : Layout → ℕ → View → Step → Word
+-- the lock
+word_of z i v (EnterShared l) = Lock
+word_of z i v LeaveShared = Lock
+-- the clock
+word_of z i v (Draw t) = Clock
+-- the part of the drawn cell, and the head of its chain
+word_of z i v (Fill part w) = Cell (cell_of z (own_time v)) part
+word_of z i v (Link head) = head_of z (own_time v) (or_zero v.key)
+-- the state of the time's cell
+word_of z i v (Decide t deed) = State (cell_of z t)
+word_of z i v (Cancel t) = State (cell_of z t)
+-- the seat's own pin word
+word_of z i v Pin = PinOf i
+word_of z i v (Unpin end) = PinOf i
+-- the word looked at
+word_of z i v (Look word) = word
+-- FRONT
+word_of z i v (RaiseFront s) = Front
+-- the seat's own snapshot word
+word_of z i v (Note b) = Snap i
+word_of z i v CloseSnapshot = Snap i
+word_of z i v _ = Lock
+
+-- ---- what the operation makes of the word
+
+-- the word that the step leaves where it finds x; an exchange that does not find the word that it names leaves x
+abbrev pub changed : Layout → View → Step → ℕ → ℕ
+-- compare_exchange: one holder more, where the number is l
+changed z v (EnterShared l) x = either (x == l) (l + 1) x
+-- fetch_sub 1: one holder fewer
+changed z v LeaveShared x = (x + 18446744073709551615) % 2 ^ 64
+-- compare_exchange: the next time, where the clock is t
+changed z v (Draw t) x = either (x == t) (t + 1) x
+-- store
+changed z v (Fill part w) x = w
+-- compare_exchange: the drawn cell plus 1, where the head is still this one
+changed z v (Link head) x = either (x == head) (cell_of z (own_time v) + 1) x
+-- compare_exchange: set or removed, as the deed writes, where the state is empty
+changed z v (Decide t deed) x = either (x == 0) (state_by (write_by 0 deed)) x
+-- compare_exchange: cancelled, where the state is empty
+changed z v (Cancel t) x = either (x == 0) 1 x
+-- store: the pin word as the seat knows it, plus 1
+changed z v Pin x = next_word v.pin
+changed z v (Unpin end) x = next_word v.pin
+-- load
+changed z v (Look word) x = x
+-- fetch_max: the greater of the word and s
+changed z v (RaiseFront s) x = max x s
+-- store: the noted time plus 1, and 0 for none
+changed z v (Note b) x = b + 1
+changed z v CloseSnapshot x = 0
+changed z v _ x = x
+
+-- ---- the view after the step: each test stands inside its field
+
+-- a count modulo 2^64, with one more where the test passes
+abbrev pub one_more_if : Bool → ℕ → ℕ
+one_more_if b n = cond b (next_word n) n
+
+-- the state of t was found or made other than 0
+abbrev pub reached_after : Layout → View → ℕ → ℕ
+reached_after z v t = cond (t == v.reached && is_seen z v t) (v.reached + 1) v.reached
+
+-- a look at a state
+abbrev pub reached_by_state : Layout → View → ℕ → ℕ → ℕ
+reached_by_state z v cell x = cond (not (x == 0) && cell == cell_of z v.reached) (reached_after z v v.reached) v.reached
+
+-- the drawn time t is given up, another stays
+abbrev pub given_up : Option ℕ → ℕ → Option ℕ
+given_up None t = None
+given_up (Some u) t = cond (u == t) None (Some u)
+
+-- t is the drawn time
+abbrev pub is_own : Option ℕ → ℕ → Bool
+is_own None t = false
+is_own (Some u) t = u == t
+
+-- the record of a call of the seat i
+abbrev pub call_of : ℕ → ℕ → Deed → CallRecord
+call_of i t deed = record { seat = i; time = t; deed = deed }
+
+-- the records with which a read ends
+abbrev pub ended_calls : ℕ → View → End → List CallRecord
+ended_calls i v Neither = []
+ended_calls i v Meeting = []
+ended_calls i v (Recorded Snapshot) = call_of i (or_zero (timed v.snapshot)) Snapshot ∷ []
+ended_calls i v (Recorded deed) = call_of i (or_zero (time_of_read v deed)) deed ∷ []
+
+-- the due after a read: the time of its record or meeting, but as before where it recorded nothing or read under an open snapshot
+abbrev pub ended_due : View → End → ℕ
+ended_due v Neither = v.due
+ended_due v Meeting = or_zero v.pin_clock
+ended_due v (Recorded Snapshot) = or_zero (timed v.snapshot)
+ended_due v (Recorded deed) = cond (is_old v deed) v.due (or_zero (time_of_read v deed))
+
+-- the read that gave a snapshot its time leaves it open
+abbrev pub ended_snapshot : SnapshotState → SnapshotState
+ended_snapshot (Timed noted time) = Open noted time
+ended_snapshot snapshot = snapshot
+
+-- a look at the clock gives a noted snapshot its time
+abbrev pub timed_by : SnapshotState → ℕ → SnapshotState
+timed_by (Noted noted) x = Timed noted x
+timed_by snapshot x = snapshot
+
+-- the first look at MERGED under a pin gives the component held
+abbrev pub takes_hold : View → Bool
+takes_hold v = v.pinned && not (is_some v.held)
+
+-- the lock is held, shared or exclusively
+abbrev pub holds_lock : View → Bool
+holds_lock v = not (is_free v.mode)
+
+-- what a look notes, by its word
+abbrev pub looked : Layout → View → Word → ℕ → View
+-- it is fresh; a seat that does not hold the lock and finds it held exclusively counts that
+looked z v Lock x = record v { fresh_lock = Some x; busy = one_more_if (is_free v.mode && x == 2 ^ 32) v.busy }
+-- it is fresh and the last of all, and that of the hold and of the pin, where there are such; and a noted snapshot gets its time
+looked z v Clock x = record v { fresh_clock = Some x; hold_clock = cond (holds_lock v) (Some x) v.hold_clock; clock = Some x; pin_clock = cond v.pinned (Some x) v.pin_clock; snapshot = timed_by v.snapshot x }
+-- the limit of the hold, where there is one
+looked z v Limit x = record v { hold_limit = cond (holds_lock v) (Some x) v.hold_limit }
+-- each time below it is decided
+looked z v Front x = record v { reached = max v.reached x }
+-- the first one under a pin gives the component held, and the times before that are decided
+looked z v Merged x = record v { held = cond (takes_hold v) (Some x) v.held; reached = cond (takes_hold v) (max v.reached (x * z.cells)) v.reached }
+-- in a hold of the lock it is fresh
+looked z v (Head region shard) x = record v { fresh_heads = cond (holds_lock v) (slice_set v.fresh_heads (line_of region shard) (Some x)) v.fresh_heads }
+-- where it is not empty, and is that of the time reached, and the component and the clock cover this, one time more is reached
+looked z v (State cell) x = record v { reached = reached_by_state z v cell x }
+-- of other words nothing is noted
+looked z v _ x = v
+
+-- the part is filled with w
+abbrev pub filled : View → Part → ℕ → View
+filled v Key w = record v { key = Some w }
+filled v Length w = record v { length = Some w }
+filled v (Value j) w = record v { words = slice_set v.words j (Some w) }
+filled v Next w = record v { next = Some w }
+
+-- The view of the seat i after a step that found x. An exchange is won where it finds the word that it names, and else lost.
+abbrev pub view_after : Layout → ℕ → View → Step → ℕ → View
+-- The look is fresh no more. Won: the lock is held shared, and no look before is fresh or of this hold. Both are counted.
+view_after z i v (EnterShared l) x = let won = x == l in record v {
+  mode = cond won Shared v.mode;
+  fresh_lock = None;
+  fresh_clock = cond won None v.fresh_clock;
+  fresh_heads = cond won (blank (2 * z.shards)) v.fresh_heads;
+  hold_limit = cond won None v.hold_limit;
+  hold_clock = cond won None v.hold_clock;
+  entries = one_more_if won v.entries;
+  busy = one_more_if (not won) v.busy;
+}
+-- the lock is given back, and no look is fresh; the looks of the hold are known still
+view_after z i v LeaveShared x = record v { mode = Free; fresh_lock = None; fresh_clock = None; fresh_heads = blank (2 * z.shards) }
+-- The look is fresh no more. Won: t is drawn, no part is filled, and the cell is not linked; lost: it is counted.
+view_after z i v (Draw t) x = let won = x == t in record v {
+  drawn = cond won (Some t) v.drawn;
+  key = cond won None v.key;
+  length = cond won None v.length;
+  words = cond won (blank 8) v.words;
+  next = cond won None v.next;
+  linked = cond won false v.linked;
+  fresh_clock = None;
+  raced = one_more_if (not won) v.raced;
+}
+-- the part is filled
+view_after z i v (Fill part w) x = filled v part w
+-- The look is fresh no more. Won: the cell is linked; lost: it is counted.
+view_after z i v (Link head) x = let won = x == head in record v {
+  linked = cond won true v.linked;
+  fresh_heads = slice_set v.fresh_heads (own_line z v) None;
+  raced = one_more_if (not won) v.raced;
+}
+-- Nothing is drawn, and t is found decided. Won: the call is recorded, and the due is behind it; lost: it is counted.
+view_after z i v (Decide t deed) x = let won = x == 0 in record v {
+  drawn = None;
+  reached = reached_after z v t;
+  due = cond won (t + 1) v.due;
+  calls = cond won (v.calls ++ call_of i t deed ∷ []) v.calls;
+  overtaken = one_more_if (not won) v.overtaken;
+}
+-- an own drawn time is given up, which is counted where another had cancelled it; and t is found decided
+view_after z i v (Cancel t) x = record v {
+  drawn = given_up v.drawn t;
+  reached = reached_after z v t;
+  overtaken = one_more_if (is_own v.drawn t && not (x == 0)) v.overtaken;
+}
+-- a read runs, by the next pin word: no component is held, and no clock is looked at yet
+view_after z i v Pin x = record v { pin = next_word v.pin; pinned = true; held = None; pin_clock = None }
+-- the read is over, by the next pin word: what it recorded joins the calls, the due follows, and a snapshot that got its time is open
+view_after z i v (Unpin end) x = record v {
+  pin = next_word v.pin;
+  pinned = false;
+  held = None;
+  pin_clock = None;
+  snapshot = ended_snapshot v.snapshot;
+  due = ended_due v end;
+  calls = v.calls ++ ended_calls i v end;
+}
+-- what was found is noted
+view_after z i v (Look word) x = looked z v word x
+-- the past reaches up to s, or further as before
+view_after z i v (RaiseFront s) x = record v { past = max v.past s }
+-- the snapshot is noted, and waits for its time
+view_after z i v (Note b) x = record v { snapshot = Noted b }
+-- there is no snapshot, and the close joins the calls, at the time of the snapshot
+view_after z i v CloseSnapshot x = record v { snapshot = Absent; calls = v.calls ++ call_of i (or_zero (open_time v.snapshot)) Close ∷ [] }
+-- the merger's steps leave it as it is
+view_after z i v _ x = v
+
+-- ---- the slots and the chains after the step
+
+-- the slots after a step of the seat i that found x: they change by won exchanges alone
+abbrev pub slots_after : ℕ → List (Option Slot) → Step → ℕ → List (Option Slot)
+-- t is one slot more, undecided
+slots_after i slots (Draw t) x = cond (x == t) (slots ++ None ∷ []) slots
+-- t comes to the write of the deed
+slots_after i slots (Decide t deed) x = cond (x == 0) (slice_set slots t (write_by i deed)) slots
+-- t comes to nothing
+slots_after i slots (Cancel t) x = cond (x == 0) (slice_set slots t (Some Nothing)) slots
+-- all others leave them
+slots_after i slots _ x = slots
+
+-- the chain of each head: the times whose cells stand in it, from the head on
+abbrev pub Chains : Type 0
+Chains = ℕ → ℕ → List ℕ
+
+-- one time more at the head of a chain
+abbrev pub pushed : Chains → ℕ → ℕ → ℕ → Chains
+pushed chains region shard t r s = cond (r == region && s == shard) (t ∷ chains r s) (chains r s)
+
+-- the chains after a step that found x: a won link puts the drawn time at the head of its chain
+abbrev pub chains_after : Layout → View → Chains → Step → ℕ → Chains
+chains_after z v chains (Link head) x = cond (x == head) (pushed chains (region_of z (cell_of z (own_time v))) (or_zero v.key % z.shards) (own_time v)) chains
+chains_after z v chains _ x = chains
+
+-- ---- the answer
+
+-- what an exchange answers
+abbrev pub won_if : Bool → Answer
+won_if b = cond b answers.Done answers.Lost
+
+-- what a step that found x answers, of a caller or the merger
+abbrev pub answer_of : Step → ℕ → Answer
+-- exchanges: whether they found the word that they name
+answer_of (EnterShared l) x = won_if (x == l)
+answer_of (EnterExclusive) x = won_if (x == 0)
+answer_of (Draw t) x = won_if (x == t)
+answer_of (Link head) x = won_if (x == head)
+answer_of (Decide t deed) x = won_if (x == 0)
+answer_of (Cancel t) x = won_if (x == 0)
+-- looks: the word
+answer_of (Look word) x = answers.Value x
+-- stores, and what always succeeds
+answer_of _ x = answers.Done

@@ -1,0 +1,23 @@
+-- What a step of a seat has to be so that the numbers that it makes fit 64 bits.
+use Rattle.std.specs.Prelude.{ℕ, ◌+◌, ◌*◌, ◌^◌, ◌<◌}
+use Rattle.clsm_law.specs.declared.layout.Layout.{Layout}
+use Rattle.clsm_law.specs.declared.word.Word.{Word}
+use Rattle.clsm_law.specs.declared.word.Word.TheVariants.{Merged, Head}
+use Rattle.clsm_law.specs.declared.step.Step.{Step}
+use Rattle.clsm_law.specs.declared.step.Step.TheVariants.{EnterShared, Draw, Decide, Look, Note}
+use Rattle.clsm_law.specs.Relation.{line_of}
+
+-- of a look: the place of a head among the fresh heads, and the first time of the component found
+abbrev pub IsSmallLook : Layout → Word → ℕ → Type 0
+IsSmallLook z (Head region shard) x = line_of region shard < 2 ^ 64
+IsSmallLook z Merged x = x * z.cells < 2 ^ 64
+IsSmallLook z word x = Unit {0}
+
+-- and one holder more, and the time behind one that is drawn, decided or noted
+abbrev pub IsSmall : Layout → Step → ℕ → Type 0
+IsSmall z (EnterShared l) x = l + 1 < 2 ^ 64
+IsSmall z (Draw t) x = t + 1 < 2 ^ 64
+IsSmall z (Decide t deed) x = t + 1 < 2 ^ 64
+IsSmall z (Note b) x = b + 1 < 2 ^ 64
+IsSmall z (Look word) x = IsSmallLook z word x
+IsSmall z step x = Unit {0}

@@ -1,0 +1,17 @@
+//! The shared words as plain data, the relation that says what each atomic step does to them and to what a seat knows, and the law
+//! that every open step keeps.
+#![tactic(auto)]
+
+mod items;
+mod layout;
+mod merger;
+mod step;
+mod view;
+mod word;
+
+pub use items::Items;
+pub use layout::Layout;
+pub use merger::{MergerView, Phase, Retiree, Round};
+pub use step::{Answer, End, Event, Step, StepError};
+pub use view::{Mode, SnapshotState, View};
+pub use word::{Part, Word};
