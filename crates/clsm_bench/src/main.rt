@@ -1,35 +1,12 @@
-//! The program `clsm_bench`: counts the atomic steps of threads that write through the step functions, times the calls of the store
-//! beside those of a map under a lock, merges, and calls beside merges.
+//! The program `clsm_bench`: times calls of the store beside those of a map under a lock, merges,
+//! and calls beside merges.
 #![tactic(auto)]
 
-mod beside;
-mod caller;
-mod calling;
-mod counts;
-mod crew;
-mod failure;
-mod keys;
-mod lap;
-mod locked;
-mod measure;
-mod rate;
-mod report;
-mod seated;
-mod series;
-mod steps;
-mod tally;
-#[cfg(test)]
-mod tests;
-mod turn;
-mod work;
-mod writer;
-
-use failure::Failure;
+use clsm_measure::{Failure, Work, measure};
 use std::process::ExitCode;
 use std::rt::{Clock, Env};
 use std::sync::Wait;
 use std::thread::Threads;
-use work::Work;
 
 /// Does the work that the words on the command line ask for.
 fn bench<R: Threads + Sync + Clock + Wait + Env + Print + AllocGlobal>(
@@ -39,7 +16,7 @@ fn bench<R: Threads + Sync + Clock + Wait + Env + Print + AllocGlobal>(
     let words: Vec<String> = std::env::args(rt)?.skip(1).collect(alloc)?;
     let texts: Vec<&str> = words.iter().map(|word| word.as_str()).collect(alloc)?;
     let work = Work::parse(&texts).ok_or(Failure::Usage)?;
-    report::report(rt, work)
+    measure(rt, work)
 }
 
 fn main(rt: HostRuntime) -> ExitCode {

@@ -1,5 +1,4 @@
-ghost use Rattle.std.specs.Prelude.{◌≡◌, ◌↔◌, ◌≤◌, EachIndex, IsTrue, length, map, slice_index, slice_index_or};
-ghost use Rattle.clsm_model.specs.Value.{padded};
+ghost use Rattle.std.specs.Prelude.{◌≡◌, ◌↔◌, ◌≤◌, EachIndex, IsTrue, length, map, take, slice_index, slice_index_or};
 ghost use Rattle.clsm_law.specs.Relation.{IsShort, SaysWrite, is_all_some, length_of, own_line, words_of};
 
 use crate::words::own_line;
@@ -35,16 +34,15 @@ fn is_each_said(words: &[Option<u64>], written: &[u64]) -> bool
         .all(|(place, word)| *word == Some(word_at(written, place)))
 }
 
-/// Whether the words of a cell are these, and zeros behind them.
+/// Whether the first words of a cell are these.
 fn says_words(words: &[Option<u64>], written: &[u64]) -> bool
-    requires { length written.now ≤ 8 }
-    ensures { IsTrue result ↔ (words.now ≡ map (λ w. Some w) (padded written.now)) }
+    ensures { IsTrue result ↔ (take (length written.now) words.now ≡ map (λ w. Some w) written.now) }
 {
-    words.len() == 8 && is_each_said(words, written)
+    written.len() <= words.len() && is_each_said(&words[..written.len()], written)
 }
 
 fn says_value(view: &View, value: Option<Value>) -> bool
-    ensures { IsTrue result ↔ ((view.now.length ≡ Some (length_of value)) × (view.now.words ≡ map (λ w. Some w) (words_of value)) × IsShort value) }
+    ensures { IsTrue result ↔ ((view.now.length ≡ Some (length_of value)) × (take (length_of value) view.now.words ≡ map (λ w. Some w) (words_of value)) × IsShort value) }
 {
     let words = view.words.as_slice();
     match value {

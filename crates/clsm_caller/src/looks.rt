@@ -4,7 +4,7 @@ ghost use Rattle.clsm_law.specs.Relation.{holds_lock, looked, takes_hold};
 ghost use Rattle.clsm_law.specs.SeatBounds.{IsSmallLook};
 
 use crate::reaches::reached_by_state;
-use clsm_law::{Layout, Mode, SnapshotState, View, Word};
+use clsm_law::{EXCLUSIVE_HOLD, Layout, Mode, SnapshotState, View, Word};
 use clsm_model::Time;
 
 fn holds_lock(view: &View) -> bool
@@ -23,8 +23,12 @@ fn takes_hold(view: &View) -> bool
 fn note_lock(view: &mut View, found: u64)
     ensures { (z : Layout) → view.new ≡ looked z view.old Word.Lock found }
 {
-    view.fresh_lock = Some(found);
-    if view.mode == Mode::Free && found == 1 << 32 {
+    if found != EXCLUSIVE_HOLD {
+        view.fresh_lock = Some(found);
+        return;
+    }
+    view.fresh_lock = None;
+    if view.mode == Mode::Free {
         view.busy = view.busy.wrapping_add(1);
     }
 }
@@ -66,8 +70,8 @@ pub(crate) fn note_look(layout: &Layout, view: &mut View, word: Word, found: u64
         Word::Limit if holds_lock(view) => view.hold_limit = Some(found),
         Word::Front => view.reached = view.reached.max(found),
         Word::Merged => note_merged(layout, view, found),
-        Word::Head { region, shard } if holds_lock(view) => {
-            let line = (2 * shard + region) as usize;
+        Word::Head { region, chain } if holds_lock(view) => {
+            let line = (2 * chain + region) as usize;
             view.fresh_heads.set(line, Some(found));
         }
         Word::State(cell) => view.reached = reached_by_state(layout, view, cell, found),

@@ -1,22 +1,22 @@
-ghost use Rattle.std.specs.Prelude.{◌≡◌, ◌≢◌, ◌↔◌, IsTrue, ℕ};
+ghost use Rattle.std.specs.Prelude.{◌≡◌, ◌≢◌, ◌↔◌, IsTrue, ℕ, take};
 ghost use Rattle.clsm_model.specs.History.{History};
 ghost use Rattle.clsm_law.specs.declared.layout.Layout.{Layout};
 ghost use Rattle.clsm_law.specs.declared.step.Step.{Step};
-ghost use Rattle.clsm_law.specs.Relation.{IsOpen, is_all_some};
+ghost use Rattle.clsm_law.specs.Relation.{IsOpen, is_all_some, or_zero};
 ghost use Rattle.clsm_law.specs.Worlds.{past_of};
 
 use crate::drawn::{fresh_head, is_all_some, says_write};
 use crate::ends::{is_ending, is_read_below};
 use crate::reaches::is_below;
 use crate::visits::{holds_from, is_lookable};
-use crate::words::write_by;
-use clsm_law::{Layout, Mode, Part, SnapshotState, Step, View, Word};
+use crate::words::{or_zero, write_by};
+use clsm_law::{EXCLUSIVE_HOLD, Layout, Mode, Part, SnapshotState, Step, View, Word};
 use clsm_model::{Deed, Slot, Time};
 
 fn may_enter(view: &View, holders: u64) -> bool
     ensures { (z : Layout) (h : History) → IsTrue result ↔ IsOpen z h view.now (Step.EnterShared holders) }
 {
-    view.mode == Mode::Free && view.fresh_lock == Some(holders) && holders < 1 << 32
+    view.mode == Mode::Free && view.fresh_lock == Some(holders) && holders < EXCLUSIVE_HOLD
 }
 
 fn may_draw(view: &View, time: Time) -> bool
@@ -37,9 +37,11 @@ fn may_fill(layout: &Layout, view: &View, part: Part) -> bool
 
 /// Whether each part of the drawn cell is filled.
 fn is_filled(view: &View) -> bool
-    ensures { IsTrue result ↔ ((view.now.key ≢ None) × (view.now.length ≢ None) × IsTrue (is_all_some view.now.words)) }
+    ensures { IsTrue result ↔ ((view.now.key ≢ None) × (view.now.length ≢ None) × IsTrue (is_all_some (take (or_zero view.now.length) view.now.words))) }
 {
-    view.key.is_some() && view.length.is_some() && is_all_some(view.words.as_slice())
+    let words = view.words.as_slice();
+    let count = or_zero(view.length).min(words.len() as u64) as usize;
+    view.key.is_some() && view.length.is_some() && is_all_some(&words[..count])
 }
 
 fn may_link(layout: &Layout, view: &View, head: u64) -> bool

@@ -9,7 +9,7 @@ pub fn idle(alloc: Global, layout: &Layout) -> Result<View, AllocError>
     ensures { IfOk result (λ view. view ≡ idle layout.now) }
 {
     let mut fresh_heads = Items::new(alloc);
-    fresh_heads.blank(2 * layout.shards as usize)?;
+    fresh_heads.blank(2 * layout.chains as usize)?;
     let mut words = Items::new(alloc);
     words.blank(8)?;
     Ok(View {
@@ -39,5 +39,7 @@ pub fn idle(alloc: Global, layout: &Layout) -> Result<View, AllocError>
         busy: 0,
         raced: 0,
         overtaken: 0,
+        gave_up: 0,
+        cancelled: 0,
     })
 }

@@ -4,7 +4,9 @@ ghost use Rattle.clsm_law.specs.Memory.{head_of};
 ghost use Rattle.clsm_law.specs.SeatBounds.{IsSmall};
 ghost use Rattle.clsm_law.specs.Relation.{changed, or_zero, own_time, own_line, state_by, next_word, word_of};
 
-use clsm_law::{Layout, Step, View, Word};
+use clsm_law::{
+    CANCELLED_CELL, Layout, REMOVAL_CELL, Step, UNDECIDED_CELL, VALUE_CELL, View, Word,
+};
 use clsm_model::{Change, Deed, Slot, Time};
 
 /// The number, or 0.
@@ -18,9 +20,9 @@ pub(crate) fn or_zero(number: Option<u64>) -> u64
 pub(crate) fn own_line(layout: &Layout, view: &View) -> usize
     ensures { result ≡ own_line layout.now view.now }
 {
-    let shard = or_zero(view.key) % layout.shards;
+    let chain = or_zero(view.key) % layout.chains;
     let region = layout.region_of(layout.cell_of(or_zero(view.drawn)));
-    (2 * shard + region) as usize
+    (2 * chain + region) as usize
 }
 
 fn head_of(layout: &Layout, time: Time, key: u64) -> Word
@@ -28,7 +30,7 @@ fn head_of(layout: &Layout, time: Time, key: u64) -> Word
 {
     Word::Head {
         region: layout.region_of(layout.cell_of(time)),
-        shard: key % layout.shards,
+        chain: key % layout.chains,
     }
 }
 
@@ -80,9 +82,9 @@ fn state_by(write: Option<Slot>) -> u64
     ensures { result ≡ state_by write }
 {
     match write {
-        Some(Slot::Wrote { value: Some(_), .. }) => 2,
-        Some(Slot::Wrote { value: None, .. }) => 3,
-        _ => 0,
+        Some(Slot::Wrote { value: Some(_), .. }) => VALUE_CELL,
+        Some(Slot::Wrote { value: None, .. }) => REMOVAL_CELL,
+        _ => UNDECIDED_CELL,
     }
 }
 
@@ -97,8 +99,8 @@ pub fn changed(layout: &Layout, view: &View, step: &Step, found: u64) -> u64
         Step::Draw(time) if found == *time => *time + 1,
         Step::Fill(_, word) => *word,
         Step::Link(head) if found == *head => layout.cell_of(or_zero(view.drawn)) + 1,
-        Step::Decide(_, deed) if found == 0 => state_by(write_by(0, deed)),
-        Step::Cancel(_) if found == 0 => 1,
+        Step::Decide(_, deed) if found == UNDECIDED_CELL => state_by(write_by(0, deed)),
+        Step::Cancel(_) if found == UNDECIDED_CELL => CANCELLED_CELL,
         Step::Pin | Step::Unpin(_) => view.pin.wrapping_add(1),
         Step::RaiseFront(time) => found.max(*time),
         Step::Note(time) => *time + 1,

@@ -1,11 +1,11 @@
 ghost use Rattle.std.specs.Prelude.{◌≡◌, ◌+◌, ◌<◌, ◌^◌, ℕ, MatchResult};
-ghost use Rattle.clsm_law.specs.Relation.{filled, given_up, is_own, view_after};
+ghost use Rattle.clsm_law.specs.Relation.{counted_cancel, filled, given_up, is_own, view_after};
 ghost use Rattle.clsm_law.specs.declared.layout.Layout.{Layout};
 ghost use Rattle.clsm_law.specs.declared.step.Step.{Step};
 
 use crate::reaches::reached_after;
 use crate::words::own_line;
-use clsm_law::{Layout, Mode, Part, View};
+use clsm_law::{Layout, Mode, Part, UNDECIDED_CELL, View};
 use clsm_model::{CallRecord, Deed, Time};
 use std::alloc::AllocError;
 
@@ -21,7 +21,7 @@ pub(crate) fn note_entry(
         (λ _. view.new ≡ view.old) }
 {
     if found == holders {
-        view.fresh_heads.blank(2 * layout.shards as usize)?;
+        view.fresh_heads.blank(2 * layout.chains as usize)?;
         view.mode = Mode::Shared;
         view.fresh_clock = None;
         view.hold_limit = None;
@@ -40,7 +40,7 @@ pub(crate) fn note_leaving(layout: &Layout, view: &mut View) -> Result<(), Alloc
         (λ _. (i x : ℕ) → view.new ≡ view_after layout.now i view.old Step.LeaveShared x)
         (λ _. view.new ≡ view.old) }
 {
-    view.fresh_heads.blank(2 * layout.shards as usize)?;
+    view.fresh_heads.blank(2 * layout.chains as usize)?;
     view.mode = Mode::Free;
     view.fresh_lock = None;
     view.fresh_clock = None;
@@ -136,14 +136,24 @@ fn is_own(drawn: Option<Time>, time: Time) -> bool
     }
 }
 
+/// Counts a time given up, one of another seat cancelled, or an own one that another had cancelled.
+fn count_cancel(view: &mut View, time: Time, found: u64)
+    ensures { view.new ≡ counted_cancel view.old time found }
+{
+    match (is_own(view.drawn, time), found) {
+        (true, UNDECIDED_CELL) => view.gave_up = view.gave_up.wrapping_add(1),
+        (true, _) => view.overtaken = view.overtaken.wrapping_add(1),
+        (false, UNDECIDED_CELL) => view.cancelled = view.cancelled.wrapping_add(1),
+        (false, _) => {}
+    }
+}
+
 /// Notes an exchange on the state of the time, to cancel it.
 pub(crate) fn note_cancel(layout: &Layout, view: &mut View, time: Time, found: u64)
     ensures { (i : ℕ) → view.new ≡ view_after layout.now i view.old (Step.Cancel time) found }
 {
     let reached = reached_after(layout, view, time);
-    if is_own(view.drawn, time) && found != 0 {
-        view.overtaken = view.overtaken.wrapping_add(1);
-    }
+    count_cancel(view, time, found);
     view.drawn = given_up(view.drawn, time);
     view.reached = reached;
 }

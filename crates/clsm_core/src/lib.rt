@@ -7,7 +7,7 @@ mod tests;
 mod world;
 
 pub use clsm_law::{
-    Answer, End, Event, Items, Layout, MergerView, Mode, Part, Phase, Retiree, Round,
-    SnapshotState, Step, StepError, View, Word,
+    Answer, End, Event, Items, Layout, MergerView, Mode, Part, Phase, Reader, Round, SnapshotState,
+    Step, StepError, View, Word,
 };
 pub use world::{World, run};

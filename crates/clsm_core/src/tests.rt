@@ -26,7 +26,7 @@ use std::process::Abort;
 
 const GREATEST: u64 = u64::MAX;
 
-/// Four cells, two callers, one shard.
+/// Four cells, two callers, one chain.
 const SMALL: Config = Config {
     cells: 4,
     seats: 2,

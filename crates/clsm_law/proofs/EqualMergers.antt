@@ -5,19 +5,19 @@ use Rattle.std.proofs.lemmas.Bool.Decides.{Decides-and, Decides-like}
 use Rattle.std.specs.Bool.{Decides}
 use Rattle.std.specs.Cmp.{unsigned_Decides, booleans_Decides}
 use Rattle.clsm_model.proofs.Equals.{Decides-by_same, option_eq-Decides}
-use Rattle.clsm_law.specs.Same.{uncounted_merger, uncounted_retiree}
+use Rattle.clsm_law.specs.Same.{uncounted_merger, uncounted_reader}
 use Rattle.clsm_law.proofs.EqualViews.{along-Decides}
 use Rattle.clsm_law.specs.declared.merger.Phase.{Phase}
 use Rattle.clsm_law.specs.declared.merger.Phase.TheVariants.{Clean, Frozen, Retired}
 use Rattle.clsm_law.specs.declared.merger.Round.{Round}
-use Rattle.clsm_law.specs.declared.merger.Retiree.{Retiree}
+use Rattle.clsm_law.specs.declared.merger.Reader.{Reader}
 use Rattle.clsm_law.specs.declared.merger.MergerView.{MergerView}
 use Rattle.clsm_law.specs.contracts.merger.PhasePartialEq.TheImpl as of_phases
 use Rattle.clsm_law.specs.contracts.merger.PhaseEq.TheImpl.Laws as phase_laws
 use Rattle.clsm_law.specs.contracts.merger.RoundPartialEq.TheImpl as of_rounds
 use Rattle.clsm_law.specs.contracts.merger.RoundEq.TheImpl.Laws as round_laws
-use Rattle.clsm_law.specs.contracts.merger.RetireePartialEq.TheImpl as of_retirees
-use Rattle.clsm_law.specs.contracts.merger.RetireeEq.TheImpl.Laws as retiree_laws
+use Rattle.clsm_law.specs.contracts.merger.ReaderPartialEq.TheImpl as of_readers
+use Rattle.clsm_law.specs.contracts.merger.ReaderEq.TheImpl.Laws as reader_laws
 use Rattle.clsm_law.specs.contracts.merger.MergerViewPartialEq.TheImpl as of_mergers
 
 phase-same : (a b : Phase) → of_phases.ghosts.eq a b ≡ true → a ≡ b
@@ -37,20 +37,20 @@ round-same a b h =
 pub Round-Decides : (a b : Round) → Decides (of_rounds.ghosts.eq a b) (a ≡ b)
 Round-Decides = Decides-by_same round_laws.laws-law round-same
 
--- equal retirees agree in every field but their count
-retiree-same : (a b : Retiree) → of_retirees.ghosts.eq a b ≡ true → uncounted_retiree a ≡ uncounted_retiree b
-retiree-same a b h =
+-- equal readers agree in every field but their count
+reader-same : (a b : Reader) → of_readers.ghosts.eq a b ≡ true → uncounted_reader a ≡ uncounted_reader b
+reader-same a b h =
     let fields = (Decides-and _ _ (option_eq-Decides unsigned_Decides a.first_pin b.first_pin) (booleans_Decides a.quiet b.quiet)).0 h in
     λ i. record { first_pin = fields.0 i; quiet = fields.1 i; looks = 0 }
 
-pub Retiree-Decides : (a b : Retiree) → Decides (of_retirees.ghosts.eq a b) (uncounted_retiree a ≡ uncounted_retiree b)
-Retiree-Decides a b = (retiree-same a b, λ same. subst (λ r. of_retirees.ghosts.eq (uncounted_retiree a) r ≡ true) same (retiree_laws.laws-law.refl (uncounted_retiree a)))
+pub Reader-Decides : (a b : Reader) → Decides (of_readers.ghosts.eq a b) (uncounted_reader a ≡ uncounted_reader b)
+Reader-Decides a b = (reader-same a b, λ same. subst (λ r. of_readers.ghosts.eq (uncounted_reader a) r ≡ true) same (reader_laws.laws-law.refl (uncounted_reader a)))
 
 -- two mergers are equal where they are the same without their counts
 pub MergerView-Decides : (m n : MergerView) → Decides (of_mergers.ghosts.eq m n) (uncounted_merger m ≡ uncounted_merger n)
 MergerView-Decides m n = Decides-like _
     (λ e. cc)
-    (λ e. (ap (λ (v : MergerView). v.phase) e, (ap (λ (v : MergerView). v.merged) e, (ap (λ (v : MergerView). v.exclusive) e, (ap (λ (v : MergerView). v.padded) e, (ap (λ (v : MergerView). v.clock_extended) e, (ap (λ (v : MergerView). v.limit_extended) e, (ap (λ (v : MergerView). v.floor) e, (ap (λ (v : MergerView). v.round) e, (ap (λ (v : MergerView). v.merged_floor) e, (ap (λ (v : MergerView). v.former_floor) e, (ap (λ (v : MergerView). v.retirees) e)))))))))))) (
+    (λ e. (ap (λ (v : MergerView). v.phase) e, (ap (λ (v : MergerView). v.merged) e, (ap (λ (v : MergerView). v.exclusive) e, (ap (λ (v : MergerView). v.padded) e, (ap (λ (v : MergerView). v.clock_extended) e, (ap (λ (v : MergerView). v.limit_extended) e, (ap (λ (v : MergerView). v.floor) e, (ap (λ (v : MergerView). v.round) e, (ap (λ (v : MergerView). v.merged_floor) e, (ap (λ (v : MergerView). v.former_floor) e, (ap (λ (v : MergerView). v.readers) e)))))))))))) (
     Decides-and _ _ (Phase-Decides m.phase n.phase) (
     Decides-and _ _ (unsigned_Decides m.merged n.merged) (
     Decides-and _ _ (booleans_Decides m.exclusive n.exclusive) (
@@ -61,4 +61,4 @@ MergerView-Decides m n = Decides-like _
     Decides-and _ _ (option_eq-Decides Round-Decides m.round n.round) (
     Decides-and _ _ (unsigned_Decides m.merged_floor n.merged_floor) (
     Decides-and _ _ (unsigned_Decides m.former_floor n.former_floor) (
-    along-Decides uncounted_retiree Retiree-Decides m.retirees n.retirees)))))))))))
+    along-Decides uncounted_reader Reader-Decides m.readers n.readers)))))))))))

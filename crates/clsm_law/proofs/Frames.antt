@@ -8,7 +8,7 @@ use Rattle.clsm_law.specs.declared.word.Word.{Word}
 use Rattle.clsm_law.specs.declared.view.View.{View}
 use Rattle.clsm_law.specs.Memory.{Memory, is_same, put}
 use Rattle.clsm_law.specs.Relation.{idle}
-use Rattle.clsm_law.specs.Worlds.{view_at, slot_at}
+use Rattle.clsm_law.specs.Worlds.{view_at, outcome_at}
 use Rattle.clsm_law.specs.Law.{each}
 use Rattle.clsm_law.proofs.LayoutWords.{same_word, is_same-refl}
 use Rattle.clsm_law.proofs.Cases.{by_bool}
@@ -56,26 +56,26 @@ same_each z f views me w lt e = let p = puts_each z f views me w lt in
 
 -- ---- slots
 
-pub puts_slot : (slots : List (Option Slot)) (t : ℕ) (s : Option Slot) → t < length slots → Puts (slot_at slots) (slot_at (set slots t s)) t s
+pub puts_slot : (slots : List (Option Slot)) (t : ℕ) (s : Option Slot) → t < length slots → Puts (outcome_at slots) (outcome_at (set slots t s)) t s
 puts_slot slots t s lt = record { here = get_or-set_same slots t s None lt; other = λ i ne. get_or-set_other slots t i s None ne }
 
 -- an undecided slot at the end shows nothing new
-grown_at : (slots : List (Option Slot)) (t : ℕ) → slot_at (slots ++ None ∷ []) t ≡ slot_at slots t
+grown_at : (slots : List (Option Slot)) (t : ℕ) → outcome_at (slots ++ None ∷ []) t ≡ outcome_at slots t
 grown_at [] zero = refl
 grown_at [] (suc t) = refl
 grown_at (s ∷ ss) zero = refl
 grown_at (s ∷ ss) (suc t) = grown_at ss t
 
-pub slots_grown : (slots : List (Option Slot)) → slot_at (slots ++ None ∷ []) ≡ slot_at slots
+pub slots_grown : (slots : List (Option Slot)) → outcome_at (slots ++ None ∷ []) ≡ outcome_at slots
 slots_grown slots k t = grown_at slots t k
 
 -- only a drawn time has a slot
-pub slot_below : (slots : List (Option Slot)) (t : ℕ) → slot_at slots t ≢ None → t < length slots
+pub slot_below : (slots : List (Option Slot)) (t : ℕ) → outcome_at slots t ≢ None → t < length slots
 slot_below [] t ne = absurd (ne refl)
 slot_below (s ∷ ss) zero ne = omega arith
 slot_below (s ∷ ss) (suc t) ne = let h = slot_below ss t ne in omega arith
 
-pub past_end : (slots : List (Option Slot)) → slot_at slots (length slots) ≡ None
+pub past_end : (slots : List (Option Slot)) → outcome_at slots (length slots) ≡ None
 past_end [] = refl
 past_end (s ∷ ss) = past_end ss
 

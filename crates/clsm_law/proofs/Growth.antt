@@ -8,7 +8,7 @@ use Rattle.clsm_law.specs.declared.step.Step.TheVariants.{Draw, Decide, Cancel}
 use Rattle.clsm_law.specs.declared.word.Word.TheVariants.{State}
 use Rattle.clsm_law.specs.Memory.{cell_of}
 use Rattle.clsm_law.specs.Relation.{HoldsFrom, IsBelow}
-use Rattle.clsm_law.specs.Worlds.{slot_at}
+use Rattle.clsm_law.specs.Worlds.{outcome_at}
 use Rattle.clsm_law.specs.Law.{first_shown}
 use Rattle.clsm_law.proofs.Cases.{by_test}
 use Rattle.clsm_law.proofs.Frames.{at_each, puts_slot, slots_grown}
@@ -29,21 +29,21 @@ cancels_shown s t o = ⊎_elim
     until (Some n) e h = let a = s.law.clocks s.me n e in omega arith
 
 -- the slot of a Decide or a Cancel that wins was undecided
-pub decides_undecided : (s : Setting) (t : ℕ) → (v s).drawn ≡ Some t → s.memory (State (cell_of s.z t)) ≡ 0 → slot_at s.slots t ≡ None
+pub decides_undecided : (s : Setting) (t : ℕ) → (v s).drawn ≡ Some t → s.memory (State (cell_of s.z t)) ≡ 0 → outcome_at s.slots t ≡ None
 decides_undecided s t e empty = let p = drawn_shown (ground s) s.me t e in undecided (ground s) t (let a = shown_below_merged (ground s) in let b = p.0 in omega arith) p.1 empty
 
-pub cancels_undecided : (s : Setting) (t : ℕ) → Opens s (Cancel t) → s.memory (State (cell_of s.z t)) ≡ 0 → slot_at s.slots t ≡ None
+pub cancels_undecided : (s : Setting) (t : ℕ) → Opens s (Cancel t) → s.memory (State (cell_of s.z t)) ≡ 0 → outcome_at s.slots t ≡ None
 cancels_undecided s t o empty = let p = cancels_shown s t o in undecided (ground s) t p.0 p.1 empty
 
-stays_but : (s : Setting) (t : ℕ) (a : Option Slot) → t < length s.slots → slot_at s.slots t ≡ None → (u : ℕ) (b : Slot) → slot_at s.slots u ≡ Some b → slot_at (set s.slots t a) u ≡ Some b
-stays_but s t a lt none u b = at_each (λ u. slot_at s.slots u ≡ Some b → slot_at (set s.slots t a) u ≡ Some b) t (λ e. absurd (cc (e, none))) (λ u ne e. (puts_slot s.slots t a lt).other u ne ∙ e) u
+stays_but : (s : Setting) (t : ℕ) (a : Option Slot) → t < length s.slots → outcome_at s.slots t ≡ None → (u : ℕ) (b : Slot) → outcome_at s.slots u ≡ Some b → outcome_at (set s.slots t a) u ≡ Some b
+stays_but s t a lt none u b = at_each (λ u. outcome_at s.slots u ≡ Some b → outcome_at (set s.slots t a) u ≡ Some b) t (λ e. absurd (cc (e, none))) (λ u ne e. (puts_slot s.slots t a lt).other u ne ∙ e) u
 
 -- what is decided stays
-pub slots_stay : (s : Setting) (step : Step) → Opens s step → (u : ℕ) (b : Slot) → slot_at s.slots u ≡ Some b → slot_at (S s step) u ≡ Some b
-slots_stay s (Draw t) o = λ u b e. by_test (λ c. slot_at (cond c (s.slots ++ None ∷ []) s.slots) u ≡ Some b) (x s (Draw t)) t (λ _. (λ k. slots_grown s.slots k u) ∙ e) (λ _. e)
-slots_stay s (Decide t deed) o = λ u b e. by_test (λ c. slot_at (cond c (set s.slots t (write_by s.me deed)) s.slots) u ≡ Some b) (x s (Decide t deed)) 0
+pub slots_stay : (s : Setting) (step : Step) → Opens s step → (u : ℕ) (b : Slot) → outcome_at s.slots u ≡ Some b → outcome_at (S s step) u ≡ Some b
+slots_stay s (Draw t) o = λ u b e. by_test (λ c. outcome_at (cond c (s.slots ++ None ∷ []) s.slots) u ≡ Some b) (x s (Draw t)) t (λ _. (λ k. slots_grown s.slots k u) ∙ e) (λ _. e)
+slots_stay s (Decide t deed) o = λ u b e. by_test (λ c. outcome_at (cond c (set s.slots t (write_by s.me deed)) s.slots) u ≡ Some b) (x s (Decide t deed)) 0
     (λ z. stays_but s t _ (drawn_shown (ground s) s.me t o.0).1 (decides_undecided s t o.0 z) u b e) (λ _. e)
-slots_stay s (Cancel t) o = λ u b e. by_test (λ c. slot_at (cond c (set s.slots t (Some Nothing)) s.slots) u ≡ Some b) (x s (Cancel t)) 0
+slots_stay s (Cancel t) o = λ u b e. by_test (λ c. outcome_at (cond c (set s.slots t (Some Nothing)) s.slots) u ≡ Some b) (x s (Cancel t)) 0
     (λ z. stays_but s t _ (cancels_shown s t o).1 (cancels_undecided s t o z) u b e) (λ _. e)
 slots_stay s step o = λ u b e. e
 

@@ -11,16 +11,16 @@ use Rattle.clsm_law.specs.declared.step.Step.TheVariants.{ExtendClock}
 use Rattle.clsm_law.specs.declared.merger.Phase.{Phase}
 use Rattle.clsm_law.specs.declared.merger.Phase.TheVariants.{Clean, Frozen, Retired}
 use Rattle.clsm_law.specs.Merging.{is_clean, is_frozen, epoch_end, passed_over}
-use Rattle.clsm_law.specs.Worlds.{slot_at}
+use Rattle.clsm_law.specs.Worlds.{outcome_at}
 use Rattle.clsm_law.proofs.Cases.{by_bool}
 use Rattle.clsm_law.proofs.Frames.{slot_below}
 use Rattle.clsm_law.proofs.Setting.{Ground, slots', OpensTo}
 
 -- a slot below the end stays, and one behind it up to the time t came to nothing
-pub passed_before : (slots : List (Option Slot)) (t u : ℕ) → u < length slots → slot_at (passed_over slots t) u ≡ slot_at slots u
+pub passed_before : (slots : List (Option Slot)) (t u : ℕ) → u < length slots → outcome_at (passed_over slots t) u ≡ outcome_at slots u
 passed_before slots t u lt = get_or_append_left slots (replicate (t - length slots) (Some Nothing)) None u lt
 
-pub passed_behind : (slots : List (Option Slot)) (t u : ℕ) → length slots ≤ u → u < t → slot_at (passed_over slots t) u ≡ Some Nothing
+pub passed_behind : (slots : List (Option Slot)) (t u : ℕ) → length slots ≤ u → u < t → outcome_at (passed_over slots t) u ≡ Some Nothing
 passed_behind slots t u le lt = get_or-append_right slots (replicate (t - length slots) (Some Nothing)) u None le ∙ get_or-replicate (t - length slots) (u - length slots) (Some Nothing) None (omega arith)
 
 -- so the length is t, where it was not longer
@@ -29,11 +29,11 @@ length_over slots t le = let a : length (passed_over slots t) ≡ length slots +
     let b : length (replicate (t - length slots) (Some Nothing)) ≡ t - length slots = length-replicate (t - length slots) (Some Nothing) in omega arith
 
 -- a decided slot stays where it is
-stays_over : (slots : List (Option Slot)) (t u : ℕ) (b : Slot) → slot_at slots u ≡ Some b → slot_at (passed_over slots t) u ≡ Some b
+stays_over : (slots : List (Option Slot)) (t u : ℕ) (b : Slot) → outcome_at slots u ≡ Some b → outcome_at (passed_over slots t) u ≡ Some b
 stays_over slots t u b e = passed_before slots t u (slot_below slots u (λ none. absurd (cc (none, e)))) ∙ e
 
 -- what is decided stays
-pub slots_stay' : (g : Ground) (step : Step) → OpensTo g step → (u : ℕ) (b : Slot) → slot_at g.slots u ≡ Some b → slot_at (slots' g step) u ≡ Some b
+pub slots_stay' : (g : Ground) (step : Step) → OpensTo g step → (u : ℕ) (b : Slot) → outcome_at g.slots u ≡ Some b → outcome_at (slots' g step) u ≡ Some b
 slots_stay' g ExtendClock o = stays_over g.slots (epoch_end g.z g.merger)
 slots_stay' g step o = λ u b e. e
 

@@ -1,11 +1,11 @@
 -- How the clauses on cells are kept: the cell of a shown time shows what the time came to, and the cell of an undrawn time is empty.
-use Rattle.std.proofs.Common.{◌≡◌, ◌≢◌, ℕ, zero, suc, ◌+◌, ◌-◌, ◌*◌, ◌%◌, ◌<◌, ◌≤◌, ◌==◌, ◌⊎◌, ◌&&◌, ◌||◌, not, Bool, true, false, cond, List, [], ◌∷◌, ◌++◌, length, set, get_or, sym, refl, ap, ◌∙◌, subst, arith, inl, inr, ⊎_elim, Option, Some, None, length-set, length-append}
+use Rattle.std.proofs.Common.{◌≡◌, ◌≢◌, ℕ, zero, suc, ◌+◌, ◌-◌, ◌*◌, ◌%◌, ◌<◌, ◌≤◌, ◌==◌, ◌⊎◌, ◌&&◌, ◌||◌, not, Bool, true, false, cond, List, [], ◌∷◌, ◌++◌, length, take, set, get_or, sym, refl, ap, ◌∙◌, subst, arith, inl, inr, ⊎_elim, Option, Some, None, length-set, length-append}
 use Rattle.std.specs.Prelude.{replicate, slice_index}
 use mathlib.Core.Logic.{dite}
 use native.Mathlib.Decide.{ℕ_discrete}
 use prog.Atomic.{either}
 use Rattle.std.proofs.lemmas.Bool.{cases_lt, and_parts, and_from, or_cases, eqb-true, lt-ltb, le-ltb, false_from_ne_true}
-use Rattle.std.proofs.lemmas.List.{get_or-map, length-replicate}
+use Rattle.std.proofs.lemmas.List.{get_or-map, get_or-take, length-take-le, length-replicate}
 use Rattle.clsm_model.specs.declared.slot.Slot.{Slot}
 use Rattle.clsm_model.specs.declared.slot.Slot.TheVariants.{Nothing, Wrote}
 use Rattle.clsm_model.specs.declared.record.Deed.{Deed}
@@ -19,11 +19,11 @@ use Rattle.clsm_law.specs.declared.step.Step.TheVariants.{Draw, Fill, Decide, Ca
 use Rattle.clsm_law.specs.declared.merger.MergerView.{MergerView}
 use Rattle.clsm_law.specs.declared.merger.Phase.{Phase}
 use Rattle.clsm_law.specs.declared.merger.Phase.TheVariants.{Clean, Frozen, Retired}
-use Rattle.clsm_law.specs.declared.merger.Retiree.{Retiree}
+use Rattle.clsm_law.specs.declared.merger.Reader.{Reader}
 use Rattle.clsm_law.specs.Memory.{Memory, cell_of, region_of, put}
 use Rattle.clsm_law.specs.Relation.{IsBelow, is_shared, SaysWrite, length_of, words_of, state_by}
-use Rattle.clsm_law.specs.Merging.{is_clean, is_frozen, is_retired, is_all_quiet, retired_region, retiree_at, retiree_by, unseen, epoch_end}
-use Rattle.clsm_law.specs.Worlds.{slot_at, passes_from, is_last}
+use Rattle.clsm_law.specs.Merging.{is_clean, is_frozen, is_retired, is_all_quiet, retired_region, reader_at, reader_by, unseen, epoch_end}
+use Rattle.clsm_law.specs.Worlds.{outcome_at, passes_from, is_last}
 use Rattle.clsm_law.specs.Law.{Shows, AreShown, AreEmpty, first_shown, first_live}
 use Rattle.clsm_law.proofs.Cases.{by_test, by_bool}
 use Rattle.clsm_law.proofs.Histories.{at_most_eight}
@@ -63,38 +63,37 @@ drawn_empty s t o is = ⊎_elim (λ (e : s.memory (State (cell_of s.z t)) ≡ 0)
     below (Some n) e h = let a = s.law.limits s.me n o.0 e in omega arith
 
 -- the new time is undecided, and its cell empty
-drew_shown : (s : Setting) (t : ℕ) → Opens s (Draw t) → length s.slots ≡ t → AreShown s.z (M s (Draw t)) (first_shown s.z s.merger) (length (s.slots ++ None ∷ [])) (slot_at (s.slots ++ None ∷ []))
+drew_shown : (s : Setting) (t : ℕ) → Opens s (Draw t) → length s.slots ≡ t → AreShown s.z (M s (Draw t)) (first_shown s.z s.merger) (length (s.slots ++ None ∷ [])) (outcome_at (s.slots ++ None ∷ []))
 drew_shown s t o is = let len : length (s.slots ++ None ∷ []) ≡ length s.slots + 1 = length-append s.slots (None ∷ []) in
     keep1 (AreShown s.z (M s (Draw t)) (first_shown s.z s.merger) (length (s.slots ++ None ∷ []))) (slots_grown s.slots)
     (λ u from until. elim (cases_lt u (length s.slots)) [
-      | inl old ↦ shows_same s.memory (M s (Draw t)) (cell_of s.z u) (slot_at s.slots u) refl (λ p. refl) (s.law.shown u from old)
-      | inr new ↦ let same : t ≡ u = omega arith in subst (λ (k : ℕ). Shows (M s (Draw t)) (cell_of s.z k) (slot_at s.slots k)) same
-          (subst (Shows (M s (Draw t)) (cell_of s.z t)) (sym (subst (λ (k : ℕ). slot_at s.slots k ≡ None) is (past_end s.slots))) (drawn_empty s t o is))
+      | inl old ↦ shows_same s.memory (M s (Draw t)) (cell_of s.z u) (outcome_at s.slots u) refl (λ p. refl) (s.law.shown u from old)
+      | inr new ↦ let same : t ≡ u = omega arith in subst (λ (k : ℕ). Shows (M s (Draw t)) (cell_of s.z k) (outcome_at s.slots k)) same
+          (subst (Shows (M s (Draw t)) (cell_of s.z t)) (sym (subst (λ (k : ℕ). outcome_at s.slots k ≡ None) is (past_end s.slots))) (drawn_empty s t o is))
     ])
 
 -- a Fill of the own cell, whose time is no write yet; the cells of other times are others
-fill_shown : (s : Setting) (part : Part) (y : ℕ) → (v s).drawn ≡ Some (own s) → AreShown s.z (M s (Fill part y)) (first_shown s.z s.merger) (length s.slots) (slot_at s.slots)
+fill_shown : (s : Setting) (part : Part) (y : ℕ) → (v s).drawn ≡ Some (own s) → AreShown s.z (M s (Fill part y)) (first_shown s.z s.merger) (length s.slots) (outcome_at s.slots)
 fill_shown s part y mine u from until =
-    at_live s.z (first_live s.z s.merger) (λ u. first_shown s.z s.merger ≤ u → u < length s.slots → Shows (M s (Fill part y)) (cell_of s.z u) (slot_at s.slots u)) (own s) (drawn_live (ground s) s.me (own s) mine)
-    (λ from until. shows_state s.memory (M s (Fill part y)) (cell_of s.z (own s)) (slot_at s.slots (own s)) (s.law.pending s.me (own s) mine).2 refl (s.law.shown (own s) from until))
-    (λ u m ne other from until. shows_same s.memory (M s (Fill part y)) (cell_of s.z u) (slot_at s.slots u) refl (λ p. put_other s.memory (Cell (cell_of s.z (own s)) part) (Cell (cell_of s.z u) p) y (λ q. other cc)) (s.law.shown u from until))
+    at_live s.z (first_live s.z s.merger) (λ u. first_shown s.z s.merger ≤ u → u < length s.slots → Shows (M s (Fill part y)) (cell_of s.z u) (outcome_at s.slots u)) (own s) (drawn_live (ground s) s.me (own s) mine)
+    (λ from until. shows_state s.memory (M s (Fill part y)) (cell_of s.z (own s)) (outcome_at s.slots (own s)) (s.law.pending s.me (own s) mine).2 refl (s.law.shown (own s) from until))
+    (λ u m ne other from until. shows_same s.memory (M s (Fill part y)) (cell_of s.z u) (outcome_at s.slots u) refl (λ p. put_other s.memory (Cell (cell_of s.z (own s)) part) (Cell (cell_of s.z u) p) y (λ q. other cc)) (s.law.shown u from until))
     u (shown_live (ground s) u from until) from until
 
 -- a slot is settled with the state of its cell
 settled_shown : (s : Setting) (t y : ℕ) (a : Option Slot) → Live s.z (first_live s.z s.merger) t → t < length s.slots → Shows (put s.memory (State (cell_of s.z t)) y) (cell_of s.z t) a
-    → AreShown s.z (put s.memory (State (cell_of s.z t)) y) (first_shown s.z s.merger) (length (set s.slots t a)) (slot_at (set s.slots t a))
+    → AreShown s.z (put s.memory (State (cell_of s.z t)) y) (first_shown s.z s.merger) (length (set s.slots t a)) (outcome_at (set s.slots t a))
 settled_shown s t y a l lt now u from until = let len = length-set s.slots t a in let p = puts_slot s.slots t a lt in let m' = put s.memory (State (cell_of s.z t)) y in let until' : u < length s.slots = omega arith in
-    at_live s.z (first_live s.z s.merger) (λ u. first_shown s.z s.merger ≤ u → u < length s.slots → Shows (put s.memory (State (cell_of s.z t)) y) (cell_of s.z u) (slot_at (set s.slots t a) u)) t l
+    at_live s.z (first_live s.z s.merger) (λ u. first_shown s.z s.merger ≤ u → u < length s.slots → Shows (put s.memory (State (cell_of s.z t)) y) (cell_of s.z u) (outcome_at (set s.slots t a) u)) t l
     (λ _ _. subst (Shows (put s.memory (State (cell_of s.z t)) y) (cell_of s.z t)) (sym p.here) now)
     (λ u m ne other from until. subst (Shows (put s.memory (State (cell_of s.z t)) y) (cell_of s.z u)) (sym (p.other u ne))
-    (shows_same s.memory (put s.memory (State (cell_of s.z t)) y) (cell_of s.z u) (slot_at s.slots u) (put_other s.memory (State (cell_of s.z t)) (State (cell_of s.z u)) y (λ q. other cc)) (λ p. refl) (s.law.shown u from until)))
+    (shows_same s.memory (put s.memory (State (cell_of s.z t)) y) (cell_of s.z u) (outcome_at s.slots u) (put_other s.memory (State (cell_of s.z t)) (State (cell_of s.z u)) y (λ q. other cc)) (λ p. refl) (s.law.shown u from until)))
     u (shown_live (ground s) u from until') from until'
 
--- a value is held as eight words
-eight_words : (written : Option (List ℕ)) → length_of written ≤ 8 → length (words_of written) ≡ 8
-eight_words None le = length-replicate {A = ℕ} 8 0
-eight_words (Some words) le = let a : length (words_of (Some words)) ≡ length words + length (replicate {A = ℕ} (8 - length words) 0) = length-append words (replicate (8 - length words) 0) in
-    let b : length (replicate {A = ℕ} (8 - length words) 0) ≡ 8 - length words = length-replicate {A = ℕ} (8 - length words) 0 in omega arith
+-- a value is held as so many words
+words_long : (written : Option (List ℕ)) → length (words_of written) ≡ length_of written
+words_long None = refl
+words_long (Some words) = refl
 
 -- the filled parts of a linked cell say the write
 write_shown : (s : Setting) (t : ℕ) (deed : Deed) → Opens s (Decide t deed) → Shows (put s.memory (State (cell_of s.z t)) (state_by (write_by 0 deed))) (cell_of s.z t) (write_by s.me deed)
@@ -103,24 +102,25 @@ write_shown s t deed o = let wr = says_write (v s) deed s.me o.2 in let says : S
       put_here s.memory (State (cell_of s.z t)) (state_by (write_by 0 deed)) ∙ ap state_by wr.2,
       s.law.filled s.me t wr.0 Key o.0 says.0,
       s.law.filled s.me t (length_of wr.1) Length o.0 says.1,
-      λ j lt. s.law.filled s.me t (slice_index (words_of wr.1) j) (Value j) o.0 (ap (λ (l : List (Option ℕ)). get_or l j None) says.2 ∙ get_or-map (λ (k : ℕ). Some k) (words_of wr.1) j 0 None (let e = eight_words wr.1 (at_most_eight wr.1 says.3) in omega arith)),
+      λ j lt. s.law.filled s.me t (slice_index (words_of wr.1) j) (Value j) o.0 (sym (get_or-take (length_of wr.1) (v s).words j None lt) ∙ ap (λ (l : List (Option ℕ)). get_or l j None) says.2
+          ∙ get_or-map (λ (k : ℕ). Some k) (words_of wr.1) j 0 None (let n = words_long wr.1 in omega arith)),
     )
 
-pub shown_kept : (s : Setting) (step : Step) → Opens s step → AreShown s.z (M s step) (first_shown s.z s.merger) (length (S s step)) (slot_at (S s step))
-shown_kept s (Draw t) o = by_test (λ b. AreShown s.z (M s (Draw t)) (first_shown s.z s.merger) (length (cond b (s.slots ++ None ∷ []) s.slots)) (slot_at (cond b (s.slots ++ None ∷ []) s.slots))) (x s (Draw t)) t
+pub shown_kept : (s : Setting) (step : Step) → Opens s step → AreShown s.z (M s step) (first_shown s.z s.merger) (length (S s step)) (outcome_at (S s step))
+shown_kept s (Draw t) o = by_test (λ b. AreShown s.z (M s (Draw t)) (first_shown s.z s.merger) (length (cond b (s.slots ++ None ∷ []) s.slots)) (outcome_at (cond b (s.slots ++ None ∷ []) s.slots))) (x s (Draw t)) t
     (λ e. drew_shown s t o (sym s.law.clock ∙ e))
-    (λ _. same_shown s.z s.memory (M s (Draw t)) _ _ (length s.slots) (slot_at s.slots) (omega arith) (λ c. refl) (λ c p. refl) s.law.shown)
+    (λ _. same_shown s.z s.memory (M s (Draw t)) _ _ (length s.slots) (outcome_at s.slots) (omega arith) (λ c. refl) (λ c p. refl) s.law.shown)
 shown_kept s (Fill part y) o = fill_shown s part y (own_drawn s o.0)
 shown_kept s (Decide t deed) o =
-    by_test (λ b. AreShown s.z (put s.memory (State (cell_of s.z t)) (either b (state_by (write_by 0 deed)) (x s (Decide t deed)))) (first_shown s.z s.merger) (length (cond b (set s.slots t (write_by s.me deed)) s.slots)) (slot_at (cond b (set s.slots t (write_by s.me deed)) s.slots))) (x s (Decide t deed)) 0
+    by_test (λ b. AreShown s.z (put s.memory (State (cell_of s.z t)) (either b (state_by (write_by 0 deed)) (x s (Decide t deed)))) (first_shown s.z s.merger) (length (cond b (set s.slots t (write_by s.me deed)) s.slots)) (outcome_at (cond b (set s.slots t (write_by s.me deed)) s.slots))) (x s (Decide t deed)) 0
     (λ _. settled_shown s t (state_by (write_by 0 deed)) (write_by s.me deed) (drawn_live (ground s) s.me t o.0) (s.law.pending s.me t o.0).1 (write_shown s t deed o))
-    (λ _. keep1 (λ (m : Memory). AreShown s.z m (first_shown s.z s.merger) (length s.slots) (slot_at s.slots)) (put_same s.memory (State (cell_of s.z t))) s.law.shown)
+    (λ _. keep1 (λ (m : Memory). AreShown s.z m (first_shown s.z s.merger) (length s.slots) (outcome_at s.slots)) (put_same s.memory (State (cell_of s.z t))) s.law.shown)
 shown_kept s (Cancel t) o = let p = cancels_shown s t o in
-    by_test (λ b. AreShown s.z (put s.memory (State (cell_of s.z t)) (either b 1 (x s (Cancel t)))) (first_shown s.z s.merger) (length (cond b (set s.slots t (Some Nothing)) s.slots)) (slot_at (cond b (set s.slots t (Some Nothing)) s.slots))) (x s (Cancel t)) 0
+    by_test (λ b. AreShown s.z (put s.memory (State (cell_of s.z t)) (either b 1 (x s (Cancel t)))) (first_shown s.z s.merger) (length (cond b (set s.slots t (Some Nothing)) s.slots)) (outcome_at (cond b (set s.slots t (Some Nothing)) s.slots))) (x s (Cancel t)) 0
     (λ _. settled_shown s t 1 (Some Nothing) (shown_live (ground s) t p.0 p.1) p.1 (put_here s.memory (State (cell_of s.z t)) 1))
-    (λ _. keep1 (λ (m : Memory). AreShown s.z m (first_shown s.z s.merger) (length s.slots) (slot_at s.slots)) (put_same s.memory (State (cell_of s.z t))) s.law.shown)
-shown_kept s (Look c) o = keep1 (λ (m : Memory). AreShown s.z m (first_shown s.z s.merger) (length s.slots) (slot_at s.slots)) (looked_same s c) s.law.shown
-shown_kept s step o = same_shown s.z s.memory (M s step) _ _ (length s.slots) (slot_at s.slots) (omega arith) (λ c. refl) (λ c p. refl) s.law.shown
+    (λ _. keep1 (λ (m : Memory). AreShown s.z m (first_shown s.z s.merger) (length s.slots) (outcome_at s.slots)) (put_same s.memory (State (cell_of s.z t))) s.law.shown)
+shown_kept s (Look c) o = keep1 (λ (m : Memory). AreShown s.z m (first_shown s.z s.merger) (length s.slots) (outcome_at s.slots)) (looked_same s c) s.law.shown
+shown_kept s step o = same_shown s.z s.memory (M s step) _ _ (length s.slots) (outcome_at s.slots) (omega arith) (λ c. refl) (λ c p. refl) s.law.shown
 
 -- ---- phases, and where the windows begin
 -- nothing is retired in phase Clean
@@ -152,13 +152,13 @@ shown_grows n merged true true quiet' more = rw (more refl) (omega arith)
 shown_grows n merged true false quiet' more = let below = one_less n merged in elim quiet' as (λ q. (merged - 1) * n ≤ cond (not q) ((merged - 1) * n) (merged * n)) [ true ↦ below | false ↦ omega arith ]
 
 -- a look at a pin word leaves quiet seats quiet
-quiet_grows : (rs : List Retiree) (i y : ℕ) → is_all_quiet rs ≡ true → is_all_quiet (set rs i (retiree_by (retiree_at rs i) y)) ≡ true
+quiet_grows : (rs : List Reader) (i y : ℕ) → is_all_quiet rs ≡ true → is_all_quiet (set rs i (reader_by (reader_at rs i) y)) ≡ true
 quiet_grows [] i y e = e
-quiet_grows (r ∷ rs) zero y e = let both = and_parts r.quiet (is_all_quiet rs) e in and_from (retiree_by r y).quiet (is_all_quiet rs) (rw both.0 refl) both.1
-quiet_grows (r ∷ rs) (suc i) y e = let both = and_parts r.quiet (is_all_quiet rs) e in and_from r.quiet (is_all_quiet (set rs i (retiree_by (retiree_at rs i) y))) both.0 (quiet_grows rs i y both.1)
+quiet_grows (r ∷ rs) zero y e = let both = and_parts r.quiet (is_all_quiet rs) e in and_from (reader_by r y).quiet (is_all_quiet rs) (rw both.0 refl) both.1
+quiet_grows (r ∷ rs) (suc i) y e = let both = and_parts r.quiet (is_all_quiet rs) e in and_from r.quiet (is_all_quiet (set rs i (reader_by (reader_at rs i) y))) both.0 (quiet_grows rs i y both.1)
 
 -- where no readers are held back, the times from the merges on are shown
-pub first_if_quiet : (z : Layout) (m : MergerView) → is_all_quiet m.retirees ≡ true → first_shown z m ≡ m.merged * z.cells
+pub first_if_quiet : (z : Layout) (m : MergerView) → is_all_quiet m.readers ≡ true → first_shown z m ≡ m.merged * z.cells
 first_if_quiet z m e = rw e (elim (is_retired m.phase) as (λ b. cond (b && not true) ((m.merged - 1) * z.cells) (m.merged * z.cells) ≡ m.merged * z.cells) [ true ↦ refl | false ↦ refl ])
 
 -- so it is in a phase with nothing retired
@@ -197,10 +197,10 @@ passes_at test a (suc n) u e from until = let both = and_parts (test a) (passes_
     dite (ℕ_discrete u a) (λ (same : u ≡ a). subst (λ (k : ℕ). test k ≡ true) (sym same) both.0) (λ ne. passes_at test (a + 1) n u both.1 (omega arith) (omega arith))
 
 -- the cells of the undrawn times are cancelled, and these times come to nothing
-extend_shown : (g : Ground) → OpensTo g ExtendClock → AreShown g.z (memory' g ExtendClock) (first_shown g.z g.merger) (length (slots' g ExtendClock)) (slot_at (slots' g ExtendClock))
+extend_shown : (g : Ground) → OpensTo g ExtendClock → AreShown g.z (memory' g ExtendClock) (first_shown g.z g.merger) (length (slots' g ExtendClock)) (outcome_at (slots' g ExtendClock))
 extend_shown g o u from until = elim (cases_lt u (length g.slots)) [
   | inl old ↦ subst (Shows (memory' g ExtendClock) (cell_of g.z u)) (sym (passed_before g.slots (epoch_end g.z g.merger) u old))
-      (shows_same g.memory (memory' g ExtendClock) (cell_of g.z u) (slot_at g.slots u) refl (λ p. refl) (g.law.shown u from old))
+      (shows_same g.memory (memory' g ExtendClock) (cell_of g.z u) (outcome_at g.slots u) refl (λ p. refl) (g.law.shown u from old))
   | inr new ↦ let len = length_passed g o in let held = clock_held g o.0 in let clock = g.law.clock in
       subst (Shows (memory' g ExtendClock) (cell_of g.z u)) (sym (passed_behind g.slots (epoch_end g.z g.merger) u new (omega arith)))
       (eqb-true (g.memory (State (cell_of g.z u))) 1 (passes_at (λ t. g.memory (State (cell_of g.z t)) == 1) (g.memory Clock) (epoch_end g.z g.merger - g.memory Clock) u o.1 (omega arith) (omega arith)))
@@ -211,20 +211,20 @@ padded_live : (g : Ground) (t : ℕ) → OpensTo g (Pad t) → Live g.z (first_l
 padded_live g t o = let live = live_if_not_retired g.z g.merger (held_retired g o.0) in let begun = g.law.begun in let clock = g.law.clock in let a = o.1 in let b = o.2 in record { from = omega arith; until = omega arith }
 
 -- so it is of no shown time
-pad_shown : (g : Ground) (t : ℕ) → OpensTo g (Pad t) → AreShown g.z (memory' g (Pad t)) (first_shown g.z g.merger) (length g.slots) (slot_at g.slots)
-pad_shown g t o u from until = shows_same g.memory (memory' g (Pad t)) (cell_of g.z u) (slot_at g.slots u)
+pad_shown : (g : Ground) (t : ℕ) → OpensTo g (Pad t) → AreShown g.z (memory' g (Pad t)) (first_shown g.z g.merger) (length g.slots) (outcome_at g.slots)
+pad_shown g t o u from until = shows_same g.memory (memory' g (Pad t)) (cell_of g.z u) (outcome_at g.slots u)
     (put_other g.memory (State (cell_of g.z t)) (State (cell_of g.z u)) 1
     (λ q. let same : u ≡ t = apart g.z (first_live g.z g.merger) u t (shown_live g u from until) (padded_live g t o) cc in let clock = g.law.clock in let a = o.1 in absurd (omega arith)))
     (λ p. refl) (g.law.shown u from until)
 
 -- a cell that is cleared is of the other region than the shown times
-clear_shown : (g : Ground) (cell : ℕ) → OpensTo g (ClearState cell) → AreShown g.z (memory' g (ClearState cell)) (first_shown g.z (merger' g (ClearState cell))) (length g.slots) (slot_at g.slots)
+clear_shown : (g : Ground) (cell : ℕ) → OpensTo g (ClearState cell) → AreShown g.z (memory' g (ClearState cell)) (first_shown g.z (merger' g (ClearState cell))) (length g.slots) (outcome_at g.slots)
 clear_shown g cell o u from until =
     let first : first_shown g.z (merger' g (ClearState cell)) ≡ g.merger.merged * g.z.cells = first_if_quiet g.z (merger' g (ClearState cell)) o.1 in
     let was = first_if_quiet g.z g.merger o.1 in
     let end = retired_end g o.0 in
     let region : region_of g.z (cell_of g.z u) ≡ g.merger.merged % 2 = region_of_epoch g.z g.merger.merged u (omega arith) (omega arith) in
-    shows_same g.memory (memory' g (ClearState cell)) (cell_of g.z u) (slot_at g.slots u)
+    shows_same g.memory (memory' g (ClearState cell)) (cell_of g.z u) (outcome_at g.slots u)
     (put_other g.memory (State cell) (State (cell_of g.z u)) 0
     (λ q. let same : cell_of g.z u ≡ cell = cc in let other : region_of g.z (cell_of g.z u) ≡ (g.merger.merged + 1) % 2 = ap (region_of g.z) same ∙ o.3 in absurd (omega arith)))
     (λ p. refl) (g.law.shown u (omega arith) until)
@@ -234,22 +234,22 @@ publish_first : (n merged : ℕ) (quiet : Bool) → merged * n ≤ cond (not qui
 publish_first n merged true = omega arith
 publish_first n merged false = let e : merged + 1 - 1 ≡ merged = omega arith in rw e (omega arith)
 
-pub shown_merged : (g : Ground) (step : Step) → OpensTo g step → AreShown g.z (memory' g step) (first_shown g.z (merger' g step)) (length (slots' g step)) (slot_at (slots' g step))
+pub shown_merged : (g : Ground) (step : Step) → OpensTo g step → AreShown g.z (memory' g step) (first_shown g.z (merger' g step)) (length (slots' g step)) (outcome_at (slots' g step))
 shown_merged g LeaveExclusive o = let was = first_if_not_retired g.z g.merger (held_retired g o.0) in let is = first_if_not_retired g.z (merger' g LeaveExclusive) (left_retired g o) in
-    same_shown g.z g.memory (memory' g LeaveExclusive) _ _ (length g.slots) (slot_at g.slots) (omega arith) (λ c. refl) (λ c p. refl) g.law.shown
-shown_merged g (Look (PinOf i)) o = keep1 (λ (m : Memory). AreShown g.z m (first_shown g.z (merger' g (Look (PinOf i)))) (length g.slots) (slot_at g.slots)) (merger_looked_same g (PinOf i))
-    (same_shown g.z g.memory g.memory _ _ (length g.slots) (slot_at g.slots)
-    (shown_grows g.z.cells g.merger.merged (is_retired g.merger.phase) (is_all_quiet g.merger.retirees) (is_all_quiet (merger' g (Look (PinOf i))).retirees)
-    (λ e. by_bool (λ b. is_all_quiet (cond b (set g.merger.retirees i (retiree_by (retiree_at g.merger.retirees i) (g.memory (PinOf i)))) g.merger.retirees) ≡ true) (is_retired g.merger.phase) (λ _. quiet_grows g.merger.retirees i (g.memory (PinOf i)) e) (λ _. e)))
+    same_shown g.z g.memory (memory' g LeaveExclusive) _ _ (length g.slots) (outcome_at g.slots) (omega arith) (λ c. refl) (λ c p. refl) g.law.shown
+shown_merged g (Look (PinOf i)) o = keep1 (λ (m : Memory). AreShown g.z m (first_shown g.z (merger' g (Look (PinOf i)))) (length g.slots) (outcome_at g.slots)) (merger_looked_same g (PinOf i))
+    (same_shown g.z g.memory g.memory _ _ (length g.slots) (outcome_at g.slots)
+    (shown_grows g.z.cells g.merger.merged (is_retired g.merger.phase) (is_all_quiet g.merger.readers) (is_all_quiet (merger' g (Look (PinOf i))).readers)
+    (λ e. by_bool (λ b. is_all_quiet (cond b (set g.merger.readers i (reader_by (reader_at g.merger.readers i) (g.memory (PinOf i)))) g.merger.readers) ≡ true) (is_retired g.merger.phase) (λ _. quiet_grows g.merger.readers i (g.memory (PinOf i)) e) (λ _. e)))
     (λ c. refl) (λ c p. refl) g.law.shown)
-shown_merged g (Look c) o = keep1 (λ (m : Memory). AreShown g.z m (first_shown g.z g.merger) (length g.slots) (slot_at g.slots)) (merger_looked_same g c) g.law.shown
+shown_merged g (Look c) o = keep1 (λ (m : Memory). AreShown g.z m (first_shown g.z g.merger) (length g.slots) (outcome_at g.slots)) (merger_looked_same g c) g.law.shown
 shown_merged g (Pad t) o = pad_shown g t o
-shown_merged g (WriteRun word y) o = same_shown g.z g.memory (memory' g (WriteRun word y)) _ _ (length g.slots) (slot_at g.slots) (omega arith) (λ c. run_other g.memory word (State c) y o.1 (λ h. h)) (λ c p. run_other g.memory word (Cell c p) y o.1 (λ h. h)) g.law.shown
+shown_merged g (WriteRun word y) o = same_shown g.z g.memory (memory' g (WriteRun word y)) _ _ (length g.slots) (outcome_at g.slots) (omega arith) (λ c. run_other g.memory word (State c) y o.1 (λ h. h)) (λ c p. run_other g.memory word (Cell c p) y o.1 (λ h. h)) g.law.shown
 shown_merged g (ClearState cell) o = clear_shown g cell o
 shown_merged g Publish o = let was = first_if_not_retired g.z g.merger (frozen_retired g.merger.phase o.0) in let le = publish_first g.z.cells g.merger.merged (is_all_quiet (replicate g.z.seats unseen)) in
-    same_shown g.z g.memory (memory' g Publish) _ _ (length g.slots) (slot_at g.slots) (omega arith) (λ c. refl) (λ c p. refl) g.law.shown
+    same_shown g.z g.memory (memory' g Publish) _ _ (length g.slots) (outcome_at g.slots) (omega arith) (λ c. refl) (λ c p. refl) g.law.shown
 shown_merged g ExtendClock o = extend_shown g o
-shown_merged g step o = same_shown g.z g.memory (memory' g step) _ _ (length g.slots) (slot_at g.slots) (omega arith) (λ c. refl) (λ c p. refl) g.law.shown
+shown_merged g step o = same_shown g.z g.memory (memory' g step) _ _ (length g.slots) (outcome_at g.slots) (omega arith) (λ c. refl) (λ c p. refl) g.law.shown
 
 -- ---- empty
 -- fewer times, and the same states

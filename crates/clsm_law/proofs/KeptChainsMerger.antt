@@ -12,7 +12,7 @@ use Rattle.clsm_law.specs.declared.merger.Phase.{Phase}
 use Rattle.clsm_law.specs.declared.merger.Phase.TheVariants.{Clean, Frozen, Retired}
 use Rattle.clsm_law.specs.Memory.{Memory, cell_of, region_of}
 use Rattle.clsm_law.specs.Merging.{is_clean, is_frozen, is_retired, is_all_quiet, retired_region, epoch_end}
-use Rattle.clsm_law.specs.Worlds.{slot_at}
+use Rattle.clsm_law.specs.Worlds.{outcome_at}
 use Rattle.clsm_law.specs.Law.{each, drawn_of, key_of, linked_of, In, Distinct, IsChain, AreChained, AreIn, AreOnce, AreStanding, AreLinked, AreLoose, first_live, first_shown}
 use Rattle.clsm_law.proofs.Cases.{by_bool}
 use Rattle.clsm_law.proofs.Frames.{keep1, slot_below}
@@ -55,7 +55,7 @@ module _ (g : Ground) (retired : is_retired g.merger.phase ≡ true) where
       let r = region_of_epoch g.z (g.merger.merged - 1) t (omega arith) (omega arith) in omega arith
 
   -- once all are quiet only the current epoch is shown
-  pub quiet_shown : is_all_quiet g.merger.retirees ≡ true → first_shown g.z g.merger ≡ g.merger.merged * g.z.cells
+  pub quiet_shown : is_all_quiet g.merger.readers ≡ true → first_shown g.z g.merger ≡ g.merger.merged * g.z.cells
   quiet_shown quiet = rw (retired, quiet) refl
 
 -- ---- the words lead along the chains
@@ -64,11 +64,11 @@ chained_merged g (Look c) o = keep1 (λ (m : Memory). AreChained g.z m g.chains)
 chained_merged g (WriteRun (Count p) y) o = λ r k a b. chain_same g.z g.memory (memory' g (WriteRun (Count p) y)) (g.memory (Head r k)) (g.chains r k) (λ t i. refl) (g.law.chained r k a b)
 chained_merged g (WriteRun (Entry p e i) y) o = λ r k a b. chain_same g.z g.memory (memory' g (WriteRun (Entry p e i) y)) (g.memory (Head r k)) (g.chains r k) (λ t i. refl) (g.law.chained r k a b)
 chained_merged g (WriteRun word y) o = absurd o.1
-chained_merged g (ClearHead region shard) o = λ r k a b. by_line (λ t. IsChain g.z (memory' g (ClearHead region shard)) (cond t 0 (g.memory (Head r k))) (cond t [] (g.chains r k))) r k region shard
-    (λ _ _. refl) (λ _. chain_same g.z g.memory (memory' g (ClearHead region shard)) (g.memory (Head r k)) (g.chains r k) (λ t i. refl) (g.law.chained r k a b))
+chained_merged g (ClearHead region chain) o = λ r k a b. by_line (λ t. IsChain g.z (memory' g (ClearHead region chain)) (cond t 0 (g.memory (Head r k))) (cond t [] (g.chains r k))) r k region chain
+    (λ _ _. refl) (λ _. chain_same g.z g.memory (memory' g (ClearHead region chain)) (g.memory (Head r k)) (g.chains r k) (λ t i. refl) (g.law.chained r k a b))
 chained_merged g step o = λ r k a b. chain_same g.z g.memory (memory' g step) (g.memory (Head r k)) (g.chains r k) (λ t i. refl) (g.law.chained r k a b)
 
--- ---- a chain holds drawn times of its region and its shard
+-- ---- a chain holds drawn times of its region and its chain
 -- where the heads of the retired region are 0 no time of the epoch before stands in a chain
 headless_from : (g : Ground) (cell : ℕ) → OpensTo g (ClearState cell) → (r k t : ℕ) → In t (g.chains r k) → g.merger.merged * g.z.cells ≤ t
 headless_from g cell o r k t i =
@@ -76,8 +76,8 @@ headless_from g cell o r k t i =
     elim (cases_lt t (g.merger.merged * g.z.cells)) [
       | inl lt ↦
           let there : r ≡ retired_region g.merger = sym l.region ∙ former_region g o.0 t l.live lt in
-          let inside : k < g.z.shards = let a = mod_below (g.memory (Cell (cell_of g.z t) Key)) g.z.shards (let s = g.sound.2.0 in omega arith) in let b = l.shard in omega arith in
-          let empty : g.memory (Head r k) ≡ 0 = eqb-true (g.memory (Head r k)) 0 (subst (λ (q : ℕ). (g.memory (Head q k) == 0) ≡ true) (sym there) (passes_at (λ shard. g.memory (Head (retired_region g.merger) shard) == 0) 0 g.z.shards k o.4 (omega arith) (omega arith))) in
+          let inside : k < g.z.chains = let a = mod_below (g.memory (Cell (cell_of g.z t) Key)) g.z.chains (let s = g.sound.2.0 in omega arith) in let b = l.chain in omega arith in
+          let empty : g.memory (Head r k) ≡ 0 = eqb-true (g.memory (Head r k)) 0 (subst (λ (q : ℕ). (g.memory (Head q k) == 0) ≡ true) (sym there) (passes_at (λ chain. g.memory (Head (retired_region g.merger) chain) == 0) 0 g.z.chains k o.4 (omega arith) (omega arith))) in
           absurd (none_behind_zero g.z g.memory (g.memory (Head r k)) t (g.chains r k) (g.law.chained r k (let a = region_below g.z (cell_of g.z t) in let b = l.region in omega arith) inside) empty i)
       | inr le ↦ le
     ]
@@ -111,34 +111,34 @@ lies_merged g (Look c) o = lies_as g (Look c) o (λ k j. merger_looked_same g c 
 lies_merged g (WriteRun (Count p) y) o = lies_as g (WriteRun (Count p) y) o (λ c. refl)
 lies_merged g (WriteRun (Entry p e i) y) o = lies_as g (WriteRun (Entry p e i) y) o (λ c. refl)
 lies_merged g (WriteRun word y) o = absurd o.1
-lies_merged g (ClearHead region shard) o = λ r k t i. lies_as g (ClearHead region shard) o (λ c. refl) r k t (in_emptied g.chains region shard r k t i)
+lies_merged g (ClearHead region chain) o = λ r k t i. lies_as g (ClearHead region chain) o (λ c. refl) r k t (in_emptied g.chains region chain r k t i)
 lies_merged g step o = lies_as g step o (λ c. refl)
 
 -- ---- each time once
 pub once_merged : (g : Ground) (step : Step) → OpensTo g step → AreOnce (chains' g step)
-once_merged g (ClearHead region shard) o = λ r k. by_line (λ b. Distinct (cond b [] (g.chains r k))) r k region shard (λ _ _. tt) (λ _. g.law.once r k)
+once_merged g (ClearHead region chain) o = λ r k. by_line (λ b. Distinct (cond b [] (g.chains r k))) r k region chain (λ _ _. tt) (λ _. g.law.once r k)
 once_merged g step o = g.law.once
 
 -- ---- a write stands in the chain of its key
 -- a time that the moved clock passed over is no write
-passes_over_none : (g : Ground) → OpensTo g ExtendClock → (t i key : ℕ) (written : Option (List ℕ)) → slot_at (slots' g ExtendClock) t ≡ Some (Wrote i key written) → slot_at g.slots t ≡ Some (Wrote i key written)
+passes_over_none : (g : Ground) → OpensTo g ExtendClock → (t i key : ℕ) (written : Option (List ℕ)) → outcome_at (slots' g ExtendClock) t ≡ Some (Wrote i key written) → outcome_at g.slots t ≡ Some (Wrote i key written)
 passes_over_none g o t i key written e = elim (cases_lt t (length g.slots)) [
   | inl lt ↦ sym (passed_before g.slots (epoch_end g.z g.merger) t lt) ∙ e
   | inr le ↦ let below = slot_below (slots' g ExtendClock) t (λ none. absurd (cc (none, e))) in let l = length_passed g o in let is = passed_behind g.slots (epoch_end g.z g.merger) t le (omega arith) in absurd (cc (is, e))
 ]
 
-pub standing_merged : (g : Ground) (step : Step) → OpensTo g step → AreStanding g.z (first_shown g.z (merger' g step)) (slot_at (slots' g step)) (chains' g step)
+pub standing_merged : (g : Ground) (step : Step) → OpensTo g step → AreStanding g.z (first_shown g.z (merger' g step)) (outcome_at (slots' g step)) (chains' g step)
 standing_merged g ExtendClock o = λ t i key written le e. g.law.standing t i key written (let a = shown_rises g ExtendClock o in omega arith) (passes_over_none g o t i key written e)
-standing_merged g (ClearHead region shard) o = λ t i key written le e. let first = quiet_shown g o.0 o.1 in
-    stays_emptied g.chains region shard _ _ t (λ same. current_region g o.0 t (omega arith) (slot_below g.slots t (λ none. absurd (cc (none, e)))) (same ∙ o.2)) (g.law.standing t i key written le e)
+standing_merged g (ClearHead region chain) o = λ t i key written le e. let first = quiet_shown g o.0 o.1 in
+    stays_emptied g.chains region chain _ _ t (λ same. current_region g o.0 t (omega arith) (slot_below g.slots t (λ none. absurd (cc (none, e)))) (same ∙ o.2)) (g.law.standing t i key written le e)
 standing_merged g step o = λ t i key written le e. g.law.standing t i key written (let a = shown_rises g step o in omega arith) e
 
 -- ---- a drawn time stands in a chain, its own, just where it is linked
 pub linked_merged : (g : Ground) (step : Step) → OpensTo g step → AreLinked g.z (each g.z drawn_of g.views) (each g.z key_of g.views) (each g.z linked_of g.views) (chains' g step)
-linked_merged g (ClearHead region shard) o = λ i t d l. let n = g.law.linked i t d l in let p = drawn_shown g i t d in
-    (n.0, n.1, stays_emptied g.chains region shard _ _ t (λ same. current_region g o.0 t p.0 p.1 (same ∙ o.2)) n.2)
+linked_merged g (ClearHead region chain) o = λ i t d l. let n = g.law.linked i t d l in let p = drawn_shown g i t d in
+    (n.0, n.1, stays_emptied g.chains region chain _ _ t (λ same. current_region g o.0 t p.0 p.1 (same ∙ o.2)) n.2)
 linked_merged g step o = g.law.linked
 
 pub loose_merged : (g : Ground) (step : Step) → OpensTo g step → AreLoose (each g.z drawn_of g.views) (each g.z linked_of g.views) (chains' g step)
-loose_merged g (ClearHead region shard) o = λ i t d l r k m. g.law.loose i t d l r k (in_emptied g.chains region shard r k t m)
+loose_merged g (ClearHead region chain) o = λ i t d l r k m. g.law.loose i t d l r k (in_emptied g.chains region chain r k t m)
 loose_merged g step o = g.law.loose

@@ -19,7 +19,7 @@ use Rattle.clsm_law.specs.declared.view.Mode.TheVariants.{Shared}
 use Rattle.clsm_law.specs.Memory.{Memory, cell_of, put}
 use Rattle.clsm_law.specs.Relation.{blank, next_word, one_more_if, given_up, looked, filled}
 use Rattle.clsm_law.specs.Merging.{epoch_end}
-use Rattle.clsm_law.specs.Worlds.{view_at, slot_at}
+use Rattle.clsm_law.specs.Worlds.{view_at, outcome_at}
 use Rattle.clsm_law.specs.Law.{each, mode_of, drawn_of, part_of, AreHolding, ArePending, AreOwned, AreAlone, AreFilled}
 use Rattle.clsm_law.proofs.Cases.{by_test, by_bool}
 use Rattle.clsm_law.proofs.Frames.{at_each, keep1, puts_each, puts_slot, slots_grown, past_end, put_here, put_other}
@@ -108,48 +108,48 @@ abbrev Pends : Layout → ℕ → ℕ → (ℕ → Option Slot) → ℕ → Type
 Pends z limit clock slot t = (limit ≤ t + z.cells) × (t < clock) × ((slot t ≡ None) ⊎ (slot t ≡ Some Nothing))
 
 -- over the same slots, with no more drawn
-fewer_pending : (s : Setting) (y : View) → Fewer s y → ArePending s.z (s.memory Limit) (each s.z drawn_of (set s.views s.me y)) (length s.slots) (slot_at s.slots)
-fewer_pending s y less = by_seat s y (λ i a. (u : ℕ) → a.drawn ≡ Some u → Pends s.z (s.memory Limit) (length s.slots) (slot_at s.slots) u) (λ u e. s.law.pending s.me u (less u e)) (λ i ne u e. s.law.pending i u e)
+fewer_pending : (s : Setting) (y : View) → Fewer s y → ArePending s.z (s.memory Limit) (each s.z drawn_of (set s.views s.me y)) (length s.slots) (outcome_at s.slots)
+fewer_pending s y less = by_seat s y (λ i a. (u : ℕ) → a.drawn ≡ Some u → Pends s.z (s.memory Limit) (length s.slots) (outcome_at s.slots) u) (λ u e. s.law.pending s.me u (less u e)) (λ i ne u e. s.law.pending i u e)
 
 -- the new time is the last, and undecided
-drew_pending : (s : Setting) (t : ℕ) → length s.slots ≡ t → ArePending s.z (s.memory Limit) (each s.z drawn_of (set s.views s.me (drew s t))) (length (s.slots ++ None ∷ [])) (slot_at (s.slots ++ None ∷ []))
+drew_pending : (s : Setting) (t : ℕ) → length s.slots ≡ t → ArePending s.z (s.memory Limit) (each s.z drawn_of (set s.views s.me (drew s t))) (length (s.slots ++ None ∷ [])) (outcome_at (s.slots ++ None ∷ []))
 drew_pending s t is = let len : length (s.slots ++ None ∷ []) ≡ length s.slots + 1 = length-append s.slots (None ∷ []) in let current = s.law.current in
     keep1 (λ (f : ℕ → Option Slot). ArePending s.z (s.memory Limit) (each s.z drawn_of (set s.views s.me (drew s t))) (length (s.slots ++ None ∷ [])) f) (slots_grown s.slots)
-    (by_seat s (drew s t) (λ i a. (u : ℕ) → a.drawn ≡ Some u → Pends s.z (s.memory Limit) (length (s.slots ++ None ∷ [])) (slot_at s.slots) u)
-    (λ u e. let same : t ≡ u = cc in (omega arith, omega arith, inl (subst (λ (k : ℕ). slot_at s.slots k ≡ None) (is ∙ same) (past_end s.slots))))
+    (by_seat s (drew s t) (λ i a. (u : ℕ) → a.drawn ≡ Some u → Pends s.z (s.memory Limit) (length (s.slots ++ None ∷ [])) (outcome_at s.slots) u)
+    (λ u e. let same : t ≡ u = cc in (omega arith, omega arith, inl (subst (λ (k : ℕ). outcome_at s.slots k ≡ None) (is ∙ same) (past_end s.slots))))
     (λ i ne u e. let q = s.law.pending i u e in (q.0, let k = q.1 in omega arith, q.2)))
 
 -- a slot becomes Nothing, or one that nobody has drawn any longer is settled
 settled_pending : (s : Setting) (y : View) (t : ℕ) (a : Option Slot) → Fewer s y → t < length s.slots → (a ≡ Some Nothing) ⊎ ((i : ℕ) → each s.z drawn_of (set s.views s.me y) i ≢ Some t)
-    → ArePending s.z (s.memory Limit) (each s.z drawn_of (set s.views s.me y)) (length (set s.slots t a)) (slot_at (set s.slots t a))
+    → ArePending s.z (s.memory Limit) (each s.z drawn_of (set s.views s.me y)) (length (set s.slots t a)) (outcome_at (set s.slots t a))
 settled_pending s y t a less lt c i u e = let q = fewer_pending s y less i u e in let p = puts_slot s.slots t a lt in let len = length-set s.slots t a in (
   q.0,
   let k = q.1 in omega arith,
   dite (ℕ_discrete u t)
-      (λ (same : u ≡ t). ⊎_elim (λ (n : a ≡ Some Nothing). inr (ap (slot_at (set s.slots t a)) same ∙ p.here ∙ n)) (λ (no : (i : ℕ) → each s.z drawn_of (set s.views s.me y) i ≢ Some t). absurd (no i (e ∙ ap (λ (k : ℕ). Some k) same))) c)
-      (λ ne. ⊎_elim (λ (f : slot_at s.slots u ≡ None). inl (p.other u ne ∙ f)) (λ (f : slot_at s.slots u ≡ Some Nothing). inr (p.other u ne ∙ f)) q.2),
+      (λ (same : u ≡ t). ⊎_elim (λ (n : a ≡ Some Nothing). inr (ap (outcome_at (set s.slots t a)) same ∙ p.here ∙ n)) (λ (no : (i : ℕ) → each s.z drawn_of (set s.views s.me y) i ≢ Some t). absurd (no i (e ∙ ap (λ (k : ℕ). Some k) same))) c)
+      (λ ne. ⊎_elim (λ (f : outcome_at s.slots u ≡ None). inl (p.other u ne ∙ f)) (λ (f : outcome_at s.slots u ≡ Some Nothing). inr (p.other u ne ∙ f)) q.2),
 )
 
 -- who decides a time gives it up, and no other seat had drawn it
 decided_by_none : (s : Setting) (t : ℕ) (deed : Deed) → (v s).drawn ≡ Some t → (i : ℕ) → each s.z drawn_of (V s (Decide t deed)) i ≢ Some t
 decided_by_none s t deed mine = by_seat s (w s (Decide t deed)) (λ i a. a.drawn ≢ Some t) (λ e. absurd cc) (λ i ne e. ne (s.law.alone i s.me t e mine))
 
-pub pending_kept : (s : Setting) (step : Step) → Opens s step → ArePending s.z (M s step Limit) (each s.z drawn_of (V s step)) (length (S s step)) (slot_at (S s step))
-pending_kept s (Draw t) o = by_draw s (λ b vs. ArePending s.z (s.memory Limit) (each s.z drawn_of vs) (length (cond b (s.slots ++ None ∷ []) s.slots)) (slot_at (cond b (s.slots ++ None ∷ []) s.slots))) t (drew_pending s t) (fewer_pending s (missed s) (λ u e. e))
-pending_kept s (Decide t deed) o = by_test (λ b. ArePending s.z (s.memory Limit) (each s.z drawn_of (V s (Decide t deed))) (length (cond b (set s.slots t (write_by s.me deed)) s.slots)) (slot_at (cond b (set s.slots t (write_by s.me deed)) s.slots))) (x s (Decide t deed)) 0
+pub pending_kept : (s : Setting) (step : Step) → Opens s step → ArePending s.z (M s step Limit) (each s.z drawn_of (V s step)) (length (S s step)) (outcome_at (S s step))
+pending_kept s (Draw t) o = by_draw s (λ b vs. ArePending s.z (s.memory Limit) (each s.z drawn_of vs) (length (cond b (s.slots ++ None ∷ []) s.slots)) (outcome_at (cond b (s.slots ++ None ∷ []) s.slots))) t (drew_pending s t) (fewer_pending s (missed s) (λ u e. e))
+pending_kept s (Decide t deed) o = by_test (λ b. ArePending s.z (s.memory Limit) (each s.z drawn_of (V s (Decide t deed))) (length (cond b (set s.slots t (write_by s.me deed)) s.slots)) (outcome_at (cond b (set s.slots t (write_by s.me deed)) s.slots))) (x s (Decide t deed)) 0
     (λ _. settled_pending s (w s (Decide t deed)) t (write_by s.me deed) (λ u e. absurd cc) (s.law.pending s.me t o.0).1 (inr (decided_by_none s t deed o.0)))
     (λ _. fewer_pending s (w s (Decide t deed)) (λ u e. absurd cc))
-pending_kept s (Cancel t) o = by_test (λ b. ArePending s.z (s.memory Limit) (each s.z drawn_of (V s (Cancel t))) (length (cond b (set s.slots t (Some Nothing)) s.slots)) (slot_at (cond b (set s.slots t (Some Nothing)) s.slots))) (x s (Cancel t)) 0
+pending_kept s (Cancel t) o = by_test (λ b. ArePending s.z (s.memory Limit) (each s.z drawn_of (V s (Cancel t))) (length (cond b (set s.slots t (Some Nothing)) s.slots)) (outcome_at (cond b (set s.slots t (Some Nothing)) s.slots))) (x s (Cancel t)) 0
     (λ _. settled_pending s (w s (Cancel t)) t (Some Nothing) (wholly (v s).drawn t) (cancels_shown s t o).1 (inl refl))
     (λ _. fewer_pending s (w s (Cancel t)) (wholly (v s).drawn t))
-pending_kept s (Look c) o = keep1 (λ (m : Memory). ArePending s.z (m Limit) (each s.z drawn_of (V s (Look c))) (length s.slots) (slot_at s.slots)) (looked_same s c) (fewer_pending s (w s (Look c)) (fewer_after s (Look c) tt))
+pending_kept s (Look c) o = keep1 (λ (m : Memory). ArePending s.z (m Limit) (each s.z drawn_of (V s (Look c))) (length s.slots) (outcome_at s.slots)) (looked_same s c) (fewer_pending s (w s (Look c)) (fewer_after s (Look c) tt))
 pending_kept s step o = fewer_pending s (w s step) (fewer_after s step tt)
 
-pub pending_merged : (g : Ground) (step : Step) → OpensTo g step → ArePending g.z (memory' g step Limit) (each g.z drawn_of g.views) (length (slots' g step)) (slot_at (slots' g step))
+pub pending_merged : (g : Ground) (step : Step) → OpensTo g step → ArePending g.z (memory' g step Limit) (each g.z drawn_of g.views) (length (slots' g step)) (outcome_at (slots' g step))
 pending_merged g ExtendClock o = λ i t e. absurd (none_drawn g o.0 i t e)
 pending_merged g ExtendLimit o = λ i t e. absurd (none_drawn g o.0 i t e)
-pending_merged g (Look c) o = keep1 (λ (m : Memory). ArePending g.z (m Limit) (each g.z drawn_of g.views) (length g.slots) (slot_at g.slots)) (merger_looked_same g c) g.law.pending
-pending_merged g (WriteRun word y) o = keep1 (λ (limit : ℕ). ArePending g.z limit (each g.z drawn_of g.views) (length g.slots) (slot_at g.slots)) (run_other g.memory word Limit y o.1 (λ h. h)) g.law.pending
+pending_merged g (Look c) o = keep1 (λ (m : Memory). ArePending g.z (m Limit) (each g.z drawn_of g.views) (length g.slots) (outcome_at g.slots)) (merger_looked_same g c) g.law.pending
+pending_merged g (WriteRun word y) o = keep1 (λ (limit : ℕ). ArePending g.z limit (each g.z drawn_of g.views) (length g.slots) (outcome_at g.slots)) (run_other g.memory word Limit y o.1 (λ h. h)) g.law.pending
 pending_merged g step o = g.law.pending
 
 -- ---- an undecided time has an owner
@@ -157,14 +157,14 @@ still_owned : (s : Setting) (y : View) (u : ℕ) → ((v s).drawn ≡ Some u →
 still_owned s y u here h = (h.0, by_seat s y (λ i a. each s.z drawn_of s.views i ≡ Some u → a.drawn ≡ Some u) here (λ i ne e. e) h.0 h.1)
 
 -- what is undecided after a step was undecided before
-undecided_before : (s : Setting) (step : Step) → Opens s step → (u : ℕ) → slot_at (S s step) u ≡ None → slot_at s.slots u ≡ None
-undecided_before s step o u none = is (slot_at s.slots u) refl where
-  is : (a : Option Slot) → slot_at s.slots u ≡ a → slot_at s.slots u ≡ None
+undecided_before : (s : Setting) (step : Step) → Opens s step → (u : ℕ) → outcome_at (S s step) u ≡ None → outcome_at s.slots u ≡ None
+undecided_before s step o u none = is (outcome_at s.slots u) refl where
+  is : (a : Option Slot) → outcome_at s.slots u ≡ a → outcome_at s.slots u ≡ None
   is None e = e
   is (Some b) e = absurd (cc (none, slots_stay s step o u b e))
 
 -- the new time is the own
-drew_owned : (s : Setting) (t : ℕ) → (v s).drawn ≡ None → length s.slots ≡ t → AreOwned (each s.z drawn_of (set s.views s.me (drew s t))) (length (s.slots ++ None ∷ [])) (slot_at (s.slots ++ None ∷ []))
+drew_owned : (s : Setting) (t : ℕ) → (v s).drawn ≡ None → length s.slots ≡ t → AreOwned (each s.z drawn_of (set s.views s.me (drew s t))) (length (s.slots ++ None ∷ [])) (outcome_at (s.slots ++ None ∷ []))
 drew_owned s t free is u lt none = let len : length (s.slots ++ None ∷ []) ≡ length s.slots + 1 = length-append s.slots (None ∷ []) in
     elim (cases_lt u (length s.slots)) [
       | inl old ↦ still_owned s (drew s t) u (λ e. absurd cc) (s.law.owned u old (sym (λ k. slots_grown s.slots k u) ∙ none))
@@ -176,20 +176,20 @@ still_drawn : (d : Option ℕ) (t u : ℕ) → t ≢ u → d ≡ Some u → give
 still_drawn None t u ne e = e
 still_drawn (Some y) t u ne e = by_test (λ b. cond b None (Some y) ≡ Some u) y t (λ same. absurd (ne (sym same ∙ (let is : y ≡ u = cc in is)))) (λ _. e)
 
-pub owned_kept : (s : Setting) (step : Step) → Opens s step → AreOwned (each s.z drawn_of (V s step)) (length (S s step)) (slot_at (S s step))
-owned_kept s (Draw t) o = by_draw s (λ b vs. AreOwned (each s.z drawn_of vs) (length (cond b (s.slots ++ None ∷ []) s.slots)) (slot_at (cond b (s.slots ++ None ∷ []) s.slots))) t (drew_owned s t o.1)
+pub owned_kept : (s : Setting) (step : Step) → Opens s step → AreOwned (each s.z drawn_of (V s step)) (length (S s step)) (outcome_at (S s step))
+owned_kept s (Draw t) o = by_draw s (λ b vs. AreOwned (each s.z drawn_of vs) (length (cond b (s.slots ++ None ∷ []) s.slots)) (outcome_at (cond b (s.slots ++ None ∷ []) s.slots))) t (drew_owned s t o.1)
     (λ u lt none. still_owned s (missed s) u (λ e. e) (s.law.owned u lt none))
 owned_kept s (Decide t deed) o = λ u lt none. still_owned s (w s (Decide t deed)) u
-    (λ e. let same : t ≡ u = cc (o.0, e) in absurd (decide_settles s t deed o (subst (λ (k : ℕ). slot_at (S s (Decide t deed)) k ≡ None) (sym same) none)))
+    (λ e. let same : t ≡ u = cc (o.0, e) in absurd (decide_settles s t deed o (subst (λ (k : ℕ). outcome_at (S s (Decide t deed)) k ≡ None) (sym same) none)))
     (s.law.owned u (by_bool (λ b. u < length (cond b (set s.slots t (write_by s.me deed)) s.slots) → u < length s.slots) (x s (Decide t deed) == 0) (λ _ lt. let len = length-set s.slots t (write_by s.me deed) in omega arith) (λ _ lt. lt) lt) (undecided_before s (Decide t deed) o u none))
 owned_kept s (Cancel t) o = λ u lt none. still_owned s (w s (Cancel t)) u
-    (still_drawn (v s).drawn t u (λ same. cancel_settles s t o (subst (λ (k : ℕ). slot_at (S s (Cancel t)) k ≡ None) (sym same) none)))
+    (still_drawn (v s).drawn t u (λ same. cancel_settles s t o (subst (λ (k : ℕ). outcome_at (S s (Cancel t)) k ≡ None) (sym same) none)))
     (s.law.owned u (by_bool (λ b. u < length (cond b (set s.slots t (Some Nothing)) s.slots) → u < length s.slots) (x s (Cancel t) == 0) (λ _ lt. let len = length-set s.slots t (Some Nothing) in omega arith) (λ _ lt. lt) lt) (undecided_before s (Cancel t) o u none))
 owned_kept s (Look c) o = λ u lt none. still_owned s (w s (Look c)) u (λ e. looked_drawn s.z (v s) c (x s (Look c)) ∙ e) (s.law.owned u lt none)
 owned_kept s (Fill part y) o = λ u lt none. still_owned s (w s (Fill part y)) u (λ e. filled_drawn (v s) part y ∙ e) (s.law.owned u lt none)
 owned_kept s step o = λ u lt none. still_owned s (w s step) u (λ e. e) (s.law.owned u lt none)
 
-pub owned_merged : (g : Ground) (step : Step) → OpensTo g step → AreOwned (each g.z drawn_of g.views) (length (slots' g step)) (slot_at (slots' g step))
+pub owned_merged : (g : Ground) (step : Step) → OpensTo g step → AreOwned (each g.z drawn_of g.views) (length (slots' g step)) (outcome_at (slots' g step))
 owned_merged g ExtendClock o = λ u lt none. elim (cases_lt u (length g.slots)) [
   | inl old ↦ g.law.owned u old (sym (passed_before g.slots (epoch_end g.z g.merger) u old) ∙ none)
   | inr new ↦ let len = length_passed g o in let some = passed_behind g.slots (epoch_end g.z g.merger) u new (omega arith) in absurd (cc (some, none))

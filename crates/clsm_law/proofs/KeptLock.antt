@@ -21,7 +21,7 @@ use Rattle.clsm_law.specs.declared.merger.Phase.{Phase}
 use Rattle.clsm_law.specs.declared.merger.Phase.TheVariants.{Clean, Frozen, Retired}
 use Rattle.clsm_law.specs.Memory.{Memory}
 use Rattle.clsm_law.specs.Relation.{idle, is_shared, looked, filled}
-use Rattle.clsm_law.specs.Merging.{is_clean, is_frozen, is_retired, merger_looked, unseen, retiree_at, retiree_by}
+use Rattle.clsm_law.specs.Merging.{is_clean, is_frozen, is_retired, merger_looked, unseen, reader_at, reader_by}
 use Rattle.clsm_law.specs.Law.{each, mode_of, holders, IsLockedOut, AreCallers, IsMerger}
 use Rattle.clsm_law.proofs.Cases.{by_test, by_bool}
 use Rattle.clsm_law.proofs.Frames.{at_each, keep1, puts_each, same_each}
@@ -251,8 +251,8 @@ merger_merged g (Look (Snap i)) o = let h = g.law.merger in record {
   top = h.top;
 }
 merger_merged g (Look (PinOf i)) o = let h = g.law.merger in let n = found g (Look (PinOf i)) in record {
-  seats = by_bool (λ b. length (cond b (set g.merger.retirees i (retiree_by (retiree_at g.merger.retirees i) n)) g.merger.retirees) ≡ g.z.seats) (is_retired g.merger.phase)
-      (λ _. length-set g.merger.retirees i (retiree_by (retiree_at g.merger.retirees i) n) ∙ h.seats) (λ _. h.seats);
+  seats = by_bool (λ b. length (cond b (set g.merger.readers i (reader_by (reader_at g.merger.readers i) n)) g.merger.readers) ≡ g.z.seats) (is_retired g.merger.phase)
+      (λ _. length-set g.merger.readers i (reader_by (reader_at g.merger.readers i) n) ∙ h.seats) (λ _. h.seats);
   some_merged = h.some_merged;
   clean = h.clean;
   pads = h.pads;

@@ -13,10 +13,10 @@ use Rattle.clsm_law.specs.declared.view.View.{View}
 use Rattle.clsm_law.specs.declared.view.SnapshotState.{SnapshotState}
 use Rattle.clsm_law.specs.declared.view.SnapshotState.TheVariants.{Absent, Noted, Timed, Open}
 use Rattle.clsm_law.specs.declared.merger.MergerView.{MergerView}
-use Rattle.clsm_law.specs.declared.merger.Retiree.{Retiree}
+use Rattle.clsm_law.specs.declared.merger.Reader.{Reader}
 use Rattle.clsm_law.specs.Memory.{Memory, put}
 use Rattle.clsm_law.specs.Relation.{next_word, takes_hold, ended_snapshot, timed_by}
-use Rattle.clsm_law.specs.Merging.{is_retired, is_all_quiet, unseen, retiree_at, retiree_by, differs, first_noted}
+use Rattle.clsm_law.specs.Merging.{is_retired, is_all_quiet, unseen, reader_at, reader_by, differs, first_noted}
 use Rattle.clsm_law.specs.Law.{each, pin_of, pinned_of, held_of, snapshot_of, ArePins, AreOdd, IsFirst, IsRetiredFor, AreHeld, AreNotes, note_of}
 use Rattle.clsm_law.proofs.Frames.{at_each, keep1, keep2, put_here, put_other, puts_each, same_each}
 use Rattle.clsm_law.proofs.Setting.{Setting, v, x, w, M, V, Opens, looked_same, Ground, found, memory', merger', OpensTo, merger_looked_same}
@@ -100,14 +100,14 @@ held_from : (g : Ground) (m : MergerView) → ((i c : ℕ) → each g.z held_of 
 held_from g m now i c e = let h = g.law.held i c e in (h.0, now i c e h.0 h.1)
 
 -- the merger's phase, its merges and what it found of the seats stay
-held_same : (g : Ground) (m : MergerView) → m.merged ≡ g.merger.merged → m.phase ≡ g.merger.phase → m.retirees ≡ g.merger.retirees → AreHeld m (each g.z held_of g.views) (each g.z pinned_of g.views) (each g.z pin_of g.views)
+held_same : (g : Ground) (m : MergerView) → m.merged ≡ g.merger.merged → m.phase ≡ g.merger.phase → m.readers ≡ g.merger.readers → AreHeld m (each g.z held_of g.views) (each g.z pinned_of g.views) (each g.z pin_of g.views)
 held_same g m a b c = held_from g m (λ i k e pinned. ⊎_elim
     (λ (new : k ≡ g.merger.merged). inl (new ∙ sym a))
     (λ (r : IsRetiredFor g.merger i (each g.z pin_of g.views i) k). inr (record {
       before = r.before ∙ sym a;
       retired = ap is_retired b ∙ r.retired;
-      loud = ap (λ (l : List Retiree). (retiree_at l i).quiet) c ∙ r.loud;
-      first = keep1 (λ (l : List Retiree). IsFirst (retiree_at l i).first_pin (each g.z pin_of g.views i)) c r.first;
+      loud = ap (λ (l : List Reader). (reader_at l i).quiet) c ∙ r.loud;
+      first = keep1 (λ (l : List Reader). IsFirst (reader_at l i).first_pin (each g.z pin_of g.views i)) c r.first;
     })))
 
 -- nothing retired is held: all hold the newest
@@ -123,28 +123,28 @@ holder_inside z (y ∷ ys) zero c e = omega arith
 holder_inside z (y ∷ ys) (suc i) c e = let a = holder_inside z ys i c e in omega arith
 
 -- where all are quiet each seat is
-quiet_at : (rs : List Retiree) (i : ℕ) → i < length rs → is_all_quiet rs ≡ true → (retiree_at rs i).quiet ≡ true
+quiet_at : (rs : List Reader) (i : ℕ) → i < length rs → is_all_quiet rs ≡ true → (reader_at rs i).quiet ≡ true
 quiet_at [] i lt e = absurd (omega arith)
 quiet_at (r ∷ rs) zero lt e = (and_parts r.quiet (is_all_quiet rs) e).0
 quiet_at (r ∷ rs) (suc i) lt e = quiet_at rs i (omega arith) (and_parts r.quiet (is_all_quiet rs) e).1
 
 -- a retirement begins with no seat quiet and no pin word noted
-fresh_retiree : (n i : ℕ) → retiree_at (replicate n unseen) i ≡ unseen
-fresh_retiree zero i = refl
-fresh_retiree (suc n) zero = refl
-fresh_retiree (suc n) (suc i) = fresh_retiree n i
+fresh_reader : (n i : ℕ) → reader_at (replicate n unseen) i ≡ unseen
+fresh_reader zero i = refl
+fresh_reader (suc n) zero = refl
+fresh_reader (suc n) (suc i) = fresh_reader n i
 
 -- who held the newest holds the retired one
 publishes : (g : Ground) (i pin c : ℕ) → c ≡ g.merger.merged → IsRetiredFor (merger' g Publish) i pin c
 publishes g i pin c new = record {
   before = ap (λ (k : ℕ). k + 1) new;
   retired = refl;
-  loud = ap (λ (r : Retiree). r.quiet) (fresh_retiree g.z.seats i);
-  first = keep1 (λ (r : Retiree). IsFirst r.first_pin pin) (fresh_retiree g.z.seats i) tt;
+  loud = ap (λ (r : Reader). r.quiet) (fresh_reader g.z.seats i);
+  first = keep1 (λ (r : Reader). IsFirst r.first_pin pin) (fresh_reader g.z.seats i) tt;
 }
 
 -- a seat that was not found quiet, and whose pin word is the one first noted
-record IsLoud (r : Retiree) (pin : ℕ) : Type 0 where
+record IsLoud (r : Reader) (pin : ℕ) : Type 0 where
   pub loud : r.quiet ≡ false
   pub first : IsFirst r.first_pin pin
 
@@ -159,15 +159,15 @@ still_first None n h = refl
 still_first (Some f) n h = h
 
 -- its odd word does not show it quiet
-stays_loud : (r : Retiree) (n : ℕ) → n % 2 ≡ 1 → IsLoud r n → IsLoud (retiree_by r n) n
+stays_loud : (r : Reader) (n : ℕ) → n % 2 ≡ 1 → IsLoud r n → IsLoud (reader_by r n) n
 stays_loud r n odd h = record { loud = rw (h.loud, odd, not_differing r.first_pin n h.first) refl; first = still_first r.first_pin n h.first }
 
 -- a look at the pin word of the seat j leaves the others as they were
-looks_at : (rs : List Retiree) (j i n pin : ℕ) → j < length rs → (j ≡ i → (n ≡ pin) × (n % 2 ≡ 1)) → IsLoud (retiree_at rs i) pin → IsLoud (retiree_at (set rs j (retiree_by (retiree_at rs j) n)) i) pin
+looks_at : (rs : List Reader) (j i n pin : ℕ) → j < length rs → (j ≡ i → (n ≡ pin) × (n % 2 ≡ 1)) → IsLoud (reader_at rs i) pin → IsLoud (reader_at (set rs j (reader_by (reader_at rs j) n)) i) pin
 looks_at rs j i n pin lt own h = dite (ℕ_discrete i j)
-    (λ (same : i ≡ j). let a = own (sym same) in keep1 (λ (r : Retiree). IsLoud r pin) (ap (retiree_at (set rs j (retiree_by (retiree_at rs j) n))) same ∙ get_or-set_same rs j (retiree_by (retiree_at rs j) n) unseen lt)
-    (subst (λ (k : ℕ). IsLoud (retiree_by (retiree_at rs j) n) k) a.0 (stays_loud (retiree_at rs j) n a.1 (subst (λ (k : ℕ). IsLoud (retiree_at rs j) k) (sym a.0) (subst (λ (k : ℕ). IsLoud (retiree_at rs k) pin) same h)))))
-    (λ ne. keep1 (λ (r : Retiree). IsLoud r pin) (get_or-set_other rs j i (retiree_by (retiree_at rs j) n) unseen ne) h)
+    (λ (same : i ≡ j). let a = own (sym same) in keep1 (λ (r : Reader). IsLoud r pin) (ap (reader_at (set rs j (reader_by (reader_at rs j) n))) same ∙ get_or-set_same rs j (reader_by (reader_at rs j) n) unseen lt)
+    (subst (λ (k : ℕ). IsLoud (reader_by (reader_at rs j) n) k) a.0 (stays_loud (reader_at rs j) n a.1 (subst (λ (k : ℕ). IsLoud (reader_at rs j) k) (sym a.0) (subst (λ (k : ℕ). IsLoud (reader_at rs k) pin) same h)))))
+    (λ ne. keep1 (λ (r : Reader). IsLoud r pin) (get_or-set_other rs j i (reader_by (reader_at rs j) n) unseen ne) h)
 
 -- a look at a pin word finds no holder of the retired component quiet
 held_looked : (g : Ground) (j : ℕ) → OpensTo g (Look (PinOf j)) → AreHeld (merger' g (Look (PinOf j))) (each g.z held_of g.views) (each g.z pinned_of g.views) (each g.z pin_of g.views)
@@ -175,11 +175,11 @@ held_looked g j o = held_from g (merger' g (Look (PinOf j))) (λ i c e pinned. �
     (λ (new : c ≡ g.merger.merged). inl new)
     (λ (r : IsRetiredFor g.merger i (each g.z pin_of g.views i) c).
     let lt : j < g.z.seats = ltb-true j g.z.seats o in
-    let loud : IsLoud (retiree_at (set g.merger.retirees j (retiree_by (retiree_at g.merger.retirees j) (found g (Look (PinOf j))))) i) (each g.z pin_of g.views i) =
-    looks_at g.merger.retirees j i (found g (Look (PinOf j))) (each g.z pin_of g.views i) (let a = g.law.merger.seats in omega arith)
+    let loud : IsLoud (reader_at (set g.merger.readers j (reader_by (reader_at g.merger.readers j) (found g (Look (PinOf j))))) i) (each g.z pin_of g.views i) =
+    looks_at g.merger.readers j i (found g (Look (PinOf j))) (each g.z pin_of g.views i) (let a = g.law.merger.seats in omega arith)
     (λ same. let word : g.memory (PinOf j) ≡ each g.z pin_of g.views i = g.law.pins j lt ∙ ap (each g.z pin_of g.views) same in (word, ap (λ (k : ℕ). k % 2) word ∙ g.law.odd i ∙ ap (λ b. cond b 1 0) pinned))
     record { loud = r.loud; first = r.first } in
-    let now : IsLoud (retiree_at (merger' g (Look (PinOf j))).retirees i) (each g.z pin_of g.views i) = rw r.retired loud in
+    let now : IsLoud (reader_at (merger' g (Look (PinOf j))).readers i) (each g.z pin_of g.views i) = rw r.retired loud in
     inr (record { before = r.before; retired = r.retired; loud = now.loud; first = now.first })))
 
 pub held_merged : (g : Ground) (step : Step) → OpensTo g step → AreHeld (merger' g step) (each g.z held_of g.views) (each g.z pinned_of g.views) (each g.z pin_of g.views)
@@ -190,7 +190,7 @@ held_merged g (Look (PinOf j)) o = held_looked g j o
 held_merged g (Look word) o = g.law.held
 held_merged g (Pad t) o = held_same g (merger' g (Pad t)) refl refl refl
 held_merged g (ClearState cell) o = held_newest g (merger' g (ClearState cell)) refl
-    (λ i c e r. let lt = holder_inside g.z g.views i c e in not_both (quiet_at g.merger.retirees i (let a = g.law.merger.seats in let b = g.law.seated in omega arith) o.1) r.loud)
+    (λ i c e r. let lt = holder_inside g.z g.views i c e in not_both (quiet_at g.merger.readers i (let a = g.law.merger.seats in let b = g.law.seated in omega arith) o.1) r.loud)
 held_merged g Publish o = held_from g (merger' g Publish) (λ i c e pinned. ⊎_elim
     (λ (new : c ≡ g.merger.merged). inr (publishes g i (each g.z pin_of g.views i) c new))
     (λ (r : IsRetiredFor g.merger i (each g.z pin_of g.views i) c). absurd (frozen_not_retired g.merger.phase o.0 r.retired)))

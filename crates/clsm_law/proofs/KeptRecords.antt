@@ -17,8 +17,8 @@ use Rattle.clsm_law.specs.declared.view.SnapshotState.{SnapshotState}
 use Rattle.clsm_law.specs.declared.view.SnapshotState.TheVariants.{Absent, Open}
 use Rattle.clsm_law.specs.Relation.{or_zero, open_time, IsOpenSnapshot, ended_calls, call_of, given_up}
 use Rattle.clsm_law.specs.Merging.{epoch_end}
-use Rattle.clsm_law.specs.Worlds.{slot_at, past_of}
-use Rattle.clsm_law.specs.Seats.{IsRightRecord, IsStandingRecord, HasWrite}
+use Rattle.clsm_law.specs.Worlds.{outcome_at, past_of}
+use Rattle.clsm_model.specs.Seats.{IsRightRecord, IsStandingRecord, HasWrite}
 use Rattle.clsm_law.specs.Law.{each, drawn_of, past_time_of, due_of, calls_of, IsSnapshot, AreRight, AreRecordsStanding, AreRecorded, AreAtMost, AreDuesBelowOwn}
 use Rattle.clsm_law.proofs.Cases.{by_test}
 use Rattle.clsm_law.proofs.Frames.{at_each, puts_each, puts_slot, slots_grown}
@@ -79,30 +79,30 @@ right_merged g step o i = let p = each g.z past_time_of g.views i in
 -- ---- their writes stand
 
 -- each seat's records before the step stand after it
-stand_before : (s : Setting) (step : Step) → Opens s step → (i : ℕ) → AllByRecursion (IsStandingRecord (slot_at (S s step)) i) (each s.z calls_of s.views i)
-stand_before s step o i = all_stand_stay (slot_at s.slots) (slot_at (S s step)) i (each s.z calls_of s.views i) (slots_stay s step o) (s.law.stand i)
+stand_before : (s : Setting) (step : Step) → Opens s step → (i : ℕ) → AllByRecursion (IsStandingRecord (outcome_at (S s step)) i) (each s.z calls_of s.views i)
+stand_before s step o i = all_stand_stay (outcome_at s.slots) (outcome_at (S s step)) i (each s.z calls_of s.views i) (slots_stay s step o) (s.law.stand i)
 
 -- the slot of a Decide that wins
-decides_slot : (s : Setting) (t : ℕ) (deed : Deed) → Opens s (Decide t deed) → x s (Decide t deed) ≡ 0 → slot_at (S s (Decide t deed)) t ≡ write_by s.me deed
-decides_slot s t deed o e = ap (λ (n : ℕ). slot_at (cond (n == 0) (set s.slots t (write_by s.me deed)) s.slots) t) e ∙ (puts_slot s.slots t (write_by s.me deed) (drawn_shown (ground s) s.me t o.0).1).here
+decides_slot : (s : Setting) (t : ℕ) (deed : Deed) → Opens s (Decide t deed) → x s (Decide t deed) ≡ 0 → outcome_at (S s (Decide t deed)) t ≡ write_by s.me deed
+decides_slot s t deed o e = ap (λ (n : ℕ). outcome_at (cond (n == 0) (set s.slots t (write_by s.me deed)) s.slots) t) e ∙ (puts_slot s.slots t (write_by s.me deed) (drawn_shown (ground s) s.me t o.0).1).here
 
 -- those of the seat that made the step
-own_stand : (s : Setting) (step : Step) → Opens s step → AllByRecursion (IsStandingRecord (slot_at (S s step)) s.me) (w s step).calls
-own_stand s (Decide t deed) o = let slot' = slot_at (S s (Decide t deed)) in let before = stand_before s (Decide t deed) o s.me in
+own_stand : (s : Setting) (step : Step) → Opens s step → AllByRecursion (IsStandingRecord (outcome_at (S s step)) s.me) (w s step).calls
+own_stand s (Decide t deed) o = let slot' = outcome_at (S s (Decide t deed)) in let before = stand_before s (Decide t deed) o s.me in
     by_test (λ b. AllByRecursion (IsStandingRecord slot' s.me) (cond b ((v s).calls ++ call_of s.me t deed ∷ []) (v s).calls)) (x s (Decide t deed)) 0
     (λ e. all_append (IsStandingRecord slot' s.me) (v s).calls (call_of s.me t deed ∷ []) before ((refl, stands_itself (write_by s.me deed) (slot' t) (decides_slot s t deed o e)), tt))
     (λ _. before)
-own_stand s (Unpin end) o = all_append (IsStandingRecord (slot_at s.slots) s.me) (v s).calls (ended_calls s.me (v s) end) (s.law.stand s.me) (ended_stands (past_in s s.me) s.me (v s) (slot_at s.slots) (v s).snapshot end o.1)
-own_stand s CloseSnapshot o = all_append (IsStandingRecord (slot_at s.slots) s.me) (v s).calls (call_of s.me (or_zero (open_time (v s).snapshot)) Close ∷ []) (s.law.stand s.me) ((refl, tt), tt)
+own_stand s (Unpin end) o = all_append (IsStandingRecord (outcome_at s.slots) s.me) (v s).calls (ended_calls s.me (v s) end) (s.law.stand s.me) (ended_stands (past_in s s.me) s.me (v s) (outcome_at s.slots) (v s).snapshot end o.1)
+own_stand s CloseSnapshot o = all_append (IsStandingRecord (outcome_at s.slots) s.me) (v s).calls (call_of s.me (or_zero (open_time (v s).snapshot)) Close ∷ []) (s.law.stand s.me) ((refl, tt), tt)
 own_stand s (Fill Key a) o = stand_before s (Fill Key a) o s.me
 own_stand s (Look Clock) o = stand_before s (Look Clock) o s.me
 own_stand s step o = stand_before s step o s.me
 
-pub stand_kept : (s : Setting) (step : Step) → Opens s step → AreRecordsStanding (slot_at (S s step)) (each s.z calls_of (V s step))
-stand_kept s step o = at_views s.z s.views s.me (w s step) s.inside (λ i u. AllByRecursion (IsStandingRecord (slot_at (S s step)) i) u.calls) (own_stand s step o) (λ i ne. stand_before s step o i)
+pub stand_kept : (s : Setting) (step : Step) → Opens s step → AreRecordsStanding (outcome_at (S s step)) (each s.z calls_of (V s step))
+stand_kept s step o = at_views s.z s.views s.me (w s step) s.inside (λ i u. AllByRecursion (IsStandingRecord (outcome_at (S s step)) i) u.calls) (own_stand s step o) (λ i ne. stand_before s step o i)
 
-pub stand_merged : (g : Ground) (step : Step) → OpensTo g step → AreRecordsStanding (slot_at (slots' g step)) (each g.z calls_of g.views)
-stand_merged g step o i = all_stand_stay (slot_at g.slots) (slot_at (slots' g step)) i (each g.z calls_of g.views i) (slots_stay' g step o) (g.law.stand i)
+pub stand_merged : (g : Ground) (step : Step) → OpensTo g step → AreRecordsStanding (outcome_at (slots' g step)) (each g.z calls_of g.views)
+stand_merged g step o i = all_stand_stay (outcome_at g.slots) (outcome_at (slots' g step)) i (each g.z calls_of g.views i) (slots_stay' g step o) (g.law.stand i)
 
 -- ---- each write is recorded
 
@@ -120,46 +120,46 @@ still_recorded : (s : Setting) (step : Step) (i t : ℕ) (write : Slot) → HasW
 still_recorded s step i t write = at_views s.z s.views s.me (w s step) s.inside (λ i u. HasWrite i t write (each s.z calls_of s.views i) → HasWrite i t write u.calls) (more_calls s step t write) (λ i ne h. h) i
 
 -- a write after the step stood before it, or is the seat's and recorded
-stood_or_new : (s : Setting) (step : Step) → Opens s step → (u i key : ℕ) (written : Option (List ℕ)) → slot_at (S s step) u ≡ Some (Wrote i key written)
-    → (slot_at s.slots u ≡ Some (Wrote i key written)) ⊎ ((s.me ≡ i) × HasWrite s.me u (Wrote i key written) (w s step).calls)
-stood_or_new s (Decide t deed) o u i key written = by_test (λ b. slot_at (cond b (set s.slots t (write_by s.me deed)) s.slots) u ≡ Some (Wrote i key written)
-    → (slot_at s.slots u ≡ Some (Wrote i key written)) ⊎ ((s.me ≡ i) × HasWrite s.me u (Wrote i key written) (cond b ((v s).calls ++ call_of s.me t deed ∷ []) (v s).calls))) (x s (Decide t deed)) 0
+stood_or_new : (s : Setting) (step : Step) → Opens s step → (u i key : ℕ) (written : Option (List ℕ)) → outcome_at (S s step) u ≡ Some (Wrote i key written)
+    → (outcome_at s.slots u ≡ Some (Wrote i key written)) ⊎ ((s.me ≡ i) × HasWrite s.me u (Wrote i key written) (w s step).calls)
+stood_or_new s (Decide t deed) o u i key written = by_test (λ b. outcome_at (cond b (set s.slots t (write_by s.me deed)) s.slots) u ≡ Some (Wrote i key written)
+    → (outcome_at s.slots u ≡ Some (Wrote i key written)) ⊎ ((s.me ≡ i) × HasWrite s.me u (Wrote i key written) (cond b ((v s).calls ++ call_of s.me t deed ∷ []) (v s).calls))) (x s (Decide t deed)) 0
     (λ _. let p = puts_slot s.slots t (write_by s.me deed) (drawn_shown (ground s) s.me t o.0).1 in
-    at_each (λ u. slot_at (set s.slots t (write_by s.me deed)) u ≡ Some (Wrote i key written) → (slot_at s.slots u ≡ Some (Wrote i key written)) ⊎ ((s.me ≡ i) × HasWrite s.me u (Wrote i key written) ((v s).calls ++ call_of s.me t deed ∷ []))) t
+    at_each (λ u. outcome_at (set s.slots t (write_by s.me deed)) u ≡ Some (Wrote i key written) → (outcome_at s.slots u ≡ Some (Wrote i key written)) ⊎ ((s.me ≡ i) × HasWrite s.me u (Wrote i key written) ((v s).calls ++ call_of s.me t deed ∷ []))) t
     (λ e. let is : write_by s.me deed ≡ Some (Wrote i key written) = sym p.here ∙ e in inr (writer_of s.me i key written deed is, has_last s.me t (Wrote i key written) (v s).calls (call_of s.me t deed) refl is))
     (λ u ne e. inl (sym (p.other u ne) ∙ e)) u)
     (λ _ e. inl e)
-stood_or_new s (Cancel t) o u i key written = by_test (λ b. slot_at (cond b (set s.slots t (Some Nothing)) s.slots) u ≡ Some (Wrote i key written) → (slot_at s.slots u ≡ Some (Wrote i key written)) ⊎ ((s.me ≡ i) × HasWrite s.me u (Wrote i key written) (v s).calls)) (x s (Cancel t)) 0
+stood_or_new s (Cancel t) o u i key written = by_test (λ b. outcome_at (cond b (set s.slots t (Some Nothing)) s.slots) u ≡ Some (Wrote i key written) → (outcome_at s.slots u ≡ Some (Wrote i key written)) ⊎ ((s.me ≡ i) × HasWrite s.me u (Wrote i key written) (v s).calls)) (x s (Cancel t)) 0
     (λ _. let p = puts_slot s.slots t (Some Nothing) (cancels_shown s t o).1 in
-    at_each (λ u. slot_at (set s.slots t (Some Nothing)) u ≡ Some (Wrote i key written) → (slot_at s.slots u ≡ Some (Wrote i key written)) ⊎ ((s.me ≡ i) × HasWrite s.me u (Wrote i key written) (v s).calls)) t
+    at_each (λ u. outcome_at (set s.slots t (Some Nothing)) u ≡ Some (Wrote i key written) → (outcome_at s.slots u ≡ Some (Wrote i key written)) ⊎ ((s.me ≡ i) × HasWrite s.me u (Wrote i key written) (v s).calls)) t
     (λ e. absurd (let here = p.here in cc (here, e)))
     (λ u ne e. inl (sym (p.other u ne) ∙ e)) u)
     (λ _ e. inl e)
-stood_or_new s (Draw t) o u i key written = by_test (λ b. slot_at (cond b (s.slots ++ None ∷ []) s.slots) u ≡ Some (Wrote i key written) → (slot_at s.slots u ≡ Some (Wrote i key written)) ⊎ ((s.me ≡ i) × HasWrite s.me u (Wrote i key written) (v s).calls)) (x s (Draw t)) t
+stood_or_new s (Draw t) o u i key written = by_test (λ b. outcome_at (cond b (s.slots ++ None ∷ []) s.slots) u ≡ Some (Wrote i key written) → (outcome_at s.slots u ≡ Some (Wrote i key written)) ⊎ ((s.me ≡ i) × HasWrite s.me u (Wrote i key written) (v s).calls)) (x s (Draw t)) t
     (λ _ e. inl (sym (λ k. slots_grown s.slots k u) ∙ e))
     (λ _ e. inl e)
 stood_or_new s step o u i key written = λ e. inl e
 
-pub recorded_kept : (s : Setting) (step : Step) → Opens s step → AreRecorded (slot_at (S s step)) (each s.z calls_of (V s step))
+pub recorded_kept : (s : Setting) (step : Step) → Opens s step → AreRecorded (outcome_at (S s step)) (each s.z calls_of (V s step))
 recorded_kept s step o u i key written e = let write = Wrote i key written in ⊎_elim
-    (λ (old : slot_at s.slots u ≡ Some write). still_recorded s step i u write (s.law.recorded u i key written old))
+    (λ (old : outcome_at s.slots u ≡ Some write). still_recorded s step i u write (s.law.recorded u i key written old))
     (λ (new : (s.me ≡ i) × HasWrite s.me u write (w s step).calls). subst (λ (j : ℕ). HasWrite j u write (each s.z calls_of (V s step) j)) new.0
     (subst (HasWrite s.me u write) (sym (puts_each s.z calls_of s.views s.me (w s step) s.inside).here) new.1))
     (stood_or_new s step o u i key written e)
 
 -- times that are passed over have no write
-passed_nothing : (n u i key : ℕ) (written : Option (List ℕ)) → slot_at (replicate n (Some Nothing)) u ≢ Some (Wrote i key written)
+passed_nothing : (n u i key : ℕ) (written : Option (List ℕ)) → outcome_at (replicate n (Some Nothing)) u ≢ Some (Wrote i key written)
 passed_nothing zero u i key written e = absurd cc
 passed_nothing (suc n) zero i key written e = absurd cc
 passed_nothing (suc n) (suc u) i key written e = passed_nothing n u i key written e
 
 -- so a write after them stood before them
-passed_stood : (slots : List (Option Slot)) (n u i key : ℕ) (written : Option (List ℕ)) → slot_at (slots ++ replicate n (Some Nothing)) u ≡ Some (Wrote i key written) → slot_at slots u ≡ Some (Wrote i key written)
+passed_stood : (slots : List (Option Slot)) (n u i key : ℕ) (written : Option (List ℕ)) → outcome_at (slots ++ replicate n (Some Nothing)) u ≡ Some (Wrote i key written) → outcome_at slots u ≡ Some (Wrote i key written)
 passed_stood [] n u i key written e = absurd (passed_nothing n u i key written e)
 passed_stood (a ∷ slots) n zero i key written e = e
 passed_stood (a ∷ slots) n (suc u) i key written e = passed_stood slots n u i key written e
 
-pub recorded_merged : (g : Ground) (step : Step) → OpensTo g step → AreRecorded (slot_at (slots' g step)) (each g.z calls_of g.views)
+pub recorded_merged : (g : Ground) (step : Step) → OpensTo g step → AreRecorded (outcome_at (slots' g step)) (each g.z calls_of g.views)
 recorded_merged g ExtendClock o u i key written e = g.law.recorded u i key written (passed_stood g.slots (epoch_end g.z g.merger - length g.slots) u i key written e)
 recorded_merged g step o u i key written e = g.law.recorded u i key written e
 
@@ -199,12 +199,12 @@ still_drawn None t u e = e
 still_drawn (Some y) t u e = by_test (λ b. cond b None (Some y) ≡ Some u → Some y ≡ Some u) y t (λ _ e. absurd cc) (λ _ e. e) e
 
 -- each due before the step is not above an own time that is undecided after it
-own_dues_before : (s : Setting) (step : Step) → Opens s step → (i u : ℕ) → each s.z drawn_of s.views i ≡ Some u → slot_at (S s step) u ≡ None → each s.z due_of s.views i ≤ u
-own_dues_before s step o i u d none = s.law.own_dues i u d (was_undecided (slot_at s.slots) (slot_at (S s step)) u (slots_stay s step o u) none)
+own_dues_before : (s : Setting) (step : Step) → Opens s step → (i u : ℕ) → each s.z drawn_of s.views i ≡ Some u → outcome_at (S s step) u ≡ None → each s.z due_of s.views i ≤ u
+own_dues_before s step o i u d none = s.law.own_dues i u d (was_undecided (outcome_at s.slots) (outcome_at (S s step)) u (slots_stay s step o u) none)
 
 -- and the due after it, of the seat that made the step
-own_due_below : (s : Setting) (step : Step) → Opens s step → (u : ℕ) → (w s step).drawn ≡ Some u → slot_at (S s step) u ≡ None → (w s step).due ≤ u
-own_due_below s (Draw t) o u = by_test (λ b. cond b (Some t) (v s).drawn ≡ Some u → slot_at (S s (Draw t)) u ≡ None → (v s).due ≤ u) (x s (Draw t)) t
+own_due_below : (s : Setting) (step : Step) → Opens s step → (u : ℕ) → (w s step).drawn ≡ Some u → outcome_at (S s step) u ≡ None → (w s step).due ≤ u
+own_due_below s (Draw t) o u = by_test (λ b. cond b (Some t) (v s).drawn ≡ Some u → outcome_at (S s (Draw t)) u ≡ None → (v s).due ≤ u) (x s (Draw t)) t
     (λ e d none. let due = s.law.dues s.me in let clock = s.law.clock in let same : t ≡ u = cc in let at : x s (Draw t) ≡ length s.slots = clock in omega arith)
     (λ _ d none. own_dues_before s (Draw t) o s.me u d none)
 own_due_below s (Decide t deed) o u = λ d none. absurd cc
@@ -213,14 +213,14 @@ own_due_below s (Unpin end) o u = λ d none. let past = past_under s.slots (v s)
     ended_within (past_in s s.me) s.me (v s) u (s.law.own_dues s.me u d none) past (let reach = past_ends s in omega arith) (v s).snapshot end refl o.1
   where
     -- what is undecided is not below a past
-    past_under : (slots : List (Option Slot)) (past u : ℕ) → ((t : ℕ) → t < past → slot_at slots t ≢ None) → slot_at slots u ≡ None → past ≤ u
+    past_under : (slots : List (Option Slot)) (past u : ℕ) → ((t : ℕ) → t < past → outcome_at slots t ≢ None) → outcome_at slots u ≡ None → past ≤ u
     past_under slots past u decided none = elim (cases_lt u past) [ inl lt ↦ absurd (decided u lt none) | inr le ↦ le ]
 own_due_below s (Fill Key a) o u = own_dues_before s (Fill Key a) o s.me u
 own_due_below s (Look Clock) o u = own_dues_before s (Look Clock) o s.me u
 own_due_below s step o u = own_dues_before s step o s.me u
 
-pub own_dues_kept : (s : Setting) (step : Step) → Opens s step → AreDuesBelowOwn (each s.z drawn_of (V s step)) (slot_at (S s step)) (each s.z due_of (V s step))
-own_dues_kept s step o = at_views s.z s.views s.me (w s step) s.inside (λ i u. (t : ℕ) → u.drawn ≡ Some t → slot_at (S s step) t ≡ None → u.due ≤ t) (own_due_below s step o) (λ i ne. own_dues_before s step o i)
+pub own_dues_kept : (s : Setting) (step : Step) → Opens s step → AreDuesBelowOwn (each s.z drawn_of (V s step)) (outcome_at (S s step)) (each s.z due_of (V s step))
+own_dues_kept s step o = at_views s.z s.views s.me (w s step) s.inside (λ i u. (t : ℕ) → u.drawn ≡ Some t → outcome_at (S s step) t ≡ None → u.due ≤ t) (own_due_below s step o) (λ i ne. own_dues_before s step o i)
 
-pub own_dues_merged : (g : Ground) (step : Step) → OpensTo g step → AreDuesBelowOwn (each g.z drawn_of g.views) (slot_at (slots' g step)) (each g.z due_of g.views)
-own_dues_merged g step o i u d none = g.law.own_dues i u d (was_undecided (slot_at g.slots) (slot_at (slots' g step)) u (slots_stay' g step o u) none)
+pub own_dues_merged : (g : Ground) (step : Step) → OpensTo g step → AreDuesBelowOwn (each g.z drawn_of g.views) (outcome_at (slots' g step)) (each g.z due_of g.views)
+own_dues_merged g step o i u d none = g.law.own_dues i u d (was_undecided (outcome_at g.slots) (outcome_at (slots' g step)) u (slots_stay' g step o u) none)

@@ -18,16 +18,16 @@ use Rattle.clsm_levels.proofs.Withins.{within_next}
 use Rattle.clsm_law.specs.declared.layout.Layout.{Layout}
 use Rattle.clsm_law.specs.declared.word.Word.{Word}
 use Rattle.clsm_law.specs.declared.word.Word.TheVariants.{Pin, Snap, Count, Entry as EntryWord}
-use Rattle.clsm_law.specs.Merging.{IsRunWord, place_of, is_frozen, is_retired, is_clean, is_all_quiet, retiree_at, retiree_by, merger_looked}
+use Rattle.clsm_law.specs.Merging.{IsRunWord, place_of, is_frozen, is_retired, is_clean, is_all_quiet, reader_at, reader_by, merger_looked}
 use Rattle.clsm_law.specs.declared.step.Step.{Step}
 use Rattle.clsm_law.specs.declared.step.Step.TheVariants.{Look, LeaveExclusive, WriteRun, ClearState, Publish}
 use Rattle.clsm_law.specs.declared.merger.MergerView.{MergerView}
-use Rattle.clsm_law.specs.declared.merger.Retiree.{Retiree}
+use Rattle.clsm_law.specs.declared.merger.Reader.{Reader}
 use Rattle.clsm_law.specs.declared.merger.Phase.{Phase}
 use Rattle.clsm_law.specs.declared.merger.Phase.TheVariants.{Clean, Frozen, Retired}
 use Rattle.clsm_law.specs.Memory.{Memory, room_of, put}
 use Rattle.clsm_law.specs.Places.{number_of, is_named, entry_in, entries_from, entries_in, held_at}
-use Rattle.clsm_law.specs.Worlds.{slot_at, settled, history_of, runs_of, passes_from, is_length, is_ended, is_canonical, are_canonical}
+use Rattle.clsm_law.specs.Worlds.{outcome_at, settled, history_of, runs_of, passes_from, is_length, is_ended, is_canonical, are_canonical}
 use Rattle.clsm_law.specs.Law.{AreRuns, is_held_back}
 use Rattle.clsm_law.proofs.Frames.{put_other, put_same}
 use Rattle.clsm_law.proofs.Setting.{facts, Setting, Ground, x, M, S, Opens, OpensTo, memory', slots', merger'}
@@ -38,7 +38,7 @@ use Rattle.clsm_law.proofs.GrowthMerger.{slots_stay'}
 
 -- ---- histories that agree below a time
 
-pub settled_at : (slots : List (Option Slot)) (t : ℕ) → slice_index_or (settled slots) t Nothing ≡ unwrap_or (slot_at slots t) Nothing
+pub settled_at : (slots : List (Option Slot)) (t : ℕ) → slice_index_or (settled slots) t Nothing ≡ unwrap_or (outcome_at slots t) Nothing
 settled_at [] t = refl
 settled_at (s ∷ ss) zero = refl
 settled_at (s ∷ ss) (suc t) = settled_at ss t
@@ -48,9 +48,9 @@ some_of None ne = absurd (ne refl)
 some_of (Some b) ne = (b, refl)
 
 -- where all slots below a are decided, and decided slots stay
-pub agree_below : (slots slots' : List (Option Slot)) (a : ℕ) → ((t : ℕ) → t < a → slot_at slots t ≢ None) → ((u : ℕ) (b : Slot) → slot_at slots u ≡ Some b → slot_at slots' u ≡ Some b) → AgreeBelow a (history_of slots) (history_of slots')
+pub agree_below : (slots slots' : List (Option Slot)) (a : ℕ) → ((t : ℕ) → t < a → outcome_at slots t ≢ None) → ((u : ℕ) (b : Slot) → outcome_at slots u ≡ Some b → outcome_at slots' u ≡ Some b) → AgreeBelow a (history_of slots) (history_of slots')
 agree_below slots slots' a decided stay t lt =
-    let d = some_of (slot_at slots t) (decided t lt) in
+    let d = some_of (outcome_at slots t) (decided t lt) in
     settled_at slots' t ∙ ap (λ (o : Option Slot). unwrap_or o Nothing) (stay t d.0 d.1 ∙ sym d.1) ∙ sym (settled_at slots t)
 
 -- ---- memories with the same words in a place hold the same there
@@ -236,17 +236,17 @@ runs_merged g step o = stay' g step o
 -- ---- the runs of the component before
 
 -- no look brings readers back
-quiet_before : (retirees : List Retiree) (i x : ℕ) → not (is_all_quiet (set retirees i (retiree_by (retiree_at retirees i) x))) ≡ true → not (is_all_quiet retirees) ≡ true
-quiet_before retirees i x e = by_bool (λ b. is_all_quiet retirees ≡ b → not b ≡ true) (is_all_quiet retirees) (λ _ q. absurd (let stays = all_quiet_stays retirees i x q in cc (stays, e))) (λ _ _. refl) refl
+quiet_before : (readers : List Reader) (i x : ℕ) → not (is_all_quiet (set readers i (reader_by (reader_at readers i) x))) ≡ true → not (is_all_quiet readers) ≡ true
+quiet_before readers i x e = by_bool (λ b. is_all_quiet readers ≡ b → not b ≡ true) (is_all_quiet readers) (λ _ q. absurd (let stays = all_quiet_stays readers i x q in cc (stays, e))) (λ _ _. refl) refl
 
-back_before : (p : Phase) (retirees : List Retiree) (i x : ℕ) → (is_retired p && not (is_all_quiet (cond (is_retired p) (set retirees i (retiree_by (retiree_at retirees i) x)) retirees))) ≡ true → (is_retired p && not (is_all_quiet retirees)) ≡ true
-back_before Clean retirees i x e = e
-back_before Frozen retirees i x e = e
-back_before Retired retirees i x e = quiet_before retirees i x e
+back_before : (p : Phase) (readers : List Reader) (i x : ℕ) → (is_retired p && not (is_all_quiet (cond (is_retired p) (set readers i (reader_by (reader_at readers i) x)) readers))) ≡ true → (is_retired p && not (is_all_quiet readers)) ≡ true
+back_before Clean readers i x e = e
+back_before Frozen readers i x e = e
+back_before Retired readers i x e = quiet_before readers i x e
 
 looked_back : (z : Layout) (m : MergerView) (word : Word) (x : ℕ) → is_held_back (merger_looked z m word x) ≡ true → is_held_back m ≡ true
 looked_back z m (Snap i) x e = e
-looked_back z m (Pin i) x e = back_before m.phase m.retirees i x e
+looked_back z m (Pin i) x e = back_before m.phase m.readers i x e
 looked_back z m word x e = e
 
 first_true : (a b : Bool) → (a && b) ≡ true → a ≡ true
@@ -274,13 +274,13 @@ all_same g (WriteRun word y) o r p = absurd (not_both g.merger.phase o.0 r)
 all_same g step o r p = record { count = refl; words = λ e i. refl }
 
 former' : (g : Ground) (step : Step) → OpensTo g step → is_held_back g.merger ≡ true → AreRuns g.z (memory' g step) (history_of (slots' g step)) (g.merger.merged - 1) g.merger.former_floor
-former' g step o back = runs_stay g.z g.memory (memory' g step) (history_of g.slots) (history_of (slots' g step)) (g.merger.merged - 1) g.merger.former_floor (merger_agree g step o ((g.merger.merged - 1) * g.z.cells) (lower g.merger.merged g.z.cells)) (λ p e. all_same g step o (first_true (is_retired g.merger.phase) (not (is_all_quiet g.merger.retirees)) back) p) (g.law.former_runs back)
+former' g step o back = runs_stay g.z g.memory (memory' g step) (history_of g.slots) (history_of (slots' g step)) (g.merger.merged - 1) g.merger.former_floor (merger_agree g step o ((g.merger.merged - 1) * g.z.cells) (lower g.merger.merged g.z.cells)) (λ p e. all_same g step o (first_true (is_retired g.merger.phase) (not (is_all_quiet g.merger.readers)) back) p) (g.law.former_runs back)
 
 pub former_runs_merged : (g : Ground) (step : Step) → OpensTo g step → is_held_back (merger' g step) ≡ true → AreRuns g.z (memory' g step) (history_of (slots' g step)) ((merger' g step).merged - 1) (merger' g step).former_floor
 former_runs_merged g (Look word) o back = let m' = merger_looked g.z g.merger word (g.memory word) in
     subst (λ (k : ℕ). AreRuns g.z (memory' g (Look word)) (history_of g.slots) (k - 1) m'.former_floor) (sym (looked_merged g.z g.merger word (g.memory word)))
     (subst (λ (k : ℕ). AreRuns g.z (memory' g (Look word)) (history_of g.slots) (g.merger.merged - 1) k) (sym (looked_former g.z g.merger word (g.memory word))) (former' g (Look word) o (looked_back g.z g.merger word (g.memory word) back)))
 former_runs_merged g Publish o back = let one : g.merger.merged + 1 - 1 ≡ g.merger.merged = omega arith in subst (λ (k : ℕ). AreRuns g.z (memory' g Publish) (history_of g.slots) k g.merger.merged_floor) (sym one) (stay' g Publish o)
-former_runs_merged g LeaveExclusive o back = absurd (not_left g.merger.limit_extended g.merger.phase (g.law.merger.clean o.0) (first_true (is_retired (cond g.merger.limit_extended Frozen g.merger.phase)) (not (is_all_quiet g.merger.retirees)) back))
-former_runs_merged g (ClearState cell) o back = absurd (let loud = second_true (is_retired (cond ((facts g).last cell) Clean g.merger.phase)) (not (is_all_quiet g.merger.retirees)) back in let quiet = o.1 in let e = ap not quiet in cc (loud, e))
+former_runs_merged g LeaveExclusive o back = absurd (not_left g.merger.limit_extended g.merger.phase (g.law.merger.clean o.0) (first_true (is_retired (cond g.merger.limit_extended Frozen g.merger.phase)) (not (is_all_quiet g.merger.readers)) back))
+former_runs_merged g (ClearState cell) o back = absurd (let loud = second_true (is_retired (cond ((facts g).last cell) Clean g.merger.phase)) (not (is_all_quiet g.merger.readers)) back in let quiet = o.1 in let e = ap not quiet in cc (loud, e))
 former_runs_merged g step o back = former' g step o back

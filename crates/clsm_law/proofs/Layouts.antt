@@ -16,7 +16,7 @@ use Rattle.clsm_law.proofs.LayoutWords.{is_same-refl, same_word}
 
 -- each layout is sound
 pub is_layout : (z : Layout) → IsLayout z
-is_layout z = (z.cells_in_range, z.seats_in_range, z.shards_in_range, z.run_in_range)
+is_layout z = (z.cells_in_range, z.seats_in_range, z.chains_in_range, z.run_in_range)
 
 -- a word there is reads what stands at its place
 pub memory-at : (z : Layout) (words : List ℕ) (w : Word) → is_word z w ≡ true → memory z words w ≡ slice_index words (index_of z w)

@@ -11,9 +11,9 @@ use Rattle.clsm_law.specs.Memory.{Memory, put}
 use Rattle.clsm_law.specs.Layout.{IsLayout, index_of, size_of}
 use Rattle.clsm_law.specs.Relation.{idle, open_time}
 use Rattle.clsm_law.specs.Merging.{opening, unseen}
-use Rattle.clsm_law.specs.Worlds.{view_at, slot_at, past_of, history_of, runs_of}
+use Rattle.clsm_law.specs.Worlds.{view_at, outcome_at, past_of, history_of, runs_of}
 use Rattle.clsm_law.specs.Law.{LawOf, IsSnapshot, note_of, each, mode_of, drawn_of, holders, hold_limit_of, fresh_clock_of, hold_clock_of, clock_of, pin_clock_of, past_time_of, reached_of, pin_of, held_of}
-use Rattle.clsm_law.specs.Seats.{IsRightRecord, IsStandingRecord, IsRising}
+use Rattle.clsm_model.specs.Seats.{IsRightRecord, IsStandingRecord, IsRising}
 use Rattle.clsm_law.specs.Machine.{IsLawful, opened}
 use Rattle.clsm_law.proofs.Layouts.{memory-set, memory-zeros}
 
@@ -107,7 +107,7 @@ module _ (z : Layout) where
     runs = let none : 0 * z.cells ≡ 0 = omega arith in record { content = subst (λ (a : ℕ). IsContent (history_of []) (runs_of fresh 0) 0 a) (sym none) empty_runs; within = (tt, tt); counts = λ p e. omega arith; canonical = λ p e. refl };
     former_runs = λ e. absurd cc;
     right = λ i. all_idle (λ (v : View). AllByRecursion (IsRightRecord (past_of [] v.past)) v.calls) tt n i;
-    stand = λ i. all_idle (λ (v : View). AllByRecursion (IsStandingRecord (slot_at []) i) v.calls) tt n i;
+    stand = λ i. all_idle (λ (v : View). AllByRecursion (IsStandingRecord (outcome_at []) i) v.calls) tt n i;
     recorded = λ t i key written e. absurd cc;
     rising = λ i. all_idle (λ (v : View). IsRising v.calls v.due (open_time v.snapshot)) (record { rises = tt; due_is = omega arith; open_is = refl }) n i;
     dues = λ i. all_idle (λ (v : View). v.due ≤ 0) (omega arith) n i;

@@ -15,7 +15,7 @@ use Rattle.clsm_law.specs.declared.view.SnapshotState.TheVariants.{Absent, Noted
 use Rattle.clsm_law.specs.Memory.{Memory, cell_of, region_of}
 use Rattle.clsm_law.specs.Relation.{idle, or_zero, open_time}
 use Rattle.clsm_law.specs.Merging.{is_retired, is_all_quiet}
-use Rattle.clsm_law.specs.Worlds.{slot_at, history_of, runs_of}
+use Rattle.clsm_law.specs.Worlds.{outcome_at, history_of, runs_of}
 use Rattle.clsm_law.specs.Law.{In, AreRuns, IsSnapshot, IsRetiredFor, each, pin_of, held_of, snapshot_of, past_time_of, is_held_back, first_shown}
 use Rattle.clsm_law.specs.Reading.{write_at, newest_among, chain_of, newest_in, left_or, read, AnswersFrom, SnapshotsRead, HoldersRead}
 use Rattle.clsm_law.specs.Machine.{WorldState, IsLawful}
@@ -52,7 +52,7 @@ module _ (g : Ground) (epoch key s : ℕ) (from : first_epoch g ≤ epoch) (show
   h = history_of g.slots
 
   abbrev chain : List ℕ
-  chain = g.chains (epoch % 2) (key % g.z.shards)
+  chain = g.chains (epoch % 2) (key % g.z.chains)
 
   abbrev found : ℕ → Option Write
   found t = write_at g.z g.memory key s t
@@ -64,9 +64,9 @@ module _ (g : Ground) (epoch key s : ℕ) (from : first_epoch g ≤ epoch) (show
     -- what is found at a time of the chain is the history's write, where the time is below s
     found_there : (t : ℕ) → In t chain → found t ≡ cond (nat_lt t s) (write_in h key t) None
     found_there t i =
-        let own = of_epoch g epoch (key % g.z.shards) t from of_two i in
+        let own = of_epoch g epoch (key % g.z.chains) t from of_two i in
         let low = own.0 in
-        write_shown g.z g.memory key s t (slot_at g.slots t) (g.law.short t) (g.law.shown t (omega arith) (g.law.lies (epoch % 2) (key % g.z.shards) t i).drawn)
+        write_shown g.z g.memory key s t (outcome_at g.slots t) (g.law.short t) (g.law.shown t (omega arith) (g.law.lies (epoch % 2) (key % g.z.chains) t i).drawn)
         ∙ ap (λ (a : Slot). cond (nat_lt t s) (write_of key t a) None) (sym (slot_of-history g.slots t))
 
     found_below : (t : ℕ) → In t chain → t < s → found t ≡ write_in h key t
@@ -74,14 +74,14 @@ module _ (g : Ground) (epoch key s : ℕ) (from : first_epoch g ≤ epoch) (show
 
     -- a write of the key stands in the chain: so where none is found there, there is none
     quiet : (t : ℕ) → epoch * g.z.cells ≤ t → t < (epoch + 1) * g.z.cells → t < s → (In t chain → found t ≡ None) → write_in h key t ≡ None
-    quiet t low high lt none = ap (write_of key t) (slot_of-history g.slots t) ∙ by_slot (slot_at g.slots t) refl where
-      by_slot : (o : Option Slot) → slot_at g.slots t ≡ o → write_of key t (settle o) ≡ None
+    quiet t low high lt none = ap (write_of key t) (slot_of-history g.slots t) ∙ by_slot (outcome_at g.slots t) refl where
+      by_slot : (o : Option Slot) → outcome_at g.slots t ≡ o → write_of key t (settle o) ≡ None
       by_slot None is = refl
       by_slot (Some Nothing) is = refl
       by_slot (Some (Wrote i k written)) is = let write : Write = record { time = t; value = written } in by_test (λ b. cond b (Some write) None ≡ None) k key
           (λ e.
-          let stands : In t (g.chains (region_of g.z (cell_of g.z t)) (k % g.z.shards)) = g.law.standing t i k written (omega arith) is in
-          let there : In t chain = subst (λ (r : ℕ). In t (g.chains r (key % g.z.shards))) (region_of_epoch g.z epoch t low high) (subst (λ (j : ℕ). In t (g.chains (region_of g.z (cell_of g.z t)) (j % g.z.shards))) e stands) in
+          let stands : In t (g.chains (region_of g.z (cell_of g.z t)) (k % g.z.chains)) = g.law.standing t i k written (omega arith) is in
+          let there : In t chain = subst (λ (r : ℕ). In t (g.chains r (key % g.z.chains))) (region_of_epoch g.z epoch t low high) (subst (λ (j : ℕ). In t (g.chains (region_of g.z (cell_of g.z t)) (j % g.z.chains))) e stands) in
           ap (λ b. cond b (Some write) None) (sym (eq-eqb k key e))
           ∙ ap (λ (o : Option Slot). write_of key t (settle o)) (sym is)
           ∙ ap (write_of key t) (sym (slot_of-history g.slots t)) ∙ sym (found_below t there lt) ∙ none there)
@@ -91,7 +91,7 @@ module _ (g : Ground) (epoch key s : ℕ) (from : first_epoch g ≤ epoch) (show
     newest_found : (o : Option Write) → IsNewestOf found chain o → newest h key (min s ((epoch + 1) * g.z.cells)) ≡ or_else o (newest h key (epoch * g.z.cells))
     newest_found None is = newest_none h key (epoch * g.z.cells) (min s ((epoch + 1) * g.z.cells)) (omega arith) (λ t low lt. quiet t low (omega arith) (omega arith) (is t))
     newest_found (Some w) is =
-        let own = of_epoch g epoch (key % g.z.shards) w.time from of_two is.0 in
+        let own = of_epoch g epoch (key % g.z.chains) w.time from of_two is.0 in
         let low = own.0 in
         let high = own.1 in
         let it : cond (nat_lt w.time s) (write_in h key w.time) None ≡ Some w = sym (found_there w.time is.0) ∙ is.1 in
@@ -166,7 +166,7 @@ read_right g component floor key s (inr retired) from until =
     let f = retired.2 in
     let back = retired.0 in
     let former : g.merger.merged - 1 ≡ component = let a = retired.1 in omega arith in
-    let phase : is_retired g.merger.phase ≡ true = (and_parts (is_retired g.merger.phase) (not (is_all_quiet g.merger.retirees)) back).0 in
+    let phase : is_retired g.merger.phase ≡ true = (and_parts (is_retired g.merger.phase) (not (is_all_quiet g.merger.readers)) back).0 in
     subst (λ (c : ℕ). read g.z g.memory c key s ≡ value (history_of g.slots) key s) former
     (component_read g (g.merger.merged - 1) g.merger.former_floor key s (rw phase (omega arith)) (rw back (omega arith)) (g.law.former_runs back) g.law.floors.below_former (omega arith) until)
 
@@ -200,7 +200,7 @@ held_answers : (g : Ground) (i c : ℕ) → each g.z held_of g.views i ≡ Some 
 held_answers g i c e = ⊎_elim
     (λ (newest : c ≡ g.merger.merged). (g.merger.merged_floor, (inl (newest, refl)), omega arith, let a = g.law.floors.below_merged in subst (λ (k : ℕ). g.merger.merged_floor ≤ k * g.z.cells) (sym newest) a))
     (λ (r : IsRetiredFor g.merger i (each g.z pin_of g.views i) c).
-    let loud : is_all_quiet g.merger.retirees ≡ false = not_all_quiet g.merger.retirees i (let a = g.law.merger.seats in let b = g.law.seated in let d = holder_below g i c e in omega arith) r.loud in
+    let loud : is_all_quiet g.merger.readers ≡ false = not_all_quiet g.merger.readers i (let a = g.law.merger.seats in let b = g.law.seated in let d = holder_below g i c e in omega arith) r.loud in
     let back : is_held_back g.merger ≡ true = rw (r.retired, loud) refl in
     let before : g.merger.merged - 1 ≡ c = let a = r.before in omega arith in
     (g.merger.former_floor, (inr (back, r.before, refl)), g.law.floors.former, let a = g.law.floors.below_former in subst (λ (k : ℕ). g.merger.former_floor ≤ k * g.z.cells) before a))

@@ -1,8 +1,8 @@
 -- What the cells of a lawful world hold are the history's writes, and the newest of those in a chain.
-use Rattle.std.proofs.Common.{◌≡◌, ℕ, ◌-◌, ◌<◌, ◌≤◌, ◌==◌, ◌&&◌, Bool, true, false, cond, nat_lt, List, [], ◌∷◌, length, take, replicate, sym, refl, ap, ◌∙◌, subst, arith, inl, inr, ⊎_elim, Option, Some, None, eq-eqb, ne_eqb, length-append}
+use Rattle.std.proofs.Common.{◌≡◌, ℕ, zero, suc, ◌-◌, ◌<◌, ◌≤◌, ◌==◌, ◌&&◌, Bool, true, false, cond, nat_lt, List, [], ◌∷◌, length, take, replicate, sym, refl, ap, ◌∙◌, subst, arith, inl, inr, ⊎_elim, Option, Some, None, eq-eqb, ne_eqb, length-append}
 use Rattle.std.specs.Prelude.{slice_index}
 use Rattle.std.proofs.lemmas.Bool.{cases_lt, lt-ltb, le-ltb}
-use Rattle.std.proofs.lemmas.List.{length-replicate}
+use Rattle.std.proofs.lemmas.List.{length-replicate, length-take-le, get_or-take, ext_get_or}
 use Rattle.std.proofs.lemmas.Option.{cond_some}
 use Rattle.std.proofs.Math.Seq.{take-append_seam}
 use Rattle.clsm_model.specs.declared.slot.Slot.{Slot}
@@ -15,33 +15,37 @@ use Rattle.clsm_law.specs.declared.word.Part.TheVariants.{Key, Length, Value}
 use Rattle.clsm_law.specs.Memory.{Memory, cell_of}
 use Rattle.clsm_law.specs.Relation.{IsShort, length_of, state_of}
 use Rattle.clsm_law.specs.Law.{In, Shows}
-use Rattle.clsm_law.specs.Reading.{cell_words, cell_value, is_written, write_at, later, newest_among}
+use Rattle.clsm_law.specs.Reading.{cell_value_words, cell_value, is_written, write_at, later, newest_among}
 use Rattle.clsm_law.proofs.Histories.{settle, at_most_eight}
 
 -- ---- the value that a cell holds
 
--- a row of eight words, spelled
-eight : (l : List ℕ) → length l ≡ 8 → l ≡ slice_index l 0 ∷ slice_index l 1 ∷ slice_index l 2 ∷ slice_index l 3 ∷ slice_index l 4 ∷ slice_index l 5 ∷ slice_index l 6 ∷ slice_index l 7 ∷ []
-eight (a ∷ b ∷ c ∷ d ∷ e ∷ f ∷ g ∷ h ∷ []) is = refl
-eight l is = absurd (omega arith)
+-- a word of a cell
+word_at : (memory : Memory) (c j : ℕ) → j < 8 → slice_index (cell_value_words memory c) j ≡ memory (Cell c (Value j))
+word_at memory c zero lt = refl
+word_at memory c (suc zero) lt = refl
+word_at memory c (suc (suc zero)) lt = refl
+word_at memory c (suc (suc (suc zero))) lt = refl
+word_at memory c (suc (suc (suc (suc zero)))) lt = refl
+word_at memory c (suc (suc (suc (suc (suc zero))))) lt = refl
+word_at memory c (suc (suc (suc (suc (suc (suc zero)))))) lt = refl
+word_at memory c (suc (suc (suc (suc (suc (suc (suc zero))))))) lt = refl
+word_at memory c (suc (suc (suc (suc (suc (suc (suc (suc j)))))))) lt = absurd (omega arith)
 
-length-padded : (words : List ℕ) → length words ≤ 8 → length (padded words) ≡ 8
-length-padded words le = omega (arith, length-append words (replicate {A = ℕ} (8 - length words) 0), length-replicate {A = ℕ} (8 - length words) 0)
-
--- a cell whose eight words are those of the padded row holds that row
-words_shown : (memory : Memory) (c : ℕ) (l : List ℕ) → length l ≡ 8 → ((j : ℕ) → j < 8 → memory (Cell c (Value j)) ≡ slice_index l j) → cell_words memory c ≡ l
-words_shown memory c l is same =
-    let a = same 0 (omega arith) in let b = same 1 (omega arith) in let d = same 2 (omega arith) in let e = same 3 (omega arith) in
-    let f = same 4 (omega arith) in let g = same 5 (omega arith) in let h = same 6 (omega arith) in let i = same 7 (omega arith) in
-    rw (a, b, d, e, f, g, h, i) (sym (eight l is))
+-- a cell whose first words are these holds them
+words_shown : (memory : Memory) (c : ℕ) (l : List ℕ) → length l ≤ 8 → ((j : ℕ) → j < length l → memory (Cell c (Value j)) ≡ slice_index l j) → take (length l) (cell_value_words memory c) ≡ l
+words_shown memory c l le same =
+    let long = length-take-le (length l) (cell_value_words memory c) le in
+    ext_get_or 0 (take (length l) (cell_value_words memory c)) l long (λ j lt.
+    let below : j < length l = omega arith in
+    get_or-take (length l) (cell_value_words memory c) j 0 below ∙ word_at memory c j (omega arith) ∙ same j below)
 
 -- the cell of a write of at most eight words holds its value
 value_shown : (memory : Memory) (c i key : ℕ) (written : Option (List ℕ)) → length_of written ≤ 8 → Shows memory c (Some (Wrote i key written)) → cell_value memory c ≡ written
-value_shown memory c i key None le h = ap (λ b. cond b None (Some (take (memory (Cell c Length)) (cell_words memory c)))) (eq-eqb (memory (State c)) 3 h.0)
-value_shown memory c i key (Some words) le h = ap (λ b. cond b None (Some (take (memory (Cell c Length)) (cell_words memory c)))) (ne_eqb (memory (State c)) 3 (let two = h.0 in λ e. omega arith))
-    ∙ ap (λ (n : ℕ). Some (take n (cell_words memory c))) h.2
-    ∙ ap (λ (l : List ℕ). Some (take (length words) l)) (words_shown memory c (padded words) (length-padded words le) h.3)
-    ∙ ap (λ (l : List ℕ). Some l) (take-append_seam words (replicate {A = ℕ} (8 - length words) 0))
+value_shown memory c i key None le h = ap (λ b. cond b None (Some (take (memory (Cell c Length)) (cell_value_words memory c)))) (eq-eqb (memory (State c)) 3 h.0)
+value_shown memory c i key (Some words) le h = ap (λ b. cond b None (Some (take (memory (Cell c Length)) (cell_value_words memory c)))) (ne_eqb (memory (State c)) 3 (let two = h.0 in λ e. omega arith))
+    ∙ ap (λ (n : ℕ). Some (take n (cell_value_words memory c))) h.2
+    ∙ ap (λ (l : List ℕ). Some l) (words_shown memory c words le h.3)
 
 -- the cell of a write is set or removed
 written_shown : (memory : Memory) (c : ℕ) (written : Option (List ℕ)) → memory (State c) ≡ state_of written → is_written memory c ≡ true

@@ -14,10 +14,10 @@ drawn_small : (s : Setting) (t : ℕ) → t ≤ length s.slots → t + 1 < 2 ^ 6
 drawn_small s t le = let bounded = s.law.bounded in let top = s.law.top in omega arith
 
 look_small : (s : Setting) (word : Word) → is_word s.z word ≡ true → IsSmallLook s.z word (s.memory word)
-look_small s (Head region shard) there =
-    let parts : (nat_lt region 2 ≡ true) × (nat_lt shard s.z.shards ≡ true) = and_parts (nat_lt region 2) (nat_lt shard s.z.shards) there in
+look_small s (Head region chain) there =
+    let parts : (nat_lt region 2 ≡ true) × (nat_lt chain s.z.chains ≡ true) = and_parts (nat_lt region 2) (nat_lt chain s.z.chains) there in
     let low : region < 2 = ltb-true region 2 parts.0 in
-    let inside : shard < s.z.shards = ltb-true shard s.z.shards parts.1 in
+    let inside : chain < s.z.chains = ltb-true chain s.z.chains parts.1 in
     let few = s.sound.2.1 in omega arith
 look_small s Merged there = let begun = s.law.begun in let bounded = s.law.bounded in let top = s.law.top in rw s.law.merged (omega arith)
 look_small s word there = tt

@@ -10,14 +10,14 @@ use Rattle.clsm_law.specs.declared.step.Step.{Step}
 use Rattle.clsm_law.specs.declared.step.Step.TheVariants.{Look}
 use Rattle.clsm_law.specs.declared.view.View.{View}
 use Rattle.clsm_law.specs.declared.merger.MergerView.{MergerView}
-use Rattle.clsm_law.specs.declared.merger.Retiree.{Retiree}
+use Rattle.clsm_law.specs.declared.merger.Reader.{Reader}
 use Rattle.clsm_law.specs.declared.merger.Phase.{Phase}
 use Rattle.clsm_law.specs.declared.merger.Phase.TheVariants.{Clean, Frozen, Retired}
 use Rattle.clsm_law.specs.Memory.{Memory, cell_of, put}
 use Rattle.clsm_law.specs.Layout.{IsLayout}
 use Rattle.clsm_law.specs.Relation.{Chains, is_shared, or_zero, IsOpen, own_time, word_of, changed, view_after, slots_after, chains_after}
-use Rattle.clsm_law.specs.Merging.{is_clean, Facts, IsOpenToMerger, word_of_merger, changed_by_merger, merger_after, slots_after_merger, chains_after_merger, is_retired, is_frozen, is_all_quiet, retiree_at}
-use Rattle.clsm_law.specs.Worlds.{view_at, slot_at, past_of, facts_of}
+use Rattle.clsm_law.specs.Merging.{is_clean, Facts, IsOpenToMerger, word_of_merger, changed_by_merger, merger_after, slots_after_merger, chains_after_merger, is_retired, is_frozen, is_all_quiet, reader_at}
+use Rattle.clsm_law.specs.Worlds.{view_at, outcome_at, past_of, facts_of}
 use Rattle.clsm_law.specs.Law.{LawOf, Shows, each, mode_of, drawn_of, held_of, pin_of, past_time_of, IsRetiredFor, first_shown, first_live, is_held_back}
 use Rattle.clsm_law.proofs.Frames.{put_same, past_end}
 use Rattle.clsm_law.proofs.Cases.{by_bool}
@@ -122,7 +122,7 @@ merger_looked_same g c = put_same g.memory c
 -- ---- plain facts of a lawful world
 
 -- one seat that is not quiet
-pub not_all_quiet : (rs : List Retiree) (i : ℕ) → i < length rs → (retiree_at rs i).quiet ≡ false → is_all_quiet rs ≡ false
+pub not_all_quiet : (rs : List Reader) (i : ℕ) → i < length rs → (reader_at rs i).quiet ≡ false → is_all_quiet rs ≡ false
 not_all_quiet [] i lt e = absurd (omega arith)
 not_all_quiet (r ∷ rs) zero lt e = ap (λ b. b && is_all_quiet rs) e
 not_all_quiet (r ∷ rs) (suc i) lt e = ap (λ b. r.quiet && b) (not_all_quiet rs i (omega arith) e) ∙ and_false r.quiet
@@ -166,15 +166,15 @@ module _ (n merged : ℕ) (extended quiet : Bool) where
 module _ (g : Ground) where
   -- what is shown is live
   pub live_below_shown : first_live g.z g.merger ≤ first_shown g.z g.merger
-  live_below_shown = live_shown g.z.cells g.merger.merged g.merger.limit_extended (is_all_quiet g.merger.retirees) g.merger.phase
+  live_below_shown = live_shown g.z.cells g.merger.merged g.merger.limit_extended (is_all_quiet g.merger.readers) g.merger.phase
 
   pub shown_below_merged : first_shown g.z g.merger ≤ g.merger.merged * g.z.cells
-  shown_below_merged = shown_merged g.z.cells g.merger.merged g.merger.limit_extended (is_all_quiet g.merger.retirees) g.merger.phase
+  shown_below_merged = shown_merged g.z.cells g.merger.merged g.merger.limit_extended (is_all_quiet g.merger.readers) g.merger.phase
 
   -- the limit, and so the clock, is within the live times
   pub limit_live : g.memory Limit ≤ first_live g.z g.merger + 2 * g.z.cells
   limit_live = subst (λ (n : ℕ). n ≤ first_live g.z g.merger + 2 * g.z.cells) (sym g.law.limit)
-      (free_live g.z.cells g.merger.merged g.merger.limit_extended (is_all_quiet g.merger.retirees) g.merger.phase g.law.merger.some_merged (λ e. g.law.merger.clean (g.law.merger.extends (g.law.merger.limit_after e))))
+      (free_live g.z.cells g.merger.merged g.merger.limit_extended (is_all_quiet g.merger.readers) g.merger.phase g.law.merger.some_merged (λ e. g.law.merger.clean (g.law.merger.extends (g.law.merger.limit_after e))))
 
   pub clock_live : length g.slots ≤ first_live g.z g.merger + 2 * g.z.cells
   clock_live = let a = limit_live in let b = g.law.bounded in omega arith
@@ -200,15 +200,15 @@ module _ (g : Ground) where
   undecided_if c (Some (Wrote i key None)) h e = absurd (omega (arith, h.0))
   undecided_if c (Some (Wrote i key (Some written))) h e = absurd (omega (arith, h.0))
 
-  pub undecided : (t : ℕ) → first_shown g.z g.merger ≤ t → t < length g.slots → g.memory (State (cell_of g.z t)) ≡ 0 → slot_at g.slots t ≡ None
-  undecided t from until e = undecided_if (cell_of g.z t) (slot_at g.slots t) (g.law.shown t from until) e
+  pub undecided : (t : ℕ) → first_shown g.z g.merger ≤ t → t < length g.slots → g.memory (State (cell_of g.z t)) ≡ 0 → outcome_at g.slots t ≡ None
+  undecided t from until e = undecided_if (cell_of g.z t) (outcome_at g.slots t) (g.law.shown t from until) e
 
   decided_if : (c : ℕ) (o : Option Slot) → Shows g.memory c o → g.memory (State c) ≢ 0 → o ≢ None
   decided_if c None h ne e = ne h
   decided_if c (Some slot) h ne e = absurd cc
 
-  pub decided : (t : ℕ) → first_shown g.z g.merger ≤ t → t < length g.slots → g.memory (State (cell_of g.z t)) ≢ 0 → slot_at g.slots t ≢ None
-  decided t from until ne = decided_if (cell_of g.z t) (slot_at g.slots t) (g.law.shown t from until) ne
+  pub decided : (t : ℕ) → first_shown g.z g.merger ≤ t → t < length g.slots → g.memory (State (cell_of g.z t)) ≢ 0 → outcome_at g.slots t ≢ None
+  decided t from until ne = decided_if (cell_of g.z t) (outcome_at g.slots t) (g.law.shown t from until) ne
 
   -- only drawn times are known
   pub past_below : (i : ℕ) → each g.z past_time_of g.views i ≤ length g.slots
@@ -227,7 +227,7 @@ module _ (g : Ground) where
   held_shown i c lt e = ⊎_elim
       (λ (same : c ≡ g.merger.merged). let a = shown_below_merged in subst (λ (k : ℕ). first_shown g.z g.merger ≤ k * g.z.cells) (sym same) a)
       (λ (r : IsRetiredFor g.merger i (each g.z pin_of g.views i) c).
-      let loud : is_all_quiet g.merger.retirees ≡ false = not_all_quiet g.merger.retirees i (let a = g.law.merger.seats in let b = g.law.seated in omega arith) r.loud in
+      let loud : is_all_quiet g.merger.readers ≡ false = not_all_quiet g.merger.readers i (let a = g.law.merger.seats in let b = g.law.seated in omega arith) r.loud in
       let back : is_held_back g.merger ≡ true = rw (r.retired, loud) refl in
       let before : g.merger.merged - 1 ≡ c = let a = r.before in omega arith in
       rw (back, before) (omega arith))

@@ -6,16 +6,16 @@ use Rattle.clsm_law.specs.declared.step.Step.{Step}
 use Rattle.clsm_law.specs.declared.step.Step.TheVariants.{LeaveExclusive, Look, ClearState, Publish}
 use Rattle.clsm_law.specs.declared.merger.Phase.{Phase}
 use Rattle.clsm_law.specs.declared.merger.Phase.TheVariants.{Clean, Frozen, Retired}
-use Rattle.clsm_law.specs.declared.merger.Retiree.{Retiree}
-use Rattle.clsm_law.specs.Merging.{unseen, is_retired, is_all_quiet, retiree_at, retiree_by}
+use Rattle.clsm_law.specs.declared.merger.Reader.{Reader}
+use Rattle.clsm_law.specs.Merging.{unseen, is_retired, is_all_quiet, reader_at, reader_by}
 use Rattle.clsm_law.specs.Law.{first_shown, first_live}
 use Rattle.clsm_law.proofs.Setting.{Ground, facts, merger', found, OpensTo}
 
 -- a look at a pin word takes no seat's quiet back
-quiet_stays : (r : Retiree) (x : ℕ) → r.quiet ≡ true → (retiree_by r x).quiet ≡ true
+quiet_stays : (r : Reader) (x : ℕ) → r.quiet ≡ true → (reader_by r x).quiet ≡ true
 quiet_stays r x e = rw e refl
 
-pub all_quiet_stays : (rs : List Retiree) (i x : ℕ) → is_all_quiet rs ≡ true → is_all_quiet (set rs i (retiree_by (retiree_at rs i) x)) ≡ true
+pub all_quiet_stays : (rs : List Reader) (i x : ℕ) → is_all_quiet rs ≡ true → is_all_quiet (set rs i (reader_by (reader_at rs i) x)) ≡ true
 all_quiet_stays [] i x e = refl
 all_quiet_stays (r ∷ rs) zero x e = let p = and_parts r.quiet (is_all_quiet rs) e in rw (quiet_stays r x p.0) p.1
 all_quiet_stays (r ∷ rs) (suc i) x e = let p = and_parts r.quiet (is_all_quiet rs) e in rw p.0 (all_quiet_stays rs i x p.1)
@@ -81,14 +81,14 @@ one_back : (merged n : ℕ) → (merged + 1 - 1) * n ≡ merged * n
 one_back merged n = let e : merged + 1 - 1 ≡ merged = omega arith in ap (λ (k : ℕ). k * n) e
 
 pub shown_rises : (g : Ground) (step : Step) → OpensTo g step → first_shown g.z g.merger ≤ first_shown g.z (merger' g step)
-shown_rises g LeaveExclusive o = frozen_shown g.z.cells g.merger.merged g.merger.limit_extended g.merger.phase (is_all_quiet g.merger.retirees)
-shown_rises g (Look (Pin i)) o = elim (is_retired g.merger.phase) as (λ b. first_shown g.z g.merger ≤ first_shown g.z (record g.merger { retirees = cond b (set g.merger.retirees i (retiree_by (retiree_at g.merger.retirees i) (found g (Look (Pin i))))) g.merger.retirees })) [
-  | true ↦ quieter g.z.cells g.merger.merged g.merger.phase (is_all_quiet g.merger.retirees) _ (all_quiet_stays g.merger.retirees i (found g (Look (Pin i))))
+shown_rises g LeaveExclusive o = frozen_shown g.z.cells g.merger.merged g.merger.limit_extended g.merger.phase (is_all_quiet g.merger.readers)
+shown_rises g (Look (Pin i)) o = elim (is_retired g.merger.phase) as (λ b. first_shown g.z g.merger ≤ first_shown g.z (record g.merger { readers = cond b (set g.merger.readers i (reader_by (reader_at g.merger.readers i) (found g (Look (Pin i))))) g.merger.readers })) [
+  | true ↦ quieter g.z.cells g.merger.merged g.merger.phase (is_all_quiet g.merger.readers) _ (all_quiet_stays g.merger.readers i (found g (Look (Pin i))))
   | false ↦ omega arith
 ]
 shown_rises g (Look word) o = omega arith
-shown_rises g (ClearState cell) o = cleaned_shown g.z.cells g.merger.merged ((facts g).last cell) g.merger.phase (is_all_quiet g.merger.retirees)
-shown_rises g Publish o = rw (none_quiet g.z.seats g.sound.1.0, one_back g.merger.merged g.z.cells) (shown_most g.z.cells g.merger.merged g.merger.phase (is_all_quiet g.merger.retirees))
+shown_rises g (ClearState cell) o = cleaned_shown g.z.cells g.merger.merged ((facts g).last cell) g.merger.phase (is_all_quiet g.merger.readers)
+shown_rises g Publish o = rw (none_quiet g.z.seats g.sound.1.0, one_back g.merger.merged g.z.cells) (shown_most g.z.cells g.merger.merged g.merger.phase (is_all_quiet g.merger.readers))
 shown_rises g step o = omega arith
 
 pub live_rises : (g : Ground) (step : Step) → OpensTo g step → first_live g.z g.merger ≤ first_live g.z (merger' g step)

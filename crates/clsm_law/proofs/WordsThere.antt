@@ -24,13 +24,13 @@ module _ (g : Ground) where
   word_there' (Look word) o = o
   word_there' (Pad t) o = cell_there t
   word_there' (WriteRun word x) o = o.2
-  word_there' (ClearHead region shard) o = both (nat_lt region 2) (nat_lt shard g.z.shards) (lt-ltb region 2 (let a = o.2 in omega arith)) (lt-ltb shard g.z.shards o.3)
+  word_there' (ClearHead region chain) o = both (nat_lt region 2) (nat_lt chain g.z.chains) (lt-ltb region 2 (let a = o.2 in omega arith)) (lt-ltb chain g.z.chains o.3)
   word_there' (ClearState cell) o = lt-ltb cell (2 * g.z.cells) o.2
   word_there' step o = refl
 
 pub word_there : (s : Setting) (step : Step) → Opens s step → is_word s.z (word_of s.z s.me (v s) step) ≡ true
 word_there s (Fill part w) o = both (nat_lt (cell_of s.z (own_time (v s))) (2 * s.z.cells)) (is_part part) (lt-ltb _ _ (cell_below s.z (own_time (v s)) (some_cells s))) o.2
-word_there s (Link head) o = both _ _ (lt-ltb _ 2 (region_below s.z (cell_of s.z (own_time (v s))))) (lt-ltb (or_zero (v s).key % s.z.shards) s.z.shards (mod_below (or_zero (v s).key) s.z.shards (omega (arith, s.sound.2.0))))
+word_there s (Link head) o = both _ _ (lt-ltb _ 2 (region_below s.z (cell_of s.z (own_time (v s))))) (lt-ltb (or_zero (v s).key % s.z.chains) s.z.chains (mod_below (or_zero (v s).key) s.z.chains (omega (arith, s.sound.2.0))))
 word_there s (Decide t deed) o = lt-ltb _ _ (cell_below s.z t (some_cells s))
 word_there s (Cancel t) o = lt-ltb _ _ (cell_below s.z t (some_cells s))
 word_there s Pin o = let a = s.inside in let b = s.law.seated in lt-ltb s.me s.z.seats (omega arith)

@@ -14,15 +14,16 @@ use Rattle.clsm_law.specs.declared.word.Word.TheVariants.{Count}
 use Rattle.clsm_law.specs.declared.step.Step.{Step}
 use Rattle.clsm_law.specs.declared.step.Step.TheVariants.{Look}
 use Rattle.clsm_law.specs.declared.merger.MergerView.{MergerView}
+use Rattle.clsm_law.specs.Codes.{last_limit}
 use Rattle.clsm_law.specs.Memory.{Memory, is_word, room_of}
 use Rattle.clsm_law.specs.Layout.{memory, size_of}
 use Rattle.clsm_law.specs.Places.{is_named, entry_in, entries_in}
 use Rattle.clsm_law.specs.Merging.{target_of}
-use Rattle.clsm_law.specs.Worlds.{slot_at, epoch_of, runs_of}
+use Rattle.clsm_law.specs.Worlds.{outcome_at, epoch_of, runs_of}
 
 -- the epoch of the next merge ends where times end, or before, so that no sum of the merger's wraps
 pub record IsMergerSmall (z : Layout) (m : MergerView) : Type 0 where
-  pub merged : (m.merged + 1) * z.cells ≤ 2 ^ 62
+  pub merged : (m.merged + 1) * z.cells ≤ last_limit
 
 -- a step that looks looks at a word that there is
 abbrev pub LooksAtWord : Layout → Step → Type 0
@@ -73,7 +74,7 @@ source_count z words m = z.cells + cond (is_to_level_one m.merged) (searched_tot
 unfoldable pub source_at : Layout → List ℕ → MergerView → List (Option Slot) → ℕ → Option Entry
 source_at z words m slots number =
     let time = m.merged * z.cells + number in
-    cond (nat_lt number z.cells) (entry_of_slot time (slot_at slots time)) (searched_entry (memory z words) m.merged search_order (number - z.cells))
+    cond (nat_lt number z.cells) (entry_of_slot time (outcome_at slots time)) (searched_entry (memory z words) m.merged search_order (number - z.cells))
 
 -- ---- what is decided
 
@@ -106,9 +107,9 @@ abbrev pub IsEachKept : MergerView → List Entry → List Entry → Type 0
 IsEachKept m all written = (e : Entry) → Contains written e → IsKept m all e
 
 -- the entry is written, if the merge keeps it
-abbrev pub IsDone : MergerView → List Entry → List Entry → Entry → Type 0
-IsDone m all written e = StaysIn m all e → Contains written e
+abbrev pub IsWrittenIfKept : MergerView → List Entry → List Entry → Entry → Type 0
+IsWrittenIfKept m all written e = StaysIn m all e → Contains written e
 
 -- each source that the merge keeps is written
 abbrev pub IsEachWritten : MergerView → List Entry → List Entry → Type 0
-IsEachWritten m all written = (e : Entry) → Contains all e → IsDone m all written e
+IsEachWritten m all written = (e : Entry) → Contains all e → IsWrittenIfKept m all written e

@@ -18,12 +18,13 @@ use Rattle.clsm_law.specs.declared.view.SnapshotState.{SnapshotState}
 use Rattle.clsm_law.specs.declared.view.SnapshotState.TheVariants.{Absent, Noted, Timed, Open}
 use Rattle.clsm_law.specs.declared.merger.MergerView.{MergerView}
 use Rattle.clsm_law.specs.declared.merger.Round.{Round}
+use Rattle.clsm_law.specs.Codes.{exclusive_hold, last_limit}
 use Rattle.clsm_law.specs.Memory.{Memory, cell_of, region_of, room_of}
 use Rattle.clsm_law.specs.Places.{is_named, held_at}
 use Rattle.clsm_law.specs.Relation.{IsShort, Chains, is_shared, length_of, words_of, state_of, open_time}
-use Rattle.clsm_law.specs.Merging.{is_clean, is_frozen, is_retired, is_all_quiet, retiree_at, epoch_end}
-use Rattle.clsm_law.specs.Seats.{IsRightRecord, IsStandingRecord, HasWrite, IsRising}
-use Rattle.clsm_law.specs.Worlds.{view_at, slot_at, past_of, history_of, runs_of, are_canonical}
+use Rattle.clsm_law.specs.Merging.{is_clean, is_frozen, is_retired, is_all_quiet, reader_at, epoch_end}
+use Rattle.clsm_model.specs.Seats.{IsRightRecord, IsStandingRecord, HasWrite, IsRising}
+use Rattle.clsm_law.specs.Worlds.{view_at, outcome_at, past_of, history_of, runs_of, are_canonical}
 
 -- ---- the functions that the clauses name
 
@@ -112,7 +113,7 @@ holders v = cond (is_shared v.mode) 1 0
 
 -- readers may still hold the retired component
 abbrev pub is_held_back : MergerView → Bool
-is_held_back m = is_retired m.phase && not (is_all_quiet m.retirees)
+is_held_back m = is_retired m.phase && not (is_all_quiet m.readers)
 
 -- the first time whose cell still shows its slot
 abbrev pub first_shown : Layout → MergerView → ℕ
@@ -184,7 +185,7 @@ AreShort slot = (t i key : ℕ) (written : Option (List ℕ)) → slot t ≡ Som
 abbrev pub Shows : Memory → ℕ → Option Slot → Type 0
 Shows memory c None = memory (State c) ≡ 0
 Shows memory c (Some Nothing) = memory (State c) ≡ 1
-Shows memory c (Some (Wrote i key written)) = (memory (State c) ≡ state_of written) × (memory (Cell c Key) ≡ key) × (memory (Cell c Length) ≡ length_of written) × ((j : ℕ) → j < 8 → memory (Cell c (Value j)) ≡ slice_index (words_of written) j)
+Shows memory c (Some (Wrote i key written)) = (memory (State c) ≡ state_of written) × (memory (Cell c Key) ≡ key) × (memory (Cell c Length) ≡ length_of written) × ((j : ℕ) → j < length_of written → memory (Cell c (Value j)) ≡ slice_index (words_of written) j)
 
 -- each cell from the first time shown on shows what its time came to
 abbrev pub AreShown : Layout → Memory → ℕ → ℕ → (ℕ → Option Slot) → Type 0
@@ -201,14 +202,14 @@ IsChain z memory h (t ∷ ts) = (h ≡ cell_of z t + 1) × IsChain z memory (mem
 
 -- from each head the words NEXT lead through the cells of its chain and end
 abbrev pub AreChained : Layout → Memory → Chains → Type 0
-AreChained z memory chains = (r s : ℕ) → r < 2 → s < z.shards → IsChain z memory (memory (Head r s)) (chains r s)
+AreChained z memory chains = (r s : ℕ) → r < 2 → s < z.chains → IsChain z memory (memory (Head r s)) (chains r s)
 
--- a chain holds drawn times of the epoch in its region, whose keys are of its shard
+-- a chain holds drawn times of the epoch in its region, whose keys are of its chain
 pub record IsIn (z : Layout) (memory : Memory) (first clock r s t : ℕ) : Type 0 where
   pub live : first ≤ t
   pub drawn : t < clock
   pub region : region_of z (cell_of z t) ≡ r
-  pub shard : memory (Cell (cell_of z t) Key) % z.shards ≡ s
+  pub chain : memory (Cell (cell_of z t) Key) % z.chains ≡ s
 
 -- and that is so of each time in each chain
 abbrev pub AreIn : Layout → Memory → ℕ → ℕ → Chains → Type 0
@@ -220,7 +221,7 @@ AreOnce chains = (r s : ℕ) → Distinct (chains r s)
 
 -- the time stands in the chain of the key
 abbrev pub IsLinkedAt : Layout → Chains → ℕ → ℕ → Type 0
-IsLinkedAt z chains t key = In t (chains (region_of z (cell_of z t)) (key % z.shards))
+IsLinkedAt z chains t key = In t (chains (region_of z (cell_of z t)) (key % z.chains))
 
 -- each write from the first time shown on stands in the chain of its key
 abbrev pub AreStanding : Layout → ℕ → (ℕ → Option Slot) → Chains → Type 0
@@ -259,8 +260,8 @@ IsFirst (Some first) pin = first ≡ pin
 pub record IsRetiredFor (m : MergerView) (i pin c : ℕ) : Type 0 where
   pub before : c + 1 ≡ m.merged
   pub retired : is_retired m.phase ≡ true
-  pub loud : (retiree_at m.retirees i).quiet ≡ false
-  pub first : IsFirst (retiree_at m.retirees i).first_pin pin
+  pub loud : (reader_at m.readers i).quiet ≡ false
+  pub first : IsFirst (reader_at m.readers i).first_pin pin
 
 -- a held component is the newest, or the retired one
 abbrev pub AreHeld : MergerView → (ℕ → Option ℕ) → (ℕ → Bool) → (ℕ → ℕ) → Type 0
@@ -319,14 +320,14 @@ pub record AreRuns (z : Layout) (memory : Memory) (h : History) (component floor
 
 -- the merger's hold of the lock, and its freeze
 pub record IsMerger (z : Layout) (m : MergerView) (clock : ℕ) : Type 0 where
-  pub seats : length m.retirees ≡ z.seats
+  pub seats : length m.readers ≡ z.seats
   pub some_merged : is_retired m.phase ≡ true → 1 ≤ m.merged
   pub clean : m.exclusive ≡ true → is_clean m.phase ≡ true
   pub pads : m.padded ≡ true → m.exclusive ≡ true
   pub extends : m.clock_extended ≡ true → m.exclusive ≡ true
   pub limit_after : m.limit_extended ≡ true → m.clock_extended ≡ true
   pub at_end : m.clock_extended ≡ true → clock ≡ epoch_end z m
-  pub top : m.clock_extended ≡ true → (m.merged + 2) * z.cells ≤ 2 ^ 62
+  pub top : m.clock_extended ≡ true → (m.merged + 2) * z.cells ≤ last_limit
 
 -- ---- the seats' records
 
@@ -360,7 +361,7 @@ AreDuesBelowOwn drawn slot due = (i t : ℕ) → drawn i ≡ Some t → slot t �
 pub record LawOf (z : Layout) (memory : Memory) (views : List View) (m : MergerView) (slots : List (Option Slot)) (chains : Chains) : Type 0 where
   -- the lock
   pub seated : length views ≡ z.seats
-  pub lock : memory Lock ≡ cond m.exclusive 4294967296 (sum_by holders views)
+  pub lock : memory Lock ≡ cond m.exclusive exclusive_hold (sum_by holders views)
   pub locked_out : IsLockedOut m.exclusive (each z mode_of views)
   pub callers : AreCallers (each z mode_of views)
   pub merger : IsMerger z m (length slots)
@@ -370,25 +371,25 @@ pub record LawOf (z : Layout) (memory : Memory) (views : List View) (m : MergerV
   pub begun : m.merged * z.cells ≤ length slots
   pub bounded : length slots ≤ memory Limit
   pub current : memory Limit ≤ length slots + z.cells
-  pub top : memory Limit ≤ 2 ^ 62
+  pub top : memory Limit ≤ last_limit
   pub merged : memory Merged ≡ m.merged
   -- drawn times
   pub holding : AreHolding (each z drawn_of views) (each z mode_of views)
-  pub pending : ArePending z (memory Limit) (each z drawn_of views) (length slots) (slot_at slots)
-  pub owned : AreOwned (each z drawn_of views) (length slots) (slot_at slots)
+  pub pending : ArePending z (memory Limit) (each z drawn_of views) (length slots) (outcome_at slots)
+  pub owned : AreOwned (each z drawn_of views) (length slots) (outcome_at slots)
   pub alone : AreAlone (each z drawn_of views)
   pub filled : AreFilled z memory (each z drawn_of views) (each z part_of views)
   -- decided times
-  pub front : IsDecidedBelow (slot_at slots) (memory Front)
-  pub merged_decided : IsDecidedBelow (slot_at slots) (m.merged * z.cells)
-  pub short : AreShort (slot_at slots)
-  pub shown : AreShown z memory (first_shown z m) (length slots) (slot_at slots)
+  pub front : IsDecidedBelow (outcome_at slots) (memory Front)
+  pub merged_decided : IsDecidedBelow (outcome_at slots) (m.merged * z.cells)
+  pub short : AreShort (outcome_at slots)
+  pub shown : AreShown z memory (first_shown z m) (length slots) (outcome_at slots)
   pub empty : AreEmpty z memory m.padded (length slots) (epoch_end z m) (first_live z m + 2 * z.cells)
   -- chains
   pub chained : AreChained z memory chains
   pub lies : AreIn z memory (first_live z m) (length slots) chains
   pub once : AreOnce chains
-  pub standing : AreStanding z (first_shown z m) (slot_at slots) chains
+  pub standing : AreStanding z (first_shown z m) (outcome_at slots) chains
   pub linked : AreLinked z (each z drawn_of views) (each z key_of views) (each z linked_of views) chains
   pub loose : AreLoose (each z drawn_of views) (each z linked_of views) chains
   -- what is noted
@@ -397,8 +398,8 @@ pub record LawOf (z : Layout) (memory : Memory) (views : List View) (m : MergerV
   pub hold_clocks : AreNotedBelow (each z hold_clock_of views) (length slots)
   pub clocks : AreNotedBelow (each z clock_of views) (length slots)
   pub pin_clocks : AreNotedBelow (each z pin_clock_of views) (length slots)
-  pub past : AreDecidedBelow (slot_at slots) (each z past_time_of views)
-  pub reached : AreDecidedBelow (slot_at slots) (each z reached_of views)
+  pub past : AreDecidedBelow (outcome_at slots) (each z past_time_of views)
+  pub reached : AreDecidedBelow (outcome_at slots) (each z reached_of views)
   -- pins and snapshots
   pub pins : ArePins z memory (each z pin_of views)
   pub odd : AreOdd (each z pin_of views) (each z pinned_of views)
@@ -412,8 +413,8 @@ pub record LawOf (z : Layout) (memory : Memory) (views : List View) (m : MergerV
   pub former_runs : is_held_back m ≡ true → AreRuns z memory (history_of slots) (m.merged - 1) m.former_floor
   -- records
   pub right : AreRight (λ i. past_of slots (each z past_time_of views i)) (each z calls_of views)
-  pub stand : AreRecordsStanding (slot_at slots) (each z calls_of views)
-  pub recorded : AreRecorded (slot_at slots) (each z calls_of views)
+  pub stand : AreRecordsStanding (outcome_at slots) (each z calls_of views)
+  pub recorded : AreRecorded (outcome_at slots) (each z calls_of views)
   pub rising : AreRising (each z calls_of views) (each z due_of views) (each z snapshot_of views)
   pub dues : AreAtMost (each z due_of views) (length slots)
-  pub own_dues : AreDuesBelowOwn (each z drawn_of views) (slot_at slots) (each z due_of views)
+  pub own_dues : AreDuesBelowOwn (each z drawn_of views) (outcome_at slots) (each z due_of views)

@@ -1,5 +1,5 @@
 -- Where each word stands in the one row of words, and the row as a memory.
-use Rattle.std.specs.Prelude.{◌≡◌, ℕ, ◌+◌, ◌*◌, cond, List, [], ◌∷◌, sum, take, slice_index}
+use Rattle.std.specs.Prelude.{◌≡◌, ℕ, ◌+◌, ◌*◌, ◌-◌, ◌==◌, ◌/◌, max, cond, List, [], ◌∷◌, sum, take, slice_index}
 use Rattle.clsm_model.specs.Config.{IsBetween}
 use Rattle.clsm_model.specs.declared.config.Config.{Config}
 use Rattle.clsm_law.specs.declared.layout.Layout.{Layout}
@@ -11,14 +11,19 @@ use Rattle.clsm_law.specs.Memory.{Memory, is_word, room_of}
 
 -- the sizes of a sound layout
 abbrev pub IsLayout : Layout → Type 0
-IsLayout z = IsBetween 4 65536 z.cells × IsBetween 1 64 z.seats × IsBetween 1 1024 z.shards × IsBetween 4 4194304 z.run
+IsLayout z = IsBetween 4 65536 z.cells × IsBetween 1 64 z.seats × IsBetween 1 16384 z.chains × IsBetween 4 4194304 z.run
 
--- the layout has the sizes of the configuration
+-- there is a chain for each so many cells of a region
+abbrev pub cells_per_chain : ℕ
+cells_per_chain = 4
+
+-- the layout has the sizes of the configuration; the shards are the least number of chains
 pub record HasSizesOf (z : Layout) (config : Config) : Type 0 where
   pub cells : z.cells ≡ config.cells
   pub seats : z.seats ≡ config.seats
-  pub shards : z.shards ≡ config.shards
+  pub chains : z.chains ≡ max config.shards (config.cells / cells_per_chain)
   pub run : z.run ≡ config.run
+  pub patience : z.patience ≡ config.patience
 
 -- words that different threads write stand 128 bytes apart
 abbrev pub spacing : ℕ
@@ -41,7 +46,7 @@ place_size z p = 1 + entry_words * room_of z p
 -- behind the cells, since their number could push the cells off their lines
 abbrev pub blocks : Layout → List ℕ
 blocks z =
-    spacing ∷ spacing ∷ spacing ∷ spacing ∷ spacing ∷ (spacing * z.seats) ∷ (spacing * z.seats) ∷ (cell_words * (2 * z.cells)) ∷ (2 * z.shards) ∷ (place_size z 0) ∷ (place_size z 1) ∷ (place_size z 2) ∷ (place_size z 3) ∷ (place_size z 4) ∷ []
+    spacing ∷ spacing ∷ spacing ∷ spacing ∷ spacing ∷ (spacing * z.seats) ∷ (spacing * z.seats) ∷ (cell_words * (2 * z.cells)) ∷ (2 * z.chains) ∷ (place_size z 0) ∷ (place_size z 1) ∷ (place_size z 2) ∷ (place_size z 3) ∷ (place_size z 4) ∷ []
 
 -- the block that a word stands in
 abbrev pub block_of : Word → ℕ
@@ -54,26 +59,30 @@ block_of (Pin i) = 5
 block_of (Snap i) = 6
 block_of (Cell c part) = 7
 block_of (State c) = 7
-block_of (Head region shard) = 8
+block_of (Head region chain) = 8
 block_of (Count p) = 9 + p
 block_of (Entry p e i) = 9 + p
 
--- where a part stands in its cell
+-- where a part stands in its cell: what a walk reads and the length in the first line, of which four words are free, and the value in the second
 abbrev pub part_offset : Part → ℕ
-part_offset Key = 0
-part_offset Length = 1
-part_offset (Value j) = 2 + j
-part_offset Next = 10
+part_offset Key = 1
+part_offset Next = 2
+part_offset Length = 7
+part_offset (Value j) = 8 + j
+
+-- where a word of an entry stands behind its place's count: the keys of all entries side by side, and then the other words of each
+abbrev pub entry_offset : ℕ → ℕ → ℕ → ℕ
+entry_offset room e i = cond (i == 0) e (room + ((entry_words - 1) * e + (i - 1)))
 
 -- where a word stands in its block
-abbrev pub offset_of : Word → ℕ
-offset_of (Pin i) = spacing * i
-offset_of (Snap i) = spacing * i
-offset_of (Cell c part) = cell_words * c + part_offset part
-offset_of (State c) = cell_words * c + 11
-offset_of (Head region shard) = 2 * shard + region
-offset_of (Entry p e i) = 1 + (entry_words * e + i)
-offset_of _ = 0
+abbrev pub offset_of : Layout → Word → ℕ
+offset_of z (Pin i) = spacing * i
+offset_of z (Snap i) = spacing * i
+offset_of z (Cell c part) = cell_words * c + part_offset part
+offset_of z (State c) = cell_words * c
+offset_of z (Head region chain) = 2 * chain + region
+offset_of z (Entry p e i) = 1 + entry_offset (room_of z p) e i
+offset_of z _ = 0
 
 -- where a block begins
 unfoldable pub start_of : Layout → ℕ → ℕ
@@ -81,7 +90,7 @@ start_of z b = sum (take b (blocks z))
 
 -- where a word stands in the row
 unfoldable pub index_of : Layout → Word → ℕ
-index_of z w = start_of z (block_of w) + offset_of w
+index_of z w = start_of z (block_of w) + offset_of z w
 
 -- the length of the row
 unfoldable pub size_of : Layout → ℕ

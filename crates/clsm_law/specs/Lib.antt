@@ -1,10 +1,10 @@
+pub mod Codes
 pub mod Memory
 pub mod Layout
 pub mod Places
 pub mod Relation
 pub mod Merging
 pub mod Worlds
-pub mod Seats
 pub mod Law
 pub mod Machine
 pub mod Reading

@@ -50,7 +50,7 @@ region_of z c = cond (nat_lt c z.cells) 0 1
 
 -- the head of the chain in which a time's cell with this key is linked
 abbrev pub head_of : Layout → ℕ → ℕ → Word
-head_of z t key = Head (region_of z (cell_of z t)) (key % z.shards)
+head_of z t key = Head (region_of z (cell_of z t)) (key % z.chains)
 
 -- ---- which words there are
 
@@ -63,11 +63,11 @@ abbrev pub is_part : Part → Bool
 is_part (Value j) = nat_lt j 8
 is_part _ = true
 
--- there is such a word: its seat, region, shard, cell, part, place and entry are within the sizes
+-- there is such a word: its seat, region, chain, cell, part, place and entry are within the sizes
 abbrev pub is_word : Layout → Word → Bool
 is_word z (Pin i) = nat_lt i z.seats
 is_word z (Snap i) = nat_lt i z.seats
-is_word z (Head r s) = nat_lt r 2 && nat_lt s z.shards
+is_word z (Head r s) = nat_lt r 2 && nat_lt s z.chains
 is_word z (Cell c p) = nat_lt c (2 * z.cells) && is_part p
 is_word z (State c) = nat_lt c (2 * z.cells)
 is_word z (Count p) = nat_lt p 5

@@ -15,10 +15,11 @@ use Rattle.clsm_law.specs.declared.merger.MergerView.{MergerView}
 use Rattle.clsm_law.specs.declared.merger.Phase.{Phase}
 use Rattle.clsm_law.specs.declared.merger.Phase.TheVariants.{Clean, Frozen, Retired}
 use Rattle.clsm_law.specs.declared.merger.Round.{Round}
-use Rattle.clsm_law.specs.declared.merger.Retiree.{Retiree}
+use Rattle.clsm_law.specs.declared.merger.Reader.{Reader}
+use Rattle.clsm_law.specs.Codes.{exclusive_hold, last_limit, cancelled_cell}
 use Rattle.clsm_law.specs.Memory.{cell_of, region_of, room_of, is_word}
 use Rattle.clsm_law.specs.Places.{number_of, is_named}
-use Rattle.clsm_law.specs.Relation.{Chains, next_word}
+use Rattle.clsm_law.specs.Relation.{Chains, next_word, one_more_if}
 
 -- what the merger knows of the world
 pub record Facts : Type 0 where
@@ -40,7 +41,7 @@ pub record Facts : Type 0 where
 -- ---- the merger at its beginning
 
 -- a seat of which nothing is noted in this retirement
-abbrev pub unseen : Retiree
+abbrev pub unseen : Reader
 unseen = record { first_pin = None; quiet = false; looks = 0 }
 
 -- the merger's view of a world that was just opened
@@ -49,6 +50,7 @@ opening z = record {
   phase = Clean;
   merged = 0;
   exclusive = false;
+  holds = 0;
   padded = false;
   clock_extended = false;
   limit_extended = false;
@@ -57,7 +59,7 @@ opening z = record {
   rounds = 0;
   merged_floor = 0;
   former_floor = 0;
-  retirees = replicate z.seats unseen;
+  readers = replicate z.seats unseen;
 }
 
 -- ---- small words
@@ -82,8 +84,8 @@ abbrev pub epoch_end : Layout → MergerView → ℕ
 epoch_end z m = (m.merged + 1) * z.cells
 
 -- each seat was found quiet
-abbrev pub is_all_quiet : List Retiree → Bool
-is_all_quiet retirees = list_all (λ r. r.quiet) retirees
+abbrev pub is_all_quiet : List Reader → Bool
+is_all_quiet readers = list_all (λ r. r.quiet) readers
 
 -- no freeze is half done
 abbrev pub is_freeze_whole : MergerView → Bool
@@ -124,15 +126,15 @@ IsOpenToMerger z f m (Pad t) = (m.exclusive ≡ true) × (f.clock ≤ t) × (t <
 -- an epoch is frozen, and the word is of a place that no reader of the newest component searches
 IsOpenToMerger z f m (WriteRun word x) = (is_frozen m.phase ≡ true) × IsRunWord word × (is_word z word ≡ true) × (is_named m.merged (place_of word) ≡ false)
 -- a component is retired and all seats are quiet; the head is one of its region
-IsOpenToMerger z f m (ClearHead region shard) = (is_retired m.phase ≡ true) × (is_all_quiet m.retirees ≡ true) × (region ≡ retired_region m) × (shard < z.shards)
+IsOpenToMerger z f m (ClearHead region chain) = (is_retired m.phase ≡ true) × (is_all_quiet m.readers ≡ true) × (region ≡ retired_region m) × (chain < z.chains)
 -- the same; the cell is one of its region, whose heads are all 0
-IsOpenToMerger z f m (ClearState cell) = (is_retired m.phase ≡ true) × (is_all_quiet m.retirees ≡ true) × (cell < 2 * z.cells) × (region_of z cell ≡ retired_region m) × (f.headless ≡ true)
+IsOpenToMerger z f m (ClearState cell) = (is_retired m.phase ≡ true) × (is_all_quiet m.readers ≡ true) × (cell < 2 * z.cells) × (region_of z cell ≡ retired_region m) × (f.headless ≡ true)
 -- an epoch is frozen, and its run is written: the entries that are wanted, within the room of the place, and no word that says more
 IsOpenToMerger z f m Publish = (is_frozen m.phase ≡ true) × (f.count ≤ room_of z (target_of m)) × (f.written ≡ f.wanted) × (f.canonical ≡ true)
--- it holds the lock, the undrawn cells of the epoch are cancelled, and the next epoch ends at 2^62 at most
-IsOpenToMerger z f m ExtendClock = (m.exclusive ≡ true) × (f.padded ≡ true) × ((m.merged + 2) * z.cells ≤ 2 ^ 62)
+-- it holds the lock, the undrawn cells of the epoch are cancelled, and the next epoch ends at the last limit at most
+IsOpenToMerger z f m ExtendClock = (m.exclusive ≡ true) × (f.padded ≡ true) × ((m.merged + 2) * z.cells ≤ last_limit)
 -- it holds the lock, and has moved the clock in this hold; the bound is the same
-IsOpenToMerger z f m ExtendLimit = (m.exclusive ≡ true) × (m.clock_extended ≡ true) × ((m.merged + 2) * z.cells ≤ 2 ^ 62)
+IsOpenToMerger z f m ExtendLimit = (m.exclusive ≡ true) × (m.clock_extended ≡ true) × ((m.merged + 2) * z.cells ≤ last_limit)
 -- the callers' steps are not open to it
 IsOpenToMerger z f m _ = ⊥
 
@@ -150,7 +152,7 @@ word_of_merger z m (Pad t) = State (cell_of z t)
 -- the word of the run
 word_of_merger z m (WriteRun word x) = word
 -- the head, or the state
-word_of_merger z m (ClearHead region shard) = Head region shard
+word_of_merger z m (ClearHead region chain) = Head region chain
 word_of_merger z m (ClearState cell) = State cell
 -- the number of merges
 word_of_merger z m Publish = Merged
@@ -163,18 +165,18 @@ word_of_merger z m _ = Lock
 
 -- the word that the step leaves where it finds x
 abbrev pub changed_by_merger : Layout → MergerView → Step → ℕ → ℕ
--- compare_exchange: 2^32, where nobody holds the lock
-changed_by_merger z m EnterExclusive x = either (x == 0) 4294967296 x
--- fetch_sub 2^32: no holder
+-- compare_exchange: the exclusive hold, where nobody holds the lock
+changed_by_merger z m EnterExclusive x = either (x == 0) exclusive_hold x
+-- fetch_sub of the same: no holder
 changed_by_merger z m LeaveExclusive x = (x + 18446744069414584320) % 2 ^ 64
 -- load
 changed_by_merger z m (Look word) x = x
 -- store: cancelled
-changed_by_merger z m (Pad t) x = 1
+changed_by_merger z m (Pad t) x = cancelled_cell
 -- store
 changed_by_merger z m (WriteRun word w) x = w
 -- store 0: a chain of no cells, and an empty state
-changed_by_merger z m (ClearHead region shard) x = 0
+changed_by_merger z m (ClearHead region chain) x = 0
 changed_by_merger z m (ClearState cell) x = 0
 -- store: one merge more
 changed_by_merger z m Publish x = m.merged + 1
@@ -243,12 +245,12 @@ first_noted None x = Some x
 first_noted (Some first) x = Some first
 
 -- what is noted of a seat after a look at its pin word: quiet where that is even, or differs from the one first noted, and from then on
-abbrev pub retiree_by : Retiree → ℕ → Retiree
-retiree_by r x = record { first_pin = first_noted r.first_pin x; quiet = r.quiet || x % 2 == 0 || differs r.first_pin x; looks = next_word r.looks }
+abbrev pub reader_by : Reader → ℕ → Reader
+reader_by r x = record { first_pin = first_noted r.first_pin x; quiet = r.quiet || x % 2 == 0 || differs r.first_pin x; looks = next_word r.looks }
 
 -- what is noted of the seat i
-abbrev pub retiree_at : List Retiree → ℕ → Retiree
-retiree_at retirees i = slice_index_or retirees i unseen
+abbrev pub reader_at : List Reader → ℕ → Reader
+reader_at readers i = slice_index_or readers i unseen
 
 -- what a look of the merger notes, by its word
 abbrev pub merger_looked : Layout → MergerView → Word → ℕ → MergerView
@@ -259,14 +261,14 @@ merger_looked z m (Snap i) x = let round = cond (is_frozen m.phase) (round_by m.
   rounds = cond (is_frozen m.phase) (rounds_by z m round) m.rounds;
 }
 -- while a component is retired: whether the seat is quiet
-merger_looked z m (Pin i) x = record m { retirees = cond (is_retired m.phase) (slice_set m.retirees i (retiree_by (retiree_at m.retirees i) x)) m.retirees }
+merger_looked z m (Pin i) x = record m { readers = cond (is_retired m.phase) (slice_set m.readers i (reader_by (reader_at m.readers i) x)) m.readers }
 -- of other words nothing is noted
 merger_looked z m _ x = m
 
 -- the merger's view after a step that found x, in a world with these facts
 abbrev pub merger_after : Layout → Facts → MergerView → Step → ℕ → MergerView
--- won: the lock is held
-merger_after z f m EnterExclusive x = record m { exclusive = cond (x == 0) true m.exclusive }
+-- won: the lock is held, which is counted
+merger_after z f m EnterExclusive x = record m { exclusive = cond (x == 0) true m.exclusive; holds = one_more_if (x == 0) m.holds }
 -- the lock is given back; where the limit was moved in the hold an epoch is frozen, and no round of looks has begun
 merger_after z f m LeaveExclusive x = record m {
   exclusive = false;
@@ -289,7 +291,7 @@ merger_after z f m Publish x = record m {
   round = None;
   former_floor = m.merged_floor;
   merged_floor = m.floor;
-  retirees = replicate z.seats unseen;
+  readers = replicate z.seats unseen;
 }
 -- the clock is moved in this hold, and then the limit
 merger_after z f m ExtendClock x = record m { clock_extended = true }
@@ -310,9 +312,9 @@ slots_after_merger z m slots _ = slots
 
 -- the chain of one head is empty
 abbrev pub emptied : Chains → ℕ → ℕ → Chains
-emptied chains region shard r s = cond (r == region && s == shard) [] (chains r s)
+emptied chains region chain r s = cond (r == region && s == chain) [] (chains r s)
 
 -- the chains after a step: a head that is cleared leads to no cell
 abbrev pub chains_after_merger : Chains → Step → Chains
-chains_after_merger chains (ClearHead region shard) = emptied chains region shard
+chains_after_merger chains (ClearHead region chain) = emptied chains region chain
 chains_after_merger chains _ = chains

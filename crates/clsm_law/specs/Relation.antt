@@ -1,6 +1,6 @@
 -- The steps of a caller's seat, by cases in the order of the step's members: where each is open, its word, what it makes of the word,
 -- the view after it, the slots and chains after it, and its answer. `x` is the word that the step finds.
-use Rattle.std.specs.Prelude.{◌≡◌, ◌≢◌, ℕ, ◌+◌, ◌-◌, ◌*◌, ◌%◌, ◌^◌, ◌<◌, ◌≤◌, ◌==◌, ◌&&◌, ◌⊎◌, Bool, true, false, not, cond, nat_lt, nat_le, max, List, [], ◌∷◌, ◌++◌, length, map, replicate, slice_index_or, slice_set, Option, Some, None, is_some}
+use Rattle.std.specs.Prelude.{◌≡◌, ◌≢◌, ℕ, ◌+◌, ◌-◌, ◌*◌, ◌%◌, ◌^◌, ◌<◌, ◌≤◌, ◌==◌, ◌&&◌, ◌⊎◌, Bool, true, false, not, cond, nat_lt, nat_le, max, List, [], ◌∷◌, ◌++◌, length, take, map, replicate, slice_index_or, slice_set, Option, Some, None, is_some}
 use prog.Atomic.{either}
 use Rattle.clsm_model.specs.declared.slot.Slot.{Slot}
 use Rattle.clsm_model.specs.declared.slot.Slot.TheVariants.{Nothing, Wrote}
@@ -8,7 +8,6 @@ use Rattle.clsm_model.specs.declared.slot.Change.TheVariants.{Keep}
 use Rattle.clsm_model.specs.declared.record.Deed.{Deed}
 use Rattle.clsm_model.specs.declared.record.Deed.TheVariants.{Rmw, Get, Snapshot, Close, GetAt, Scan, Page}
 use Rattle.clsm_model.specs.declared.record.CallRecord.{CallRecord}
-use Rattle.clsm_model.specs.Value.{padded}
 use Rattle.clsm_model.specs.History.{History, or_else}
 use Rattle.clsm_model.specs.Right.{IsRight, write_by}
 use Rattle.clsm_law.specs.declared.layout.Layout.{Layout}
@@ -27,6 +26,7 @@ use Rattle.clsm_law.specs.declared.view.Mode.{Mode}
 use Rattle.clsm_law.specs.declared.view.Mode.TheVariants.{Free, Shared}
 use Rattle.clsm_law.specs.declared.view.SnapshotState.{SnapshotState}
 use Rattle.clsm_law.specs.declared.view.SnapshotState.TheVariants.{Absent, Noted, Timed, Open}
+use Rattle.clsm_law.specs.Codes.{exclusive_hold, undecided_cell, cancelled_cell, value_cell, removal_cell}
 use Rattle.clsm_law.specs.Memory.{cell_of, region_of, head_of, is_part, is_word}
 use Rattle.clsm_law.specs.Places.{is_named}
 
@@ -42,7 +42,7 @@ idle z = record {
   mode = Free;
   fresh_lock = None;
   fresh_clock = None;
-  fresh_heads = blank (2 * z.shards);
+  fresh_heads = blank (2 * z.chains);
   hold_limit = None;
   hold_clock = None;
   drawn = None;
@@ -65,6 +65,8 @@ idle z = record {
   busy = 0;
   raced = 0;
   overtaken = 0;
+  gave_up = 0;
+  cancelled = 0;
 }
 
 -- ---- small words
@@ -100,7 +102,7 @@ is_shared _ = false
 
 -- the place of a chain's head among the fresh heads
 abbrev pub line_of : ℕ → ℕ → ℕ
-line_of region shard = 2 * shard + region
+line_of region chain = 2 * chain + region
 
 -- ---- the drawn cell
 
@@ -110,14 +112,14 @@ own_time v = or_zero v.drawn
 
 -- the line of the drawn cell's chain
 abbrev pub own_line : Layout → View → ℕ
-own_line z v = line_of (region_of z (cell_of z (own_time v))) (or_zero v.key % z.shards)
+own_line z v = line_of (region_of z (cell_of z (own_time v))) (or_zero v.key % z.chains)
 
 -- each of the numbers is there
 abbrev pub is_all_some : List (Option ℕ) → Bool
 is_all_some [] = true
 is_all_some (o ∷ os) = is_some o && is_all_some os
 
--- the value as a cell holds it: how many words, and eight of them; nothing of a removal
+-- the value as a cell holds it: how many words, and these; none of a removal
 abbrev pub length_of : Option (List ℕ) → ℕ
 length_of None = 0
 length_of (Some words) = length words
@@ -127,19 +129,19 @@ abbrev pub IsShort : Option (List ℕ) → Type 0
 IsShort None = Unit {0}
 IsShort (Some words) = (1 ≤ length words) × (length words ≤ 8)
 
--- its words, with zeros behind them up to eight; eight zeros of a removal
+-- its words
 abbrev pub words_of : Option (List ℕ) → List ℕ
-words_of None = replicate 8 0
-words_of (Some words) = padded words
+words_of None = []
+words_of (Some words) = words
 
--- the state of its cell: 2 where a value is set, 3 where the key is removed
+-- the state of its cell
 abbrev pub state_of : Option (List ℕ) → ℕ
-state_of None = 3
-state_of (Some words) = 2
+state_of None = removal_cell
+state_of (Some words) = value_cell
 
 -- the filled parts say this write
 abbrev pub SaysWrite : View → Option Slot → Type 0
-SaysWrite v (Some (Wrote seat key written)) = (v.key ≡ Some key) × (v.length ≡ Some (length_of written)) × (v.words ≡ map (λ w. Some w) (words_of written)) × IsShort written
+SaysWrite v (Some (Wrote seat key written)) = (v.key ≡ Some key) × (v.length ≡ Some (length_of written)) × (take (length_of written) v.words ≡ map (λ w. Some w) (words_of written)) × IsShort written
 SaysWrite v _ = ⊥
 
 -- a read-modify-write has read what stands below its time
@@ -147,10 +149,10 @@ abbrev pub IsReadBelow : History → View → ℕ → Deed → Type 0
 IsReadBelow h v t (Rmw key old change) = (t ≤ v.past) × IsRight h t (Rmw key old change)
 IsReadBelow h v t _ = Unit {0}
 
--- the state that a decide to this slot writes; 0 where the slot is no write
+-- the state that a decide to this slot writes; undecided where the slot is no write
 abbrev pub state_by : Option Slot → ℕ
 state_by (Some (Wrote seat key written)) = state_of written
-state_by _ = 0
+state_by _ = undecided_cell
 
 -- ---- the component held
 
@@ -184,7 +186,7 @@ IsNamedBy (Some m) place = is_named m place ≡ true
 
 -- the word may be looked at by the seat
 abbrev pub IsLookable : Layout → View → Word → Type 0
-IsLookable z v (Head region shard) = MayVisit z v region
+IsLookable z v (Head region chain) = MayVisit z v region
 IsLookable z v (Cell cell part) = MayVisit z v (region_of z cell)
 IsLookable z v (State cell) = MayVisit z v (region_of z cell)
 IsLookable z v (Count place) = IsNamedBy v.held place
@@ -248,7 +250,7 @@ IsOpenSnapshot _ = ⊥
 -- a caller's seat with this view may make the step
 abbrev pub IsOpen : Layout → History → View → Step → Type 0
 -- the seat does not hold the lock, and its fresh look found l there, which is no exclusive hold
-IsOpen z h v (EnterShared l) = (v.mode ≡ Free) × (v.fresh_lock ≡ Some l) × (l < 2 ^ 32)
+IsOpen z h v (EnterShared l) = (v.mode ≡ Free) × (v.fresh_lock ≡ Some l) × (l < exclusive_hold)
 -- it holds the lock shared, and has no drawn time
 IsOpen z h v LeaveShared = (v.mode ≡ Shared) × (v.drawn ≡ None)
 -- the same; its fresh look found the clock at t, and t is below the limit that it looked at in this hold
@@ -256,7 +258,7 @@ IsOpen z h v (Draw t) = (v.mode ≡ Shared) × (v.drawn ≡ None) × (v.fresh_cl
 -- it has a drawn time whose cell is not linked, and a cell has that part
 IsOpen z h v (Fill part w) = (v.drawn ≢ None) × (v.linked ≡ false) × (is_part part ≡ true)
 -- the same; all parts are filled, and NEXT is the head, as the fresh look found it
-IsOpen z h v (Link head) = (v.drawn ≢ None) × (v.linked ≡ false) × (v.key ≢ None) × (v.length ≢ None) × (is_all_some v.words ≡ true) × (v.next ≡ Some head) × (slice_index_or v.fresh_heads (own_line z v) None ≡ Some head)
+IsOpen z h v (Link head) = (v.drawn ≢ None) × (v.linked ≡ false) × (v.key ≢ None) × (v.length ≢ None) × (is_all_some (take (or_zero v.length) v.words) ≡ true) × (v.next ≡ Some head) × (slice_index_or v.fresh_heads (own_line z v) None ≡ Some head)
 -- t is drawn and its cell linked; what the parts say is the write that the deed makes; and what a read-modify-write read is right at t,
 -- which the past of the seat has reached
 IsOpen z h v (Decide t deed) = (v.drawn ≡ Some t) × (v.linked ≡ true) × SaysWrite v (write_by 0 deed) × IsReadBelow h v t deed
@@ -318,10 +320,10 @@ changed z v (Draw t) x = either (x == t) (t + 1) x
 changed z v (Fill part w) x = w
 -- compare_exchange: the drawn cell plus 1, where the head is still this one
 changed z v (Link head) x = either (x == head) (cell_of z (own_time v) + 1) x
--- compare_exchange: set or removed, as the deed writes, where the state is empty
-changed z v (Decide t deed) x = either (x == 0) (state_by (write_by 0 deed)) x
--- compare_exchange: cancelled, where the state is empty
-changed z v (Cancel t) x = either (x == 0) 1 x
+-- compare_exchange: a value or a removal, as the deed writes, where nothing is decided
+changed z v (Decide t deed) x = either (x == undecided_cell) (state_by (write_by 0 deed)) x
+-- compare_exchange: cancelled, where nothing is decided
+changed z v (Cancel t) x = either (x == undecided_cell) cancelled_cell x
 -- store: the pin word as the seat knows it, plus 1
 changed z v Pin x = next_word v.pin
 changed z v (Unpin end) x = next_word v.pin
@@ -357,6 +359,14 @@ given_up (Some u) t = cond (u == t) None (Some u)
 abbrev pub is_own : Option ℕ → ℕ → Bool
 is_own None t = false
 is_own (Some u) t = u == t
+
+-- a cancel of t that found x is counted: the own time is given up, or another had cancelled it, or t is another's
+abbrev pub counted_cancel : View → ℕ → ℕ → View
+counted_cancel v t x = let own = is_own v.drawn t in record v {
+  overtaken = one_more_if (own && not (x == undecided_cell)) v.overtaken;
+  gave_up = one_more_if (own && x == undecided_cell) v.gave_up;
+  cancelled = one_more_if (not own && x == undecided_cell) v.cancelled;
+}
 
 -- the record of a call of the seat i
 abbrev pub call_of : ℕ → ℕ → Deed → CallRecord
@@ -396,8 +406,8 @@ holds_lock v = not (is_free v.mode)
 
 -- what a look notes, by its word
 abbrev pub looked : Layout → View → Word → ℕ → View
--- it is fresh; a seat that does not hold the lock and finds it held exclusively counts that
-looked z v Lock x = record v { fresh_lock = Some x; busy = one_more_if (is_free v.mode && x == 2 ^ 32) v.busy }
+-- it is fresh, unless it finds the lock held exclusively; a seat that does not hold the lock counts that
+looked z v Lock x = record v { fresh_lock = cond (x == exclusive_hold) None (Some x); busy = one_more_if (is_free v.mode && x == exclusive_hold) v.busy }
 -- it is fresh and the last of all, and that of the hold and of the pin, where there are such; and a noted snapshot gets its time
 looked z v Clock x = record v { fresh_clock = Some x; hold_clock = cond (holds_lock v) (Some x) v.hold_clock; clock = Some x; pin_clock = cond v.pinned (Some x) v.pin_clock; snapshot = timed_by v.snapshot x }
 -- the limit of the hold, where there is one
@@ -407,7 +417,7 @@ looked z v Front x = record v { reached = max v.reached x }
 -- the first one under a pin gives the component held, and the times before that are decided
 looked z v Merged x = record v { held = cond (takes_hold v) (Some x) v.held; reached = cond (takes_hold v) (max v.reached (x * z.cells)) v.reached }
 -- in a hold of the lock it is fresh
-looked z v (Head region shard) x = record v { fresh_heads = cond (holds_lock v) (slice_set v.fresh_heads (line_of region shard) (Some x)) v.fresh_heads }
+looked z v (Head region chain) x = record v { fresh_heads = cond (holds_lock v) (slice_set v.fresh_heads (line_of region chain) (Some x)) v.fresh_heads }
 -- where it is not empty, and is that of the time reached, and the component and the clock cover this, one time more is reached
 looked z v (State cell) x = record v { reached = reached_by_state z v cell x }
 -- of other words nothing is noted
@@ -427,14 +437,14 @@ view_after z i v (EnterShared l) x = let won = x == l in record v {
   mode = cond won Shared v.mode;
   fresh_lock = None;
   fresh_clock = cond won None v.fresh_clock;
-  fresh_heads = cond won (blank (2 * z.shards)) v.fresh_heads;
+  fresh_heads = cond won (blank (2 * z.chains)) v.fresh_heads;
   hold_limit = cond won None v.hold_limit;
   hold_clock = cond won None v.hold_clock;
   entries = one_more_if won v.entries;
   busy = one_more_if (not won) v.busy;
 }
 -- the lock is given back, and no look is fresh; the looks of the hold are known still
-view_after z i v LeaveShared x = record v { mode = Free; fresh_lock = None; fresh_clock = None; fresh_heads = blank (2 * z.shards) }
+view_after z i v LeaveShared x = record v { mode = Free; fresh_lock = None; fresh_clock = None; fresh_heads = blank (2 * z.chains) }
 -- The look is fresh no more. Won: t is drawn, no part is filled, and the cell is not linked; lost: it is counted.
 view_after z i v (Draw t) x = let won = x == t in record v {
   drawn = cond won (Some t) v.drawn;
@@ -462,12 +472,8 @@ view_after z i v (Decide t deed) x = let won = x == 0 in record v {
   calls = cond won (v.calls ++ call_of i t deed ∷ []) v.calls;
   overtaken = one_more_if (not won) v.overtaken;
 }
--- an own drawn time is given up, which is counted where another had cancelled it; and t is found decided
-view_after z i v (Cancel t) x = record v {
-  drawn = given_up v.drawn t;
-  reached = reached_after z v t;
-  overtaken = one_more_if (is_own v.drawn t && not (x == 0)) v.overtaken;
-}
+-- t is found decided, and an own drawn time is given up; what was cancelled is counted
+view_after z i v (Cancel t) x = record (counted_cancel v t x) { drawn = given_up v.drawn t; reached = reached_after z v t }
 -- a read runs, by the next pin word: no component is held, and no clock is looked at yet
 view_after z i v Pin x = record v { pin = next_word v.pin; pinned = true; held = None; pin_clock = None }
 -- the read is over, by the next pin word: what it recorded joins the calls, the due follows, and a snapshot that got its time is open
@@ -510,11 +516,11 @@ Chains = ℕ → ℕ → List ℕ
 
 -- one time more at the head of a chain
 abbrev pub pushed : Chains → ℕ → ℕ → ℕ → Chains
-pushed chains region shard t r s = cond (r == region && s == shard) (t ∷ chains r s) (chains r s)
+pushed chains region chain t r s = cond (r == region && s == chain) (t ∷ chains r s) (chains r s)
 
 -- the chains after a step that found x: a won link puts the drawn time at the head of its chain
 abbrev pub chains_after : Layout → View → Chains → Step → ℕ → Chains
-chains_after z v chains (Link head) x = cond (x == head) (pushed chains (region_of z (cell_of z (own_time v))) (or_zero v.key % z.shards) (own_time v)) chains
+chains_after z v chains (Link head) x = cond (x == head) (pushed chains (region_of z (cell_of z (own_time v))) (or_zero v.key % z.chains) (own_time v)) chains
 chains_after z v chains _ x = chains
 
 -- ---- the answer

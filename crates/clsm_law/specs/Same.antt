@@ -23,21 +23,21 @@ use Rattle.clsm_law.specs.contracts.layout.LayoutHash.TheImpl.Laws as layout_has
 use Rattle.clsm_law.specs.contracts.view.ViewHash.TheImpl.Laws as view_hash_laws
 use Rattle.clsm_law.specs.contracts.merger.MergerViewHash.TheImpl.Laws as merger_hash_laws
 use Rattle.clsm_law.specs.declared.view.View.{View}
-use Rattle.clsm_law.specs.declared.merger.Retiree.{Retiree}
+use Rattle.clsm_law.specs.declared.merger.Reader.{Reader}
 use Rattle.clsm_law.specs.declared.merger.MergerView.{MergerView}
 use Rattle.clsm_law.specs.Machine.{WorldState}
 
 -- the view without its counts
 abbrev pub uncounted : View → View
-uncounted v = record v { entries = 0; busy = 0; raced = 0; overtaken = 0 }
+uncounted v = record v { entries = 0; busy = 0; raced = 0; overtaken = 0; gave_up = 0; cancelled = 0 }
 
 -- what is noted of a seat, without the count of looks
-abbrev pub uncounted_retiree : Retiree → Retiree
-uncounted_retiree r = record r { looks = 0 }
+abbrev pub uncounted_reader : Reader → Reader
+uncounted_reader r = record r { looks = 0 }
 
 -- the merger's view without its counts
 abbrev pub uncounted_merger : MergerView → MergerView
-uncounted_merger m = record m { rounds = 0; retirees = map uncounted_retiree m.retirees }
+uncounted_merger m = record m { holds = 0; rounds = 0; readers = map uncounted_reader m.readers }
 
 -- the world without them
 abbrev pub uncounted_world : WorldState → WorldState

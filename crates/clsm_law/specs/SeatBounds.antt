@@ -9,7 +9,7 @@ use Rattle.clsm_law.specs.Relation.{line_of}
 
 -- of a look: the place of a head among the fresh heads, and the first time of the component found
 abbrev pub IsSmallLook : Layout → Word → ℕ → Type 0
-IsSmallLook z (Head region shard) x = line_of region shard < 2 ^ 64
+IsSmallLook z (Head region chain) x = line_of region chain < 2 ^ 64
 IsSmallLook z Merged x = x * z.cells < 2 ^ 64
 IsSmallLook z word x = Unit {0}
 

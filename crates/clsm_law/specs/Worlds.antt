@@ -19,8 +19,8 @@ use Rattle.clsm_law.specs.Merging.{Facts, retired_region, epoch_end, target_of}
 -- ---- the history of a world's slots
 
 -- what the time came to; none where it is undecided or not drawn
-abbrev pub slot_at : List (Option Slot) → ℕ → Option Slot
-slot_at slots t = slice_index_or slots t None
+abbrev pub outcome_at : List (Option Slot) → ℕ → Option Slot
+outcome_at slots t = slice_index_or slots t None
 
 -- an undecided slot reads as nothing
 abbrev pub settled : List (Option Slot) → List Slot
@@ -53,7 +53,7 @@ is_padded z memory m = passes_from (λ t. memory (State (cell_of z t)) == 1) (me
 
 -- the heads of the retired region are 0
 abbrev pub is_headless : Layout → Memory → MergerView → Bool
-is_headless z memory m = passes_from (λ shard. memory (Head (retired_region m) shard) == 0) 0 z.shards
+is_headless z memory m = passes_from (λ chain. memory (Head (retired_region m) chain) == 0) 0 z.chains
 
 -- the states of the retired region are 0, the cell's own apart
 abbrev pub is_last : Layout → Memory → MergerView → ℕ → Bool

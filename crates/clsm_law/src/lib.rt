@@ -2,6 +2,7 @@
 //! that every open step keeps.
 #![tactic(auto)]
 
+mod codes;
 mod items;
 mod layout;
 mod merger;
@@ -9,9 +10,12 @@ mod step;
 mod view;
 mod word;
 
+pub use codes::{
+    CANCELLED_CELL, EXCLUSIVE_HOLD, LAST_LIMIT, REMOVAL_CELL, UNDECIDED_CELL, VALUE_CELL,
+};
 pub use items::Items;
 pub use layout::Layout;
-pub use merger::{MergerView, Phase, Retiree, Round};
+pub use merger::{MergerView, Phase, Reader, Round};
 pub use step::{Answer, End, Event, Step, StepError};
 pub use view::{Mode, SnapshotState, View};
 pub use word::{Part, Word};

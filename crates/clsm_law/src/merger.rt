@@ -25,7 +25,7 @@ pub struct Round {
 /// What the merger found of a seat in this retirement. `==` and the hash leave the count out.
 #[derive(Clone, Copy, Debug)]
 #[derive_where(PartialEq, Eq, Hash)]
-pub struct Retiree {
+pub struct Reader {
     /// Its pin word as first noted.
     pub first_pin: Option<u64>,
     /// It holds nothing retired.
@@ -44,6 +44,9 @@ pub struct MergerView {
     pub merged: u64,
     /// It holds the lock exclusively; in this hold it cancelled an undrawn cell, moved the clock to the epoch's end, and moved the limit.
     pub exclusive: bool,
+    /// How often it took the lock, modulo 2^64.
+    #[derive_where(skip(EqHashOrd))]
+    pub holds: u64,
     pub padded: bool,
     pub clock_extended: bool,
     pub limit_extended: bool,
@@ -56,7 +59,7 @@ pub struct MergerView {
     /// The floors that the runs of this component and of the one before were merged with.
     pub merged_floor: Time,
     pub former_floor: Time,
-    pub retirees: Items<Retiree>,
+    pub readers: Items<Reader>,
 }
 
 impl Clone for MergerView {
@@ -65,7 +68,7 @@ impl Clone for MergerView {
     /// The same view. Refused for want of memory.
     fn clone(&self) -> Result<MergerView, AllocError> {
         Ok(MergerView {
-            retirees: self.retirees.clone()?,
+            readers: self.readers.clone()?,
             ..*self
         })
     }

@@ -45,7 +45,7 @@ pub enum Step {
     /// Store this in a word of a place that no reader searches.
     WriteRun(Word, u64),
     /// Store 0 in a head, and in a state, of the retired region.
-    ClearHead { region: u64, shard: u64 },
+    ClearHead { region: u64, chain: u64 },
     ClearState(u64),
     /// Store MERGED, one more merge.
     Publish,

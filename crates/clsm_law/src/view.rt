@@ -60,7 +60,8 @@ pub struct View {
     pub due: Time,
     pub calls: Items<CallRecord>,
     /// Modulo 2^64: entries into the lock; looks that found it held exclusively and entries that lost;
-    /// draws and links that lost; decides of the drawn time that lost.
+    /// draws and links that lost; decides of the drawn time that lost; own drawn times that it gave up;
+    /// times of other seats that it cancelled.
     #[derive_where(skip(EqHashOrd))]
     pub entries: u64,
     #[derive_where(skip(EqHashOrd))]
@@ -69,6 +70,10 @@ pub struct View {
     pub raced: u64,
     #[derive_where(skip(EqHashOrd))]
     pub overtaken: u64,
+    #[derive_where(skip(EqHashOrd))]
+    pub gave_up: u64,
+    #[derive_where(skip(EqHashOrd))]
+    pub cancelled: u64,
 }
 
 impl Clone for View {

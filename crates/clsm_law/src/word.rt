@@ -16,7 +16,7 @@ pub enum Word {
     /// 0, or one more than the time that the seat noted for its snapshot.
     Snap(u64),
     /// The first cell of a chain, plus 1; 0 for an empty chain.
-    Head { region: u64, shard: u64 },
+    Head { region: u64, chain: u64 },
     /// A part of a cell.
     Cell { cell: u64, part: Part },
     /// 0 empty, 1 cancelled, 2 set, 3 removed.

@@ -8,7 +8,7 @@ use Rattle.clsm_levels.specs.Entry.{of_key}
 use Rattle.clsm_levels.specs.Merge.{insert_entry, merged, kept, is_to_level_one, wanted}
 use Rattle.clsm_levels.specs.Rule.{sources}
 use Rattle.clsm_levels.specs.Run.{all_of}
-use Rattle.clsm_levels.specs.Pass.{KeysRise}
+use Rattle.clsm_levels.specs.Pass.{RisesByKey}
 use Rattle.clsm_levels.proofs.Every.{every_weaker, every-cond}
 use Rattle.clsm_levels.proofs.Searches.{SameByKey}
 
@@ -29,14 +29,14 @@ pub every-merged : (P : Entry → Type 0) (xs : List Entry) → AllByRecursion P
 every-merged P [] h = tt
 every-merged P (e ∷ es) h = every-insert P e (merged es) h.0 (every-merged P es h.1)
 
-keys_rise-insert : (e : Entry) (xs : List Entry) → KeysRise xs → KeysRise (insert_entry e xs)
+keys_rise-insert : (e : Entry) (xs : List Entry) → RisesByKey xs → RisesByKey (insert_entry e xs)
 keys_rise-insert e [] h = (tt, tt)
-keys_rise-insert e (x ∷ xs) h = elim (nat_lt x.key e.key) as (λ (t : Bool). nat_lt x.key e.key ≡ t → KeysRise (cond t (x ∷ insert_entry e xs) (e ∷ x ∷ xs))) [
+keys_rise-insert e (x ∷ xs) h = elim (nat_lt x.key e.key) as (λ (t : Bool). nat_lt x.key e.key ≡ t → RisesByKey (cond t (x ∷ insert_entry e xs) (e ∷ x ∷ xs))) [
   | true ↦ λ t. let lt = ltb-true x.key e.key t in (every-insert (λ y. x.key ≤ y.key) e xs (omega arith) h.0, keys_rise-insert e xs h.1)
   | false ↦ λ t. let le = ltb-false x.key e.key t in ((le, every_weaker (λ y. x.key ≤ y.key) (λ y. e.key ≤ y.key) (λ y l. omega arith) xs h.0), (h.0, h.1))
 ] refl
 
-pub keys_rise-merged : (xs : List Entry) → KeysRise (merged xs)
+pub keys_rise-merged : (xs : List Entry) → RisesByKey (merged xs)
 keys_rise-merged [] = tt
 keys_rise-merged (e ∷ es) = keys_rise-insert e (merged es) (keys_rise-merged es)
 

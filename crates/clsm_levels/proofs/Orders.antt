@@ -6,7 +6,7 @@ use Rattle.clsm_levels.specs.declared.entry.Entry.{Entry}
 use Rattle.clsm_levels.specs.Entry.{of_key, AreBelow, TimesFall, TimesFallByKey}
 use Rattle.clsm_levels.specs.Run.{ComesBefore, IsRun}
 use Rattle.clsm_levels.specs.Merge.{merged}
-use Rattle.clsm_levels.specs.Pass.{KeysRise}
+use Rattle.clsm_levels.specs.Pass.{RisesByKey}
 use Rattle.clsm_levels.proofs.Every.{every-append, every_weaker, every_both, every-cond, every-filter}
 use Rattle.clsm_levels.proofs.Searches.{of_key-append}
 use Rattle.clsm_levels.proofs.Merges.{keys_rise-merged, of_key-merged}
@@ -20,7 +20,7 @@ comes_before_time x y b e = grind arith
 comes_before_from : (x y : Entry) → x.key ≤ y.key → (y.key ≡ x.key → y.time < x.time) → ComesBefore x y
 comes_before_from x y le f = ⊎_elim (λ (e : y.key ≡ x.key). inr (sym e, f e)) (λ (ne : y.key ≡ x.key → ⊥). inl (omega arith)) (cases_eq y.key x.key)
 
-pub keys_rise-run : (xs : List Entry) → IsRun xs → KeysRise xs
+pub keys_rise-run : (xs : List Entry) → IsRun xs → RisesByKey xs
 keys_rise-run [] r = tt
 keys_rise-run (x ∷ xs) r = (every_weaker (ComesBefore x) (λ y. x.key ≤ y.key) (λ y b. comes_before_key x y b) xs r.0, keys_rise-run xs r.1)
 
@@ -46,7 +46,7 @@ older_behind x xs f =
     of_key_all (λ y. y.time < x.time) x.key xs mine.0
 
 -- rising keys and falling times in each key make a run
-pub run_from_keys : (xs : List Entry) → KeysRise xs → TimesFallByKey xs → IsRun xs
+pub run_from_keys : (xs : List Entry) → RisesByKey xs → TimesFallByKey xs → IsRun xs
 run_from_keys [] r f = tt
 run_from_keys (x ∷ xs) r f =
     (every_weaker (λ y. (x.key ≤ y.key) × (y.key ≡ x.key → y.time < x.time)) (ComesBefore x) (λ y b. comes_before_from x y b.0 b.1) xs (every_both (λ y. x.key ≤ y.key) (λ y. y.key ≡ x.key → y.time < x.time) xs r.0 (older_behind x xs (f x.key))), run_from_keys xs r.1 (λ k. times_fall_rest k x xs (f k)))

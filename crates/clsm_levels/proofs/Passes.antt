@@ -7,7 +7,7 @@ use Rattle.std.specs.List.{AllByRecursion}
 use Rattle.clsm_levels.specs.declared.entry.Entry.{Entry}
 use Rattle.clsm_levels.specs.Entry.{is_removal}
 use Rattle.clsm_levels.specs.Merge.{without_below, kept}
-use Rattle.clsm_levels.specs.Pass.{KeysRise, is_key, kept_after}
+use Rattle.clsm_levels.specs.Pass.{RisesByKey, is_key, kept_after}
 use Rattle.clsm_levels.proofs.Every.{every_weaker, every-filter}
 use Rattle.clsm_levels.proofs.Keeps.{unless_dropped, every-kept}
 
@@ -68,7 +68,7 @@ least_kept : (settled : Option ℕ) (f : ℕ) (one : Bool) (e : Entry) (es : Lis
 least_kept None f one e es h = tt
 least_kept (Some k) f one e es h = (h.0, every-kept (λ x. k ≤ x.key) f one es h.1)
 
-kept_after_settled : (settled : Option ℕ) (f : ℕ) (one : Bool) (es : List Entry) → KeysRise es → IsAtLeast settled es → kept_after settled f one es ≡ unhidden settled f (kept f one es)
+kept_after_settled : (settled : Option ℕ) (f : ℕ) (one : Bool) (es : List Entry) → RisesByKey es → IsAtLeast settled es → kept_after settled f one es ≡ unhidden settled f (kept f one es)
 kept_after_settled None f one [] rise least = refl
 kept_after_settled (Some k) f one [] rise least = refl
 kept_after_settled settled f one (e ∷ es) rise least =
@@ -84,5 +84,5 @@ kept_after_settled settled f one (e ∷ es) rise least =
     ] refl
 
 -- with nothing settled, one pass over entries by rising key finds what is kept
-pub kept_after-none : (f : ℕ) (one : Bool) (es : List Entry) → KeysRise es → kept_after None f one es ≡ kept f one es
+pub kept_after-none : (f : ℕ) (one : Bool) (es : List Entry) → RisesByKey es → kept_after None f one es ≡ kept f one es
 kept_after-none f one es rise = kept_after_settled None f one es rise tt

@@ -8,7 +8,7 @@ use Rattle.clsm_levels.specs.declared.entry.Entry.{Entry}
 use Rattle.clsm_levels.specs.declared.cursor.Cursor.{Cursor}
 use Rattle.clsm_levels.specs.Run.{all_of}
 use Rattle.clsm_levels.specs.Merge.{insert_entry, merged}
-use Rattle.clsm_levels.specs.Pass.{KeysRise, kept_after}
+use Rattle.clsm_levels.specs.Pass.{RisesByKey, kept_after}
 use Rattle.clsm_levels.specs.Cursors.{row_at, no_cursor, cursor_at, first_of, HeadsOf, rests, IsLeast, IsEmptied, AllRise}
 use Rattle.clsm_levels.proofs.Every.{every-append, every_weaker}
 use Rattle.clsm_levels.proofs.Merges.{every-merged}
@@ -22,13 +22,13 @@ merged_past : (e : Entry) (pre xs xs' : List Entry) → AllByRecursion (λ x. e.
 merged_past e [] xs xs' h m = m
 merged_past e (p ∷ ps) xs xs' h m = ap (λ (l : List Entry). insert_entry p l) (merged_past e ps xs xs' h.1 m) ∙ ap (λ (b : Bool). cond b (e ∷ insert_entry p (merged (ps ++ xs'))) (p ∷ e ∷ merged (ps ++ xs'))) (lt-ltb e.key p.key h.0)
 
-rises_drop : (n : ℕ) (xs : List Entry) → KeysRise xs → KeysRise (drop n xs)
+rises_drop : (n : ℕ) (xs : List Entry) → RisesByKey xs → RisesByKey (drop n xs)
 rises_drop zero xs h = h
 rises_drop (suc n) [] h = h
 rises_drop (suc n) (x ∷ xs) h = rises_drop n xs h.1
 
 -- all of a row are at or above a bound, where its first is
-from_first : (bound : ℕ) (xs : List Entry) → KeysRise xs → ((x : Entry) → first_of xs ≡ Some x → bound ≤ x.key) → AllByRecursion (λ x. bound ≤ x.key) xs
+from_first : (bound : ℕ) (xs : List Entry) → RisesByKey xs → ((x : Entry) → first_of xs ≡ Some x → bound ≤ x.key) → AllByRecursion (λ x. bound ≤ x.key) xs
 from_first bound [] r h = tt
 from_first bound (x ∷ xs) r h = let le = h x refl in (le, every_weaker (λ y. x.key ≤ y.key) (λ y. bound ≤ y.key) (λ y l. omega arith) xs r.0)
 
@@ -56,7 +56,7 @@ picks [] cursors i e next le r h least n = absurd (no_first _ e (sym (h i least.
 picks (row ∷ rows) [] i e next le r h least n = absurd (omega arith)
 picks (row ∷ rows) (c ∷ cs) zero e next le r h least n =
     let split : drop c.position row ≡ e ∷ drop (suc c.position) row = first_split c.position row e (sym (h 0 (omega arith)) ∙ least.1) in
-    let rest : AllByRecursion (λ x. e.key ≤ x.key) (drop (suc c.position) row) = (subst KeysRise split (rises_drop c.position row r.0)).0 in
+    let rest : AllByRecursion (λ x. e.key ≤ x.key) (drop (suc c.position) row) = (subst RisesByKey split (rises_drop c.position row r.0)).0 in
     let others : AllByRecursion (λ x. e.key ≤ x.key) (rests rows cs) = from_heads e.key rows cs (omega arith) r.1 (λ j lt. h (suc j) (omega arith)) (λ j x lt hd. (least.2 (suc j) x (omega arith) hd).0) in
     let at : next.position ≡ suc c.position = omega arith in
     ap (λ (l : List Entry). merged (l ++ rests rows cs)) split

@@ -9,7 +9,7 @@ use Rattle.std.specs.Ordering.{nat_cmp, is_lt}
 use Rattle.clsm_levels.specs.declared.entry.Entry.{Entry}
 use Rattle.clsm_levels.specs.Entry.{of_key}
 use Rattle.clsm_levels.specs.Merge.{merged}
-use Rattle.clsm_levels.specs.Pass.{KeysRise}
+use Rattle.clsm_levels.specs.Pass.{RisesByKey}
 use Rattle.clsm_levels.proofs.Every.{every_weaker}
 use Rattle.clsm_levels.proofs.Searches.{SameByKey}
 use Rattle.clsm_levels.proofs.Merges.{keys_rise-merged, of_key-merged}
@@ -18,7 +18,7 @@ pub every_at : (P : Entry → Type 0) (es : List Entry) → ((j : ℕ) (d : Entr
 every_at P [] h = tt
 every_at P (e ∷ es) h = (h 0 e (omega arith), every_at P es (λ j d lt. h (suc j) d (omega arith)))
 
-keys_rise-sorted : (es : List Entry) → IsNonDecreasingBy (λ e. e.key) es → KeysRise es
+keys_rise-sorted : (es : List Entry) → IsNonDecreasingBy (λ e. e.key) es → RisesByKey es
 keys_rise-sorted [] h = tt
 keys_rise-sorted (e ∷ es) h = (every_at (λ x. e.key ≤ x.key) es (λ j d lt. h 0 (suc j) d (omega arith) (omega arith)), keys_rise-sorted es (λ i j d le lt. h (suc i) (suc j) d (omega arith) (omega arith)))
 
@@ -40,7 +40,7 @@ of_key_here : (e : Entry) (es : List Entry) → of_key e.key (e ∷ es) ≡ e �
 of_key_here e es = ap (λ (b : Bool). cond b (e ∷ of_key e.key es) (of_key e.key es)) (eq-eqb e.key e.key refl)
 
 -- the first key of one is not below that of the other
-first_key : (x y : Entry) (xs ys : List Entry) → KeysRise (y ∷ ys) → SameByKey (x ∷ xs) (y ∷ ys) → y.key ≤ x.key
+first_key : (x y : Entry) (xs ys : List Entry) → RisesByKey (y ∷ ys) → SameByKey (x ∷ xs) (y ∷ ys) → y.key ≤ x.key
 first_key x y xs ys rise same = ⊎_elim
     (λ (lt : x.key < y.key).
     let none : of_key x.key (y ∷ ys) ≡ [] = none_of_key x.key (y ∷ ys) (lt, every_weaker (λ e. y.key ≤ e.key) (λ e. x.key < e.key) (λ e l. omega arith) ys rise.0) in
@@ -50,7 +50,7 @@ first_key x y xs ys rise same = ⊎_elim
     (cases_lt x.key y.key)
 
 -- two lists by rising key with the same entries of each key in the same order are equal
-pub same_by_key_equal : (xs ys : List Entry) → KeysRise xs → KeysRise ys → SameByKey xs ys → xs ≡ ys
+pub same_by_key_equal : (xs ys : List Entry) → RisesByKey xs → RisesByKey ys → SameByKey xs ys → xs ≡ ys
 same_by_key_equal [] [] r q same = refl
 same_by_key_equal [] (y ∷ ys) r q same = let clash : [] ≡ y ∷ of_key y.key ys = same y.key ∙ of_key_here y ys in absurd (cc clash)
 same_by_key_equal (x ∷ xs) [] r q same = let clash : x ∷ of_key x.key xs ≡ [] = sym (of_key_here x xs) ∙ same x.key in absurd (cc clash)

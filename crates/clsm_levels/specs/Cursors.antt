@@ -3,7 +3,7 @@ use Rattle.std.specs.Prelude.{◌≡◌, ℕ, ◌<◌, ◌≤◌, List, [], ◌�
 use Rattle.std.specs.List.{AllByRecursion}
 use Rattle.clsm_levels.specs.declared.entry.Entry.{Entry}
 use Rattle.clsm_levels.specs.declared.cursor.Cursor.{Cursor}
-use Rattle.clsm_levels.specs.Pass.{KeysRise}
+use Rattle.clsm_levels.specs.Pass.{RisesByKey}
 
 -- the row with this number
 abbrev pub row_at : List (List Entry) → ℕ → List Entry
@@ -42,4 +42,4 @@ IsEmptied cursors n = (j : ℕ) → j < n → (cursor_at cursors j).head ≡ Non
 
 -- each row is by rising key
 abbrev pub AllRise : List (List Entry) → Type 0
-AllRise rows = AllByRecursion KeysRise rows
+AllRise rows = AllByRecursion RisesByKey rows

@@ -5,9 +5,9 @@ use Rattle.clsm_levels.specs.declared.entry.Entry.{Entry}
 use Rattle.clsm_levels.specs.Entry.{is_removal}
 
 -- by rising key
-abbrev pub KeysRise : List Entry → Type 0
-KeysRise [] = Unit {0}
-KeysRise (e ∷ es) = AllByRecursion (λ x. e.key ≤ x.key) es × KeysRise es
+abbrev pub RisesByKey : List Entry → Type 0
+RisesByKey [] = Unit {0}
+RisesByKey (e ∷ es) = AllByRecursion (λ x. e.key ≤ x.key) es × RisesByKey es
 
 -- the key is there, and it is this one
 abbrev pub is_key : Option ℕ → ℕ → Bool

@@ -2,7 +2,7 @@ ghost use Rattle.std.specs.Prelude.{◌≡◌, ◌≢◌, ◌%◌, ◌≤◌, Li
 ghost use Rattle.clsm_levels.specs.declared.entry.Entry.{Entry};
 ghost use Rattle.clsm_levels.specs.Merge.{kept, merged, wanted};
 ghost use Rattle.clsm_levels.specs.Rule.{sources, KeepsByRule, MakesNext};
-ghost use Rattle.clsm_levels.specs.Pass.{KeysRise, kept_after};
+ghost use Rattle.clsm_levels.specs.Pass.{RisesByKey, kept_after};
 
 use crate::entry::Entry;
 use std::alloc::{AllocError, Global};
@@ -33,7 +33,7 @@ fn kept(
     to_level_one: bool,
     entries: &[Entry],
 ) -> Result<Vec<Entry>, AllocError>
-    requires { KeysRise entries.now }
+    requires { RisesByKey entries.now }
     ensures { IfOk result (λ run. run.items ≡ kept floor to_level_one entries.now) }
 {
     let mut run = Vec::new(alloc);

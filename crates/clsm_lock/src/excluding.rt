@@ -2,25 +2,25 @@
 ghost use Rattle.std.specs.Prelude.{◌≡◌, true, false};
 ghost use Rattle.clsm_law.specs.declared.step.Step.TheVariants.{LeaveExclusive};
 ghost use Rattle.clsm_law.specs.Merging.{is_clean, is_freeze_whole};
-ghost use Rattle.clsm_words.specs.Plays.{IsSeatOf, Merges};
+ghost use Rattle.clsm_words.specs.Plays.{IsSeatOf, PlaysAsMerger};
 ghost use Rattle.clsm_lock.specs.Keeping.{EntersAlone};
 
 use clsm_law::Answer;
-use clsm_words::{Pace, RawMerger, Steps};
+use clsm_words::{Pace, RawMerger, Words};
 use std::sync::Wait;
 use std::thread;
 
 /// Holds the lock alone, and waits for that as long as it takes. Nothing is frozen then. While the merger holds it no caller does (a clause of
 /// the law that the words keep), so no time is drawn, and what each time came to is known to the merger.
-pub fn exclusive<P: Pace, R: Wait>(rt: &R, steps: &Steps<P>, merger: &mut RawMerger)
-    requires of { IsSeatOf steps.now.words.now merger.old }
+pub fn lock_exclusive<P: Pace, R: Wait>(rt: &R, words: &Words<P>, merger: &mut RawMerger)
+    requires of { IsSeatOf words.now merger.old }
     requires clean { is_clean merger.old.knows.merger.phase ≡ true }
     requires free { merger.old.knows.merger.exclusive ≡ false }
-    ensures of { IsSeatOf steps.now.words.now merger.new }
+    ensures of { IsSeatOf words.now merger.new }
     ensures entered { EntersAlone merger.old.knows merger.new.knows }
 {
     for _ in rt.forever() {
-        if steps.enter_exclusive(merger) == Answer::Done {
+        if words.enter_exclusive(merger) == Answer::Done {
             merger.is_sound();
             return;
         }
@@ -30,11 +30,11 @@ pub fn exclusive<P: Pace, R: Wait>(rt: &R, steps: &Steps<P>, merger: &mut RawMer
 }
 
 /// Leaves the lock that the merger holds. A freeze that it began is whole. It never waits and is never refused.
-pub fn leave_exclusive<P: Pace>(steps: &Steps<P>, merger: &mut RawMerger)
-    requires of { IsSeatOf steps.now.words.now merger.old }
+pub fn unlock_exclusive<P: Pace>(words: &Words<P>, merger: &mut RawMerger)
+    requires of { IsSeatOf words.now merger.old }
     requires holds { merger.old.knows.merger.exclusive ≡ true }
     requires whole { is_freeze_whole merger.old.knows.merger ≡ true }
-    ensures { Merges steps.now.words.now merger.old LeaveExclusive merger.new }
+    ensures { PlaysAsMerger words.now merger.old LeaveExclusive merger.new }
 {
-    steps.leave_exclusive(merger);
+    words.leave_exclusive(merger);
 }

@@ -3,8 +3,6 @@
 
 mod excluding;
 mod sharing;
-#[cfg(test)]
-mod tests;
 
-pub use excluding::{exclusive, leave_exclusive};
-pub use sharing::{Busy, leave, shared, try_shared};
+pub use excluding::{lock_exclusive, unlock_exclusive};
+pub use sharing::{Busy, lock_shared, try_lock_shared, unlock_shared};

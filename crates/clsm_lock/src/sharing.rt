@@ -5,8 +5,8 @@ ghost use Rattle.clsm_law.specs.Relation.{next_word};
 ghost use Rattle.clsm_words.specs.Plays.{IsSeatOf};
 ghost use Rattle.clsm_lock.specs.Keeping.{Enters, StaysOut, Leaves};
 
-use clsm_law::{Answer, Word};
-use clsm_words::{Pace, RawSeat, Steps};
+use clsm_law::{Answer, EXCLUSIVE_HOLD, Word};
+use clsm_words::{Pace, RawSeat, Words};
 use std::sync::Wait;
 use std::thread;
 use thiserror::Error;
@@ -16,28 +16,26 @@ use thiserror::Error;
 #[error("busy")]
 pub struct Busy;
 
-/// A shared holder's word is below it; an exclusive holder's is this.
-const EXCLUSIVE: u64 = 1 << 32;
-
 /// Tries once to hold the lock shared: one look at it, and one exchange where the look finds no exclusive holder.
 /// It never waits. With `Ok` the seat holds the lock, in a hold in which it has looked at nothing yet.
 /// Refused with `Busy` where the look finds an exclusive holder, or the exchange finds that others entered or left since; the seat
 /// is then as it was, but that its count of such refusals has moved by one.
-pub fn try_shared<P: Pace>(steps: &Steps<P>, seat: &mut RawSeat) -> Result<(), Busy>
-    requires of { IsSeatOf steps.now.words.now seat.old }
+pub fn try_lock_shared<P: Pace>(words: &Words<P>, seat: &mut RawSeat) -> Result<(), Busy>
+    requires of { IsSeatOf words.now seat.old }
     requires free { seat.old.knows.view.mode ≡ Free }
-    ensures of { IsSeatOf steps.now.words.now seat.new }
+    ensures of { IsSeatOf words.now seat.new }
     ensures entered { OnOk result (Enters seat.old.knows seat.new.knows) }
     ensures uncounted { OnOk result (seat.new.knows.view.busy ≡ seat.old.knows.view.busy) }
     ensures out { OnErr result (StaysOut seat.old.knows seat.new.knows) }
     ensures counted { OnErr result (seat.new.knows.view.busy ≡ next_word seat.old.knows.view.busy) }
+    ensures unlooked { OnErr result (seat.new.knows.view.fresh_lock ≡ None) }
 {
     seat.is_sound();
-    let holders = steps.look(seat, Word::Lock);
-    if holders >= EXCLUSIVE {
+    let holders = words.look(seat, Word::Lock);
+    if holders >= EXCLUSIVE_HOLD {
         return Err(Busy);
     }
-    match steps.enter_shared(seat, holders) {
+    match words.enter_shared(seat, holders) {
         Answer::Done => Ok(()),
         _ => Err(Busy),
     }
@@ -45,14 +43,14 @@ pub fn try_shared<P: Pace>(steps: &Steps<P>, seat: &mut RawSeat) -> Result<(), B
 
 /// Holds the lock shared, and waits for that as long as it takes. The seat then holds the lock,
 /// in a hold in which it has looked at nothing yet.
-pub fn shared<P: Pace, R: Wait>(rt: &R, steps: &Steps<P>, seat: &mut RawSeat)
-    requires of { IsSeatOf steps.now.words.now seat.old }
+pub fn lock_shared<P: Pace, R: Wait>(rt: &R, words: &Words<P>, seat: &mut RawSeat)
+    requires of { IsSeatOf words.now seat.old }
     requires free { seat.old.knows.view.mode ≡ Free }
-    ensures of { IsSeatOf steps.now.words.now seat.new }
+    ensures of { IsSeatOf words.now seat.new }
     ensures entered { Enters seat.old.knows seat.new.knows }
 {
     for _ in rt.forever() {
-        if try_shared(steps, seat).is_ok() {
+        if try_lock_shared(words, seat).is_ok() {
             return;
         }
         thread::yield_now();
@@ -62,13 +60,13 @@ pub fn shared<P: Pace, R: Wait>(rt: &R, steps: &Steps<P>, seat: &mut RawSeat)
 
 /// Leaves the lock that the seat holds shared. The seat has drawn no time that it has not decided or given up. It never waits and is
 /// never refused.
-pub fn leave<P: Pace>(steps: &Steps<P>, seat: &mut RawSeat)
-    requires of { IsSeatOf steps.now.words.now seat.old }
+pub fn unlock_shared<P: Pace>(words: &Words<P>, seat: &mut RawSeat)
+    requires of { IsSeatOf words.now seat.old }
     requires holds { seat.old.knows.view.mode ≡ Shared }
     requires undrawn { seat.old.knows.view.drawn ≡ None }
-    ensures of { IsSeatOf steps.now.words.now seat.new }
+    ensures of { IsSeatOf words.now seat.new }
     ensures left { Leaves seat.old.knows seat.new.knows }
 {
     seat.is_sound();
-    steps.leave_shared(seat);
+    words.leave_shared(seat);
 }

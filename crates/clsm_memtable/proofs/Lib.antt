@@ -5,3 +5,4 @@ pub mod Values
 pub mod Chains
 pub mod NewestWrites
 pub mod FrozenTimes
+pub mod Fillings

@@ -1,18 +1,7 @@
--- The words of a value in their eight places, and places that are filled one after another.
+-- Places that are filled one after another.
 use Rattle.std.proofs.Common.{◌≡◌, ℕ, zero, suc, ◌+◌, ◌<◌, List, [], ◌∷◌, ◌++◌, length, map, take, set, get_or, replicate, refl, ap, sym, ◌∙◌, true, Option, Some}
 use Rattle.std.proofs.lemmas.List.{take_more_set, map_more}
 use Rattle.clsm_law.specs.Relation.{is_all_some}
-
-zeros_at : (n i : ℕ) → get_or (replicate {A = ℕ} n 0) i 0 ≡ 0
-zeros_at zero i = refl
-zeros_at (suc n) zero = refl
-zeros_at (suc n) (suc i) = zeros_at n i
-
--- behind the words there are zeros
-pub padded_at : (ws : List ℕ) (n i : ℕ) → get_or (ws ++ replicate n 0) i 0 ≡ get_or ws i 0
-padded_at [] n i = zeros_at n i
-padded_at (w ∷ ws) n zero = refl
-padded_at (w ∷ ws) n (suc i) = padded_at ws n i
 
 -- one place more is filled
 pub fill_more : (xs : List (Option ℕ)) (ws : List ℕ) (i : ℕ) → i < length xs → i < length ws → take i xs ≡ map (λ w. Some w) (take i ws) → take (i + 1) (set xs i (Some (get_or ws i 0))) ≡ map (λ w. Some w) (take (i + 1) ws)

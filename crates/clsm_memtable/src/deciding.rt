@@ -2,15 +2,15 @@
 ghost use Rattle.std.specs.Prelude.{◌≡◌, Some};
 ghost use Rattle.clsm_law.specs.declared.step.Step.TheVariants.{Decide};
 ghost use Rattle.clsm_words.specs.Plays.{IsSeatOf, MayPlay};
-ghost use Rattle.clsm_memtable.specs.Writing.{Publishes, GivesUp};
+ghost use Rattle.clsm_memtable.specs.Writing.{Decides, GivesUp};
 
 use clsm_law::Answer;
 use clsm_model::{Deed, Time};
-use clsm_words::{Pace, RawSeat, Steps};
+use clsm_words::{Pace, RawSeat, Words};
 
 /// What came of a decide.
 #[derive(Clone, Copy, PartialEq, Eq, Debug)]
-pub enum Published {
+pub enum Decided {
     /// The write stands at its time.
     Done,
     /// Somebody cancelled the time first: no write has it.
@@ -20,26 +20,27 @@ pub enum Published {
 /// Decides the drawn time, whose cell is linked and says the deed's write: one exchange. With `Done` the write stands, the call is
 /// recorded at the time, and later calls of the seat have later times. With `Overtaken` somebody had cancelled the time: nothing
 /// is recorded, and the seat's count of such times has moved by one. Either way the time is no longer the seat's. It never waits.
-pub fn publish<P: Pace>(steps: &Steps<P>, seat: &mut RawSeat, time: Time, deed: &Deed) -> Published
-    requires { MayPlay steps.now.words.now seat.old (Decide time deed.now) }
-    ensures of { IsSeatOf steps.now.words.now seat.new }
-    ensures published { Publishes seat.old.knows seat.new.knows time deed.now result }
+pub fn decide<P: Pace>(words: &Words<P>, seat: &mut RawSeat, time: Time, deed: &Deed) -> Decided
+    requires { MayPlay words.now seat.old (Decide time deed.now) }
+    ensures of { IsSeatOf words.now seat.new }
+    ensures decided { Decides seat.old.knows seat.new.knows time deed.now result }
 {
     seat.is_sound();
-    match steps.decide(seat, time, deed) {
-        Answer::Done => Published::Done,
-        _ => Published::Overtaken,
+    match words.decide(seat, time, deed) {
+        Answer::Done => Decided::Done,
+        _ => Decided::Overtaken,
     }
 }
 
 /// Gives up the drawn time, linked or not: one exchange, after which no write has the time. Nothing is recorded. It never waits
-/// and is never refused; where somebody else had cancelled the time, the seat's count of such times has moved by one.
-pub fn give_up<P: Pace>(steps: &Steps<P>, seat: &mut RawSeat, time: Time)
-    requires of { IsSeatOf steps.now.words.now seat.old }
+/// and is never refused; either the seat's count of times given up has moved by one, or, where somebody else had cancelled the time, its count
+/// of those.
+pub fn give_up<P: Pace>(words: &Words<P>, seat: &mut RawSeat, time: Time)
+    requires of { IsSeatOf words.now seat.old }
     requires drawn { seat.old.knows.view.drawn ≡ Some time }
-    ensures of { IsSeatOf steps.now.words.now seat.new }
+    ensures of { IsSeatOf words.now seat.new }
     ensures given_up { GivesUp seat.old.knows seat.new.knows time }
 {
     seat.is_sound();
-    steps.cancel(seat, time);
+    words.cancel(seat, time);
 }

@@ -6,7 +6,7 @@ ghost use Rattle.clsm_memtable.specs.Writing.{IsUnnoted, Draws, RefusesDraw};
 
 use clsm_law::{Answer, Word};
 use clsm_model::Time;
-use clsm_words::{Pace, RawSeat, Steps};
+use clsm_words::{Pace, RawSeat, Words};
 use thiserror::Error;
 
 /// Why a seat drew no time.
@@ -25,22 +25,22 @@ pub enum DrawError {
 /// Refused with `Full` where the clock is at the limit: there is no time before the next freeze. Refused with `Raced` where another
 /// seat drew the time first: the seat's count of such refusals has then moved by one. After a refusal it has drawn nothing, and its
 /// calls are where they were. It never waits.
-pub fn draw<P: Pace>(steps: &Steps<P>, seat: &mut RawSeat) -> Result<Time, DrawError>
-    requires of { IsSeatOf steps.now.words.now seat.old }
+pub fn draw<P: Pace>(words: &Words<P>, seat: &mut RawSeat) -> Result<Time, DrawError>
+    requires of { IsSeatOf words.now seat.old }
     requires holds { seat.old.knows.view.mode ≡ Shared }
     requires undrawn { seat.old.knows.view.drawn ≡ None }
     requires unnoted { IsUnnoted seat.old.knows.view.snapshot }
-    ensures of { IsSeatOf steps.now.words.now seat.new }
+    ensures of { IsSeatOf words.now seat.new }
     ensures drawn { IfOk result (λ time. Draws seat.old.knows seat.new.knows time) }
     ensures refused { IfErr result (λ refusal. RefusesDraw seat.old.knows seat.new.knows refusal) }
 {
     seat.is_sound();
-    let limit = steps.look(seat, Word::Limit);
-    let time = steps.look(seat, Word::Clock);
+    let limit = words.look(seat, Word::Limit);
+    let time = words.look(seat, Word::Clock);
     if time >= limit {
         return Err(DrawError::Full(time));
     }
-    match steps.draw(seat, time) {
+    match words.draw(seat, time) {
         Answer::Done => Ok(time),
         _ => Err(DrawError::Raced),
     }

@@ -10,10 +10,8 @@ mod linking;
 mod reading;
 mod searching;
 mod settling;
-#[cfg(test)]
-mod tests;
 
-pub use deciding::{Published, give_up, publish};
+pub use deciding::{Decided, decide, give_up};
 pub use drawing::{DrawError, draw};
 pub use filling::fill;
 pub use found::Found;

@@ -7,7 +7,7 @@ ghost use Rattle.clsm_memtable.specs.Filling.{Links, StaysUnlinked};
 
 use clsm_law::{Answer, Part};
 use clsm_model::Time;
-use clsm_words::{Pace, RawSeat, Steps};
+use clsm_words::{Pace, RawSeat, Words};
 use std::sync::Wait;
 use std::thread;
 use thiserror::Error;
@@ -22,25 +22,25 @@ pub struct Raced;
 /// Refused with `Raced` where another cell was linked there since the look: the seat's count of such refusals has then moved by one, and
 /// the cell is as it was, but for its next. A walk of a chain that the seat had begun is ended. It never waits.
 pub fn try_link<P: Pace>(
-    steps: &Steps<P>,
+    words: &Words<P>,
     seat: &mut RawSeat,
     time: Time,
     key: u64,
 ) -> Result<(), Raced>
-    requires of { IsSeatOf steps.now.words.now seat.old }
+    requires of { IsSeatOf words.now seat.old }
     requires holds { seat.old.knows.view.mode ≡ Shared }
     requires limit { seat.old.knows.view.hold_limit ≢ None }
     requires filled { IsFilled seat.old.knows.view time key }
-    ensures of { IsSeatOf steps.now.words.now seat.new }
+    ensures of { IsSeatOf words.now seat.new }
     ensures linked { OnOk result (Links seat.old.knows seat.new.knows) }
     ensures uncounted { OnOk result (seat.new.knows.view.raced ≡ seat.old.knows.view.raced) }
     ensures raced { OnErr result (StaysUnlinked seat.old.knows seat.new.knows) }
     ensures counted { OnErr result (seat.new.knows.view.raced ≡ next_word seat.old.knows.view.raced) }
 {
     seat.is_sound();
-    let head = steps.look(seat, steps.words.head_of(time, key));
-    steps.fill(seat, time, Part::Next, head);
-    match steps.link(seat, time, key, head) {
+    let head = words.look(seat, words.head_of(time, key));
+    words.fill(seat, time, Part::Next, head);
+    match words.link(seat, time, key, head) {
         Answer::Done => Ok(()),
         _ => Err(Raced),
     }
@@ -48,16 +48,16 @@ pub fn try_link<P: Pace>(
 
 /// Links the drawn cell, and tries until it is linked, as long as that takes. Each try that lost has moved the seat's count of such
 /// refusals by one. A walk of a chain that the seat had begun is ended.
-pub fn link<P: Pace, R: Wait>(rt: &R, steps: &Steps<P>, seat: &mut RawSeat, time: Time, key: u64)
-    requires of { IsSeatOf steps.now.words.now seat.old }
+pub fn link<P: Pace, R: Wait>(rt: &R, words: &Words<P>, seat: &mut RawSeat, time: Time, key: u64)
+    requires of { IsSeatOf words.now seat.old }
     requires holds { seat.old.knows.view.mode ≡ Shared }
     requires limit { seat.old.knows.view.hold_limit ≢ None }
     requires filled { IsFilled seat.old.knows.view time key }
-    ensures of { IsSeatOf steps.now.words.now seat.new }
+    ensures of { IsSeatOf words.now seat.new }
     ensures linked { Links seat.old.knows seat.new.knows }
 {
     for _ in rt.forever() {
-        if try_link(steps, seat, time, key).is_ok() {
+        if try_link(words, seat, time, key).is_ok() {
             return;
         }
         thread::yield_now();

@@ -10,38 +10,38 @@ ghost use Rattle.clsm_memtable.specs.Searching.{IsKnownTime, is_write, slot_in, 
 use crate::found::Found;
 use clsm_law::{Part, Word};
 use clsm_model::{Time, Value};
-use clsm_words::{Pace, RawSeat, Steps};
+use clsm_words::{Pace, RawSeat, Words};
 
 /// What the state of the time's cell is.
 #[inline]
 fn state<P: Pace>(
-    steps: &Steps<P>,
+    words: &Words<P>,
     seat: &mut RawSeat,
     component: u64,
     time: Time,
     cell: u64,
 ) -> u64
-    requires of { IsSeatOf steps.now.words.now seat.old }
+    requires of { IsSeatOf words.now seat.old }
     requires known { IsKnownTime seat.old.knows component time cell }
-    ensures of { IsSeatOf steps.now.words.now seat.new }
+    ensures of { IsSeatOf words.now seat.new }
     ensures looks { LooksAside seat.old.knows seat.new.knows }
     ensures told { result ≡ code_of (slot_in seat.old.knows time) }
 {
     seat.is_sound();
-    steps.look(seat, Word::State(cell))
+    words.look(seat, Word::State(cell))
 }
 
 /// What the key of the time's cell is.
 #[inline]
-fn key<P: Pace>(steps: &Steps<P>, seat: &mut RawSeat, component: u64, time: Time, cell: u64) -> u64
-    requires of { IsSeatOf steps.now.words.now seat.old }
+fn key<P: Pace>(words: &Words<P>, seat: &mut RawSeat, component: u64, time: Time, cell: u64) -> u64
+    requires of { IsSeatOf words.now seat.old }
     requires known { IsKnownTime seat.old.knows component time cell }
-    ensures of { IsSeatOf steps.now.words.now seat.new }
+    ensures of { IsSeatOf words.now seat.new }
     ensures looks { LooksAside seat.old.knows seat.new.knows }
     ensures told { IsPartOf (slot_in seat.old.knows time) Key result }
 {
     seat.is_sound();
-    steps.look(
+    words.look(
         seat,
         Word::Cell {
             cell,
@@ -53,20 +53,20 @@ fn key<P: Pace>(steps: &Steps<P>, seat: &mut RawSeat, component: u64, time: Time
 /// What the length of the time's cell is.
 #[inline]
 fn length<P: Pace>(
-    steps: &Steps<P>,
+    words: &Words<P>,
     seat: &mut RawSeat,
     component: u64,
     time: Time,
     cell: u64,
 ) -> u64
-    requires of { IsSeatOf steps.now.words.now seat.old }
+    requires of { IsSeatOf words.now seat.old }
     requires known { IsKnownTime seat.old.knows component time cell }
-    ensures of { IsSeatOf steps.now.words.now seat.new }
+    ensures of { IsSeatOf words.now seat.new }
     ensures looks { LooksAside seat.old.knows seat.new.knows }
     ensures told { IsPartOf (slot_in seat.old.knows time) Length result }
 {
     seat.is_sound();
-    steps.look(
+    words.look(
         seat,
         Word::Cell {
             cell,
@@ -78,22 +78,22 @@ fn length<P: Pace>(
 /// What this one of the eight words of the time's cell is.
 #[inline]
 fn word<P: Pace>(
-    steps: &Steps<P>,
+    words: &Words<P>,
     seat: &mut RawSeat,
     component: u64,
     time: Time,
     cell: u64,
     index: u64,
 ) -> u64
-    requires of { IsSeatOf steps.now.words.now seat.old }
+    requires of { IsSeatOf words.now seat.old }
     requires known { IsKnownTime seat.old.knows component time cell }
     requires inside { index < 8 }
-    ensures of { IsSeatOf steps.now.words.now seat.new }
+    ensures of { IsSeatOf words.now seat.new }
     ensures looks { LooksAside seat.old.knows seat.new.knows }
     ensures told { IsPartOf (slot_in seat.old.knows time) (WordOf index) result }
 {
     seat.is_sound();
-    steps.look(
+    words.look(
         seat,
         Word::Cell {
             cell,
@@ -104,26 +104,26 @@ fn word<P: Pace>(
 
 /// The value of a time that sets one.
 fn value<P: Pace>(
-    steps: &Steps<P>,
+    words: &Words<P>,
     seat: &mut RawSeat,
     component: u64,
     time: Time,
     cell: u64,
 ) -> Value
-    requires of { IsSeatOf steps.now.words.now seat.old }
+    requires of { IsSeatOf words.now seat.old }
     requires known { IsKnownTime seat.old.knows component time cell }
     requires set { code_of (slot_in seat.old.knows time) ≡ 2 }
-    ensures of { IsSeatOf steps.now.words.now seat.new }
+    ensures of { IsSeatOf words.now seat.new }
     ensures looks { LooksAside seat.old.knows seat.new.knows }
     ensures told { value_in (slot_in seat.old.knows time) ≡ Some result }
 {
     seat.is_sound();
-    let count = length(steps, seat, component, time, cell) as usize;
-    let mut words = [0; 8];
+    let count = length(words, seat, component, time, cell) as usize;
+    let mut read = [0; 8];
     for index in 0..count {
-        words[index] = word(steps, seat, component, time, cell, index as u64);
+        read[index] = word(words, seat, component, time, cell, index as u64);
     }
-    match Value::new(&words[..count]) {
+    match Value::new(&read[..count]) {
         Ok(value) => value,
         Err(_) => unreachable!(),
     }
@@ -131,21 +131,21 @@ fn value<P: Pace>(
 
 /// What the time came to, as far as its key is concerned: the value that it sets, or none.
 pub(crate) fn found<P: Pace>(
-    steps: &Steps<P>,
+    words: &Words<P>,
     seat: &mut RawSeat,
     component: u64,
     time: Time,
     cell: u64,
 ) -> Found
-    requires of { IsSeatOf steps.now.words.now seat.old }
+    requires of { IsSeatOf words.now seat.old }
     requires known { IsKnownTime seat.old.knows component time cell }
-    ensures of { IsSeatOf steps.now.words.now seat.new }
+    ensures of { IsSeatOf words.now seat.new }
     ensures looks { LooksAside seat.old.knows seat.new.knows }
     ensures time { result.time ≡ time }
     ensures value { result.value ≡ value_in (slot_in seat.old.knows time) }
 {
-    let value = match state(steps, seat, component, time, cell) {
-        2 => Some(value(steps, seat, component, time, cell)),
+    let value = match state(words, seat, component, time, cell) {
+        2 => Some(value(words, seat, component, time, cell)),
         _ => None,
     };
     Found { time, value }
@@ -153,19 +153,19 @@ pub(crate) fn found<P: Pace>(
 
 /// Whether the time is a write of the key.
 pub(crate) fn is_write<P: Pace>(
-    steps: &Steps<P>,
+    words: &Words<P>,
     seat: &mut RawSeat,
     component: u64,
     time: Time,
     cell: u64,
     wanted: u64,
 ) -> bool
-    requires of { IsSeatOf steps.now.words.now seat.old }
+    requires of { IsSeatOf words.now seat.old }
     requires known { IsKnownTime seat.old.knows component time cell }
-    ensures of { IsSeatOf steps.now.words.now seat.new }
+    ensures of { IsSeatOf words.now seat.new }
     ensures looks { LooksAside seat.old.knows seat.new.knows }
     ensures told { result ≡ is_write wanted (slot_in seat.old.knows time) }
 {
-    state(steps, seat, component, time, cell) >= 2
-        && key(steps, seat, component, time, cell) == wanted
+    key(words, seat, component, time, cell) == wanted
+        && state(words, seat, component, time, cell) >= 2
 }

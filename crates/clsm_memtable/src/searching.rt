@@ -9,7 +9,7 @@ use crate::found::Found;
 use crate::reading::{found, is_write};
 use clsm_law::{Part, Word};
 use clsm_model::Time;
-use clsm_words::{Pace, RawSeat, Steps};
+use clsm_words::{Pace, RawSeat, Words};
 
 fn is_later(best: Option<Time>, time: Time) -> bool
     ensures { result ≡ is_later best time }
@@ -22,7 +22,7 @@ fn is_later(best: Option<Time>, time: Time) -> bool
 
 /// The best so far, or the time of this cell in the epoch that begins at `first`, where that is below `until`, later, and a write of the key.
 fn better<P: Pace>(
-    steps: &Steps<P>,
+    words: &Words<P>,
     seat: &mut RawSeat,
     component: u64,
     first: Time,
@@ -31,46 +31,50 @@ fn better<P: Pace>(
     cell: u64,
     best: Option<Time>,
 ) -> Option<Time>
-    requires of { IsSeatOf steps.now.words.now seat.old }
+    requires of { IsSeatOf words.now seat.old }
     requires held { seat.old.knows.view.held ≡ Some component }
     requires from { component * seat.old.knows.layout.cells ≤ first }
     requires begun { first < until }
     requires settled { until ≤ length seat.old.knows.past }
     requires place { cell_of seat.old.knows.layout (first + cell % seat.old.knows.layout.cells) ≡ cell }
-    ensures of { IsSeatOf steps.now.words.now seat.new }
+    ensures of { IsSeatOf words.now seat.new }
     ensures looks { LooksAside seat.old.knows seat.new.knows }
     ensures better { result ≡ better best (first + cell % seat.old.knows.layout.cells) until (is_write key (slot_in seat.old.knows (first + cell % seat.old.knows.layout.cells))) }
 {
-    let offset = cell % steps.words.layout.cells;
+    let offset = words.number_in_region(cell);
     if offset >= until - first {
         return best;
     }
     let time = first + offset;
-    if is_later(best, time) && is_write(steps, seat, component, time, cell, key) {
-        return Some(time);
+    if !is_later(best, time) {
+        return best;
     }
-    best
+    if is_write(words, seat, component, time, cell, key) {
+        Some(time)
+    } else {
+        best
+    }
 }
 
 /// What the next of the cell is, on whose time the seat's walk stands.
 #[inline]
-fn next_of<P: Pace>(steps: &Steps<P>, seat: &mut RawSeat, cell: u64) -> u64
-    requires of { IsSeatOf steps.now.words.now seat.old }
+fn next_of<P: Pace>(words: &Words<P>, seat: &mut RawSeat, cell: u64) -> u64
+    requires of { IsSeatOf words.now seat.old }
     requires held { seat.old.knows.view.held ≢ None }
     requires inside { cell < 2 * seat.old.knows.layout.cells }
-    ensures of { IsSeatOf steps.now.words.now seat.new }
+    ensures of { IsSeatOf words.now seat.new }
     ensures looks { Looks seat.old.knows seat.new.knows }
     ensures walks { GoesOn seat.old.knows cell result seat.new.knows }
 {
     seat.is_sound();
     let part = Part::Next;
-    steps.look(seat, Word::Cell { cell, part })
+    words.look(seat, Word::Cell { cell, part })
 }
 
 /// Walks along the chain of the epoch that begins at `first`, of which `next` leads to the first cell: the time of the newest write of the key
 /// below `until`.
 fn newest_ahead<P: Pace>(
-    steps: &Steps<P>,
+    words: &Words<P>,
     seat: &mut RawSeat,
     component: u64,
     first: Time,
@@ -78,33 +82,33 @@ fn newest_ahead<P: Pace>(
     key: u64,
     head: u64,
 ) -> Option<Time>
-    requires of { IsSeatOf steps.now.words.now seat.old }
+    requires of { IsSeatOf words.now seat.old }
     requires held { seat.old.knows.view.held ≡ Some component }
     requires from { component * seat.old.knows.layout.cells ≤ first }
     requires begun { first < until }
     requires settled { until ≤ length seat.old.knows.past }
     requires chain { IsOnChain seat.old.knows first head }
     requires ahead { IsWalked seat.old.knows.past seat.old.knows.layout.cells first key until None seat.old.knows.trail }
-    ensures of { IsSeatOf steps.now.words.now seat.new }
+    ensures of { IsSeatOf words.now seat.new }
     ensures looks { Looks seat.old.knows seat.new.knows }
     ensures newest { IsNewestTime seat.old.knows first key until result }
 {
     let mut next = head;
     let mut best = None;
-    for _ in 0..steps.words.layout.cells {
+    for _ in 0..words.cells() {
         if next == 0 {
             return best;
         }
         let cell = next - 1;
-        best = better(steps, seat, component, first, until, key, cell, best);
-        next = next_of(steps, seat, cell);
+        best = better(words, seat, component, first, until, key, cell, best);
+        next = next_of(words, seat, cell);
     }
     best
 }
 
 /// The time of the newest write of the key in the epoch that begins at `first`, below `until`.
 fn newest_time<P: Pace>(
-    steps: &Steps<P>,
+    words: &Words<P>,
     seat: &mut RawSeat,
     component: u64,
     epoch: u64,
@@ -112,23 +116,23 @@ fn newest_time<P: Pace>(
     until: Time,
     key: u64,
 ) -> Option<Time>
-    requires of { IsSeatOf steps.now.words.now seat.old }
+    requires of { IsSeatOf words.now seat.old }
     requires held { seat.old.knows.view.held ≡ Some component }
     requires may { MaySearch seat.old.knows epoch first until }
-    ensures of { IsSeatOf steps.now.words.now seat.new }
+    ensures of { IsSeatOf words.now seat.new }
     ensures looks { Looks seat.old.knows seat.new.knows }
     ensures newest { IsNewestTime seat.old.knows first key until result }
 {
     seat.is_sound();
-    let shard = key % steps.words.layout.shards;
+    let chain = words.chain_of(key);
     let region = epoch % 2;
-    let head = steps.look(seat, Word::Head { region, shard });
-    newest_ahead(steps, seat, component, first, until, key, head)
+    let head = words.look(seat, Word::Head { region, chain });
+    newest_ahead(words, seat, component, first, until, key, head)
 }
 
 /// The newest write of the key in the epoch that begins at `first`, below `until`.
 fn newest_in<P: Pace>(
-    steps: &Steps<P>,
+    words: &Words<P>,
     seat: &mut RawSeat,
     component: u64,
     epoch: u64,
@@ -136,19 +140,19 @@ fn newest_in<P: Pace>(
     until: Time,
     key: u64,
 ) -> Option<Found>
-    requires of { IsSeatOf steps.now.words.now seat.old }
+    requires of { IsSeatOf words.now seat.old }
     requires held { seat.old.knows.view.held ≡ Some component }
     requires may { MayLookInto seat.old.knows epoch first until }
-    ensures of { IsSeatOf steps.now.words.now seat.new }
+    ensures of { IsSeatOf words.now seat.new }
     ensures looks { Looks seat.old.knows seat.new.knows }
     ensures newest { IsNewestIn seat.old.knows first key until result }
 {
     if first >= until {
         return None;
     }
-    let time = newest_time(steps, seat, component, epoch, first, until, key)?;
-    let cell = steps.words.cell_of(time);
-    Some(found(steps, seat, component, time, cell))
+    let time = newest_time(words, seat, component, epoch, first, until, key)?;
+    let cell = words.cell_of(time);
+    Some(found(words, seat, component, time, cell))
 }
 
 /// The newest write of the key below `until` in the two epochs of the held component: by the key's chain of the later epoch, which is walked
@@ -156,26 +160,26 @@ fn newest_in<P: Pace>(
 /// the component's first time; it may be in the runs. Each time below `until` has to be settled. It never waits, takes no memory and is never
 /// refused. A walk of a chain that the seat had begun is ended.
 pub fn newest<P: Pace>(
-    steps: &Steps<P>,
+    words: &Words<P>,
     seat: &mut RawSeat,
     component: u64,
     key: u64,
     until: Time,
 ) -> Option<Found>
-    requires of { IsSeatOf steps.now.words.now seat.old }
+    requires of { IsSeatOf words.now seat.old }
     requires held { seat.old.knows.view.held ≡ Some component }
     requires within { until ≤ (component + 2) * seat.old.knows.layout.cells }
     requires settled { until ≤ length seat.old.knows.past }
-    ensures of { IsSeatOf steps.now.words.now seat.new }
+    ensures of { IsSeatOf words.now seat.new }
     ensures looks { Looks seat.old.knows seat.new.knows }
     ensures newest { IsNewest seat.old.knows component key until result }
 {
-    let cells = steps.words.layout.cells;
+    let cells = words.cells();
     let first = component.saturating_mul(cells);
     let second = first.saturating_add(cells);
     let later = component.saturating_add(1);
-    match newest_in(steps, seat, component, later, second, until, key) {
+    match newest_in(words, seat, component, later, second, until, key) {
         Some(found) => Some(found),
-        None => newest_in(steps, seat, component, component, first, until, key),
+        None => newest_in(words, seat, component, component, first, until, key),
     }
 }

@@ -6,41 +6,41 @@ ghost use Rattle.clsm_memtable.specs.Settled.{MaySettle, MaySettleBelow};
 
 use clsm_law::Word;
 use clsm_model::Time;
-use clsm_words::{Pace, RawSeat, Steps};
+use clsm_words::{Pace, RawSeat, Words};
 
 /// Looks once at the time's state. Answers whether it is decided.
-fn is_decided<P: Pace>(steps: &Steps<P>, seat: &mut RawSeat, component: u64, time: Time) -> bool
-    requires of { IsSeatOf steps.now.words.now seat.old }
+fn is_decided<P: Pace>(words: &Words<P>, seat: &mut RawSeat, component: u64, time: Time) -> bool
+    requires of { IsSeatOf words.now seat.old }
     requires may { MaySettle seat.old.knows component time }
     requires reached { time ≤ seat.old.knows.view.reached }
-    ensures of { IsSeatOf steps.now.words.now seat.new }
+    ensures of { IsSeatOf words.now seat.new }
     ensures keeps { OnlyReads seat.old.knows seat.new.knows }
     ensures found { result ≡ true → time + 1 ≤ seat.new.knows.view.reached }
 {
-    let cell = steps.words.cell_of(time);
-    steps.look(seat, Word::State(cell)) != 0
+    let cell = words.cell_of(time);
+    words.look(seat, Word::State(cell)) != 0
 }
 
 /// Looks at the time's state, and up to `patience` times more while it is undecided. Answers whether it is decided.
 fn is_found_decided<P: Pace>(
-    steps: &Steps<P>,
+    words: &Words<P>,
     seat: &mut RawSeat,
     component: u64,
     time: Time,
     patience: u64,
 ) -> bool
-    requires of { IsSeatOf steps.now.words.now seat.old }
+    requires of { IsSeatOf words.now seat.old }
     requires may { MaySettle seat.old.knows component time }
     requires reached { time ≤ seat.old.knows.view.reached }
-    ensures of { IsSeatOf steps.now.words.now seat.new }
+    ensures of { IsSeatOf words.now seat.new }
     ensures keeps { OnlyReads seat.old.knows seat.new.knows }
     ensures found { result ≡ true → time + 1 ≤ seat.new.knows.view.reached }
 {
-    if is_decided(steps, seat, component, time) {
+    if is_decided(words, seat, component, time) {
         return true;
     }
     for _ in 0..patience {
-        if is_decided(steps, seat, component, time) {
+        if is_decided(words, seat, component, time) {
             return true;
         }
     }
@@ -48,16 +48,16 @@ fn is_found_decided<P: Pace>(
 }
 
 /// Settles the time: waits for its writer so long, and cancels it then.
-fn settle<P: Pace>(steps: &Steps<P>, seat: &mut RawSeat, component: u64, time: Time, patience: u64)
-    requires of { IsSeatOf steps.now.words.now seat.old }
+fn settle<P: Pace>(words: &Words<P>, seat: &mut RawSeat, component: u64, time: Time, patience: u64)
+    requires of { IsSeatOf words.now seat.old }
     requires may { MaySettle seat.old.knows component time }
     requires reached { time ≤ seat.old.knows.view.reached }
-    ensures of { IsSeatOf steps.now.words.now seat.new }
+    ensures of { IsSeatOf words.now seat.new }
     ensures keeps { OnlyReads seat.old.knows seat.new.knows }
     ensures settled { time + 1 ≤ seat.new.knows.view.reached }
 {
-    if !is_found_decided(steps, seat, component, time, patience) {
-        steps.cancel(seat, time);
+    if !is_found_decided(words, seat, component, time, patience) {
+        words.cancel(seat, time);
     }
 }
 
@@ -66,23 +66,23 @@ fn settle<P: Pace>(steps: &Steps<P>, seat: &mut RawSeat, component: u64, time: T
 /// its writer finds that out and writes again (the cLSM paper's readers wait for it instead). `component` is what the seat holds, and
 /// `time` at most the clock that it looked at in this read. It never waits, takes no memory and is never refused.
 pub fn settle_below<P: Pace>(
-    steps: &Steps<P>,
+    words: &Words<P>,
     seat: &mut RawSeat,
     component: u64,
     time: Time,
     patience: u64,
 )
-    requires of { IsSeatOf steps.now.words.now seat.old }
+    requires of { IsSeatOf words.now seat.old }
     requires may { MaySettleBelow seat.old.knows component time }
-    ensures of { IsSeatOf steps.now.words.now seat.new }
+    ensures of { IsSeatOf words.now seat.new }
     ensures keeps { OnlyReads seat.old.knows seat.new.knows }
     ensures settled { time ≤ length seat.new.knows.past }
 {
-    let front = steps.look(seat, Word::Front);
-    let merged = component.saturating_mul(steps.words.layout.cells);
+    let front = words.look(seat, Word::Front);
+    let merged = component.saturating_mul(words.cells());
     let first = front.max(merged);
     for next in first..time {
-        settle(steps, seat, component, next, patience);
+        settle(words, seat, component, next, patience);
     }
-    steps.raise_front(seat, time);
+    words.raise_front(seat, time);
 }

@@ -20,7 +20,7 @@ use Rattle.clsm_law.specs.declared.merger.MergerView.{MergerView}
 use Rattle.clsm_law.specs.Memory.{Memory}
 use Rattle.clsm_law.specs.Layout.{memory}
 use Rattle.clsm_law.specs.Places.{entry_in, entries_from, held_at}
-use Rattle.clsm_law.specs.Worlds.{slot_at, settled, epoch_of, runs_of}
+use Rattle.clsm_law.specs.Worlds.{outcome_at, settled, epoch_of, runs_of}
 use Rattle.clsm_law.specs.Deciding.{entry_of_slot, search_order, searched_count, searched_total, searched_entry, source_count, source_at, sources_of}
 use Rattle.clsm_merger.proofs.MergingNumbers.{IsNumbered, either_at, numbered_none, numbered-append, numbered_as, entry_from, numbered-entries_from}
 
@@ -86,7 +86,7 @@ numbered-runs memory component = subst (λ (es : List Entry). IsNumbered es (sea
 
 -- ---- the times of the epoch
 
-slot-settled : (slots : List (Option Slot)) (t : ℕ) → get_or (settled slots) t Nothing ≡ unwrap_or (slot_at slots t) Nothing
+slot-settled : (slots : List (Option Slot)) (t : ℕ) → get_or (settled slots) t Nothing ≡ unwrap_or (outcome_at slots t) Nothing
 slot-settled [] t = refl
 slot-settled (s ∷ ss) zero = refl
 slot-settled (s ∷ ss) (suc t) = slot-settled ss t
@@ -102,24 +102,24 @@ entry_has t (Some Nothing) e is = absurd (cc is)
 entry_has t (Some (Wrote seat key written)) e is = let same : record { key = key; time = t; value = written } ≡ e = cc is in subst (Contains (record { key = key; time = t; value = written } ∷ [])) same (contains_here _ [])
 
 abbrev epoch_entry : List (Option Slot) → ℕ → ℕ → Option Entry
-epoch_entry slots a k = entry_of_slot (a + k) (slot_at slots (a + k))
+epoch_entry slots a k = entry_of_slot (a + k) (outcome_at slots (a + k))
 
 -- the writes of n times from a on
 numbered-times : (slots : List (Option Slot)) (a n : ℕ) → IsNumbered (entries_of (settled slots) a (a + n)) n (epoch_entry slots a)
 numbered-times slots a zero = subst (λ (es : List Entry). IsNumbered es 0 (epoch_entry slots a)) (sym (entries_none (settled slots) a (a + 0) (omega arith))) (numbered_none (epoch_entry slots a))
 numbered-times slots a (suc n) =
     let rest = numbered-times slots a n in
-    let last : List Entry = entry_of (a + n) (unwrap_or (slot_at slots (a + n)) Nothing) in
+    let last : List Entry = entry_of (a + n) (unwrap_or (outcome_at slots (a + n)) Nothing) in
     let next : a + suc n ≡ suc (a + n) = omega arith in
     let all : entries_of (settled slots) a (a + suc n) ≡ last ++ entries_of (settled slots) a (a + n) = ap (entries_of (settled slots) a) next ∙ entries_more (settled slots) a (a + n) (omega arith) ∙ ap (λ (s : Slot). entry_of (a + n) s ++ entries_of (settled slots) a (a + n)) (slot-settled slots (a + n)) in
     subst (λ (es : List Entry). IsNumbered es (suc n) (epoch_entry slots a)) (sym all) (record {
       number_of = λ e c. ⊎_elim
-          (λ (here : Contains last e). (n, omega arith, has_entry (a + n) (slot_at slots (a + n)) e here))
+          (λ (here : Contains last e). (n, omega arith, has_entry (a + n) (outcome_at slots (a + n)) e here))
           (λ (later : Contains (entries_of (settled slots) a (a + n)) e). let found = rest.number_of e later in let lt : found.0 < n = found.1 in (found.0, omega arith, found.2))
           (Contains-append_cases last (entries_of (settled slots) a (a + n)) e c);
       contains_at = λ k e lt is. ⊎_elim
           (λ (below : k < n). Contains-append_right last (entries_of (settled slots) a (a + n)) e (rest.contains_at k e below is))
-          (λ (above : n ≤ k). let same : k ≡ n = omega arith in Contains-append_left last (entries_of (settled slots) a (a + n)) e (entry_has (a + n) (slot_at slots (a + n)) e (subst (λ (j : ℕ). epoch_entry slots a j ≡ Some e) same is)))
+          (λ (above : n ≤ k). let same : k ≡ n = omega arith in Contains-append_left last (entries_of (settled slots) a (a + n)) e (entry_has (a + n) (outcome_at slots (a + n)) e (subst (λ (j : ℕ). epoch_entry slots a j ≡ Some e) same is)))
           (cases_lt k n);
     })
 

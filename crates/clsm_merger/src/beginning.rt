@@ -1,11 +1,11 @@
 ghost use Rattle.std.specs.Prelude.{◌≡◌, IfOk};
 ghost use Rattle.clsm_law.specs.Merging.{opening};
 
-use clsm_law::{Items, Layout, MergerView, Phase, Retiree};
+use clsm_law::{Items, Layout, MergerView, Phase, Reader};
 use std::alloc::{AllocError, Global};
 
 /// What the merger knows of a seat at the beginning of a retirement.
-pub(crate) const UNSEEN: Retiree = Retiree {
+pub(crate) const UNSEEN: Reader = Reader {
     first_pin: None,
     quiet: false,
     looks: 0,
@@ -15,9 +15,9 @@ pub(crate) const UNSEEN: Retiree = Retiree {
 pub fn opening(alloc: Global, layout: &Layout) -> Result<MergerView, AllocError>
     ensures { IfOk result (λ merger. merger ≡ opening layout.now) }
 {
-    let mut retirees = Items::new(alloc);
+    let mut readers = Items::new(alloc);
     for _ in 0..layout.seats {
-        retirees.push(UNSEEN)?;
+        readers.push(UNSEEN)?;
     }
     Ok(MergerView {
         phase: Phase::Clean,
@@ -28,9 +28,10 @@ pub fn opening(alloc: Global, layout: &Layout) -> Result<MergerView, AllocError>
         limit_extended: false,
         floor: 0,
         round: None,
+        holds: 0,
         rounds: 0,
         merged_floor: 0,
         former_floor: 0,
-        retirees,
+        readers,
     })
 }

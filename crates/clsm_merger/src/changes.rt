@@ -4,7 +4,7 @@ ghost use Rattle.clsm_law.specs.Merging.{changed_by_merger, word_of_merger};
 ghost use Rattle.clsm_law.specs.Deciding.{IsMergerSmall};
 
 use crate::words::epoch_end;
-use clsm_law::{Layout, MergerView, Step, Word};
+use clsm_law::{CANCELLED_CELL, EXCLUSIVE_HOLD, Layout, MergerView, Step, UNDECIDED_CELL, Word};
 
 /// The word that the merger's step is on.
 pub fn word_of_merger(layout: &Layout, step: &Step) -> Word
@@ -13,9 +13,9 @@ pub fn word_of_merger(layout: &Layout, step: &Step) -> Word
     match step {
         Step::Look(word) | Step::WriteRun(word, _) => *word,
         Step::Pad(time) => Word::State(layout.cell_of(*time)),
-        Step::ClearHead { region, shard } => Word::Head {
+        Step::ClearHead { region, chain } => Word::Head {
             region: *region,
-            shard: *shard,
+            chain: *chain,
         },
         Step::ClearState(cell) => Word::State(*cell),
         Step::Publish => Word::Merged,
@@ -31,11 +31,12 @@ pub fn changed_by_merger(layout: &Layout, merger: &MergerView, step: &Step, foun
     ensures { result ≡ changed_by_merger layout.now merger.now step.now found }
 {
     match step {
-        Step::EnterExclusive if found == 0 => 1 << 32,
-        Step::LeaveExclusive => found.wrapping_sub(1 << 32),
-        Step::Pad(_) => 1,
+        Step::EnterExclusive if found == 0 => EXCLUSIVE_HOLD,
+        Step::LeaveExclusive => found.wrapping_sub(EXCLUSIVE_HOLD),
+        Step::Pad(_) => CANCELLED_CELL,
         Step::WriteRun(_, value) => *value,
-        Step::ClearHead { .. } | Step::ClearState(_) => 0,
+        Step::ClearHead { .. } => 0,
+        Step::ClearState(_) => UNDECIDED_CELL,
         Step::Publish => merger.merged + 1,
         Step::ExtendClock => epoch_end(layout, merger),
         Step::ExtendLimit => epoch_end(layout, merger) + layout.cells,

@@ -4,7 +4,7 @@ ghost use Rattle.clsm_levels.specs.declared.entry.Entry.{Entry};
 ghost use Rattle.clsm_levels.specs.Run.{IsRun};
 ghost use Rattle.clsm_law.specs.Layout.{memory, size_of};
 ghost use Rattle.clsm_law.specs.Merging.{target_of};
-ghost use Rattle.clsm_law.specs.Deciding.{IsMergeable, IsDone, IsEachKept, IsEachWritten, IsKept, IsPassedBy, StaysIn, source_at, sources_of, wanted_of, written_of};
+ghost use Rattle.clsm_law.specs.Deciding.{IsMergeable, IsWrittenIfKept, IsEachKept, IsEachWritten, IsKept, IsPassedBy, StaysIn, source_at, sources_of, wanted_of, written_of};
 
 use crate::entries::{PlainEntry, entry_in};
 use crate::sources::{source_at, source_count};
@@ -166,7 +166,7 @@ fn is_done_at(
     number: u64,
 ) -> bool
     requires { IsMergeable layout.now words.now merger.now }
-    ensures { IsTrue result ↔ ((e : Entry) → source_at layout.now words.now merger.now slots.now number ≡ Some e → IsDone merger.now (sources_of layout.now words.now merger.now slots.now) (written_of layout.now words.now merger.now) e) }
+    ensures { IsTrue result ↔ ((e : Entry) → source_at layout.now words.now merger.now slots.now number ≡ Some e → IsWrittenIfKept merger.now (sources_of layout.now words.now merger.now slots.now) (written_of layout.now words.now merger.now) e) }
 {
     let Some(source) = source_at(layout, words, merger, slots, number) else {
         return true;

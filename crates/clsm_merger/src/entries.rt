@@ -1,7 +1,7 @@
 ghost use Rattle.std.specs.Prelude.{◌≡◌, ◌≤◌, ◌↔◌, IsTrue, length};
 ghost use Rattle.clsm_law.specs.Layout.{memory, size_of};
 ghost use Rattle.clsm_law.specs.Places.{entry_in};
-ghost use Rattle.clsm_law.specs.Worlds.{slot_at};
+ghost use Rattle.clsm_law.specs.Worlds.{outcome_at};
 ghost use Rattle.clsm_law.specs.Deciding.{entry_of_slot};
 
 use crate::words::word_at;
@@ -139,7 +139,7 @@ pub(crate) fn entry_in(layout: &Layout, words: &[u64], place: u64, entry: u64) -
 
 /// The write that the time came to, as an entry.
 pub(crate) fn entry_of_slot(slots: &[Option<Slot>], time: Time) -> Option<PlainEntry>
-    ensures { result ≡ entry_of_slot time (slot_at slots.now time) }
+    ensures { result ≡ entry_of_slot time (outcome_at slots.now time) }
 {
     let slot = slots.get(time as usize).copied().flatten()?;
     match slot {

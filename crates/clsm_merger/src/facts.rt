@@ -6,7 +6,7 @@ ghost use Rattle.clsm_law.specs.Deciding.{IsMergerSmall};
 
 use crate::entries::part_at;
 use crate::words::{epoch_end, retired_region, target_of, word_at};
-use clsm_law::{Layout, MergerView, Word};
+use clsm_law::{CANCELLED_CELL, Layout, MergerView, Word};
 
 /// Whether the undrawn cells of the epoch are cancelled.
 pub(crate) fn is_padded(layout: &Layout, words: &[u64], merger: &MergerView) -> bool
@@ -16,7 +16,7 @@ pub(crate) fn is_padded(layout: &Layout, words: &[u64], merger: &MergerView) -> 
 {
     let clock = word_at(layout, words, Word::Clock);
     for time in clock..epoch_end(layout, merger) {
-        if word_at(layout, words, Word::State(layout.cell_of(time))) != 1 {
+        if word_at(layout, words, Word::State(layout.cell_of(time))) != CANCELLED_CELL {
             return false;
         }
     }
@@ -30,8 +30,8 @@ pub(crate) fn is_headless(layout: &Layout, words: &[u64], merger: &MergerView) -
     ensures { result ≡ is_headless layout.now (memory layout.now words.now) merger.now }
 {
     let region = retired_region(layout, merger);
-    for shard in 0..layout.shards {
-        if word_at(layout, words, Word::Head { region, shard }) != 0 {
+    for chain in 0..layout.chains {
+        if word_at(layout, words, Word::Head { region, chain }) != 0 {
             return false;
         }
     }

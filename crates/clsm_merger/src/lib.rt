@@ -10,7 +10,7 @@ mod facts;
 mod notes;
 mod opens;
 mod phases;
-mod retirees;
+mod readers;
 mod rounds;
 mod settling;
 mod sources;

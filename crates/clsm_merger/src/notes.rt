@@ -7,7 +7,7 @@ ghost use Rattle.clsm_law.specs.Deciding.{IsMergerSmall, LooksAtWord};
 
 use crate::facts::is_last;
 use crate::phases::{is_frozen, is_retired};
-use crate::retirees::{forget, retiree_at, retiree_by};
+use crate::readers::{forget, reader_at, reader_by};
 use crate::rounds::{floor_by, round_by, round_end, rounds_by};
 use clsm_law::{Layout, MergerView, Phase, Step, Word};
 
@@ -28,8 +28,8 @@ fn note_pin(layout: &Layout, merger: &mut MergerView, seat: u64, found: u64)
     ensures { merger.new ≡ merger_looked layout.now merger.old (Word.Pin seat) found }
 {
     if is_retired(merger.phase) {
-        let retiree = retiree_by(retiree_at(&merger.retirees, seat), found);
-        merger.retirees.set(seat as usize, retiree);
+        let reader = reader_by(reader_at(&merger.readers, seat), found);
+        merger.readers.set(seat as usize, reader);
     }
 }
 
@@ -50,7 +50,7 @@ fn leave(layout: &Layout, merger: &mut MergerView)
 /// One more merge: the component before it is retired, and no seat is known to have let go of it.
 fn publish(layout: &Layout, merger: &mut MergerView)
     requires small { IsMergerSmall layout.now merger.old }
-    requires seats { length merger.old.retirees ≡ layout.now.seats }
+    requires seats { length merger.old.readers ≡ layout.now.seats }
     ensures { (f : Facts) (x : ℕ) → merger.new ≡ merger_after layout.now f merger.old Step.Publish x }
 {
     merger.merged += 1;
@@ -58,19 +58,22 @@ fn publish(layout: &Layout, merger: &mut MergerView)
     merger.round = None;
     merger.former_floor = merger.merged_floor;
     merger.merged_floor = merger.floor;
-    forget(&mut merger.retirees);
+    forget(&mut merger.readers);
 }
 
 /// Notes in the merger's view its step that found this word; the words are those before the step.
 pub fn note_merger(layout: &Layout, words: &[u64], merger: &mut MergerView, step: &Step, found: u64)
     requires size { length words.now ≡ size_of layout.now }
     requires small { IsMergerSmall layout.now merger.old }
-    requires seats { length merger.old.retirees ≡ layout.now.seats }
+    requires seats { length merger.old.readers ≡ layout.now.seats }
     requires looks { LooksAtWord layout.now step.now }
     ensures { (slots : List (Option Slot)) → merger.new ≡ merger_after layout.now (facts_of layout.now (memory layout.now words.now) merger.old slots) merger.old step.now found }
 {
     match step {
-        Step::EnterExclusive if found == 0 => merger.exclusive = true,
+        Step::EnterExclusive if found == 0 => {
+            merger.exclusive = true;
+            merger.holds = merger.holds.wrapping_add(1);
+        }
         Step::LeaveExclusive => leave(layout, merger),
         Step::Look(Word::Snap(seat)) => note_snapshot(layout, merger, *seat, found),
         Step::Look(Word::Pin(seat)) => note_pin(layout, merger, *seat, found),

@@ -1,4 +1,5 @@
 ghost use Rattle.std.specs.Prelude.{◌≡◌, ◌+◌, ◌*◌, ◌≤◌, ◌<◌, ◌^◌, ◌↔◌, true, false, IsTrue};
+ghost use Rattle.clsm_law.specs.Codes.{last_limit};
 ghost use Rattle.clsm_law.specs.Memory.{is_word, region_of, room_of};
 ghost use Rattle.clsm_law.specs.Layout.{memory};
 ghost use Rattle.clsm_law.specs.Places.{is_named};
@@ -10,16 +11,13 @@ use crate::deciding::is_wanted_written;
 use crate::facts::{is_headless, is_padded, is_target_canonical};
 use crate::phases::{is_clean, is_frozen, is_retired};
 use crate::words::{epoch_end, is_named, retired_region, target_of, word_at};
-use clsm_law::{Items, Layout, MergerView, Retiree, Step, Word};
+use clsm_law::{Items, LAST_LIMIT, Layout, MergerView, Reader, Step, Word};
 use clsm_model::{Slot, Time};
 
-/// No time is at or above it.
-const TOP: Time = 1 << 62;
-
-fn is_all_quiet(retirees: &Items<Retiree>) -> bool
-    ensures { result ≡ is_all_quiet retirees.now }
+fn is_all_quiet(readers: &Items<Reader>) -> bool
+    ensures { result ≡ is_all_quiet readers.now }
 {
-    retirees.as_slice().iter().all(|retiree| retiree.quiet)
+    readers.as_slice().iter().all(|reader| reader.quiet)
 }
 
 /// Whether no freeze is half done.
@@ -32,9 +30,9 @@ fn is_freeze_whole(merger: &MergerView) -> bool
 /// Whether times are left for the epoch after the next.
 fn has_next_epoch(layout: &Layout, merger: &MergerView) -> bool
     requires { IsMergerSmall layout.now merger.now }
-    ensures { IsTrue result ↔ ((merger.now.merged + 2) * layout.now.cells ≤ 2 ^ 62) }
+    ensures { IsTrue result ↔ ((merger.now.merged + 2) * layout.now.cells ≤ last_limit) }
 {
-    (merger.merged + 2) * layout.cells <= TOP
+    (merger.merged + 2) * layout.cells <= LAST_LIMIT
 }
 
 /// Whether the time is an undrawn one of the epoch.
@@ -59,9 +57,9 @@ fn is_unread(layout: &Layout, merger: &MergerView, word: Word) -> bool
 
 /// Whether the retired region may be given up: no reader holds it.
 fn is_let_go(merger: &MergerView) -> bool
-    ensures { IsTrue result ↔ ((is_retired merger.now.phase ≡ true) × (is_all_quiet merger.now.retirees ≡ true)) }
+    ensures { IsTrue result ↔ ((is_retired merger.now.phase ≡ true) × (is_all_quiet merger.now.readers ≡ true)) }
 {
-    is_retired(merger.phase) && is_all_quiet(&merger.retirees)
+    is_retired(merger.phase) && is_all_quiet(&merger.readers)
 }
 
 /// Whether the cell is one of the retired region.
@@ -107,8 +105,8 @@ pub fn is_open_to_merger(
         Step::Look(word) => layout.is_word(*word),
         Step::Pad(time) => merger.exclusive && is_undrawn(layout, words, merger, *time),
         Step::WriteRun(word, _) => is_frozen(merger.phase) && is_unread(layout, merger, *word),
-        Step::ClearHead { region, shard } => {
-            is_let_go(merger) && *region == retired_region(layout, merger) && *shard < layout.shards
+        Step::ClearHead { region, chain } => {
+            is_let_go(merger) && *region == retired_region(layout, merger) && *chain < layout.chains
         }
         Step::ClearState(cell) => {
             is_let_go(merger)

@@ -25,29 +25,29 @@ IsCells c = IsBetween 4 65536 c.cells
 abbrev pub IsSeats : Config → Type 0
 IsSeats c = IsBetween 1 64 c.seats
 
--- a region has 1 to 1,024 chains
+-- a region has at least so many chains, 1 to 1,024
 abbrev pub IsShards : Config → Type 0
 IsShards c = IsBetween 1 1024 c.shards
 
 -- a place of level 1 has room for 4 to 4,194,304 entries
-abbrev pub IsRun : Config → Type 0
-IsRun c = IsBetween 4 4194304 c.run
+abbrev pub IsRunRoom : Config → Type 0
+IsRunRoom c = IsBetween 4 4194304 c.run
 
--- a reader looks again at an empty cell at most 64 times
+-- a reader looks again at an undecided time at most 64 times
 abbrev pub IsPatience : Config → Type 0
 IsPatience c = c.patience ≤ 64
 
 -- each size is in its range
 abbrev pub IsSound : Config → Type 0
-IsSound c = IsCells c × IsSeats c × IsShards c × IsRun c × IsPatience c
+IsSound c = IsCells c × IsSeats c × IsShards c × IsRunRoom c × IsPatience c
 
 -- this is the first size out of its range, in the order cells, seats, shards, run, patience
 abbrev pub IsFirstFault : Config → OpenError → Type 0
 IsFirstFault c Cells = ¬ IsCells c
 IsFirstFault c Seats = IsCells c × (¬ IsSeats c)
 IsFirstFault c Shards = IsCells c × IsSeats c × (¬ IsShards c)
-IsFirstFault c Run = IsCells c × IsSeats c × IsShards c × (¬ IsRun c)
-IsFirstFault c Patience = IsCells c × IsSeats c × IsShards c × IsRun c × (¬ IsPatience c)
+IsFirstFault c Run = IsCells c × IsSeats c × IsShards c × (¬ IsRunRoom c)
+IsFirstFault c Patience = IsCells c × IsSeats c × IsShards c × IsRunRoom c × (¬ IsPatience c)
 IsFirstFault c Memory = ⊥
 
 -- a test of the sizes: all are in their ranges, or the first that is not is named

@@ -3,3 +3,4 @@ pub mod Config
 pub mod History
 pub mod Map
 pub mod Right
+pub mod Seats

@@ -31,13 +31,13 @@ value_after Nothing k before = before
 value_after (Wrote seat key written) k before = cond (key == k) written before
 
 -- the key has what was written, and each other key keeps its value
-pub record Writes (key : ℕ) (written : Option (List ℕ)) (old new : List Pair) : Type 0 where
+pub record WritesKey (key : ℕ) (written : Option (List ℕ)) (old new : List Pair) : Type 0 where
   pub rise : KeysRise new
   pub values : (k : ℕ) → value_at new k ≡ cond (key == k) written (value_at old k)
 
 -- the slot is played on the map: a write changes its key, and each other key keeps its value
-abbrev pub Plays : Slot → List Pair → List Pair → Type 0
-Plays slot old new = (k : ℕ) → value_at new k ≡ value_after slot k (value_at old k)
+abbrev pub Applies : Slot → List Pair → List Pair → Type 0
+Applies slot old new = (k : ℕ) → value_at new k ≡ value_after slot k (value_at old k)
 
 -- the slot writes a value at a key that has none
 abbrev pub AddsKey : Slot → List Pair → Type 0

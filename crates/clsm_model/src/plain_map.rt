@@ -1,6 +1,6 @@
 ghost use Rattle.std.specs.Prelude.{◌≡◌, ℕ, ◌+◌, ◌≤◌, [], length, take, None, IsSome, IfOk, OnOk, OnErr};
 ghost use Rattle.clsm_model.specs.History.{History, plain, slot_at, end_of};
-ghost use Rattle.clsm_model.specs.Map.{AddsKey, IsMap, IsRange, Plays, Writes, between, value_at};
+ghost use Rattle.clsm_model.specs.Map.{AddsKey, IsMap, IsRange, Applies, WritesKey, between, value_at};
 
 use crate::slot::Slot;
 use crate::value::Value;
@@ -62,11 +62,11 @@ impl PlainMap {
         Ok(map)
     }
 
-    /// Plays one slot. The map of a history below a time becomes its map below the next time,
+    /// Applies one slot. The map of a history below a time becomes its map below the next time,
     /// where the slot is the history's at that time. Only a value for a key that had none can be refused
     /// for want of memory, and the map is then as it was.
     pub fn apply(&mut self, slot: &Slot) -> Result<(), Memory>
-        ensures plays { OnOk result (Plays slot.now self.old self.new) }
+        ensures plays { OnOk result (Applies slot.now self.old self.new) }
         ensures follows { OnOk result (
             (h : History) (s : ℕ) → slot_at h s ≡ slot.now → IsMap h s self.old → IsMap h (s + 1) self.new) }
         ensures refused { OnErr result (AddsKey slot.now self.old) }
@@ -79,7 +79,7 @@ impl PlainMap {
     }
 
     fn write(&mut self, key: u64, written: Option<Value>) -> Result<(), Memory>
-        ensures writes { OnOk result (Writes key written self.old self.new) }
+        ensures writes { OnOk result (WritesKey key written self.old self.new) }
         ensures refused { OnErr result (IsSome written × (value_at self.old key ≡ None)) }
         ensures unchanged { OnErr result (self.new ≡ self.old) }
     {

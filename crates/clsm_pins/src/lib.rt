@@ -3,8 +3,6 @@
 
 mod pinning;
 mod quieting;
-#[cfg(test)]
-mod tests;
 
 pub use pinning::{pin, unpin};
 pub use quieting::quiet;

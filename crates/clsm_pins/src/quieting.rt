@@ -1,21 +1,21 @@
 //! Whether a seat holds anything retired.
 ghost use Rattle.std.specs.Prelude.{◌≡◌, ◌<◌, ℕ, true, false};
-ghost use Rattle.clsm_law.specs.Merging.{is_retired, retiree_at, retiree_by};
+ghost use Rattle.clsm_law.specs.Merging.{is_retired, reader_at, reader_by};
 ghost use Rattle.clsm_law.specs.Relation.{next_word};
 ghost use Rattle.clsm_words.specs.Plays.{IsSeatOf};
-ghost use Rattle.clsm_pins.specs.Quieting.{IsNotedOdd, LooksAtPin};
+ghost use Rattle.clsm_pins.specs.Quieting.{HoldsNothingRetired, IsNotedOdd, LooksAtPin};
 
-use clsm_law::{Retiree, Word};
-use clsm_words::{Pace, RawMerger, Steps};
+use clsm_law::{Reader, Word};
+use clsm_words::{Pace, RawMerger, Words};
 
 /// What is noted of a seat whose pin word is this now: it is quiet where the word is even, as no read runs, or where it differs from the one first
 /// noted in this retirement, as that read has ended.
-fn noted(seen: Retiree, word: u64) -> Retiree
-    ensures noted { result ≡ retiree_by seen word }
+fn noted(seen: Reader, word: u64) -> Reader
+    ensures noted { result ≡ reader_by seen word }
     ensures loud { result.quiet ≡ false → IsNotedOdd result.first_pin }
 {
     let differs = seen.first_pin.is_some_and(|first| first != word);
-    Retiree {
+    Reader {
         first_pin: Some(seen.first_pin.unwrap_or(word)),
         quiet: seen.quiet || word % 2 == 0 || differs,
         looks: seen.looks.wrapping_add(1),
@@ -25,23 +25,24 @@ fn noted(seen: Retiree, word: u64) -> Retiree
 /// Looks once at the pin word of the seat with this number, and answers whether the seat holds nothing of the retired component: it stays so
 /// until the next merge. `seen` is what was noted of the seat in this retirement. It never waits and is never refused.
 pub fn quiet<P: Pace>(
-    steps: &Steps<P>,
+    words: &Words<P>,
     merger: &mut RawMerger,
     seat: u64,
-    seen: &mut Retiree,
+    seen: &mut Reader,
 ) -> bool
-    requires of { IsSeatOf steps.now.words.now merger.old }
+    requires of { IsSeatOf words.now merger.old }
     requires retired { is_retired merger.old.knows.merger.phase ≡ true }
     requires inside { seat < merger.old.knows.layout.seats }
-    requires seen { seen.old ≡ retiree_at merger.old.knows.merger.retirees seat }
-    ensures of { IsSeatOf steps.now.words.now merger.new }
+    requires seen { seen.old ≡ reader_at merger.old.knows.merger.readers seat }
+    ensures of { IsSeatOf words.now merger.new }
     ensures looked { LooksAtPin merger.old.knows merger.new.knows seat seen.new }
     ensures quiet { result ≡ seen.new.quiet }
+    ensures released { result ≡ true → HoldsNothingRetired merger.new.knows.merger seat }
     ensures loud { result ≡ false → IsNotedOdd seen.new.first_pin }
-    ensures noted { (word : ℕ) × (seen.new ≡ retiree_by seen.old word) }
+    ensures noted { (word : ℕ) × (seen.new ≡ reader_by seen.old word) }
     ensures again { seen.new.looks ≡ next_word seen.old.looks }
 {
-    let word = steps.look_as_merger(merger, Word::Pin(seat));
+    let word = words.look_as_merger(merger, Word::Pin(seat));
     *seen = noted(*seen, word);
     seen.quiet
 }

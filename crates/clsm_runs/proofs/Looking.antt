@@ -39,8 +39,8 @@ entry_in_stays k k' component place entry looks run = entry_same (row_of k) (row
 
 -- where it stood after looks it stood before
 pub side_stays : (k k' : Known) (component place entry key until : ℕ) (side : Side) → Looks k k' → IsSearchable k component place → IsSide (row_of k') place entry key until side → IsSide (row_of k) place entry key until side
-side_stays k k' component place entry key until Before looks run is = subst (ComesEarlier key until) (entry_in_stays k k' component place entry looks run) is
+side_stays k k' component place entry key until (Before found) looks run is = subst (ComesEarlier key until) (entry_in_stays k k' component place entry looks run) is
 side_stays k k' component place entry key until (Hit spelled) looks run is =
     let w = (place_stays k k' component place looks run).words entry in
     (sym (w 0) ∙ is.0, sym (w 1) ∙ is.1, subst (λ (e : Entry). e.time < until) (entry_in_stays k k' component place entry looks run) is.2)
-side_stays k k' component place entry key until Behind looks run is = subst (λ (x : ℕ). key < x) ((place_stays k k' component place looks run).words entry 0) is
+side_stays k k' component place entry key until (Behind found) looks run is = subst (λ (x : ℕ). key < x) ((place_stays k k' component place looks run).words entry 0) is

@@ -21,7 +21,7 @@ use Rattle.clsm_words.specs.declared.known.Known.{Known}
 use Rattle.clsm_words.specs.Knowing.{row_of}
 use Rattle.clsm_words.specs.Changing.{Changes, NoWord}
 use Rattle.clsm_runs.specs.Placing.{IsOfPlace, rows_of}
-use Rattle.clsm_runs.specs.Outputs.{IsMerging}
+use Rattle.clsm_runs.specs.Outputs.{IsFrozenBehind}
 
 -- ---- the entry at a position
 
@@ -125,7 +125,7 @@ runs_stay k k' changes = runs_kept (IsOfPlace (target_of k.merger)) k k' changes
 pub rows_stay : (k k' : Known) (epoch : List Entry) → Changes (IsOfPlace (target_of k.merger)) k k' → rows_of k' epoch ≡ rows_of k epoch
 rows_stay k k' epoch changes = rows_kept k k' epoch changes.view (runs_stay k k' changes)
 
-pub merging_stays : (Those : Word → Type 0) (k k' : Known) (merges : ℕ) → Changes Those k k' → IsMerging k merges → IsMerging k' merges
+pub merging_stays : (Those : Word → Type 0) (k k' : Known) (merges : ℕ) → Changes Those k k' → IsFrozenBehind k merges → IsFrozenBehind k' merges
 merging_stays Those k k' merges changes m = record {
   frozen = ap (λ (v : MergerView). is_frozen v.phase) changes.view ∙ m.frozen;
   free = ap (λ (v : MergerView). v.exclusive) changes.view ∙ m.free;

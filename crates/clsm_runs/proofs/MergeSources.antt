@@ -6,7 +6,7 @@ use Rattle.clsm_levels.specs.declared.entry.Entry.{Entry}
 use Rattle.clsm_levels.specs.declared.place.Place.{Place}
 use Rattle.clsm_levels.specs.Entry.{AreBelow}
 use Rattle.clsm_levels.specs.Merge.{is_to_level_one}
-use Rattle.clsm_levels.specs.Pass.{KeysRise}
+use Rattle.clsm_levels.specs.Pass.{RisesByKey}
 use Rattle.clsm_levels.specs.Place.{places}
 use Rattle.clsm_levels.specs.Run.{IsRun, all_of}
 use Rattle.clsm_levels.proofs.Every.{every-cond, every_weaker}
@@ -39,8 +39,8 @@ module _ (k : Known) (sound : IsSoundMerger k) where
   abbrev runs : List (List Entry)
   runs = runs_of (row_of k) k.merger.merged
 
-  runs_rise : AllByRecursion KeysRise runs
-  runs_rise = every_weaker IsRun KeysRise keys_rise-run runs sound.runs.content.order
+  runs_rise : AllByRecursion RisesByKey runs
+  runs_rise = every_weaker IsRun RisesByKey keys_rise-run runs sound.runs.content.order
 
   runs_early : AllByRecursion (AreBelow (2 ^ 62)) runs
   runs_early = each_run (λ (e : Entry). e.time < 2 ^ 62) runs (every_weaker (λ (e : Entry). e.time < k.merger.merged * k.layout.cells) (λ e. e.time < 2 ^ 62) (λ e older. let small = sound.mergeable.small.merged in omega arith) (all_of runs) sound.runs.content.older)
@@ -52,7 +52,7 @@ module _ (k : Known) (sound : IsSoundMerger k) where
 
   pub are_sources : (epoch : List Entry) → IsRun epoch → AreBelow (2 ^ 62) epoch → length epoch < 2 ^ 62 → AreSources (rows_of k epoch)
   are_sources epoch order early few = record {
-    rise = (keys_rise-run epoch order, every-cond KeysRise (is_to_level_one k.merger.merged) runs [] (λ one. runs_rise) (λ zero_level. tt));
+    rise = (keys_rise-run epoch order, every-cond RisesByKey (is_to_level_one k.merger.merged) runs [] (λ one. runs_rise) (λ zero_level. tt));
     early = (early, every-cond (AreBelow (2 ^ 62)) (is_to_level_one k.merger.merged) runs [] (λ one. runs_early) (λ zero_level. tt));
     few = (few, every-cond (λ (run : List Entry). length run < 2 ^ 62) (is_to_level_one k.merger.merged) runs [] (λ one. runs_few) (λ zero_level. tt));
   }

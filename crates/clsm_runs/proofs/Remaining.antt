@@ -11,11 +11,11 @@ use Rattle.clsm_words.specs.declared.known.Known.{Known}
 use Rattle.clsm_runs.specs.declared.output.Output.{Output}
 use Rattle.clsm_runs.specs.Outputs.{IsOutput}
 use Rattle.clsm_words.specs.Changing.{Changes, NoWord}
-use Rattle.clsm_runs.specs.Placing.{IsFree, IsMergedEntry}
+use Rattle.clsm_runs.specs.Placing.{MayWriteInto, IsMergedEntry}
 
 -- ---- the place of the next merge
 
-pub free_stays : (Those : Word → Type 0) (k k' : Known) (place entry : ℕ) → Changes Those k k' → IsFree k place entry → IsFree k' place entry
+pub free_stays : (Those : Word → Type 0) (k k' : Known) (place entry : ℕ) → Changes Those k k' → MayWriteInto k place entry → MayWriteInto k' place entry
 free_stays Those k k' place entry changes free = record {
   frozen = ap (λ (m : MergerView). is_frozen m.phase) changes.view ∙ free.frozen;
   unnamed = ap (λ (m : MergerView). is_named m.merged place) changes.view ∙ free.unnamed;

@@ -19,7 +19,7 @@ use Rattle.clsm_runs.specs.declared.output.Output.{Output}
 use Rattle.clsm_runs.specs.Placing.{rows_of}
 
 -- an epoch is frozen behind so many merges
-pub record IsMerging (k : Known) (merges : ℕ) : Type 0 where
+pub record IsFrozenBehind (k : Known) (merges : ℕ) : Type 0 where
   pub frozen : is_frozen k.merger.phase ≡ true
   pub free : k.merger.exclusive ≡ false
   pub merged : k.merger.merged ≡ merges

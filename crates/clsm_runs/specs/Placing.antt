@@ -44,7 +44,7 @@ rows_of k epoch = epoch ∷ cond (is_to_level_one k.merger.merged) (runs_of (row
 -- ---- what is written
 
 -- an epoch is frozen, no reader searches the place, and it has room for the entry
-pub record IsFree (k : Known) (place entry : ℕ) : Type 0 where
+pub record MayWriteInto (k : Known) (place entry : ℕ) : Type 0 where
   pub frozen : is_frozen k.merger.phase ≡ true
   pub unnamed : is_named k.merger.merged place ≡ false
   pub there : place < 5

@@ -10,6 +10,7 @@ use Rattle.clsm_law.specs.Places.{is_named, entry_in, entries_from, entries_in, 
 use Rattle.clsm_words.specs.declared.known.Known.{Known}
 use Rattle.clsm_words.specs.Knowing.{row_of}
 use Rattle.clsm_runs.specs.declared.side.Side.{Side}
+use Rattle.clsm_runs.specs.declared.side.Span.{Span}
 use Rattle.clsm_runs.specs.declared.side.Side.TheVariants.{Before, Hit, Behind}
 
 -- the entries of the run at the place
@@ -21,8 +22,8 @@ abbrev pub count_of : Known → ℕ → ℕ
 count_of k place = row_of k (Count place)
 
 -- a word of an entry
-abbrev pub part_of : Known → ℕ → ℕ → ℕ → ℕ
-part_of k place entry part = row_of k (EntryWord place entry part)
+abbrev pub entry_word : Known → ℕ → ℕ → ℕ → ℕ
+entry_word k place entry part = row_of k (EntryWord place entry part)
 
 -- ---- what is asked
 
@@ -45,9 +46,9 @@ ComesEarlier key until e = (e.key < key) ⊎ ((e.key ≡ key) × (until ≤ e.ti
 
 -- where the entry stands to the first of the key with a time below until: before it, of the key with this time word, or behind each of the key
 abbrev pub IsSide : Memory → ℕ → ℕ → ℕ → ℕ → Side → Type 0
-IsSide memory place entry key until Before = ComesEarlier key until (entry_in memory place entry)
+IsSide memory place entry key until (Before found) = ComesEarlier key until (entry_in memory place entry)
 IsSide memory place entry key until (Hit spelled) = (memory (EntryWord place entry 0) ≡ key) × (memory (EntryWord place entry 1) ≡ spelled) × ((entry_in memory place entry).time < until)
-IsSide memory place entry key until Behind = key < memory (EntryWord place entry 0)
+IsSide memory place entry key until (Behind found) = key < memory (EntryWord place entry 0)
 
 -- of the n entries of the place those from the entry i on
 abbrev pub rest_from : Memory → ℕ → ℕ → ℕ → List Entry
@@ -58,10 +59,17 @@ abbrev pub IsHitAt : Memory → ℕ → ℕ → ℕ → ℕ → ℕ → Option (
 IsHitAt memory place n key until high None = first_below (rest_from memory place n high) key until ≡ None
 IsHitAt memory place n key until high (Some hit) = (hit.0 ≡ high) × (high < n) × IsSide memory place high key until (Hit hit.1)
 
+-- of the run, none before the span is the first of the key with a time below until, and behind it what was hit is the first, or none is
+pub record IsSpan (k : Known) (place key until : ℕ) (span : Span) : Type 0 where
+  pub order : span.low ≤ span.high
+  pub within : span.high ≤ count_of k place
+  pub skipped : first_below (run_at k place) key until ≡ first_below (rest_from (row_of k) place (count_of k place) span.low) key until
+  pub at_high : IsHitAt (row_of k) place (count_of k place) key until span.high span.hit
+
 -- the first entry of the key with a time below until, by its number and its time word
 abbrev pub IsPosition : Known → ℕ → ℕ → ℕ → Option (ℕ × ℕ) → Type 0
 IsPosition k place key until None = first_below (run_at k place) key until ≡ None
-IsPosition k place key until (Some hit) = (hit.0 < count_of k place) × (part_of k place hit.0 0 ≡ key) × (part_of k place hit.0 1 ≡ hit.1) × (first_below (run_at k place) key until ≡ Some (entry_in (row_of k) place hit.0))
+IsPosition k place key until (Some hit) = (hit.0 < count_of k place) × (entry_word k place hit.0 0 ≡ key) × (entry_word k place hit.0 1 ≡ hit.1) × (first_below (run_at k place) key until ≡ Some (entry_in (row_of k) place hit.0))
 
 -- ---- a search of run after run
 

@@ -8,14 +8,14 @@ ghost use Rattle.clsm_words.specs.Plays.{IsSeatOf};
 ghost use Rattle.clsm_runs.specs.Searching.{HasEntry, IsPosition, IsSearchable, IsSide};
 
 use crate::reading::{KEY, TIME, count, entry, part};
-use crate::side::Side;
+use crate::side::{Side, Span, Turn};
 use clsm_levels::Entry;
 use clsm_model::Time;
-use clsm_words::{Pace, RawSeat, Steps};
+use clsm_words::{Pace, RawSeat, Words};
 
 /// Where the entry stands to the first of the key with a time below `until`. Its time is looked at only where it is of the key.
 fn compare<P: Pace>(
-    steps: &Steps<P>,
+    words: &Words<P>,
     seat: &mut RawSeat,
     component: u64,
     place: u64,
@@ -23,76 +23,79 @@ fn compare<P: Pace>(
     key: u64,
     until: Time,
 ) -> Side
-    requires of { IsSeatOf steps.now.words.now seat.old }
+    requires of { IsSeatOf words.now seat.old }
     requires has { HasEntry seat.old.knows component place entry }
-    ensures of { IsSeatOf steps.now.words.now seat.new }
+    ensures of { IsSeatOf words.now seat.new }
     ensures looks { LooksAside seat.old.knows seat.new.knows }
     ensures side { IsSide (row_of seat.old.knows) place entry key until result }
 {
-    let found = part(steps, seat, component, place, entry, KEY);
+    let found = part(words, seat, component, place, entry, KEY);
     if found < key {
-        return Side::Before;
+        return Side::Before(found);
     }
     if found > key {
-        return Side::Behind;
+        return Side::Behind(found);
     }
-    let spelled = part(steps, seat, component, place, entry, TIME);
+    let spelled = part(words, seat, component, place, entry, TIME);
     if spelled / 2 < until {
         Side::Hit(spelled)
     } else {
-        Side::Before
+        Side::Before(found)
     }
 }
 
-/// The first entry of the key with a time below `until`, by its number and its time word: by halving.
+/// The first entry of the key with a time below `until`, by its number and its time word.
 fn position<P: Pace>(
-    steps: &Steps<P>,
+    words: &Words<P>,
     seat: &mut RawSeat,
     component: u64,
     place: u64,
     key: u64,
     until: Time,
 ) -> Option<(u64, u64)>
-    requires of { IsSeatOf steps.now.words.now seat.old }
+    requires of { IsSeatOf words.now seat.old }
     requires run { IsSearchable seat.old.knows component place }
-    ensures of { IsSeatOf steps.now.words.now seat.new }
+    ensures of { IsSeatOf words.now seat.new }
     ensures looks { LooksAside seat.old.knows seat.new.knows }
     ensures found { IsPosition seat.old.knows place key until result }
 {
     seat.is_sound();
-    let mut low = 0;
-    let mut high = count(steps, seat, component, place);
-    let mut hit = None;
-    while low < high {
-        let middle = low + (high - low) / 2;
-        match compare(steps, seat, component, place, middle, key, until) {
-            Side::Before => low = middle + 1,
-            Side::Hit(spelled) => (high, hit) = (middle, Some((middle, spelled))),
-            Side::Behind => (high, hit) = (middle, None),
+    let mut span = Span::whole(count(words, seat, component, place));
+    let mut turn = Turn::Last;
+    while span.low < span.high {
+        let at = span.next(key, turn);
+        turn = turn.next();
+        match compare(words, seat, component, place, at, key, until) {
+            Side::Before(found) => (span.low, span.low_key) = (at + 1, found),
+            Side::Hit(spelled) => {
+                (span.high, span.high_key, span.hit) = (at, key, Some((at, spelled)));
+            }
+            Side::Behind(found) => (span.high, span.high_key, span.hit) = (at, found, None),
         }
     }
-    hit
+    span.hit
 }
 
-/// The first entry of the key with a time below `until` in the run at the place, which the held component names: by halving. As in LevelDB
+/// The first entry of the key with a time below `until` in the run at the place, which the held component names. The run's last and first keys
+/// may exclude the key; else the search guesses by how evenly the keys stand, and halves in turn. As in LevelDB
 /// the newest entry of a key stands first, so it is the newest version below `until`; a removal is found as an entry without a value. Only the
 /// found entry's value is read. It never waits, takes no memory and is never refused. The seat has to know all that was merged into its component.
 pub fn find<P: Pace>(
-    steps: &Steps<P>,
+    words: &Words<P>,
     seat: &mut RawSeat,
     component: u64,
     place: u64,
     key: u64,
     until: Time,
 ) -> Option<Entry>
-    requires of { IsSeatOf steps.now.words.now seat.old }
+    requires of { IsSeatOf words.now seat.old }
     requires held { seat.old.knows.view.held ≡ Some component }
     requires named { is_named component place ≡ true }
     requires known { component * seat.old.knows.layout.cells ≤ length seat.old.knows.past }
-    ensures of { IsSeatOf steps.now.words.now seat.new }
+    ensures of { IsSeatOf words.now seat.new }
     ensures looks { LooksAside seat.old.knows seat.new.knows }
     ensures found { result ≡ first_below (entries_in (row_of seat.old.knows) place) key until }
 {
-    let (number, spelled) = position(steps, seat, component, place, key, until)?;
-    Some(entry(steps, seat, component, place, number, key, spelled))
+    let (number, spelled) = position(words, seat, component, place, key, until)?;
+    Some(entry(words, seat, component, place, number, key, spelled))
 }

@@ -9,8 +9,6 @@ mod rows;
 mod searching;
 mod side;
 mod sources;
-#[cfg(test)]
-mod tests;
 mod writing;
 
 pub use finding::find;

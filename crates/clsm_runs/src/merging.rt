@@ -8,7 +8,7 @@ ghost use Rattle.clsm_levels.specs.Entry.{AreBelow};
 ghost use Rattle.clsm_levels.specs.Merge.{is_to_level_one};
 ghost use Rattle.clsm_levels.specs.Run.{IsRun};
 ghost use Rattle.clsm_words.specs.Plays.{IsSeatOf};
-ghost use Rattle.clsm_runs.specs.Outputs.{HasWritten, IsMerging, IsOutput, IsSameOutput, LeavesOff, kept_of};
+ghost use Rattle.clsm_runs.specs.Outputs.{HasWritten, IsFrozenBehind, IsOutput, IsSameOutput, LeavesOff, kept_of};
 ghost use Rattle.clsm_words.specs.Changing.{Changes};
 ghost use Rattle.clsm_runs.specs.Placing.{IsOfPlace};
 
@@ -18,7 +18,7 @@ use crate::writing::write_entry;
 use clsm_law::Word;
 use clsm_levels::{Entry, judge};
 use clsm_model::Time;
-use clsm_words::{Pace, RawMerger, Steps};
+use clsm_words::{Pace, RawMerger, Words};
 use thiserror::Error;
 
 /// The refusal of a merge, number 1: a merge into level 1 would keep more entries than a run has room for.
@@ -27,24 +27,23 @@ use thiserror::Error;
 pub struct RunFull;
 
 /// The run that the merge after so many writes, with nothing in it.
-fn open_output<P: Pace>(steps: &Steps<P>, merger: &RawMerger, merges: u64, floor: Time) -> Output
-    requires of { IsSeatOf steps.now.words.now merger.now }
-    requires merging { IsMerging merger.now.knows merges }
+fn open_output<P: Pace>(words: &Words<P>, merger: &RawMerger, merges: u64, floor: Time) -> Output
+    requires of { IsSeatOf words.now merger.now }
+    requires merging { IsFrozenBehind merger.now.knows merges }
     ensures output { IsOutput merger.now.knows result }
     ensures place { result.place ≡ target_of merger.now.knows.merger }
     ensures begins { (result.count ≡ 0) × (result.settled ≡ None) }
     ensures rule { (result.floor ≡ floor) × (result.to_level_one ≡ is_to_level_one merges) }
 {
-    let layout = &steps.words.layout;
     let to_level_one = merges % 4 == 3;
-    let (place, room) = if to_level_one {
-        (3 + (merges / 4 + 1) % 2, layout.run)
+    let place = if to_level_one {
+        3 + (merges / 4 + 1) % 2
     } else {
-        (merges % 4, layout.cells)
+        merges % 4
     };
     Output {
         place,
-        room,
+        room: words.room_of(place),
         count: 0,
         floor,
         to_level_one,
@@ -54,15 +53,15 @@ fn open_output<P: Pace>(steps: &Steps<P>, merger: &RawMerger, merges: u64, floor
 
 /// Writes the next entry by rising key, if it is kept. Refused where there is no room for it.
 fn take<P: Pace>(
-    steps: &Steps<P>,
+    words: &Words<P>,
     merger: &mut RawMerger,
     output: &mut Output,
     entry: Entry,
 ) -> Result<(), RunFull>
-    requires of { IsSeatOf steps.now.words.now merger.old }
+    requires of { IsSeatOf words.now merger.old }
     requires output { IsOutput merger.old.knows output.old }
     requires early { entry.time < 2 ^ 62 }
-    ensures of { IsSeatOf steps.now.words.now merger.new }
+    ensures of { IsSeatOf words.now merger.new }
     ensures changes { Changes (IsOfPlace output.old.place) merger.old.knows merger.new.knows }
     ensures output { IsOutput merger.new.knows output.new }
     ensures same { IsSameOutput output.old output.new }
@@ -70,13 +69,15 @@ fn take<P: Pace>(
     ensures full { IfErr result (λ refusal. (rest all : List Entry) → LeavesOff merger.old.knows output.old (entry ∷ rest) all → output.old.room < length all) }
 {
     let (is_kept, settled) = judge(output.settled, entry, output.floor, output.to_level_one);
-    if is_kept {
-        if output.count == output.room {
-            return Err(RunFull);
-        }
-        write_entry(steps, merger, output.place, output.count, &entry);
-        output.count += 1;
+    if !is_kept {
+        output.settled = settled;
+        return Ok(());
     }
+    if output.count == output.room {
+        return Err(RunFull);
+    }
+    write_entry(words, merger, output.place, output.count, &entry);
+    output.count += 1;
     output.settled = settled;
     Ok(())
 }
@@ -85,28 +86,28 @@ fn take<P: Pace>(
 /// sorted, where it writes level 0, and of these and all runs where it writes level 1. It takes no memory and never waits. Refused, with
 /// what is written there unseen by any reader, where that is more than the place has room for.
 pub fn merge<P: Pace>(
-    steps: &Steps<P>,
+    words: &Words<P>,
     merger: &mut RawMerger,
     merges: u64,
     floor: Time,
     epoch: &[Entry],
 ) -> Result<(), RunFull>
-    requires of { IsSeatOf steps.now.words.now merger.old }
-    requires merging { IsMerging merger.old.knows merges }
+    requires of { IsSeatOf words.now merger.old }
+    requires merging { IsFrozenBehind merger.old.knows merges }
     requires sorted { IsRun epoch.now }
     requires early { AreBelow (2 ^ 62) epoch.now }
     requires few { length epoch.now < 2 ^ 62 }
-    ensures of { IsSeatOf steps.now.words.now merger.new }
+    ensures of { IsSeatOf words.now merger.new }
     ensures changes { Changes (IsOfPlace (target_of merger.old.knows.merger)) merger.old.knows merger.new.knows }
     ensures written { OnOk result (HasWritten merger.new.knows (kept_of merger.old.knows floor epoch.now)) }
     ensures full { IfErr result (λ refusal. room_of merger.old.knows.layout (target_of merger.old.knows.merger) < length (kept_of merger.old.knows floor epoch.now)) }
 {
     merger.is_sound();
-    let mut output = open_output(steps, merger, merges, floor);
-    let mut cursors = open_cursors(steps, merger, merges, epoch);
-    while let Some(entry) = next(steps, merger, merges, epoch, &mut cursors) {
-        take(steps, merger, &mut output, entry)?;
+    let mut output = open_output(words, merger, merges, floor);
+    let mut cursors = open_cursors(words, merger, merges, epoch);
+    while let Some(entry) = next(words, merger, merges, epoch, &mut cursors) {
+        take(words, merger, &mut output, entry)?;
     }
-    steps.write_run(merger, Word::Count(output.place), output.count);
+    words.write_run(merger, Word::Count(output.place), output.count);
     Ok(())
 }

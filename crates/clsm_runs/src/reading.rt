@@ -4,12 +4,12 @@ ghost use Rattle.clsm_law.specs.Places.{entry_in};
 ghost use Rattle.clsm_words.specs.Knowing.{row_of};
 ghost use Rattle.clsm_words.specs.Keeping.{LooksAside};
 ghost use Rattle.clsm_words.specs.Plays.{IsSeatOf};
-ghost use Rattle.clsm_runs.specs.Searching.{HasEntry, IsSearchable, count_of, part_of};
+ghost use Rattle.clsm_runs.specs.Searching.{HasEntry, IsSearchable, count_of, entry_word};
 
 use clsm_law::Word;
 use clsm_levels::Entry;
 use clsm_model::Value;
-use clsm_words::{Pace, RawSeat, Steps};
+use clsm_words::{Pace, RawSeat, Words};
 
 /// An entry's words: its key.
 pub(crate) const KEY: u64 = 0;
@@ -23,84 +23,84 @@ pub(crate) const VALUE: u64 = 3;
 /// How many entries the run at the place has.
 #[inline]
 pub(crate) fn count<P: Pace>(
-    steps: &Steps<P>,
+    words: &Words<P>,
     seat: &mut RawSeat,
     component: u64,
     place: u64,
 ) -> u64
-    requires of { IsSeatOf steps.now.words.now seat.old }
+    requires of { IsSeatOf words.now seat.old }
     requires run { IsSearchable seat.old.knows component place }
-    ensures of { IsSeatOf steps.now.words.now seat.new }
+    ensures of { IsSeatOf words.now seat.new }
     ensures looks { LooksAside seat.old.knows seat.new.knows }
     ensures told { result ≡ count_of seat.old.knows place }
 {
     seat.is_sound();
-    steps.look(seat, Word::Count(place))
+    words.look(seat, Word::Count(place))
 }
 
 /// One of the words of the entry.
 #[inline]
 pub(crate) fn part<P: Pace>(
-    steps: &Steps<P>,
+    words: &Words<P>,
     seat: &mut RawSeat,
     component: u64,
     place: u64,
     entry: u64,
     part: u64,
 ) -> u64
-    requires of { IsSeatOf steps.now.words.now seat.old }
+    requires of { IsSeatOf words.now seat.old }
     requires has { HasEntry seat.old.knows component place entry }
     requires inside { part < 11 }
-    ensures of { IsSeatOf steps.now.words.now seat.new }
+    ensures of { IsSeatOf words.now seat.new }
     ensures looks { LooksAside seat.old.knows seat.new.knows }
-    ensures told { result ≡ part_of seat.old.knows place entry part }
+    ensures told { result ≡ entry_word seat.old.knows place entry part }
 {
     seat.is_sound();
-    steps.look(seat, Word::Entry { place, entry, part })
+    words.look(seat, Word::Entry { place, entry, part })
 }
 
 /// How many words the value of an entry has that is no removal.
 fn length<P: Pace>(
-    steps: &Steps<P>,
+    words: &Words<P>,
     seat: &mut RawSeat,
     component: u64,
     place: u64,
     entry: u64,
 ) -> usize
-    requires of { IsSeatOf steps.now.words.now seat.old }
+    requires of { IsSeatOf words.now seat.old }
     requires has { HasEntry seat.old.knows component place entry }
-    requires valued { part_of seat.old.knows place entry 1 % 2 ≢ 1 }
-    ensures of { IsSeatOf steps.now.words.now seat.new }
+    requires valued { entry_word seat.old.knows place entry 1 % 2 ≢ 1 }
+    ensures of { IsSeatOf words.now seat.new }
     ensures looks { LooksAside seat.old.knows seat.new.knows }
-    ensures told { result ≡ part_of seat.old.knows place entry 2 }
+    ensures told { result ≡ entry_word seat.old.knows place entry 2 }
     ensures some { 1 ≤ result }
     ensures at_most_eight { result ≤ 8 }
 {
     seat.is_sound();
-    part(steps, seat, component, place, entry, LENGTH) as usize
+    part(words, seat, component, place, entry, LENGTH) as usize
 }
 
 /// The value of an entry that is no removal: only its own words are looked at.
 fn value<P: Pace>(
-    steps: &Steps<P>,
+    words: &Words<P>,
     seat: &mut RawSeat,
     component: u64,
     place: u64,
     entry: u64,
 ) -> Value
-    requires of { IsSeatOf steps.now.words.now seat.old }
+    requires of { IsSeatOf words.now seat.old }
     requires has { HasEntry seat.old.knows component place entry }
-    requires valued { part_of seat.old.knows place entry 1 % 2 ≢ 1 }
-    ensures of { IsSeatOf steps.now.words.now seat.new }
+    requires valued { entry_word seat.old.knows place entry 1 % 2 ≢ 1 }
+    ensures of { IsSeatOf words.now seat.new }
     ensures looks { LooksAside seat.old.knows seat.new.knows }
     ensures told { (entry_in (row_of seat.old.knows) place entry).value ≡ Some result }
 {
-    let count = length(steps, seat, component, place, entry);
-    let mut words = [0; 8];
+    let count = length(words, seat, component, place, entry);
+    let mut read = [0; 8];
     for index in 0..count {
-        words[index] = part(steps, seat, component, place, entry, VALUE + index as u64);
+        read[index] = part(words, seat, component, place, entry, VALUE + index as u64);
     }
-    match Value::new(&words[..count]) {
+    match Value::new(&read[..count]) {
         Ok(value) => value,
         Err(_) => unreachable!(),
     }
@@ -108,7 +108,7 @@ fn value<P: Pace>(
 
 /// The entry with this key and this time word.
 pub(crate) fn entry<P: Pace>(
-    steps: &Steps<P>,
+    words: &Words<P>,
     seat: &mut RawSeat,
     component: u64,
     place: u64,
@@ -116,11 +116,11 @@ pub(crate) fn entry<P: Pace>(
     key: u64,
     spelled: u64,
 ) -> Entry
-    requires of { IsSeatOf steps.now.words.now seat.old }
+    requires of { IsSeatOf words.now seat.old }
     requires has { HasEntry seat.old.knows component place entry }
-    requires key { part_of seat.old.knows place entry 0 ≡ key }
-    requires spelled { part_of seat.old.knows place entry 1 ≡ spelled }
-    ensures of { IsSeatOf steps.now.words.now seat.new }
+    requires key { entry_word seat.old.knows place entry 0 ≡ key }
+    requires spelled { entry_word seat.old.knows place entry 1 ≡ spelled }
+    ensures of { IsSeatOf words.now seat.new }
     ensures looks { LooksAside seat.old.knows seat.new.knows }
     ensures told { result ≡ entry_in (row_of seat.old.knows) place entry }
 {
@@ -132,6 +132,6 @@ pub(crate) fn entry<P: Pace>(
             value: None,
         };
     }
-    let value = Some(value(steps, seat, component, place, entry));
+    let value = Some(value(words, seat, component, place, entry));
     Entry { key, time, value }
 }

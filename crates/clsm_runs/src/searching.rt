@@ -9,7 +9,7 @@ ghost use Rattle.clsm_words.specs.Plays.{IsSeatOf};
 use crate::finding::find;
 use clsm_levels::Entry;
 use clsm_model::Time;
-use clsm_words::{Pace, RawSeat, Steps};
+use clsm_words::{Pace, RawSeat, Words};
 
 /// The number of the first place of level 1.
 const LEVEL_ONE: u64 = 3;
@@ -18,24 +18,24 @@ const LEVEL_ONE: u64 = 3;
 /// and then that of level 1, up to the first that has one. This is LevelDB's order: each run holds newer versions of a key than those
 /// behind it. It never waits, takes no memory and is never refused. The seat has to know all that was merged into its component.
 pub fn search<P: Pace>(
-    steps: &Steps<P>,
+    words: &Words<P>,
     seat: &mut RawSeat,
     component: u64,
     key: u64,
     until: Time,
 ) -> Option<Entry>
-    requires of { IsSeatOf steps.now.words.now seat.old }
+    requires of { IsSeatOf words.now seat.old }
     requires held { seat.old.knows.view.held ≡ Some component }
     requires known { component * seat.old.knows.layout.cells ≤ length seat.old.knows.past }
-    ensures of { IsSeatOf steps.now.words.now seat.new }
+    ensures of { IsSeatOf words.now seat.new }
     ensures looks { LooksAside seat.old.knows seat.new.knows }
     ensures found { result ≡ first_in_runs (runs_of (row_of seat.old.knows) component) key until }
 {
     for place in (0..component % 4).rev() {
-        if let Some(entry) = find(steps, seat, component, place, key, until) {
+        if let Some(entry) = find(words, seat, component, place, key, until) {
             return Some(entry);
         }
     }
     let place = LEVEL_ONE + component / 4 % 2;
-    find(steps, seat, component, place, key, until)
+    find(words, seat, component, place, key, until)
 }

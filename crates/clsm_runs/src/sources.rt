@@ -5,57 +5,57 @@ ghost use Rattle.clsm_words.specs.Knowing.{row_of};
 ghost use Rattle.clsm_words.specs.Plays.{IsSeatOf};
 ghost use Rattle.clsm_words.specs.Changing.{Changes, NoWord};
 ghost use Rattle.clsm_runs.specs.Placing.{IsMergedEntry};
-ghost use Rattle.clsm_runs.specs.Searching.{part_of};
+ghost use Rattle.clsm_runs.specs.Searching.{entry_word};
 
 use crate::reading::{KEY, LENGTH, TIME, VALUE};
 use clsm_law::Word;
 use clsm_levels::Entry;
 use clsm_model::Value;
-use clsm_words::{Pace, RawMerger, Steps};
+use clsm_words::{Pace, RawMerger, Words};
 
 /// One of the words of the entry.
-fn part<P: Pace>(steps: &Steps<P>, merger: &mut RawMerger, place: u64, entry: u64, part: u64) -> u64
-    requires of { IsSeatOf steps.now.words.now merger.old }
+fn part<P: Pace>(words: &Words<P>, merger: &mut RawMerger, place: u64, entry: u64, part: u64) -> u64
+    requires of { IsSeatOf words.now merger.old }
     requires has { IsMergedEntry merger.old.knows place entry }
     requires inside { part < 11 }
-    ensures of { IsSeatOf steps.now.words.now merger.new }
+    ensures of { IsSeatOf words.now merger.new }
     ensures looks { Changes NoWord merger.old.knows merger.new.knows }
-    ensures told { result ≡ part_of merger.old.knows place entry part }
+    ensures told { result ≡ entry_word merger.old.knows place entry part }
 {
     merger.is_sound();
-    steps.look_as_merger(merger, Word::Entry { place, entry, part })
+    words.look_as_merger(merger, Word::Entry { place, entry, part })
 }
 
 /// How many words the value of an entry has that is no removal.
-fn length<P: Pace>(steps: &Steps<P>, merger: &mut RawMerger, place: u64, entry: u64) -> usize
-    requires of { IsSeatOf steps.now.words.now merger.old }
+fn length<P: Pace>(words: &Words<P>, merger: &mut RawMerger, place: u64, entry: u64) -> usize
+    requires of { IsSeatOf words.now merger.old }
     requires has { IsMergedEntry merger.old.knows place entry }
-    requires valued { part_of merger.old.knows place entry 1 % 2 ≢ 1 }
-    ensures of { IsSeatOf steps.now.words.now merger.new }
+    requires valued { entry_word merger.old.knows place entry 1 % 2 ≢ 1 }
+    ensures of { IsSeatOf words.now merger.new }
     ensures looks { Changes NoWord merger.old.knows merger.new.knows }
-    ensures told { result ≡ part_of merger.old.knows place entry 2 }
+    ensures told { result ≡ entry_word merger.old.knows place entry 2 }
     ensures some { 1 ≤ result }
     ensures at_most_eight { result ≤ 8 }
 {
     merger.is_sound();
-    part(steps, merger, place, entry, LENGTH) as usize
+    part(words, merger, place, entry, LENGTH) as usize
 }
 
 /// The value of an entry that is no removal.
-fn value<P: Pace>(steps: &Steps<P>, merger: &mut RawMerger, place: u64, entry: u64) -> Value
-    requires of { IsSeatOf steps.now.words.now merger.old }
+fn value<P: Pace>(words: &Words<P>, merger: &mut RawMerger, place: u64, entry: u64) -> Value
+    requires of { IsSeatOf words.now merger.old }
     requires has { IsMergedEntry merger.old.knows place entry }
-    requires valued { part_of merger.old.knows place entry 1 % 2 ≢ 1 }
-    ensures of { IsSeatOf steps.now.words.now merger.new }
+    requires valued { entry_word merger.old.knows place entry 1 % 2 ≢ 1 }
+    ensures of { IsSeatOf words.now merger.new }
     ensures looks { Changes NoWord merger.old.knows merger.new.knows }
     ensures told { (entry_in (row_of merger.old.knows) place entry).value ≡ Some result }
 {
-    let count = length(steps, merger, place, entry);
-    let mut words = [0; 8];
+    let count = length(words, merger, place, entry);
+    let mut read = [0; 8];
     for index in 0..count {
-        words[index] = part(steps, merger, place, entry, VALUE + index as u64);
+        read[index] = part(words, merger, place, entry, VALUE + index as u64);
     }
-    match Value::new(&words[..count]) {
+    match Value::new(&read[..count]) {
         Ok(value) => value,
         Err(_) => unreachable!(),
     }
@@ -63,19 +63,19 @@ fn value<P: Pace>(steps: &Steps<P>, merger: &mut RawMerger, place: u64, entry: u
 
 /// The entry with this number of the run at the place.
 pub(crate) fn entry<P: Pace>(
-    steps: &Steps<P>,
+    words: &Words<P>,
     merger: &mut RawMerger,
     place: u64,
     entry: u64,
 ) -> Entry
-    requires of { IsSeatOf steps.now.words.now merger.old }
+    requires of { IsSeatOf words.now merger.old }
     requires has { IsMergedEntry merger.old.knows place entry }
-    ensures of { IsSeatOf steps.now.words.now merger.new }
+    ensures of { IsSeatOf words.now merger.new }
     ensures looks { Changes NoWord merger.old.knows merger.new.knows }
     ensures told { result ≡ entry_in (row_of merger.old.knows) place entry }
 {
-    let key = part(steps, merger, place, entry, KEY);
-    let spelled = part(steps, merger, place, entry, TIME);
+    let key = part(words, merger, place, entry, KEY);
+    let spelled = part(words, merger, place, entry, TIME);
     let time = spelled / 2;
     if spelled % 2 == 1 {
         return Entry {
@@ -84,6 +84,6 @@ pub(crate) fn entry<P: Pace>(
             value: None,
         };
     }
-    let value = Some(value(steps, merger, place, entry));
+    let value = Some(value(words, merger, place, entry));
     Entry { key, time, value }
 }

@@ -6,49 +6,49 @@ ghost use Rattle.clsm_law.specs.Worlds.{is_canonical};
 ghost use Rattle.clsm_words.specs.Knowing.{row_of};
 ghost use Rattle.clsm_words.specs.Plays.{IsSeatOf};
 ghost use Rattle.clsm_words.specs.Changing.{Changes};
-ghost use Rattle.clsm_runs.specs.Placing.{IsFree, IsOfEntry, IsPart, spelling, value_list};
+ghost use Rattle.clsm_runs.specs.Placing.{MayWriteInto, IsOfEntry, IsPart, spelling, value_list};
 
 use crate::reading::{KEY, LENGTH, TIME, VALUE};
 use clsm_law::Word;
 use clsm_levels::Entry;
-use clsm_words::{Pace, RawMerger, Steps};
+use clsm_words::{Pace, RawMerger, Words};
 
 /// Writes one of the words of the entry.
 fn write_part<P: Pace>(
-    steps: &Steps<P>,
+    words: &Words<P>,
     merger: &mut RawMerger,
     place: u64,
     entry: u64,
     part: u64,
     word: u64,
 )
-    requires of { IsSeatOf steps.now.words.now merger.old }
-    requires free { IsFree merger.old.knows place entry }
+    requires of { IsSeatOf words.now merger.old }
+    requires free { MayWriteInto merger.old.knows place entry }
     requires inside { part < 11 }
-    ensures of { IsSeatOf steps.now.words.now merger.new }
+    ensures of { IsSeatOf words.now merger.new }
     ensures changes { Changes (IsPart place entry part) merger.old.knows merger.new.knows }
     ensures made { row_of merger.new.knows (EntryWord place entry part) ≡ word }
 {
-    steps.write_run(merger, Word::Entry { place, entry, part }, word);
+    words.write_run(merger, Word::Entry { place, entry, part }, word);
 }
 
 /// Writes the words of the entry's value, and 0 behind them.
 fn write_words<P: Pace>(
-    steps: &Steps<P>,
+    words: &Words<P>,
     merger: &mut RawMerger,
     place: u64,
     entry: u64,
-    words: &[u64],
+    value: &[u64],
 )
-    requires of { IsSeatOf steps.now.words.now merger.old }
-    requires free { IsFree merger.old.knows place entry }
-    ensures of { IsSeatOf steps.now.words.now merger.new }
+    requires of { IsSeatOf words.now merger.old }
+    requires free { MayWriteInto merger.old.knows place entry }
+    ensures of { IsSeatOf words.now merger.new }
     ensures changes { Changes (IsOfEntry place entry) merger.old.knows merger.new.knows }
-    ensures made { (j : ℕ) → j < 8 → row_of merger.new.knows (EntryWord place entry (3 + j)) ≡ slice_index_or words.now j 0 }
+    ensures made { (j : ℕ) → j < 8 → row_of merger.new.knows (EntryWord place entry (3 + j)) ≡ slice_index_or value.now j 0 }
 {
     for index in 0..8_u64 {
-        let word = words.get(index as usize).copied().unwrap_or(0);
-        write_part(steps, merger, place, entry, VALUE + index, word);
+        let word = value.get(index as usize).copied().unwrap_or(0);
+        write_part(words, merger, place, entry, VALUE + index, word);
     }
 }
 
@@ -73,23 +73,23 @@ fn spelling(entry: &Entry) -> u64
 
 /// Writes the entry with this number.
 pub(crate) fn write_entry<P: Pace>(
-    steps: &Steps<P>,
+    words: &Words<P>,
     merger: &mut RawMerger,
     place: u64,
     number: u64,
     entry: &Entry,
 )
-    requires of { IsSeatOf steps.now.words.now merger.old }
-    requires free { IsFree merger.old.knows place number }
+    requires of { IsSeatOf words.now merger.old }
+    requires free { MayWriteInto merger.old.knows place number }
     requires early { entry.now.time < 2 ^ 62 }
-    ensures of { IsSeatOf steps.now.words.now merger.new }
+    ensures of { IsSeatOf words.now merger.new }
     ensures changes { Changes (IsOfEntry place number) merger.old.knows merger.new.knows }
     ensures made { entry_in (row_of merger.new.knows) place number ≡ entry.now }
     ensures canonical { is_canonical (row_of merger.new.knows) place number ≡ true }
 {
-    let words = words_of(entry);
-    write_words(steps, merger, place, number, words);
-    write_part(steps, merger, place, number, LENGTH, words.len() as u64);
-    write_part(steps, merger, place, number, TIME, spelling(entry));
-    write_part(steps, merger, place, number, KEY, entry.key);
+    let value = words_of(entry);
+    write_words(words, merger, place, number, value);
+    write_part(words, merger, place, number, LENGTH, value.len() as u64);
+    write_part(words, merger, place, number, TIME, spelling(entry));
+    write_part(words, merger, place, number, KEY, entry.key);
 }

@@ -48,13 +48,13 @@ module _ (k : Known) (first end : ℕ) (is : IsCleaning k first end) where
     pub still_cleaning : k'.merger ≡ k.merger → IsCleaning k' first end
     still_cleaning same = record {
       letgo = subst IsLetGo (sym same) is.letgo;
-      headless = headless_if k' (retired_region k.merger) (ap retired_region (sym same)) (λ s lt. heads_stay s ∙ zero_head s (let e = ap (λ (z : Layout). z.shards) follows.layout in omega arith));
+      headless = headless_if k' (retired_region k.merger) (ap retired_region (sym same)) (λ s lt. heads_stay s ∙ zero_head s (let e = ap (λ (z : Layout). z.chains) follows.layout in omega arith));
       begins = is.begins ∙ ap (λ (m : MergerView). retired_region m * k.layout.cells) (sym same) ∙ ap (λ (z : Layout). retired_region k'.merger * z.cells) (sym follows.layout);
       ends = is.ends ∙ ap (λ (z : Layout). first + z.cells) (sym follows.layout);
     }
       where
-        zero_head : (s : ℕ) → s < k.layout.shards → row_of k (Head (retired_region k.merger) s) ≡ 0
-        zero_head s lt = eqb-true _ 0 (passes_at (λ shard. row_of k (Head (retired_region k.merger) shard) == 0) 0 k.layout.shards s is.headless (omega arith) (omega arith))
+        zero_head : (s : ℕ) → s < k.layout.chains → row_of k (Head (retired_region k.merger) s) ≡ 0
+        zero_head s lt = eqb-true _ 0 (passes_at (λ chain. row_of k (Head (retired_region k.merger) chain) == 0) 0 k.layout.chains s is.headless (omega arith) (omega arith))
 
   -- ---- a look at a state
 

@@ -2,6 +2,8 @@ pub mod Rest
 pub mod Starts
 pub mod Found
 pub mod Unchanged
+pub mod Giving
+pub mod Changed
 pub mod LastTimes
 pub mod Quiet
 pub mod Cleaning

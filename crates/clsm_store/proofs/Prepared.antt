@@ -24,7 +24,7 @@ use Rattle.clsm_words.specs.Knowing.{row_of}
 use Rattle.clsm_words.specs.Merging.{IsSoundMerger}
 use Rattle.clsm_words.proofs.MergerFacts.{entries_below as entries_agree, settled_known}
 use Rattle.clsm_memtable.proofs.FrozenTimes.{frozen_known}
-use Rattle.clsm_store.specs.declared.merger.Merger.{Merger}
+use Rattle.clsm_store.specs.declared.merger_seat.MergerSeat.{MergerSeat}
 use Rattle.clsm_store.specs.Freezing.{IsFrozen}
 use Rattle.clsm_store.specs.Merging.{epoch_known, frozen_of, runs_known}
 
@@ -79,8 +79,8 @@ module _ (k : Known) (sound : IsSoundMerger k) where
 -- ---- the whole
 
 -- what contracts see of the merger stays, but for the floor and the rounds
-pub same_frozen : (old new : Merger) → new.raw.table ≡ old.raw.table → new.raw.knows.layout ≡ old.raw.knows.layout → new.merges ≡ old.merges → epoch_known new.raw.knows ≡ epoch_known old.raw.knows → runs_known new.raw.knows ≡ runs_known old.raw.knows → frozen_of new ≡ record (frozen_of old) { floor = new.floor; rounds = new.raw.knows.merger.rounds }
-same_frozen old new table layout merges epoch runs = λ i. record { merger = record { store = record { table = table i; layout = layout i }; merges = merges i }; floor = new.floor; rounds = new.raw.knows.merger.rounds; epoch = epoch i; runs = runs i }
+pub same_frozen : (old new : MergerSeat) → new.raw.table ≡ old.raw.table → new.raw.knows.layout ≡ old.raw.knows.layout → new.merges ≡ old.merges → new.raw.knows.merger.holds ≡ old.raw.knows.merger.holds → epoch_known new.raw.knows ≡ epoch_known old.raw.knows → runs_known new.raw.knows ≡ runs_known old.raw.knows → frozen_of new ≡ record (frozen_of old) { floor = new.floor; rounds = new.raw.knows.merger.rounds }
+same_frozen old new table layout merges holds epoch runs = λ i. record { merger = record { store = record { table = table i; layout = layout i }; merges = merges i; holds = holds i }; floor = new.floor; rounds = new.raw.knows.merger.rounds; epoch = epoch i; runs = runs i }
 
 -- and so does the phase
 pub still_frozen : (k k' : Known) (merges : ℕ) → k'.merger ≡ record k.merger { floor = k'.merger.floor; round = k'.merger.round; rounds = k'.merger.rounds } → IsFrozen k merges → IsFrozen k' merges

@@ -4,11 +4,11 @@ use Rattle.std.proofs.lemmas.Bool.{cases_lt}
 use Rattle.std.proofs.lemmas.List.{get_or_append_left, get_or_push}
 use Rattle.clsm_law.specs.declared.view.View.{View}
 use Rattle.clsm_law.specs.Relation.{open_time}
-use Rattle.clsm_words.specs.declared.words.Words.{Words}
-use Rattle.clsm_words.specs.Seats.{SeatState as RawState}
+use Rattle.clsm_words.specs.declared.words.WordTable.{WordTable}
+use Rattle.clsm_words.specs.Seats.{RawState as RawState}
 use Rattle.clsm_words.specs.Plays.{IsSeatOf, IsFresh, AreFreshFrom}
 use Rattle.clsm_store.specs.Seats.{SeatState, StoreId, AreNew, newcomer}
-use Rattle.clsm_store.specs.Resting.{IsAtRest, IsSettled, state_of, store_of}
+use Rattle.clsm_store.specs.Resting.{IsAtRest, IsSettled, seat_of, store_of}
 
 -- one seat more
 pub new_more : (store : StoreId) (n : ℕ) (seats : List SeatState) (x : SeatState) → AreNew store n seats → x ≡ newcomer store n → AreNew store (n + 1) (seats ++ x ∷ [])
@@ -22,20 +22,21 @@ new_more store n seats x new e = record {
 }
 
 -- the seat with this number did nothing yet
-pub fresh_state : (w : Words) (r : RawState) (n : ℕ) → IsSeatOf w r → IsFresh n r → state_of r ≡ newcomer (store_of w) n
+pub fresh_state : (w : WordTable) (r : RawState) (n : ℕ) → IsSeatOf w r → IsFresh n r → seat_of r ≡ newcomer (store_of w) n
 fresh_state w r n s f =
-    ap (λ (v : View). record { store = record { table = r.table; layout = r.knows.layout }; number = r.knows.number; past = r.knows.past; calls = v.calls; due = v.due; snapshot = open_time v.snapshot; tally = record { entries = v.entries; busy = v.busy; raced = v.raced; overtaken = v.overtaken; limit = v.hold_limit; clock = v.hold_clock } }) f.1
+    ap (λ (v : View). record { store = record { table = r.table; layout = r.knows.layout }; number = r.knows.number; past = r.knows.past; calls = v.calls; due = v.due; snapshot = open_time v.snapshot; tally = record { entries = v.entries; busy = v.busy; raced = v.raced; overtaken = v.overtaken; gave_up = v.gave_up; cancelled = v.cancelled; limit = v.hold_limit; clock = v.hold_clock } }) f.1
     ∙ (λ k. record (newcomer (record { table = s.0 k; layout = s.1 k }) (f.0 k)) { past = f.2 k })
 
 pub fresh_rests : (r : RawState) (n : ℕ) → IsFresh n r → IsAtRest r.knows
 fresh_rests r n f = record {
   free = ap (λ (v : View). v.mode) f.1;
+  unlooked = ap (λ (v : View). v.fresh_lock) f.1;
   undrawn = ap (λ (v : View). v.drawn) f.1;
   unpinned = ap (λ (v : View). v.pinned) f.1;
   settled = subst (λ (v : View). IsSettled v.snapshot) (sym f.1) tt;
 }
 
-pub fresh_at : (w : Words) (all done : List RawState) (r : RawState) (rest : List RawState) → AreFreshFrom 0 w all → done ++ r ∷ rest ≡ all → IsSeatOf w r × IsFresh (length done) r
+pub fresh_at : (w : WordTable) (all done : List RawState) (r : RawState) (rest : List RawState) → AreFreshFrom 0 w all → done ++ r ∷ rest ≡ all → IsSeatOf w r × IsFresh (length done) r
 fresh_at w all done r rest f e = let at = f (length done) r
     (let a = ap (λ (l : List RawState). length l) e in let b = length-append done (r ∷ rest) in omega arith)
     (subst (λ (l : List RawState). get_or l (length done) r ≡ r) e (there done)) in (at.0, subst (λ (m : ℕ). IsFresh m r) (omega arith) at.1)

@@ -1,5 +1,5 @@
 -- A read-modify-write at the words.
-use Rattle.std.specs.Prelude.{◌≡◌, ℕ, ◌*◌, ◌≤◌, ◌++◌, ◌∷◌, [], Bool, List, true, false, cond, length, Option, Some, None, Result, Ok, Err}
+use Rattle.std.specs.Prelude.{◌≡◌, ℕ, ◌*◌, ◌≤◌, ◌⊎◌, ◌++◌, ◌∷◌, [], Bool, List, true, false, cond, length, Option, Some, None, Result, Ok, Err}
 use mathlib.Core.List.{IsPrefix}
 use Rattle.clsm_model.specs.History.{plain, value}
 use Rattle.clsm_model.specs.declared.slot.Change.{Change}
@@ -9,15 +9,16 @@ use Rattle.clsm_model.specs.declared.record.Deed.TheVariants.{Rmw}
 use Rattle.clsm_law.specs.declared.step.End.{End}
 use Rattle.clsm_law.specs.declared.step.End.TheVariants.{Neither, Recorded}
 use Rattle.clsm_law.specs.Relation.{call_of, next_word}
-use Rattle.clsm_law.specs.Seats.{due_by}
+use Rattle.clsm_model.specs.Seats.{due_by}
 use Rattle.clsm_law.specs.declared.view.Mode.TheVariants.{Shared}
 use Rattle.clsm_words.specs.declared.known.Known.{Known}
-use Rattle.clsm_memtable.specs.declared.deciding.Published.{Published}
-use Rattle.clsm_memtable.specs.declared.deciding.Published.TheVariants.{Done, Overtaken}
+use Rattle.clsm_memtable.specs.declared.deciding.Decided.{Decided}
+use Rattle.clsm_memtable.specs.declared.deciding.Decided.TheVariants.{Done, Overtaken}
 use Rattle.clsm_store.specs.declared.got.Rmw.{Rmw as Answered}
 use Rattle.clsm_store.specs.declared.refusal.Full.{Full as Refusal}
 use Rattle.clsm_store.specs.declared.changing.ChangeAttempt.{ChangeAttempt}
 use Rattle.clsm_store.specs.declared.changing.ChangeAttempt.TheVariants.{Done as Finished, Full, Lost}
+use Rattle.clsm_store.specs.Seats.{IsWrittenFrom}
 use Rattle.clsm_store.specs.Resting.{FindsFull, IsSettled, Records, Still}
 
 -- it holds the lock and the component, and has drawn nothing
@@ -37,19 +38,24 @@ pub record ReadsNow (k : Known) (component key t : ℕ) (reply : Option (List �
   pub settled : t ≤ length k.past
   pub is : reply ≡ value (plain k.past) key t
 
+-- the seat gave up no time, unless a write of the key stands at or above the due that it had before
+abbrev pub GivesUpFor : Known → Known → ℕ → Type 0
+GivesUpFor old new key = (new.view.gave_up ≡ old.view.gave_up) ⊎ IsWrittenFrom new.past key old.view.due
+
 -- what became of the drawn time
-pub record Ends (old new : Known) : Type 0 where
+pub record EndsDrawn (old new : Known) : Type 0 where
   pub mode : new.view.mode ≡ Shared
   pub drawn : new.view.drawn ≡ None
   pub pinned : new.view.pinned ≡ old.view.pinned
   pub held : new.view.held ≡ old.view.held
   pub entries : new.view.entries ≡ old.view.entries
+  pub gave_up : new.view.gave_up ≡ old.view.gave_up
   pub reached : old.view.reached ≤ new.view.reached
 
 -- what a decide makes of the drawn time: a write at it, which is recorded where the due was not above it, or nothing
-abbrev pub Writes : Known → Known → ℕ → Deed → Published → Type 0
-Writes old new t deed Done = Ends old new × (old.view.due ≤ t → Records old new t deed)
-Writes old new t deed Overtaken = Ends old new × Still old new
+abbrev pub DecidesDrawn : Known → Known → ℕ → Deed → Decided → Type 0
+DecidesDrawn old new t deed Done = EndsDrawn old new × (old.view.due ≤ t → Records old new t deed)
+DecidesDrawn old new t deed Overtaken = EndsDrawn old new × Still old new
 
 -- the change of the old value stands at a later time
 abbrev pub WritesLater : Known → Known → ℕ → Option (List ℕ) → Change → ChangeAttempt → Type 0
@@ -64,10 +70,10 @@ Does (Set written) old new component key t o = Records old new t (Rmw key o (Set
 Does Remove old new component key t o = Records old new t (Rmw key o Remove)
 
 -- what came of one try to change the key: the change at its time, a clock at the limit, or nothing
-abbrev pub Changes : Known → Known → ℕ → ℕ → ChangeAttempt → Type 0
-Changes old new component key (Finished rmw) = Does rmw.change old new component key rmw.time rmw.old
-Changes old new component key (Full t) = FindsFull old new t
-Changes old new component key Lost = Still old new
+abbrev pub TriesChange : Known → Known → ℕ → ℕ → ChangeAttempt → Type 0
+TriesChange old new component key (Finished rmw) = Does rmw.change old new component key rmw.time rmw.old
+TriesChange old new component key (Full t) = FindsFull old new t
+TriesChange old new component key Lost = Still old new
 
 -- the change keeps the old value
 abbrev pub is_keep : Change → Bool
@@ -87,9 +93,9 @@ IsAnsweredBy post _ = Unit {0}
 -- ---- the whole call
 
 -- how its read ends
-abbrev pub end_of : ℕ → Result Answered Refusal → End
-end_of key (Ok rmw) = cond (is_keep rmw.change) (Recorded (Rmw key rmw.old rmw.change)) Neither
-end_of key (Err full) = Neither
+abbrev pub read_end : ℕ → Result Answered Refusal → End
+read_end key (Ok rmw) = cond (is_keep rmw.change) (Recorded (Rmw key rmw.old rmw.change)) Neither
+read_end key (Err full) = Neither
 
 -- the change of the old value is recorded at the time
 pub record ChangesAt (old new : Known) (t key : ℕ) (o : Option (List ℕ)) (change : Change) : Type 0 where

@@ -1,3 +1,4 @@
+pub mod Tally
 pub mod Seats
 pub mod Resting
 pub mod Reading
@@ -8,3 +9,5 @@ pub mod Merging
 pub mod Reclaiming
 pub mod Trying
 pub mod Opening
+pub mod Phase
+pub mod Sweeping

@@ -6,7 +6,7 @@ use Rattle.clsm_law.specs.Relation.{next_word}
 use Rattle.clsm_law.specs.Worlds.{epoch_of, runs_of}
 use Rattle.clsm_words.specs.declared.known.Known.{Known}
 use Rattle.clsm_words.specs.Knowing.{row_of}
-use Rattle.clsm_store.specs.declared.merger.Merger.{Merger}
+use Rattle.clsm_store.specs.declared.merger_seat.MergerSeat.{MergerSeat}
 use Rattle.clsm_store.specs.Freezing.{IsFrozen}
 use Rattle.clsm_store.specs.Reclaiming.{IsRetired}
 use Rattle.clsm_store.specs.Seats.{FrozenState, MergerState, RetiredState}
@@ -22,35 +22,35 @@ runs_known k = runs_of (row_of k) k.merger.merged
 -- what contracts see of the merger
 
 -- its store, and the number of merges
-abbrev pub merger_of : Merger → MergerState
-merger_of m = record { store = record { table = m.raw.table; layout = m.raw.knows.layout }; merges = m.merges }
+abbrev pub merger_of : MergerSeat → MergerState
+merger_of m = record { store = record { table = m.raw.table; layout = m.raw.knows.layout }; merges = m.merges; holds = m.raw.knows.merger.holds }
 
 -- the same while an epoch is frozen: with its floor and its rounds, and with what the next merge reads
-abbrev pub frozen_of : Merger → FrozenState
+abbrev pub frozen_of : MergerSeat → FrozenState
 frozen_of m = record { merger = merger_of m; floor = m.floor; rounds = m.raw.knows.merger.rounds; epoch = epoch_known m.raw.knows; runs = runs_known m.raw.knows }
 
 -- and while a component is retired: with what was noted of each seat
-abbrev pub retired_of : Merger → RetiredState
-retired_of m = record { merger = merger_of m; floor = m.floor; rounds = m.raw.knows.merger.rounds; retirees = m.seen.items }
+abbrev pub retired_of : MergerSeat → RetiredState
+retired_of m = record { merger = merger_of m; floor = m.floor; rounds = m.raw.knows.merger.rounds; readers = m.seen.items }
 
 -- it knows its floor, which is not past the end of the epoch of the next merge, and has room for a merge
-pub record IsReady (m : Merger) : Type 0 where
+pub record IsReady (m : MergerSeat) : Type 0 where
   pub floor : m.floor ≡ m.raw.knows.merger.floor
   pub early : m.floor ≤ (m.merges + 1) * m.raw.knows.layout.cells
   pub room : m.raw.knows.layout.cells ≤ vec_capacity m.row
   pub seats : length m.seen.items ≡ m.raw.knows.layout.seats
 
 -- an epoch stays frozen, though the merger may have taken another floor
-pub record StaysFrozen (old new : Merger) : Type 0 where
+pub record StaysFrozen (old new : MergerSeat) : Type 0 where
   pub frozen : IsFrozen new.raw.knows new.merges
   pub ready : IsReady new
   pub same : frozen_of new ≡ record (frozen_of old) { floor = new.floor; rounds = new.raw.knows.merger.rounds }
 
 -- a component is retired
-pub record IsRetiring (m : Merger) : Type 0 where
+pub record IsRetiring (m : MergerSeat) : Type 0 where
   pub retired : IsRetired m.raw.knows m.merges
   pub ready : IsReady m
-  pub seen : m.seen.items ≡ m.raw.knows.merger.retirees
+  pub seen : m.seen.items ≡ m.raw.knows.merger.readers
 
 -- It looked at all snapshot words in one round, and took this floor from it: a floor never falls, and is not past the epoch's end
 pub record TakesFloor (s : FrozenState) (floor rounds : ℕ) : Type 0 where

@@ -5,22 +5,15 @@ use Rattle.clsm_model.specs.declared.record.Deed.{Deed}
 use Rattle.clsm_law.specs.declared.view.Mode.TheVariants.{Free}
 use Rattle.clsm_law.specs.Relation.{call_of, next_word}
 use Rattle.clsm_words.specs.declared.known.Known.{Known}
-
--- it took no lock, and lost no try
-pub record TakesNoLock (old new : Known) : Type 0 where
-  pub entries : new.view.entries ≡ old.view.entries
-  pub busy : new.view.busy ≡ old.view.busy
-  pub raced : new.view.raced ≡ old.view.raced
-  pub overtaken : new.view.overtaken ≡ old.view.overtaken
-  pub limit : new.view.hold_limit ≡ old.view.hold_limit
-  pub hold_clock : new.view.hold_clock ≡ old.view.hold_clock
+use Rattle.clsm_store.specs.Tally.{TakesNoLock, tally_of}
 
 -- it pinned the component, and looked at the clock, which gave it the time
-pub record Begins (old new : Known) (component t : ℕ) : Type 0 where
+pub record BeginsRead (old new : Known) (component t : ℕ) : Type 0 where
   pub number : new.number ≡ old.number
   pub layout : new.layout ≡ old.layout
   pub past : IsPrefix old.past new.past
   pub free : new.view.mode ≡ Free
+  pub unlooked : new.view.fresh_lock ≡ None
   pub undrawn : new.view.drawn ≡ None
   pub pinned : new.view.pinned ≡ true
   pub pin : new.view.pin ≡ next_word old.view.pin
@@ -34,7 +27,7 @@ pub record Begins (old new : Known) (component t : ℕ) : Type 0 where
   pub above : old.view.due ≤ t
   pub from : component * new.layout.cells ≤ t
   pub within : t ≤ (component + 2) * new.layout.cells
-  pub unlocked : TakesNoLock old new
+  pub unlocked : TakesNoLock (tally_of old) (tally_of new)
 
 -- it read at the time, and the read is recorded
 pub record ReadsAt (old new : Known) (t : ℕ) (deed : Deed) : Type 0 where
@@ -45,4 +38,4 @@ pub record ReadsAt (old new : Known) (t : ℕ) (deed : Deed) : Type 0 where
   pub calls : new.view.calls ≡ old.view.calls ++ call_of old.number t deed ∷ []
   pub due : new.view.due ≡ t
   pub above : old.view.due ≤ t
-  pub unlocked : TakesNoLock old new
+  pub unlocked : TakesNoLock (tally_of old) (tally_of new)

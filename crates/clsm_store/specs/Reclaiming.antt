@@ -1,9 +1,9 @@
 -- The merger's seat in a reclaim.
 use Rattle.std.specs.Prelude.{◌≡◌, ◌≢◌, ℕ, ◌+◌, ◌*◌, ◌<◌, ◌≤◌, true, false, List, length}
-use Rattle.clsm_law.specs.declared.merger.Retiree.{Retiree}
+use Rattle.clsm_law.specs.declared.merger.Reader.{Reader}
 use Rattle.clsm_law.specs.declared.word.Word.TheVariants.{State}
 use Rattle.clsm_law.specs.Relation.{next_word}
-use Rattle.clsm_law.specs.Merging.{is_retired, retired_region, retiree_at}
+use Rattle.clsm_law.specs.Merging.{is_retired, retired_region, reader_at}
 use Rattle.clsm_words.specs.declared.known.Known.{Known}
 use Rattle.clsm_words.specs.Knowing.{row_of}
 use Rattle.clsm_words.specs.Merging.{IsLetGo, facts_known}
@@ -11,18 +11,18 @@ use Rattle.clsm_pins.specs.Quieting.{IsNotedOdd}
 use Rattle.clsm_store.specs.Freezing.{IsOut}
 
 -- the seat with this number was looked at once more and not found quiet, each with a lower one was found so, and those found so before stay so
-pub record IsLowestLoud (before now : List Retiree) (number : ℕ) : Type 0 where
-  pub again : (retiree_at now number).looks ≡ next_word (retiree_at before number).looks
-  pub loud : (retiree_at now number).quiet ≡ false
-  pub odd : IsNotedOdd (retiree_at now number).first_pin
-  pub lowest : (i : ℕ) → i < number → (retiree_at now i).quiet ≡ true
-  pub stays : (i : ℕ) → (retiree_at before i).quiet ≡ true → (retiree_at now i).quiet ≡ true
+pub record IsLowestLoud (before now : List Reader) (number : ℕ) : Type 0 where
+  pub again : (reader_at now number).looks ≡ next_word (reader_at before number).looks
+  pub loud : (reader_at now number).quiet ≡ false
+  pub odd : IsNotedOdd (reader_at now number).first_pin
+  pub lowest : (i : ℕ) → i < number → (reader_at now i).quiet ≡ true
+  pub stays : (i : ℕ) → (reader_at before i).quiet ≡ true → (reader_at now i).quiet ≡ true
 
 -- it looked at pin words: the merger's view is as it was, but for what it noted of the seats
 pub record KeepsRetired (old new : Known) : Type 0 where
   pub layout : new.layout ≡ old.layout
-  pub view : new.merger ≡ record old.merger { retirees = new.merger.retirees }
-  pub count : length new.merger.retirees ≡ length old.merger.retirees
+  pub view : new.merger ≡ record old.merger { readers = new.merger.readers }
+  pub count : length new.merger.readers ≡ length old.merger.readers
 
 -- the heads of the retired region are 0, and its view is as it was
 pub record HasHeadsCleared (old new : Known) : Type 0 where

@@ -8,30 +8,27 @@ use Rattle.clsm_law.specs.declared.view.SnapshotState.{SnapshotState}
 use Rattle.clsm_law.specs.declared.view.SnapshotState.TheVariants.{Absent, Open}
 use Rattle.clsm_law.specs.Relation.{call_of, open_time}
 use Rattle.clsm_words.specs.declared.known.Known.{Known}
-use Rattle.clsm_words.specs.declared.words.Words.{Words}
-use Rattle.clsm_words.specs.Seats.{SeatState as RawState}
+use Rattle.clsm_words.specs.declared.words.WordTable.{WordTable}
+use Rattle.clsm_words.specs.Seats.{RawState as RawState}
 use Rattle.clsm_store.specs.Seats.{SeatState, StoreId}
+use Rattle.clsm_store.specs.Tally.{tally_of}
 use Rattle.clsm_store.specs.declared.writing.Attempt.{Attempt}
 use Rattle.clsm_store.specs.declared.writing.Attempt.TheVariants.{Written, Full, Lost}
 
 -- what contracts see of a seat at the words
-abbrev pub state_of : RawState → SeatState
-state_of s = let v = s.knows.view in record {
+abbrev pub seat_of : RawState → SeatState
+seat_of s = let v = s.knows.view in record {
   store = record { table = s.table; layout = s.knows.layout };
   number = s.knows.number;
   past = s.knows.past;
   calls = v.calls;
   due = v.due;
   snapshot = open_time v.snapshot;
-  tally = record { entries = v.entries; busy = v.busy; raced = v.raced; overtaken = v.overtaken; limit = v.hold_limit; clock = v.hold_clock };
+  tally = tally_of s.knows;
 }
 
--- these are the store's words
-abbrev pub AreStepsOf : Words → StoreId → Type 0
-AreStepsOf words store = (words.table.shared.table_id ≡ store.table) × (words.layout ≡ store.layout)
-
 -- the store that has these words
-abbrev pub store_of : Words → StoreId
+abbrev pub store_of : WordTable → StoreId
 store_of words = record { table = words.table.shared.table_id; layout = words.layout }
 
 -- no snapshot, or an open one
@@ -40,9 +37,10 @@ IsSettled Absent = Unit {0}
 IsSettled (Open noted time) = Unit {0}
 IsSettled _ = ⊥
 
--- it holds nothing and has drawn nothing
+-- it holds nothing, has drawn nothing, and has no look at the lock left over
 pub record IsAtRest (k : Known) : Type 0 where
   pub free : k.view.mode ≡ Free
+  pub unlooked : k.view.fresh_lock ≡ None
   pub undrawn : k.view.drawn ≡ None
   pub unpinned : k.view.pinned ≡ false
   pub settled : IsSettled k.view.snapshot

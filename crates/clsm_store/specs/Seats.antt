@@ -1,20 +1,22 @@
 -- What contracts see of a store and its seats, and what calls make of a seat.
-use Rattle.std.specs.Prelude.{◌≡◌, ℕ, ◌<◌, List, [], ◌∷◌, ◌++◌, length, slice_index_or, Option, Some, None}
+use Rattle.std.specs.Prelude.{◌≡◌, ℕ, ◌<◌, ◌≤◌, ◌⊎◌, List, [], ◌∷◌, ◌++◌, length, slice_index_or, Option, Some, None}
 use Rattle.std.specs.List.{AllByRecursion}
 use mathlib.Core.List.{IsPrefix}
 use Rattle.atomic_table.specs.Seated.{TableId}
 use Rattle.clsm_model.specs.declared.slot.Slot.{Slot}
+use Rattle.clsm_model.specs.declared.slot.Slot.TheVariants.{Nothing, Wrote}
 use Rattle.clsm_model.specs.declared.record.Deed.{Deed}
 use Rattle.clsm_model.specs.declared.record.CallRecord.{CallRecord}
 use Rattle.clsm_model.specs.History.{plain}
 use Rattle.clsm_model.specs.declared.config.Config.{Config}
 use Rattle.clsm_levels.specs.declared.entry.Entry.{Entry}
 use Rattle.clsm_law.specs.declared.layout.Layout.{Layout}
-use Rattle.clsm_law.specs.declared.merger.Retiree.{Retiree}
+use Rattle.clsm_law.specs.declared.merger.Reader.{Reader}
 use Rattle.clsm_law.specs.Layout.{HasSizesOf}
 use Rattle.clsm_law.specs.Relation.{call_of, next_word}
-use Rattle.clsm_law.specs.Seats.{IsNext, IsRightRecord, IsRising, due_after, open_after}
+use Rattle.clsm_model.specs.Seats.{IsNext, IsRightRecord, IsRising, due_after, open_after}
 use Rattle.clsm_words.specs.Knowing.{Agrees}
+use Rattle.clsm_store.specs.Tally.{Tally}
 
 -- which store it is, and its sizes
 pub record StoreId : Type 0 where
@@ -24,16 +26,6 @@ pub record StoreId : Type 0 where
 -- its sizes are those asked for
 abbrev pub HasSizes : StoreId → Config → Type 0
 HasSizes store config = HasSizesOf store.layout config
-
--- what a seat counts of the lock and of tries that were lost, each modulo 2^64; and the limit and the clock that it looked at in its last
--- hold of the lock
-pub record Tally : Type 0 where
-  pub entries : ℕ
-  pub busy : ℕ
-  pub raced : ℕ
-  pub overtaken : ℕ
-  pub limit : Option ℕ
-  pub clock : Option ℕ
 
 -- a seat: its store, its number, the beginning of the history that it knows, its records in order, the time below which it answers no more,
 -- and the time of its open snapshot
@@ -48,17 +40,18 @@ pub record SeatState : Type 0 where
 
 -- the seat with this number, which did nothing yet
 abbrev pub newcomer : StoreId → ℕ → SeatState
-newcomer store number = record { store = store; number = number; past = []; calls = []; due = 0; snapshot = None; tally = record { entries = 0; busy = 0; raced = 0; overtaken = 0; limit = None; clock = None } }
+newcomer store number = record { store = store; number = number; past = []; calls = []; due = 0; snapshot = None; tally = record { entries = 0; busy = 0; raced = 0; overtaken = 0; gave_up = 0; cancelled = 0; limit = None; clock = None } }
 
 -- the seats of the store in order, none of which did anything
 pub record AreNew (store : StoreId) (count : ℕ) (seats : List SeatState) : Type 0 where
   pub counted : length seats ≡ count
   pub each : (i : ℕ) → i < length seats → slice_index_or seats i (newcomer store i) ≡ newcomer store i
 
--- the merger: its store, and the number of merges
+-- the merger: its store, the number of merges, and how often it held the lock, modulo 2^64
 pub record MergerState : Type 0 where
   pub store : StoreId
   pub merges : ℕ
+  pub holds : ℕ
 
 -- and, while an epoch is frozen, the floor of the last try to merge, how many rounds of looks at all snapshot words it made, modulo 2^64, the epoch's
 -- writes, the newest first, and the runs in the order in which they are searched
@@ -74,11 +67,11 @@ pub record RetiredState : Type 0 where
   pub merger : MergerState
   pub floor : ℕ
   pub rounds : ℕ
-  pub retirees : List Retiree
+  pub readers : List Reader
 
 -- the store's merger, which did nothing yet
 abbrev pub IsNewMerger : StoreId → MergerState → Type 0
-IsNewMerger store merger = merger ≡ record { store = store; merges = 0 }
+IsNewMerger store merger = merger ≡ record { store = store; merges = 0; holds = 0 }
 
 -- ---- what holds of every seat
 
@@ -110,18 +103,17 @@ pub record Answers (old new : SeatState) (t : ℕ) (deed : Deed) : Type 0 where
   pub due : new.due ≡ due_after old.due old.snapshot t deed
   pub snapshot : new.snapshot ≡ open_after old.snapshot t deed
 
--- the call took no lock, and lost no try
-pub record TakesNoLock (old new : SeatState) : Type 0 where
-  pub entries : new.tally.entries ≡ old.tally.entries
-  pub busy : new.tally.busy ≡ old.tally.busy
-  pub raced : new.tally.raced ≡ old.tally.raced
-  pub overtaken : new.tally.overtaken ≡ old.tally.overtaken
-  pub limit : new.tally.limit ≡ old.tally.limit
-  pub clock : new.tally.clock ≡ old.tally.clock
+-- a write of the key stands at this time or above it
+pub record IsWrittenFrom (slots : List Slot) (key from : ℕ) : Type 0 where
+  pub time : ℕ
+  pub above : from ≤ time
+  pub seat : ℕ
+  pub written : Option (List ℕ)
+  pub stands : slice_index_or slots time Nothing ≡ Wrote seat key written
 
--- the call took the lock once
-abbrev pub TakesLockOnce : SeatState → SeatState → Type 0
-TakesLockOnce old new = new.tally.entries ≡ next_word old.tally.entries
+-- the call gave up no time, unless a write of the key stands at or above the due that the seat had before
+abbrev pub GivesUpForWrites : SeatState → SeatState → ℕ → Type 0
+GivesUpForWrites old new key = (new.tally.gave_up ≡ old.tally.gave_up) ⊎ IsWrittenFrom new.past key old.due
 
 -- the call was refused: no record, and due and snapshot as before
 pub record Refuses (old new : SeatState) : Type 0 where

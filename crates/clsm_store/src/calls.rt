@@ -1,7 +1,8 @@
 //! The calls of one seat.
 ghost use Rattle.std.specs.Prelude.{◌≡◌, IfOk, IfErr};
 ghost use Rattle.clsm_model.specs.declared.record.Deed.TheVariants.{Get, Put, Remove, Rmw as ChangeOf};
-ghost use Rattle.clsm_store.specs.Seats.{Answers, IsFull, TakesLockOnce, TakesNoLock};
+ghost use Rattle.clsm_store.specs.Seats.{Answers, GivesUpForWrites, IsFull};
+ghost use Rattle.clsm_store.specs.Tally.{CancelsNone, CountsTry, TakesLockOnce, TakesNoLock};
 ghost use Rattle.clsm_store.specs.Trying.{RefusesTry};
 
 use crate::changing::change;
@@ -16,7 +17,7 @@ use clsm_model::{Change, Time, Value};
 use clsm_words::Pace;
 use std::sync::Wait;
 
-impl<P: Pace + Drop> Store<P> {
+impl<P: Pace> Store<P> {
     /// Writes the value at the key, and answers the write's time. It waits while a freeze holds the lock, and tries again where another seat
     /// was faster or a reader overtook it. Refused with `Full` where the clock stands at the limit while the seat holds the lock: nothing
     /// was written then, and the seat is as before.
@@ -29,20 +30,22 @@ impl<P: Pace + Drop> Store<P> {
     ) -> Result<Time, Full>
         requires { seat.old.store ≡ self.now }
         ensures written { IfOk result (λ time. Answers seat.old seat.new time (Put key value)) }
-        ensures lock { TakesLockOnce seat.old seat.new }
+        ensures lock { TakesLockOnce seat.old.tally seat.new.tally }
+        ensures cancels { CancelsNone seat.old.tally seat.new.tally }
         ensures full { IfErr result (λ full. IsFull seat.old seat.new full.time) }
     {
-        write(rt, &self.steps(), &mut seat.raw, key, &Some(value))
+        write(rt, &self.words, &mut seat.raw, key, &Some(value))
     }
 
     /// Removes the key, and answers the removal's time, whether or not the key had a value. It waits and is refused as `put`.
     pub fn remove<R: Wait>(&self, rt: &R, seat: &mut Seat, key: u64) -> Result<Time, Full>
         requires { seat.old.store ≡ self.now }
         ensures written { IfOk result (λ time. Answers seat.old seat.new time (Remove key)) }
-        ensures lock { TakesLockOnce seat.old seat.new }
+        ensures lock { TakesLockOnce seat.old.tally seat.new.tally }
+        ensures cancels { CancelsNone seat.old.tally seat.new.tally }
         ensures full { IfErr result (λ full. IsFull seat.old seat.new full.time) }
     {
-        write(rt, &self.steps(), &mut seat.raw, key, &None)
+        write(rt, &self.words, &mut seat.raw, key, &None)
     }
 
     /// Writes the value at the key as `put`, but tries each exchange once and never waits. Refused with `Full` as `put`, with `Busy` where the
@@ -51,9 +54,10 @@ impl<P: Pace + Drop> Store<P> {
     pub fn try_put(&self, seat: &mut Seat, key: u64, value: Value) -> Result<Time, TryPutError>
         requires { seat.old.store ≡ self.now }
         ensures written { IfOk result (λ time. Answers seat.old seat.new time (Put key value)) }
+        ensures counts { CountsTry seat.old.tally seat.new.tally result }
         ensures refused { IfErr result (RefusesTry seat.old seat.new) }
     {
-        try_write(&self.steps(), &mut seat.raw, key, value)
+        try_write(&self.words, &mut seat.raw, key, value)
     }
 
     /// The value of the key at a time of the read's own, which is the clock as the read found it: the value that the newest write below that
@@ -62,9 +66,15 @@ impl<P: Pace + Drop> Store<P> {
     pub fn get(&self, seat: &mut Seat, key: u64) -> Got
         requires { seat.old.store ≡ self.now }
         ensures answers { Answers seat.old seat.new result.time (Get key result.value) }
-        ensures lock { TakesNoLock seat.old seat.new }
+        ensures lock { TakesNoLock seat.old.tally seat.new.tally }
     {
-        let got = read(&self.steps(), &mut seat.raw, seat.pin, self.patience, key);
+        let got = read(
+            &self.words,
+            &mut seat.raw,
+            seat.pin,
+            self.words.patience(),
+            key,
+        );
         seat.pin = seat.pin.wrapping_add(2);
         got
     }
@@ -82,16 +92,17 @@ impl<P: Pace + Drop> Store<P> {
         requires of { seat.old.store ≡ self.now }
         requires callable { F.IsAlwaysCallable f.now }
         ensures changed { IfOk result (λ rmw. Answers seat.old seat.new rmw.time (ChangeOf key rmw.old rmw.change)) }
-        ensures lock { TakesLockOnce seat.old seat.new }
+        ensures lock { TakesLockOnce seat.old.tally seat.new.tally }
+        ensures spared { GivesUpForWrites seat.old seat.new key }
         ensures answered { IfOk result (λ rmw. F.post f.now rmw.old rmw.change) }
         ensures full { IfErr result (λ full. IsFull seat.old seat.new full.time) }
     {
         let answer = change(
             rt,
-            &self.steps(),
+            &self.words,
             &mut seat.raw,
             seat.pin,
-            self.patience,
+            self.words.patience(),
             key,
             f,
         );

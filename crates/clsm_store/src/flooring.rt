@@ -7,7 +7,7 @@ ghost use Rattle.clsm_store.specs.Flooring.{KeepsFrozen};
 
 use clsm_law::Word;
 use clsm_model::Time;
-use clsm_words::{Pace, RawMerger, Steps};
+use clsm_words::{Pace, RawMerger, Words};
 
 /// The time that a snapshot word notes.
 fn noted_time(word: u64) -> Option<Time>
@@ -30,16 +30,16 @@ fn least(a: Option<Time>, b: Option<Time>) -> Option<Time>
 /// Looks at each snapshot word in the order of the seats, and answers the floor that the merger takes from them: never below the floor before, and
 /// else at most the end of the frozen epoch and each time that a snapshot noted (as in LevelDB, where the oldest snapshot says what may be dropped).
 pub(crate) fn take_floor<P: Pace>(
-    steps: &Steps<P>,
+    words: &Words<P>,
     merger: &mut RawMerger,
     before: Time,
     end: Time,
 ) -> Time
-    requires of { IsSeatOf steps.now.words.now merger.old }
+    requires of { IsSeatOf words.now merger.old }
     requires frozen { is_frozen merger.old.knows.merger.phase ≡ true }
     requires before { before ≡ merger.old.knows.merger.floor }
     requires end { end ≡ epoch_end merger.old.knows.layout merger.old.knows.merger }
-    ensures of { IsSeatOf steps.now.words.now merger.new }
+    ensures of { IsSeatOf words.now merger.new }
     ensures keeps { KeepsFrozen merger.old.knows merger.new.knows }
     ensures floor { result ≡ merger.new.knows.merger.floor }
     ensures looked { merger.new.knows.merger.rounds ≡ next_word merger.old.knows.merger.rounds }
@@ -47,8 +47,8 @@ pub(crate) fn take_floor<P: Pace>(
     ensures early { before ≤ end → result ≤ end }
 {
     let mut found = None;
-    for seat in 0..steps.words.layout.seats {
-        let word = steps.look_as_merger(merger, Word::Snap(seat));
+    for seat in 0..words.seats() {
+        let word = words.look_as_merger(merger, Word::Snap(seat));
         found = least(found, noted_time(word));
     }
     before.max(end.min(found.unwrap_or(end)))

@@ -1,31 +1,75 @@
-//! What the merger keeps from call to call.
-ghost use Rattle.std.specs.Prelude.{◌≡◌};
+//! The merger with its store, in whichever phase it is.
+ghost use Rattle.std.specs.Prelude.{◌≡◌, IfOk};
+ghost use Rattle.clsm_store.specs.declared.phase.Phase.TheVariants.{Clean as CleanPhase};
+ghost use Rattle.clsm_store.specs.Phase.{Freezes, Merges, Reclaims, merger_in};
+ghost use Rattle.clsm_store.specs.Sweeping.{Sweeps};
 
-use clsm_law::Retiree;
-use clsm_levels::Entry;
-use clsm_model::Time;
-use clsm_words::RawMerger;
+use crate::phase::{FreezeError, MergeError, Phase, ReclaimError};
+use crate::store::Store;
+use crate::sweeping::{Stopped, sweep};
+use crate::tokens::Clean;
+use clsm_words::Pace;
+use std::sync::Wait;
 
-/// The merger, which its token holds.
+/// The merger of a store: the store, and its one token in whichever phase it is. It may be moved to
+/// another thread.
 #[derive(Drop)]
-pub(crate) struct Merger {
-    pub(crate) raw: RawMerger,
-    /// The number of merges so far.
-    pub(crate) merges: u64,
-    /// The floor that the last merge took.
-    pub(crate) floor: Time,
-    /// The row in which a merge sorts the writes of an epoch: empty between merges, with room for an epoch.
-    pub(crate) row: Vec<Entry>,
-    /// What was noted of each seat since the last merge.
-    pub(crate) seen: Vec<Retiree>,
+pub struct Merger<'a, P: Pace + Drop> {
+    pub store: &'a Store<P>,
+    pub phase: Phase,
+    pub ghost of: { (merger_in phase).store ≡ store.now },
 }
 
-impl Merger {
-    /// The number of merges so far.
-    #[inline]
-    pub(crate) fn merges(&self) -> u64
-        ensures { result ≡ self.now.merges }
+impl<'a, P: Pace + Drop> Merger<'a, P> {
+    /// The merger that has this token, which is the store's.
+    pub fn new(store: &'a Store<P>, clean: Clean) -> Merger<'a, P>
+        requires { clean.store ≡ store.now }
+        ensures { result.phase ≡ CleanPhase clean }
     {
-        self.merges
+        let phase = Phase::Clean(clean);
+        Merger { store, phase }
+    }
+
+    /// As `Clean::freeze`: answers the number of the epoch that is frozen. Refused with `NotClean` in
+    /// any other phase.
+    pub fn freeze<R: Wait>(self, rt: &R) -> (Merger<'a, P>, Result<u64, FreezeError>)
+        ensures { Freezes self.entry.phase result.0.phase result.1 }
+    {
+        let store = self.store;
+        let (phase, answer) = self.phase.freeze(rt, store);
+        (Merger { store, phase }, answer)
+    }
+
+    /// As `Frozen::merge`: answers the new number of merges. Refused with `NotFrozen` in any other
+    /// phase.
+    pub fn merge(self) -> (Merger<'a, P>, Result<u64, MergeError>)
+        ensures { Merges self.entry.phase result.0.phase result.1 }
+    {
+        let store = self.store;
+        let (phase, answer) = self.phase.merge(store);
+        (Merger { store, phase }, answer)
+    }
+
+    /// As `Retired::reclaim`. Refused with `NotRetired` in any other phase.
+    pub fn reclaim(self) -> (Merger<'a, P>, Result<(), ReclaimError>)
+        ensures { Reclaims self.entry.phase result.0.phase result.1 }
+    {
+        let store = self.store;
+        let (phase, answer) = self.phase.reclaim(store);
+        (Merger { store, phase }, answer)
+    }
+
+    /// Freezes the current epoch, merges it and gives up what that retired, from the phase in which
+    /// the merger is and as far as these go: a flush of the component in memory, and each fourth time
+    /// a compaction of all runs. It waits for the lock as a freeze does, and for nothing else. Where
+    /// it was stopped, the next sweep goes on from there, and `Stopped` says what stopped it.
+    pub fn sweep<R: Wait>(self, rt: &R) -> (Merger<'a, P>, Result<(), Stopped>)
+        ensures { Sweeps self.entry.phase result.0.phase result.1 }
+    {
+        let store = self.store;
+        match sweep(rt, store, self.phase) {
+            Ok(phase) => (Merger { store, phase }, Ok(())),
+            Err((phase, stopped)) => (Merger { store, phase }, Err(stopped)),
+        }
     }
 }

@@ -8,12 +8,12 @@ ghost use Rattle.clsm_store.specs.Freezing.{IsFrozen};
 ghost use Rattle.clsm_store.specs.Merging.{IsReady, IsRetiring, IsRunFull, StaysFrozen, TakesFloor, frozen_of, merger_of};
 
 use crate::flooring::take_floor;
-use crate::merger::Merger;
-use clsm_law::Retiree;
+use crate::merger_seat::MergerSeat;
+use clsm_law::Reader;
 use clsm_levels::{Entry, sort_writes};
 use clsm_memtable::gather;
 use clsm_runs::RunFull;
-use clsm_words::{Pace, Steps};
+use clsm_words::{Pace, Words};
 
 /// Sorts writes of different times in place.
 fn sort(row: &mut Vec<Entry>)
@@ -25,30 +25,30 @@ fn sort(row: &mut Vec<Entry>)
 }
 
 /// Takes the floor of the merge, and gathers the writes of the frozen epoch in the merger's row, sorted.
-fn prepare<P: Pace>(steps: &Steps<P>, merger: &mut Merger)
-    requires of { IsSeatOf steps.now.words.now merger.old.raw }
+fn prepare<P: Pace>(words: &Words<P>, merger: &mut MergerSeat)
+    requires of { IsSeatOf words.now merger.old.raw }
     requires frozen { IsFrozen merger.old.raw.knows merger.old.merges }
     requires ready { IsReady merger.old }
-    ensures of { IsSeatOf steps.now.words.now merger.new.raw }
+    ensures of { IsSeatOf words.now merger.new.raw }
     ensures stays { StaysFrozen merger.old merger.new }
     ensures floor { TakesFloor (frozen_of merger.old) merger.new.floor merger.new.raw.knows.merger.rounds }
     ensures row { merger.new.row.items ≡ merged (frozen_of merger.old).epoch }
 {
     merger.raw.is_sound();
-    let cells = steps.words.layout.cells;
+    let cells = words.cells();
     let first = merger.merges * cells;
     let end = first + cells;
-    merger.floor = take_floor(steps, &mut merger.raw, merger.floor, end);
+    merger.floor = take_floor(words, &mut merger.raw, merger.floor, end);
     merger.row.clear();
-    gather(steps, &mut merger.raw, first, end, &mut merger.row);
+    gather(words, &mut merger.raw, first, end, &mut merger.row);
     sort(&mut merger.row);
 }
 
 /// Forgets what was noted of the seats.
-fn forget(seen: &mut Vec<Retiree>)
+fn forget(seen: &mut Vec<Reader>)
     ensures { seen.new.items ≡ replicate (length seen.old.items) unseen }
 {
-    seen.fill(Retiree {
+    seen.fill(Reader {
         first_pin: None,
         quiet: false,
         looks: 0,
@@ -57,8 +57,8 @@ fn forget(seen: &mut Vec<Retiree>)
 
 /// Merges the frozen epoch into a run that readers search from then on. Refused, where the merge would keep more than the run has room for, with the
 /// epoch frozen as before.
-pub(crate) fn merge<P: Pace>(steps: &Steps<P>, merger: &mut Merger) -> Result<(), RunFull>
-    requires of { IsSeatOf steps.now.words.now merger.old.raw }
+pub(crate) fn merge<P: Pace>(words: &Words<P>, merger: &mut MergerSeat) -> Result<(), RunFull>
+    requires of { IsSeatOf words.now merger.old.raw }
     requires frozen { IsFrozen merger.old.raw.knows merger.old.merges }
     requires ready { IsReady merger.old }
     ensures retired { OnOk result (IsRetiring merger.new) }
@@ -68,16 +68,16 @@ pub(crate) fn merge<P: Pace>(steps: &Steps<P>, merger: &mut Merger) -> Result<()
     ensures stays { IfErr result (λ refusal. StaysFrozen merger.old merger.new) }
     ensures full { IfErr result (λ refusal. IsRunFull (frozen_of merger.old) merger.new.floor) }
 {
-    prepare(steps, merger);
+    prepare(words, merger);
     merger.raw.is_sound();
     clsm_runs::merge(
-        steps,
+        words,
         &mut merger.raw,
         merger.merges,
         merger.floor,
         &merger.row,
     )?;
-    steps.publish(&mut merger.raw, merger.merges);
+    words.publish(&mut merger.raw, merger.merges);
     merger.merges += 1;
     forget(&mut merger.seen);
     Ok(())

@@ -1,5 +1,5 @@
 //! How a store opens.
-ghost use Rattle.std.specs.Prelude.{◌≡◌, ◌<◌, ◌+◌, vec_len, IfOk, IfErr, OnOk};
+ghost use Rattle.std.specs.Prelude.{◌≡◌, ◌<◌, ◌+◌, vec_len, All, IfOk, IfErr, OnOk};
 ghost use Rattle.clsm_model.specs.Config.{IsSound};
 ghost use Rattle.clsm_words.specs.Plays.{AreFreshFrom, IsFreshMerger};
 ghost use Rattle.clsm_store.specs.Freezing.{IsClean};
@@ -8,19 +8,18 @@ ghost use Rattle.clsm_store.specs.Seats.{AreNew, HasSizes, IsNewMerger};
 ghost use Rattle.clsm_store.specs.Opening.{IsRefusal};
 ghost use Rattle.clsm_store.specs.Resting.{store_of};
 
-use crate::merger::Merger;
+use crate::merger_seat::MergerSeat;
 use crate::seat::Seat;
 use crate::store::Store;
 use crate::tokens::Clean;
-use clsm_law::{Layout, Retiree};
+use clsm_law::{Layout, Reader};
 use clsm_model::{Config, OpenError};
-use clsm_words::pace::Free;
-use clsm_words::{Pace, RawMerger, RawSeat, Words};
+use clsm_words::{Free, Pace, RawMerger, RawSeat, Words};
 use std::alloc::{AllocError, Global};
 
 /// An opened store, the seats of its callers, numbered from 0, and the merger's token.
 #[derive(Drop)]
-pub struct Opened<P: Drop> {
+pub struct Opened<P: Pace> {
     pub store: Store<P>,
     pub seats: Vec<Seat>,
     pub merger: Clean,
@@ -33,6 +32,7 @@ pub fn open(alloc: Global, config: Config) -> Result<Opened<Free>, OpenError>
     ensures sizes { OnOk result (IsSound config) }
     ensures store { IfOk result (λ opened. HasSizes opened.store config) }
     ensures seats { IfOk result (λ opened. AreNew opened.store config.seats opened.seats.items) }
+    ensures at { IfOk result (λ opened. All (λ seat. seat.store ≡ opened.store) opened.seats.items) }
     ensures merger { IfOk result (λ opened. IsNewMerger opened.store opened.merger) }
     ensures refusal { IfErr result (IsRefusal config) }
 {
@@ -40,38 +40,35 @@ pub fn open(alloc: Global, config: Config) -> Result<Opened<Free>, OpenError>
 }
 
 /// As `open`, with a pace: each atomic step on the store is made behind a call of it.
-pub fn open_paced<P: Pace + Drop>(
-    alloc: Global,
-    config: Config,
-    pace: P,
-) -> Result<Opened<P>, OpenError>
+pub fn open_paced<P: Pace>(alloc: Global, config: Config, pace: P) -> Result<Opened<P>, OpenError>
     ensures sizes { OnOk result (IsSound config) }
     ensures store { IfOk result (λ opened. HasSizes opened.store config) }
     ensures seats { IfOk result (λ opened. AreNew opened.store config.seats opened.seats.items) }
+    ensures at { IfOk result (λ opened. All (λ seat. seat.store ≡ opened.store) opened.seats.items) }
     ensures merger { IfOk result (λ opened. IsNewMerger opened.store opened.merger) }
     ensures refusal { IfErr result (IsRefusal config) }
 {
     let layout = Layout::new(config)?;
-    let (words, raw, merger) = Words::new(alloc, &layout).map_err(|_| OpenError::Memory)?;
+    let (words, raw, merger) = Words::new(alloc, &layout, pace).map_err(|_| OpenError::Memory)?;
     let seats = seat_all(alloc, &words, raw).map_err(|_| OpenError::Memory)?;
     let merger = seat_merger(alloc, &layout, merger).map_err(|_| OpenError::Memory)?;
-    let patience = config.patience as u64;
     Ok(Opened {
-        store: Store {
-            words,
-            pace,
-            patience,
-        },
+        store: Store { words },
         seats,
         merger: Clean { merger },
     })
 }
 
 /// The seats of callers, of whom none did anything.
-fn seat_all(alloc: Global, words: &Words, raw: Vec<RawSeat>) -> Result<Vec<Seat>, AllocError>
+fn seat_all<P: Pace>(
+    alloc: Global,
+    words: &Words<P>,
+    raw: Vec<RawSeat>,
+) -> Result<Vec<Seat>, AllocError>
     requires fresh { AreFreshFrom 0 words.now raw.items }
     requires few { vec_len raw < 65 }
-    ensures { IfOk result (λ seats. AreNew (store_of words.now) (vec_len raw) seats.items) }
+    ensures new { IfOk result (λ seats. AreNew (store_of words.now) (vec_len raw) seats.items) }
+    ensures at { IfOk result (λ seats. All (λ seat. seat.store ≡ store_of words.now) seats.items) }
 {
     let mut seats = Vec::with_capacity(alloc, raw.len())?;
     for raw in raw {
@@ -86,12 +83,12 @@ fn seat_all(alloc: Global, words: &Words, raw: Vec<RawSeat>) -> Result<Vec<Seat>
 }
 
 /// What is noted of so many seats at first: nothing.
-fn unseen(alloc: Global, seats: usize) -> Result<Vec<Retiree>, AllocError>
+fn unseen(alloc: Global, seats: usize) -> Result<Vec<Reader>, AllocError>
     ensures { IfOk result (λ seen. vec_len seen ≡ seats) }
 {
     let mut seen = Vec::with_capacity(alloc, seats)?;
     for _ in 0..seats {
-        seen.push(Retiree {
+        seen.push(Reader {
             first_pin: None,
             quiet: false,
             looks: 0,
@@ -101,14 +98,14 @@ fn unseen(alloc: Global, seats: usize) -> Result<Vec<Retiree>, AllocError>
 }
 
 /// The merger, which did nothing yet, with all its room.
-fn seat_merger(alloc: Global, layout: &Layout, raw: RawMerger) -> Result<Merger, AllocError>
+fn seat_merger(alloc: Global, layout: &Layout, raw: RawMerger) -> Result<MergerSeat, AllocError>
     requires fresh { IsFreshMerger raw }
     requires layout { raw.knows.layout ≡ layout.now }
-    ensures new { IfOk result (λ merger. merger_of merger ≡ record { store = record { table = raw.table; layout = raw.knows.layout }; merges = 0 }) }
+    ensures new { IfOk result (λ merger. merger_of merger ≡ record { store = record { table = raw.table; layout = raw.knows.layout }; merges = 0; holds = raw.knows.merger.holds }) }
     ensures clean { IfOk result (λ merger. IsClean merger.raw.knows merger.merges) }
     ensures ready { IfOk result IsReady }
 {
-    Ok(Merger {
+    Ok(MergerSeat {
         raw,
         merges: 0,
         floor: 0,

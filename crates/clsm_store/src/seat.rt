@@ -18,11 +18,11 @@ impl Model for Seat {
     ghost use Rattle.std.specs.Prelude.{◌≡◌};
     ghost use Rattle.clsm_law.specs.Relation.{open_time};
     ghost use Rattle.clsm_store.specs.Seats.{SeatState};
-    ghost use Rattle.clsm_store.specs.Resting.{IsAtRest, state_of};
+    ghost use Rattle.clsm_store.specs.Resting.{IsAtRest, seat_of};
 
     ghost Value = { SeatState };
 
-    ghost view = { λ s. state_of s.raw };
+    ghost view = { λ s. seat_of s.raw };
 
     ghost invariant = { λ s. IsAtRest s.raw.knows × (s.pin ≡ s.raw.knows.view.pin) × (s.snapshot ≡ open_time s.raw.knows.view.snapshot) };
 }

@@ -5,13 +5,14 @@ ghost use Rattle.clsm_store.specs.Seats.{AreNew, IsNewMerger};
 
 use super::*;
 use clsm_model::{Time, Value};
-use clsm_words::Pace;
-use clsm_words::pace::Free;
+use clsm_words::{Free, Pace};
 use std::alloc::Global;
 use std::process::Abort;
 use std::sync::Wait;
 
 mod alone;
+mod busy;
+mod counting;
 mod freezing;
 mod gate;
 mod held;
@@ -42,7 +43,7 @@ fn opened(rt: &impl Abort, alloc: Global, config: Config) -> Opened<Free>
 }
 
 /// The last seat.
-fn take_seat<P: Drop>(rt: &impl Abort, store: &Store<P>, seats: &mut Vec<Seat>) -> Seat
+fn take_seat<P: Pace>(rt: &impl Abort, store: &Store<P>, seats: &mut Vec<Seat>) -> Seat
     requires { AreNew store.now (length seats.old.items) seats.old.items }
     ensures rest { AreNew store.now (length seats.new.items) seats.new.items }
     ensures seat { result.store ≡ store.now }
@@ -51,7 +52,7 @@ fn take_seat<P: Drop>(rt: &impl Abort, store: &Store<P>, seats: &mut Vec<Seat>) 
 }
 
 /// Writes these words.
-fn put<P: Pace + Drop, R: Abort + Wait>(
+fn put<P: Pace, R: Abort + Wait>(
     rt: &R,
     store: &Store<P>,
     seat: &mut Seat,
@@ -66,7 +67,7 @@ fn put<P: Pace + Drop, R: Abort + Wait>(
 }
 
 /// Removes the key.
-fn remove<P: Pace + Drop, R: Wait>(
+fn remove<P: Pace, R: Wait>(
     rt: &R,
     store: &Store<P>,
     seat: &mut Seat,
@@ -79,7 +80,7 @@ fn remove<P: Pace + Drop, R: Wait>(
 }
 
 /// Tries to write these words.
-fn try_put<P: Pace + Drop>(
+fn try_put<P: Pace>(
     rt: &impl Abort,
     store: &Store<P>,
     seat: &mut Seat,
@@ -94,7 +95,7 @@ fn try_put<P: Pace + Drop>(
 }
 
 /// Freezes the epoch.
-fn freeze<P: Pace + Drop, R: Abort + Wait>(rt: &R, store: &Store<P>, merger: Clean) -> Frozen
+fn freeze<P: Pace, R: Abort + Wait>(rt: &R, store: &Store<P>, merger: Clean) -> Frozen
     requires { merger.store ≡ store.now }
     ensures { result.merger.store ≡ store.now }
 {

@@ -1,25 +1,24 @@
 //! The merger's tokens, one for each phase, and what it does in each.
 ghost use Rattle.std.specs.Prelude.{◌≡◌, ◌+◌, ◌*◌, ◌^◌, ◌<◌, IfOk, IfErr};
+ghost use Rattle.clsm_law.specs.Relation.{next_word};
 ghost use Rattle.clsm_store.specs.Merging.{IsRunFull, TakesFloor};
 
 use crate::freezing::freeze;
-use crate::merger::Merger;
+use crate::merger_seat::MergerSeat;
 use crate::merging::merge;
 use crate::reclaiming::reclaim;
 use crate::refusal::{Pinned, Worn};
 use crate::store::Store;
+use clsm_law::LAST_LIMIT;
 use clsm_runs::RunFull;
 use clsm_words::Pace;
 use std::marker::Model;
 use std::sync::Wait;
 
-/// The limit of times: a read's time is at most this.
-const LAST_TIME: u64 = 1 << 62;
-
 /// The merger's token, where nothing is frozen. It may be moved to another thread. Contracts see its store and the number of merges.
 #[derive(Drop)]
 pub struct Clean {
-    pub(crate) merger: Merger,
+    pub(crate) merger: MergerSeat,
 }
 
 impl Model for Clean {
@@ -39,7 +38,7 @@ impl Model for Clean {
 /// the epoch's writes; and the runs.
 #[derive(Drop)]
 pub struct Frozen {
-    pub(crate) merger: Merger,
+    pub(crate) merger: MergerSeat,
 }
 
 impl Model for Frozen {
@@ -58,7 +57,7 @@ impl Model for Frozen {
 /// that retired the component among them; the floor of that merge, and the rounds; and what was noted of each seat since.
 #[derive(Drop)]
 pub struct Retired {
-    pub(crate) merger: Merger,
+    pub(crate) merger: MergerSeat,
 }
 
 impl Model for Retired {
@@ -84,20 +83,20 @@ impl Clean {
     /// Freezes the current epoch: waits until no caller holds the lock, cancels the epoch's cells that were never drawn, and moves the clock to
     /// its end and the limit to that of the next. Writers go on in the next epoch, and readers go on (the cLSM paper's switch of the memory
     /// component). Refused with `Worn`, and with the token as it was, where the next limit would pass 2^62; nothing was done then.
-    pub fn freeze<P: Pace + Drop, R: Wait>(
+    pub fn freeze<P: Pace, R: Wait>(
         mut self,
         rt: &R,
         store: &Store<P>,
     ) -> Result<Frozen, (Clean, Worn)>
         requires { self.store ≡ store.now }
-        ensures frozen { IfOk result (λ frozen. frozen.merger ≡ self) }
+        ensures frozen { IfOk result (λ frozen. frozen.merger ≡ record self { holds = next_word self.holds }) }
         ensures worn { IfErr result (λ refused. (refused.0 ≡ self) × (2 ^ 62 < (self.merges + 2) * self.store.layout.cells)) }
     {
         let merges = self.merger.merges;
-        if merges > LAST_TIME / store.words.layout.cells - 2 {
+        if merges > LAST_LIMIT / store.words.cells() - 2 {
             return Err((self, Worn));
         }
-        freeze(rt, &store.steps(), &mut self.merger.raw, merges);
+        freeze(rt, &store.words, &mut self.merger.raw, merges);
         Ok(Frozen {
             merger: self.merger,
         })
@@ -119,7 +118,7 @@ impl Frozen {
     /// or the least time that is noted there where that is earlier; a floor never falls. Readers and writers go on beside it, and it never waits.
     /// Refused with `RunFull`, and with the token, where a merge into level 1 would keep more entries than a run has room for; nothing is published
     /// then, and a snapshot that is closed may help the next try.
-    pub fn merge<P: Pace + Drop>(mut self, store: &Store<P>) -> Result<Retired, (Frozen, RunFull)>
+    pub fn merge<P: Pace>(mut self, store: &Store<P>) -> Result<Retired, (Frozen, RunFull)>
         requires { self.merger.store ≡ store.now }
         ensures retired { IfOk result (λ retired. retired.merger ≡ record self.merger { merges = self.merger.merges + 1 }) }
         ensures floor { IfOk result (λ retired. TakesFloor self retired.floor retired.rounds) }
@@ -128,7 +127,7 @@ impl Frozen {
         ensures refloored { IfErr result (λ refused. TakesFloor self refused.0.floor refused.0.rounds) }
         ensures full { IfErr result (λ refused. IsRunFull self refused.0.floor) }
     {
-        match merge(&store.steps(), &mut self.merger) {
+        match merge(&store.words, &mut self.merger) {
             Ok(()) => Ok(Retired {
                 merger: self.merger,
             }),
@@ -151,15 +150,15 @@ impl Retired {
     /// Gives the retired component up, if no seat holds anything of it, and makes its cells free for the epoch after the next: looks at the pin word
     /// of each seat that was not found quiet yet, in the order of their numbers. Refused with `Pinned`, and with the token, where the pin word
     /// of that seat was found to keep the component; the seats that were found quiet stay so for the next try. It never waits.
-    pub fn reclaim<P: Pace + Drop>(mut self, store: &Store<P>) -> Result<Clean, (Retired, Pinned)>
+    pub fn reclaim<P: Pace>(mut self, store: &Store<P>) -> Result<Clean, (Retired, Pinned)>
         requires { self.merger.store ≡ store.now }
         ensures clean { IfOk result (λ clean. clean ≡ self.merger) }
-        ensures retired { IfErr result (λ refused. refused.0 ≡ record self { retirees = refused.0.retirees }) }
-        ensures pinned { IfErr result (λ refused. IsLowestLoud self.retirees refused.0.retirees refused.1.0) }
+        ensures retired { IfErr result (λ refused. refused.0 ≡ record self { readers = refused.0.readers }) }
+        ensures pinned { IfErr result (λ refused. IsLowestLoud self.readers refused.0.readers refused.1.0) }
     {
         let merges = self.merger.merges;
         match reclaim(
-            &store.steps(),
+            &store.words,
             &mut self.merger.raw,
             merges,
             &mut self.merger.seen,

@@ -1,14 +1,15 @@
-//! Writes at the words: draw, fill, link, publish, again where that was lost.
+//! Writes at the words: draw, fill, link, decide, again where that was lost.
 ghost use Rattle.std.specs.Prelude.{◌≡◌, Some, None, IfOk, IfErr};
 ghost use Rattle.clsm_law.specs.Relation.{next_word};
 ghost use Rattle.clsm_words.specs.Plays.{IsSeatOf};
+ghost use Rattle.clsm_store.specs.Tally.{CancelsNone, tally_of};
 ghost use Rattle.clsm_store.specs.Resting.{IsAtRest, IsInHold, FindsFull, Records, Tries, deed_of};
 
 use crate::refusal::Full;
-use clsm_lock::{leave, shared};
-use clsm_memtable::{DrawError, Published, draw, fill, link, publish};
+use clsm_lock::{lock_shared, unlock_shared};
+use clsm_memtable::{Decided, DrawError, decide, draw, fill, link};
 use clsm_model::{Deed, Time, Value};
-use clsm_words::{Pace, RawSeat, Steps};
+use clsm_words::{Pace, RawSeat, Words};
 use std::sync::Wait;
 
 /// What came of one try to write.
@@ -33,49 +34,51 @@ pub(crate) fn deed_of(key: u64, value: &Option<Value>) -> Deed
 /// Tries once to write, in a hold of the lock.
 fn try_write<P: Pace, R: Wait>(
     rt: &R,
-    steps: &Steps<P>,
+    words: &Words<P>,
     seat: &mut RawSeat,
     key: u64,
     value: &Option<Value>,
 ) -> Attempt
-    requires of { IsSeatOf steps.now.words.now seat.old }
+    requires of { IsSeatOf words.now seat.old }
     requires holds { IsInHold seat.old.knows }
-    ensures of { IsSeatOf steps.now.words.now seat.new }
+    ensures of { IsSeatOf words.now seat.new }
     ensures holds { IsInHold seat.new.knows }
     ensures entered { seat.new.knows.view.entries ≡ seat.old.knows.view.entries }
+    ensures cancels { CancelsNone (tally_of seat.old.knows) (tally_of seat.new.knows) }
     ensures tries { Tries seat.old.knows seat.new.knows (deed_of key value.now) result }
 {
-    let time = match draw(steps, seat) {
+    let time = match draw(words, seat) {
         Ok(time) => time,
         Err(DrawError::Full(time)) => return Attempt::Full(time),
         Err(DrawError::Raced) => return Attempt::Lost,
     };
-    fill(steps, seat, time, key, value.as_ref());
-    link(rt, steps, seat, time, key);
-    match publish(steps, seat, time, &deed_of(key, value)) {
-        Published::Done => Attempt::Written(time),
-        Published::Overtaken => Attempt::Lost,
+    fill(words, seat, time, key, value.as_ref());
+    link(rt, words, seat, time, key);
+    match decide(words, seat, time, &deed_of(key, value)) {
+        Decided::Done => Attempt::Written(time),
+        Decided::Overtaken => Attempt::Lost,
     }
 }
 
 /// Writes, in a hold of the lock, and tries until the write stands or the clock is at the limit.
 fn write_in_hold<P: Pace, R: Wait>(
     rt: &R,
-    steps: &Steps<P>,
+    words: &Words<P>,
     seat: &mut RawSeat,
     key: u64,
     value: &Option<Value>,
 ) -> Result<Time, Full>
-    requires of { IsSeatOf steps.now.words.now seat.old }
+    requires of { IsSeatOf words.now seat.old }
     requires holds { IsInHold seat.old.knows }
-    ensures of { IsSeatOf steps.now.words.now seat.new }
+    ensures of { IsSeatOf words.now seat.new }
     ensures holds { IsInHold seat.new.knows }
     ensures entered { seat.new.knows.view.entries ≡ seat.old.knows.view.entries }
+    ensures cancels { CancelsNone (tally_of seat.old.knows) (tally_of seat.new.knows) }
     ensures written { IfOk result (λ time. Records seat.old.knows seat.new.knows time (deed_of key value.now)) }
     ensures full { IfErr result (λ full. FindsFull seat.old.knows seat.new.knows full.time) }
 {
     for _ in rt.forever() {
-        match try_write(rt, steps, seat, key, value) {
+        match try_write(rt, words, seat, key, value) {
             Attempt::Written(time) => return Ok(time),
             Attempt::Full(time) => return Err(Full { time }),
             Attempt::Lost => {}
@@ -87,21 +90,22 @@ fn write_in_hold<P: Pace, R: Wait>(
 /// Writes the value at the key, or with `None` removes it, and waits for the lock.
 pub(crate) fn write<P: Pace, R: Wait>(
     rt: &R,
-    steps: &Steps<P>,
+    words: &Words<P>,
     seat: &mut RawSeat,
     key: u64,
     value: &Option<Value>,
 ) -> Result<Time, Full>
-    requires of { IsSeatOf steps.now.words.now seat.old }
+    requires of { IsSeatOf words.now seat.old }
     requires rests { IsAtRest seat.old.knows }
-    ensures of { IsSeatOf steps.now.words.now seat.new }
+    ensures of { IsSeatOf words.now seat.new }
     ensures rests { IsAtRest seat.new.knows }
     ensures entered { seat.new.knows.view.entries ≡ next_word seat.old.knows.view.entries }
+    ensures cancels { CancelsNone (tally_of seat.old.knows) (tally_of seat.new.knows) }
     ensures written { IfOk result (λ time. Records seat.old.knows seat.new.knows time (deed_of key value.now)) }
     ensures full { IfErr result (λ full. FindsFull seat.old.knows seat.new.knows full.time) }
 {
-    shared(rt, steps, seat);
-    let answer = write_in_hold(rt, steps, seat, key, value);
-    leave(steps, seat);
+    lock_shared(rt, words, seat);
+    let answer = write_in_hold(rt, words, seat, key, value);
+    unlock_shared(words, seat);
     answer
 }

@@ -5,7 +5,7 @@ use Rattle.std.proofs.lemmas.Bool.{cases_lt}
 use mathlib.Core.List.{IsPrefix}
 use Rattle.clsm_model.specs.declared.slot.Slot.{Slot}
 use Rattle.clsm_model.specs.declared.slot.Slot.TheVariants.{Nothing}
-use Rattle.clsm_law.specs.Worlds.{slot_at, settled}
+use Rattle.clsm_law.specs.Worlds.{outcome_at, settled}
 use Rattle.clsm_law.proofs.Frames.{past_end}
 use Rattle.clsm_law.proofs.KeptRuns.{settled_at}
 use Rattle.clsm_law.proofs.Histories.{slot_of-past, end_of-past, past-equal, decided-same}
@@ -37,11 +37,11 @@ settled_is None ne = absurd (ne refl)
 settled_is (Some slot) ne = refl
 
 -- what stands in a beginning is what the time came to
-pub begins_at : (slots : List (Option Slot)) (list : List Slot) (b : Begins slots list) (t : ℕ) → t < length list → slot_at slots t ≡ Some (get_or list t Nothing)
+pub begins_at : (slots : List (Option Slot)) (list : List Slot) (b : Begins slots list) (t : ℕ) → t < length list → outcome_at slots t ≡ Some (get_or list t Nothing)
 begins_at slots list b t lt =
     let e = begins_length slots list b in
     let below : t < b.until = omega arith in
-    sym (ap (λ (xs : List Slot). Some (get_or xs t Nothing)) b.is ∙ ap (λ (x : Slot). Some x) (slot_of-past slots b.until t below) ∙ settled_is (slot_at slots t) (b.decided t below))
+    sym (ap (λ (xs : List Slot). Some (get_or xs t Nothing)) b.is ∙ ap (λ (x : Slot). Some x) (slot_of-past slots b.until t below) ∙ settled_is (outcome_at slots t) (b.decided t below))
 
 -- what the times of a beginning came to
 pub begins_settled : (slots : List (Option Slot)) (past : List Slot) (b : Begins slots past) (t : ℕ) → t < length past → get_or past t Nothing ≡ get_or (settled slots) t Nothing
@@ -59,13 +59,13 @@ begins_prefix slots a b x y le =
 -- the slots grew, and each that was decided stays
 pub record HaveGrown (slots slots' : List (Option Slot)) : Type 0 where
   pub longer : length slots ≤ length slots'
-  pub stay : (t : ℕ) (slot : Slot) → slot_at slots t ≡ Some slot → slot_at slots' t ≡ Some slot
+  pub stay : (t : ℕ) (slot : Slot) → outcome_at slots t ≡ Some slot → outcome_at slots' t ≡ Some slot
 
-still : (slots slots' : List (Option Slot)) → HaveGrown slots slots' → (t : ℕ) → slot_at slots t ≢ None → slot_at slots' t ≡ slot_at slots t
-still slots slots' grown t decided = decided-same (slot_at slots) (slot_at slots') t decided (grown.stay t)
+still : (slots slots' : List (Option Slot)) → HaveGrown slots slots' → (t : ℕ) → outcome_at slots t ≢ None → outcome_at slots' t ≡ outcome_at slots t
+still slots slots' grown t decided = decided-same (outcome_at slots) (outcome_at slots') t decided (grown.stay t)
 
 -- what decided times came to stays
-pub decided_stay : (slots slots' : List (Option Slot)) (p : ℕ) → HaveGrown slots slots' → p ≤ length slots → ((t : ℕ) → t < p → slot_at slots t ≢ None) → take p (settled slots) ≡ take p (settled slots')
+pub decided_stay : (slots slots' : List (Option Slot)) (p : ℕ) → HaveGrown slots slots' → p ≤ length slots → ((t : ℕ) → t < p → outcome_at slots t ≢ None) → take p (settled slots) ≡ take p (settled slots')
 decided_stay slots slots' p grown bound decided = let longer = grown.longer in
     sym (ap (λ h. h.slots) (past-equal slots slots' p bound (omega arith) (λ t lt. still slots slots' grown t (decided t lt))))
 

@@ -17,7 +17,7 @@ use Rattle.clsm_law.specs.Machine.{IsLawful, opened}
 use Rattle.clsm_law.proofs.Layouts.{is_layout}
 use Rattle.clsm_law.proofs.Opening.{opened_lawful, idle_at}
 use Rattle.clsm_words.specs.declared.known.Known.{Known}
-use Rattle.clsm_words.specs.Knowing.{newcomer, new_merger, deals, messenger, learns, HasRows, IsHeldEpoch, IsNamedWord, Sound}
+use Rattle.clsm_words.specs.Knowing.{unplayed, new_merger, deals, messenger, learns, HasRows, IsHeldEpoch, IsNamedWord, Sound}
 use Rattle.clsm_words.specs.Merging.{IsOwn, known_end, IsSoundMerger}
 use Rattle.clsm_words.specs.Ruled.{world_of, HasFloor, IsEndOf, IsSeated, Begins, IsTold, IsMerging, IsDealing, AreSeats, Ruled}
 use Rattle.clsm_words.proofs.Trails.{end_none}
@@ -37,7 +37,7 @@ untold slots = record { begins = record { until = 0; is = refl; decided = λ t l
 
 -- ---- the opening
 
-newcomer_seated : (z : Layout) (words : List ℕ) (m : MergerView) (slots : List (Option Slot)) (chains : Chains) (views : List View) (number : ℕ) → number < z.seats → view_at z views number ≡ idle z → IsSeated z words m slots chains views (newcomer z number)
+newcomer_seated : (z : Layout) (words : List ℕ) (m : MergerView) (slots : List (Option Slot)) (chains : Chains) (views : List View) (number : ℕ) → number < z.seats → view_at z views number ≡ idle z → IsSeated z words m slots chains views (unplayed z number)
 newcomer_seated z words m slots chains views number lt is = record {
   layout = refl;
   inside = lt;
@@ -86,9 +86,9 @@ opens z words e = record {
     only (suc i) k e = absurd (some-ne-none k (sym e))
 
 -- a fresh seat knows what each seat knows
-pub fresh_sound : (z : Layout) (number : ℕ) → number < z.seats → Sound (newcomer z number)
+pub fresh_sound : (z : Layout) (number : ℕ) → number < z.seats → Sound (unplayed z number)
 unfolding opens
-fresh_sound z number lt = let r = opens z (opened z).words refl in sound_of (opening (opened z).words [] (new_merger z)) (newcomer z number) r
+fresh_sound z number lt = let r = opens z (opened z).words refl in sound_of (opening (opened z).words [] (new_merger z)) (unplayed z number) r
     (newcomer_seated z (opened z).words r.merger r.slots r.lawful.chains (replicate z.seats (idle z)) number lt (idle_at z z.seats number)) refl
 
 pub new_sound : (z : Layout) → IsSoundMerger (new_merger z)
@@ -112,11 +112,11 @@ pub record Like (o j : Known) : Type 0 where
   pub past : o.past ≡ j.past
   pub trail : o.trail ≡ j.trail
   pub region : o.region ≡ j.region
-  pub shard : o.shard ≡ j.shard
+  pub chain : o.chain ≡ j.chain
   pub floor : o.floor ≡ j.floor
 
 alike : (k : Known) → Like k k
-alike k = record { seated = refl; merges = refl; number = refl; layout = refl; view = refl; merger = refl; row = refl; past = refl; trail = refl; region = refl; shard = refl; floor = refl }
+alike k = record { seated = refl; merges = refl; number = refl; layout = refl; view = refl; merger = refl; row = refl; past = refl; trail = refl; region = refl; chain = refl; floor = refl }
 
 like_seated : (z : Layout) (words : List ℕ) (m : MergerView) (slots : List (Option Slot)) (chains : Chains) (views : List View) (o j : Known) → Like o j → IsSeated z words m slots chains views o → IsSeated z words m slots chains views j
 like_seated z words m slots chains views o j l h = record {
@@ -127,8 +127,8 @@ like_seated z words m slots chains views o j l h = record {
   past = sym l.past ∙ h.past ∙ (λ i. take (l.view i).past (settled slots));
   row = subst (λ (y : View × List ℕ). (c : ℕ) → y.0.held ≡ Some c → (word : Word) → IsNamedWord c word → memory z y.1 word ≡ memory z words word) (λ i. (l.view i, l.row i)) h.row;
   floor = subst (λ (y : View × ℕ). (c : ℕ) → y.0.held ≡ Some c → HasFloor m c y.1) (λ i. (l.view i, l.floor i)) h.floor;
-  ends = subst (λ (y : List ℕ × ℕ × ℕ). IsEndOf y.0 (chains y.1 y.2)) (λ i. (l.trail i, l.region i, l.shard i)) h.ends;
-  line = subst (λ (y : List ℕ × View × ℕ × ℕ). y.0 ≢ [] → (e : ℕ) × IsHeldEpoch z y.1.held y.1.past e × (y.2 ≡ e % 2) × (y.3 < z.shards)) (λ i. (l.trail i, l.view i, l.region i, l.shard i)) h.line;
+  ends = subst (λ (y : List ℕ × ℕ × ℕ). IsEndOf y.0 (chains y.1 y.2)) (λ i. (l.trail i, l.region i, l.chain i)) h.ends;
+  line = subst (λ (y : List ℕ × View × ℕ × ℕ). y.0 ≢ [] → (e : ℕ) × IsHeldEpoch z y.1.held y.1.past e × (y.2 ≡ e % 2) × (y.3 < z.chains)) (λ i. (l.trail i, l.view i, l.region i, l.chain i)) h.line;
 }
 
 like_merging : (z : Layout) (words : List ℕ) (m : MergerView) (slots : List (Option Slot)) (o j : Known) → Like o j → IsMerging z words m slots o → IsMerging z words m slots j
@@ -145,7 +145,7 @@ like_merging z words m slots o j l h = record {
 -- the merger's seat deals the callers' seats, one after another
 module _ (id : ℕ) (k : Known) (merges : k.merges ≡ true) (room : k.dealt < k.layout.seats) (s : State ℕ Known) (r : Ruled k.layout s) (at : get_elem? s.views id ≡ some k) where
   abbrev right : Known
-  right = newcomer k.layout k.dealt
+  right = unplayed k.layout k.dealt
 
   abbrev mid : List Known
   mid = set s.views id (deals k)
@@ -155,7 +155,7 @@ module _ (id : ℕ) (k : Known) (merges : k.merges ≡ true) (room : k.dealt < k
   Old i j = (o : Known) × (get_elem? s.views i ≡ some o) × Like o j × (IsTold r.slots j.told j.heard) × (j.merges ≡ true → j.dealt ≡ k.dealt + 1)
 
   dealt_like : Like k (deals k)
-  dealt_like = record { seated = refl; merges = refl; number = refl; layout = refl; view = refl; merger = refl; row = refl; past = refl; trail = refl; region = refl; shard = refl; floor = refl }
+  dealt_like = record { seated = refl; merges = refl; number = refl; layout = refl; view = refl; merger = refl; row = refl; past = refl; trail = refl; region = refl; chain = refl; floor = refl }
 
   old : (i : ℕ) (j : Known) → get_elem? mid i ≡ some j → Old i j
   old i j e = ⊎_elim
@@ -223,7 +223,7 @@ module _ (id : ℕ) (k : Known) (merges : k.merges ≡ true) (room : k.dealt < k
   pub dealt_on : Ruled k.layout record { words = s.words; homes = s.homes; views = mid ++ right ∷ [] }
   dealt_on = record { views = r.views; merger = r.merger; slots = r.slots; lawful = r.lawful; seats = dealt_seats }
 
-pub deals_one : (id : ℕ) (k : Known) → k.merges ≡ true → k.dealt < k.layout.seats → Splits (Ruled k.layout) id k (deals k) (newcomer k.layout k.dealt)
+pub deals_one : (id : ℕ) (k : Known) → k.merges ≡ true → k.dealt < k.layout.seats → Splits (Ruled k.layout) id k (deals k) (unplayed k.layout k.dealt)
 deals_one id k merges room s r at = dealt_on id k merges room s r at
 
 -- ---- telling
@@ -286,7 +286,7 @@ module _ (z : Layout) (id other : ℕ) (k m : Known) (s : State ℕ Known) (r : 
   both = learns k m
 
   both_like : Like k both
-  both_like = record { seated = refl; merges = refl; number = refl; layout = refl; view = refl; merger = refl; row = refl; past = refl; trail = refl; region = refl; shard = refl; floor = refl }
+  both_like = record { seated = refl; merges = refl; number = refl; layout = refl; view = refl; merger = refl; row = refl; past = refl; trail = refl; region = refl; chain = refl; floor = refl }
 
   abbrev spent : Known
   spent = messenger [] 0

@@ -28,7 +28,7 @@ pub held_back : (g : Ground) (i c : ℕ) → i < length g.views → each g.z hel
 held_back g i c lt e before = ⊎_elim
     (λ (same : c ≡ g.merger.merged). absurd (omega arith))
     (λ (r : IsRetiredFor g.merger i (each g.z pin_of g.views i) c).
-    let loud = not_all_quiet g.merger.retirees i (let a = g.law.merger.seats in let b = g.law.seated in omega arith) r.loud in rw (r.retired, loud) refl)
+    let loud = not_all_quiet g.merger.readers i (let a = g.law.merger.seats in let b = g.law.seated in omega arith) r.loud in rw (r.retired, loud) refl)
     (g.law.held i c e).1
 
 module _ (g : Ground) (i c floor : ℕ) (row : Memory) (past : List Slot) (b : Begins g.slots past) (lt : i < length g.views) (held : each g.z held_of g.views i ≡ Some c) (has : HasFloor g.merger c floor) (knows : (word : Word) → IsNamedWord c word → row word ≡ g.memory word) where

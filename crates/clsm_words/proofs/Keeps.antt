@@ -6,8 +6,9 @@ use Rattle.clsm_law.specs.declared.step.Step.{Step}
 use Rattle.clsm_law.specs.declared.view.View.{View}
 use Rattle.clsm_law.specs.Relation.{view_after}
 use Rattle.clsm_words.specs.declared.known.Known.{Known}
-use Rattle.clsm_words.specs.Knowing.{Follows}
-use Rattle.clsm_words.specs.Keeping.{KeepsSeat, OnlyReads, Looks, LooksAside}
+use Rattle.clsm_words.specs.Knowing.{Follows, Sound}
+use Rattle.clsm_words.proofs.PastGrowth.{same_past}
+use Rattle.clsm_words.specs.Keeping.{KeepsSeat, KeepsPast, KeepsPlace, OnlyReads, Looks, LooksAside}
 
 pub prefix_trans : (a b c : List Slot) → IsPrefix a b → IsPrefix b c → IsPrefix a c
 prefix_trans a b c h k = (h.0 ++ k.0, sym (append_assoc a h.0 k.0) ∙ ap (λ (l : List Slot). l ++ k.0) h.1 ∙ k.1)
@@ -40,18 +41,53 @@ seat_trans a b c h k between = record {
   runs = λ m held held'. let mid = between m held held' in let one = h.runs m held mid in let two = k.runs m mid held' in (two.0 ∙ one.0, λ word named. two.1 word named ∙ one.1 word named);
 }
 
+-- ---- the seat and its past
+
+-- a step that leaves how far the past goes
+pub past_by : (step : Step) (k k' : Known) (x : ℕ) → Sound k → Follows step k x k' → (view_after k.layout k.number k.view step x).past ≡ k.view.past → KeepsPast k k'
+past_by step k k' x sound follows past = record {
+  number = follows.number;
+  dealt = follows.dealt;
+  layout = follows.layout;
+  told = follows.told;
+  heard = follows.heard;
+  past = same_past step k k' x sound follows (ap (λ (v : View). v.past) follows.view ∙ past);
+}
+
+pub past_trans : (a b c : Known) → KeepsPast a b → KeepsPast b c → KeepsPast a c
+past_trans a b c h k = record {
+  number = k.number ∙ h.number;
+  dealt = k.dealt ∙ h.dealt;
+  layout = k.layout ∙ h.layout;
+  told = k.told ∙ h.told;
+  heard = k.heard ∙ h.heard;
+  past = k.past ∙ h.past;
+}
+
+-- ---- the seat and its place
+
+pub place_stays : (k : Known) → KeepsPlace k k
+place_stays k = record { seat = seat_stays k; past = refl; trail = refl }
+
+-- a step that leaves how far the past goes, and the walk
+pub place_by : (step : Step) (k k' : Known) (x : ℕ) → Sound k → Follows step k x k' → (view_after k.layout k.number k.view step x).past ≡ k.view.past → k'.trail ≡ k.trail → KeepsPlace k k'
+place_by step k k' x sound follows past trail = record { seat = seat_by step k k' x follows; past = same_past step k k' x sound follows (ap (λ (v : View). v.past) follows.view ∙ past); trail = trail }
+
+pub place_trans : (a b c : Known) → KeepsPlace a b → KeepsPlace b c → ((m : ℕ) → a.view.held ≡ Some m → c.view.held ≡ Some m → b.view.held ≡ Some m) → KeepsPlace a c
+place_trans a b c h k between = record { seat = seat_trans a b c h.seat k.seat between; past = k.past ∙ h.past; trail = k.trail ∙ h.trail }
+
 -- ---- reads
 
 -- the view but for what reading changes
-abbrev pub but_read : View → List (Option ℕ) → ℕ → ℕ → View
-but_read v heads reached past = record v { fresh_heads = heads; reached = reached; past = past }
+abbrev pub but_read : View → List (Option ℕ) → ℕ → ℕ → ℕ → View
+but_read v heads reached past cancelled = record v { fresh_heads = heads; reached = reached; past = past; cancelled = cancelled }
 
 -- a step that changes nothing else of the view, and falls back in nothing, only reads
-pub reads_by : (step : Step) (k k' : Known) (x : ℕ) (heads : List (Option ℕ)) (reached past : ℕ) → Follows step k x k' → view_after k.layout k.number k.view step x ≡ but_read k.view heads reached past → k.view.reached ≤ reached → OnlyReads k k'
-reads_by step k k' x heads reached past follows e le =
-    let is : k'.view ≡ but_read k.view heads reached past = follows.view ∙ e in record {
+pub reads_by : (step : Step) (k k' : Known) (x : ℕ) (heads : List (Option ℕ)) (reached past cancelled : ℕ) → Follows step k x k' → view_after k.layout k.number k.view step x ≡ but_read k.view heads reached past cancelled → k.view.reached ≤ reached → OnlyReads k k'
+reads_by step k k' x heads reached past cancelled follows e le =
+    let is : k'.view ≡ but_read k.view heads reached past cancelled = follows.view ∙ e in record {
       seat = seat_by step k k' x follows;
-      view = subst (λ (v : View). v ≡ but_read k.view v.fresh_heads v.reached v.past) (sym is) refl;
+      view = subst (λ (v : View). v ≡ but_read k.view v.fresh_heads v.reached v.past v.cancelled) (sym is) refl;
       reached = let r = ap (λ (v : View). v.reached) is in omega arith;
     }
 
@@ -61,18 +97,18 @@ reads_none k = record { seat = seat_stays k; view = refl; reached = omega arith 
 pub reads_trans : (a b c : Known) → OnlyReads a b → OnlyReads b c → OnlyReads a c
 reads_trans a b c h k = record {
   seat = seat_trans a b c h.seat k.seat (λ m held held'. ap (λ (v : View). v.held) h.view ∙ held);
-  view = k.view ∙ ap (λ (v : View). but_read v c.view.fresh_heads c.view.reached c.view.past) h.view;
+  view = k.view ∙ ap (λ (v : View). but_read v c.view.fresh_heads c.view.reached c.view.past c.view.cancelled) h.view;
   reached = let x = h.reached in let y = k.reached in omega arith;
 }
 
 -- ---- looks
 
 pub looks_none : (k : Known) → Looks k k
-looks_none k = record { reads = reads_none k; past = refl }
+looks_none k = record { reads = reads_none k; past = refl; cancelled = refl }
 
 -- one look after another
 pub looks_trans : (a b c : Known) → Looks a b → Looks b c → Looks a c
-looks_trans a b c h k = record { reads = reads_trans a b c h.reads k.reads; past = k.past ∙ h.past }
+looks_trans a b c h k = record { reads = reads_trans a b c h.reads k.reads; past = k.past ∙ h.past; cancelled = k.cancelled ∙ h.cancelled }
 
 pub aside_trans : (a b c : Known) → LooksAside a b → LooksAside b c → LooksAside a c
 aside_trans a b c h k = record { looks = looks_trans a b c h.looks k.looks; trail = k.trail ∙ h.trail }

@@ -20,9 +20,9 @@ use Rattle.clsm_law.specs.declared.merger.MergerView.{MergerView}
 use Rattle.clsm_law.specs.Memory.{cell_of, region_of, is_word}
 use Rattle.clsm_law.specs.Relation.{idle, or_zero, open_time, IsOpen, word_of}
 use Rattle.clsm_law.specs.Merging.{is_frozen}
-use Rattle.clsm_law.specs.Worlds.{view_at, slot_at, past_of}
+use Rattle.clsm_law.specs.Worlds.{view_at, outcome_at, past_of}
 use Rattle.clsm_law.specs.Law.{IsSnapshot, first_free}
-use Rattle.clsm_law.specs.Seats.{IsRightRecord, StandsAs, IsStandingRecord, HasWrite, IsRising}
+use Rattle.clsm_model.specs.Seats.{IsRightRecord, StandsAs, IsStandingRecord, HasWrite, IsRecordIn, IsRising}
 use Rattle.clsm_law.specs.SeatBounds.{IsSmall, IsSmallLook}
 use Rattle.clsm_law.specs.Machine.{WorldState}
 use Rattle.clsm_law.proofs.Histories.{end_of-past}
@@ -34,7 +34,7 @@ use Rattle.clsm_law.proofs.Cases.{by_bool}
 use Rattle.clsm_law.proofs.Times.{region_of_epoch}
 use Rattle.clsm_law.proofs.WordsThere.{word_there}
 use Rattle.clsm_words.specs.declared.known.Known.{Known}
-use Rattle.clsm_words.specs.Knowing.{row_of, IsReading, IsRecordIn, Agrees, Opens, Sound}
+use Rattle.clsm_words.specs.Knowing.{row_of, IsReading, Agrees, Opens, Sound}
 use Rattle.clsm_words.specs.Ruled.{world_of, IsSeated, Begins, Ruled}
 use Rattle.clsm_words.proofs.Beginnings.{begins_at}
 use Rattle.clsm_words.proofs.HeldRuns.{snapshot_above, floor_below, floor_least, runs_held}
@@ -94,15 +94,15 @@ module _ (s : State ℕ Known) (k : Known) (r : Ruled k.layout s) (ok : IsSeated
   nobody : (i t : ℕ) (write : Slot) → length r.views ≤ i → HasWrite i t write (view_at k.layout r.views i).calls → ⊥
   nobody i t write le has = subst (λ (u : View). HasWrite i t write u.calls) (get_or_past r.views i (idle k.layout) le) has
 
-  wrote_at : (list : List Slot) → Begins r.slots list → (t : ℕ) → t < length list → (slot : Slot) → get_or list t Nothing ≡ slot → slot_at r.slots t ≡ Some slot
+  wrote_at : (list : List Slot) → Begins r.slots list → (t : ℕ) → t < length list → (slot : Slot) → get_or list t Nothing ≡ slot → outcome_at r.slots t ≡ Some slot
   wrote_at list b t lt slot e = begins_at r.slots list b t lt ∙ ap (λ (a : Slot). Some a) e
 
   -- the seat's records agree with each beginning of the history
   pub agrees_of : (list : List Slot) → Begins r.slots list → Agrees k.layout.seats k.number k.view.calls list
   agrees_of list b = record {
-    stand = all_map (IsStandingRecord (slot_at r.slots) k.number) (IsRecordIn list k.number) k.view.calls
+    stand = all_map (IsStandingRecord (outcome_at r.slots) k.number) (IsRecordIn list k.number) k.view.calls
         (λ c h. (h.0, λ lt. subst (λ (o : Option Slot). StandsAs (write_by k.number c.deed) o) (begins_at r.slots list b c.time lt) h.1))
-        (subst (λ (u : View). AllByRecursion (IsStandingRecord (slot_at r.slots) k.number) u.calls) ok.view (r.lawful.law.stand k.number));
+        (subst (λ (u : View). AllByRecursion (IsStandingRecord (outcome_at r.slots) k.number) u.calls) ok.view (r.lawful.law.stand k.number));
     recorded = λ t key written lt e. subst (λ (u : View). HasWrite k.number t (Wrote k.number key written) u.calls) ok.view
         (r.lawful.law.recorded t k.number key written (wrote_at list b t lt (Wrote k.number key written) e));
     numbered = λ t i key written lt e. elim (cases_lt i (length r.views)) [

@@ -1,3 +1,4 @@
+pub mod Masks
 pub mod Beginnings
 pub mod Rows
 pub mod HeldRuns

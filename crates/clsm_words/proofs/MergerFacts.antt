@@ -60,8 +60,8 @@ module _ (g : Ground) (row : Memory) (past : List Slot) (agree : (word : Word) �
       (λ t low high. ap (λ (n : ℕ). n == 1) (agree (State (cell_of g.z t)) (inl e)))
 
   headless_known : IsLetGo g.merger → is_headless g.z row g.merger ≡ is_headless g.z g.memory g.merger
-  headless_known gone = passes_within (λ shard. g.memory (Head (retired_region g.merger) shard) == 0) (λ shard. row (Head (retired_region g.merger) shard) == 0) 0 g.z.shards
-      (λ shard low high. ap (λ (n : ℕ). n == 0) (agree (Head (retired_region g.merger) shard) (gone, refl)))
+  headless_known gone = passes_within (λ chain. g.memory (Head (retired_region g.merger) chain) == 0) (λ chain. row (Head (retired_region g.merger) chain) == 0) 0 g.z.chains
+      (λ chain low high. ap (λ (n : ℕ). n == 0) (agree (Head (retired_region g.merger) chain) (gone, refl)))
 
   last_known : IsLetGo g.merger → (cell : ℕ) → is_last g.z row g.merger cell ≡ is_last g.z g.memory g.merger cell
   last_known gone cell = passes_within (λ other. other == cell || g.memory (State other) == 0) (λ other. other == cell || row (State other) == 0) (retired_region g.merger * g.z.cells) g.z.cells

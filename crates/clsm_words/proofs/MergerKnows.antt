@@ -84,7 +84,7 @@ module _ (s : State ℕ Known) (k : Known) (r : Ruled k.layout s) (ok : IsMergin
   sound_merger merges = record {
     merges = merges;
     there = λ step o. subst (λ (m : MergerView). is_word k.layout (word_of_merger k.layout m step) ≡ true) (sym ok.view) (word_there' setting step (open_there step o));
-    seats = subst (λ (m : MergerView). length m.retirees ≡ k.layout.seats) (sym ok.view) r.lawful.law.merger.seats;
+    seats = subst (λ (m : MergerView). length m.readers ≡ k.layout.seats) (sym ok.view) r.lawful.law.merger.seats;
     reaches = subst (λ (m : MergerView). known_end k.layout m (row_of k Clock) ≤ length k.past) (sym ok.view) reaches_known;
     clock = λ e. all_known (sym (ap (λ (m : MergerView). m.exclusive) ok.view) ∙ e);
     mergeable = subst (IsMergeable k.layout k.row) (sym ok.view) mergeable;

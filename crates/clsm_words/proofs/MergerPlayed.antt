@@ -18,7 +18,7 @@ use Rattle.clsm_law.specs.Memory.{Memory, is_word, put}
 use Rattle.clsm_law.specs.Layout.{index_of, memory}
 use Rattle.clsm_law.specs.Relation.{Chains}
 use Rattle.clsm_law.specs.Merging.{is_clean, is_frozen, is_retired, epoch_end, word_of_merger, changed_by_merger, merger_after, slots_after_merger, chains_after_merger}
-use Rattle.clsm_law.specs.Worlds.{slot_at, settled, facts_of}
+use Rattle.clsm_law.specs.Worlds.{outcome_at, settled, facts_of}
 use Rattle.clsm_law.specs.Law.{LawOf, each, held_of}
 use Rattle.clsm_law.specs.Machine.{IsLawful, memory_of}
 use Rattle.clsm_law.proofs.GrowthMerger.{slots_stay', longer'}
@@ -39,9 +39,9 @@ use Rattle.clsm_words.proofs.Trails.{walked_apart, ends_walked}
 use Rattle.clsm_words.proofs.MergerKnows.{world, setting, open_by_row, open_there}
 
 -- in a lawful world each time up to the end that a merger knows is decided
-end_decided : (g : Ground) (t : ℕ) → t < known_end g.z g.merger (length g.slots) → slot_at g.slots t ≢ None
+end_decided : (g : Ground) (t : ℕ) → t < known_end g.z g.merger (length g.slots) → outcome_at g.slots t ≢ None
 end_decided g t = by g.merger.exclusive (is_frozen g.merger.phase) refl refl where
-  by : (held frozen : Bool) → g.merger.exclusive ≡ held → is_frozen g.merger.phase ≡ frozen → t < cond held (length g.slots) (cond frozen (epoch_end g.z g.merger) (g.merger.merged * g.z.cells)) → slot_at g.slots t ≢ None
+  by : (held frozen : Bool) → g.merger.exclusive ≡ held → is_frozen g.merger.phase ≡ frozen → t < cond held (length g.slots) (cond frozen (epoch_end g.z g.merger) (g.merger.merged * g.z.cells)) → outcome_at g.slots t ≢ None
   by true frozen e f lt = λ none. let i = g.law.owned t lt none in none_drawn g e i.0 t i.1
   by false true e f lt = frozen_decided g f t lt
   by false false e f lt = g.law.merged_decided t lt
@@ -166,7 +166,7 @@ module _ (s : State ℕ Known) (id : ℕ) (k : Known) (r : Ruled k.layout s) (at
   told_stays list b = begins_stay r.slots slots' list grown b
 
   -- the times up to the new end are decided
-  until_decided : (t : ℕ) → t < until' → slot_at slots' t ≢ None
+  until_decided : (t : ℕ) → t < until' → outcome_at slots' t ≢ None
   until_decided t lt = elim (cases_lt t (length k.past)) [
     | inl old ↦ let b = told_stays k.past me_merging.past in let e = begins_length slots' k.past b in b.decided t (omega arith)
     | inr new ↦ end_decided ended t (omega arith)
@@ -197,7 +197,7 @@ module _ (s : State ℕ Known) (id : ℕ) (k : Known) (r : Ruled k.layout s) (at
   module _ (j : Known) (h : IsSeated k.layout s.words r.merger r.slots r.lawful.chains r.views j) where
     past_stays : j.past ≡ take j.view.past (settled slots')
     past_stays =
-        let decided : (t : ℕ) → t < j.view.past → slot_at r.slots t ≢ None = λ t lt. r.lawful.law.past j.number t (subst (λ (u : View). t < u.past) (sym h.view) lt) in
+        let decided : (t : ℕ) → t < j.view.past → outcome_at r.slots t ≢ None = λ t lt. r.lawful.law.past j.number t (subst (λ (u : View). t < u.past) (sym h.view) lt) in
         let bound : j.view.past ≤ length r.slots = subst (λ (u : View). u.past ≤ length r.slots) h.view (past_below before j.number) in
         h.past ∙ decided_stay r.slots slots' j.view.past grown bound decided
 
@@ -211,13 +211,13 @@ module _ (s : State ℕ Known) (id : ℕ) (k : Known) (r : Ruled k.layout s) (at
     floor_stays c e = subst (λ (m : MergerView). HasFloor m c j.floor) (sym there_view) (floor_merged before step opens j.number c j.floor (held_there c e) (h.floor c e))
 
     -- what it walks is not cleared
-    line_apart : j.trail ≢ [] → (region shard : ℕ) → OpensTo before (ClearHead region shard) → j.region ≢ region
-    line_apart walks region shard clears = let line = h.line walks in by j.view.held refl line.1 where
+    line_apart : j.trail ≢ [] → (region chain : ℕ) → OpensTo before (ClearHead region chain) → j.region ≢ region
+    line_apart walks region chain clears = let line = h.line walks in by j.view.held refl line.1 where
       by : (held : Option ℕ) → j.view.held ≡ held → IsHeldEpoch k.layout held j.view.past (h.line walks).0 → j.region ≢ region
       by None is epoch = absurd epoch
       by (Some c) is epoch = λ q.
           let bound : j.view.past ≤ length r.slots = subst (λ (u : View). u.past ≤ length r.slots) h.view (past_below before j.number) in
-          walked_apart before j.number c (h.line walks).0 j.view.past (held_there c is) bound epoch region shard clears (sym (h.line walks).2 ∙ q)
+          walked_apart before j.number c (h.line walks).0 j.view.past (held_there c is) bound epoch region chain clears (sym (h.line walks).2 ∙ q)
 
     seated_stays : IsSeated k.layout words' view' slots' chains' r.views j
     seated_stays = record {
@@ -228,7 +228,7 @@ module _ (s : State ℕ Known) (id : ℕ) (k : Known) (r : Ruled k.layout s) (at
       past = past_stays;
       row = row_stays;
       floor = floor_stays;
-      ends = ends_walked before step opens j.region j.shard j.trail line_apart h.ends;
+      ends = ends_walked before step opens j.region j.chain j.trail line_apart h.ends;
       line = h.line;
     }
 

@@ -13,7 +13,7 @@ use Rattle.clsm_law.specs.declared.merger.MergerView.{MergerView}
 use Rattle.clsm_law.specs.Memory.{cell_of, is_part}
 use Rattle.clsm_law.specs.Layout.{memory}
 use Rattle.clsm_law.specs.Merging.{is_frozen, epoch_end}
-use Rattle.clsm_law.specs.Worlds.{slot_at}
+use Rattle.clsm_law.specs.Worlds.{outcome_at}
 use Rattle.clsm_law.specs.Law.{Shows}
 use Rattle.clsm_law.proofs.Frames.{slot_below}
 use Rattle.clsm_law.proofs.KeptDecided.{frozen_decided}
@@ -51,7 +51,7 @@ module _ (s : State ℕ Known) (id : ℕ) (k : Known) (r : Ruled k.layout s) (at
       let low = shown_below_merged g in
       let list = (next s id k r at merges step o).past in
       subst (λ (c : ℕ). Shows (memory k.layout s.words) c (Some (get_or list t Nothing))) known.1
-      (subst (λ (a : Option Slot). Shows (memory k.layout s.words) (cell_of k.layout t) a) (ap (λ (slots : List (Option Slot)). slot_at slots t) (sym same) ∙ begins_at (slots' s id k r at merges step o) list (next_past s id k r at merges step o) t (inside_next step o t known.0 known.3))
+      (subst (λ (a : Option Slot). Shows (memory k.layout s.words) (cell_of k.layout t) a) (ap (λ (slots : List (Option Slot)). outcome_at slots t) (sym same) ∙ begins_at (slots' s id k r at merges step o) list (next_past s id k r at merges step o) t (inside_next step o t known.0 known.3))
       (r.lawful.law.shown t (omega arith) drawn))
 
   pub tells_merger : (step : Step) (o : OpensToMerger k step) → TellsMerger step (next s id k r at merges step o) (found s id k r at merges step o)

@@ -9,7 +9,7 @@ use Rattle.clsm_law.specs.declared.view.Mode.TheVariants.{Shared}
 use Rattle.clsm_law.specs.Memory.{cell_of, region_of, put}
 use Rattle.clsm_law.specs.Relation.{is_shared, or_zero}
 use Rattle.clsm_law.specs.Merging.{retired_region}
-use Rattle.clsm_law.specs.Worlds.{slot_at}
+use Rattle.clsm_law.specs.Worlds.{outcome_at}
 use Rattle.clsm_law.specs.Law.{first_shown, each, drawn_of}
 use Rattle.clsm_law.proofs.Cases.{by_test}
 use Rattle.clsm_law.proofs.Frames.{put_other, put_same}
@@ -21,7 +21,7 @@ use Rattle.clsm_law.proofs.Times.{region_of_epoch}
 use Rattle.clsm_words.specs.Merging.{IsLetGo, IsOwn}
 
 -- while the merger holds the lock each drawn time is decided
-pub held_decided : (s : Setting) → s.merger.exclusive ≡ true → (t : ℕ) → t < length s.slots → slot_at s.slots t ≢ None
+pub held_decided : (s : Setting) → s.merger.exclusive ≡ true → (t : ℕ) → t < length s.slots → outcome_at s.slots t ≢ None
 held_decided s e t lt none = let i = s.law.owned t lt none in none_drawn (ground s) e i.0 t i.1
 
 -- once what is retired is let go, a shown time is of the other region
@@ -73,14 +73,14 @@ own_state s (Look word) o c is = λ k. put_same s.memory word k (State c)
 own_state s step o c is = refl
 
 -- ---- the heads
-own_head : (s : Setting) (step : Step) → Opens s step → (region shard : ℕ) → IsOwn s.z s.merger (Head region shard) → M s step (Head region shard) ≡ s.memory (Head region shard)
-own_head s (Link head) o region shard is = put_other s.memory (Head (region_of s.z (cell_of s.z (own s))) (or_zero (v s).key % s.z.shards)) (Head region shard) _ (λ q. let same : region_of s.z (cell_of s.z (own s)) ≡ region = cc in drawn_apart s is.0 s.me (own s) (own_drawn s o.0) (same ∙ is.1))
-own_head s (Look word) o region shard is = λ k. put_same s.memory word k (Head region shard)
-own_head s step o region shard is = refl
+own_head : (s : Setting) (step : Step) → Opens s step → (region chain : ℕ) → IsOwn s.z s.merger (Head region chain) → M s step (Head region chain) ≡ s.memory (Head region chain)
+own_head s (Link head) o region chain is = put_other s.memory (Head (region_of s.z (cell_of s.z (own s))) (or_zero (v s).key % s.z.chains)) (Head region chain) _ (λ q. let same : region_of s.z (cell_of s.z (own s)) ≡ region = cc in drawn_apart s is.0 s.me (own s) (own_drawn s o.0) (same ∙ is.1))
+own_head s (Look word) o region chain is = λ k. put_same s.memory word k (Head region chain)
+own_head s step o region chain is = refl
 
 pub own_kept : (s : Setting) (step : Step) → Opens s step → (word : Word) → IsOwn s.z s.merger word → M s step word ≡ s.memory word
 own_kept s step o Clock is = own_clock s step o is
-own_kept s step o (Head region shard) is = own_head s step o region shard is
+own_kept s step o (Head region chain) is = own_head s step o region chain is
 own_kept s step o (State cell) is = own_state s step o cell is
 own_kept s step o (Count place) is = (seat_same s step o place).count
 own_kept s step o (Entry place entry part) is = (seat_same s step o place).words entry part

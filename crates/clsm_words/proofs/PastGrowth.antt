@@ -20,7 +20,7 @@ looked_past z v Clock x = refl
 looked_past z v Limit x = refl
 looked_past z v Front x = refl
 looked_past z v Merged x = refl
-looked_past z v (Head region shard) x = refl
+looked_past z v (Head region chain) x = refl
 looked_past z v (StateOf cell) x = refl
 looked_past z v word x = refl
 

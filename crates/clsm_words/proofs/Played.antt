@@ -11,7 +11,7 @@ use Rattle.clsm_law.specs.declared.step.Step.{Step}
 use Rattle.clsm_law.specs.declared.view.View.{View}
 use Rattle.clsm_law.specs.Layout.{index_of, memory}
 use Rattle.clsm_law.specs.Relation.{Chains, idle, word_of, changed, view_after, slots_after, chains_after}
-use Rattle.clsm_law.specs.Worlds.{view_at, slot_at, settled}
+use Rattle.clsm_law.specs.Worlds.{view_at, outcome_at, settled}
 use Rattle.clsm_law.specs.Memory.{Memory, is_word}
 use Rattle.clsm_law.specs.Law.{LawOf}
 use Rattle.clsm_law.specs.Merging.{is_frozen, epoch_end, IsRunWord}
@@ -29,7 +29,7 @@ use Rattle.clsm_words.specs.Merging.{IsOwn, known_end}
 use Rattle.clsm_words.specs.Ruled.{world_of, IsSeated, Begins, IsMerging, AreSeats, Ruled}
 use Rattle.clsm_words.proofs.Beginnings.{HaveGrown, begins_stay, decided_stay}
 use Rattle.clsm_words.proofs.Owned.{own_kept}
-use Rattle.clsm_words.proofs.Trails.{trail_after, region_after, shard_after, floor_after, ends_stay, own_ends, own_line, own_floor}
+use Rattle.clsm_words.proofs.Trails.{trail_after, region_after, chain_after, floor_after, ends_stay, own_ends, own_line, own_floor}
 use Rattle.clsm_words.proofs.Rows.{rows_stay}
 use Rattle.clsm_words.proofs.Knows.{world, number_inside, setting, open_there}
 
@@ -66,7 +66,7 @@ module _ (s : State ℕ Known) (id : ℕ) (k : Known) (r : Ruled k.layout s) (at
     row = words';
     trail = trail_after k.layout k.view r.lawful.chains k.trail step;
     region = region_after k.region step;
-    shard = shard_after k.shard step;
+    chain = chain_after k.chain step;
     floor = floor_after k.view r.merger.merged_floor k.floor step;
   }
 
@@ -122,7 +122,7 @@ module _ (s : State ℕ Known) (id : ℕ) (k : Known) (r : Ruled k.layout s) (at
   -- what a seat knew of the history stays
   pub past_stays : (j : Known) → IsSeated k.layout s.words r.merger r.slots r.lawful.chains r.views j → j.past ≡ take j.view.past (settled slots')
   past_stays j h =
-      let decided : (t : ℕ) → t < j.view.past → slot_at r.slots t ≢ None = λ t lt. r.lawful.law.past j.number t (subst (λ (u : View). t < u.past) (sym h.view) lt) in
+      let decided : (t : ℕ) → t < j.view.past → outcome_at r.slots t ≢ None = λ t lt. r.lawful.law.past j.number t (subst (λ (u : View). t < u.past) (sym h.view) lt) in
       let bound : j.view.past ≤ length r.slots = subst (λ (u : View). u.past ≤ length r.slots) h.view (past_below (ground before) j.number) in
       h.past ∙ decided_stay r.slots slots' j.view.past grown bound decided
 
@@ -150,8 +150,8 @@ module _ (s : State ℕ Known) (id : ℕ) (k : Known) (r : Ruled k.layout s) (at
     past = refl;
     row = λ c held w named. refl;
     floor = own_floor k.layout k.number k.view r.merger (memory k.layout s.words) k.floor step found finds_word r.lawful.law.merged me_seated.floor;
-    ends = ends_stay k.layout k.view r.lawful.chains step found (region_after k.region step) (shard_after k.shard step) next.trail (own_ends k.layout k.view r.lawful.chains k.trail k.region k.shard step me_seated.ends);
-    line = own_line k.layout k.number k.view r.lawful.chains k.trail k.region k.shard step found word_there me_seated.line;
+    ends = ends_stay k.layout k.view r.lawful.chains step found (region_after k.region step) (chain_after k.chain step) next.trail (own_ends k.layout k.view r.lawful.chains k.trail k.region k.chain step me_seated.ends);
+    line = own_line k.layout k.number k.view r.lawful.chains k.trail k.region k.chain step found word_there me_seated.line;
   }
 
   -- the words of runs stay
@@ -173,7 +173,7 @@ module _ (s : State ℕ Known) (id : ℕ) (k : Known) (r : Ruled k.layout s) (at
         past = past_stays j h;
         row = λ c held w named. h.row c held w named ∙ sym (run_word w named.0);
         floor = h.floor;
-        ends = ends_stay k.layout k.view r.lawful.chains step found j.region j.shard j.trail h.ends;
+        ends = ends_stay k.layout k.view r.lawful.chains step found j.region j.chain j.trail h.ends;
         line = h.line;
       }) (back i j e)
 

@@ -23,7 +23,7 @@ set_long : (xs : List (Option ℕ)) (i : ℕ) (x : Option ℕ) (n : ℕ) → len
 set_long xs i x n e = length-set xs i x ∙ e
 
 pub idle_rows : (z : Layout) → HasRows z (idle z)
-idle_rows z = record { heads = blank_long (2 * z.shards); words = blank_long 8 }
+idle_rows z = record { heads = blank_long (2 * z.chains); words = blank_long 8 }
 
 filled_rows : (z : Layout) (v : View) (part : Part) (w : ℕ) → HasRows z v → HasRows z (filled v part w)
 filled_rows z v Key w h = record { heads = h.heads; words = h.words }
@@ -37,16 +37,16 @@ looked_rows z v Clock x h = record { heads = h.heads; words = h.words }
 looked_rows z v Limit x h = record { heads = h.heads; words = h.words }
 looked_rows z v Front x h = record { heads = h.heads; words = h.words }
 looked_rows z v Merged x h = record { heads = h.heads; words = h.words }
-looked_rows z v (Head region shard) x h = record { heads = either_long (holds_lock v) (set v.fresh_heads (line_of region shard) (Some x)) v.fresh_heads (2 * z.shards) (set_long v.fresh_heads (line_of region shard) (Some x) (2 * z.shards) h.heads) h.heads; words = h.words }
+looked_rows z v (Head region chain) x h = record { heads = either_long (holds_lock v) (set v.fresh_heads (line_of region chain) (Some x)) v.fresh_heads (2 * z.chains) (set_long v.fresh_heads (line_of region chain) (Some x) (2 * z.chains) h.heads) h.heads; words = h.words }
 looked_rows z v (State cell) x h = record { heads = h.heads; words = h.words }
 looked_rows z v word x h = h
 
 -- they stay so long
 pub rows_stay : (z : Layout) (i : ℕ) (v : View) (step : Step) (x : ℕ) → HasRows z v → HasRows z (view_after z i v step x)
-rows_stay z i v (EnterShared l) x h = record { heads = either_long (x == l) (replicate (2 * z.shards) None) v.fresh_heads (2 * z.shards) (blank_long (2 * z.shards)) h.heads; words = h.words }
-rows_stay z i v LeaveShared x h = record { heads = blank_long (2 * z.shards); words = h.words }
+rows_stay z i v (EnterShared l) x h = record { heads = either_long (x == l) (replicate (2 * z.chains) None) v.fresh_heads (2 * z.chains) (blank_long (2 * z.chains)) h.heads; words = h.words }
+rows_stay z i v LeaveShared x h = record { heads = blank_long (2 * z.chains); words = h.words }
 rows_stay z i v (Draw t) x h = record { heads = h.heads; words = either_long (x == t) (replicate 8 None) v.words 8 (blank_long 8) h.words }
 rows_stay z i v (Fill part w) x h = filled_rows z v part w h
-rows_stay z i v (Link head) x h = record { heads = set_long v.fresh_heads (own_line z v) None (2 * z.shards) h.heads; words = h.words }
+rows_stay z i v (Link head) x h = record { heads = set_long v.fresh_heads (own_line z v) None (2 * z.chains) h.heads; words = h.words }
 rows_stay z i v (Look word) x h = looked_rows z v word x h
 rows_stay z i v step x h = record { heads = h.heads; words = h.words }

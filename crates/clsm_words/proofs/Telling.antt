@@ -22,7 +22,7 @@ use Rattle.clsm_law.specs.Law.{Shows, first_shown, first_live, holders, IsRetire
 use Rattle.clsm_law.proofs.Frames.{put_same}
 use Rattle.clsm_law.proofs.Setting.{Ground, ground, x, M, held_shown, clock_live, live_below_shown, past_below, shown_below_merged}
 use Rattle.clsm_words.specs.declared.known.Known.{Known}
-use Rattle.clsm_words.specs.Knowing.{row_of, Opens, code_of, IsPartOf, IsWithin, Tells}
+use Rattle.clsm_words.specs.Knowing.{row_of, Opens, code_of, IsPartOf, IsNearHeld, Tells}
 use Rattle.clsm_words.specs.Ruled.{Begins, Ruled}
 use Rattle.clsm_words.proofs.Beginnings.{begins_at, begins_bound}
 use Rattle.clsm_words.proofs.Knows.{number_inside, own_past}
@@ -35,7 +35,7 @@ shown_state memory cell (Wrote seat key written) h = h.0
 pub shown_part : (memory : Memory) (cell : ℕ) (slot : Slot) (part : Part) → is_part part ≡ true → Shows memory cell (Some slot) → IsPartOf slot part (memory (Cell cell part))
 shown_part memory cell (Wrote seat key written) Key there h = h.1
 shown_part memory cell (Wrote seat key written) Length there h = h.2
-shown_part memory cell (Wrote seat key written) (Value j) there h = h.3 j (ltb-true j 8 there)
+shown_part memory cell (Wrote seat key written) (Value j) there h = h.3 j
 shown_part memory cell slot part there h = tt
 
 end_within : (c n x live : ℕ) → live ≤ c * n → x ≤ live + 2 * n → x ≤ (c + 2) * n
@@ -81,7 +81,7 @@ module _ (s : State ℕ Known) (id : ℕ) (k : Known) (r : Ruled k.layout s) (at
     past_before = let ok = me_seated s id k r at sits step o in subst (Begins r.slots) ok.past (own_past s k r ok)
 
     -- the clock is within the two epochs of what is held
-    clock_within : IsWithin k.layout k.view.held (length r.slots)
+    clock_within : IsNearHeld k.layout k.view.held (length r.slots)
     clock_within = within k.view.held refl where
       g : Ground
       g = ground (before s id k r at sits step o)
@@ -92,7 +92,7 @@ module _ (s : State ℕ Known) (id : ℕ) (k : Known) (r : Ruled k.layout s) (at
       until : length r.slots ≤ first_live k.layout r.merger + 2 * k.layout.cells
       until = clock_live g
 
-      within : (a : Option ℕ) → k.view.held ≡ a → IsWithin k.layout a (length r.slots)
+      within : (a : Option ℕ) → k.view.held ≡ a → IsNearHeld k.layout a (length r.slots)
       within None e = tt
       within (Some m) e =
           let ok = me_seated s id k r at sits step o in
@@ -107,8 +107,8 @@ module _ (s : State ℕ Known) (id : ℕ) (k : Known) (r : Ruled k.layout s) (at
           (start_within m k.layout.cells (length r.slots) first, end_within m k.layout.cells (length r.slots) (first_live k.layout r.merger) (omega arith) until))
           (r.lawful.law.held k.number m (ap (λ (u : View). u.held) ok.view ∙ e)).1
 
-  clock_found : (a : Option ℕ) (z : Layout) (x y : ℕ) → x ≡ y → IsWithin z a y → IsWithin z a x
-  clock_found a z x y e h = subst (IsWithin z a) (sym e) h
+  clock_found : (a : Option ℕ) (z : Layout) (x y : ℕ) → x ≡ y → IsNearHeld z a y → IsNearHeld z a x
+  clock_found a z x y e h = subst (IsNearHeld z a) (sym e) h
 
   -- a step that leaves its word knows it
   row_found : (step : Step) (o : Opens k step) → changed k.layout (view_at k.layout r.views k.number) step (x (before s id k r at sits step o) step) ≡ x (before s id k r at sits step o) step → found s id k r at sits step o ≡ row_of (next s id k r at sits step o) (word s id k r at sits step o)

@@ -14,16 +14,33 @@ pub record KeepsSeat (old new : Known) : Type 0 where
   pub past : IsPrefix old.past new.past
   pub runs : KeepsRuns old new
 
--- It only read: its view is as it was, but for the heads that it looked at, what it reached, and how far its past goes; neither falls back
+-- It is the seat that it was, and learned of no time more
+pub record KeepsPast (old new : Known) : Type 0 where
+  pub number : new.number ≡ old.number
+  pub dealt : new.dealt ≡ old.dealt
+  pub layout : new.layout ≡ old.layout
+  pub told : new.told ≡ old.told
+  pub heard : new.heard ≡ old.heard
+  pub past : new.past ≡ old.past
+
+-- It is the seat that it was, and neither its past nor its walk went on: at most its view changed
+pub record KeepsPlace (old new : Known) : Type 0 where
+  pub seat : KeepsSeat old new
+  pub past : new.past ≡ old.past
+  pub trail : new.trail ≡ old.trail
+
+-- It only read: its view is as it was, but for the heads that it looked at, what it reached, how far its past goes, and how many times of
+-- others it cancelled; what it reached does not fall back
 pub record OnlyReads (old new : Known) : Type 0 where
   pub seat : KeepsSeat old new
-  pub view : new.view ≡ record old.view { fresh_heads = new.view.fresh_heads; reached = new.view.reached; past = new.view.past }
+  pub view : new.view ≡ record old.view { fresh_heads = new.view.fresh_heads; reached = new.view.reached; past = new.view.past; cancelled = new.view.cancelled }
   pub reached : old.view.reached ≤ new.view.reached
 
--- it read, and learned of no time more
+-- it read, and neither learned of a time more nor cancelled one
 pub record Looks (old new : Known) : Type 0 where
   pub reads : OnlyReads old new
   pub past : new.past ≡ old.past
+  pub cancelled : new.view.cancelled ≡ old.view.cancelled
 
 -- and it did not go on along the chain that it walks
 pub record LooksAside (old new : Known) : Type 0 where

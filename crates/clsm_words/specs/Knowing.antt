@@ -7,7 +7,6 @@ use Rattle.clsm_model.specs.declared.slot.Slot.{Slot}
 use Rattle.clsm_model.specs.declared.slot.Slot.TheVariants.{Nothing, Wrote}
 use Rattle.clsm_model.specs.declared.record.CallRecord.{CallRecord}
 use Rattle.clsm_model.specs.History.{plain}
-use Rattle.clsm_model.specs.Right.{write_by}
 use Rattle.clsm_law.specs.declared.layout.Layout.{Layout}
 use Rattle.clsm_law.specs.declared.word.Word.{Word}
 use Rattle.clsm_law.specs.declared.word.Word.TheVariants.{Lock, Clock, Head, Cell, State, Count, Entry}
@@ -17,6 +16,7 @@ use Rattle.clsm_law.specs.declared.step.Step.{Step}
 use Rattle.clsm_law.specs.declared.step.Step.TheVariants.{Pin, Unpin, Look}
 use Rattle.clsm_law.specs.declared.view.View.{View}
 use Rattle.clsm_law.specs.declared.view.Mode.TheVariants.{Shared}
+use Rattle.clsm_law.specs.Codes.{exclusive_hold, cancelled_cell}
 use Rattle.clsm_law.specs.Memory.{Memory, cell_of, region_of, is_word}
 use Rattle.clsm_law.specs.Layout.{memory}
 use Rattle.clsm_law.specs.Places.{is_named}
@@ -24,23 +24,23 @@ use Rattle.clsm_law.specs.Law.{In, Distinct, AreRuns}
 use Rattle.clsm_law.specs.Relation.{IsShort, idle, length_of, words_of, state_of, open_time, HoldsFrom, IsOpen, word_of, view_after}
 use Rattle.clsm_law.specs.Merging.{opening, IsRunWord, place_of}
 use Rattle.clsm_law.specs.Machine.{opened}
-use Rattle.clsm_law.specs.Seats.{IsRightRecord, StandsAs, HasWrite, IsRising}
+use Rattle.clsm_model.specs.Seats.{IsRecordIn, IsRightRecord, HasWrite, IsRising}
 use Rattle.clsm_law.specs.SeatBounds.{IsSmall}
 use Rattle.clsm_words.specs.declared.known.Known.{Known}
 
 -- ---- seats, and what carries a past
 
 -- the smallest layout: that of one who sees no word
-abbrev pub least : Layout
-least = record { cells = 4; seats = 1; shards = 1; run = 4; cells_in_range = (omega arith, omega arith); seats_in_range = (omega arith, omega arith); shards_in_range = (omega arith, omega arith); run_in_range = (omega arith, omega arith) }
+abbrev pub least_layout : Layout
+least_layout = record { cells = 4; seats = 1; chains = 1; run = 4; patience = 0; cells_in_range = (omega arith, omega arith); seats_in_range = (omega arith, omega arith); chains_in_range = (omega arith, omega arith); run_in_range = (omega arith, omega arith) }
 
 -- a caller's seat that has played nothing
-abbrev pub newcomer : Layout → ℕ → Known
-newcomer z number = record { seated = true; merges = false; number = number; dealt = 0; layout = z; view = idle z; merger = opening z; row = []; trail = []; region = 0; shard = 0; floor = 0; past = []; told = []; heard = 0 }
+abbrev pub unplayed : Layout → ℕ → Known
+unplayed z number = record { seated = true; merges = false; number = number; dealt = 0; layout = z; view = idle z; merger = opening z; row = []; trail = []; region = 0; chain = 0; floor = 0; past = []; told = []; heard = 0 }
 
 -- the merger's, which is the first of all and deals the others: its number is the number of the callers' seats
 abbrev pub new_merger : Layout → Known
-new_merger z = record { seated = false; merges = true; number = z.seats; dealt = 0; layout = z; view = idle z; merger = opening z; row = (opened z).words; trail = []; region = 0; shard = 0; floor = 0; past = []; told = []; heard = 0 }
+new_merger z = record { seated = false; merges = true; number = z.seats; dealt = 0; layout = z; view = idle z; merger = opening z; row = (opened z).words; trail = []; region = 0; chain = 0; floor = 0; past = []; told = []; heard = 0 }
 
 -- one seat more is dealt
 abbrev pub deals : Known → Known
@@ -48,17 +48,13 @@ deals k = record k { dealt = k.dealt + 1 }
 
 -- one that only carries a past and a due
 abbrev pub messenger : List Slot → ℕ → Known
-messenger told heard = record { seated = false; merges = false; number = 0; dealt = 0; layout = least; view = idle least; merger = opening least; row = []; trail = []; region = 0; shard = 0; floor = 0; past = []; told = told; heard = heard }
+messenger told heard = record { seated = false; merges = false; number = 0; dealt = 0; layout = least_layout; view = idle least_layout; merger = opening least_layout; row = []; trail = []; region = 0; chain = 0; floor = 0; past = []; told = told; heard = heard }
 
 -- a seat that takes in what another carries: its beginning of the history, and its due where that is greater
 abbrev pub learns : Known → Known → Known
 learns k m = record k { told = m.told; heard = max k.heard m.heard }
 
 -- ---- a seat's records and the history
-
--- the record is the seat's, and its write stands at its time, as far as the slots go
-abbrev pub IsRecordIn : List Slot → ℕ → CallRecord → Type 0
-IsRecordIn slots number r = (r.seat ≡ number) × (r.time < length slots → StandsAs (write_by number r.deed) (Some (slice_index_or slots r.time Nothing)))
 
 -- As far as the slots go: each record's write stands in them, and each write in them with the seat's number is one of its records;
 -- no other number writes, and no write has more words than a cell, nor a value none
@@ -74,7 +70,7 @@ Opens k step = IsOpen k.layout (plain k.past) k.view step
 
 -- a view has a place for each chain's head, and for eight words
 pub record HasRows (z : Layout) (v : View) : Type 0 where
-  pub heads : length v.fresh_heads ≡ 2 * z.shards
+  pub heads : length v.fresh_heads ≡ 2 * z.chains
   pub words : length v.words ≡ 8
 
 -- the words as its last step left them
@@ -113,20 +109,20 @@ IsKnownIn k cell t = (t < length k.past) × (cell_of k.layout t ≡ cell) × Hol
 
 -- what the state of a decided time's cell is
 abbrev pub code_of : Slot → ℕ
-code_of Nothing = 1
+code_of Nothing = cancelled_cell
 code_of (Wrote seat key written) = state_of written
 
 -- what a part of a write's cell is
 abbrev pub IsPartOf : Slot → Part → ℕ → Type 0
 IsPartOf (Wrote seat key written) Key x = x ≡ key
 IsPartOf (Wrote seat key written) Length x = x ≡ length_of written
-IsPartOf (Wrote seat key written) (Value j) x = x ≡ slice_index (words_of written) j
+IsPartOf (Wrote seat key written) (Value j) x = j < length_of written → x ≡ slice_index (words_of written) j
 IsPartOf _ _ x = Unit {0}
 
 -- the time is none before the held component, and none behind the epoch after it
-abbrev pub IsWithin : Layout → Option ℕ → ℕ → Type 0
-IsWithin z None x = Unit {0}
-IsWithin z (Some m) x = (m * z.cells ≤ x) × (x ≤ (m + 2) * z.cells)
+abbrev pub IsNearHeld : Layout → Option ℕ → ℕ → Type 0
+IsNearHeld z None x = Unit {0}
+IsNearHeld z (Some m) x = (m * z.cells ≤ x) × (x ≤ (m + 2) * z.cells)
 
 -- in a hold of the lock the clock is at most the limit that was looked at
 abbrev pub IsInLimit : Known → ℕ → Type 0
@@ -134,8 +130,8 @@ IsInLimit k x = (limit : ℕ) → k.view.mode ≡ Shared → k.view.hold_limit �
 
 -- what a step that found x tells the seat
 abbrev pub Tells : Step → Known → ℕ → Type 0
-Tells (Look Lock) k x = x ≤ 2 ^ 32
-Tells (Look Clock) k x = (k.view.due ≤ x) × (length k.told ≤ x) × (k.heard ≤ x) × IsWithin k.layout k.view.held x × IsInLimit k x × (k.view.past ≤ x)
+Tells (Look Lock) k x = x ≤ exclusive_hold
+Tells (Look Clock) k x = (k.view.due ≤ x) × (length k.told ≤ x) × (k.heard ≤ x) × IsNearHeld k.layout k.view.held x × IsInLimit k x × (k.view.past ≤ x)
 Tells (Look (State cell)) k x = (t : ℕ) → IsKnownIn k cell t → x ≡ code_of (slice_index_or k.past t Nothing)
 Tells (Look (Cell cell part)) k x = (t : ℕ) → IsKnownIn k cell t → IsPartOf (slice_index_or k.past t Nothing) part x
 Tells (Look (Count place)) k x = x ≡ row_of k (Count place)
@@ -154,16 +150,16 @@ abbrev pub LeadsTo : Layout → ℕ → List ℕ → Type 0
 LeadsTo z x [] = x ≡ 0
 LeadsTo z x (t ∷ ts) = x ≡ cell_of z t + 1
 
--- the seat's trail is a chain of the epoch e and the shard, to which the word x leads: in it stands each write of the past with a key of the shard
-pub record IsTrail (k : Known) (e shard x : ℕ) : Type 0 where
+-- the seat's trail is a chain of the epoch e and the chain, to which the word x leads: in it stands each write of the past with a key of the chain
+pub record IsTrail (k : Known) (e chain x : ℕ) : Type 0 where
   pub leads : LeadsTo k.layout x k.trail
   pub distinct : Distinct k.trail
   pub inside : (t : ℕ) → In t k.trail → (e * k.layout.cells ≤ t) × (t < (e + 1) * k.layout.cells)
-  pub standing : (t i key : ℕ) (written : Option (List ℕ)) → e * k.layout.cells ≤ t → t < (e + 1) * k.layout.cells → t < length k.past → slice_index_or k.past t Nothing ≡ Wrote i key written → key % k.layout.shards ≡ shard → In t k.trail
+  pub standing : (t i key : ℕ) (written : Option (List ℕ)) → e * k.layout.cells ≤ t → t < (e + 1) * k.layout.cells → t < length k.past → slice_index_or k.past t Nothing ≡ Wrote i key written → key % k.layout.chains ≡ chain → In t k.trail
 
 -- what a step that found x makes of the trail: a look at a head begins it, one at the NEXT of its first cell goes on
 abbrev pub Walks : Step → Known → ℕ → Known → Type 0
-Walks (Look (Head region shard)) k x k' = (e : ℕ) → IsHeldEpoch k.layout k.view.held (length k.past) e → region ≡ e % 2 → IsTrail k' e shard x
+Walks (Look (Head region chain)) k x k' = (e : ℕ) → IsHeldEpoch k.layout k.view.held (length k.past) e → region ≡ e % 2 → IsTrail k' e chain x
 Walks (Look (Cell cell Next)) k x k' = (t : ℕ) (rest : List ℕ) → k.trail ≡ t ∷ rest → cell_of k.layout t ≡ cell → (k'.trail ≡ rest) × LeadsTo k.layout x rest
 Walks Pin k x k' = Unit {0}
 Walks (Unpin end) k x k' = Unit {0}

@@ -23,13 +23,13 @@ use Rattle.clsm_words.specs.Knowing.{row_of, code_of, IsPartOf}
 
 -- a component is retired, and nobody holds it any more
 abbrev pub IsLetGo : MergerView → Type 0
-IsLetGo m = (is_retired m.phase ≡ true) × (is_all_quiet m.retirees ≡ true)
+IsLetGo m = (is_retired m.phase ≡ true) × (is_all_quiet m.readers ≡ true)
 
 -- those of the runs; while the merger holds the lock the clock and the states; and while nobody holds what is retired, the heads and
 -- states of the retired region
 abbrev pub IsOwn : Layout → MergerView → Word → Type 0
 IsOwn z m Clock = m.exclusive ≡ true
-IsOwn z m (Head region shard) = IsLetGo m × (region ≡ retired_region m)
+IsOwn z m (Head region chain) = IsLetGo m × (region ≡ retired_region m)
 IsOwn z m (State cell) = (m.exclusive ≡ true) ⊎ (IsLetGo m × (region_of z cell ≡ retired_region m))
 IsOwn z m (Count place) = Unit {0}
 IsOwn z m (Entry place entry part) = Unit {0}
@@ -55,7 +55,7 @@ known_end z m clock = cond m.exclusive clock (cond (is_frozen m.phase) (epoch_en
 pub record IsSoundMerger (k : Known) : Type 0 where
   pub merges : k.merges ≡ true
   pub there : (step : Step) → OpensToMerger k step → is_word k.layout (word_of_merger k.layout k.merger step) ≡ true
-  pub seats : length k.merger.retirees ≡ k.layout.seats
+  pub seats : length k.merger.readers ≡ k.layout.seats
   pub reaches : known_end k.layout k.merger (row_of k Clock) ≤ length k.past
   pub clock : k.merger.exclusive ≡ true → length k.past ≡ row_of k Clock
   pub mergeable : IsMergeable k.layout k.row k.merger

@@ -1,23 +1,23 @@
 -- What the step functions ask and tell.
-use Rattle.std.specs.Prelude.{◌≡◌, ◌≢◌, ℕ, ◌+◌, ◌<◌, max, true, false, [], List, length, slice_index_or, Some, None}
+use Rattle.std.specs.Prelude.{◌≡◌, ◌≢◌, ℕ, ◌+◌, ◌<◌, max, true, false, [], List, length, take, slice_index_or, Some, None}
 use Rattle.clsm_law.specs.declared.word.Word.{Word}
 use Rattle.clsm_law.specs.declared.step.Step.{Step}
 use Rattle.clsm_law.specs.declared.step.Answer.{Answer}
 use Rattle.clsm_law.specs.declared.view.View.{View}
-use Rattle.clsm_law.specs.Relation.{idle, is_all_some, word_of, answer_of}
+use Rattle.clsm_law.specs.Relation.{idle, is_all_some, or_zero, word_of, answer_of}
 use Rattle.clsm_law.specs.Merging.{opening, word_of_merger}
 use Rattle.clsm_words.specs.declared.known.Known.{Known}
-use Rattle.clsm_words.specs.declared.words.Words.{Words}
-use Rattle.clsm_words.specs.Seats.{SeatState, MessageState}
+use Rattle.clsm_words.specs.declared.words.WordTable.{WordTable}
+use Rattle.clsm_words.specs.Seats.{RawState, MessageState}
 use Rattle.clsm_words.specs.Knowing.{Opens, Follows}
 use Rattle.clsm_words.specs.Merging.{OpensToMerger, FollowsMerger}
 
 -- the seat is one of these words
-abbrev pub IsSeatOf : Words → SeatState → Type 0
+abbrev pub IsSeatOf : WordTable → RawState → Type 0
 IsSeatOf words seat = (seat.table ≡ words.table.shared.table_id) × (seat.knows.layout ≡ words.layout)
 
 -- the step is open to it
-abbrev pub MayPlay : Words → SeatState → Step → Type 0
+abbrev pub MayPlay : WordTable → RawState → Step → Type 0
 MayPlay words seat step = IsSeatOf words seat × Opens seat.knows step
 
 -- this is the word that the step is on
@@ -30,24 +30,24 @@ pub record IsFilled (v : View) (t key : ℕ) : Type 0 where
   pub linked : v.linked ≡ false
   pub keyed : v.key ≡ Some key
   pub sized : v.length ≢ None
-  pub words : is_all_some v.words ≡ true
+  pub words : is_all_some (take (or_zero v.length) v.words) ≡ true
 
 -- it played the step, which found x
-abbrev pub Played : Words → SeatState → Step → ℕ → SeatState → Type 0
+abbrev pub Played : WordTable → RawState → Step → ℕ → RawState → Type 0
 Played words seat step x seat' = IsSeatOf words seat' × Follows step seat.knows x seat'.knows
 
 -- it played the step, whatever that found
-abbrev pub Plays : Words → SeatState → Step → SeatState → Type 0
+abbrev pub Plays : WordTable → RawState → Step → RawState → Type 0
 Plays words seat step seat' = (x : ℕ) × Played words seat step x seat'
 
 -- and this is the step's answer
-abbrev pub Answers : Words → SeatState → Step → Answer → SeatState → Type 0
-Answers words seat step answer seat' = (x : ℕ) × Played words seat step x seat' × (answer ≡ answer_of step x)
+abbrev pub PlaysTo : WordTable → RawState → Step → Answer → RawState → Type 0
+PlaysTo words seat step answer seat' = (x : ℕ) × Played words seat step x seat' × (answer ≡ answer_of step x)
 
 -- ---- the merger's steps
 
 -- the step is open to the merger's seat
-abbrev pub MayMerge : Words → SeatState → Step → Type 0
+abbrev pub MayMerge : WordTable → RawState → Step → Type 0
 MayMerge words seat step = IsSeatOf words seat × OpensToMerger seat.knows step
 
 -- this is the word that the merger's step is on
@@ -55,33 +55,33 @@ abbrev pub IsMergersWord : Known → Step → Word → Type 0
 IsMergersWord k step word = word ≡ word_of_merger k.layout k.merger step
 
 -- the merger played the step, which found x
-abbrev pub Merged : Words → SeatState → Step → ℕ → SeatState → Type 0
+abbrev pub Merged : WordTable → RawState → Step → ℕ → RawState → Type 0
 Merged words seat step x seat' = IsSeatOf words seat' × FollowsMerger step seat.knows x seat'.knows
 
 -- it played the step, whatever that found
-abbrev pub Merges : Words → SeatState → Step → SeatState → Type 0
-Merges words seat step seat' = (x : ℕ) × Merged words seat step x seat'
+abbrev pub PlaysAsMerger : WordTable → RawState → Step → RawState → Type 0
+PlaysAsMerger words seat step seat' = (x : ℕ) × Merged words seat step x seat'
 
 -- and this is the step's answer
-abbrev pub MergerAnswers : Words → SeatState → Step → Answer → SeatState → Type 0
+abbrev pub MergerAnswers : WordTable → RawState → Step → Answer → RawState → Type 0
 MergerAnswers words seat step answer seat' = (x : ℕ) × Merged words seat step x seat' × (answer ≡ answer_of step x)
 
 -- ---- fresh seats
 
 -- the seat with this number has played nothing
-abbrev pub IsFresh : ℕ → SeatState → Type 0
+abbrev pub IsFresh : ℕ → RawState → Type 0
 IsFresh number seat = (seat.knows.number ≡ number) × (seat.knows.view ≡ idle seat.knows.layout) × (seat.knows.past ≡ []) × (seat.knows.told ≡ []) × (seat.knows.heard ≡ 0)
 
 -- the merger has played nothing
-abbrev pub IsFreshMerger : SeatState → Type 0
+abbrev pub IsFreshMerger : RawState → Type 0
 IsFreshMerger seat = (seat.knows.merger ≡ opening seat.knows.layout) × (seat.knows.past ≡ [])
 
 -- fresh seats of these words, numbered from this number on
-abbrev pub AreFreshFrom : ℕ → Words → List SeatState → Type 0
-AreFreshFrom first words seats = (i : ℕ) (seat : SeatState) → i < length seats → slice_index_or seats i seat ≡ seat → IsSeatOf words seat × IsFresh (first + i) seat
+abbrev pub AreFreshFrom : ℕ → WordTable → List RawState → Type 0
+AreFreshFrom first words seats = (i : ℕ) (seat : RawState) → i < length seats → slice_index_or seats i seat ≡ seat → IsSeatOf words seat × IsFresh (first + i) seat
 
 -- the message is of these words
-abbrev pub IsMessageOf : Words → MessageState → Type 0
+abbrev pub IsMessageOf : WordTable → MessageState → Type 0
 IsMessageOf words message = message.table ≡ words.table.shared.table_id
 
 -- a seat that learned of the message: it was told of no more than that, and of the greater due

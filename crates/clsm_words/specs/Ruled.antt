@@ -11,7 +11,7 @@ use Rattle.clsm_law.specs.declared.word.Word.{Word}
 use Rattle.clsm_law.specs.Layout.{memory, size_of}
 use Rattle.clsm_law.specs.Relation.{Chains, idle}
 use Rattle.clsm_law.specs.Merging.{is_retired}
-use Rattle.clsm_law.specs.Worlds.{view_at, slot_at, settled}
+use Rattle.clsm_law.specs.Worlds.{view_at, outcome_at, settled}
 use Rattle.clsm_law.specs.Machine.{WorldState, IsLawful}
 use Rattle.clsm_words.specs.declared.known.Known.{Known}
 use Rattle.clsm_words.specs.Knowing.{HasRows, IsHeldEpoch, IsNamedWord}
@@ -31,7 +31,7 @@ IsEndOf end list = (front : List ℕ) × (front ++ end ≡ list)
 
 -- the chain that the seat walks is one of an epoch that it may walk
 abbrev pub IsHeldLine : Layout → Known → Type 0
-IsHeldLine z k = (e : ℕ) × IsHeldEpoch z k.view.held k.view.past e × (k.region ≡ e % 2) × (k.shard < z.shards)
+IsHeldLine z k = (e : ℕ) × IsHeldEpoch z k.view.held k.view.past e × (k.region ≡ e % 2) × (k.chain < z.chains)
 
 -- what is so of a seat in the world: its view is the one of its number, and its past is what the times below the view's past came to;
 -- while it holds a component it knows the words of its runs, and their floor; and its trail is an end of a chain that it may walk
@@ -43,14 +43,14 @@ pub record IsSeated (z : Layout) (words : List ℕ) (m : MergerView) (slots : Li
   pub past : k.past ≡ take k.view.past (settled slots)
   pub row : (c : ℕ) → k.view.held ≡ Some c → (word : Word) → IsNamedWord c word → memory z k.row word ≡ memory z words word
   pub floor : (c : ℕ) → k.view.held ≡ Some c → HasFloor m c k.floor
-  pub ends : IsEndOf k.trail (chains k.region k.shard)
+  pub ends : IsEndOf k.trail (chains k.region k.chain)
   pub line : k.trail ≢ [] → IsHeldLine z k
 
 -- the list is what the times below some time came to, and all these are decided
 pub record Begins (slots : List (Option Slot)) (list : List Slot) : Type 0 where
   pub until : ℕ
   pub is : list ≡ take until (settled slots)
-  pub decided : (t : ℕ) → t < until → slot_at slots t ≢ None
+  pub decided : (t : ℕ) → t < until → outcome_at slots t ≢ None
 
 -- what is told is true: a beginning of the history, and a due that is not above the clock
 pub record IsTold (slots : List (Option Slot)) (told : List Slot) (heard : ℕ) : Type 0 where

@@ -5,7 +5,7 @@ use Rattle.clsm_model.specs.declared.slot.Slot.{Slot}
 use Rattle.clsm_words.specs.declared.known.Known.{Known}
 
 -- a seat: which words it is at, and what it knows
-pub record SeatState : Type 0 where
+pub record RawState : Type 0 where
   pub table : TableId
   pub knows : Known
 

@@ -19,7 +19,7 @@ pub struct Known {
     /// The times still to walk of the chain whose head it looked at last, and which chain that is.
     pub trail: LinkedList<Time>,
     pub region: u64,
-    pub shard: u64,
+    pub chain: u64,
     /// The floor that the runs of the component that it holds were merged with.
     pub floor: Time,
     /// What each time below the view's past came to.

@@ -34,7 +34,7 @@ pub enum Kind {
 }
 
 /// What a store's threads call before each atomic step. A call of it returns.
-pub trait Pace {
+pub trait Pace: Drop {
     /// The seat with this number is about to make a step of this kind.
     fn step(&self, seat: u64, kind: Kind);
 }
@@ -44,6 +44,6 @@ pub trait Pace {
 pub struct Free;
 
 impl Pace for Free {
-    #[inline]
+    #[inline(always)]
     fn step(&self, _: u64, _: Kind) {}
 }

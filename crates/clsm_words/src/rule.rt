@@ -76,11 +76,11 @@ impl<E: Told> Play<u64, Known> for StoresAsMerger<E> {
 pub struct Deals;
 
 impl Split<Known> for Deals {
-    ghost use Rattle.clsm_words.specs.Knowing.{deals, newcomer};
+    ghost use Rattle.clsm_words.specs.Knowing.{deals, unplayed};
 
     ghost left = { deals };
 
-    ghost right = { λ k. newcomer k.layout k.dealt };
+    ghost right = { λ k. unplayed k.layout k.dealt };
 }
 
 /// One seat tells another of its past.

@@ -1,7 +1,9 @@
-ghost use Rattle.std.specs.Prelude.{◌≡◌};
+ghost use Rattle.std.specs.Prelude.{◌≡◌, ◌*◌};
 ghost use Rattle.clsm_law.specs.Layout.{size_of};
 
+use crate::divisor::Divisors;
 use crate::known::Known;
+use crate::pace::Pace;
 use crate::rule::Law;
 use atomic_table::{Seat, Table};
 use clsm_law::Layout;
@@ -18,12 +20,78 @@ mod raw;
 mod steps;
 mod writes;
 
-/// The words that the seats share.
+/// The words on their table. Contracts see which table it is, and its layout.
 #[derive(Drop)]
-pub struct Words {
+pub struct WordTable {
     pub(crate) table: Table<u64, Known, Layout, Law, Global>,
     pub layout: Layout,
+    pub(crate) divisors: Divisors,
     pub ghost sized: { (table.shared.table_id.words ≡ size_of layout) × (table.shared.key ≡ layout) },
+    pub ghost divided: { (divisors.region.by ≡ layout.cells) × (divisors.ring.by ≡ 2 * layout.cells) × (divisors.chains.by ≡ layout.chains) },
+}
+
+/// The words that the seats share, and the pace that is called before each step on them.
+#[derive(Drop)]
+pub struct Words<P: Pace> {
+    words: WordTable,
+    pace: P,
+}
+
+impl<P: Pace> Model for Words<P> {
+    ghost use Rattle.clsm_words.specs.declared.words.WordTable.{WordTable};
+
+    ghost Value = { WordTable };
+
+    ghost view = { λ w. w.words };
+}
+
+impl<P: Pace> Words<P> {
+    ghost use Rattle.clsm_law.specs.Memory.{room_of};
+
+    /// The cells of one region.
+    #[inline(always)]
+    pub fn cells(&self) -> u64
+        ensures { result ≡ self.now.layout.cells }
+    {
+        self.words.layout.cells
+    }
+
+    /// The callers' seats.
+    #[inline(always)]
+    pub fn seats(&self) -> u64
+        ensures { result ≡ self.now.layout.seats }
+    {
+        self.words.layout.seats
+    }
+
+    /// How often a reader looks again at an undecided time before it cancels it.
+    #[inline(always)]
+    pub fn patience(&self) -> u64
+        ensures { result ≡ self.now.layout.patience }
+    {
+        self.words.layout.patience
+    }
+
+    /// The chains of one region.
+    #[inline(always)]
+    pub fn chains(&self) -> u64
+        ensures { result ≡ self.now.layout.chains }
+    {
+        self.words.layout.chains
+    }
+
+    /// The entries that a place has room for.
+    #[inline(always)]
+    pub fn room_of(&self, place: u64) -> u64
+        ensures { result ≡ room_of self.now.layout place }
+    {
+        self.words.layout.room_of(place)
+    }
+
+    /// The pace of the steps.
+    pub fn pace(&self) -> &P {
+        &self.pace
+    }
 }
 
 /// A caller's seat at the words. Contracts see which words they are, and what the seat knows.
@@ -35,10 +103,10 @@ pub struct RawSeat {
 
 impl Model for RawSeat {
     ghost use Rattle.std.specs.Prelude.{◌≡◌};
-    ghost use Rattle.clsm_words.specs.Seats.{SeatState};
+    ghost use Rattle.clsm_words.specs.Seats.{RawState};
     ghost use Rattle.clsm_words.specs.Knowing.{Sound};
 
-    ghost Value = { SeatState };
+    ghost Value = { RawState };
 
     ghost view = { λ s. record { table = s.seat.table_id; knows = s.seat.me.0 } };
 
@@ -74,10 +142,10 @@ pub struct RawMerger {
 
 impl Model for RawMerger {
     ghost use Rattle.std.specs.Prelude.{◌≡◌};
-    ghost use Rattle.clsm_words.specs.Seats.{SeatState};
+    ghost use Rattle.clsm_words.specs.Seats.{RawState};
     ghost use Rattle.clsm_words.specs.Merging.{IsSoundMerger};
 
-    ghost Value = { SeatState };
+    ghost Value = { RawState };
 
     ghost view = { λ s. record { table = s.seat.table_id; knows = s.seat.me.0 } };
 

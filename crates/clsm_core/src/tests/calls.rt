@@ -27,8 +27,8 @@ impl Play {
     pub(super) fn head_of(&self, time: Time, key: u64) -> Word {
         let is_first = self.cell_of(time) < self.layout.cells;
         let region = if is_first { 0 } else { 1 };
-        let shard = key % self.layout.shards;
-        Word::Head { region, shard }
+        let chain = key % self.layout.chains;
+        Word::Head { region, chain }
     }
 
     pub(super) fn enters(&mut self, rt: &impl Abort, seat: u32) {

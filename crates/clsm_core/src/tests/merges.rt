@@ -8,12 +8,12 @@ use std::process::Abort;
 
 const HEAD_0: Step = Step::ClearHead {
     region: 0,
-    shard: 0,
+    chain: 0,
 };
 
 const HEAD_1: Step = Step::ClearHead {
     region: 1,
-    shard: 0,
+    chain: 0,
 };
 
 /// No head and no state of the retired region may be cleared.

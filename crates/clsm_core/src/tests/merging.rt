@@ -81,8 +81,8 @@ impl Play {
 
     /// Clears the heads and the states of the region.
     pub(super) fn clears(&mut self, rt: &impl Abort, region: u64) {
-        for shard in 0..self.layout.shards {
-            self.merger_does(rt, Step::ClearHead { region, shard });
+        for chain in 0..self.layout.chains {
+            self.merger_does(rt, Step::ClearHead { region, chain });
         }
         for cell in 0..2 * self.layout.cells {
             if cell / self.layout.cells == region {

@@ -7,7 +7,7 @@ use std::process::Abort;
 
 const HEAD: Word = Word::Head {
     region: 0,
-    shard: 0,
+    chain: 0,
 };
 
 /// A reader finds a drawn time undecided and cancels it.

@@ -7,7 +7,7 @@ use std::process::Abort;
 
 const HEAD: Word = Word::Head {
     region: 0,
-    shard: 0,
+    chain: 0,
 };
 
 const KEY: Word = Word::Cell {
@@ -21,8 +21,8 @@ fn part_of_entry(entry: u64, part: u64) -> Word {
     Word::Entry { place, entry, part }
 }
 
-fn clear(region: u64, shard: u64) -> Step {
-    Step::ClearHead { region, shard }
+fn clear(region: u64, chain: u64) -> Step {
+    Step::ClearHead { region, chain }
 }
 
 fn refuses_freezing(rt: &impl Abort, play: &mut Play) {

@@ -9,8 +9,8 @@ fn part(cell: u64, part: Part) -> Word {
     Word::Cell { cell, part }
 }
 
-fn head(region: u64, shard: u64) -> Word {
-    Word::Head { region, shard }
+fn head(region: u64, chain: u64) -> Word {
+    Word::Head { region, chain }
 }
 
 fn entry(place: u64, entry: u64, part: u64) -> Word {

@@ -1,13 +1,14 @@
 //! Steps of a writer that are refused to it, step by step.
+use crate::tests::calls::written_by;
 use crate::tests::play::{Play, done, found, lost, refused};
-use crate::tests::{GREATEST, MERGER, SMALL, get, put, value};
+use crate::tests::{GREATEST, MERGER, SMALL, get, put, remove, value};
 use crate::{Part, Step, Word};
 use clsm_model::{Change, Config, Deed, Value};
 use std::process::Abort;
 
 const HEAD: Word = Word::Head {
     region: 0,
-    shard: 0,
+    chain: 0,
 };
 
 /// A world in which seat 0 has drawn time 0.
@@ -150,7 +151,7 @@ fn fill_needs_a_drawn_cell_that_is_not_linked(rt: HostRuntime) {
 fn fills_without(rt: &impl Abort, play: &mut Play, left_out: Part) {
     for (part, word) in [
         (Part::Key, 1),
-        (Part::Length, 1),
+        (Part::Length, 8),
         (Part::Value(0), 10),
         (Part::Value(1), 0),
         (Part::Value(2), 0),
@@ -190,8 +191,8 @@ fn link_needs_each_part(rt: HostRuntime) {
 #[test]
 fn link_needs_the_fresh_head_of_its_chain(rt: HostRuntime) {
     let ten = value(&rt, &[10]);
-    let two_shards = Config { shards: 2, ..SMALL };
-    let mut play = Play::new(&rt, rt.alloc(), two_shards);
+    let two_chains = Config { shards: 2, ..SMALL };
+    let mut play = Play::new(&rt, rt.alloc(), two_chains);
     let other = HEAD;
     let own = play.head_of(0, 1);
     play.rows(&rt, &[refused(0, Step::Link(0))]);
@@ -267,24 +268,29 @@ fn decide_needs_the_linked_write(rt: HostRuntime) {
     play.is_run(&rt);
 }
 
-/// Words behind a value's length, and a removal's, are to be 0.
+/// A write at key 1 with a 7 in a word behind its length; the other deed is wrong.
+fn writes_over(rt: &impl Abort, play: &mut Play, word: u64, deed: Deed, wrong: Deed) {
+    let (key, value) = written_by(&deed);
+    drawn(rt, play);
+    play.fills(rt, 0, key, value);
+    play.does(rt, 0, Step::Fill(Part::Value(word), 7));
+    play.links(rt, 0, key, 0);
+    let rows = [
+        refused(0, Step::Decide(0, wrong)),
+        done(0, Step::Decide(0, deed)),
+    ];
+    play.rows(rt, &rows);
+}
+
 #[test]
-fn decide_needs_zeros_behind_the_value(rt: HostRuntime) {
+fn words_behind_the_length_are_free(rt: HostRuntime) {
     let ten = value(&rt, &[10]);
-    let key = 1;
-    for (value, word) in [(Some(ten), 1), (None, 0)] {
-        let mut play = Play::new(&rt, rt.alloc(), SMALL);
-        drawn(&rt, &mut play);
-        play.fills(&rt, 0, key, value);
-        play.does(&rt, 0, Step::Fill(Part::Value(word), 7));
-        play.links(&rt, 0, key, 0);
-        let rows = [
-            refused(0, Step::Decide(0, put(key, ten))),
-            refused(0, Step::Decide(0, Deed::Remove { key })),
-            done(0, Step::Cancel(0)),
-        ];
-        play.rows(&rt, &rows);
-    }
+    let mut play = Play::new(&rt, rt.alloc(), SMALL);
+    writes_over(&rt, &mut play, 1, put(1, ten), remove(1));
+    play.gets(&rt, 1, 0, 1, Some(ten), 1);
+    let mut play = Play::new(&rt, rt.alloc(), SMALL);
+    writes_over(&rt, &mut play, 0, remove(1), put(1, ten));
+    play.gets(&rt, 1, 0, 1, None, 1);
 }
 
 /// A read-modify-write is decided where its seat knows all times below it.

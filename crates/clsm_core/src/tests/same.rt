@@ -51,8 +51,8 @@ fn assert_same_cells(rt: &impl Abort, layout: &Layout, world: &World, other: &Wo
 
 fn assert_same_heads(rt: &impl Abort, layout: &Layout, world: &World, other: &World) {
     for region in 0..2 {
-        for shard in 0..layout.shards {
-            assert_same_word(rt, world, other, Word::Head { region, shard });
+        for chain in 0..layout.chains {
+            assert_same_word(rt, world, other, Word::Head { region, chain });
         }
     }
 }

@@ -6,7 +6,7 @@ use clsm_model::{Config, Deed, Slot, Value};
 use std::alloc::Global;
 use std::process::Abort;
 
-/// Eight cells, three callers, two shards.
+/// Eight cells, three callers, two chains.
 const EIGHT_CELLS: Config = Config {
     cells: 8,
     seats: 3,
@@ -18,12 +18,12 @@ const EIGHT_CELLS: Config = Config {
 /// The chain of the even keys, and that of the odd ones.
 const EVEN: Word = Word::Head {
     region: 0,
-    shard: 0,
+    chain: 0,
 };
 
 const ODD: Word = Word::Head {
     region: 0,
-    shard: 1,
+    chain: 1,
 };
 
 /// A scan of the keys 1 and 2, with the value of each.

@@ -32,14 +32,14 @@ fn refuses_callers_steps(rt: &impl Abort, play: &mut Play, seat: u32, value: Val
 /// The merger's steps are refused to this seat.
 fn refuses_mergers_steps(rt: &impl Abort, play: &mut Play, seat: u32) {
     let region = 0;
-    let shard = 0;
+    let chain = 0;
     let rows = [
         refused(seat, Step::EnterExclusive),
         refused(seat, Step::LeaveExclusive),
         refused(seat, Step::Pad(0)),
         refused(seat, Step::Pad(1)),
         refused(seat, Step::WriteRun(Word::Count(0), 0)),
-        refused(seat, Step::ClearHead { region, shard }),
+        refused(seat, Step::ClearHead { region, chain }),
         refused(seat, Step::ClearState(0)),
         refused(seat, Step::Publish),
         refused(seat, Step::ExtendClock),
@@ -110,8 +110,8 @@ fn strangers_are_refused_beside_the_merger(rt: HostRuntime) {
     play.looks_at_pins(&rt);
     refuses_strangers(&rt, &mut play, ten);
     let region = 0;
-    let shard = 0;
-    play.rows(&rt, &[done(MERGER, Step::ClearHead { region, shard })]);
+    let chain = 0;
+    play.rows(&rt, &[done(MERGER, Step::ClearHead { region, chain })]);
     refuses_strangers(&rt, &mut play, ten);
     play.is_run(&rt);
 }

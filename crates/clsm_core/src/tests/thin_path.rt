@@ -9,11 +9,11 @@ use std::process::Abort;
 
 const HEAD: Word = Word::Head {
     region: 0,
-    shard: 0,
+    chain: 0,
 };
 
 /// The steps of a put at key 1.
-fn steps_of_put(value: Value) -> [Step; 20] {
+fn steps_of_put(value: Value) -> [Step; 13] {
     [
         Step::Look(Word::Lock),
         Step::EnterShared(0),
@@ -23,13 +23,6 @@ fn steps_of_put(value: Value) -> [Step; 20] {
         Step::Fill(Part::Key, 1),
         Step::Fill(Part::Length, 1),
         Step::Fill(Part::Value(0), 10),
-        Step::Fill(Part::Value(1), 0),
-        Step::Fill(Part::Value(2), 0),
-        Step::Fill(Part::Value(3), 0),
-        Step::Fill(Part::Value(4), 0),
-        Step::Fill(Part::Value(5), 0),
-        Step::Fill(Part::Value(6), 0),
-        Step::Fill(Part::Value(7), 0),
         Step::Look(HEAD),
         Step::Fill(Part::Next, 0),
         Step::Link(0),
@@ -79,13 +72,6 @@ fn put_is_made_step_by_step(rt: HostRuntime) {
         done(0, Step::Fill(Part::Key, 1)),
         done(0, Step::Fill(Part::Length, 1)),
         done(0, Step::Fill(Part::Value(0), 10)),
-        done(0, Step::Fill(Part::Value(1), 0)),
-        done(0, Step::Fill(Part::Value(2), 0)),
-        done(0, Step::Fill(Part::Value(3), 0)),
-        done(0, Step::Fill(Part::Value(4), 0)),
-        done(0, Step::Fill(Part::Value(5), 0)),
-        done(0, Step::Fill(Part::Value(6), 0)),
-        done(0, Step::Fill(Part::Value(7), 0)),
         refused(0, Step::Decide(0, put(1, ten))),
         found(0, HEAD, 0),
         done(0, Step::Fill(Part::Next, 0)),
@@ -96,7 +82,7 @@ fn put_is_made_step_by_step(rt: HostRuntime) {
     play.rows(&rt, &rows);
     assert_put(&rt, &play.world, ten);
     play.is_run(&rt);
-    let events = events_without(&rt, rt.alloc(), ten, 20);
+    let events = events_without(&rt, rt.alloc(), ten, 13);
     let world = ran(rt.alloc(), &play.layout, &events).expect(&rt, "events that are not refused");
     assert_same(&rt, &play.layout, &play.world, &world);
 }
@@ -111,14 +97,13 @@ fn run_names_the_place_of_the_refused_event(rt: HostRuntime) {
         (2, 3),
         (3, 3),
         (4, 4),
-        (5, 16),
-        (6, 16),
-        (7, 16),
-        (14, 16),
-        (15, 16),
-        (16, 16),
-        (17, 17),
-        (18, 18),
+        (5, 9),
+        (6, 9),
+        (7, 9),
+        (8, 9),
+        (9, 9),
+        (10, 10),
+        (11, 11),
     ] {
         let events = events_without(&rt, rt.alloc(), ten, left_out);
         assert_eq!(rt;
@@ -133,7 +118,7 @@ fn run_names_the_place_of_the_refused_event(rt: HostRuntime) {
 fn steps_in_full_or_wants_memory(rt: HostRuntime) {
     let ten = value(&rt, &[10]);
     let layout = Layout::new(SMALL).expect(&rt, "sizes in their ranges");
-    let events = events_without(&rt, rt.alloc(), ten, 20);
+    let events = events_without(&rt, rt.alloc(), ten, 13);
     let world = match run(rt.alloc(), &layout, &events) {
         Err((place, StepError::Memory)) => {
             assert!(rt; place < events.len());

@@ -12,8 +12,8 @@ const ALL_WRONG: Config = Config {
     patience: 65,
 };
 
-fn head(region: u64, shard: u64) -> Word {
-    Word::Head { region, shard }
+fn head(region: u64, chain: u64) -> Word {
+    Word::Head { region, chain }
 }
 
 fn cell(cell: u64, part: Part) -> Word {
@@ -119,7 +119,7 @@ fn layout_names_the_first_size_out_of_its_range(rt: HostRuntime) {
     let layout = Layout::new(config).expect(&rt, "the greatest sizes");
     assert_eq!(rt; layout.cells, 65_536);
     assert_eq!(rt; layout.seats, 64);
-    assert_eq!(rt; layout.shards, 1_024);
+    assert_eq!(rt; layout.chains, 16_384);
     assert_eq!(rt; layout.run, 4_194_304);
 }
 
@@ -135,7 +135,21 @@ fn layout_takes_the_least_sizes(rt: HostRuntime) {
     let play = Play::new(&rt, rt.alloc(), least);
     assert_eq!(rt; play.layout.cells, 4);
     assert_eq!(rt; play.layout.seats, 1);
-    assert_eq!(rt; play.layout.shards, 1);
+    assert_eq!(rt; play.layout.chains, 1);
     assert_eq!(rt; play.layout.run, 4);
     play.is_run(&rt);
+}
+
+/// A chain for four cells, and as many as the user asked for at least.
+#[test]
+fn chains_grow_with_the_cells(rt: HostRuntime) {
+    for (cells, shards, chains) in [(4, 2, 2), (7, 1, 1), (64, 2, 16), (64, 32, 32)] {
+        let config = Config {
+            cells,
+            shards,
+            ..SMALL
+        };
+        let layout = Layout::new(config).expect(&rt, "sizes in their ranges");
+        assert_eq!(rt; layout.chains, chains, "at {config:?}");
+    }
 }

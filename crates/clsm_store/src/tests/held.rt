@@ -69,7 +69,7 @@ fn get_slowly(store: &Store<Gates>, gate: &Gate, seat: &mut Seat) -> Got
 fn get_once(store: &Store<Gates>, mut seat: Seat) -> Got
     requires { seat.store ≡ store.now }
 {
-    get_slowly(store, &store.pace.first, &mut seat)
+    get_slowly(store, &store.words.pace().first, &mut seat)
 }
 
 /// Lets the held reader go, and waits until its call is answered. Answers whether it was held till then.
@@ -89,7 +89,7 @@ fn retire_held<R: Abort + Wait>(
     requires { merger.store ≡ store.now }
     ensures { IfSome result.0 (λ retired. retired.merger.store ≡ store.now) }
 {
-    let came = store.pace.first.wait_while(NOBODY);
+    let came = store.words.pace().first.wait_while(NOBODY);
     let mut met = Met {
         first: None,
         second: None,
@@ -117,7 +117,7 @@ fn retire_beside_one<R: Abort + Wait>(
     let Some(retired) = kept else {
         return (None, met, false);
     };
-    let held = let_go(&store.pace.first);
+    let held = let_go(&store.words.pace().first);
     match retired.reclaim(store) {
         Ok(_) => (None, met, came && held),
         Err((retired, Pinned(seat))) => {
@@ -198,7 +198,7 @@ fn get_both<R: Abort + Threads + Sync>(
             requires { second.store ≡ store.now }
         {
             let mut second = second;
-            get_slowly(store, &store.pace.second, &mut second)
+            get_slowly(store, &store.words.pace().second, &mut second)
         },
     )
 }
@@ -207,9 +207,9 @@ fn get_both<R: Abort + Threads + Sync>(
 fn retire_beside_two<R: Abort + Wait>(rt: &R, store: &Store<Gates>, merger: Clean) -> (Met, bool)
     requires { merger.store ≡ store.now }
 {
-    let both = store.pace.second.wait_while(NOBODY);
+    let both = store.words.pace().second.wait_while(NOBODY);
     let (retired, mut met, held) = retire_beside_one(rt, store, merger);
-    let held_too = let_go(&store.pace.second);
+    let held_too = let_go(&store.words.pace().second);
     if let Some(retired) = retired
         && retired.reclaim(store).is_ok()
     {
@@ -268,9 +268,9 @@ fn two_held_readers_are_named_one_after_the_other(rt: HostRuntime) -> Result<(),
 fn get_twice(store: &Store<Gates>, mut seat: Seat) -> (Got, Got)
     requires { seat.store ≡ store.now }
 {
-    let first = get_slowly(store, &store.pace.first, &mut seat);
-    store.pace.second.pass(OPEN, NOBODY);
-    let second = get_slowly(store, &store.pace.second, &mut seat);
+    let first = get_slowly(store, &store.words.pace().first, &mut seat);
+    store.words.pace().second.pass(OPEN, NOBODY);
+    let second = get_slowly(store, &store.words.pace().second, &mut seat);
     (first, second)
 }
 
@@ -278,7 +278,7 @@ fn get_twice(store: &Store<Gates>, mut seat: Seat) -> (Got, Got)
 fn retire_between<R: Abort + Wait>(rt: &R, store: &Store<Gates>, merger: Clean) -> (Met, bool)
     requires { merger.store ≡ store.now }
 {
-    let Gates { first, second } = &store.pace;
+    let Gates { first, second } = store.words.pace();
     let (kept, mut met, came) = retire_held(rt, store, merger);
     let Some(retired) = kept else {
         return (met, false);

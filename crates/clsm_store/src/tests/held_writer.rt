@@ -20,7 +20,7 @@ fn merge_meanwhile<R: Abort>(
     requires reader { reader.store ≡ store.now }
     requires merger { frozen.merger.store ≡ store.now }
 {
-    let came = store.pace.wait_while(NOBODY);
+    let came = store.words.pace().wait_while(NOBODY);
     let Ok(retired) = frozen.merge(store) else {
         panic!(rt; "run full");
     };
@@ -29,7 +29,7 @@ fn merge_meanwhile<R: Abort>(
     };
     assert_eq!(rt; clean.merges(), 1);
     let read = store.get(&mut reader, KEY);
-    let held = store.pace.pass(HELD, LET_GO);
+    let held = store.words.pace().pass(HELD, LET_GO);
     (read, came && held)
 }
 
@@ -85,7 +85,7 @@ fn a_held_writer_holds_up_no_merge(rt: HostRuntime) -> Result<(), Fail> {
     let mut writer = take_seat(&rt, &store, &mut seats);
     assert_eq!(rt; put(&rt, &store, &mut writer, KEY, &[10]), Ok(0));
     let frozen = freeze(&rt, &store, merger);
-    store.pace.pass(OPEN, NOBODY);
+    store.words.pace().pass(OPEN, NOBODY);
     let (wrote, (read, held)) = put_and_merge(&rt, &store, writer, reader, frozen);
     assert!(rt; held, "nobody was held");
     assert_eq!(rt; read, got(&rt, 5, &[10]));

@@ -5,11 +5,7 @@ use super::*;
 use std::test::*;
 
 /// Freezes the epoch and merges it.
-pub(super) fn retire<P: Pace + Drop, R: Abort + Wait>(
-    rt: &R,
-    store: &Store<P>,
-    merger: Clean,
-) -> Retired
+pub(super) fn retire<P: Pace, R: Abort + Wait>(rt: &R, store: &Store<P>, merger: Clean) -> Retired
     requires { merger.store ≡ store.now }
     ensures { result.merger.store ≡ store.now }
 {
@@ -20,7 +16,7 @@ pub(super) fn retire<P: Pace + Drop, R: Abort + Wait>(
 }
 
 /// Freezes the epoch, merges it, and gives it up.
-fn turn<P: Pace + Drop, R: Abort + Wait>(rt: &R, store: &Store<P>, merger: Clean) -> Clean
+fn turn<P: Pace, R: Abort + Wait>(rt: &R, store: &Store<P>, merger: Clean) -> Clean
     requires { merger.store ≡ store.now }
     ensures { result.store ≡ store.now }
 {

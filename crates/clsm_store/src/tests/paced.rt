@@ -61,9 +61,9 @@ fn make_meanwhile<R: Abort + Wait>(
 ) -> (Answer, bool)
     requires { seat.store ≡ store.now }
 {
-    let held = store.pace.wait_while(NOBODY);
+    let held = store.words.pace().wait_while(NOBODY);
     let answer = make(rt, store, &mut seat, call);
-    let still = store.pace.pass(HELD, LET_GO);
+    let still = store.words.pace().pass(HELD, LET_GO);
     (answer, held && still)
 }
 
@@ -293,7 +293,7 @@ fn check_put<R: Abort + Threads + Wait + Sync>(
     let second = take_seat(rt, &store, &mut seats);
     let mut first = take_seat(rt, &store, &mut seats);
     assert_eq!(rt; put(rt, &store, &mut first, KEY, &[10]), Ok(0));
-    store.pace.pass(OPEN, NOBODY);
+    store.words.pace().pass(OPEN, NOBODY);
     let (one, other) = race(rt, &store, first, Call::Put, second, Call::Get);
     let (mut first, answer) = one;
     let (read, held) = other;

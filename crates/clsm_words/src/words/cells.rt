@@ -1,36 +1,71 @@
-//! The cells of times, the states that deeds leave, and answers.
-ghost use Rattle.std.specs.Prelude.{◌≡◌};
+//! The cells and chains of times and keys, the states that deeds leave, and answers.
+ghost use Rattle.std.specs.Prelude.{◌≡◌, ◌%◌};
 ghost use Rattle.clsm_model.specs.Right.{write_by};
 ghost use Rattle.clsm_law.specs.Memory.{cell_of, head_of};
 ghost use Rattle.clsm_law.specs.Relation.{state_by, won_if};
 
-use super::Words;
+use super::{WordTable, Words};
+use crate::pace::Pace;
 use clsm_law::{Answer, Word};
 use clsm_model::{Change, Deed, Time};
 
-impl Words {
+impl WordTable {
     /// The cell that the time has.
-    #[inline]
-    pub fn cell_of(&self, time: Time) -> u64
+    #[inline(always)]
+    pub(super) fn cell_of(&self, time: Time) -> u64
         ensures { result ≡ cell_of self.now.layout time }
     {
-        self.layout.cell_of(time)
+        self.divisors.ring.rest(time)
     }
 
     /// The head of the chain in which the time's cell with this key is linked.
-    #[inline]
-    pub fn head_of(&self, time: Time, key: u64) -> Word
+    #[inline(always)]
+    pub(super) fn head_of(&self, time: Time, key: u64) -> Word
         ensures { result ≡ head_of self.now.layout time key }
     {
         Word::Head {
             region: self.layout.region_of(self.cell_of(time)),
-            shard: key % self.layout.shards,
+            chain: self.divisors.chains.rest(key),
         }
     }
 }
 
+impl<P: Pace> Words<P> {
+    /// The cell that the time has.
+    #[inline(always)]
+    pub fn cell_of(&self, time: Time) -> u64
+        ensures { result ≡ cell_of self.now.layout time }
+    {
+        self.words.cell_of(time)
+    }
+
+    /// The number of the cell in its region.
+    #[inline(always)]
+    pub fn number_in_region(&self, cell: u64) -> u64
+        ensures { result ≡ cell % self.now.layout.cells }
+    {
+        self.words.divisors.region.rest(cell)
+    }
+
+    /// The chain of the key.
+    #[inline(always)]
+    pub fn chain_of(&self, key: u64) -> u64
+        ensures { result ≡ key % self.now.layout.chains }
+    {
+        self.words.divisors.chains.rest(key)
+    }
+
+    /// The head of the chain in which the time's cell with this key is linked.
+    #[inline(always)]
+    pub fn head_of(&self, time: Time, key: u64) -> Word
+        ensures { result ≡ head_of self.now.layout time key }
+    {
+        self.words.head_of(time, key)
+    }
+}
+
 /// The number of the state that the deed's write leaves in its cell; 0 where it writes nothing.
-#[inline]
+#[inline(always)]
 pub(super) fn state_by(deed: &Deed) -> u64
     ensures { result ≡ state_by (write_by 0 deed.now) }
 {
@@ -50,7 +85,7 @@ pub(super) fn state_by(deed: &Deed) -> u64
 }
 
 /// The answer of an exchange.
-#[inline]
+#[inline(always)]
 pub(super) fn won_if(won: bool) -> Answer
     ensures { result ≡ won_if won }
 {

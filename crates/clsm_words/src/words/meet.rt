@@ -3,12 +3,13 @@ ghost use Rattle.std.specs.Prelude.{◌≡◌, max};
 ghost use Rattle.clsm_words.specs.Seats.{MessageState};
 ghost use Rattle.clsm_words.specs.Plays.{IsSeatOf, IsMessageOf, Learns};
 
-use super::{Message, RawSeat, Words};
+use super::{Message, RawSeat, WordTable, Words};
+use crate::pace::Pace;
 use crate::rule::Tells;
 
-impl Words {
+impl WordTable {
     /// Answers a message that tells of the seat's past and its due.
-    pub fn tell(&self, from: &mut RawSeat) -> Message
+    pub(super) fn tell(&self, from: &mut RawSeat) -> Message
         requires { IsSeatOf self.now from.old }
         ensures seat { from.new ≡ from.old }
         ensures message { IsMessageOf self.now result × (result.told ≡ from.old.knows.past) × (result.heard ≡ from.old.knows.view.due) }
@@ -18,7 +19,7 @@ impl Words {
     }
 
     /// A message takes in another: it carries the other's past and the greater of the dues.
-    pub fn gather(&self, to: &mut Message, message: Message)
+    pub(super) fn gather(&self, to: &mut Message, message: Message)
         requires to { IsMessageOf self.now to.old }
         requires message { IsMessageOf self.now message }
         ensures { IsMessageOf self.now to.new × (to.new.told ≡ message.told) × (to.new.heard ≡ max to.old.heard message.heard) }
@@ -28,12 +29,41 @@ impl Words {
     }
 
     /// The seat learns of the message. From its next step on its past begins with what it was told, or the other way round.
-    pub fn learn(&self, to: &mut RawSeat, message: Message)
+    pub(super) fn learn(&self, to: &mut RawSeat, message: Message)
         requires seat { IsSeatOf self.now to.old }
         requires message { IsMessageOf self.now message }
         ensures { IsSeatOf self.now to.new × Learns to.old.knows message to.new.knows }
     {
         let Message { seat } = message;
         self.table.shared.join_seat::<Tells>(&mut to.seat, seat);
+    }
+}
+
+impl<P: Pace> Words<P> {
+    /// Answers a message that tells of the seat's past and its due.
+    pub fn tell(&self, from: &mut RawSeat) -> Message
+        requires { IsSeatOf self.now from.old }
+        ensures seat { from.new ≡ from.old }
+        ensures message { IsMessageOf self.now result × (result.told ≡ from.old.knows.past) × (result.heard ≡ from.old.knows.view.due) }
+    {
+        self.words.tell(from)
+    }
+
+    /// A message takes in another: it carries the other's past and the greater of the dues.
+    pub fn gather(&self, to: &mut Message, message: Message)
+        requires to { IsMessageOf self.now to.old }
+        requires message { IsMessageOf self.now message }
+        ensures { IsMessageOf self.now to.new × (to.new.told ≡ message.told) × (to.new.heard ≡ max to.old.heard message.heard) }
+    {
+        self.words.gather(to, message);
+    }
+
+    /// The seat learns of the message. From its next step on its past begins with what it was told, or the other way round.
+    pub fn learn(&self, to: &mut RawSeat, message: Message)
+        requires seat { IsSeatOf self.now to.old }
+        requires message { IsMessageOf self.now message }
+        ensures { IsSeatOf self.now to.new × Learns to.old.knows message to.new.knows }
+    {
+        self.words.learn(to, message);
     }
 }

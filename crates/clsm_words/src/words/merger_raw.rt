@@ -2,14 +2,15 @@
 ghost use Rattle.std.specs.Prelude.{◌≡◌, ℕ, ◌+◌, ◌-◌, ◌%◌, ◌^◌, ◌==◌};
 ghost use prog.Atomic.{either};
 ghost use Rattle.clsm_law.specs.Merging.{changed_by_merger};
-ghost use Rattle.clsm_words.specs.Plays.{IsMergersWord, MayMerge, Merged, Merges};
+ghost use Rattle.clsm_words.specs.Plays.{IsMergersWord, MayMerge, Merged, PlaysAsMerger};
 
-use super::{RawMerger, Words};
+use super::{RawMerger, WordTable};
 use crate::rule::{DoesAsMerger, StoresAsMerger, Told};
 use clsm_law::{Step, Word};
 use std::marker::Brand;
 
-impl Words {
+impl WordTable {
+    #[inline(always)]
     fn merger_load_told<E: Told>(&self, seat: &mut RawMerger, step: &Step, word: Word) -> u64
         requires told { E.step ≡ step.now }
         requires opens { MayMerge self.now seat.old step.now }
@@ -22,7 +23,7 @@ impl Words {
         self.table.shared.load::<DoesAsMerger<E>>(known, at)
     }
 
-    #[inline]
+    #[inline(always)]
     pub(super) fn merger_load(&self, seat: &mut RawMerger, step: &Step, word: Word) -> u64
         requires opens { MayMerge self.now seat.old step.now }
         requires word { IsMergersWord seat.old.knows step.now word }
@@ -32,28 +33,30 @@ impl Words {
         self.merger_load_told::<Brand>(seat, step, word)
     }
 
+    #[inline(always)]
     fn merger_store_told<E: Told>(&self, seat: &mut RawMerger, step: &Step, word: Word, new: u64)
         requires told { E.step ≡ step.now }
         requires opens { MayMerge self.now seat.old step.now }
         requires word { IsMergersWord seat.old.knows step.now word }
         requires changes { changed_by_merger seat.old.knows.layout seat.old.knows.merger step.now ≡ (λ x. new) }
-        ensures { Merges self.now seat.old step.now seat.new }
+        ensures { PlaysAsMerger self.now seat.old step.now seat.new }
     {
         let known = &mut seat.seat;
         let at = self.place(word);
         self.table.shared.store::<StoresAsMerger<E>>(known, at, new);
     }
 
-    #[inline]
+    #[inline(always)]
     pub(super) fn merger_store(&self, seat: &mut RawMerger, step: &Step, word: Word, new: u64)
         requires opens { MayMerge self.now seat.old step.now }
         requires word { IsMergersWord seat.old.knows step.now word }
         requires changes { changed_by_merger seat.old.knows.layout seat.old.knows.merger step.now ≡ (λ x. new) }
-        ensures { Merges self.now seat.old step.now seat.new }
+        ensures { PlaysAsMerger self.now seat.old step.now seat.new }
     {
         self.merger_store_told::<Brand>(seat, step, word, new);
     }
 
+    #[inline(always)]
     fn merger_subtract_told<E: Told>(
         &self,
         seat: &mut RawMerger,
@@ -74,7 +77,7 @@ impl Words {
             .fetch_sub::<DoesAsMerger<E>>(known, at, by)
     }
 
-    #[inline]
+    #[inline(always)]
     pub(super) fn merger_subtract(
         &self,
         seat: &mut RawMerger,
@@ -90,6 +93,7 @@ impl Words {
         self.merger_subtract_told::<Brand>(seat, step, word, by)
     }
 
+    #[inline(always)]
     fn merger_exchange_told<E: Told>(
         &self,
         seat: &mut RawMerger,
@@ -111,7 +115,7 @@ impl Words {
             .compare_exchange::<DoesAsMerger<E>>(known, at, old, new)
     }
 
-    #[inline]
+    #[inline(always)]
     pub(super) fn merger_exchange(
         &self,
         seat: &mut RawMerger,

@@ -2,115 +2,141 @@
 ghost use Rattle.std.specs.Prelude.{◌≡◌};
 ghost use Rattle.clsm_law.specs.Merging.{epoch_end};
 ghost use Rattle.clsm_law.specs.declared.step.Step.TheVariants.{EnterExclusive, LeaveExclusive, Look, Pad, WriteRun, ClearHead, ClearState, Publish, ExtendClock, ExtendLimit};
-ghost use Rattle.clsm_words.specs.Plays.{MayMerge, Merged, Merges, MergerAnswers};
+ghost use Rattle.clsm_words.specs.Plays.{MayMerge, Merged, PlaysAsMerger, MergerAnswers};
 
 use super::cells::won_if;
 use super::{RawMerger, Words};
+use crate::pace::{Kind, Pace};
 use clsm_law::{Answer, Step, Word};
 use clsm_model::Time;
 
 /// What LOCK is while the merger holds it.
 const HELD: u64 = 1 << 32;
 
-impl Words {
+impl<P: Pace> Words<P> {
+    /// Calls the pace: the merger's number is the number of the callers' seats.
+    #[inline(always)]
+    fn pace_merger(&self, kind: Kind) {
+        self.pace.step(self.words.layout.seats, kind);
+    }
+
     /// Enters the lock alone, if nobody holds it. Answers `Lost` where somebody does: the merger is outside then.
-    #[inline]
+    #[inline(always)]
     pub fn enter_exclusive(&self, seat: &mut RawMerger) -> Answer
         requires { MayMerge self.now seat.old EnterExclusive }
         ensures { MergerAnswers self.now seat.old EnterExclusive result seat.new }
     {
-        let found = self.merger_exchange(seat, &Step::EnterExclusive, Word::Lock, 0, HELD);
+        self.pace_merger(Kind::EnterExclusive);
+        let found = self
+            .words
+            .merger_exchange(seat, &Step::EnterExclusive, Word::Lock, 0, HELD);
         won_if(found == 0)
     }
 
     /// Leaves the lock.
-    #[inline]
+    #[inline(always)]
     pub fn leave_exclusive(&self, seat: &mut RawMerger)
         requires { MayMerge self.now seat.old LeaveExclusive }
-        ensures { Merges self.now seat.old LeaveExclusive seat.new }
+        ensures { PlaysAsMerger self.now seat.old LeaveExclusive seat.new }
     {
-        self.merger_subtract(seat, &Step::LeaveExclusive, Word::Lock, HELD);
+        self.pace_merger(Kind::LeaveExclusive);
+        self.words
+            .merger_subtract(seat, &Step::LeaveExclusive, Word::Lock, HELD);
     }
 
     /// Looks at the word.
-    #[inline]
+    #[inline(always)]
     pub fn look_as_merger(&self, seat: &mut RawMerger, word: Word) -> u64
         requires { MayMerge self.now seat.old (Look word) }
         ensures { Merged self.now seat.old (Look word) result seat.new }
     {
-        self.merger_load(seat, &Step::Look(word), word)
+        self.pace_merger(Kind::Look(word));
+        self.words.merger_load(seat, &Step::Look(word), word)
     }
 
     /// Cancels the cell of an undrawn time of the epoch.
-    #[inline]
+    #[inline(always)]
     pub fn pad(&self, seat: &mut RawMerger, time: Time)
         requires { MayMerge self.now seat.old (Pad time) }
-        ensures { Merges self.now seat.old (Pad time) seat.new }
+        ensures { PlaysAsMerger self.now seat.old (Pad time) seat.new }
     {
-        let word = Word::State(self.cell_of(time));
-        self.merger_store(seat, &Step::Pad(time), word, 1);
+        self.pace_merger(Kind::Pad);
+        let word = Word::State(self.words.cell_of(time));
+        self.words.merger_store(seat, &Step::Pad(time), word, 1);
     }
 
     /// Writes a word of a place that no reader searches.
-    #[inline]
+    #[inline(always)]
     pub fn write_run(&self, seat: &mut RawMerger, word: Word, written: u64)
         requires { MayMerge self.now seat.old (WriteRun word written) }
-        ensures { Merges self.now seat.old (WriteRun word written) seat.new }
+        ensures { PlaysAsMerger self.now seat.old (WriteRun word written) seat.new }
     {
-        self.merger_store(seat, &Step::WriteRun(word, written), word, written);
+        self.pace_merger(Kind::WriteRun);
+        self.words
+            .merger_store(seat, &Step::WriteRun(word, written), word, written);
     }
 
     /// Ends a merge: readers search the place that was written from now on. `merged` is the number of merges before it.
-    #[inline]
+    #[inline(always)]
     pub fn publish(&self, seat: &mut RawMerger, merged: u64)
         requires opens { MayMerge self.now seat.old Publish }
         requires merged { merged ≡ seat.old.knows.merger.merged }
-        ensures { Merges self.now seat.old Publish seat.new }
+        ensures { PlaysAsMerger self.now seat.old Publish seat.new }
     {
+        self.pace_merger(Kind::Publish);
         seat.is_sound();
-        self.merger_store(seat, &Step::Publish, Word::Merged, merged + 1);
+        self.words
+            .merger_store(seat, &Step::Publish, Word::Merged, merged + 1);
     }
 
     /// Empties a chain of the retired region.
-    #[inline]
-    pub fn clear_head(&self, seat: &mut RawMerger, region: u64, shard: u64)
-        requires { MayMerge self.now seat.old (ClearHead region shard) }
-        ensures { Merges self.now seat.old (ClearHead region shard) seat.new }
+    #[inline(always)]
+    pub fn clear_head(&self, seat: &mut RawMerger, region: u64, chain: u64)
+        requires { MayMerge self.now seat.old (ClearHead region chain) }
+        ensures { PlaysAsMerger self.now seat.old (ClearHead region chain) seat.new }
     {
-        let step = Step::ClearHead { region, shard };
-        self.merger_store(seat, &step, Word::Head { region, shard }, 0);
+        self.pace_merger(Kind::ClearHead);
+        let step = Step::ClearHead { region, chain };
+        self.words
+            .merger_store(seat, &step, Word::Head { region, chain }, 0);
     }
 
     /// Empties a cell of the retired region.
-    #[inline]
+    #[inline(always)]
     pub fn clear_state(&self, seat: &mut RawMerger, cell: u64)
         requires { MayMerge self.now seat.old (ClearState cell) }
-        ensures { Merges self.now seat.old (ClearState cell) seat.new }
+        ensures { PlaysAsMerger self.now seat.old (ClearState cell) seat.new }
     {
-        self.merger_store(seat, &Step::ClearState(cell), Word::State(cell), 0);
+        self.pace_merger(Kind::ClearState);
+        self.words
+            .merger_store(seat, &Step::ClearState(cell), Word::State(cell), 0);
     }
 
     /// Moves the clock to the end of the epoch. `merged` is the number of merges.
-    #[inline]
+    #[inline(always)]
     pub fn extend_clock(&self, seat: &mut RawMerger, merged: u64)
         requires opens { MayMerge self.now seat.old ExtendClock }
         requires merged { merged ≡ seat.old.knows.merger.merged }
-        ensures { Merges self.now seat.old ExtendClock seat.new }
+        ensures { PlaysAsMerger self.now seat.old ExtendClock seat.new }
     {
+        self.pace_merger(Kind::ExtendClock);
         seat.is_sound();
-        let end = (merged + 1) * self.layout.cells;
-        self.merger_store(seat, &Step::ExtendClock, Word::Clock, end);
+        let end = (merged + 1) * self.words.layout.cells;
+        self.words
+            .merger_store(seat, &Step::ExtendClock, Word::Clock, end);
     }
 
     /// Moves the limit to the end of the next epoch. `merged` is the number of merges.
-    #[inline]
+    #[inline(always)]
     pub fn extend_limit(&self, seat: &mut RawMerger, merged: u64)
         requires opens { MayMerge self.now seat.old ExtendLimit }
         requires merged { merged ≡ seat.old.knows.merger.merged }
-        ensures { Merges self.now seat.old ExtendLimit seat.new }
+        ensures { PlaysAsMerger self.now seat.old ExtendLimit seat.new }
     {
+        self.pace_merger(Kind::ExtendLimit);
         seat.is_sound();
-        let end = (merged + 2) * self.layout.cells;
-        self.merger_store(seat, &Step::ExtendLimit, Word::Limit, end);
+        let end = (merged + 2) * self.words.layout.cells;
+        self.words
+            .merger_store(seat, &Step::ExtendLimit, Word::Limit, end);
     }
 }

@@ -6,14 +6,14 @@ ghost use Rattle.clsm_law.specs.Layout.{index_of, size_of};
 ghost use Rattle.clsm_law.specs.Relation.{changed};
 ghost use Rattle.clsm_words.specs.Plays.{IsWordOf, MayPlay, Played, Plays};
 
-use super::{RawSeat, Words};
+use super::{RawSeat, WordTable};
 use crate::rule::{Does, Stores, Told};
 use clsm_law::{Step, Word};
 use std::marker::Brand;
 
-impl Words {
+impl WordTable {
     /// Where the word stands.
-    #[inline]
+    #[inline(always)]
     pub(super) fn place(&self, word: Word) -> usize
         requires { is_word self.now.layout word ≡ true }
         ensures { (result ≡ index_of self.now.layout word) × (result < size_of self.now.layout) }
@@ -21,6 +21,7 @@ impl Words {
         self.layout.index(word).unwrap()
     }
 
+    #[inline(always)]
     fn load_told<E: Told>(&self, seat: &mut RawSeat, step: &Step, word: Word) -> u64
         requires told { E.step ≡ step.now }
         requires opens { MayPlay self.now seat.old step.now }
@@ -33,7 +34,7 @@ impl Words {
         self.table.shared.load::<Does<E>>(known, at)
     }
 
-    #[inline]
+    #[inline(always)]
     pub(super) fn load(&self, seat: &mut RawSeat, step: &Step, word: Word) -> u64
         requires opens { MayPlay self.now seat.old step.now }
         requires word { IsWordOf seat.old.knows step.now word }
@@ -43,6 +44,7 @@ impl Words {
         self.load_told::<Brand>(seat, step, word)
     }
 
+    #[inline(always)]
     fn store_told<E: Told>(&self, seat: &mut RawSeat, step: &Step, word: Word, new: u64)
         requires told { E.step ≡ step.now }
         requires opens { MayPlay self.now seat.old step.now }
@@ -55,7 +57,7 @@ impl Words {
         self.table.shared.store::<Stores<E>>(known, at, new);
     }
 
-    #[inline]
+    #[inline(always)]
     pub(super) fn store(&self, seat: &mut RawSeat, step: &Step, word: Word, new: u64)
         requires opens { MayPlay self.now seat.old step.now }
         requires word { IsWordOf seat.old.knows step.now word }
@@ -65,6 +67,7 @@ impl Words {
         self.store_told::<Brand>(seat, step, word, new);
     }
 
+    #[inline(always)]
     fn subtract_told<E: Told>(&self, seat: &mut RawSeat, step: &Step, word: Word, by: u64) -> u64
         requires told { E.step ≡ step.now }
         requires opens { MayPlay self.now seat.old step.now }
@@ -77,7 +80,7 @@ impl Words {
         self.table.shared.fetch_sub::<Does<E>>(known, at, by)
     }
 
-    #[inline]
+    #[inline(always)]
     pub(super) fn subtract(&self, seat: &mut RawSeat, step: &Step, word: Word, by: u64) -> u64
         requires opens { MayPlay self.now seat.old step.now }
         requires word { IsWordOf seat.old.knows step.now word }
@@ -87,6 +90,7 @@ impl Words {
         self.subtract_told::<Brand>(seat, step, word, by)
     }
 
+    #[inline(always)]
     fn raise_told<E: Told>(&self, seat: &mut RawSeat, step: &Step, word: Word, to: u64) -> u64
         requires told { E.step ≡ step.now }
         requires opens { MayPlay self.now seat.old step.now }
@@ -99,7 +103,7 @@ impl Words {
         self.table.shared.fetch_max::<Does<E>>(known, at, to)
     }
 
-    #[inline]
+    #[inline(always)]
     pub(super) fn raise(&self, seat: &mut RawSeat, step: &Step, word: Word, to: u64) -> u64
         requires opens { MayPlay self.now seat.old step.now }
         requires word { IsWordOf seat.old.knows step.now word }
@@ -109,6 +113,7 @@ impl Words {
         self.raise_told::<Brand>(seat, step, word, to)
     }
 
+    #[inline(always)]
     fn exchange_told<E: Told>(
         &self,
         seat: &mut RawSeat,
@@ -130,7 +135,7 @@ impl Words {
             .compare_exchange::<Does<E>>(known, at, old, new)
     }
 
-    #[inline]
+    #[inline(always)]
     pub(super) fn exchange(
         &self,
         seat: &mut RawSeat,

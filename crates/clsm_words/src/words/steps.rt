@@ -1,61 +1,72 @@
 //! The steps on the lock, the clock and the front, and looks at any word.
 ghost use Rattle.clsm_law.specs.declared.step.Step.TheVariants.{EnterShared, LeaveShared, Draw, Look, RaiseFront};
-ghost use Rattle.clsm_words.specs.Plays.{MayPlay, Played, Plays, Answers};
+ghost use Rattle.clsm_words.specs.Plays.{MayPlay, Played, Plays, PlaysTo};
 
 use super::cells::won_if;
 use super::{RawSeat, Words};
+use crate::pace::{Kind, Pace};
 use clsm_law::{Answer, Step, Word};
 use clsm_model::Time;
 
-impl Words {
-    /// Enters the lock beside so many other holders. Answers `Lost` where there were not just so many, or the merger held it: the seat is outside
+impl<P: Pace> Words<P> {
+    /// Enters the lock beside so many other holders. PlaysTo `Lost` where there were not just so many, or the merger held it: the seat is outside
     /// then, and its count `busy` moves by one.
-    #[inline]
+    #[inline(always)]
     pub fn enter_shared(&self, seat: &mut RawSeat, holders: u64) -> Answer
         requires { MayPlay self.now seat.old (EnterShared holders) }
-        ensures { Answers self.now seat.old (EnterShared holders) result seat.new }
+        ensures { PlaysTo self.now seat.old (EnterShared holders) result seat.new }
     {
+        self.pace.step(seat.number(), Kind::EnterShared);
         let step = Step::EnterShared(holders);
-        let found = self.exchange(seat, &step, Word::Lock, holders, holders + 1);
+        let found = self
+            .words
+            .exchange(seat, &step, Word::Lock, holders, holders + 1);
         won_if(found == holders)
     }
 
     /// Leaves the lock.
-    #[inline]
+    #[inline(always)]
     pub fn leave_shared(&self, seat: &mut RawSeat)
         requires { MayPlay self.now seat.old LeaveShared }
         ensures { Plays self.now seat.old LeaveShared seat.new }
     {
-        self.subtract(seat, &Step::LeaveShared, Word::Lock, 1);
+        self.pace.step(seat.number(), Kind::LeaveShared);
+        self.words.subtract(seat, &Step::LeaveShared, Word::Lock, 1);
     }
 
-    /// Draws the time, if it is the next. Answers `Lost` where it is not: nothing is drawn then, and the seat's count `raced` moves by one.
-    #[inline]
+    /// Draws the time, if it is the next. PlaysTo `Lost` where it is not: nothing is drawn then, and the seat's count `raced` moves by one.
+    #[inline(always)]
     pub fn draw(&self, seat: &mut RawSeat, time: Time) -> Answer
         requires { MayPlay self.now seat.old (Draw time) }
-        ensures { Answers self.now seat.old (Draw time) result seat.new }
+        ensures { PlaysTo self.now seat.old (Draw time) result seat.new }
     {
+        self.pace.step(seat.number(), Kind::Draw);
         seat.is_sound();
         let step = Step::Draw(time);
-        let found = self.exchange(seat, &step, Word::Clock, time, time + 1);
+        let found = self
+            .words
+            .exchange(seat, &step, Word::Clock, time, time + 1);
         won_if(found == time)
     }
 
     /// Looks at the word.
-    #[inline]
+    #[inline(always)]
     pub fn look(&self, seat: &mut RawSeat, word: Word) -> u64
         requires { MayPlay self.now seat.old (Look word) }
         ensures { Played self.now seat.old (Look word) result seat.new }
     {
-        self.load(seat, &Step::Look(word), word)
+        self.pace.step(seat.number(), Kind::Look(word));
+        self.words.load(seat, &Step::Look(word), word)
     }
 
     /// Raises FRONT to the time, and the seat's past with it.
-    #[inline]
+    #[inline(always)]
     pub fn raise_front(&self, seat: &mut RawSeat, time: Time)
         requires { MayPlay self.now seat.old (RaiseFront time) }
         ensures { Plays self.now seat.old (RaiseFront time) seat.new }
     {
-        self.raise(seat, &Step::RaiseFront(time), Word::Front, time);
+        self.pace.step(seat.number(), Kind::RaiseFront);
+        self.words
+            .raise(seat, &Step::RaiseFront(time), Word::Front, time);
     }
 }

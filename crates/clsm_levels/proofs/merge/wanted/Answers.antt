@@ -3,14 +3,14 @@ use Rattle.std.proofs.lemmas.Result.{IfOk-weaker}
 use Rattle.clsm_levels.specs.declared.entry.Entry.{Entry}
 use Rattle.clsm_levels.specs.Merge.{kept, merged, wanted, is_to_level_one}
 use Rattle.clsm_levels.specs.Rule.{sources, KeepsByRule, MakesNext}
-use Rattle.clsm_levels.specs.Pass.{KeysRise}
+use Rattle.clsm_levels.specs.Pass.{RisesByKey}
 use Rattle.clsm_levels.proofs.Merges.{wanted_from_sources, keys_rise-merged}
 use Rattle.clsm_levels.proofs.Rules.{wanted_by_rule}
 use Rattle.clsm_levels.proofs.Turns.{wanted_makes_next, length-wanted}
 use Rattle.clsm_levels.proofs.merge.wanted.Goals as goal
 
 pub kept-requires : goal.kept-requires
-kept-requires c = subst KeysRise (sym (c.deref.ensures.value ∙ c.in_ok-entries.ensures)) (keys_rise-merged c.in_ok-sources.field-0.items)
+kept-requires c = subst RisesByKey (sym (c.deref.ensures.value ∙ c.in_ok-entries.ensures)) (keys_rise-merged c.in_ok-sources.field-0.items)
 
 pub returns-clause-run : goal.returns-clause-run
 returns-clause-run c =

@@ -1,6 +1,6 @@
-use Rattle.std.proofs.Common.{◌∙◌, ap, sym, subst, map, length, List, ℕ, Some, option_copied}
+use Rattle.std.proofs.Common.{◌∙◌, ap, sym, subst, ◌≡◌, take, map, length, List, ℕ, Option, Some, option_copied}
 use Rattle.clsm_model.specs.Value.{padded}
-use Rattle.clsm_law.specs.Relation.{is_all_some}
+use Rattle.clsm_law.specs.Relation.{is_all_some, or_zero}
 use Rattle.clsm_memtable.specs.Filling.{Fills}
 use Rattle.clsm_memtable.proofs.Places.{all_there}
 use Rattle.clsm_memtable.proofs.filling.fill.Goals as goal
@@ -14,7 +14,7 @@ returns-in-Some-clause-filled g c =
       parts = e.filled;
       keyed = e.key;
       length = e.length ∙ ap (λ (ws : List ℕ). Some (length ws)) same;
-      words = e.words ∙ ap (λ (ws : List ℕ). map (λ w. Some w) (padded ws)) same;
+      words = subst (λ (ws : List ℕ). take (length ws) c.fill_cell.new.seat.knows.view.words ≡ map (λ w. Some w) ws) same e.words;
       short = (c.words.ensures.some, c.words.ensures.at_most_eight);
-      whole = ap is_all_some e.words ∙ all_there (padded c.words.result.now);
+      whole = ap (λ (o : Option ℕ). is_all_some (take (or_zero o) c.fill_cell.new.seat.knows.view.words)) e.length ∙ ap is_all_some e.words ∙ all_there c.words.result.now;
     })

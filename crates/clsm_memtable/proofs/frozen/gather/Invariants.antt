@@ -6,7 +6,7 @@ use Rattle.clsm_memtable.proofs.frozen.gather.Given as goal
 
 abbrev pub invariant-loop-time : goal.invariant-loop-time
 invariant-loop-time g l = record {
-  of : IsSeatOf l.steps.words.now l.merger;
+  of : IsSeatOf l.words l.merger;
   looks : Changes NoWord l.initial.merger.knows l.merger.knows;
   from : l.first ≤ l.time;
   gathered : l.row.items ++ entries_of l.initial.merger.knows.past l.first l.time ≡ entries_of l.initial.merger.knows.past l.first l.end;

@@ -6,7 +6,7 @@ use Rattle.clsm_memtable.proofs.searching.newest_ahead.Given as goal
 
 abbrev pub invariant-loop : goal.invariant-loop
 invariant-loop g l = record {
-  of : IsSeatOf l.steps.words.now l.seat;
+  of : IsSeatOf l.words l.seat;
   looks : Looks l.initial.seat.knows l.seat.knows;
   chain : IsOnChain l.seat.knows l.first l.next;
   short : length l.seat.knows.trail + l.counter ≤ l.seat.knows.layout.cells;

@@ -4,6 +4,6 @@ use Rattle.clsm_memtable.proofs.settling.is_found_decided.Given as goal
 
 abbrev pub invariant-loop : goal.invariant-loop
 invariant-loop g l = record {
-  of : IsSeatOf l.steps.words.now l.seat;
+  of : IsSeatOf l.words l.seat;
   keeps : OnlyReads l.initial.seat.knows l.seat.knows;
 }

@@ -5,7 +5,7 @@ use Rattle.clsm_memtable.proofs.settling.settle_below.Given as goal
 
 abbrev pub invariant-loop-next : goal.invariant-loop-next
 invariant-loop-next g l = record {
-  of : IsSeatOf l.steps.words.now l.seat;
+  of : IsSeatOf l.words l.seat;
   keeps : OnlyReads l.initial.seat.knows l.seat.knows;
   reached : l.next ≤ l.seat.knows.view.reached;
 }

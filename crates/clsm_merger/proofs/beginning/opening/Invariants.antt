@@ -3,4 +3,4 @@ use Rattle.clsm_law.specs.Merging.{unseen}
 use Rattle.clsm_merger.proofs.beginning.opening.Given as goal
 
 abbrev pub invariant-loop : goal.invariant-loop
-invariant-loop l = l.retirees ≡ replicate l.counter unseen
+invariant-loop l = l.readers ≡ replicate l.counter unseen

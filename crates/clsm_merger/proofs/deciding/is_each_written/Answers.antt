@@ -1,6 +1,6 @@
 use Rattle.std.proofs.Common.{refl, sym, arith}
 use Rattle.std.proofs.lemmas.Bool.{true≢false}
-use Rattle.clsm_law.specs.Deciding.{IsDone, source_at, source_count, sources_of, written_of}
+use Rattle.clsm_law.specs.Deciding.{IsWrittenIfKept, source_at, source_count, sources_of, written_of}
 use Rattle.clsm_merger.proofs.MergingTests.{yes, no}
 use Rattle.clsm_merger.proofs.MergingNumbers.{numbered_every, numbered_next}
 use Rattle.clsm_merger.proofs.MergingSources.{numbered-sources}
@@ -13,7 +13,7 @@ returns c =
     let words = c.args.words.now in
     let slots = c.args.slots.now in
     let all = sources_of z words m slots in
-    yes (numbered_every all (source_count z words m) (source_at z words m slots) (IsDone m all (written_of z words m)) (numbered-sources z words m slots) (λ k e lt is. c.loop-number.invariant k e (omega arith) is))
+    yes (numbered_every all (source_count z words m) (source_at z words m slots) (IsWrittenIfKept m all (written_of z words m)) (numbered-sources z words m slots) (λ k e lt is. c.loop-number.invariant k e (omega arith) is))
 
 pub loop-number-preserved : goal.loop-number-preserved
 loop-number-preserved c =
@@ -21,7 +21,7 @@ loop-number-preserved c =
     let m = c.args.merger.now in
     let words = c.args.words.now in
     let slots = c.args.slots.now in
-    numbered_next (source_at z words m slots) (IsDone m (sources_of z words m slots) (written_of z words m)) c.loop-number.number c.loop-number.invariant (c.if-not-is_done_at.ensures.0 refl)
+    numbered_next (source_at z words m slots) (IsWrittenIfKept m (sources_of z words m slots) (written_of z words m)) c.loop-number.number c.loop-number.invariant (c.if-not-is_done_at.ensures.0 refl)
 
 pub returns-then-not-is_done_at : goal.returns-then-not-is_done_at
 returns-then-not-is_done_at c =

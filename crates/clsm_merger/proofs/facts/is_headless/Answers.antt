@@ -13,12 +13,12 @@ returns c =
     let region = retired_region c.args.merger.now in
     let test : ℕ → Bool = λ s. words (Head region s) == 0 in
     let same : c.retired_region-region.result ≡ region = c.retired_region-region.ensures in
-    sym (passes_if test 0 c.args.layout.now.shards (λ s le lt. eq-eqb _ 0 (ap (λ (r : ℕ). words (Head r s)) (sym same) ∙ c.loop-shard.invariant s (omega arith))))
+    sym (passes_if test 0 c.args.layout.now.chains (λ s le lt. eq-eqb _ 0 (ap (λ (r : ℕ). words (Head r s)) (sym same) ∙ c.loop-chain.invariant s (omega arith))))
 
 pub returns-then-word_at-ne0 : goal.returns-then-word_at-ne0
 returns-then-word_at-ne0 c =
     let words : Memory = memory c.args.layout.now c.args.words.now in
     let region = retired_region c.args.merger.now in
     let test : ℕ → Bool = λ s. words (Head region s) == 0 in
-    let here : c.word_at.result ≡ words (Head region c.loop-shard.shard) = c.word_at.ensures ∙ ap (λ (r : ℕ). words (Head r c.loop-shard.shard)) c.retired_region-region.ensures in
-    sym (fails_at test 0 c.args.layout.now.shards c.loop-shard.shard (omega arith) (omega arith) (ne_eqb _ 0 (λ e. c.if-word_at-ne0.true (here ∙ e))))
+    let here : c.word_at.result ≡ words (Head region c.loop-chain.chain) = c.word_at.ensures ∙ ap (λ (r : ℕ). words (Head r c.loop-chain.chain)) c.retired_region-region.ensures in
+    sym (fails_at test 0 c.args.layout.now.chains c.loop-chain.chain (omega arith) (omega arith) (ne_eqb _ 0 (λ e. c.if-word_at-ne0.true (here ∙ e))))

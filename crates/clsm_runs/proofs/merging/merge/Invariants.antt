@@ -10,7 +10,7 @@ use Rattle.clsm_runs.proofs.merging.merge.Given as goal
 
 abbrev pub invariant-loop-entry : goal.invariant-loop-entry
 invariant-loop-entry g l = record {
-  of : IsSeatOf l.steps.words.now l.merger;
+  of : IsSeatOf l.words l.merger;
   changes : Changes (IsOfPlace (target_of l.fn.merger.knows.merger)) l.fn.merger.knows l.merger.knows;
   output : IsOutput l.merger.knows l.output;
   place : l.output.place ≡ target_of l.fn.merger.knows.merger;

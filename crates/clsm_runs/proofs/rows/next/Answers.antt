@@ -4,7 +4,7 @@ use Rattle.clsm_levels.specs.declared.entry.Entry.{Entry}
 use Rattle.clsm_levels.specs.declared.cursor.Cursor.{Cursor}
 use Rattle.clsm_levels.specs.Cursors.{cursor_at, first_of, no_cursor, row_at}
 use Rattle.clsm_levels.specs.Entry.{AreBelow}
-use Rattle.clsm_levels.proofs.Picks.{picks}
+use Rattle.clsm_levels.proofs.Picks.{nothing_left, picks}
 use Rattle.clsm_runs.specs.Placing.{rows_of}
 use Rattle.clsm_runs.proofs.MergeRows.{every_first, every_row, few_rows}
 use Rattle.clsm_runs.proofs.rows.next.Goals as goal
@@ -13,12 +13,17 @@ pub returns-clause-next : goal.returns-clause-next
 returns-clause-next g c =
     let rows = rows_of c.args.merger.now.knows c.args.epoch.now in
     let cursors = c.args.cursors.now in
-    let row = c.in_ok-row.row in
-    let e = c.in_ok-row.entry in
-    let least = c.in_ok-row.ensures in
+    let row = c.in-Some.row in
+    let e = c.in-Some.entry in
+    let least = c.in-Some.ensures in
     let few = few_rows c.args.merger.now.knows c.args.epoch.now in
     let at = (cursor_at cursors row).position in
     let here : first_of (drop at (row_at rows row)) ≡ Some e = sym (c.requires.heads row least.0) ∙ least.1 in (
       picks rows cursors row e c.cursor_to.result (let long = c.requires.long in omega arith) c.requires.sources.rise c.requires.heads least (c.cursor_to.ensures.position ∙ ap (λ (x : Cursor). x.position + 1) (get_or_default cursors row c.index-cursors-row.result no_cursor least.0)),
       every_first (λ (x : Entry). x.time < 2 ^ 62) (row_at rows row) at e (every_row (AreBelow (2 ^ 62)) rows row tt c.requires.sources.early) here,
     )
+
+pub returns-in_default-clause-next : goal.returns-in_default-clause-next
+returns-in_default-clause-next g c =
+    let few = few_rows c.args.merger.now.knows c.args.epoch.now in
+    nothing_left (rows_of c.args.merger.now.knows c.args.epoch.now) c.args.cursors.now (let long = c.requires.long in omega arith) c.requires.heads c.in_default.ensures

@@ -7,7 +7,7 @@ use Rattle.clsm_runs.proofs.rows.open_cursors.Given as goal
 
 abbrev pub invariant-loop-row : goal.invariant-loop-row
 invariant-loop-row g l = record {
-  of : IsSeatOf l.steps.words.now l.merger;
+  of : IsSeatOf l.words l.merger;
   looks : Changes NoWord l.fn.merger.knows l.merger.knows;
   long : length l.cursors ≡ 5;
   opened : (j : ℕ) → j < l.row → ((cursor_at l.cursors j).head ≡ first_of (drop (cursor_at l.cursors j).position (row_at (rows_of l.fn.merger.knows l.epoch) j))) × ((cursor_at l.cursors j).position ≡ 0);

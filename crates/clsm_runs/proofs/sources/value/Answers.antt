@@ -20,6 +20,6 @@ loop-index-preserved g c =
     record {
       of = c.part.ensures.of;
       looks = changes_trans NoWord k now c.part.new.merger.knows c.loop-index.invariant.looks c.part.ensures.looks;
-      long = length-set c.loop-index.words i c.part.result ∙ c.loop-index.invariant.long;
-      words = reads_more (row_of k) c.args.place c.args.entry c.loop-index.words i c.part.result c.loop-index.invariant.long (omega arith) c.loop-index.invariant.words told;
+      long = length-set c.loop-index.read i c.part.result ∙ c.loop-index.invariant.long;
+      words = reads_more (row_of k) c.args.place c.args.entry c.loop-index.read i c.part.result c.loop-index.invariant.long (omega arith) c.loop-index.invariant.words told;
     }

@@ -5,10 +5,10 @@ use Rattle.clsm_store.proofs.flooring.take_floor.Given as goal
 
 abbrev pub invariant-loop-seat : goal.invariant-loop-seat
 invariant-loop-seat g l = record {
-  of : IsSeatOf l.steps.words.now l.merger;
+  of : IsSeatOf l.words l.merger;
   keeps : KeepsFrozen l.initial.merger.knows l.merger.knows;
-  round : l.merger.knows.merger.round ≡ round_at l.steps.words.now.layout.seats l.seat l.found l.initial.merger.knows.merger.round;
+  round : l.merger.knows.merger.round ≡ round_at l.words.layout.seats l.seat l.found l.initial.merger.knows.merger.round;
   fresh : l.seat ≡ 0 → l.found ≡ None;
-  floor : l.merger.knows.merger.floor ≡ floor_at l.steps.words.now.layout.seats l.seat l.before l.end l.found;
-  rounds : l.merger.knows.merger.rounds ≡ rounds_at l.steps.words.now.layout.seats l.seat l.initial.merger.knows.merger.rounds;
+  floor : l.merger.knows.merger.floor ≡ floor_at l.words.layout.seats l.seat l.before l.end l.found;
+  rounds : l.merger.knows.merger.rounds ≡ rounds_at l.words.layout.seats l.seat l.initial.merger.knows.merger.rounds;
 }

@@ -8,7 +8,7 @@ use Rattle.clsm_store.proofs.freezing.pad.Given as goal
 
 abbrev pub invariant-loop-time : goal.invariant-loop-time
 invariant-loop-time g l = record {
-  of : IsSeatOf l.steps.words.now l.merger;
+  of : IsSeatOf l.words l.merger;
   held : HoldsOn l.fn.merger.knows l.merger.knows;
   clock : row_of l.merger.knows Clock ≡ l.clock;
   padded : (t : ℕ) → l.clock ≤ t → t < l.time → row_of l.merger.knows (State (cell_of l.merger.knows.layout t)) ≡ 1;

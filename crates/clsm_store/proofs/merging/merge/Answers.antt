@@ -7,7 +7,7 @@ use Rattle.clsm_law.specs.declared.layout.Layout.{Layout}
 use Rattle.clsm_law.specs.declared.merger.MergerView.{MergerView}
 use Rattle.clsm_runs.specs.declared.merging.RunFull.{RunFull}
 use Rattle.clsm_runs.specs.Outputs.{kept_of}
-use Rattle.clsm_store.specs.declared.merger.Merger.{Merger}
+use Rattle.clsm_store.specs.declared.merger_seat.MergerSeat.{MergerSeat}
 use Rattle.clsm_store.specs.Merging.{IsRunFull, StaysFrozen, epoch_known, frozen_of, kept_by, runs_known}
 use Rattle.clsm_store.specs.Seats.{FrozenState}
 use Rattle.clsm_store.proofs.Prepared.{same_frozen, sorted_early, sorted_run, still_frozen}
@@ -19,7 +19,7 @@ where_refused Q (Ok done) q = tt
 where_refused Q (Err refusal) q = q
 
 -- what is kept is said by what contracts see of the merger before
-same_kept : (old new : Merger) (row : List Entry) → row ≡ merged (epoch_known new.raw.knows) → StaysFrozen old new → kept_of new.raw.knows new.floor row ≡ kept_by (frozen_of old) new.floor
+same_kept : (old new : MergerSeat) (row : List Entry) → row ≡ merged (epoch_known new.raw.knows) → StaysFrozen old new → kept_of new.raw.knows new.floor row ≡ kept_by (frozen_of old) new.floor
 same_kept old new row is stays =
     kept_is new.raw.knows new.floor row is
     ∙ ap (λ (m : ℕ). wanted m new.floor (epoch_known new.raw.knows) (runs_known new.raw.knows)) stays.frozen.out.merged
@@ -45,7 +45,7 @@ returns-in_err-merge-clause-stays g c =
     let stays = c.prepare.ensures.stays in
     let is = c.deref.ensures.value ∙ c.prepare.ensures.row ∙ ap (λ (s : FrozenState). merged s.epoch) (sym stays.same) in
     let changes = c.in_err-merge.ensures.changes in
-    let left : Merger = record { raw = c.merge.new.merger; merges = ready.merges; floor = ready.floor; row = ready.row; seen = ready.seen } in
+    let left : MergerSeat = record { raw = c.merge.new.merger; merges = ready.merges; floor = ready.floor; row = ready.row; seen = ready.seen } in
     where_refused (StaysFrozen c.args.merger.now left) c.from_residual.result (record {
       frozen = still_frozen k k' ready.merges (changes.view ∙ ap (λ (m : MergerView). record k.merger { floor = m.floor; round = m.round; rounds = m.rounds }) (sym changes.view)) stays.frozen;
       ready = record {
@@ -54,7 +54,7 @@ returns-in_err-merge-clause-stays g c =
         room = subst (λ (z : Layout). z.cells ≤ vec_capacity ready.row) (sym changes.layout) stays.ready.room;
         seats = stays.ready.seats ∙ ap (λ (z : Layout). z.seats) (sym changes.layout);
       };
-      same = same_frozen ready left (c.in_err-merge.ensures.of.0 ∙ sym c.prepare.ensures.of.0) changes.layout refl
+      same = same_frozen ready left (c.in_err-merge.ensures.of.0 ∙ sym c.prepare.ensures.of.0) changes.layout refl (ap (λ (m : MergerView). m.holds) changes.view)
           (epoch_same k k' c.deref.result.now c.is_sound.ensures stays.frozen.frozen stays.frozen.out.free is changes)
           (runs_same k k' c.deref.result.now c.is_sound.ensures stays.frozen.frozen stays.frozen.out.free is changes) ∙ ap (λ (s : FrozenState). record s { floor = ready.floor; rounds = k'.merger.rounds }) stays.same;
     })

@@ -13,7 +13,7 @@ use Rattle.clsm_store.proofs.merging.prepare.Goals as goal
 
 pub sort-requires : goal.sort-requires
 sort-requires g c =
-    let cells = c.args.steps.now.words.now.layout.cells in
+    let cells = c.cells-cells.result in
     let first = c.args.merger.now.merges * cells in
     subst TimesFall (sym c.gather.ensures.gathered) (entries_fall c.gather.new.merger.knows.past first (first + cells))
 
@@ -29,12 +29,13 @@ same_epoch g c =
     (ap (λ (m : MergerView). m.merged) looks.view ∙ ap (λ (m : MergerView). m.merged) keeps.view) (prefix_trans k.past floored.past gathered.past keeps.past looks.past)
 
 -- the floor is not past the end of the epoch, as it was not before
-floor_early : (g : Over) (c : goal.After-sort g) → c.take_floor-merger.result ≤ (c.args.merger.now.merges + 1) * c.args.steps.now.words.now.layout.cells
+floor_early : (g : Over) (c : goal.After-sort g) → c.take_floor-merger.result ≤ (c.args.merger.now.merges + 1) * c.args.words.now.layout.cells
 floor_early g c =
-    let z = c.args.steps.now.words.now.layout in
+    let z = c.args.words.now.layout in
     let merges = c.args.merger.now.merges in
     let before = subst (λ (y : Layout). c.args.merger.now.floor ≤ (merges + 1) * y.cells) c.requires.of.1 c.requires.ready.early in
-    let after = c.take_floor-merger.ensures.early (let same : (merges + 1) * z.cells ≡ merges * z.cells + z.cells = omega arith in omega arith) in
+    let end : merges * c.cells-cells.result + c.cells-cells.result ≡ (merges + 1) * z.cells = ap (λ (n : ℕ). merges * n + n) c.cells-cells.ensures ∙ omega arith in
+    let after = c.take_floor-merger.ensures.early (omega arith) in
     omega arith
 
 pub returns-clause-stays : goal.returns-clause-stays
@@ -54,18 +55,19 @@ returns-clause-stays g c =
         seats = c.requires.ready.seats ∙ ap (λ (z : Layout). z.seats) (sym layout);
       };
       same = same_frozen c.args.merger.now (record { raw = c.gather.new.merger; merges = c.args.merger.now.merges; floor = c.take_floor-merger.result; row = c.sort.new.row; seen = c.args.merger.now.seen })
-          (c.gather.ensures.of.0 ∙ sym c.requires.of.0) layout refl (same_epoch g c)
+          (c.gather.ensures.of.0 ∙ sym c.requires.of.0) layout refl (ap (λ (m : MergerView). m.holds) looks.view ∙ ap (λ (m : MergerView). m.holds) keeps.view) (same_epoch g c)
           (runs_stay k gathered (ap (λ (m : MergerView). m.merged) looks.view ∙ ap (λ (m : MergerView). m.merged) keeps.view) (λ word run. looks.stays word run (λ no. no) ∙ keeps.runs word run));
     }
 
 pub returns-clause-row : goal.returns-clause-row
 returns-clause-row g c =
     let k = c.gather.new.merger.knows in
-    let z = c.args.steps.now.words.now.layout in
+    let z = c.args.words.now.layout in
     let first = c.args.merger.now.merges * z.cells in
     let merges : k.merger.merged ≡ c.args.merger.now.merges = ap (λ (m : MergerView). m.merged) c.gather.ensures.looks.view ∙ ap (λ (m : MergerView). m.merged) c.take_floor-merger.ensures.keeps.view ∙ c.requires.frozen.out.merged in
     let layout : k.layout ≡ z = c.gather.ensures.of.1 in
     let known : epoch_known k ≡ entries_of k.past first (first + z.cells) =
     epoch_is k ∙ ap (λ (y : Layout). entries_of k.past (k.merger.merged * y.cells) ((k.merger.merged + 1) * y.cells)) layout
     ∙ ap (λ (m : ℕ). entries_of k.past (m * z.cells) ((m + 1) * z.cells)) merges ∙ ap (λ (e : ℕ). entries_of k.past first e) (omega arith) in
-    c.sort.ensures.sorted ∙ ap (λ (l : List Entry). merged l) (c.gather.ensures.gathered ∙ sym known ∙ same_epoch g c)
+    let here = ap (λ (n : ℕ). entries_of k.past (c.args.merger.now.merges * n) (c.args.merger.now.merges * n + n)) c.cells-cells.ensures in
+    c.sort.ensures.sorted ∙ ap (λ (l : List Entry). merged l) (c.gather.ensures.gathered ∙ here ∙ sym known ∙ same_epoch g c)

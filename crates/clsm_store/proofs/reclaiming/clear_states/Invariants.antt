@@ -7,7 +7,7 @@ use Rattle.clsm_store.proofs.reclaiming.clear_states.Given as goal
 
 abbrev pub invariant-loop-cell : goal.invariant-loop-cell
 invariant-loop-cell g l = record {
-  of : IsSeatOf l.steps.words.now l.merger;
+  of : IsSeatOf l.words l.merger;
   cleaning : IsCleaning l.merger.knows l.first l.end;
   last : IsLastWritten l.merger.knows l.first l.end l.last;
   view : l.merger.knows.merger ≡ l.initial.merger.knows.merger;

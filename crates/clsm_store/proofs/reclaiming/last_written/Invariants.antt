@@ -7,7 +7,7 @@ use Rattle.clsm_store.proofs.reclaiming.last_written.Given as goal
 
 abbrev pub invariant-loop-cell : goal.invariant-loop-cell
 invariant-loop-cell g l = record {
-  of : IsSeatOf l.steps.words.now l.merger;
+  of : IsSeatOf l.words l.merger;
   cleaning : IsCleaning l.merger.knows l.first l.end;
   view : l.merger.knows.merger ≡ l.initial.merger.knows.merger;
   behind : (c : ℕ) → l.cell ≤ c → c < l.end → row_of l.merger.knows (State c) ≡ 0;

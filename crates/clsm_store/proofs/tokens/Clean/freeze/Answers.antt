@@ -1,12 +1,14 @@
-use Rattle.std.proofs.Common.{◌+◌, ◌*◌, ◌<◌, refl, ap, sym, ◌∙◌, subst, arith}
+use Rattle.std.proofs.Common.{◌+◌, ◌*◌, ◌/◌, ℕ, ◌<◌, refl, ap, sym, ◌∙◌, subst, arith}
 use Rattle.clsm_store.specs.Seats.{MergerState, StoreId}
 use Rattle.clsm_store.proofs.LastTimes.{passes}
 use Rattle.clsm_store.proofs.tokens.Clean.freeze.Goals as goal
 
-pub returns-then-merges-store-clause-worn : goal.returns-then-merges-store-clause-worn
-returns-then-merges-store-clause-worn g c =
+pub returns-then-merges-cells-clause-worn : goal.returns-then-merges-cells-clause-worn
+returns-then-merges-cells-clause-worn g c =
     let z = c.store.inside.words.layout in
     let some = z.cells_in_range.0 in
+    let cells = c.cells.ensures in
     let same = ap (λ (m : MergerState). m.merges) c.self.view_is in
-    let lt = c.if-merges-store.true in
-    (refl, subst (λ (id : StoreId). 4611686018427387904 < (c.args.self.merges + 2) * id.layout.cells) (c.store.view_is ∙ sym c.requires) (passes 4611686018427387904 z.cells (c.args.self.merges + 2) (omega arith) (omega arith)))
+    let lt = c.if-merges-cells.true in
+    let quotient : 4611686018427387904 / z.cells < c.args.self.merges + 2 = subst (λ (n : ℕ). 4611686018427387904 / n < c.args.self.merges + 2) c.cells.ensures (omega arith) in
+    (refl, subst (λ (id : StoreId). 4611686018427387904 < (c.args.self.merges + 2) * id.layout.cells) (c.store.view_is ∙ sym c.requires) (passes 4611686018427387904 z.cells (c.args.self.merges + 2) (omega arith) quotient))

@@ -1,2 +1,0 @@
-pub mod Newcomers
-pub mod Epochs

@@ -1,5 +1,0 @@
-pub mod Writing
-pub mod Work
-pub mod Calling
-pub mod Answering
-pub mod Rounds

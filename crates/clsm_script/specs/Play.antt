@@ -1,0 +1,46 @@
+-- What the commands of a script make of a seat and of the merger's phase, and what they answer.
+use Rattle.std.specs.Prelude.{◌≡◌, Ok, Err}
+use Rattle.clsm_model.specs.declared.record.Deed.TheVariants as deeds
+use Rattle.clsm_store.specs.Seats.{SeatState, Answers, IsFull}
+use Rattle.clsm_store.specs.Trying.{RefusesTry}
+use Rattle.clsm_script.specs.Changes.{added, claimed}
+use Rattle.clsm_script.specs.Phase.{Freezes, Merges, Reclaims}
+use Rattle.clsm_script.specs.declared.answer.Answer.{Answer}
+use Rattle.clsm_script.specs.declared.answer.Answer.TheVariants.{Write, Try as Tried}
+use Rattle.clsm_script.specs.declared.answer.Answer.TheVariants.{Change as Changed, Read}
+use Rattle.clsm_script.specs.declared.answer.Answer.TheVariants.{Freeze as Froze, Merge as Merged}
+use Rattle.clsm_script.specs.declared.answer.Answer.TheVariants.{Reclaim as Reclaimed}
+use Rattle.clsm_script.specs.declared.command.Command.{Command}
+use Rattle.clsm_script.specs.declared.command.Command.TheVariants.{Put, Remove, Try, Add, Claim}
+use Rattle.clsm_script.specs.declared.command.Command.TheVariants.{Get, Freeze, Merge, Reclaim}
+use Rattle.clsm_script.specs.declared.phase.Phase.{Phase}
+
+-- the command takes the seat from its old state to the new one, and is answered so
+abbrev pub Plays : Command → SeatState → SeatState → Answer → Type 0
+Plays (Put key v) old new (Write (Ok t)) = Answers old new t (deeds.Put key v)
+Plays (Put key v) old new (Write (Err full)) = IsFull old new full.time
+Plays (Remove key) old new (Write (Ok t)) = Answers old new t (deeds.Remove key)
+Plays (Remove key) old new (Write (Err full)) = IsFull old new full.time
+Plays (Try key v) old new (Tried (Ok t)) = Answers old new t (deeds.Put key v)
+Plays (Try key v) old new (Tried (Err refusal)) = RefusesTry old new refusal
+Plays (Add key by) old new (Changed (Ok rmw)) =
+    Answers old new rmw.time (deeds.Rmw key rmw.old rmw.change) × (rmw.change ≡ added rmw.old by)
+Plays (Add key by) old new (Changed (Err full)) = IsFull old new full.time
+Plays (Claim key v) old new (Changed (Ok rmw)) =
+    Answers old new rmw.time (deeds.Rmw key rmw.old rmw.change) × (rmw.change ≡ claimed rmw.old v)
+Plays (Claim key v) old new (Changed (Err full)) = IsFull old new full.time
+Plays (Get key) old new (Read got) = Answers old new got.time (deeds.Get key got.value)
+Plays Freeze old new (Froze _) = new ≡ old
+Plays Merge old new (Merged _) = new ≡ old
+Plays Reclaim old new (Reclaimed _) = new ≡ old
+Plays _ _ _ _ = ⊥
+
+-- the command takes the merger from its old phase to the new one, and is answered so
+abbrev pub Turns : Command → Phase → Phase → Answer → Type 0
+Turns Freeze old new (Froze answer) = Freezes old new answer
+Turns Freeze _ _ _ = ⊥
+Turns Merge old new (Merged answer) = Merges old new answer
+Turns Merge _ _ _ = ⊥
+Turns Reclaim old new (Reclaimed answer) = Reclaims old new answer
+Turns Reclaim _ _ _ = ⊥
+Turns _ old new _ = new ≡ old

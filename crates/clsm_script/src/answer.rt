@@ -1,0 +1,66 @@
+use crate::phase::{FreezeError, MergeError, ReclaimError};
+use clsm_model::{Change, Time, Value};
+use clsm_store::{Full, Got, Rmw, TryPutError};
+use std::fmt;
+
+/// What a command answers. It is shown as the program writes it.
+#[derive(Clone, Copy, Debug)]
+pub enum Answer {
+    /// `@T`, or `full @T` where no write more may be made.
+    Write(Result<Time, Full>),
+    /// `@T`, or why nothing was written: `full @T`, `busy`, `raced` or `overtaken`.
+    Try(Result<Time, TryPutError>),
+    /// `old V new W @T`, with `none` for a key that had no value; `kept V @T`; or `full @T`.
+    Change(Result<Rmw, Full>),
+    /// `V @T`, or `none @T` where the key has no value.
+    Read(Got),
+    /// `frozen E`, the number of the frozen epoch; or why none was frozen: `not clean` or `worn`.
+    Freeze(Result<u64, FreezeError>),
+    /// `merged M`, the new number of merges; or why nothing was merged: `not frozen` or `run full`.
+    Merge(Result<u64, MergeError>),
+    /// `clean`; or why nothing was reclaimed: `not retired`, or `pinned S` with the number of a
+    /// seat.
+    Reclaim(Result<(), ReclaimError>),
+}
+
+impl fmt::Display for Answer {
+    fn fmt<W: fmt::Write>(&self, f: &mut fmt::Formatter<W>) -> fmt::Result {
+        match self {
+            Answer::Write(Ok(time)) | Answer::Try(Ok(time)) => write!(f, "@{time}"),
+            Answer::Write(Err(refusal)) => write!(f, "{refusal}"),
+            Answer::Try(Err(refusal)) => write!(f, "{refusal}"),
+            Answer::Change(Ok(rmw)) => write_change(f, rmw),
+            Answer::Change(Err(refusal)) => write!(f, "{refusal}"),
+            Answer::Read(got) => write!(f, "{} @{}", Shown(&got.value), got.time),
+            Answer::Freeze(Ok(epoch)) => write!(f, "frozen {epoch}"),
+            Answer::Freeze(Err(refusal)) => write!(f, "{refusal}"),
+            Answer::Merge(Ok(merges)) => write!(f, "merged {merges}"),
+            Answer::Merge(Err(refusal)) => write!(f, "{refusal}"),
+            Answer::Reclaim(Ok(())) => write!(f, "clean"),
+            Answer::Reclaim(Err(refusal)) => write!(f, "{refusal}"),
+        }
+    }
+}
+
+/// A value as the program writes it: `none` where there is none.
+#[derive(Drop)]
+struct Shown<'a>(&'a Option<Value>);
+
+impl fmt::Display for Shown<'_> {
+    fn fmt<W: fmt::Write>(&self, f: &mut fmt::Formatter<W>) -> fmt::Result {
+        match self.0 {
+            Some(value) => write!(f, "{value}"),
+            None => write!(f, "none"),
+        }
+    }
+}
+
+fn write_change<W: fmt::Write>(f: &mut fmt::Formatter<W>, rmw: &Rmw) -> fmt::Result {
+    let old = Shown(&rmw.old);
+    let time = rmw.time;
+    match &rmw.change {
+        Change::Keep => write!(f, "kept {old} @{time}"),
+        Change::Set(value) => write!(f, "old {old} new {value} @{time}"),
+        Change::Remove => write!(f, "old {old} new none @{time}"),
+    }
+}

@@ -1,0 +1,16 @@
+//! Scripts: the commands of an input, one a line, played on a store.
+#![tactic(auto)]
+
+mod answer;
+mod changes;
+mod command;
+mod failure;
+mod input;
+mod line;
+mod number;
+mod phase;
+mod playing;
+#[cfg(test)]
+mod tests;
+
+pub use playing::{DEFAULT_SIZES, script};

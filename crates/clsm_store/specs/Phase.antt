@@ -1,0 +1,55 @@
+-- What the merger's commands make of its token, and what they answer.
+use Rattle.std.specs.Prelude.{◌≡◌, ℕ, ◌+◌, ◌*◌, ◌^◌, ◌<◌, ⊤, Result, Ok, Err}
+use Rattle.clsm_law.specs.Relation.{next_word}
+use Rattle.clsm_store.specs.Seats.{MergerState}
+use Rattle.clsm_store.specs.Merging.{IsRunFull, TakesFloor}
+use Rattle.clsm_store.specs.Reclaiming.{IsLowestLoud}
+use Rattle.clsm_store.specs.declared.phase.Phase.{Phase}
+use Rattle.clsm_store.specs.declared.phase.Phase.TheVariants.{Clean, Frozen, Retired}
+use Rattle.clsm_store.specs.declared.phase.FreezeError.{FreezeError}
+use Rattle.clsm_store.specs.declared.phase.FreezeError.TheVariants.{NotClean, Worn}
+use Rattle.clsm_store.specs.declared.phase.MergeError.{MergeError}
+use Rattle.clsm_store.specs.declared.phase.MergeError.TheVariants.{NotFrozen, RunFull}
+use Rattle.clsm_store.specs.declared.phase.ReclaimError.{ReclaimError}
+use Rattle.clsm_store.specs.declared.phase.ReclaimError.TheVariants.{NotRetired, Pinned}
+
+-- the merger, in whichever phase it is
+abbrev pub merger_in : Phase → MergerState
+merger_in (Clean merger) = merger
+merger_in (Frozen frozen) = frozen.merger
+merger_in (Retired retired) = retired.merger
+
+-- where the merger is clean, the epoch is frozen under the lock, or the next limit would pass 2^62;
+-- else nothing is done
+abbrev pub Freezes : Phase → Phase → Result ℕ FreezeError → Type 0
+Freezes (Clean old) (Frozen new) (Ok epoch) =
+    (new.merger ≡ record old { holds = next_word old.holds }) × (epoch ≡ old.merges)
+Freezes (Clean old) (Clean new) (Err (Worn _)) =
+    (new ≡ old) × (2 ^ 62 < (old.merges + 2) * old.store.layout.cells)
+Freezes (Clean _) _ _ = ⊥
+Freezes old new answer = (new ≡ old) × (answer ≡ Err NotClean)
+
+-- where an epoch is frozen, a floor is taken, and it is merged by it, or there is no room for what
+-- is kept by it; else nothing is done
+abbrev pub Merges : Phase → Phase → Result ℕ MergeError → Type 0
+Merges (Frozen old) (Retired new) (Ok merges) =
+    (new.merger ≡ record old.merger { merges = old.merger.merges + 1 })
+    × (merges ≡ old.merger.merges + 1)
+    × TakesFloor old new.floor new.rounds
+    × (¬ IsRunFull old new.floor)
+Merges (Frozen old) (Frozen new) (Err (RunFull _)) =
+    (new ≡ record old { floor = new.floor; rounds = new.rounds })
+    × TakesFloor old new.floor new.rounds
+    × IsRunFull old new.floor
+Merges (Frozen _) _ _ = ⊥
+Merges old new answer = (new ≡ old) × (answer ≡ Err NotFrozen)
+
+-- where a component is retired, it is given up, or the lowest seat that is looked at and not found
+-- quiet is named; else nothing is done
+abbrev pub Reclaims : Phase → Phase → Result ⊤ ReclaimError → Type 0
+Reclaims (Retired old) (Clean new) (Ok _) = new ≡ old.merger
+Reclaims (Retired old) (Retired new) (Err (Pinned pinned)) =
+    (new ≡ record old { readers = new.readers })
+    × IsLowestLoud old.readers new.readers pinned.0
+Reclaims (Retired _) _ _ = ⊥
+Reclaims old new answer = (new ≡ old) × (answer ≡ Err NotRetired)

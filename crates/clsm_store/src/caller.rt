@@ -1,0 +1,87 @@
+//! A caller with its store: the calls of the store, with nothing to ask for.
+ghost use Rattle.std.specs.Prelude.{◌≡◌, IfOk, IfErr};
+ghost use Rattle.clsm_model.specs.declared.record.Deed.TheVariants.{Get, Put, Remove, Rmw as ChangeOf};
+ghost use Rattle.clsm_store.specs.Seats.{Answers, GivesUpForWrites, IsFull};
+ghost use Rattle.clsm_store.specs.Tally.{CancelsNone, CountsTry, TakesLockOnce, TakesNoLock};
+ghost use Rattle.clsm_store.specs.Trying.{RefusesTry};
+
+use crate::got::{Got, Rmw};
+use crate::refusal::{Full, TryPutError};
+use crate::seat::Seat;
+use crate::store::Store;
+use clsm_model::{Change, Time, Value};
+use clsm_words::Pace;
+use std::sync::Wait;
+
+/// A caller: a store and one of its seats, by which the caller makes its calls. It may be moved to
+/// another thread.
+#[derive(Drop)]
+pub struct Caller<'a, P: Pace> {
+    pub store: &'a Store<P>,
+    pub seat: Seat,
+    pub ghost of: { seat.store ≡ store.now },
+}
+
+impl<'a, P: Pace> Caller<'a, P> {
+    /// The caller that has this seat, which is one of the store's.
+    pub fn new(store: &'a Store<P>, seat: Seat) -> Caller<'a, P>
+        requires { seat.store ≡ store.now }
+        ensures { result.seat ≡ seat }
+    {
+        Caller { store, seat }
+    }
+
+    /// As `Store::put`.
+    pub fn put<R: Wait>(&mut self, rt: &R, key: u64, value: Value) -> Result<Time, Full>
+        ensures written { IfOk result (λ time. Answers self.old.seat self.new.seat time (Put key value)) }
+        ensures lock { TakesLockOnce self.old.seat.tally self.new.seat.tally }
+        ensures cancels { CancelsNone self.old.seat.tally self.new.seat.tally }
+        ensures full { IfErr result (λ full. IsFull self.old.seat self.new.seat full.time) }
+    {
+        self.store.put(rt, &mut self.seat, key, value)
+    }
+
+    /// As `Store::remove`.
+    pub fn remove<R: Wait>(&mut self, rt: &R, key: u64) -> Result<Time, Full>
+        ensures written { IfOk result (λ time. Answers self.old.seat self.new.seat time (Remove key)) }
+        ensures lock { TakesLockOnce self.old.seat.tally self.new.seat.tally }
+        ensures cancels { CancelsNone self.old.seat.tally self.new.seat.tally }
+        ensures full { IfErr result (λ full. IsFull self.old.seat self.new.seat full.time) }
+    {
+        self.store.remove(rt, &mut self.seat, key)
+    }
+
+    /// As `Store::try_put`.
+    pub fn try_put(&mut self, key: u64, value: Value) -> Result<Time, TryPutError>
+        ensures written { IfOk result (λ time. Answers self.old.seat self.new.seat time (Put key value)) }
+        ensures counts { CountsTry self.old.seat.tally self.new.seat.tally result }
+        ensures refused { IfErr result (RefusesTry self.old.seat self.new.seat) }
+    {
+        self.store.try_put(&mut self.seat, key, value)
+    }
+
+    /// As `Store::get`.
+    pub fn get(&mut self, key: u64) -> Got
+        ensures answers { Answers self.old.seat self.new.seat result.time (Get key result.value) }
+        ensures lock { TakesNoLock self.old.seat.tally self.new.seat.tally }
+    {
+        self.store.get(&mut self.seat, key)
+    }
+
+    /// As `Store::rmw`.
+    pub fn rmw<R: Wait, F: Fn(Option<Value>) -> Change>(
+        &mut self,
+        rt: &R,
+        key: u64,
+        f: &F,
+    ) -> Result<Rmw, Full>
+        requires { F.IsAlwaysCallable f.now }
+        ensures changed { IfOk result (λ rmw. Answers self.old.seat self.new.seat rmw.time (ChangeOf key rmw.old rmw.change)) }
+        ensures lock { TakesLockOnce self.old.seat.tally self.new.seat.tally }
+        ensures spared { GivesUpForWrites self.old.seat self.new.seat key }
+        ensures answered { IfOk result (λ rmw. F.post f.now rmw.old rmw.change) }
+        ensures full { IfErr result (λ full. IsFull self.old.seat self.new.seat full.time) }
+    {
+        self.store.rmw(rt, &mut self.seat, key, f)
+    }
+}
