@@ -4,6 +4,5 @@ pub mod Failure
 pub mod Input
 pub mod Line
 pub mod Number
-pub mod Phase
 pub mod Play
 pub mod Script

@@ -4,7 +4,7 @@ use Rattle.clsm_model.specs.declared.record.Deed.TheVariants as deeds
 use Rattle.clsm_store.specs.Seats.{SeatState, Answers, IsFull}
 use Rattle.clsm_store.specs.Trying.{RefusesTry}
 use Rattle.clsm_script.specs.Changes.{added, claimed}
-use Rattle.clsm_script.specs.Phase.{Freezes, Merges, Reclaims}
+use Rattle.clsm_store.specs.Phase.{Freezes, Merges, Reclaims}
 use Rattle.clsm_script.specs.declared.answer.Answer.{Answer}
 use Rattle.clsm_script.specs.declared.answer.Answer.TheVariants.{Write, Try as Tried}
 use Rattle.clsm_script.specs.declared.answer.Answer.TheVariants.{Change as Changed, Read}
@@ -13,7 +13,7 @@ use Rattle.clsm_script.specs.declared.answer.Answer.TheVariants.{Reclaim as Recl
 use Rattle.clsm_script.specs.declared.command.Command.{Command}
 use Rattle.clsm_script.specs.declared.command.Command.TheVariants.{Put, Remove, Try, Add, Claim}
 use Rattle.clsm_script.specs.declared.command.Command.TheVariants.{Get, Freeze, Merge, Reclaim}
-use Rattle.clsm_script.specs.declared.phase.Phase.{Phase}
+use Rattle.clsm_store.specs.declared.phase.Phase.{Phase}
 
 -- the command takes the seat from its old state to the new one, and is answered so
 abbrev pub Plays : Command → SeatState → SeatState → Answer → Type 0

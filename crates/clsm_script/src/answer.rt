@@ -1,6 +1,5 @@
-use crate::phase::{FreezeError, MergeError, ReclaimError};
 use clsm_model::{Change, Time, Value};
-use clsm_store::{Full, Got, Rmw, TryPutError};
+use clsm_store::{FreezeError, Full, Got, MergeError, ReclaimError, Rmw, TryPutError};
 use std::fmt;
 
 /// What a command answers. It is shown as the program writes it.

@@ -3,9 +3,8 @@ ghost use Rattle.std.specs.Prelude.{◌≡◌, ◌∷◌, [], IfSome, IfNone};
 use crate::answer::Answer;
 use crate::changes::{add, claim};
 use crate::number::{parse_number, parse_value};
-use crate::phase::Phase;
 use clsm_model::Value;
-use clsm_store::{Pace, Seat, Store};
+use clsm_store::{Pace, Phase, Seat, Store};
 use std::sync::Wait;
 
 /// A command of a script.
@@ -35,7 +34,7 @@ pub enum Command {
 impl Command {
     ghost use Rattle.clsm_script.specs.Command.{Says, SaysNone};
     ghost use Rattle.clsm_script.specs.Line.{texts_of};
-    ghost use Rattle.clsm_script.specs.Phase.{merger_of};
+    ghost use Rattle.clsm_store.specs.Phase.{merger_in};
     ghost use Rattle.clsm_script.specs.Play.{Plays, Turns};
 
     /// The command that the words of a line say; `None` where they say none.
@@ -108,11 +107,11 @@ impl Command {
         phase: Phase,
     ) -> (Phase, Answer)
         requires seat { seat.old.store ≡ store.now }
-        requires merger { (merger_of phase).store ≡ store.now }
+        requires merger { (merger_in phase).store ≡ store.now }
         ensures plays { Plays self seat.old seat.new result.1 }
         ensures turns { Turns self phase result.0 result.1 }
         ensures store { seat.new.store ≡ seat.old.store }
-        ensures merger { (merger_of result.0).store ≡ store.now }
+        ensures merger { (merger_in result.0).store ≡ store.now }
     {
         let answer = match self {
             Command::Put { key, value } => Answer::Write(store.put(rt, seat, key, value)),

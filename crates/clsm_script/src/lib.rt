@@ -8,7 +8,6 @@ mod failure;
 mod input;
 mod line;
 mod number;
-mod phase;
 mod playing;
 #[cfg(test)]
 mod tests;

@@ -1,7 +1,7 @@
 ghost use Rattle.std.specs.Prelude.{◌≡◌, IfSome, IfOk, OnOk, IfErr};
 ghost use Rattle.clsm_script.specs.Script.{IsScript, IsStatus, StopsPlay, StopsScript};
 ghost use Rattle.clsm_script.specs.Failure.{IsOutside};
-ghost use Rattle.clsm_script.specs.Phase.{merger_of};
+ghost use Rattle.clsm_store.specs.Phase.{merger_in};
 ghost use Rattle.clsm_model.specs.Config.{IsSound};
 
 use crate::answer::Answer;
@@ -9,8 +9,7 @@ use crate::command::Command;
 use crate::failure::Failure;
 use crate::input::read_line;
 use crate::line::parse_line;
-use crate::phase::Phase;
-use clsm_store::{Config, Opened, Pace, Seat, Store, open};
+use clsm_store::{Config, Opened, Pace, Phase, Seat, Store, open};
 use std::alloc::Global;
 use std::io::{BufReader, Read, Write};
 use std::sync::Wait;
@@ -105,7 +104,7 @@ fn play_lines<T: Wait, R: Read, W: Write, P: Pace + Drop>(
     mut phase: Phase,
 ) -> Result<(), Failure>
     requires seat { seat.old.store ≡ store.now }
-    requires merger { (merger_of phase).store ≡ store.now }
+    requires merger { (merger_in phase).store ≡ store.now }
     ensures played { OnOk result (IfSome (R.remaining reader.old) IsScript) }
     ensures stopped { IfErr result (StopsPlay (R.remaining reader.old)) }
 {
@@ -134,10 +133,10 @@ fn play_line<T: Wait, W: Write, P: Pace + Drop>(
     said: Option<Command>,
 ) -> Result<Phase, Failure>
     requires seat { seat.old.store ≡ store.now }
-    requires merger { (merger_of phase).store ≡ store.now }
+    requires merger { (merger_in phase).store ≡ store.now }
     ensures outside { IfErr result IsOutside }
     ensures store { seat.new.store ≡ seat.old.store }
-    ensures merger { IfOk result (λ next. (merger_of next).store ≡ store.now) }
+    ensures merger { IfOk result (λ next. (merger_in next).store ≡ store.now) }
 {
     let Some(command) = said else {
         return Ok(phase);

@@ -1,8 +1,7 @@
 //! The commands of the merger, and reads of what they merged.
 use super::*;
 use crate::answer::Answer;
-use crate::phase::{FreezeError, ReclaimError};
-use clsm_store::{Pinned, Worn};
+use clsm_store::{FreezeError, Pinned, ReclaimError, Worn};
 use std::test::Fail;
 
 #[test]

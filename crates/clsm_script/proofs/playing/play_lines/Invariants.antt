@@ -1,6 +1,6 @@
 use Rattle.std.proofs.Common.{◌≡◌, ◌-◌}
 use Rattle.clsm_script.proofs.Scripts.{LeadsTo}
-use Rattle.clsm_script.specs.Phase.{merger_of}
+use Rattle.clsm_store.specs.Phase.{merger_in}
 use Rattle.clsm_script.proofs.playing.play_lines.Given as goal
 
 abbrev pub invariant-loop-number : goal.invariant-loop-number
@@ -8,5 +8,5 @@ invariant-loop-number g l = record {
   leads : LeadsTo (g.R.Read.remaining l.initial.reader) (g.R.Read.remaining l.reader)
       (l.number - 1);
   store : l.seat.store ≡ l.store;
-  merger : (merger_of l.phase).store ≡ l.store;
+  merger : (merger_in l.phase).store ≡ l.store;
 }
