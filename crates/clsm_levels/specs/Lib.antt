@@ -1,5 +1,6 @@
 pub mod Entry
 pub mod Run
+pub mod Yields
 pub mod Merge
 pub mod Content
 pub mod Place

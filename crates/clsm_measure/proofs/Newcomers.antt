@@ -2,7 +2,7 @@
 use Rattle.std.proofs.Common.{◌≡◌, ℕ, List, ap, ◌∙◌}
 use Rattle.std.proofs.lemmas.List.{get_or_default}
 use Rattle.std.specs.Prelude.{All}
-use Rattle.clsm_store.specs.Seats.{StoreId, SeatState, AreNew, newcomer}
+use Rattle.clsm_calls.specs.Seats.{StoreId, SeatState, AreNew, newcomer}
 
 pub all_seated : (store : StoreId) (count : ℕ) (seats : List SeatState) → AreNew store count seats → All (λ (seat : SeatState). seat.store ≡ store) seats
 all_seated store count seats new = λ i d lt.

@@ -6,3 +6,4 @@ pub mod Chains
 pub mod NewestWrites
 pub mod FrozenTimes
 pub mod Fillings
+pub mod Ranges

@@ -3,3 +3,4 @@ pub mod Searching
 pub mod Filling
 pub mod Writing
 pub mod Frozen
+pub mod Ranging

@@ -14,7 +14,7 @@ use clsm_words::{Pace, RawSeat, Words};
 
 /// What the state of the time's cell is.
 #[inline]
-fn state<P: Pace>(
+pub(crate) fn state<P: Pace>(
     words: &Words<P>,
     seat: &mut RawSeat,
     component: u64,
@@ -33,7 +33,13 @@ fn state<P: Pace>(
 
 /// What the key of the time's cell is.
 #[inline]
-fn key<P: Pace>(words: &Words<P>, seat: &mut RawSeat, component: u64, time: Time, cell: u64) -> u64
+pub(crate) fn key<P: Pace>(
+    words: &Words<P>,
+    seat: &mut RawSeat,
+    component: u64,
+    time: Time,
+    cell: u64,
+) -> u64
     requires of { IsSeatOf words.now seat.old }
     requires known { IsKnownTime seat.old.knows component time cell }
     ensures of { IsSeatOf words.now seat.new }
@@ -103,7 +109,7 @@ fn word<P: Pace>(
 }
 
 /// The value of a time that sets one.
-fn value<P: Pace>(
+pub(crate) fn value<P: Pace>(
     words: &Words<P>,
     seat: &mut RawSeat,
     component: u64,

@@ -4,3 +4,5 @@ pub mod Ranges
 pub mod Texts
 pub mod Equals
 pub mod EqualRecords
+pub mod Pages
+pub mod Written

@@ -15,7 +15,7 @@ use Rattle.clsm_model.proofs.Maps.{is_eq-nat_cmp, value_at-lookup}
 abbrev is_inside : ℕ → ℕ → ℕ → Bool
 is_inside lo hi k = nat_le lo k && nat_le k hi
 
-keys_of-filter : (p : ℕ → Bool) (pairs : List Pair) → keys_of (filter (λ pair. p pair.0) pairs) ≡ filter p (keys_of pairs)
+pub keys_of-filter : (p : ℕ → Bool) (pairs : List Pair) → keys_of (filter (λ pair. p pair.0) pairs) ≡ filter p (keys_of pairs)
 keys_of-filter p [] = refl
 keys_of-filter p (pair ∷ pairs) = grind (arith, keys_of-filter p pairs)
 
@@ -28,7 +28,7 @@ value_at-between lo hi k pairs =
     rw (value_at-lookup (between lo hi pairs) k, value_at-lookup pairs k)
     (lookup-filter-keys (is_at (nat_cmp k)) (is_inside lo hi) (is_inside lo hi k) (λ q found. ap (is_inside lo hi) (sym (eqb-true k q (sym (is_eq-nat_cmp k q) ∙ found)))) pairs)
 
-IsRange-between : (h : History) (s lo hi : ℕ) (pairs : List Pair) → IsMap h s pairs → IsRange h s lo hi (between lo hi pairs)
+pub IsRange-between : (h : History) (s lo hi : ℕ) (pairs : List Pair) → IsMap h s pairs → IsRange h s lo hi (between lo hi pairs)
 IsRange-between h s lo hi pairs map = record {
   rise = KeysRise-between lo hi pairs map.rise;
   inside = λ k above below. value_at-between lo hi k pairs ∙ rw (le-leb lo k above, le-leb k hi below) (map.values k);

@@ -1,2 +1,3 @@
 pub mod Pinned
 pub mod Released
+pub mod Noted

@@ -25,4 +25,5 @@ pub unpins_of : (old new : Known) (x : ℕ) (end : End) → Sound old → Follow
 unpins_of old new x end sound one = record {
   keeps = past_by (Unpin end) old new x sound one refl;
   view = one.view;
+  has_told = one.reaches;
 }

@@ -1,2 +1,3 @@
 pub mod Pinning
 pub mod Quieting
+pub mod Snapshots

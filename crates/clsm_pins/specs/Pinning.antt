@@ -1,5 +1,6 @@
 -- What a pin and an unpin make of a seat, and what they leave of it.
-use Rattle.std.specs.Prelude.{◌≡◌, ℕ, ◌*◌, ◌≤◌, ◌++◌, true, false, Some, None}
+use Rattle.std.specs.Prelude.{◌≡◌, ℕ, ◌*◌, ◌≤◌, ◌++◌, true, false, length, Some, None}
+use mathlib.Core.List.{IsPrefix}
 use Rattle.clsm_law.specs.declared.step.End.{End}
 use Rattle.clsm_law.specs.Relation.{next_word, ended_calls, ended_due, ended_snapshot}
 use Rattle.clsm_words.specs.declared.known.Known.{Known}
@@ -12,7 +13,8 @@ pub record Pins (old new : Known) (component : ℕ) : Type 0 where
   pub reached : old.view.reached ≤ new.view.reached
   pub merged : component * old.layout.cells ≤ new.view.reached
 
--- its read has ended so, with its records
+-- its read has ended so, with its records; what it was told is a beginning of what it knows, if that is as long
 pub record Unpins (old new : Known) (end : End) : Type 0 where
   pub keeps : KeepsPast old new
   pub view : new.view ≡ record old.view { pin = next_word old.view.pin; pinned = false; held = None; pin_clock = None; snapshot = ended_snapshot old.view.snapshot; due = ended_due old.view end; calls = old.view.calls ++ ended_calls old.number old.view end }
+  pub has_told : length old.told ≤ length new.past → IsPrefix old.told new.past

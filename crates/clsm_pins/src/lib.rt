@@ -3,6 +3,8 @@
 
 mod pinning;
 mod quieting;
+mod snapshotting;
 
 pub use pinning::{pin, unpin};
 pub use quieting::quiet;
+pub use snapshotting::{close_snapshot, open_snapshot};

@@ -10,3 +10,4 @@ pub mod MergeSources
 pub mod Finishing
 pub mod Halving
 pub mod RunAfterRun
+pub mod Standing

@@ -1,18 +1,18 @@
 -- What stays over looks while a component is held: the words of its runs, and so what was found in them.
-use Rattle.std.proofs.Common.{◌≡◌, ℕ, ◌<◌, List, sym, ap, ◌∙◌, subst, Option}
+use Rattle.std.proofs.Common.{◌≡◌, ℕ, zero, suc, ◌+◌, ◌-◌, ◌<◌, List, refl, sym, ap, ◌∙◌, subst, Option}
 use Rattle.clsm_levels.specs.declared.entry.Entry.{Entry}
 use Rattle.clsm_levels.specs.Entry.{first_below}
 use Rattle.clsm_law.specs.declared.word.Word.{Word}
 use Rattle.clsm_law.specs.declared.word.Word.TheVariants.{Count, Entry as EntryWord}
 use Rattle.clsm_law.specs.declared.view.View.{View}
-use Rattle.clsm_law.specs.Places.{entry_in}
+use Rattle.clsm_law.specs.Places.{entry_in, entries_from}
 use Rattle.clsm_law.proofs.KeptRuns.{SamePlace, entry_same, place_same}
 use Rattle.clsm_words.specs.declared.known.Known.{Known}
 use Rattle.clsm_words.specs.Knowing.{IsNamedWord, row_of}
 use Rattle.clsm_words.specs.Keeping.{Looks}
 use Rattle.clsm_runs.specs.declared.side.Side.{Side}
 use Rattle.clsm_runs.specs.declared.side.Side.TheVariants.{Before, Hit, Behind}
-use Rattle.clsm_runs.specs.Searching.{ComesEarlier, IsSearchable, IsSide, run_at}
+use Rattle.clsm_runs.specs.Searching.{ComesEarlier, IsSearchable, IsSide, count_of, rest_from, run_at}
 
 -- ---- the words of a run
 
@@ -25,7 +25,7 @@ place_stays k k' component place looks run = record {
   words = λ entry part. word_stays k k' component place (EntryWord place entry part) looks run (tt, run.named);
 }
 
-run_stays : (k k' : Known) (component place : ℕ) → Looks k k' → IsSearchable k component place → run_at k' place ≡ run_at k place
+pub run_stays : (k k' : Known) (component place : ℕ) → Looks k k' → IsSearchable k component place → run_at k' place ≡ run_at k place
 run_stays k k' component place looks run = place_same (row_of k) (row_of k') place (place_stays k k' component place looks run)
 
 -- an entry that was found after looks was found before
@@ -34,8 +34,20 @@ found_stays k k' component place key until o looks run is = is ∙ ap (λ (es : 
 
 -- ---- an entry
 
-entry_in_stays : (k k' : Known) (component place entry : ℕ) → Looks k k' → IsSearchable k component place → entry_in (row_of k') place entry ≡ entry_in (row_of k) place entry
+pub entry_in_stays : (k k' : Known) (component place entry : ℕ) → Looks k k' → IsSearchable k component place → entry_in (row_of k') place entry ≡ entry_in (row_of k) place entry
 entry_in_stays k k' component place entry looks run = entry_same (row_of k) (row_of k') place entry ((place_stays k k' component place looks run).words entry)
+
+entries_stay : (k k' : Known) (component place i n : ℕ) → Looks k k' → IsSearchable k component place → entries_from (row_of k') place i n ≡ entries_from (row_of k) place i n
+entries_stay k k' component place i zero looks run = refl
+entries_stay k k' component place i (suc n) looks run =
+    let first = entry_in_stays k k' component place i looks run in
+    let rest = entries_stay k k' component place (i + 1) n looks run in
+    cc (first, rest)
+
+pub rest_stays : (k k' : Known) (component place i : ℕ) → Looks k k' → IsSearchable k component place → rest_from (row_of k') place (count_of k' place) i ≡ rest_from (row_of k) place (count_of k place) i
+rest_stays k k' component place i looks run =
+    ap (λ (n : ℕ). entries_from (row_of k') place i (n - i)) (place_stays k k' component place looks run).count
+    ∙ entries_stay k k' component place i (count_of k place - i) looks run
 
 -- where it stood after looks it stood before
 pub side_stays : (k k' : Known) (component place entry key until : ℕ) (side : Side) → Looks k k' → IsSearchable k component place → IsSide (row_of k') place entry key until side → IsSide (row_of k) place entry key until side

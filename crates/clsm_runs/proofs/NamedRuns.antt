@@ -1,8 +1,7 @@
 -- What the law says of the runs of a component, at each place that it names.
-use Rattle.std.proofs.Common.{◌≡◌, ℕ, zero, suc, ◌+◌, ◌*◌, ◌/◌, ◌%◌, ◌<◌, ◌≤◌, ◌==◌, inl, inr, Bool, true, cond, nat_lt, List, [], ◌∷◌, ◌++◌, length, map, slice_index_or, refl, sym, subst, arith, Option}
+use Rattle.std.proofs.Common.{◌≡◌, ℕ, zero, suc, ◌+◌, ◌*◌, ◌/◌, ◌%◌, ◌<◌, ◌≤◌, ◌==◌, inl, inr, Bool, true, cond, nat_lt, List, [], ◌∷◌, ◌++◌, length, map, refl, sym, subst, arith}
 use Rattle.std.specs.List.{AllByRecursion}
 use Rattle.std.proofs.lemmas.Bool.{lt-ltb, le-ltb, ltb-true, eqb-true, eq-eqb, cases_lt, cases_eq}
-use Rattle.clsm_model.specs.declared.slot.Slot.TheVariants.{Nothing, Wrote}
 use Rattle.clsm_model.specs.History.{plain}
 use Rattle.clsm_levels.specs.declared.entry.Entry.{Entry}
 use Rattle.clsm_levels.specs.declared.place.Place.{Place}
@@ -10,14 +9,13 @@ use Rattle.clsm_levels.specs.declared.place.Place.TheVariants.{LevelOne}
 use Rattle.clsm_levels.specs.Entry.{IsWriteOf}
 use Rattle.clsm_levels.specs.Place.{level_zero_places}
 use Rattle.clsm_levels.specs.Run.{IsRun, all_of}
-use Rattle.clsm_levels.proofs.Every.{every_left, every_right}
+use Rattle.clsm_levels.proofs.Every.{every_both, every_left, every_right, every_weaker}
 use Rattle.clsm_law.specs.declared.word.Word.TheVariants.{Clock}
 use Rattle.clsm_law.specs.Memory.{Memory}
 use Rattle.clsm_law.specs.Merging.{epoch_end, is_frozen}
 use Rattle.clsm_law.specs.Places.{is_named, entry_in, entries_from, entries_in, held_at}
 use Rattle.clsm_law.specs.Worlds.{runs_of, are_canonical}
 use Rattle.clsm_law.specs.Relation.{IsShort}
-use Rattle.clsm_law.specs.Law.{AreRuns}
 use Rattle.clsm_words.specs.declared.known.Known.{Known}
 use Rattle.clsm_words.specs.Knowing.{Sound, row_of}
 use Rattle.clsm_words.specs.Merging.{IsSoundMerger}
@@ -64,27 +62,35 @@ each_run P (run ∷ runs) every = (every_left P run (all_of runs) every, each_ru
 
 -- ---- the run at a place
 
--- it is a run of writes of the seat's past that are merged into the component, and no word says more than its entries
+-- it is a run of short values, and no word says more than its entries
 pub record IsRunAt (k : Known) (component place : ℕ) : Type 0 where
   pub order : IsRun (run_at k place)
-  pub older : AllByRecursion (λ (e : Entry). e.time < component * k.layout.cells) (run_at k place)
-  pub writes : AllByRecursion (IsWriteOf (plain k.past)) (run_at k place)
+  pub short : AllByRecursion (λ (e : Entry). IsShort e.value) (run_at k place)
   pub canonical : are_canonical (row_of k) place ≡ true
 
--- the runs of a component at one of its places
-run_of : (k : Known) (component floor place : ℕ) → AreRuns k.layout (row_of k) (plain k.past) component floor → is_named component place ≡ true → IsRunAt k component place
-run_of k component floor place runs named = record {
-  order = at_named IsRun (row_of k) component place named runs.content.order;
-  older = at_named (AllByRecursion (λ (e : Entry). e.time < component * k.layout.cells)) (row_of k) component place named (each_run (λ (e : Entry). e.time < component * k.layout.cells) (runs_of (row_of k) component) runs.content.older);
-  writes = at_named (AllByRecursion (IsWriteOf (plain k.past))) (row_of k) component place named (each_run (IsWriteOf (plain k.past)) (runs_of (row_of k) component) runs.content.writes);
-  canonical = runs.canonical place named;
+-- what a holder reads
+pub run_there : (k : Known) (component place : ℕ) → Sound k → IsSearchable k component place → IsRunAt k component place
+run_there k component place sound run = let runs = (sound.reads component run.held).runs in record {
+  order = at_named IsRun (row_of k) component place run.named runs.order;
+  short = at_named (AllByRecursion (λ (e : Entry). IsShort e.value)) (row_of k) component place run.named (each_run (λ (e : Entry). IsShort e.value) (runs_of (row_of k) component) runs.short);
+  canonical = runs.canonical place run.named;
 }
 
-pub run_there : (k : Known) (component place : ℕ) → Sound k → IsSearchable k component place → IsRunAt k component place
-run_there k component place sound run = run_of k component k.floor place ((sound.reads component run.held).runs run.known) run.named
+-- what the merger reads: its past reaches the end of the merged epochs
+merged_write : (k : Known) → IsSoundMerger k → (e : Entry) → (e.time < k.merger.merged * k.layout.cells) × IsWriteOf (plain k.past) e → k.merger.merged * k.layout.cells ≤ length k.past → IsShort e.value
+merged_write k sound e is reached = sound.short e.time is.1.0 e.key e.value (let older = is.0 in omega arith) is.1.1
 
-pub merged_run : (k : Known) (place : ℕ) → IsSoundMerger k → is_named k.merger.merged place ≡ true → IsRunAt k k.merger.merged place
-merged_run k place sound named = run_of k k.merger.merged k.merger.merged_floor place sound.runs named
+merged_run : (k : Known) (place : ℕ) → IsSoundMerger k → k.merger.merged * k.layout.cells ≤ length k.past → is_named k.merger.merged place ≡ true → IsRunAt k k.merger.merged place
+merged_run k place sound reached named =
+    let m = k.merger.merged in
+    let content = sound.runs.content in
+    let both = every_both (λ (e : Entry). e.time < m * k.layout.cells) (IsWriteOf (plain k.past)) (all_of (runs_of (row_of k) m)) content.older content.writes in
+    record {
+      order = at_named IsRun (row_of k) m place named content.order;
+      short = at_named (AllByRecursion (λ (e : Entry). IsShort e.value)) (row_of k) m place named (each_run (λ (e : Entry). IsShort e.value) (runs_of (row_of k) m)
+          (every_weaker (λ (e : Entry). (e.time < m * k.layout.cells) × IsWriteOf (plain k.past) e) (λ (e : Entry). IsShort e.value) (λ e is. merged_write k sound e is reached) (all_of (runs_of (row_of k) m)) both));
+      canonical = sound.runs.canonical place named;
+    }
 
 -- ---- the entries of a place
 
@@ -98,24 +104,15 @@ at_entry P memory p i (suc n) e le lt every = elim (cases_eq e i) [
 
 -- ---- a value of an entry is a removal or has one to eight words
 
--- where a write of the past is one
-module _ (k : Known) (component place entry : ℕ) (run : IsRunAt k component place) (inside : entry < count_of k place) (known : component * k.layout.cells ≤ length k.past)
-    (short : (t i key : ℕ) (written : Option (List ℕ)) → t < length k.past → slice_index_or k.past t Nothing ≡ Wrote i key written → IsShort written) where
-  older_there : (entry_in (row_of k) place entry).time < component * k.layout.cells
-  older_there = at_entry (λ (e : Entry). e.time < component * k.layout.cells) (row_of k) place 0 (count_of k place) entry (omega arith) (omega arith) run.older
-
-  is_short_at : IsShort (entry_in (row_of k) place entry).value
-  is_short_at =
-      let e = entry_in (row_of k) place entry in
-      let write = at_entry (IsWriteOf (plain k.past)) (row_of k) place 0 (count_of k place) entry (omega arith) (omega arith) run.writes in
-      short e.time write.0 e.key e.value (let older = older_there in omega arith) write.1
+is_short_at : (k : Known) (component place entry : ℕ) → IsRunAt k component place → entry < count_of k place → IsShort (entry_in (row_of k) place entry).value
+is_short_at k component place entry run inside = at_entry (λ (e : Entry). IsShort e.value) (row_of k) place 0 (count_of k place) entry (omega arith) (omega arith) run.short
 
 pub short_there : (k : Known) (component place entry : ℕ) → Sound k → HasEntry k component place entry → IsShort (entry_in (row_of k) place entry).value
-short_there k component place entry sound has = is_short_at k component place entry (run_there k component place sound has.run) has.inside has.run.known sound.agrees.short
+short_there k component place entry sound has = is_short_at k component place entry (run_there k component place sound has.run) has.inside
 
 -- the merger's past reaches the end of the merged epochs, and of a frozen one
 pub merged_short : (k : Known) (place entry : ℕ) → IsSoundMerger k → IsMergedEntry k place entry → IsShort (entry_in (row_of k) place entry).value
-merged_short k place entry sound has = is_short_at k k.merger.merged place entry (merged_run k place sound has.named) has.inside reached sound.short where
+merged_short k place entry sound has = is_short_at k k.merger.merged place entry (merged_run k place sound reached has.named) has.inside where
   reached : k.merger.merged * k.layout.cells ≤ length k.past
   reached =
       let end : epoch_end k.layout k.merger ≤ length k.past = subst (λ b. cond b (epoch_end k.layout k.merger) (k.merger.merged * k.layout.cells) ≤ length k.past) has.frozen

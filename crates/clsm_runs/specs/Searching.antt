@@ -1,5 +1,5 @@
 -- What a search of a held component's runs asks, and what its parts find.
-use Rattle.std.specs.Prelude.{◌≡◌, ℕ, ◌-◌, ◌*◌, ◌/◌, ◌%◌, ◌<◌, ◌≤◌, ◌⊎◌, true, List, [], ◌∷◌, ◌++◌, length, Option, Some, None}
+use Rattle.std.specs.Prelude.{◌≡◌, ℕ, ◌-◌, ◌/◌, ◌%◌, ◌<◌, ◌≤◌, ◌⊎◌, true, List, [], ◌∷◌, ◌++◌, Option, Some, None}
 use Rattle.clsm_levels.specs.declared.entry.Entry.{Entry}
 use Rattle.clsm_levels.specs.declared.place.Place.TheVariants.{LevelOne}
 use Rattle.clsm_levels.specs.Entry.{first_below}
@@ -27,16 +27,29 @@ entry_word k place entry part = row_of k (EntryWord place entry part)
 
 -- ---- what is asked
 
--- the place is one of the held component, whose runs the seat knows
+-- the place is one of the held component
 pub record IsSearchable (k : Known) (component place : ℕ) : Type 0 where
   pub held : k.view.held ≡ Some component
-  pub known : component * k.layout.cells ≤ length k.past
   pub named : is_named component place ≡ true
 
 -- and its run has the entry
 pub record HasEntry (k : Known) (component place entry : ℕ) : Type 0 where
   pub run : IsSearchable k component place
   pub inside : entry < count_of k place
+
+-- ---- the rest of a run
+
+-- of the n entries of the place those from the entry i on
+abbrev pub rest_from : Memory → ℕ → ℕ → ℕ → List Entry
+rest_from memory place n i = entries_from memory place i (n - i)
+
+-- from the entry at the position on, the run's search finds for each key from `from` on what it
+-- finds in the whole run
+pub record StandsFrom (k : Known) (place until from position : ℕ) : Type 0 where
+  pub within : position ≤ count_of k place
+  pub passed : (key : ℕ) → from ≤ key →
+      first_below (run_at k place) key until
+      ≡ first_below (rest_from (row_of k) place (count_of k place) position) key until
 
 -- ---- a search by halving
 
@@ -50,20 +63,17 @@ IsSide memory place entry key until (Before found) = ComesEarlier key until (ent
 IsSide memory place entry key until (Hit spelled) = (memory (EntryWord place entry 0) ≡ key) × (memory (EntryWord place entry 1) ≡ spelled) × ((entry_in memory place entry).time < until)
 IsSide memory place entry key until (Behind found) = key < memory (EntryWord place entry 0)
 
--- of the n entries of the place those from the entry i on
-abbrev pub rest_from : Memory → ℕ → ℕ → ℕ → List Entry
-rest_from memory place n i = entries_from memory place i (n - i)
-
 -- the entry high is of the key, and this is its time word, or no entry from there on is
 abbrev pub IsHitAt : Memory → ℕ → ℕ → ℕ → ℕ → ℕ → Option (ℕ × ℕ) → Type 0
 IsHitAt memory place n key until high None = first_below (rest_from memory place n high) key until ≡ None
 IsHitAt memory place n key until high (Some hit) = (hit.0 ≡ high) × (high < n) × IsSide memory place high key until (Hit hit.1)
 
--- of the run, none before the span is the first of the key with a time below until, and behind it what was hit is the first, or none is
+-- of the run, none before the span is found for the key or a greater one, and behind it what was
+-- hit is the first of the key with a time below until, or none is
 pub record IsSpan (k : Known) (place key until : ℕ) (span : Span) : Type 0 where
   pub order : span.low ≤ span.high
   pub within : span.high ≤ count_of k place
-  pub skipped : first_below (run_at k place) key until ≡ first_below (rest_from (row_of k) place (count_of k place) span.low) key until
+  pub stands : StandsFrom k place until key span.low
   pub at_high : IsHitAt (row_of k) place (count_of k place) key until span.high span.hit
 
 -- the first entry of the key with a time below until, by its number and its time word

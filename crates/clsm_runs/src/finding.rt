@@ -5,7 +5,7 @@ ghost use Rattle.clsm_law.specs.Places.{is_named, entries_in};
 ghost use Rattle.clsm_words.specs.Knowing.{row_of};
 ghost use Rattle.clsm_words.specs.Keeping.{LooksAside};
 ghost use Rattle.clsm_words.specs.Plays.{IsSeatOf};
-ghost use Rattle.clsm_runs.specs.Searching.{HasEntry, IsPosition, IsSearchable, IsSide};
+ghost use Rattle.clsm_runs.specs.Searching.{HasEntry, IsPosition, IsSearchable, IsSide, StandsFrom};
 
 use crate::reading::{KEY, TIME, count, entry, part};
 use crate::side::{Side, Span, Turn};
@@ -44,20 +44,22 @@ fn compare<P: Pace>(
     }
 }
 
-/// The first entry of the key with a time below `until`, by its number and its time word.
-fn position<P: Pace>(
+/// The empty span at the first entry of the key with a time below `until`, which it then hit; where
+/// there is none, at the first entry of a greater key, or at the run's end.
+pub(crate) fn bound<P: Pace>(
     words: &Words<P>,
     seat: &mut RawSeat,
     component: u64,
     place: u64,
     key: u64,
     until: Time,
-) -> Option<(u64, u64)>
+) -> Span
     requires of { IsSeatOf words.now seat.old }
     requires run { IsSearchable seat.old.knows component place }
     ensures of { IsSeatOf words.now seat.new }
     ensures looks { LooksAside seat.old.knows seat.new.knows }
-    ensures found { IsPosition seat.old.knows place key until result }
+    ensures stands { StandsFrom seat.old.knows place until key result.low }
+    ensures found { IsPosition seat.old.knows place key until result.hit }
 {
     seat.is_sound();
     let mut span = Span::whole(count(words, seat, component, place));
@@ -73,13 +75,13 @@ fn position<P: Pace>(
             Side::Behind(found) => (span.high, span.high_key, span.hit) = (at, found, None),
         }
     }
-    span.hit
+    span
 }
 
 /// The first entry of the key with a time below `until` in the run at the place, which the held component names. The run's last and first keys
 /// may exclude the key; else the search guesses by how evenly the keys stand, and halves in turn. As in LevelDB
 /// the newest entry of a key stands first, so it is the newest version below `until`; a removal is found as an entry without a value. Only the
-/// found entry's value is read. It never waits, takes no memory and is never refused. The seat has to know all that was merged into its component.
+/// found entry's value is read. It never waits, takes no memory and is never refused.
 pub fn find<P: Pace>(
     words: &Words<P>,
     seat: &mut RawSeat,
@@ -91,11 +93,10 @@ pub fn find<P: Pace>(
     requires of { IsSeatOf words.now seat.old }
     requires held { seat.old.knows.view.held ≡ Some component }
     requires named { is_named component place ≡ true }
-    requires known { component * seat.old.knows.layout.cells ≤ length seat.old.knows.past }
     ensures of { IsSeatOf words.now seat.new }
     ensures looks { LooksAside seat.old.knows seat.new.knows }
     ensures found { result ≡ first_below (entries_in (row_of seat.old.knows) place) key until }
 {
-    let (number, spelled) = position(words, seat, component, place, key, until)?;
+    let (number, spelled) = bound(words, seat, component, place, key, until).hit?;
     Some(entry(words, seat, component, place, number, key, spelled))
 }

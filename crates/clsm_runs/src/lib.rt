@@ -4,6 +4,7 @@
 mod finding;
 mod merging;
 mod output;
+mod passing;
 mod reading;
 mod rows;
 mod searching;
@@ -13,4 +14,5 @@ mod writing;
 
 pub use finding::find;
 pub use merging::{RunFull, merge};
+pub use passing::{next, seek};
 pub use searching::search;

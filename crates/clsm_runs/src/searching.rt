@@ -16,7 +16,7 @@ const LEVEL_ONE: u64 = 3;
 
 /// The newest entry of the key with a time below `until` in the runs of the held component: through the runs of level 0, the newest first,
 /// and then that of level 1, up to the first that has one. This is LevelDB's order: each run holds newer versions of a key than those
-/// behind it. It never waits, takes no memory and is never refused. The seat has to know all that was merged into its component.
+/// behind it. It never waits, takes no memory and is never refused.
 pub fn search<P: Pace>(
     words: &Words<P>,
     seat: &mut RawSeat,
@@ -26,7 +26,6 @@ pub fn search<P: Pace>(
 ) -> Option<Entry>
     requires of { IsSeatOf words.now seat.old }
     requires held { seat.old.knows.view.held ≡ Some component }
-    requires known { component * seat.old.knows.layout.cells ≤ length seat.old.knows.past }
     ensures of { IsSeatOf words.now seat.new }
     ensures looks { LooksAside seat.old.knows seat.new.knows }
     ensures found { result ≡ first_in_runs (runs_of (row_of seat.old.knows) component) key until }

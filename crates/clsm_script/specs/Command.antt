@@ -4,7 +4,8 @@ use Rattle.std.specs.Str.Parse.{digits_value}
 use Rattle.clsm_script.specs.Number.{IsNumber, IsValue, value_of}
 use Rattle.clsm_script.specs.declared.command.Command.{Command}
 use Rattle.clsm_script.specs.declared.command.Command.TheVariants.{Put, Remove, Try, Add, Claim}
-use Rattle.clsm_script.specs.declared.command.Command.TheVariants.{Get, Freeze, Merge, Reclaim}
+use Rattle.clsm_script.specs.declared.command.Command.TheVariants.{Get, Snap, Close, GetAt}
+use Rattle.clsm_script.specs.declared.command.Command.TheVariants.{Freeze, Merge, Reclaim}
 
 -- the text writes this number
 abbrev pub WritesNumber : List ℕ → ℕ → Type 0
@@ -26,6 +27,9 @@ Says (Add key by) (name ∷ k ∷ d ∷ []) =
 Says (Claim key value) (name ∷ k ∷ v ∷ []) =
     (name ≡ codes "claim") × WritesNumber k key × WritesValue v value
 Says (Get key) (name ∷ k ∷ []) = (name ≡ codes "get") × WritesNumber k key
+Says Snap (name ∷ []) = name ≡ codes "snap"
+Says Close (name ∷ []) = name ≡ codes "close"
+Says (GetAt key) (name ∷ k ∷ []) = (name ≡ codes "getat") × WritesNumber k key
 Says Freeze (name ∷ []) = name ≡ codes "freeze"
 Says Merge (name ∷ []) = name ≡ codes "merge"
 Says Reclaim (name ∷ []) = name ≡ codes "reclaim"

@@ -1,18 +1,20 @@
 -- What the commands of a script make of a seat and of the merger's phase, and what they answer.
-use Rattle.std.specs.Prelude.{◌≡◌, Ok, Err}
+use Rattle.std.specs.Prelude.{◌≡◌, Some, None, Ok, Err}
 use Rattle.clsm_model.specs.declared.record.Deed.TheVariants as deeds
-use Rattle.clsm_store.specs.Seats.{SeatState, Answers, IsFull}
-use Rattle.clsm_store.specs.Trying.{RefusesTry}
+use Rattle.clsm_calls.specs.Seats.{SeatState, Answers, IsFull}
+use Rattle.clsm_calls.specs.Trying.{RefusesTry}
 use Rattle.clsm_script.specs.Changes.{added, claimed}
 use Rattle.clsm_store.specs.Phase.{Freezes, Merges, Reclaims}
 use Rattle.clsm_script.specs.declared.answer.Answer.{Answer}
 use Rattle.clsm_script.specs.declared.answer.Answer.TheVariants.{Write, Try as Tried}
-use Rattle.clsm_script.specs.declared.answer.Answer.TheVariants.{Change as Changed, Read}
+use Rattle.clsm_script.specs.declared.answer.Answer.TheVariants.{Change as Changed, Read, ReadAt}
+use Rattle.clsm_script.specs.declared.answer.Answer.TheVariants.{Snapshot, Close as Closed}
 use Rattle.clsm_script.specs.declared.answer.Answer.TheVariants.{Freeze as Froze, Merge as Merged}
 use Rattle.clsm_script.specs.declared.answer.Answer.TheVariants.{Reclaim as Reclaimed}
 use Rattle.clsm_script.specs.declared.command.Command.{Command}
 use Rattle.clsm_script.specs.declared.command.Command.TheVariants.{Put, Remove, Try, Add, Claim}
-use Rattle.clsm_script.specs.declared.command.Command.TheVariants.{Get, Freeze, Merge, Reclaim}
+use Rattle.clsm_script.specs.declared.command.Command.TheVariants.{Get, Snap, Close, GetAt}
+use Rattle.clsm_script.specs.declared.command.Command.TheVariants.{Freeze, Merge, Reclaim}
 use Rattle.clsm_store.specs.declared.phase.Phase.{Phase}
 
 -- the command takes the seat from its old state to the new one, and is answered so
@@ -30,6 +32,13 @@ Plays (Claim key v) old new (Changed (Ok rmw)) =
     Answers old new rmw.time (deeds.Rmw key rmw.old rmw.change) × (rmw.change ≡ claimed rmw.old v)
 Plays (Claim key v) old new (Changed (Err full)) = IsFull old new full.time
 Plays (Get key) old new (Read got) = Answers old new got.time (deeds.Get key got.value)
+Plays Snap old new (Snapshot (Ok t)) = Answers old new t deeds.Snapshot
+Plays Snap old new (Snapshot (Err refusal)) = (new ≡ old) × (old.snapshot ≡ Some refusal.time)
+Plays Close old new (Closed (Some t)) = Answers old new t deeds.Close
+Plays Close old new (Closed None) = (new ≡ old) × (old.snapshot ≡ None)
+Plays (GetAt key) old new (ReadAt (Some got)) =
+    Answers old new got.time (deeds.GetAt key got.value)
+Plays (GetAt key) old new (ReadAt None) = (new ≡ old) × (old.snapshot ≡ None)
 Plays Freeze old new (Froze _) = new ≡ old
 Plays Merge old new (Merged _) = new ≡ old
 Plays Reclaim old new (Reclaimed _) = new ≡ old

@@ -1,5 +1,5 @@
 use clsm_model::{Change, Time, Value};
-use clsm_store::{FreezeError, Full, Got, MergeError, ReclaimError, Rmw, TryPutError};
+use clsm_store::{FreezeError, Full, Got, MergeError, Open, ReclaimError, Rmw, TryPutError};
 use std::fmt;
 
 /// What a command answers. It is shown as the program writes it.
@@ -13,6 +13,12 @@ pub enum Answer {
     Change(Result<Rmw, Full>),
     /// `V @T`, or `none @T` where the key has no value.
     Read(Got),
+    /// `snap @T`, or `open @T` where a snapshot of that time is open.
+    Snapshot(Result<Time, Open>),
+    /// `closed @T`, or `no snapshot`.
+    Close(Option<Time>),
+    /// As a read, or `no snapshot`.
+    ReadAt(Option<Got>),
     /// `frozen E`, the number of the frozen epoch; or why none was frozen: `not clean` or `worn`.
     Freeze(Result<u64, FreezeError>),
     /// `merged M`, the new number of merges; or why nothing was merged: `not frozen` or `run full`.
@@ -30,7 +36,13 @@ impl fmt::Display for Answer {
             Answer::Try(Err(refusal)) => write!(f, "{refusal}"),
             Answer::Change(Ok(rmw)) => write_change(f, rmw),
             Answer::Change(Err(refusal)) => write!(f, "{refusal}"),
-            Answer::Read(got) => write!(f, "{} @{}", Shown(&got.value), got.time),
+            Answer::Read(got) | Answer::ReadAt(Some(got)) => {
+                write!(f, "{} @{}", Shown(&got.value), got.time)
+            }
+            Answer::Snapshot(Ok(time)) => write!(f, "snap @{time}"),
+            Answer::Snapshot(Err(refusal)) => write!(f, "{refusal}"),
+            Answer::Close(Some(time)) => write!(f, "closed @{time}"),
+            Answer::Close(None) | Answer::ReadAt(None) => write!(f, "no snapshot"),
             Answer::Freeze(Ok(epoch)) => write!(f, "frozen {epoch}"),
             Answer::Freeze(Err(refusal)) => write!(f, "{refusal}"),
             Answer::Merge(Ok(merges)) => write!(f, "merged {merges}"),

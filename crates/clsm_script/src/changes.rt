@@ -1,7 +1,7 @@
 //! What commands make of a key's value.
 ghost use Rattle.std.specs.Prelude.{◌≡◌, ◌∷◌, [], IfOk, IfErr};
 ghost use Rattle.clsm_model.specs.declared.record.Deed.TheVariants.{Rmw as ChangeOf};
-ghost use Rattle.clsm_store.specs.Seats.{Answers, IsFull};
+ghost use Rattle.clsm_calls.specs.Seats.{Answers, IsFull};
 ghost use Rattle.clsm_script.specs.Changes.{added, claimed, word_sum};
 
 use clsm_model::{Change, Value};

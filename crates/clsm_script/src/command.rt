@@ -3,6 +3,7 @@ ghost use Rattle.std.specs.Prelude.{◌≡◌, ◌∷◌, [], IfSome, IfNone};
 use crate::answer::Answer;
 use crate::changes::{add, claim};
 use crate::number::{parse_number, parse_value};
+use crate::snapshots::get_at;
 use clsm_model::Value;
 use clsm_store::{Pace, Phase, Seat, Store};
 use std::sync::Wait;
@@ -23,6 +24,12 @@ pub enum Command {
     Claim { key: u64, value: Value },
     /// `get K`: reads the value at the key.
     Get { key: u64 },
+    /// `snap`: opens a snapshot, where none is open.
+    Snap,
+    /// `close`: closes the open snapshot.
+    Close,
+    /// `getat K`: reads the value at the key under the open snapshot.
+    GetAt { key: u64 },
     /// `freeze`: freezes the current epoch, so that writers go on in the next.
     Freeze,
     /// `merge`: merges the frozen epoch into a sorted run.
@@ -56,6 +63,8 @@ impl Command {
         ensures refused { IfNone result (SaysNone (name.now ∷ [])) }
     {
         match name {
+            "snap" => Some(Command::Snap),
+            "close" => Some(Command::Close),
             "freeze" => Some(Command::Freeze),
             "merge" => Some(Command::Merge),
             "reclaim" => Some(Command::Reclaim),
@@ -72,6 +81,7 @@ impl Command {
         match name {
             "remove" => Some(Command::Remove { key }),
             "get" => Some(Command::Get { key }),
+            "getat" => Some(Command::GetAt { key }),
             _ => None,
         }
     }
@@ -120,6 +130,9 @@ impl Command {
             Command::Add { key, by } => Answer::Change(add(rt, store, seat, key, by)),
             Command::Claim { key, value } => Answer::Change(claim(rt, store, seat, key, value)),
             Command::Get { key } => Answer::Read(store.get(seat, key)),
+            Command::Snap => Answer::Snapshot(store.snapshot(seat)),
+            Command::Close => Answer::Close(store.close_snapshot(seat)),
+            Command::GetAt { key } => Answer::ReadAt(get_at(store, seat, key)),
             Command::Freeze => {
                 let (phase, answer) = phase.freeze(rt, store);
                 return (phase, Answer::Freeze(answer));

@@ -9,6 +9,7 @@ mod input;
 mod line;
 mod number;
 mod playing;
+mod snapshots;
 #[cfg(test)]
 mod tests;
 

@@ -1,12 +1,4 @@
-pub mod Rest
 pub mod Starts
-pub mod Found
-pub mod Unchanged
-pub mod Giving
-pub mod Changed
-pub mod LastTimes
-pub mod Quiet
-pub mod Cleaning
-pub mod Rounds
-pub mod Prepared
-pub mod Publishing
+mod SeatPlaces
+mod Chained
+mod Joint

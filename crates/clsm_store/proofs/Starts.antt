@@ -7,8 +7,8 @@ use Rattle.clsm_law.specs.Relation.{open_time}
 use Rattle.clsm_words.specs.declared.words.WordTable.{WordTable}
 use Rattle.clsm_words.specs.Seats.{RawState as RawState}
 use Rattle.clsm_words.specs.Plays.{IsSeatOf, IsFresh, AreFreshFrom}
-use Rattle.clsm_store.specs.Seats.{SeatState, StoreId, AreNew, newcomer}
-use Rattle.clsm_store.specs.Resting.{IsAtRest, IsSettled, seat_of, store_of}
+use Rattle.clsm_calls.specs.Seats.{SeatState, StoreId, AreNew, newcomer}
+use Rattle.clsm_calls.specs.Resting.{IsAtRest, IsSettled, seat_of, store_of}
 
 -- one seat more
 pub new_more : (store : StoreId) (n : ℕ) (seats : List SeatState) (x : SeatState) → AreNew store n seats → x ≡ newcomer store n → AreNew store (n + 1) (seats ++ x ∷ [])

@@ -1,13 +1,6 @@
-pub mod Tally
-pub mod Seats
-pub mod Resting
-pub mod Reading
-pub mod Changing
-pub mod Flooring
-pub mod Freezing
-pub mod Merging
-pub mod Reclaiming
-pub mod Trying
+pub mod Headline
+pub mod Meetings
+pub mod Settling
 pub mod Opening
 pub mod Phase
 pub mod Sweeping

@@ -1,9 +1,9 @@
 -- What the merger's commands make of its token, and what they answer.
 use Rattle.std.specs.Prelude.{◌≡◌, ℕ, ◌+◌, ◌*◌, ◌^◌, ◌<◌, ⊤, Result, Ok, Err}
 use Rattle.clsm_law.specs.Relation.{next_word}
-use Rattle.clsm_store.specs.Seats.{MergerState}
-use Rattle.clsm_store.specs.Merging.{IsRunFull, TakesFloor}
-use Rattle.clsm_store.specs.Reclaiming.{IsLowestLoud}
+use Rattle.clsm_calls.specs.Seats.{MergerState}
+use Rattle.clsm_calls.specs.Merging.{IsRunFull, TakesFloor}
+use Rattle.clsm_calls.specs.Reclaiming.{IsLowestLoud}
 use Rattle.clsm_store.specs.declared.phase.Phase.{Phase}
 use Rattle.clsm_store.specs.declared.phase.Phase.TheVariants.{Clean, Frozen, Retired}
 use Rattle.clsm_store.specs.declared.phase.FreezeError.{FreezeError}

@@ -1,6 +1,6 @@
 -- A sweep: a freeze, a merge and a reclaim, as far as these go.
 use Rattle.std.specs.Prelude.{◌≡◌, ℕ, ◌+◌, ◌*◌, ◌^◌, ◌<◌, ⊤, Result, Ok, Err}
-use Rattle.clsm_store.specs.Merging.{IsRunFull}
+use Rattle.clsm_calls.specs.Merging.{IsRunFull}
 use Rattle.clsm_store.specs.declared.phase.Phase.{Phase}
 use Rattle.clsm_store.specs.declared.phase.Phase.TheVariants.{Clean, Frozen, Retired}
 use Rattle.clsm_store.specs.declared.sweeping.Stopped.{Stopped}

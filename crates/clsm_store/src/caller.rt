@@ -1,14 +1,13 @@
-//! A caller with its store: the calls of the store, with nothing to ask for.
-ghost use Rattle.std.specs.Prelude.{◌≡◌, IfOk, IfErr};
-ghost use Rattle.clsm_model.specs.declared.record.Deed.TheVariants.{Get, Put, Remove, Rmw as ChangeOf};
-ghost use Rattle.clsm_store.specs.Seats.{Answers, GivesUpForWrites, IsFull};
-ghost use Rattle.clsm_store.specs.Tally.{CancelsNone, CountsTry, TakesLockOnce, TakesNoLock};
-ghost use Rattle.clsm_store.specs.Trying.{RefusesTry};
+//! A caller with its store: the calls of the store. Only `get_at` asks for an open snapshot.
+ghost use Rattle.std.specs.Prelude.{◌≡◌, ◌≢◌, None, Some, IfNone, IfOk, IfErr, IfSome};
+ghost use Rattle.clsm_model.specs.declared.record.Deed.TheVariants.{Close, Get, GetAt, Put, Remove, Rmw as ChangeOf, Snapshot};
+ghost use Rattle.clsm_calls.specs.Seats.{Answers, GivesUpForWrites, IsFull};
+ghost use Rattle.clsm_calls.specs.Tally.{CancelsNone, CountsTry, TakesLockOnce, TakesNoLock};
+ghost use Rattle.clsm_calls.specs.Trying.{RefusesTry};
 
-use crate::got::{Got, Rmw};
-use crate::refusal::{Full, TryPutError};
 use crate::seat::Seat;
 use crate::store::Store;
+use clsm_calls::{Full, Got, Open, Rmw, TryPutError};
 use clsm_model::{Change, Time, Value};
 use clsm_words::Pace;
 use std::sync::Wait;
@@ -83,5 +82,39 @@ impl<'a, P: Pace> Caller<'a, P> {
         ensures full { IfErr result (λ full. IsFull self.old.seat self.new.seat full.time) }
     {
         self.store.rmw(rt, &mut self.seat, key, f)
+    }
+
+    /// As `Store::snapshot`.
+    pub fn snapshot(&mut self) -> Result<Time, Open>
+        ensures opened { IfOk result (λ time. Answers self.old.seat self.new.seat time Snapshot) }
+        ensures lock { IfOk result (λ time. TakesNoLock self.old.seat.tally self.new.seat.tally) }
+        ensures open { IfErr result (λ refusal. (self.new.seat ≡ self.old.seat) × (self.old.seat.snapshot ≡ Some refusal.time)) }
+    {
+        self.store.snapshot(&mut self.seat)
+    }
+
+    /// As `Store::close_snapshot`.
+    pub fn close_snapshot(&mut self) -> Option<Time>
+        ensures closed { IfSome result (λ time. Answers self.old.seat self.new.seat time Close) }
+        ensures none { IfNone result ((self.new.seat ≡ self.old.seat) × (self.old.seat.snapshot ≡ None)) }
+        ensures lock { self.new.seat.tally ≡ self.old.seat.tally }
+    {
+        self.store.close_snapshot(&mut self.seat)
+    }
+
+    /// As `Store::get_at`.
+    pub fn get_at(&mut self, key: u64) -> Got
+        requires { self.old.seat.snapshot ≢ None }
+        ensures answers { Answers self.old.seat self.new.seat result.time (GetAt key result.value) }
+        ensures lock { self.new.seat.tally ≡ self.old.seat.tally }
+    {
+        self.store.get_at(&mut self.seat, key)
+    }
+
+    /// As `Seat::snapshot_time`.
+    pub fn snapshot_time(&self) -> Option<Time>
+        ensures { result ≡ self.now.seat.snapshot }
+    {
+        self.seat.snapshot_time()
     }
 }

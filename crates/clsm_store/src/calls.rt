@@ -1,19 +1,17 @@
 //! The calls of one seat.
-ghost use Rattle.std.specs.Prelude.{◌≡◌, IfOk, IfErr};
-ghost use Rattle.clsm_model.specs.declared.record.Deed.TheVariants.{Get, Put, Remove, Rmw as ChangeOf};
-ghost use Rattle.clsm_store.specs.Seats.{Answers, GivesUpForWrites, IsFull};
-ghost use Rattle.clsm_store.specs.Tally.{CancelsNone, CountsTry, TakesLockOnce, TakesNoLock};
-ghost use Rattle.clsm_store.specs.Trying.{RefusesTry};
+ghost use Rattle.std.specs.Prelude.{◌≡◌, ◌≢◌, None, Some, IfNone, IfOk, IfErr, IfSome};
+ghost use Rattle.clsm_model.specs.declared.record.Deed.TheVariants.{Close, Get, GetAt, Put, Remove, Rmw as ChangeOf, Snapshot};
+ghost use Rattle.clsm_calls.specs.Seats.{Answers, GivesUpForWrites, IsFull};
+ghost use Rattle.clsm_calls.specs.Tally.{CancelsNone, CountsTry, TakesLockOnce, TakesNoLock};
+ghost use Rattle.clsm_calls.specs.Trying.{RefusesTry};
 
-use crate::changing::change;
-use crate::got::{Got, Rmw};
-use crate::reading::read;
-use crate::refusal::{Full, TryPutError};
 use crate::seat::Seat;
 use crate::store::Store;
-use crate::trying::try_write;
-use crate::writing::write;
+use clsm_calls::{
+    Full, Got, Open, Rmw, TryPutError, change, open_at, read, read_under, try_write, write,
+};
 use clsm_model::{Change, Time, Value};
+use clsm_pins::close_snapshot;
 use clsm_words::Pace;
 use std::sync::Wait;
 
@@ -108,5 +106,52 @@ impl<P: Pace> Store<P> {
         );
         seat.pin = seat.pin.wrapping_add(2);
         answer
+    }
+
+    /// Opens a snapshot at a time of its own, which is the clock as the call found it: it reads the map of the writes below that time until it
+    /// is closed, through every merge (the cLSM paper's snapshot; LevelDB's). All below its time is decided when it answers. It takes no
+    /// lock and never waits. Refused with `Open` where the seat has an open snapshot, which stays; nothing was done then.
+    pub fn snapshot(&self, seat: &mut Seat) -> Result<Time, Open>
+        requires { seat.old.store ≡ self.now }
+        ensures opened { IfOk result (λ time. Answers seat.old seat.new time Snapshot) }
+        ensures lock { IfOk result (λ time. TakesNoLock seat.old.tally seat.new.tally) }
+        ensures open { IfErr result (λ refusal. (seat.new ≡ seat.old) × (seat.old.snapshot ≡ Some refusal.time)) }
+    {
+        if let Some(time) = seat.snapshot {
+            return Err(Open { time });
+        }
+        let time = open_at(&self.words, &mut seat.raw, seat.pin, self.words.patience());
+        seat.pin = seat.pin.wrapping_add(2);
+        seat.snapshot = Some(time);
+        Ok(time)
+    }
+
+    /// Closes the seat's snapshot, and answers its time, or `None` where none was open. Merges may then forget what only it read. It takes no
+    /// lock, never waits and is never refused.
+    pub fn close_snapshot(&self, seat: &mut Seat) -> Option<Time>
+        requires { seat.old.store ≡ self.now }
+        ensures closed { IfSome result (λ time. Answers seat.old seat.new time Close) }
+        ensures none { IfNone result ((seat.new ≡ seat.old) × (seat.old.snapshot ≡ None)) }
+        ensures lock { seat.new.tally ≡ seat.old.tally }
+    {
+        let time = seat.snapshot?;
+        close_snapshot(&self.words, &mut seat.raw, time);
+        seat.snapshot = None;
+        Some(time)
+    }
+
+    /// The value of the key below the time of the seat's open snapshot. It takes no lock, never waits and is never refused.
+    pub fn get_at(&self, seat: &mut Seat, key: u64) -> Got
+        requires of { seat.old.store ≡ self.now }
+        requires opened { seat.old.snapshot ≢ None }
+        ensures answers { Answers seat.old seat.new result.time (GetAt key result.value) }
+        ensures lock { seat.new.tally ≡ seat.old.tally }
+    {
+        let Some(time) = seat.snapshot else {
+            unreachable!()
+        };
+        let got = read_under(&self.words, &mut seat.raw, seat.pin, time, key);
+        seat.pin = seat.pin.wrapping_add(2);
+        got
     }
 }

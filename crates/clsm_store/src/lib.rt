@@ -3,36 +3,28 @@
 
 mod caller;
 mod calls;
-mod changing;
-mod flooring;
-mod freezing;
-mod got;
+mod joining;
+mod many;
 mod merger;
-mod merger_seat;
-mod merging;
 mod opening;
 mod phase;
-mod reading;
-mod reclaiming;
-mod refusal;
 mod seat;
+mod settling;
 mod store;
 mod sweeping;
+mod telling;
 #[cfg(test)]
 mod tests;
 mod tokens;
-mod trying;
-mod writing;
 
 pub use caller::Caller;
-pub use clsm_model::{Change, Config, Length, OpenError, Time, Value};
+pub use clsm_calls::{Full, Got, Open, Page, Pinned, Rmw, Scan, TryPutError, Worn};
+pub use clsm_model::{Change, Config, Length, Memory, OpenError, Rows, Time, Value};
 pub use clsm_runs::RunFull;
 pub use clsm_words::{Free, Pace};
-pub use got::{Got, Rmw};
 pub use merger::Merger;
 pub use opening::{Opened, open, open_paced};
 pub use phase::{FreezeError, MergeError, Phase, ReclaimError};
-pub use refusal::{Full, Pinned, TryPutError, Worn};
 pub use seat::Seat;
 pub use store::Store;
 pub use sweeping::Stopped;

@@ -2,16 +2,16 @@
 ghost use Rattle.std.specs.Prelude.{◌≡◌, ◌<◌, ◌+◌, vec_len, All, IfOk, IfErr, OnOk};
 ghost use Rattle.clsm_model.specs.Config.{IsSound};
 ghost use Rattle.clsm_words.specs.Plays.{AreFreshFrom, IsFreshMerger};
-ghost use Rattle.clsm_store.specs.Freezing.{IsClean};
-ghost use Rattle.clsm_store.specs.Merging.{IsReady, merger_of};
-ghost use Rattle.clsm_store.specs.Seats.{AreNew, HasSizes, IsNewMerger};
+ghost use Rattle.clsm_calls.specs.Freezing.{IsClean};
+ghost use Rattle.clsm_calls.specs.Merging.{IsReady, merger_of};
+ghost use Rattle.clsm_calls.specs.Seats.{AreNew, HasSizes, IsNewMerger};
 ghost use Rattle.clsm_store.specs.Opening.{IsRefusal};
-ghost use Rattle.clsm_store.specs.Resting.{store_of};
+ghost use Rattle.clsm_calls.specs.Resting.{store_of};
 
-use crate::merger_seat::MergerSeat;
 use crate::seat::Seat;
 use crate::store::Store;
 use crate::tokens::Clean;
+use clsm_calls::MergerSeat;
 use clsm_law::{Layout, Reader};
 use clsm_model::{Config, OpenError};
 use clsm_words::{Free, Pace, RawMerger, RawSeat, Words};

@@ -17,8 +17,8 @@ pub struct Seat {
 impl Model for Seat {
     ghost use Rattle.std.specs.Prelude.{◌≡◌};
     ghost use Rattle.clsm_law.specs.Relation.{open_time};
-    ghost use Rattle.clsm_store.specs.Seats.{SeatState};
-    ghost use Rattle.clsm_store.specs.Resting.{IsAtRest, seat_of};
+    ghost use Rattle.clsm_calls.specs.Seats.{SeatState};
+    ghost use Rattle.clsm_calls.specs.Resting.{IsAtRest, seat_of};
 
     ghost Value = { SeatState };
 
@@ -29,7 +29,7 @@ impl Model for Seat {
 
 impl Seat {
     ghost use Rattle.std.specs.Prelude.{◌≡◌};
-    ghost use Rattle.clsm_store.specs.Seats.{IsLawfulAlone};
+    ghost use Rattle.clsm_calls.specs.Seats.{IsLawfulAlone};
 
     /// Its number, from 0 to the number of seats less 1.
     #[inline]

@@ -4,8 +4,8 @@ ghost use Rattle.clsm_store.specs.Phase.{merger_in};
 ghost use Rattle.clsm_store.specs.Sweeping.{IsFrozenOn, IsMergedOn, IsSwept, Stops};
 
 use crate::phase::Phase;
-use crate::refusal::{Pinned, Worn};
 use crate::store::Store;
+use clsm_calls::{Pinned, Worn};
 use clsm_runs::RunFull;
 use clsm_words::Pace;
 use std::sync::Wait;

@@ -1,7 +1,7 @@
 //! Stores and their seats, as the tests use them. At most one allocation of a run is made to fail: a call that is refused memory is made
 //! once more.
 ghost use Rattle.std.specs.Prelude.{◌≡◌, length};
-ghost use Rattle.clsm_store.specs.Seats.{AreNew, IsNewMerger};
+ghost use Rattle.clsm_calls.specs.Seats.{AreNew, IsNewMerger};
 
 use super::*;
 use clsm_model::{Time, Value};
@@ -22,6 +22,7 @@ mod opening;
 mod paced;
 mod replay;
 mod replay_merges;
+mod snapshots;
 mod threads;
 
 const FOUR_CELLS: Config = Config {

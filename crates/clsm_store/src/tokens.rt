@@ -1,14 +1,10 @@
 //! The merger's tokens, one for each phase, and what it does in each.
 ghost use Rattle.std.specs.Prelude.{◌≡◌, ◌+◌, ◌*◌, ◌^◌, ◌<◌, IfOk, IfErr};
 ghost use Rattle.clsm_law.specs.Relation.{next_word};
-ghost use Rattle.clsm_store.specs.Merging.{IsRunFull, TakesFloor};
+ghost use Rattle.clsm_calls.specs.Merging.{IsRunFull, TakesFloor};
 
-use crate::freezing::freeze;
-use crate::merger_seat::MergerSeat;
-use crate::merging::merge;
-use crate::reclaiming::reclaim;
-use crate::refusal::{Pinned, Worn};
 use crate::store::Store;
+use clsm_calls::{MergerSeat, Pinned, Worn, freeze, merge, reclaim};
 use clsm_law::LAST_LIMIT;
 use clsm_runs::RunFull;
 use clsm_words::Pace;
@@ -22,9 +18,9 @@ pub struct Clean {
 }
 
 impl Model for Clean {
-    ghost use Rattle.clsm_store.specs.Seats.{MergerState};
-    ghost use Rattle.clsm_store.specs.Freezing.{IsClean};
-    ghost use Rattle.clsm_store.specs.Merging.{IsReady, merger_of};
+    ghost use Rattle.clsm_calls.specs.Seats.{MergerState};
+    ghost use Rattle.clsm_calls.specs.Freezing.{IsClean};
+    ghost use Rattle.clsm_calls.specs.Merging.{IsReady, merger_of};
 
     ghost Value = { MergerState };
 
@@ -42,9 +38,9 @@ pub struct Frozen {
 }
 
 impl Model for Frozen {
-    ghost use Rattle.clsm_store.specs.Seats.{FrozenState};
-    ghost use Rattle.clsm_store.specs.Freezing.{IsFrozen};
-    ghost use Rattle.clsm_store.specs.Merging.{IsReady, frozen_of};
+    ghost use Rattle.clsm_calls.specs.Seats.{FrozenState};
+    ghost use Rattle.clsm_calls.specs.Freezing.{IsFrozen};
+    ghost use Rattle.clsm_calls.specs.Merging.{IsReady, frozen_of};
 
     ghost Value = { FrozenState };
 
@@ -61,8 +57,8 @@ pub struct Retired {
 }
 
 impl Model for Retired {
-    ghost use Rattle.clsm_store.specs.Seats.{RetiredState};
-    ghost use Rattle.clsm_store.specs.Merging.{IsRetiring, retired_of};
+    ghost use Rattle.clsm_calls.specs.Seats.{RetiredState};
+    ghost use Rattle.clsm_calls.specs.Merging.{IsRetiring, retired_of};
 
     ghost Value = { RetiredState };
 
@@ -137,7 +133,7 @@ impl Frozen {
 }
 
 impl Retired {
-    ghost use Rattle.clsm_store.specs.Reclaiming.{IsLowestLoud};
+    ghost use Rattle.clsm_calls.specs.Reclaiming.{IsLowestLoud};
 
     /// The number of merges so far.
     #[inline]

@@ -1,6 +1,8 @@
 -- What a seat that holds a component may search, by what the law says of its runs.
-use Rattle.std.proofs.Common.{◌≡◌, ℕ, ◌+◌, ◌-◌, ◌*◌, ◌<◌, ◌≤◌, ⊎_elim, Bool, true, List, length, refl, sym, ap, subst, arith, Some}
+use Rattle.std.proofs.Common.{◌≡◌, ◌≢◌, ◌∙◌, unwrap_or, Option, None, ℕ, ◌+◌, ◌-◌, ◌*◌, ◌<◌, ◌≤◌, ⊎_elim, Bool, true, List, length, refl, sym, ap, subst, arith, Some}
+use Rattle.std.specs.List.{AllByRecursion}
 use Rattle.clsm_model.specs.declared.slot.Slot.{Slot}
+use Rattle.clsm_model.specs.declared.slot.Slot.TheVariants.{Nothing, Wrote}
 use Rattle.clsm_model.specs.History.{plain}
 use Rattle.clsm_law.specs.declared.word.Word.{Word}
 use Rattle.clsm_law.specs.declared.word.Word.TheVariants.{Count, Entry}
@@ -8,13 +10,18 @@ use Rattle.clsm_law.specs.declared.view.SnapshotState.{SnapshotState}
 use Rattle.clsm_law.specs.declared.view.SnapshotState.TheVariants.{Open}
 use Rattle.clsm_law.specs.Memory.{Memory}
 use Rattle.clsm_law.specs.Places.{is_named}
-use Rattle.clsm_law.specs.Relation.{or_zero, open_time}
+use Rattle.clsm_law.specs.Relation.{IsShort, or_zero, open_time}
 use Rattle.clsm_law.specs.Merging.{is_retired}
-use Rattle.clsm_law.specs.Worlds.{history_of}
-use Rattle.clsm_law.specs.Law.{AreRuns, IsSnapshot, IsRetiredFor, each, held_of, pin_of, is_held_back}
-use Rattle.clsm_law.proofs.KeptRuns.{SamePlace, runs_stay}
-use Rattle.clsm_law.proofs.Setting.{Ground, not_all_quiet}
-use Rattle.clsm_words.specs.Knowing.{IsNamedWord}
+use Rattle.clsm_levels.specs.declared.entry.Entry.{Entry as RunEntry}
+use Rattle.clsm_levels.specs.Entry.{IsWriteOf}
+use Rattle.clsm_levels.specs.Run.{all_of}
+use Rattle.clsm_levels.proofs.Every.{every_weaker}
+use Rattle.clsm_law.specs.Worlds.{history_of, outcome_at, runs_of}
+use Rattle.clsm_law.specs.Law.{AreRuns, IsSnapshot, IsRetiredFor, each, first_live, held_of, pin_of, is_held_back}
+use Rattle.clsm_law.proofs.KeptRuns.{SamePlace, runs_stay, settled_at}
+use Rattle.clsm_law.proofs.Histories.{value-same}
+use Rattle.clsm_law.proofs.Setting.{Ground, clock_live, live_below_shown, not_all_quiet, shown_below_merged}
+use Rattle.clsm_words.specs.Knowing.{AreReadable, IsNamedWord}
 use Rattle.clsm_words.specs.Ruled.{Begins, HasFloor}
 use Rattle.clsm_words.proofs.Beginnings.{begins_settled}
 
@@ -30,6 +37,30 @@ held_back g i c lt e before = ⊎_elim
     (λ (r : IsRetiredFor g.merger i (each g.z pin_of g.views i) c).
     let loud = not_all_quiet g.merger.readers i (let a = g.law.merger.seats in let b = g.law.seated in omega arith) r.loud in rw (r.retired, loud) refl)
     (g.law.held i c e).1
+
+-- the clock is within the two epochs of what is held
+end_within : (c n x live : ℕ) → live ≤ c * n → x ≤ live + 2 * n → x ≤ (c + 2) * n
+end_within c n x live h until = omega arith
+
+start_within : (c n x : ℕ) → (c + 1) * n ≤ x → c * n ≤ x
+start_within c n x h = omega arith
+
+pub clock_near : (g : Ground) (i c : ℕ) → each g.z held_of g.views i ≡ Some c → (c * g.z.cells ≤ length g.slots) × (length g.slots ≤ (c + 2) * g.z.cells)
+clock_near g i c held = ⊎_elim
+    (λ (same : c ≡ g.merger.merged). let low = live_below_shown g in let high = shown_below_merged g in
+    subst (λ (m : ℕ). (m * g.z.cells ≤ length g.slots) × (length g.slots ≤ (m + 2) * g.z.cells)) (sym same) (g.law.begun, end_within g.merger.merged g.z.cells (length g.slots) (first_live g.z g.merger) (omega arith) (clock_live g)))
+    (λ (retired : IsRetiredFor g.merger i (each g.z pin_of g.views i) c).
+    let end : g.merger.merged ≡ c + 1 = sym retired.before in
+    let start : g.merger.merged - 1 ≡ c = omega arith in
+    let live : first_live g.z g.merger ≡ c * g.z.cells = rw (retired.retired, start) refl in
+    let first : (c + 1) * g.z.cells ≤ length g.slots = subst (λ (m : ℕ). m * g.z.cells ≤ length g.slots) end g.law.begun in
+    (start_within c g.z.cells (length g.slots) first, end_within c g.z.cells (length g.slots) (first_live g.z g.merger) (omega arith) (clock_live g)))
+    (g.law.held i c held).1
+
+-- a slot that is a write was decided so
+written : (o : Option Slot) (slot : Slot) → slot ≢ Nothing → unwrap_or o Nothing ≡ slot → o ≡ Some slot
+written None slot some e = absurd (some (sym e))
+written (Some x) slot some e = ap (λ (s : Slot). Some s) e
 
 module _ (g : Ground) (i c floor : ℕ) (row : Memory) (past : List Slot) (b : Begins g.slots past) (lt : i < length g.views) (held : each g.z held_of g.views i ≡ Some c) (has : HasFloor g.merger c floor) (knows : (word : Word) → IsNamedWord c word → row word ≡ g.memory word) where
   pub floor_below : floor ≤ c * g.z.cells
@@ -56,5 +87,20 @@ module _ (g : Ground) (i c floor : ℕ) (row : Memory) (past : List Slot) (b : B
       subst (λ (y : ℕ × ℕ). AreRuns g.z g.memory (history_of g.slots) y.0 y.1) (λ j. (one j, sym h.2 j)) (g.law.former_runs (held_back g i c lt held h.0)))
       has
 
-  pub runs_held : c * g.z.cells ≤ length past → AreRuns g.z row (plain past) c floor
-  runs_held reaches = runs_stay g.z g.memory row (history_of g.slots) (plain past) c floor (λ t low. begins_settled g.slots past b t (omega arith)) same_named runs_there
+  -- and of the words that the seat knows
+  runs_here : AreRuns g.z row (history_of g.slots) c floor
+  runs_here = runs_stay g.z g.memory row (history_of g.slots) (history_of g.slots) c floor (λ t low. refl) same_named runs_there
+
+  -- each of its entries is a write of a slot, and short
+  short_entry : (e : RunEntry) → IsWriteOf (history_of g.slots) e → IsShort e.value
+  short_entry e write = g.law.short e.time write.0 e.key e.value (written (outcome_at g.slots e.time) (Wrote write.0 e.key e.value) (λ same. cc) (sym (settled_at g.slots e.time) ∙ write.1))
+
+  pub runs_held : AreReadable g.z row (plain past) c floor
+  runs_held = record {
+    exact = λ key s from until. runs_here.content.exact key s from (omega arith) ∙ sym (value-same (history_of g.slots) (plain past) key s (λ t lt. begins_settled g.slots past b t (omega arith)));
+    order = runs_here.content.order;
+    older = runs_here.content.older;
+    short = every_weaker (IsWriteOf (history_of g.slots)) (λ (e : RunEntry). IsShort e.value) short_entry (all_of (runs_of row c)) runs_here.content.writes;
+    counts = runs_here.counts;
+    canonical = runs_here.canonical;
+  }

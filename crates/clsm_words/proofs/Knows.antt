@@ -37,7 +37,7 @@ use Rattle.clsm_words.specs.declared.known.Known.{Known}
 use Rattle.clsm_words.specs.Knowing.{row_of, IsReading, Agrees, Opens, Sound}
 use Rattle.clsm_words.specs.Ruled.{world_of, IsSeated, Begins, Ruled}
 use Rattle.clsm_words.proofs.Beginnings.{begins_at}
-use Rattle.clsm_words.proofs.HeldRuns.{snapshot_above, floor_below, floor_least, runs_held}
+use Rattle.clsm_words.proofs.HeldRuns.{clock_near, snapshot_above, floor_below, floor_least, runs_held}
 
 -- where a step makes small numbers whatever it finds, it does so at 0
 small_look : (z : Layout) (word : Word) (x : ℕ) → IsSmallLook z word x → IsSmallLook z word 0
@@ -150,6 +150,7 @@ module _ (s : State ℕ Known) (k : Known) (r : Ruled k.layout s) (ok : IsSeated
       let there : (view_at k.layout r.views k.number).held ≡ Some c = ap (λ (u : View). u.held) ok.view ∙ held in
       let g = ground setting in
       record {
+        near = let long = past_long in let bound = past_bound in let clock = (clock_near g k.number c there).1 in omega arith;
         below_merged = floor_below g k.number c k.floor (row_of k) k.past own_past number_inside there (ok.floor c held) (ok.row c held);
         below_snapshot = λ t is.
             let least = floor_least g k.number c k.floor (row_of k) k.past own_past number_inside there (ok.floor c held) (ok.row c held) in

@@ -25,6 +25,7 @@ use Rattle.clsm_words.specs.declared.known.Known.{Known}
 use Rattle.clsm_words.specs.Knowing.{row_of, Opens, code_of, IsPartOf, IsNearHeld, Tells}
 use Rattle.clsm_words.specs.Ruled.{Begins, Ruled}
 use Rattle.clsm_words.proofs.Beginnings.{begins_at, begins_bound}
+use Rattle.clsm_words.proofs.HeldRuns.{clock_near}
 use Rattle.clsm_words.proofs.Knows.{number_inside, own_past}
 use Rattle.clsm_words.proofs.Played.{me_seated, word, found, next, before, finds, finds_word, same_memory}
 
@@ -37,12 +38,6 @@ shown_part memory cell (Wrote seat key written) Key there h = h.1
 shown_part memory cell (Wrote seat key written) Length there h = h.2
 shown_part memory cell (Wrote seat key written) (Value j) there h = h.3 j
 shown_part memory cell slot part there h = tt
-
-end_within : (c n x live : ℕ) → live ≤ c * n → x ≤ live + 2 * n → x ≤ (c + 2) * n
-end_within c n x live h until = omega arith
-
-start_within : (c n x : ℕ) → (c + 1) * n ≤ x → c * n ≤ x
-start_within c n x h = omega arith
 
 -- no more hold the lock shared than there are seats
 holders_below : (views : List View) → sum_by holders views ≤ length views
@@ -83,29 +78,11 @@ module _ (s : State ℕ Known) (id : ℕ) (k : Known) (r : Ruled k.layout s) (at
     -- the clock is within the two epochs of what is held
     clock_within : IsNearHeld k.layout k.view.held (length r.slots)
     clock_within = within k.view.held refl where
-      g : Ground
-      g = ground (before s id k r at sits step o)
-
-      begun : r.merger.merged * k.layout.cells ≤ length r.slots
-      begun = r.lawful.law.begun
-
-      until : length r.slots ≤ first_live k.layout r.merger + 2 * k.layout.cells
-      until = clock_live g
-
       within : (a : Option ℕ) → k.view.held ≡ a → IsNearHeld k.layout a (length r.slots)
       within None e = tt
       within (Some m) e =
           let ok = me_seated s id k r at sits step o in
-          ⊎_elim
-          (λ (same : m ≡ r.merger.merged). let low = live_below_shown g in let high = shown_below_merged g in
-          subst (λ (c : ℕ). (c * k.layout.cells ≤ length r.slots) × (length r.slots ≤ (c + 2) * k.layout.cells)) (sym same) (begun, end_within r.merger.merged k.layout.cells (length r.slots) (first_live k.layout r.merger) (omega arith) until))
-          (λ (retired : IsRetiredFor r.merger k.number (each k.layout pin_of r.views k.number) m).
-          let end : r.merger.merged ≡ m + 1 = sym retired.before in
-          let start : r.merger.merged - 1 ≡ m = omega arith in
-          let live : first_live k.layout r.merger ≡ m * k.layout.cells = rw (retired.retired, start) refl in
-          let first : (m + 1) * k.layout.cells ≤ length r.slots = subst (λ (c : ℕ). c * k.layout.cells ≤ length r.slots) end begun in
-          (start_within m k.layout.cells (length r.slots) first, end_within m k.layout.cells (length r.slots) (first_live k.layout r.merger) (omega arith) until))
-          (r.lawful.law.held k.number m (ap (λ (u : View). u.held) ok.view ∙ e)).1
+          clock_near (ground (before s id k r at sits step o)) k.number m (ap (λ (u : View). u.held) ok.view ∙ e)
 
   clock_found : (a : Option ℕ) (z : Layout) (x y : ℕ) → x ≡ y → IsNearHeld z a y → IsNearHeld z a x
   clock_found a z x y e h = subst (IsNearHeld z a) (sym e) h

@@ -1,12 +1,14 @@
 -- What a seat at the words knows: how it begins, what a step makes of it, and what each step tells it.
-use Rattle.std.specs.Prelude.{max, true, false, ◌≡◌, ℕ, ◌+◌, ◌-◌, ◌*◌, ◌%◌, ◌^◌, ◌<◌, ◌≤◌, ◌⊎◌, List, [], ◌∷◌, length, slice_index, slice_index_or, Option, Some, None}
+use Rattle.std.specs.Prelude.{max, min, true, false, ◌≡◌, ℕ, ◌+◌, ◌-◌, ◌*◌, ◌%◌, ◌^◌, ◌<◌, ◌≤◌, ◌⊎◌, List, [], ◌∷◌, length, slice_index, slice_index_or, Option, Some, None}
 use Rattle.std.specs.List.{AllByRecursion}
 use Rattle.std.proofs.Common.{arith}
 use mathlib.Core.List.{IsPrefix}
 use Rattle.clsm_model.specs.declared.slot.Slot.{Slot}
 use Rattle.clsm_model.specs.declared.slot.Slot.TheVariants.{Nothing, Wrote}
 use Rattle.clsm_model.specs.declared.record.CallRecord.{CallRecord}
-use Rattle.clsm_model.specs.History.{plain}
+use Rattle.clsm_model.specs.History.{History, end_of, plain}
+use Rattle.clsm_levels.specs.Entry.{AreBelow}
+use Rattle.clsm_levels.specs.Run.{IsExact, IsRun, all_of}
 use Rattle.clsm_law.specs.declared.layout.Layout.{Layout}
 use Rattle.clsm_law.specs.declared.word.Word.{Word}
 use Rattle.clsm_law.specs.declared.word.Word.TheVariants.{Lock, Clock, Head, Cell, State, Count, Entry}
@@ -17,10 +19,11 @@ use Rattle.clsm_law.specs.declared.step.Step.TheVariants.{Pin, Unpin, Look}
 use Rattle.clsm_law.specs.declared.view.View.{View}
 use Rattle.clsm_law.specs.declared.view.Mode.TheVariants.{Shared}
 use Rattle.clsm_law.specs.Codes.{exclusive_hold, cancelled_cell}
-use Rattle.clsm_law.specs.Memory.{Memory, cell_of, region_of, is_word}
+use Rattle.clsm_law.specs.Memory.{Memory, cell_of, region_of, is_word, room_of}
 use Rattle.clsm_law.specs.Layout.{memory}
 use Rattle.clsm_law.specs.Places.{is_named}
-use Rattle.clsm_law.specs.Law.{In, Distinct, AreRuns}
+use Rattle.clsm_law.specs.Worlds.{are_canonical, runs_of}
+use Rattle.clsm_law.specs.Law.{In, Distinct}
 use Rattle.clsm_law.specs.Relation.{IsShort, idle, length_of, words_of, state_of, open_time, HoldsFrom, IsOpen, word_of, view_after}
 use Rattle.clsm_law.specs.Merging.{opening, IsRunWord, place_of}
 use Rattle.clsm_law.specs.Machine.{opened}
@@ -77,12 +80,24 @@ pub record HasRows (z : Layout) (v : View) : Type 0 where
 abbrev pub row_of : Known → Memory
 row_of k = memory k.layout k.row
 
--- what it may search while it holds the component c: runs that are exact for its past from their floor on, which is below the merged
--- epochs and no open snapshot
+-- What a reader may rely on, however far its past goes: runs of a component in order, of times that are merged, whose values have at
+-- most eight words, which fit their places and say no more than their entries. They are exact for the history from their floor on, to
+-- its end or that of what is merged
+pub record AreReadable (z : Layout) (memory : Memory) (h : History) (component floor : ℕ) : Type 0 where
+  pub exact : IsExact (runs_of memory component) h floor (min (end_of h) (component * z.cells))
+  pub order : AllByRecursion IsRun (runs_of memory component)
+  pub older : AreBelow (component * z.cells) (all_of (runs_of memory component))
+  pub short : AllByRecursion (λ e. IsShort e.value) (all_of (runs_of memory component))
+  pub counts : (p : ℕ) → is_named component p ≡ true → memory (Count p) ≤ room_of z p
+  pub canonical : (p : ℕ) → is_named component p ≡ true → are_canonical memory p ≡ true
+
+-- what it may search while it holds the component c, whose two epochs its past is not beyond: runs that it may rely on, whose floor is below
+-- the merged epochs and no open snapshot
 pub record IsReading (k : Known) (c : ℕ) : Type 0 where
   pub below_merged : k.floor ≤ c * k.layout.cells
+  pub near : length k.past ≤ (c + 2) * k.layout.cells
   pub below_snapshot : (s : ℕ) → open_time k.view.snapshot ≡ Some s → k.floor ≤ s
-  pub runs : c * k.layout.cells ≤ length k.past → AreRuns k.layout (row_of k) (plain k.past) c k.floor
+  pub runs : AreReadable k.layout (row_of k) (plain k.past) c k.floor
 
 -- what a seat knows of itself: the words of its open steps are there, the numbers that these make fit 64 bits,
 -- its records are right in its past and agree with it, and their times rise to its due; its drawn time is in the epoch of the limit

@@ -1,6 +1,6 @@
 //! A seat is held at a step of its call until another seat's call is answered.
 ghost use Rattle.std.specs.Prelude.{◌≡◌};
-ghost use Rattle.clsm_store.specs.Seats.{AreNew};
+ghost use Rattle.clsm_calls.specs.Seats.{AreNew};
 
 use super::gate::{Gate, HELD, LET_GO, NOBODY, OPEN};
 use super::*;

@@ -19,7 +19,7 @@ impl WordTable {
     }
 
     /// A message takes in another: it carries the other's past and the greater of the dues.
-    pub(super) fn gather(&self, to: &mut Message, message: Message)
+    pub(super) fn join(&self, to: &mut Message, message: Message)
         requires to { IsMessageOf self.now to.old }
         requires message { IsMessageOf self.now message }
         ensures { IsMessageOf self.now to.new × (to.new.told ≡ message.told) × (to.new.heard ≡ max to.old.heard message.heard) }
@@ -50,12 +50,12 @@ impl<P: Pace> Words<P> {
     }
 
     /// A message takes in another: it carries the other's past and the greater of the dues.
-    pub fn gather(&self, to: &mut Message, message: Message)
+    pub fn join(&self, to: &mut Message, message: Message)
         requires to { IsMessageOf self.now to.old }
         requires message { IsMessageOf self.now message }
         ensures { IsMessageOf self.now to.new × (to.new.told ≡ message.told) × (to.new.heard ≡ max to.old.heard message.heard) }
     {
-        self.words.gather(to, message);
+        self.words.join(to, message);
     }
 
     /// The seat learns of the message. From its next step on its past begins with what it was told, or the other way round.

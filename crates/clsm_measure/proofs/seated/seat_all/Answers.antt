@@ -1,7 +1,7 @@
 use Rattle.std.proofs.Common.{◌≡◌, List, subst}
 use Rattle.std.proofs.lemmas.List.Elements.{All-head, All-tail}
 use Rattle.std.specs.Prelude.{All}
-use Rattle.clsm_store.specs.Seats.{SeatState}
+use Rattle.clsm_calls.specs.Seats.{SeatState}
 use Rattle.clsm_measure.proofs.seated.seat_all.Goals as goal
 
 pub invariant_of-push : goal.invariant_of-push

@@ -12,7 +12,7 @@ pub returns-in-Some-clause-found : goal.returns-in-Some-clause-found
 returns-in-Some-clause-found g c =
     let k = c.args.seat.now.knows in
     let place = c.loop-place.place - 1 in
-    let run : IsSearchable k c.args.component place = record { held = c.requires.held; known = c.requires.known; named = names_zero c.args.component place (let left = c.loop-place.invariant.left in omega arith) } in
+    let run : IsSearchable k c.args.component place = record { held = c.requires.held; named = names_zero c.args.component place (let left = c.loop-place.invariant.left in omega arith) } in
     let found = found_stays k c.loop-place.seat.knows c.args.component place c.args.key c.args.until (Some c.in-Some.entry) c.loop-place.invariant.looks.looks run c.in-Some.ensures.found in
     found_here (row_of k) c.args.component c.args.key c.args.until c.loop-place.place (runs_of (row_of k) c.args.component) c.loop-place.invariant.searched c.in-Some.entry (omega arith) found
 
@@ -20,7 +20,7 @@ pub loop-place-preserved : goal.loop-place-preserved
 loop-place-preserved g c =
     let k = c.args.seat.now.knows in
     let place = c.loop-place.place - 1 in
-    let run : IsSearchable k c.args.component place = record { held = c.requires.held; known = c.requires.known; named = names_zero c.args.component place (let left = c.loop-place.invariant.left in omega arith) } in
+    let run : IsSearchable k c.args.component place = record { held = c.requires.held; named = names_zero c.args.component place (let left = c.loop-place.invariant.left in omega arith) } in
     let found = found_stays k c.loop-place.seat.knows c.args.component place c.args.key c.args.until None c.loop-place.invariant.looks.looks run c.in_default.ensures.found in
     record {
       of = c.find.ensures.of;
@@ -33,6 +33,6 @@ pub returns-clause-found : goal.returns-clause-found
 returns-clause-found g c =
     let k = c.args.seat.now.knows in
     let place = 3 + c.args.component / 4 % 2 in
-    let run : IsSearchable k c.args.component place = record { held = c.requires.held; known = c.requires.known; named = names_one c.args.component } in
+    let run : IsSearchable k c.args.component place = record { held = c.requires.held; named = names_one c.args.component } in
     let found = found_stays k c.loop-place.seat.knows c.args.component place c.args.key c.args.until c.find-2.result c.loop-place.invariant.looks.looks run c.find-2.ensures.found in
     found_last (row_of k) c.args.component c.args.key c.args.until c.loop-place.place (runs_of (row_of k) c.args.component) c.loop-place.invariant.searched c.find-2.result (omega arith) found

@@ -1,8 +1,8 @@
 use Rattle.std.proofs.lemmas.List.Elements.{All-push}
-use Rattle.std.proofs.Common.{All, ◌≡◌, ℕ, ◌+◌, ◌++◌, ◌∷◌, [], List, length, ◌∙◌, ap, sym, subst, arith, append_assoc, length-append}
+use Rattle.std.proofs.Common.{All, ◌≡◌, ℕ, ◌+◌, ◌++◌, ◌∷◌, [], List, length, ◌∙◌, ap, sym, subst, append_assoc, length-append}
 use Rattle.clsm_words.specs.Seats.{RawState as RawState}
-use Rattle.clsm_store.specs.Seats.{AreNew, SeatState}
-use Rattle.clsm_store.specs.Resting.{seat_of, store_of}
+use Rattle.clsm_calls.specs.Seats.{AreNew, SeatState}
+use Rattle.clsm_calls.specs.Resting.{seat_of, store_of}
 use Rattle.clsm_store.proofs.Starts.{fresh_at, fresh_state, new_more}
 use Rattle.clsm_store.proofs.opening.seat_all.Goals as goal
 

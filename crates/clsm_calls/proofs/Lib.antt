@@ -1,0 +1,12 @@
+pub mod Rest
+pub mod Found
+pub mod Unchanged
+pub mod Giving
+pub mod Changed
+pub mod LastTimes
+pub mod Quiet
+pub mod Cleaning
+pub mod Rounds
+pub mod Prepared
+pub mod Publishing
+pub mod Asking

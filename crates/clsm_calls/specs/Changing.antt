@@ -1,0 +1,120 @@
+-- A read-modify-write at the words.
+use Rattle.std.specs.Prelude.{◌≡◌, ℕ, ◌*◌, ◌≤◌, ◌⊎◌, ◌++◌, ◌∷◌, [], Bool, List, true, false, cond, length, Option, Some, None, Result, Ok, Err}
+use mathlib.Core.List.{IsPrefix}
+use Rattle.clsm_model.specs.History.{plain, value}
+use Rattle.clsm_model.specs.declared.slot.Change.{Change}
+use Rattle.clsm_model.specs.declared.slot.Change.TheVariants.{Keep, Set, Remove}
+use Rattle.clsm_model.specs.declared.record.Deed.{Deed}
+use Rattle.clsm_model.specs.declared.record.Deed.TheVariants.{Rmw}
+use Rattle.clsm_law.specs.declared.step.End.{End}
+use Rattle.clsm_law.specs.declared.step.End.TheVariants.{Neither, Recorded}
+use Rattle.clsm_law.specs.Relation.{call_of, next_word}
+use Rattle.clsm_model.specs.Seats.{due_by}
+use Rattle.clsm_law.specs.declared.view.Mode.TheVariants.{Shared}
+use Rattle.clsm_words.specs.declared.known.Known.{Known}
+use Rattle.clsm_memtable.specs.declared.deciding.Decided.{Decided}
+use Rattle.clsm_memtable.specs.declared.deciding.Decided.TheVariants.{Done, Overtaken}
+use Rattle.clsm_calls.specs.declared.got.Rmw.{Rmw as Answered}
+use Rattle.clsm_calls.specs.declared.refusal.Full.{Full as Refusal}
+use Rattle.clsm_calls.specs.declared.changing.ChangeAttempt.{ChangeAttempt}
+use Rattle.clsm_calls.specs.declared.changing.ChangeAttempt.TheVariants.{Done as Finished, Full, Lost}
+use Rattle.clsm_calls.specs.Seats.{IsWrittenFrom}
+use Rattle.clsm_calls.specs.Resting.{FindsFull, IsSettled, Records, Still}
+
+-- it holds the lock and the component, and has drawn nothing
+pub record IsPinnedInHold (k : Known) (component : ℕ) : Type 0 where
+  pub shared : k.view.mode ≡ Shared
+  pub undrawn : k.view.drawn ≡ None
+  pub pinned : k.view.pinned ≡ true
+  pub held : k.view.held ≡ Some component
+  pub settled : IsSettled k.view.snapshot
+  pub merged : component * k.layout.cells ≤ k.view.reached
+
+-- at the clock that it looked at last in this read, which is t, the key has this value
+pub record ReadsNow (k : Known) (component key t : ℕ) (reply : Option (List ℕ)) : Type 0 where
+  pub pin_clock : k.view.pin_clock ≡ Some t
+  pub above : k.view.due ≤ t
+  pub merged : component * k.layout.cells ≤ t
+  pub settled : t ≤ length k.past
+  pub is : reply ≡ value (plain k.past) key t
+
+-- the seat gave up no time, unless a write of the key stands at or above the due that it had before
+abbrev pub GivesUpFor : Known → Known → ℕ → Type 0
+GivesUpFor old new key = (new.view.gave_up ≡ old.view.gave_up) ⊎ IsWrittenFrom new.past key old.view.due
+
+-- what became of the drawn time
+pub record EndsDrawn (old new : Known) : Type 0 where
+  pub mode : new.view.mode ≡ Shared
+  pub drawn : new.view.drawn ≡ None
+  pub pinned : new.view.pinned ≡ old.view.pinned
+  pub held : new.view.held ≡ old.view.held
+  pub entries : new.view.entries ≡ old.view.entries
+  pub gave_up : new.view.gave_up ≡ old.view.gave_up
+  pub reached : old.view.reached ≤ new.view.reached
+
+-- what a decide makes of the drawn time: a write at it, which is recorded where the due was not above it, or nothing
+abbrev pub DecidesDrawn : Known → Known → ℕ → Deed → Decided → Type 0
+DecidesDrawn old new t deed Done = EndsDrawn old new × (old.view.due ≤ t → Records old new t deed)
+DecidesDrawn old new t deed Overtaken = EndsDrawn old new × Still old new
+
+-- the change of the old value stands at a later time
+abbrev pub WritesLater : Known → Known → ℕ → Option (List ℕ) → Change → ChangeAttempt → Type 0
+WritesLater old new key o change (Finished rmw) = (rmw.old ≡ o) × (rmw.change ≡ change) × Records old new rmw.time (Rmw key o change)
+WritesLater old new key o change (Full t) = FindsFull old new t
+WritesLater old new key o change Lost = Still old new
+
+-- what a change of the old value at the time t is: with Keep a read there, else a write
+abbrev pub Does : Change → Known → Known → ℕ → ℕ → ℕ → Option (List ℕ) → Type 0
+Does Keep old new component key t o = Still old new × ReadsNow new component key t o
+Does (Set written) old new component key t o = Records old new t (Rmw key o (Set written))
+Does Remove old new component key t o = Records old new t (Rmw key o Remove)
+
+-- what came of one try to change the key: the change at its time, a clock at the limit, or nothing
+abbrev pub TriesChange : Known → Known → ℕ → ℕ → ChangeAttempt → Type 0
+TriesChange old new component key (Finished rmw) = Does rmw.change old new component key rmw.time rmw.old
+TriesChange old new component key (Full t) = FindsFull old new t
+TriesChange old new component key Lost = Still old new
+
+-- the change keeps the old value
+abbrev pub is_keep : Change → Bool
+is_keep Keep = true
+is_keep _ = false
+
+-- the value that the change sets, or none for a removal
+abbrev pub value_set : Change → Option (List ℕ)
+value_set (Set written) = Some written
+value_set _ = None
+
+-- the change is one that the function may answer to the old value
+abbrev pub IsAnsweredBy : (Option (List ℕ) → Change → Type 0) → ChangeAttempt → Type 0
+IsAnsweredBy post (Finished rmw) = post rmw.old rmw.change
+IsAnsweredBy post _ = Unit {0}
+
+-- ---- the whole call
+
+-- how its read ends
+abbrev pub read_end : ℕ → Result Answered Refusal → End
+read_end key (Ok rmw) = cond (is_keep rmw.change) (Recorded (Rmw key rmw.old rmw.change)) Neither
+read_end key (Err full) = Neither
+
+-- the change of the old value is recorded at the time
+pub record ChangesAt (old new : Known) (t key : ℕ) (o : Option (List ℕ)) (change : Change) : Type 0 where
+  pub number : new.number ≡ old.number
+  pub layout : new.layout ≡ old.layout
+  pub past : IsPrefix old.past new.past
+  pub snapshot : new.view.snapshot ≡ old.view.snapshot
+  pub calls : new.view.calls ≡ old.view.calls ++ call_of old.number t (Rmw key o change) ∷ []
+  pub due : new.view.due ≡ due_by t change
+  pub above : old.view.due ≤ t
+
+-- in the one hold of the call the clock was found at the limit
+pub record EndsFull (old new : Known) (t : ℕ) : Type 0 where
+  pub number : new.number ≡ old.number
+  pub layout : new.layout ≡ old.layout
+  pub past : IsPrefix old.past new.past
+  pub snapshot : new.view.snapshot ≡ old.view.snapshot
+  pub calls : new.view.calls ≡ old.view.calls
+  pub due : new.view.due ≡ old.view.due
+  pub entered : new.view.entries ≡ next_word old.view.entries
+  pub limit : new.view.hold_limit ≡ Some t
+  pub clock : new.view.hold_clock ≡ Some t

@@ -1,0 +1,31 @@
+//! What the merger keeps from call to call.
+ghost use Rattle.std.specs.Prelude.{◌≡◌};
+
+use clsm_law::Reader;
+use clsm_levels::Entry;
+use clsm_model::Time;
+use clsm_words::RawMerger;
+
+/// The merger, which its token holds.
+#[derive(Drop)]
+pub struct MergerSeat {
+    pub raw: RawMerger,
+    /// The number of merges so far.
+    pub merges: u64,
+    /// The floor that the last merge took.
+    pub floor: Time,
+    /// The row in which a merge sorts the writes of an epoch: empty between merges, with room for an epoch.
+    pub row: Vec<Entry>,
+    /// What was noted of each seat since the last merge.
+    pub seen: Vec<Reader>,
+}
+
+impl MergerSeat {
+    /// The number of merges so far.
+    #[inline]
+    pub fn merges(&self) -> u64
+        ensures { result ≡ self.now.merges }
+    {
+        self.merges
+    }
+}

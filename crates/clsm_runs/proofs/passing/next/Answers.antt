@@ -1,0 +1,84 @@
+use Rattle.std.proofs.Common.{ℕ, ◌+◌, ◌<◌, ◌≤◌, inl, inr, Some, sym, subst, arith, ◌∙◌}
+use Rattle.clsm_levels.specs.declared.entry.Entry.{Entry}
+use Rattle.clsm_levels.specs.Entry.{first_below}
+use Rattle.clsm_levels.specs.Yields.{IsNextFrom}
+use Rattle.clsm_law.specs.Places.{entry_in}
+use Rattle.clsm_words.specs.Knowing.{row_of}
+use Rattle.clsm_words.proofs.Keeps.{aside_trans}
+use Rattle.clsm_runs.specs.Searching.{IsSearchable, StandsFrom, run_at}
+use Rattle.clsm_runs.proofs.NamedRuns.{run_there}
+use Rattle.clsm_runs.proofs.Looking.{entry_in_stays, place_stays}
+use Rattle.clsm_runs.proofs.Standing.{passes, passes_taken, takes}
+use Rattle.clsm_runs.proofs.passing.next.Goals as goal
+
+pub loop-position-preserved-then-key-from : goal.loop-position-preserved-then-key-from
+loop-position-preserved-then-key-from g c =
+    let k = c.args.seat.now.knows in
+    let now = c.loop-position.seat.knows in
+    let place = c.args.place in
+    let at = c.loop-position.position in
+    let before = c.loop-position.invariant in
+    let run : IsSearchable k c.args.component place =
+    record { held = c.requires.held; named = c.requires.named } in
+    let same = place_stays k now c.args.component place before.looks.looks run in
+    let key = c.part-key.ensures.told ∙ same.words at 0 in
+    let less : (entry_in (row_of k) place at).key < c.args.from = omega (arith, key) in
+    record {
+      of = c.part-key.ensures.of;
+      looks = aside_trans k now c.part-key.new.seat.knows before.looks c.part-key.ensures.looks;
+      stands = passes k place c.args.until c.args.from at before.stands (omega arith) (inl less);
+    }
+
+pub loop-position-preserved : goal.loop-position-preserved
+loop-position-preserved g c =
+    let k = c.args.seat.now.knows in
+    let now = c.part-key.new.seat.knows in
+    let place = c.args.place in
+    let at = c.loop-position.position in
+    let before = c.loop-position.invariant in
+    let run : IsSearchable k c.args.component place =
+    record { held = c.requires.held; named = c.requires.named } in
+    let old = c.loop-position.seat.knows in
+    let looks = aside_trans k old now before.looks c.part-key.ensures.looks in
+    let same = place_stays k now c.args.component place looks.looks run in
+    let spelled = c.part-spelled.ensures.told ∙ same.words at 1 in
+    let late : c.args.until ≤ (entry_in (row_of k) place at).time = omega (arith, spelled) in
+    record {
+      of = c.part-spelled.ensures.of;
+      looks = aside_trans k now c.part-spelled.new.seat.knows looks c.part-spelled.ensures.looks;
+      stands = passes k place c.args.until c.args.from at before.stands (omega arith) (inr late);
+    }
+
+pub returns-then-spelled-until : goal.returns-then-spelled-until
+returns-then-spelled-until g c =
+    let k = c.args.seat.now.knows in
+    let old = c.loop-position.seat.knows in
+    let first = c.part-key.new.seat.knows in
+    let second = c.part-spelled.new.seat.knows in
+    let component = c.args.component in
+    let place = c.args.place in
+    let until = c.args.until in
+    let from = c.args.from in
+    let at = c.loop-position.position in
+    let before = c.loop-position.invariant in
+    let run : IsSearchable k component place =
+    record { held = c.requires.held; named = c.requires.named } in
+    let one = aside_trans k old first before.looks c.part-key.ensures.looks in
+    let two = aside_trans k first second one c.part-spelled.ensures.looks in
+    let same = place_stays k old component place before.looks.looks run in
+    let key = c.part-key.ensures.told ∙ same.words at 0 in
+    let still = place_stays k first component place one.looks run in
+    let spelled = c.part-spelled.ensures.told ∙ still.words at 1 in
+    let is = c.entry.ensures.told ∙ entry_in_stays k second component place at two.looks run in
+    let early : (entry_in (row_of k) place at).time < until = omega (arith, spelled) in
+    let later : from ≤ (entry_in (row_of k) place at).key = omega (arith, key) in
+    let order = (run_there k component place c.is_sound.ensures run).order in
+    let found = λ (key : ℕ). first_below (run_at k place) key until in
+    record {
+      of = c.entry.ensures.of;
+      looks = aside_trans k second c.entry.new.seat.knows two c.entry.ensures.looks;
+      next = subst (λ (e : Entry). IsNextFrom found from (Some e)) (sym is)
+          (takes k place until from at before.stands (omega arith) order later early);
+      stands = subst (λ (e : Entry). StandsFrom k place until (e.key + 1) (at + 1)) (sym is)
+          (passes_taken k place until from at before.stands (omega arith) later);
+    }

@@ -1,0 +1,22 @@
+use Rattle.std.proofs.Common.{◌-◌, ◌≡◌, ℕ, ◌≤◌, ◌<◌, ◌^◌, length, None}
+use Rattle.clsm_model.specs.Map.{value_at}
+use Rattle.clsm_words.specs.Keeping.{LooksAside}
+use Rattle.clsm_words.specs.Plays.{IsSeatOf}
+use Rattle.clsm_scan.specs.Collected.{AreRowsTo, IsAtMost, left_at}
+use Rattle.clsm_scan.proofs.collecting.collect.Given as goal
+
+abbrev pub invariant-loop-row : goal.invariant-loop-row
+invariant-loop-row g l = record {
+  of : IsSeatOf l.words l.seat;
+  looks : LooksAside l.fn.seat.knows l.seat.knows;
+  over : g.C.Cursor.is_over l.seat.knows l.cursor;
+  same : (k : ℕ) → g.C.Cursor.found l.seat.knows l.cursor k ≡ g.C.Cursor.found l.fn.seat.knows l.fn.cursor k;
+  stands : g.C.Cursor.stands l.seat.knows l.cursor l.from;
+  later : l.lo ≤ l.from;
+  rows : AreRowsTo (left_at (g.C.Cursor.found l.fn.seat.knows l.fn.cursor)) l.lo l.from l.rows.items;
+  beyond : (k : ℕ) → l.hi < k → value_at l.rows.items k ≡ None;
+  most : IsAtMost (length l.rows.items) l.max;
+}
+
+abbrev pub decreases-loop-row : goal.decreases-loop-row
+decreases-loop-row g l = 2 ^ 64 - l.from

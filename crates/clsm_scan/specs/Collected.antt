@@ -1,0 +1,53 @@
+-- The rows that a scan or a page collects, and where it stopped.
+use Rattle.std.specs.Prelude.{◌≡◌, ℕ, ◌+◌, ◌<◌, ◌≤◌, List, length, Option, Some, None}
+use Rattle.std.specs.List.{AllByRecursion}
+use Rattle.clsm_model.specs.Map.{KeysRise, Pair, value_at}
+use Rattle.clsm_levels.specs.declared.entry.Entry.{Entry}
+use Rattle.clsm_levels.specs.Entry.{value_of}
+
+-- the value that the newest write of each key left, where `found` gives that write
+abbrev pub left_at : (ℕ → Option Entry) → ℕ → Option (List ℕ)
+left_at found key = value_of (found key)
+
+-- the next key from `from` to `hi` that has a value, with it; or none of them has one
+abbrev pub IsNextRow : (ℕ → Option (List ℕ)) → ℕ → ℕ → Option Pair → Type 0
+IsNextRow value from hi None = (k : ℕ) → from ≤ k → k ≤ hi → value k ≡ None
+IsNextRow value from hi (Some row) = (from ≤ row.0) × (row.0 ≤ hi) × (value row.0 ≡ Some row.1) × ((k : ℕ) → from ≤ k → k < row.0 → value k ≡ None)
+
+-- the key behind the row
+abbrev pub past_row : ℕ → Option Pair → ℕ
+past_row from None = from
+past_row from (Some row) = row.0 + 1
+
+-- the rows are all keys from `lo` on and below `end` that have a value, by rising key
+pub record AreRowsTo (value : ℕ → Option (List ℕ)) (lo end : ℕ) (rows : List Pair) : Type 0 where
+  pub rise : KeysRise rows
+  pub ends : AllByRecursion (λ pair. pair.0 < end) rows
+  pub inside : (k : ℕ) → lo ≤ k → k < end → value_at rows k ≡ value k
+  pub below : (k : ℕ) → k < lo → value_at rows k ≡ None
+  pub above : (k : ℕ) → end ≤ k → value_at rows k ≡ None
+
+-- the rows are all keys from `lo` to `hi` that have a value, by rising key
+pub record AreAll (value : ℕ → Option (List ℕ)) (lo hi : ℕ) (rows : List Pair) : Type 0 where
+  pub rise : KeysRise rows
+  pub inside : (k : ℕ) → lo ≤ k → k ≤ hi → value_at rows k ≡ value k
+  pub below : (k : ℕ) → k < lo → value_at rows k ≡ None
+  pub above : (k : ℕ) → hi < k → value_at rows k ≡ None
+
+-- at most so many, where a number is given
+abbrev pub IsAtMost : ℕ → Option ℕ → Type 0
+IsAtMost n None = Unit {0}
+IsAtMost n (Some max) = n ≤ max
+
+-- a page that was stopped: as many rows as it may have, and this is the key of the next one
+pub record IsStopped (value : ℕ → Option (List ℕ)) (lo hi : ℕ) (max : Option ℕ) (rows : List Pair) (more : ℕ) : Type 0 where
+  pub gives : AreRowsTo value lo more rows
+  pub from : lo ≤ more
+  pub until : more ≤ hi
+  pub there : (words : List ℕ) × (value more ≡ Some words)
+  pub full : max ≡ Some (length rows)
+
+-- the rows are all from `lo` to `hi`, or as many of the first as may be, and the key of the next one
+abbrev pub IsCollected : (ℕ → Option (List ℕ)) → ℕ → ℕ → Option ℕ → List Pair → Option ℕ → Type 0
+IsCollected value lo hi max rows None = AreAll value lo hi rows × IsAtMost (length rows) max
+IsCollected value lo hi max rows (Some more) = IsStopped value lo hi max rows more

@@ -1,0 +1,6 @@
+pub mod Ahead
+pub mod MergedLaws
+pub mod Collected
+pub mod Optional
+pub mod Gathering
+pub mod Sources

@@ -1,0 +1,23 @@
+-- What a held component has of each key, and the cursors over it.
+use Rattle.std.specs.Prelude.{ℕ, ◌+◌, ◌*◌, ◌/◌, ◌%◌, nat_lt, cond, Option, Some, None}
+use Rattle.clsm_model.specs.History.{or_else}
+use Rattle.clsm_levels.specs.declared.entry.Entry.{Entry}
+use Rattle.clsm_levels.specs.Entry.{entries_of, first_below}
+use Rattle.clsm_levels.specs.Run.{first_in_runs}
+use Rattle.clsm_law.specs.Worlds.{runs_of}
+use Rattle.clsm_words.specs.declared.known.Known.{Known}
+use Rattle.clsm_words.specs.Knowing.{row_of}
+use Rattle.clsm_scan.specs.declared.run_cursor.RunCursor.{RunCursor}
+
+-- the newest write of the key below the time: of those of the component's epochs, which the seat knows, and else of those that its runs keep
+abbrev pub found_in_component : Known → ℕ → ℕ → ℕ → Option Entry
+found_in_component k component until key =
+    or_else (first_below (entries_of k.past (component * k.layout.cells) until) key until) (first_in_runs (runs_of (row_of k) component) key until)
+
+-- the cursor at the beginning of the run at a place of level 0, where the component names it
+abbrev pub level_zero_cursor : ℕ → ℕ → ℕ → Option RunCursor
+level_zero_cursor component place until = cond (nat_lt place (component % 4)) (Some (record { component = component; place = place; until = until; position = 0 })) None
+
+-- that at the beginning of the run of level 1
+abbrev pub level_one_cursor : ℕ → ℕ → RunCursor
+level_one_cursor component until = record { component = component; place = 3 + component / 4 % 2; until = until; position = 0 }

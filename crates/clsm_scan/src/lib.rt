@@ -1,0 +1,17 @@
+//! Scans: cursors over the epochs and the runs of a held component, merged by rising key.
+#![tactic(auto)]
+
+mod collecting;
+mod cursor;
+mod gathered;
+mod merged;
+mod optional;
+mod run_cursor;
+mod scanning;
+
+pub use collecting::{Collected, collect};
+pub use cursor::Cursor;
+pub use gathered::Gathered;
+pub use merged::Merged;
+pub use run_cursor::RunCursor;
+pub use scanning::scan;

@@ -1,0 +1,36 @@
+//! A cursor that may be missing: it yields nothing then.
+ghost use Rattle.std.specs.Prelude.{◌≡◌, None, Some};
+ghost use Rattle.clsm_scan.specs.Optional.{If, found_in, found_same, if_both, if_so};
+
+use crate::cursor::Cursor;
+use clsm_levels::Entry;
+use clsm_words::{Pace, RawSeat, Words};
+
+impl<C: Cursor> Cursor for Option<C> {
+    ghost found = { λ k c. found_in (C.found k) c };
+
+    ghost is_over = { λ k c. If (C.is_over k) c };
+
+    ghost stands = { λ k c from. If (λ cursor. C.stands k cursor from) c };
+
+    fn seek<P: Pace>(&mut self, words: &Words<P>, seat: &mut RawSeat, key: u64) {
+        if let Some(cursor) = self {
+            cursor.seek(words, seat, key);
+        }
+    }
+
+    fn next<P: Pace>(&mut self, words: &Words<P>, seat: &mut RawSeat, from: u64) -> Option<Entry> {
+        match self {
+            Some(cursor) => cursor.next(words, seat, from),
+            None => None,
+        }
+    }
+
+    ghost over_stays = { λ k k' c looks over. if_so (C.is_over k) (C.is_over k') c (λ cursor. C.over_stays k k' cursor looks) over };
+
+    ghost found_stays = { λ k k' c looks over. found_same (C.found k) (C.found k') (C.is_over k) c (λ cursor. C.found_stays k k' cursor looks) over };
+
+    ghost stands_stays = { λ k k' c from looks over stands. if_both (C.is_over k) (λ cursor. C.stands k cursor from) (λ cursor. C.stands k' cursor from) c (λ cursor. C.stands_stays k k' cursor from looks) over stands };
+
+    ghost stands_later = { λ k c from later le stands. if_so (λ cursor. C.stands k cursor from) (λ cursor. C.stands k cursor later) c (λ cursor. C.stands_later k cursor from later le) stands };
+}

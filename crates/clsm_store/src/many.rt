@@ -1,0 +1,78 @@
+//! The calls that read many keys at one time.
+ghost use Rattle.std.specs.Prelude.{◌≡◌, IfErr, IfOk};
+ghost use Rattle.clsm_model.specs.declared.record.Deed.TheVariants.{Page as PageOf, Scan as ScanOf};
+ghost use Rattle.clsm_calls.specs.Scanning.{IsAnswerTo};
+ghost use Rattle.clsm_calls.specs.Seats.{Answers, Refuses};
+ghost use Rattle.clsm_calls.specs.Tally.{TakesNoLock};
+
+use crate::seat::Seat;
+use crate::store::Store;
+use clsm_calls::{Asked, Page, Scan, scan_at, scan_under};
+use clsm_model::{Deed, Memory, Time};
+use clsm_words::Pace;
+use std::alloc::Global;
+
+impl<P: Pace> Store<P> {
+    /// What was asked, at the time of the seat's open snapshot, or else at one of its own.
+    fn read_many(
+        &self,
+        alloc: Global,
+        seat: &mut Seat,
+        asked: Asked,
+    ) -> Result<(Time, Deed), Memory>
+        requires { seat.old.store ≡ self.now }
+        ensures answers { IfOk result (λ read. Answers seat.old seat.new read.0 read.1) }
+        ensures asked { IfOk result (λ read. IsAnswerTo asked read.1) }
+        ensures lock { TakesNoLock seat.old.tally seat.new.tally }
+        ensures refused { IfErr result (λ refusal. Refuses seat.old seat.new) }
+    {
+        let patience = self.words.patience();
+        let read = match seat.snapshot {
+            None => scan_at(&self.words, &mut seat.raw, alloc, seat.pin, patience, asked),
+            Some(time) => scan_under(&self.words, &mut seat.raw, alloc, seat.pin, time, asked),
+        };
+        seat.pin = seat.pin.wrapping_add(2);
+        read
+    }
+
+    /// All pairs with `lo <= key <= hi` by rising key, as one read: at the time of the seat's open
+    /// snapshot, else at a time of its own, as `get`. There are none where `lo > hi`. Of the runs it
+    /// reads what it answers; the component in memory is gathered whole. It takes no lock and never
+    /// waits. Refused for want of memory: nothing is recorded then, and the seat is at rest.
+    pub fn scan(&self, alloc: Global, seat: &mut Seat, lo: u64, hi: u64) -> Result<Scan, Memory>
+        requires { seat.old.store ≡ self.now }
+        ensures answers { IfOk result (λ scan. Answers seat.old seat.new scan.time (ScanOf lo hi scan.rows)) }
+        ensures lock { TakesNoLock seat.old.tally seat.new.tally }
+        ensures refused { IfErr result (λ refusal. Refuses seat.old seat.new) }
+    {
+        let (time, deed) = self.read_many(alloc, seat, Asked::All(lo, hi))?;
+        match deed {
+            Deed::Scan { rows, .. } => Ok(Scan { time, rows }),
+            _ => unreachable!(),
+        }
+    }
+
+    /// The first `max` of the pairs with `from <= key <= hi` by rising key, and the key of the first
+    /// one that is left out, where the next page begins. It reads at the time of the seat's open
+    /// snapshot, else at a time of its own, so only pages under one snapshot are of one map. It takes
+    /// no lock, never waits and is refused as `scan`.
+    pub fn page(
+        &self,
+        alloc: Global,
+        seat: &mut Seat,
+        from: u64,
+        hi: u64,
+        max: usize,
+    ) -> Result<Page, Memory>
+        requires { seat.old.store ≡ self.now }
+        ensures answers { IfOk result (λ page. Answers seat.old seat.new page.time (PageOf from hi max page.rows page.more)) }
+        ensures lock { TakesNoLock seat.old.tally seat.new.tally }
+        ensures refused { IfErr result (λ refusal. Refuses seat.old seat.new) }
+    {
+        let (time, deed) = self.read_many(alloc, seat, Asked::First(from, hi, max))?;
+        match deed {
+            Deed::Page { rows, more, .. } => Ok(Page { time, rows, more }),
+            _ => unreachable!(),
+        }
+    }
+}
