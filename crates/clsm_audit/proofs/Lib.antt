@@ -1,0 +1,11 @@
+pub mod Calls
+pub mod Indices
+pub mod OneHistory
+pub mod Orders
+pub mod Played
+pub mod Ranges
+pub mod Readings
+pub mod Seconds
+pub mod Slots
+pub mod Turns
+pub mod Walks

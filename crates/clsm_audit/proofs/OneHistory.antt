@@ -1,0 +1,246 @@
+-- Records with no fault are, seat by seat, the calls of the one history that they write.
+use Rattle.std.proofs.Common.{◌≡◌, ◌≢◌, ℕ, ◌+◌, ◌<◌, ◌≤◌, ◌==◌, ◌&&◌, zero, suc, Bool, true, false, cond, max, List, [], ◌∷◌, ◌++◌, length, filter, get_or, take, Option, Some, None, IfSome, IsSome, is_some, unwrap_or, refl, sym, ap, ◌∙◌, subst, arith, ⊎_elim, add-one}
+use Rattle.std.proofs.lemmas.Bool.{and_parts, cases_eq, cases_lt, eq-eqb, eqb-true}
+use Rattle.std.proofs.lemmas.List.{take_all}
+use Rattle.std.proofs.lemmas.List.FromFn.{length-map-range_with_len}
+use Rattle.std.proofs.lemmas.Option.{slice_get-get_or}
+use Rattle.std.specs.List.{AllByRecursion, slice_get}
+use Rattle.std.specs.Option.{IsSomeAnd}
+use Rattle.clsm_model.specs.declared.record.CallRecord.{CallRecord}
+use Rattle.clsm_model.specs.declared.record.Deed.{Deed}
+use Rattle.clsm_model.specs.declared.record.Deed.TheVariants.{Put, Remove, Rmw, Get, Snapshot, Close, GetAt, Scan, Page}
+use Rattle.clsm_model.specs.declared.slot.Change.TheVariants.{Keep, Set, Remove as Erase}
+use Rattle.clsm_model.specs.declared.slot.Slot.{Slot}
+use Rattle.clsm_model.specs.declared.slot.Slot.TheVariants.{Wrote}
+use Rattle.clsm_model.specs.History.{History, IsReadable, slot_at}
+use Rattle.clsm_model.specs.Right.{Reads, write_by}
+use Rattle.clsm_model.specs.Seats.{AreCallsIn, HasEachWrite, IsNext, IsRecordIn, IsRightDeed, IsRightRecord, Rises, StandsAs, due_after, last_due, last_open, open_after}
+use Rattle.clsm_audit.specs.Faults.{HasNone, IsSecondAt}
+use Rattle.clsm_audit.specs.Lawful.{IsAtSnapshot, IsFromDue, IsFromDueAt, IsKnown, IsKnownAt, IsRightAt, calls_of, due_of, open_of}
+use Rattle.clsm_audit.specs.Written.{end_by, history_of, slot_by, write_of}
+use Rattle.clsm_audit.proofs.Calls.{calls_of-other, calls_of-own}
+use Rattle.clsm_audit.proofs.Indices.{here_if, if_here, itself, nobody, past_end, taken_more}
+use Rattle.clsm_audit.proofs.Seconds.{some_within, two_writes}
+use Rattle.clsm_audit.proofs.Slots.{slot_at-history_of, slot_written}
+
+-- ---- a seat's calls, one by one
+
+-- what holds of each record of the seat holds of each of its calls
+each_call : (P : CallRecord → Type 0) (records : List CallRecord) (seat : ℕ) → ((i : ℕ) → IfSome (slice_get records i) (λ r. r.seat ≡ seat → P r)) → AllByRecursion P (calls_of records seat)
+each_call P [] seat each = tt
+each_call P (r ∷ rs) seat each =
+    let rest = each_call P rs seat (λ i. each (suc i)) in
+    elim (r.seat == seat) as (λ (b : Bool). (r.seat == seat) ≡ b → AllByRecursion P (cond b (r ∷ calls_of rs seat) (calls_of rs seat))) [ true ↦ λ e. (each zero (eqb-true r.seat seat e), rest) | false ↦ λ e. rest ] refl
+
+-- what holds of the record at each index below the end
+each_record : (P : CallRecord → Type 0) (records : List CallRecord) → ((i : ℕ) → i < length records → P (get_or records i nobody)) → (i : ℕ) → IfSome (slice_get records i) P
+each_record P records each i =
+    ⊎_elim
+    (λ (lt : i < length records). if_here P records i (get_or records i nobody) lt (itself records i lt) (each i lt))
+    (λ (past : length records ≤ i). past_end P records i past)
+    (cases_lt i (length records))
+
+-- ---- the dues lie within the history
+
+due_after-le : (due : ℕ) (snapshot : Option ℕ) (t : ℕ) (deed : Deed) → due_after due snapshot t deed ≤ max due (t + 1)
+due_after-le due snapshot t (Put key written) = omega arith
+due_after-le due snapshot t (Remove key) = omega arith
+due_after-le due snapshot t (Rmw key old Keep) = omega arith
+due_after-le due snapshot t (Rmw key old (Set written)) = omega arith
+due_after-le due snapshot t (Rmw key old Erase) = omega arith
+due_after-le due snapshot t (Get key reply) = omega arith
+due_after-le due snapshot t Snapshot = omega arith
+due_after-le due snapshot t Close = omega arith
+due_after-le due snapshot t (GetAt key reply) = omega arith
+due_after-le due None t (Scan lo hi rows) = omega arith
+due_after-le due (Some s) t (Scan lo hi rows) = omega arith
+due_after-le due None t (Page from hi max rows more) = omega arith
+due_after-le due (Some s) t (Page from hi max rows more) = omega arith
+
+last_due-le : (due : ℕ) (snapshot : Option ℕ) (calls : List CallRecord) → last_due due snapshot calls ≤ max due (end_by calls)
+last_due-le due snapshot [] = omega arith
+last_due-le due snapshot (r ∷ rs) =
+    let next = due_after-le due snapshot r.time r.deed in
+    let rest = last_due-le (due_after due snapshot r.time r.deed) (open_after snapshot r.time r.deed) rs in
+    omega arith
+
+end_by-calls : (records : List CallRecord) (seat : ℕ) → end_by (calls_of records seat) ≤ end_by records
+end_by-calls [] seat = omega arith
+end_by-calls (r ∷ rs) seat =
+    let rest = end_by-calls rs seat in
+    elim (r.seat == seat) as (λ (b : Bool). end_by (cond b (r ∷ calls_of rs seat) (calls_of rs seat)) ≤ max (r.time + 1) (end_by rs)) [ true ↦ omega arith | false ↦ omega arith ]
+
+length-history_of : (records : List CallRecord) → length (history_of records).slots ≡ end_by records
+length-history_of records = length-map-range_with_len (slot_by records) 0 (end_by records)
+
+due_within : (records : List CallRecord) (seat : ℕ) → due_of records seat ≤ length (history_of records).slots
+due_within records seat =
+    let a = last_due-le 0 None (calls_of records seat) in
+    let b = end_by-calls records seat in
+    let l = length-history_of records in
+    omega arith
+
+time_within : (records : List CallRecord) (i : ℕ) → i < length records → (get_or records i nobody).time < end_by records
+time_within [] i lt = absurd (omega arith)
+time_within (r ∷ rs) zero lt = omega arith
+time_within (r ∷ rs) (suc i) lt = let rest = time_within rs i (omega arith) in omega arith
+
+-- ---- each write stands in the history, and each of the history is one of them
+
+stands : (records : List CallRecord) → HasNone (IsSecondAt records) → (seat i : ℕ) → i < length records → (get_or records i nobody).seat ≡ seat → IsRecordIn (history_of records).slots seat (get_or records i nobody)
+stands records alone seat i within own = (own, λ inside. by (write_by seat (get_or records i nobody).deed) refl) where
+  by : (o : Option Slot) → write_by seat (get_or records i nobody).deed ≡ o → StandsAs o (Some (slot_at (history_of records) (get_or records i nobody).time))
+  by None reads = tt
+  by (Some w) writes = ap Some (slot_written records alone i w within (ap (λ (n : ℕ). write_by n (get_or records i nobody).deed) own ∙ writes))
+
+-- a write bears the number of its seat
+seat_of_write : (number seat key : ℕ) (written : Option (List ℕ)) (deed : Deed) → write_by number deed ≡ Some (Wrote seat key written) → number ≡ seat
+seat_of_write number seat key written (Put k v) e = cc e
+seat_of_write number seat key written (Remove k) e = cc e
+seat_of_write number seat key written (Rmw k old Keep) e = cc e
+seat_of_write number seat key written (Rmw k old (Set v)) e = cc e
+seat_of_write number seat key written (Rmw k old Erase) e = cc e
+seat_of_write number seat key written (Get k reply) e = cc e
+seat_of_write number seat key written Snapshot e = cc e
+seat_of_write number seat key written Close e = cc e
+seat_of_write number seat key written (GetAt k reply) e = cc e
+seat_of_write number seat key written (Scan lo hi rows) e = cc e
+seat_of_write number seat key written (Page from hi max rows more) e = cc e
+
+-- what a time came to, where it is a write, is the write of a record
+written_by : (records : List CallRecord) (t : ℕ) (seat key : ℕ) (written : Option (List ℕ)) → slot_by records t ≡ Wrote seat key written → (j : ℕ) × IsSomeAnd (slice_get records j) (λ r. (r.time ≡ t) × (write_of r ≡ Some (Wrote seat key written)))
+written_by [] t seat key written e = cc e
+written_by (r ∷ rs) t seat key written e =
+    elim (r.time == t) as (λ (here : Bool). (r.time == t) ≡ here → unwrap_or (cond here (write_of r) None) (slot_by rs t) ≡ Wrote seat key written → (j : ℕ) × IsSomeAnd (slice_get (r ∷ rs) j) (λ q. (q.time ≡ t) × (write_of q ≡ Some (Wrote seat key written)))) [
+      | true ↦ λ same is. elim (write_of r) as (λ (o : Option Slot). write_of r ≡ o → unwrap_or o (slot_by rs t) ≡ Wrote seat key written → (j : ℕ) × IsSomeAnd (slice_get (r ∷ rs) j) (λ q. (q.time ≡ t) × (write_of q ≡ Some (Wrote seat key written)))) [
+        | Some w ↦ λ writes is'. (zero, (eqb-true r.time t same, writes ∙ ap Some is'))
+        | None ↦ λ reads is'. let rest = written_by rs t seat key written is' in (suc rest.0, rest.1)
+      ] refl is
+      | false ↦ λ other is. let rest = written_by rs t seat key written is in (suc rest.0, rest.1)
+    ] refl e
+
+-- ---- filters that one record passes
+
+skip-one : (q : CallRecord → Bool) (x : CallRecord) (ys : List CallRecord) → (q x ≡ true → ⊥) → filter q (x ∷ ys) ≡ filter q ys
+skip-one q x ys fails = elim (q x) as (λ (b : Bool). q x ≡ b → cond b (x ∷ filter q ys) (filter q ys) ≡ filter q ys) [ true ↦ λ e. absurd (fails e) | false ↦ λ e. refl ] refl
+
+skip : (p q : CallRecord → Bool) (x : CallRecord) (xs : List CallRecord) → (p x ≡ true → q x ≡ true → ⊥) → filter q (filter p (x ∷ xs)) ≡ filter q (filter p xs)
+skip p q x xs fails = elim (p x) as (λ (b : Bool). p x ≡ b → filter q (cond b (x ∷ filter p xs) (filter p xs)) ≡ filter q (filter p xs)) [ true ↦ λ e. skip-one q x (filter p xs) (fails e) | false ↦ λ e. refl ] refl
+
+keep : (p q : CallRecord → Bool) (x : CallRecord) (xs : List CallRecord) → p x ≡ true → q x ≡ true → filter q (filter p (x ∷ xs)) ≡ x ∷ filter q (filter p xs)
+keep p q x xs e f = ap (λ (b : Bool). filter q (cond b (x ∷ filter p xs) (filter p xs))) e ∙ ap (λ (b : Bool). cond b (x ∷ filter q (filter p xs)) (filter q (filter p xs))) f
+
+none_pass : (p q : CallRecord → Bool) (xs : List CallRecord) → ((k : ℕ) → k < length xs → p (get_or xs k nobody) ≡ true → q (get_or xs k nobody) ≡ true → ⊥) → filter q (filter p xs) ≡ []
+none_pass p q [] none = refl
+none_pass p q (x ∷ xs) none = skip p q x xs (none zero (omega arith)) ∙ none_pass p q xs (λ k lt. none (suc k) (omega arith))
+
+one_passes : (p q : CallRecord → Bool) (xs : List CallRecord) (j : ℕ) → j < length xs → p (get_or xs j nobody) ≡ true → q (get_or xs j nobody) ≡ true → ((k : ℕ) → k < length xs → k ≢ j → p (get_or xs k nobody) ≡ true → q (get_or xs k nobody) ≡ true → ⊥) → filter q (filter p xs) ≡ get_or xs j nobody ∷ []
+one_passes p q [] j within e f others = absurd (omega arith)
+one_passes p q (x ∷ xs) zero within e f others = keep p q x xs e f ∙ ap (λ (rest : List CallRecord). x ∷ rest) (none_pass p q xs (λ k lt. others (suc k) (omega arith) (λ h. omega arith)))
+one_passes p q (x ∷ xs) (suc j) within e f others = skip p q x xs (others zero (omega arith) (λ h. omega arith)) ∙ one_passes p q xs j (omega arith) e f (λ k lt ne. others (suc k) (omega arith) (λ h. ne (omega arith)))
+
+module _ (records : List CallRecord) (alone : HasNone (IsSecondAt records)) where
+  -- two records that write at one time are the same one
+  writes_once : (j k : ℕ) → j < length records → k < length records → k ≢ j → IsSome (write_of (get_or records j nobody)) → IsSome (write_of (get_or records k nobody)) → (get_or records j nobody).time ≡ (get_or records k nobody).time → ⊥
+  writes_once j k within within' ne writes writes' same =
+      ⊎_elim
+      (λ (lt : j < k). two_writes records alone j k (get_or records j nobody) (get_or records k nobody) lt within within' (itself records j within) (itself records k within') writes writes' same)
+      (λ (le : k ≤ j). two_writes records alone k j (get_or records k nobody) (get_or records j nobody) (omega arith) within' within (itself records k within') (itself records j within) writes' writes (sym same))
+      (cases_lt j k)
+
+  has_each : (seat : ℕ) → HasEachWrite (history_of records).slots seat (calls_of records seat)
+  has_each seat t key written inside is =
+      let found = written_by records t seat key written (sym (slot_at-history_of records t) ∙ is) in
+      let j = found.0 in
+      let r = get_or records j nobody in
+      let within : j < length records = some_within (λ q. (q.time ≡ t) × (write_of q ≡ Some (Wrote seat key written))) records j found.1 in
+      let here : (r.time ≡ t) × (write_of r ≡ Some (Wrote seat key written)) = subst (λ (o : Option CallRecord). IsSomeAnd o (λ q. (q.time ≡ t) × (write_of q ≡ Some (Wrote seat key written)))) (slice_get-get_or records j nobody within) found.1 in
+      let own : r.seat ≡ seat = seat_of_write r.seat seat key written r.deed here.1 in
+      let write : write_by seat r.deed ≡ Some (Wrote seat key written) = ap (λ (n : ℕ). write_by n r.deed) (sym own) ∙ here.1 in (
+        r,
+        one_passes (λ q. q.seat == seat) (λ q. q.time == t && is_some (write_by seat q.deed)) records j within (eq-eqb r.seat seat own)
+            (ap (λ (b : Bool). b && is_some (write_by seat r.deed)) (eq-eqb r.time t here.0) ∙ ap is_some write)
+            (λ k lt ne mine writes.
+            let parts = and_parts ((get_or records k nobody).time == t) (is_some (write_by seat (get_or records k nobody).deed)) writes in
+            let owned = eqb-true (get_or records k nobody).seat seat mine in
+            writes_once j k within lt ne (ap is_some here.1) (ap (λ (n : ℕ). is_some (write_by n (get_or records k nobody).deed)) owned ∙ parts.1) (here.0 ∙ sym (eqb-true (get_or records k nobody).time t parts.0))),
+        write,
+      )
+
+-- ---- each reading is right
+
+right_deed : (h : History) (t : ℕ) (deed : Deed) → IsReadable h t → Reads h t deed → IsRightDeed h t deed
+right_deed h t (Put key written) readable reads = tt
+right_deed h t (Remove key) readable reads = tt
+right_deed h t (Rmw key old change) readable reads = record { readable = readable; reads = reads }
+right_deed h t (Get key reply) readable reads = record { readable = readable; reads = reads }
+right_deed h t Snapshot readable reads = record { readable = readable; reads = reads }
+right_deed h t Close readable reads = record { readable = readable; reads = reads }
+right_deed h t (GetAt key reply) readable reads = record { readable = readable; reads = reads }
+right_deed h t (Scan lo hi rows) readable reads = record { readable = readable; reads = reads }
+right_deed h t (Page from hi max rows more) readable reads = record { readable = readable; reads = reads }
+
+right_record : (records : List CallRecord) (i : ℕ) → i < length records → IsRightAt records i → IsRightRecord (history_of records) (get_or records i nobody)
+right_record records i within right =
+    let r = get_or records i nobody in
+    let reached : r.time ≤ length (history_of records).slots = let a = time_within records i within in let l = length-history_of records in omega arith in
+    right_deed (history_of records) r.time r.deed (record { reached = reached; uncut = tt })
+    (here_if (λ q. Reads (history_of records) q.time q.deed) records i r within (itself records i within) right)
+
+-- ---- each seat's times rise
+
+is_next : (due : ℕ) (snapshot : Option ℕ) (t : ℕ) (deed : Deed) → IsAtSnapshot snapshot t deed → IsFromDue due snapshot t deed → IsNext due snapshot t deed
+is_next due snapshot t (Put key written) at from = from
+is_next due snapshot t (Remove key) at from = from
+is_next due snapshot t (Rmw key old change) at from = from
+is_next due snapshot t (Get key reply) at from = from
+is_next due snapshot t Snapshot at from = (at, from)
+is_next due snapshot t Close at from = at
+is_next due snapshot t (GetAt key reply) at from = at
+is_next due None t (Scan lo hi rows) at from = from
+is_next due (Some s) t (Scan lo hi rows) at from = at
+is_next due None t (Page lo hi max rows more) at from = from
+is_next due (Some s) t (Page lo hi max rows more) at from = at
+
+rises_append : (due : ℕ) (snapshot : Option ℕ) (calls : List CallRecord) (r : CallRecord) → Rises due snapshot calls → IsNext (last_due due snapshot calls) (last_open snapshot calls) r.time r.deed → Rises due snapshot (calls ++ r ∷ [])
+rises_append due snapshot [] r rises next = (next, tt)
+rises_append due snapshot (c ∷ cs) r rises next = (rises.0, rises_append (due_after due snapshot c.time c.deed) (open_after snapshot c.time c.deed) cs r rises.1 next)
+
+-- with one record more, which may come next after the calls of its own seat
+rises_more : (before : List CallRecord) (r : CallRecord) (seat : ℕ) → IsNext (due_of before r.seat) (open_of before r.seat) r.time r.deed → Rises 0 None (calls_of before seat) → Rises 0 None (calls_of (before ++ r ∷ []) seat)
+rises_more before r seat next rises =
+    ⊎_elim
+    (λ (own : r.seat ≡ seat). subst (λ (calls : List CallRecord). Rises 0 None calls) (sym (calls_of-own before r) ∙ ap (calls_of (before ++ r ∷ [])) own)
+    (rises_append 0 None (calls_of before r.seat) r (subst (λ (n : ℕ). Rises 0 None (calls_of before n)) (sym own) rises) next))
+    (λ (other : r.seat ≢ seat). subst (λ (calls : List CallRecord). Rises 0 None calls) (sym (calls_of-other before r seat other)) rises)
+    (cases_eq r.seat seat)
+
+rises_to : (records : List CallRecord) (seat n : ℕ) → ((i : ℕ) → i < length records → let r = get_or records i nobody in IsNext (due_of (take i records) r.seat) (open_of (take i records) r.seat) r.time r.deed) → n ≤ length records → Rises 0 None (calls_of (take n records) seat)
+rises_to records seat zero next le = tt
+rises_to records seat (suc n) next le =
+    let r = get_or records n nobody in
+    let lt : n < length records = omega arith in
+    subst (λ (before : List CallRecord). Rises 0 None (calls_of before seat)) (taken_more records n r lt (itself records n lt) ∙ ap (λ (m : ℕ). take m records) (add-one n))
+    (rises_more (take n records) r seat (next n lt) (rises_to records seat n next (omega arith)))
+
+-- ---- all of it
+
+pub calls_in : (config : _) (records : List CallRecord) → ((i : ℕ) → IsKnownAt config records i) → HasNone (IsSecondAt records) → ((i : ℕ) → IsFromDueAt records i) → ((i : ℕ) → IsRightAt records i) → (seat : ℕ)
+    → AreCallsIn (history_of records).slots seat (calls_of records seat) (due_of records seat) (open_of records seat)
+calls_in config records known alone from_due right seat = record {
+  reached = due_within records seat;
+  stand = each_call (IsRecordIn (history_of records).slots seat) records seat (each_record (λ r. r.seat ≡ seat → IsRecordIn (history_of records).slots seat r) records (λ i within own. stands records alone seat i within own));
+  each = has_each records alone seat;
+  right = each_call (IsRightRecord (history_of records)) records seat (each_record (λ r. r.seat ≡ seat → IsRightRecord (history_of records) r) records (λ i within own. right_record records i within (right i)));
+  rising = record {
+    rises = subst (λ (rs : List CallRecord). Rises 0 None (calls_of rs seat)) (take_all (length records) records (omega arith))
+        (rises_to records seat (length records) (λ i within.
+        let r = get_or records i nobody in
+        let at = itself records i within in
+        is_next (due_of (take i records) r.seat) (open_of (take i records) r.seat) r.time r.deed
+        (here_if (λ q. IsKnown config (open_of (take i records) q.seat) q) records i r within at (known i)).snapshot_use
+        (here_if (λ q. IsFromDue (due_of (take i records) q.seat) (open_of (take i records) q.seat) q.time q.deed) records i r within at (from_due i))) (omega arith));
+    due_is = omega arith;
+    open_is = refl;
+  };
+}

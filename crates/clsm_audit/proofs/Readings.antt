@@ -1,0 +1,36 @@
+-- What is read of a plain map, against the history of which it is the map.
+use Rattle.std.proofs.Common.{◌≡◌, ◌↔◌, ℕ, Bool, IsTrue, List, length, take, drop, min, Option, sym, ap, ◌∙◌, subst}
+use Rattle.std.proofs.lemmas.List.{drop_min, take_min}
+use Rattle.std.specs.Bool.{Decides}
+use Rattle.clsm_model.specs.History.{History, value}
+use Rattle.clsm_model.specs.Map.{IsMap, IsRange, Pair, value_at}
+use Rattle.clsm_model.specs.Right.{IsPage, first_key}
+use Rattle.clsm_audit.proofs.Ranges.{same_range}
+
+-- rows that are the front of all, and the key of the first one of the rest, are the page
+pub page_here : (all rows front rest : List Pair) (max count : ℕ) (more : Option ℕ) → count ≡ min max (length all) → front ≡ take count all → rest ≡ drop count all → rows ≡ front → more ≡ first_key rest → IsPage all max rows more
+page_here all rows front rest max count more is front_is rest_is same next = record {
+  front = same ∙ front_is ∙ ap (λ n. take n all) is ∙ take_min max all;
+  next = next ∙ ap first_key (rest_is ∙ ap (λ n. drop n all) is ∙ drop_min max all);
+}
+
+pub here_front : (all rows front : List Pair) (max count : ℕ) (more : Option ℕ) → count ≡ min max (length all) → front ≡ take count all → IsPage all max rows more → rows ≡ front
+here_front all rows front max count more is front_is page = page.front ∙ sym (front_is ∙ ap (λ n. take n all) is ∙ take_min max all)
+
+pub here_next : (all rows rest : List Pair) (max count : ℕ) (more : Option ℕ) → count ≡ min max (length all) → rest ≡ drop count all → IsPage all max rows more → more ≡ first_key rest
+here_next all rows rest max count more is rest_is page = page.next ∙ sym (ap first_key (rest_is ∙ ap (λ n. drop n all) is ∙ drop_min max all))
+
+-- a reply that a test holds against the map's value
+pub reads_value : (h : History) (s : ℕ) (pairs : List Pair) (key : ℕ) (reply got : Option (List ℕ)) (same test : Bool) → IsMap h s pairs → got ≡ value_at pairs key → same ≡ test → Decides test (reply ≡ got) → IsTrue same ↔ (reply ≡ value h key s)
+reads_value h s pairs key reply got same test map is tested decides =
+    (λ e. decides.0 (sym tested ∙ e) ∙ is ∙ map.values key, λ e. tested ∙ decides.1 (e ∙ sym (is ∙ map.values key)))
+
+-- rows that a test holds against the map's range
+pub reads_range : (h : History) (s lo hi : ℕ) (rows got : List Pair) (same test : Bool) → IsRange h s lo hi got → same ≡ test → Decides test (rows ≡ got) → IsTrue same ↔ IsRange h s lo hi rows
+reads_range h s lo hi rows got same test range tested decides =
+    (λ e. subst (IsRange h s lo hi) (sym (decides.0 (sym tested ∙ e))) range, λ is. tested ∙ decides.1 (same_range h s lo hi rows got is range))
+
+-- a page that a test holds against the map's range
+pub reads_page : (h : History) (s from hi max : ℕ) (rows got : List Pair) (more : Option ℕ) (same : Bool) → IsRange h s from hi got → (IsTrue same ↔ IsPage got max rows more) → IsTrue same ↔ ((all : List Pair) × IsRange h s from hi all × IsPage all max rows more)
+reads_page h s from hi max rows got more same range tested =
+    (λ e. (got, range, tested.0 e), λ page. tested.1 (subst (λ (all : List Pair). IsPage all max rows more) (same_range h s from hi page.0 got page.1 range) page.2))

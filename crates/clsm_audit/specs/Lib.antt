@@ -1,0 +1,6 @@
+pub mod Faults
+pub mod Lawful
+pub mod Numbers
+pub mod Order
+pub mod States
+pub mod Written

@@ -1,0 +1,57 @@
+ghost use Rattle.std.specs.Prelude.{◌≡◌};
+ghost use Rattle.clsm_audit.specs.Numbers.{number_of};
+
+use clsm_model::Memory;
+use thiserror::Error;
+
+/// What is wrong with a record. The passes look for the kinds in this order.
+#[derive(Clone, Copy, PartialEq, Eq, Debug, Error)]
+pub enum FaultKind {
+    /// A seat or a time out of its range, or a snapshot used where it is not open at this time.
+    #[error("Unknown")]
+    Unknown,
+    /// A write at the time of a write with a lower index.
+    #[error("TwoAtOneTime")]
+    TwoAtOneTime,
+    /// A time below the due of its seat.
+    #[error("TimeRanBack")]
+    TimeRanBack,
+    /// A reading that is not what the writes below its time give.
+    #[error("WrongReply")]
+    WrongReply,
+}
+
+impl FaultKind {
+    /// The number of the kind: 1 to 4.
+    pub fn number(self) -> u8
+        ensures { result ≡ number_of self }
+    {
+        match self {
+            FaultKind::Unknown => 1,
+            FaultKind::TwoAtOneTime => 2,
+            FaultKind::TimeRanBack => 3,
+            FaultKind::WrongReply => 4,
+        }
+    }
+}
+
+/// Why an audit does not answer that the records are lawful.
+#[derive(Clone, Copy, PartialEq, Eq, Debug, Error)]
+pub enum AuditError {
+    /// The record at this index has a fault of this kind.
+    #[error("{kind} at {index}")]
+    Fault { kind: FaultKind, index: usize },
+    /// There was no memory for the audit. Nothing is said of the records.
+    #[error("memory")]
+    Memory,
+}
+
+impl From<Memory> for AuditError {
+    ghost use Rattle.clsm_audit.specs.declared.fault.AuditError.TheVariants.{Memory};
+
+    ghost from_gives = { λ _ error. error ≡ Memory };
+
+    fn from(_: Memory) -> AuditError {
+        AuditError::Memory
+    }
+}

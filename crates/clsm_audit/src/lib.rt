@@ -1,0 +1,14 @@
+//! The audit of recorded calls: whether they are the calls of one lawful history.
+#![tactic(auto)]
+
+mod fault;
+mod passes;
+mod replies;
+mod seat;
+mod stamp;
+#[cfg(test)]
+mod tests;
+mod write;
+
+pub use fault::{AuditError, FaultKind};
+pub use passes::audit;

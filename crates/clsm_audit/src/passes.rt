@@ -1,0 +1,124 @@
+ghost use Rattle.std.specs.Prelude.{◌≡◌, ◌↔◌, ◌⊎◌, ℕ, IfErr, IfOk, IsSome, IsTrue, OnOk};
+ghost use Rattle.std.specs.BTreeSet.{contains};
+ghost use Rattle.std.specs.Ordering.{nat_cmp};
+ghost use Rattle.clsm_audit.specs.Faults.{IsFirstNot, IsFirstOf, IsLawful, IsOneHistory, IsRefusal, IsSecondAt};
+ghost use Rattle.clsm_audit.specs.Lawful.{IsFromDueAt, IsKnownAt};
+ghost use Rattle.clsm_audit.specs.Written.{WritesAt, write_of};
+
+use crate::fault::{AuditError, FaultKind};
+use crate::replies::first_wrong;
+use crate::seat::{advance, new_states};
+use crate::stamp::in_time_order;
+use crate::write::write_of;
+use clsm_model::{CallRecord, Config, Memory, Time};
+use std::alloc::{AllocError, Global};
+use std::collections::BTreeSet;
+
+/// The lowest index of a record that is not known. Refused for want of memory.
+fn first_unknown(
+    alloc: Global,
+    config: &Config,
+    records: &[CallRecord],
+) -> Result<Option<usize>, Memory>
+    ensures { IfOk result (IsFirstNot (IsKnownAt config.now records.now)) }
+{
+    let mut states = new_states(alloc, config.seats)?;
+    for (index, record) in records.iter().enumerate() {
+        let seat = record.seat as usize;
+        if seat >= states.len() || !states[seat].is_known(config, record) {
+            return Ok(Some(index));
+        }
+        advance(&mut states, record);
+    }
+    Ok(None)
+}
+
+/// Whether the call writes at one of these times. Its own time is taken in, if it writes.
+/// Refused for want of memory.
+fn is_second(times: &mut BTreeSet<Time>, call: &CallRecord) -> Result<bool, Memory>
+    ensures second { IfOk result (λ second.
+        IsTrue second ↔ (IsSome (write_of call.now) × IsTrue (contains nat_cmp times.old call.now.time))) }
+    ensures times { OnOk result ((t : ℕ) →
+        IsTrue (contains nat_cmp times.new t) ↔ (IsTrue (contains nat_cmp times.old t) ⊎ WritesAt t call.now)) }
+{
+    if write_of(call).is_none() {
+        return Ok(false);
+    }
+    let is_new = times.insert(call.time).map_err(AllocError::from)?;
+    Ok(!is_new)
+}
+
+/// The lowest index of a write at the time of an earlier one. Refused for want of memory.
+fn first_second(alloc: Global, records: &[CallRecord]) -> Result<Option<usize>, Memory>
+    ensures { IfOk result (IsFirstOf (IsSecondAt records.now)) }
+{
+    let mut times = BTreeSet::new(alloc);
+    for (index, record) in records.iter().enumerate() {
+        if is_second(&mut times, record)? {
+            return Ok(Some(index));
+        }
+    }
+    Ok(None)
+}
+
+/// The lowest index of a record below the due of its seat. Refused for want of memory.
+fn first_back(
+    alloc: Global,
+    config: &Config,
+    records: &[CallRecord],
+) -> Result<Option<usize>, Memory>
+    requires { (i : ℕ) → IsKnownAt config.now records.now i }
+    ensures { IfOk result (IsFirstNot (IsFromDueAt records.now)) }
+{
+    let mut states = new_states(alloc, config.seats)?;
+    for (index, record) in records.iter().enumerate() {
+        let seat = record.seat as usize;
+        if !states[seat].is_from_due(record.time, &record.deed) {
+            return Ok(Some(index));
+        }
+        advance(&mut states, record);
+    }
+    Ok(None)
+}
+
+/// Audits the records of answered calls: whether they are the calls of one lawful history, in which each write
+/// stands at its own time and nothing else does. Records of one seat stand in its own order; between seats any
+/// order is right. Any records are accepted. Four passes look for faults, and the answer is the lowest index
+/// in the first pass that finds one:
+///
+/// 1. `Unknown`: the seat is not below `config.seats`; the time is not below 2^62, or for a record that is no
+///    write above 2^62; a snapshot is opened where one is open; a close or a read at the snapshot where none
+///    is open; one of these, a scan or a page at another time than the open snapshot's.
+/// 2. `TwoAtOneTime`: a write at the time of a write with a lower index.
+/// 3. `TimeRanBack`: a record below the due of its seat, which is the time of a read, and one more than
+///    that of a write. Closes and reads under an open snapshot are not held against it.
+/// 4. `WrongReply`: what was read is not what the writes below the record's time give.
+///
+/// Refused with `Memory` for want of memory, in place of any of these answers.
+pub fn audit(alloc: Global, config: &Config, records: &[CallRecord]) -> Result<(), AuditError>
+    ensures ok { OnOk result (IsLawful config.now records.now) }
+    ensures history { OnOk result (IsOneHistory records.now) }
+    ensures fault { IfErr result (IsRefusal config.now records.now) }
+{
+    if let Some(index) = first_unknown(alloc, config, records)? {
+        return refuse(FaultKind::Unknown, index);
+    }
+    if let Some(index) = first_second(alloc, records)? {
+        return refuse(FaultKind::TwoAtOneTime, index);
+    }
+    if let Some(index) = first_back(alloc, config, records)? {
+        return refuse(FaultKind::TimeRanBack, index);
+    }
+    let stamps = in_time_order(alloc, records)?;
+    if let Some(index) = first_wrong(alloc, records, &stamps)? {
+        return refuse(FaultKind::WrongReply, index);
+    }
+    Ok(())
+}
+
+/// The refusal of the record at this index.
+fn refuse(kind: FaultKind, index: usize) -> Result<(), AuditError>
+    ensures { result ≡ Err (AuditError.Fault kind index) }
+{
+    Err(AuditError::Fault { kind, index })
+}
