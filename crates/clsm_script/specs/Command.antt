@@ -4,7 +4,7 @@ use Rattle.std.specs.Str.Parse.{digits_value}
 use Rattle.clsm_script.specs.Number.{IsNumber, IsValue, value_of}
 use Rattle.clsm_script.specs.declared.command.Command.{Command}
 use Rattle.clsm_script.specs.declared.command.Command.TheVariants.{Put, Remove, Try, Add, Claim}
-use Rattle.clsm_script.specs.declared.command.Command.TheVariants.{Get, Snap, Close, GetAt}
+use Rattle.clsm_script.specs.declared.command.Command.TheVariants.{Get, Snap, Close, GetAt, Scan, Page}
 use Rattle.clsm_script.specs.declared.command.Command.TheVariants.{Freeze, Merge, Reclaim}
 
 -- the text writes this number
@@ -30,6 +30,10 @@ Says (Get key) (name ∷ k ∷ []) = (name ≡ codes "get") × WritesNumber k ke
 Says Snap (name ∷ []) = name ≡ codes "snap"
 Says Close (name ∷ []) = name ≡ codes "close"
 Says (GetAt key) (name ∷ k ∷ []) = (name ≡ codes "getat") × WritesNumber k key
+Says (Scan lo hi) (name ∷ l ∷ h ∷ []) =
+    (name ≡ codes "scan") × WritesNumber l lo × WritesNumber h hi
+Says (Page from hi max) (name ∷ f ∷ h ∷ m ∷ []) =
+    (name ≡ codes "page") × WritesNumber f from × WritesNumber h hi × WritesNumber m max
 Says Freeze (name ∷ []) = name ≡ codes "freeze"
 Says Merge (name ∷ []) = name ≡ codes "merge"
 Says Reclaim (name ∷ []) = name ≡ codes "reclaim"

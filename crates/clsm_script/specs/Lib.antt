@@ -1,3 +1,4 @@
+pub mod Answer
 pub mod Changes
 pub mod Command
 pub mod Failure

@@ -1,7 +1,7 @@
 -- What the commands of a script make of a seat and of the merger's phase, and what they answer.
 use Rattle.std.specs.Prelude.{◌≡◌, Some, None, Ok, Err}
 use Rattle.clsm_model.specs.declared.record.Deed.TheVariants as deeds
-use Rattle.clsm_calls.specs.Seats.{SeatState, Answers, IsFull}
+use Rattle.clsm_calls.specs.Seats.{SeatState, Answers, IsFull, Refuses}
 use Rattle.clsm_calls.specs.Trying.{RefusesTry}
 use Rattle.clsm_script.specs.Changes.{added, claimed}
 use Rattle.clsm_store.specs.Phase.{Freezes, Merges, Reclaims}
@@ -9,11 +9,12 @@ use Rattle.clsm_script.specs.declared.answer.Answer.{Answer}
 use Rattle.clsm_script.specs.declared.answer.Answer.TheVariants.{Write, Try as Tried}
 use Rattle.clsm_script.specs.declared.answer.Answer.TheVariants.{Change as Changed, Read, ReadAt}
 use Rattle.clsm_script.specs.declared.answer.Answer.TheVariants.{Snapshot, Close as Closed}
+use Rattle.clsm_script.specs.declared.answer.Answer.TheVariants.{Scan as Scanned, Page as Paged}
 use Rattle.clsm_script.specs.declared.answer.Answer.TheVariants.{Freeze as Froze, Merge as Merged}
 use Rattle.clsm_script.specs.declared.answer.Answer.TheVariants.{Reclaim as Reclaimed}
 use Rattle.clsm_script.specs.declared.command.Command.{Command}
 use Rattle.clsm_script.specs.declared.command.Command.TheVariants.{Put, Remove, Try, Add, Claim}
-use Rattle.clsm_script.specs.declared.command.Command.TheVariants.{Get, Snap, Close, GetAt}
+use Rattle.clsm_script.specs.declared.command.Command.TheVariants.{Get, Snap, Close, GetAt, Scan, Page}
 use Rattle.clsm_script.specs.declared.command.Command.TheVariants.{Freeze, Merge, Reclaim}
 use Rattle.clsm_store.specs.declared.phase.Phase.{Phase}
 
@@ -39,6 +40,12 @@ Plays Close old new (Closed None) = (new ≡ old) × (old.snapshot ≡ None)
 Plays (GetAt key) old new (ReadAt (Some got)) =
     Answers old new got.time (deeds.GetAt key got.value)
 Plays (GetAt key) old new (ReadAt None) = (new ≡ old) × (old.snapshot ≡ None)
+Plays (Scan lo hi) old new (Scanned (Ok scan)) =
+    Answers old new scan.time (deeds.Scan lo hi scan.rows)
+Plays (Scan lo hi) old new (Scanned (Err _)) = Refuses old new
+Plays (Page from hi max) old new (Paged (Ok page)) =
+    Answers old new page.time (deeds.Page from hi max page.rows page.more)
+Plays (Page from hi max) old new (Paged (Err _)) = Refuses old new
 Plays Freeze old new (Froze _) = new ≡ old
 Plays Merge old new (Merged _) = new ≡ old
 Plays Reclaim old new (Reclaimed _) = new ≡ old

@@ -1,9 +1,13 @@
-use clsm_model::{Change, Time, Value};
-use clsm_store::{FreezeError, Full, Got, MergeError, Open, ReclaimError, Rmw, TryPutError};
+ghost use Rattle.std.specs.Prelude.{◌↔◌, IsTrue};
+
+use clsm_model::{Change, Memory, Rows, Time, Value};
+use clsm_store::{
+    FreezeError, Full, Got, MergeError, Open, Page, ReclaimError, Rmw, Scan, TryPutError,
+};
 use std::fmt;
 
 /// What a command answers. It is shown as the program writes it.
-#[derive(Clone, Copy, Debug)]
+#[derive(Debug, Drop)]
 pub enum Answer {
     /// `@T`, or `full @T` where no write more may be made.
     Write(Result<Time, Full>),
@@ -19,6 +23,11 @@ pub enum Answer {
     Close(Option<Time>),
     /// As a read, or `no snapshot`.
     ReadAt(Option<Got>),
+    /// `K=V` for each row, then `@T`; `empty @T` where there is no row. A script ends where it is
+    /// refused memory, and so it does at a page.
+    Scan(Result<Scan, Memory>),
+    /// As a scan, then `more K` where a row is left out.
+    Page(Result<Page, Memory>),
     /// `frozen E`, the number of the frozen epoch; or why none was frozen: `not clean` or `worn`.
     Freeze(Result<u64, FreezeError>),
     /// `merged M`, the new number of merges; or why nothing was merged: `not frozen` or `run full`.
@@ -26,6 +35,17 @@ pub enum Answer {
     /// `clean`; or why nothing was reclaimed: `not retired`, or `pinned S` with the number of a
     /// seat.
     Reclaim(Result<(), ReclaimError>),
+}
+
+impl Answer {
+    ghost use Rattle.clsm_script.specs.Answer.{WantsMemory};
+
+    /// Whether the command was refused memory.
+    pub fn wants_memory(&self) -> bool
+        ensures { IsTrue result ↔ WantsMemory self.now }
+    {
+        matches!(self, Answer::Scan(Err(_)) | Answer::Page(Err(_)))
+    }
 }
 
 impl fmt::Display for Answer {
@@ -43,6 +63,9 @@ impl fmt::Display for Answer {
             Answer::Snapshot(Err(refusal)) => write!(f, "{refusal}"),
             Answer::Close(Some(time)) => write!(f, "closed @{time}"),
             Answer::Close(None) | Answer::ReadAt(None) => write!(f, "no snapshot"),
+            Answer::Scan(Ok(scan)) => write_rows(f, &scan.rows, scan.time),
+            Answer::Page(Ok(page)) => write_page(f, page),
+            Answer::Scan(Err(refusal)) | Answer::Page(Err(refusal)) => write!(f, "{refusal}"),
             Answer::Freeze(Ok(epoch)) => write!(f, "frozen {epoch}"),
             Answer::Freeze(Err(refusal)) => write!(f, "{refusal}"),
             Answer::Merge(Ok(merges)) => write!(f, "merged {merges}"),
@@ -73,5 +96,24 @@ fn write_change<W: fmt::Write>(f: &mut fmt::Formatter<W>, rmw: &Rmw) -> fmt::Res
         Change::Keep => write!(f, "kept {old} @{time}"),
         Change::Set(value) => write!(f, "old {old} new {value} @{time}"),
         Change::Remove => write!(f, "old {old} new none @{time}"),
+    }
+}
+
+fn write_rows<W: fmt::Write>(f: &mut fmt::Formatter<W>, rows: &Rows, time: Time) -> fmt::Result {
+    let rows = rows.as_slice();
+    if rows.is_empty() {
+        write!(f, "empty ")?;
+    }
+    for (key, value) in rows {
+        write!(f, "{key}={value} ")?;
+    }
+    write!(f, "@{time}")
+}
+
+fn write_page<W: fmt::Write>(f: &mut fmt::Formatter<W>, page: &Page) -> fmt::Result {
+    write_rows(f, &page.rows, page.time)?;
+    match page.more {
+        Some(key) => write!(f, " more {key}"),
+        None => Ok(()),
     }
 }

@@ -6,6 +6,7 @@ use crate::number::{parse_number, parse_value};
 use crate::snapshots::get_at;
 use clsm_model::Value;
 use clsm_store::{Pace, Phase, Seat, Store};
+use std::alloc::Global;
 use std::sync::Wait;
 
 /// A command of a script.
@@ -30,6 +31,11 @@ pub enum Command {
     Close,
     /// `getat K`: reads the value at the key under the open snapshot.
     GetAt { key: u64 },
+    /// `scan LO HI`: reads all keys from `LO` to `HI` that have a value, under the open snapshot if
+    /// one is open.
+    Scan { lo: u64, hi: u64 },
+    /// `page FROM HI MAX`: reads the first `MAX` of the keys that a scan would read.
+    Page { from: u64, hi: u64, max: u64 },
     /// `freeze`: freezes the current epoch, so that writers go on in the next.
     Freeze,
     /// `merge`: merges the frozen epoch into a sorted run.
@@ -53,6 +59,7 @@ impl Command {
             [name] => Command::of_name(name),
             [name, key] => Command::of_key(name, key),
             [name, key, value] => Command::of_value(name, key, value),
+            [name, from, hi, max] => Command::of_page(name, from, hi, max),
             _ => None,
         }
     }
@@ -86,7 +93,7 @@ impl Command {
         }
     }
 
-    /// The command with this name, a key, and a number or a value.
+    /// The command with this name and two numbers, or a key and a value.
     fn of_value(name: &str, key: &str, value: &str) -> Option<Command>
         ensures read { IfSome result
             (λ command. Says command (name.now ∷ key.now ∷ value.now ∷ [])) }
@@ -97,6 +104,10 @@ impl Command {
             let by = parse_number(value)?;
             return Some(Command::Add { key, by });
         }
+        if name == "scan" {
+            let hi = parse_number(value)?;
+            return Some(Command::Scan { lo: key, hi });
+        }
         let value = parse_value(value)?;
         match name {
             "put" => Some(Command::Put { key, value }),
@@ -106,12 +117,29 @@ impl Command {
         }
     }
 
+    /// The command with this name and three numbers.
+    fn of_page(name: &str, from: &str, hi: &str, max: &str) -> Option<Command>
+        ensures read { IfSome result
+            (λ command. Says command (name.now ∷ from.now ∷ hi.now ∷ max.now ∷ [])) }
+        ensures refused { IfNone result
+            (SaysNone (name.now ∷ from.now ∷ hi.now ∷ max.now ∷ [])) }
+    {
+        if name != "page" {
+            return None;
+        }
+        let from = parse_number(from)?;
+        let hi = parse_number(hi)?;
+        let max = parse_number(max)?;
+        Some(Command::Page { from, hi, max })
+    }
+
     /// Plays the command on a store, by one of its seats or by its merger, and answers what the
     /// store answered. A command of the merger in another phase than its own does nothing, and is
     /// answered so.
     pub fn play<P: Pace + Drop, R: Wait>(
         self,
         rt: &R,
+        alloc: Global,
         store: &Store<P>,
         seat: &mut Seat,
         phase: Phase,
@@ -133,6 +161,10 @@ impl Command {
             Command::Snap => Answer::Snapshot(store.snapshot(seat)),
             Command::Close => Answer::Close(store.close_snapshot(seat)),
             Command::GetAt { key } => Answer::ReadAt(get_at(store, seat, key)),
+            Command::Scan { lo, hi } => Answer::Scan(store.scan(alloc, seat, lo, hi)),
+            Command::Page { from, hi, max } => {
+                Answer::Page(store.page(alloc, seat, from, hi, max as usize))
+            }
             Command::Freeze => {
                 let (phase, answer) = phase.freeze(rt, store);
                 return (phase, Answer::Freeze(answer));

@@ -1,4 +1,6 @@
-ghost use Rattle.std.specs.Prelude.{◌≡◌, IfSome, IfOk, OnOk, IfErr};
+ghost use Rattle.std.specs.Prelude.{◌≡◌, Err, IfSome, IfOk, OnOk, IfErr};
+ghost use Rattle.clsm_script.specs.Answer.{WantsMemory};
+ghost use Rattle.clsm_script.specs.declared.failure.Failure.TheVariants.{Memory};
 ghost use Rattle.clsm_script.specs.Script.{IsScript, IsStatus, StopsPlay, StopsScript};
 ghost use Rattle.clsm_script.specs.Failure.{IsOutside};
 ghost use Rattle.clsm_store.specs.Phase.{merger_in};
@@ -141,14 +143,19 @@ fn play_line<T: Wait, W: Write, P: Pace + Drop>(
     let Some(command) = said else {
         return Ok(phase);
     };
-    let (phase, answer) = command.play(rt, store, seat, phase);
+    let (phase, answer) = command.play(rt, alloc, store, seat, phase);
     write_answer(alloc, output, answer)?;
     Ok(phase)
 }
 
+/// Writes the answer as a line, or ends the script where the answer is a want of memory.
 fn write_answer<W: Write>(alloc: Global, output: &mut W, answer: Answer) -> Result<(), Failure>
-    ensures { IfErr result IsOutside }
+    ensures outside { IfErr result IsOutside }
+    ensures memory { WantsMemory answer → result ≡ Err Memory }
 {
+    if answer.wants_memory() {
+        return Err(Failure::Memory);
+    }
     let text = format!(in alloc; "{answer}\n")?;
     output.write_all(text.as_bytes())?;
     output.flush()?;

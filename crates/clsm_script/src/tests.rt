@@ -10,6 +10,7 @@ mod changing;
 mod ending;
 mod lines;
 mod merging;
+mod scans;
 mod snapshots;
 
 const NEVER: u32 = u32::MAX;

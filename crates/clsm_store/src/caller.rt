@@ -1,15 +1,16 @@
 //! A caller with its store: the calls of the store. Only `get_at` asks for an open snapshot.
 ghost use Rattle.std.specs.Prelude.{◌≡◌, ◌≢◌, None, Some, IfNone, IfOk, IfErr, IfSome};
-ghost use Rattle.clsm_model.specs.declared.record.Deed.TheVariants.{Close, Get, GetAt, Put, Remove, Rmw as ChangeOf, Snapshot};
-ghost use Rattle.clsm_calls.specs.Seats.{Answers, GivesUpForWrites, IsFull};
+ghost use Rattle.clsm_model.specs.declared.record.Deed.TheVariants.{Close, Get, GetAt, Page as PageOf, Put, Remove, Rmw as ChangeOf, Scan as ScanOf, Snapshot};
+ghost use Rattle.clsm_calls.specs.Seats.{Answers, GivesUpForWrites, IsFull, Refuses};
 ghost use Rattle.clsm_calls.specs.Tally.{CancelsNone, CountsTry, TakesLockOnce, TakesNoLock};
 ghost use Rattle.clsm_calls.specs.Trying.{RefusesTry};
 
 use crate::seat::Seat;
 use crate::store::Store;
-use clsm_calls::{Full, Got, Open, Rmw, TryPutError};
-use clsm_model::{Change, Time, Value};
+use clsm_calls::{Full, Got, Open, Page, Rmw, Scan, TryPutError};
+use clsm_model::{Change, Memory, Time, Value};
 use clsm_words::Pace;
+use std::alloc::Global;
 use std::sync::Wait;
 
 /// A caller: a store and one of its seats, by which the caller makes its calls. It may be moved to
@@ -109,6 +110,24 @@ impl<'a, P: Pace> Caller<'a, P> {
         ensures lock { self.new.seat.tally ≡ self.old.seat.tally }
     {
         self.store.get_at(&mut self.seat, key)
+    }
+
+    /// As `Store::scan`.
+    pub fn scan(&mut self, alloc: Global, lo: u64, hi: u64) -> Result<Scan, Memory>
+        ensures answers { IfOk result (λ scan. Answers self.old.seat self.new.seat scan.time (ScanOf lo hi scan.rows)) }
+        ensures lock { TakesNoLock self.old.seat.tally self.new.seat.tally }
+        ensures refused { IfErr result (λ refusal. Refuses self.old.seat self.new.seat) }
+    {
+        self.store.scan(alloc, &mut self.seat, lo, hi)
+    }
+
+    /// As `Store::page`.
+    pub fn page(&mut self, alloc: Global, from: u64, hi: u64, max: usize) -> Result<Page, Memory>
+        ensures answers { IfOk result (λ page. Answers self.old.seat self.new.seat page.time (PageOf from hi max page.rows page.more)) }
+        ensures lock { TakesNoLock self.old.seat.tally self.new.seat.tally }
+        ensures refused { IfErr result (λ refusal. Refuses self.old.seat self.new.seat) }
+    {
+        self.store.page(alloc, &mut self.seat, from, hi, max)
     }
 
     /// As `Seat::snapshot_time`.

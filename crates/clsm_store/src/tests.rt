@@ -17,11 +17,13 @@ mod freezing;
 mod gate;
 mod held;
 mod held_writer;
+mod meetings;
 mod merging;
 mod opening;
 mod paced;
 mod replay;
 mod replay_merges;
+mod scans;
 mod snapshots;
 mod threads;
 

@@ -30,13 +30,13 @@ fn reads_a_removed_key_under_a_snapshot(rt: HostRuntime) -> Result<(), Fail> {
                 freeze\nmerge\nreclaim\n\
                 freeze\nmerge\nreclaim\n\
                 freeze\nmerge\nreclaim\n\
-                getat 1\nget 1\nclose\ngetat 1\n";
+                getat 1\nget 1\nscan 0 9\nclose\nscan 0 9\ngetat 1\n";
     let output = "@0\nsnap @1\n@1\n\
                   frozen 0\nmerged 1\nclean\n\
                   frozen 1\nmerged 2\nclean\n\
                   frozen 2\nmerged 3\nclean\n\
                   frozen 3\nmerged 4\nclean\n\
-                  10 @1\nnone @16\nclosed @1\nno snapshot\n";
+                  10 @1\nnone @16\n1=10 @1\nclosed @1\nempty @16\nno snapshot\n";
     play(&rt, rt.alloc(), DEFAULT_SIZES, text.as_bytes())?.expect(&rt, output, "", 0);
     Ok(())
 }

@@ -16,14 +16,14 @@ const FOUR_SEATS: Config = Config {
     patience: 64,
 };
 
-/// A thread makes so many calls that are answered, and at most so many in all.
+/// A thread reads and writes so many keys, and makes at most so many calls.
 const CALLS: usize = 1_000;
 
 const ATTEMPTS: u64 = 20_000;
 
 const KEYS: u64 = 8;
 
-/// What a call answered: its time, its key, the value that it read, if it read, and what it wrote, if it wrote.
+/// What a call answered of a key: its time, the key, the value that it read, if it read, and what it wrote, if it wrote.
 #[derive(Clone, Copy, Debug)]
 pub(super) struct Answered {
     time: Time,
@@ -118,7 +118,7 @@ fn get_one(store: &Store<Free>, seat: &mut Seat, key: u64) -> Option<Answered>
     })
 }
 
-/// One call: what it is depends on the word alone.
+/// One call of one key: what it is depends on the word alone.
 fn call<R: Abort + Wait>(
     rt: &R,
     store: &Store<Free>,
@@ -137,6 +137,119 @@ fn call<R: Abort + Wait>(
     }
 }
 
+/// Closes the open snapshot, or opens one.
+fn toggle_snapshot(store: &Store<Free>, seat: &mut Seat)
+    requires { seat.old.store ≡ store.now }
+    ensures { seat.new.store ≡ store.now }
+{
+    if store.close_snapshot(seat).is_none() {
+        let _ = store.snapshot(seat);
+    }
+}
+
+/// A read under the open snapshot, if one is open.
+fn get_under(store: &Store<Free>, seat: &mut Seat, key: u64) -> Option<Answered>
+    requires { seat.old.store ≡ store.now }
+    ensures { seat.new.store ≡ store.now }
+{
+    seat.snapshot_time()?;
+    let Got { time, value } = store.get_at(seat, key);
+    Some(Answered {
+        time,
+        key,
+        read: Some(value),
+        wrote: None,
+    })
+}
+
+/// The rows as reads of each key from the first one to the one before the last.
+fn push_reads(
+    rt: &impl Abort,
+    answers: &mut Vec<Answered>,
+    time: Time,
+    keys: (u64, u64),
+    mut rows: &[(u64, Value)],
+) {
+    let (from, behind) = keys;
+    for key in from..behind {
+        let mut value = None;
+        if let Some((row, rest)) = rows.split_first()
+            && row.0 == key
+        {
+            value = Some(row.1);
+            rows = rest;
+        }
+        let read = Answered {
+            time,
+            key,
+            read: Some(value),
+            wrote: None,
+        };
+        answers.push(read).expect(rt, "memory");
+    }
+    assert!(rt; rows.is_empty());
+}
+
+/// All keys from this one on.
+fn scan_some(
+    rt: &impl Abort,
+    alloc: Global,
+    store: &Store<Free>,
+    seat: &mut Seat,
+    lo: u64,
+    answers: &mut Vec<Answered>,
+)
+    requires { seat.old.store ≡ store.now }
+    ensures { seat.new.store ≡ store.now }
+{
+    let scan = store.scan(alloc, seat, lo, KEYS).expect(rt, "memory");
+    push_reads(rt, answers, scan.time, (lo, KEYS), scan.rows.as_slice());
+}
+
+/// Three keys from this one on.
+fn page_some(
+    rt: &impl Abort,
+    alloc: Global,
+    store: &Store<Free>,
+    seat: &mut Seat,
+    from: u64,
+    answers: &mut Vec<Answered>,
+)
+    requires { seat.old.store ≡ store.now }
+    ensures { seat.new.store ≡ store.now }
+{
+    let page = store.page(alloc, seat, from, KEYS, 3).expect(rt, "memory");
+    assert!(rt; page.rows.as_slice().len() <= 3);
+    let behind = page.more.unwrap_or(KEYS);
+    push_reads(rt, answers, page.time, (from, behind), page.rows.as_slice());
+}
+
+/// One call; nothing is pushed where it is refused, and for a snapshot.
+fn call_any<R: Abort + Wait>(
+    rt: &R,
+    alloc: Global,
+    store: &Store<Free>,
+    seat: &mut Seat,
+    word: u64,
+    answers: &mut Vec<Answered>,
+)
+    requires { seat.old.store ≡ store.now }
+    ensures { seat.new.store ≡ store.now }
+{
+    let key = (word >> 29) % KEYS;
+    let answer = match (word >> 24) % 16 {
+        0 => return toggle_snapshot(store, seat),
+        1 => return scan_some(rt, alloc, store, seat, key, answers),
+        2 => return page_some(rt, alloc, store, seat, key, answers),
+        3 => get_under(store, seat, key),
+        _ => call(rt, store, seat, word),
+    };
+    match answer {
+        Some(answer) => answers.push(answer).expect(rt, "memory"),
+        None => thread::yield_now(),
+    }
+}
+
 /// Makes its calls, and answers what they answered. Where one is refused, other threads go on first.
 fn work<R: Abort + Wait>(
     rt: &R,
@@ -149,17 +262,14 @@ fn work<R: Abort + Wait>(
     let mut answers = Vec::new(alloc);
     let mut word = seat.number() as u64;
     for _ in 0..ATTEMPTS {
-        if answers.len() == CALLS {
+        if answers.len() >= CALLS {
             break;
         }
         // Knuth's linear congruential sequence
         word = word
             .wrapping_mul(6_364_136_223_846_793_005)
             .wrapping_add(1_442_695_040_888_963_407);
-        match call(rt, store, &mut seat, word) {
-            Some(answer) => answers.push(answer).expect(rt, "memory"),
-            None => thread::yield_now(),
-        }
+        call_any(rt, alloc, store, &mut seat, word, &mut answers);
     }
     answers
 }

@@ -7,11 +7,12 @@ use std::test::*;
 use std::thread;
 use std::thread::{Threads, join};
 
+// an open snapshot keeps every later version, so runs have room for all writes
 const SIXTY_FOUR_CELLS: Config = Config {
     cells: 64,
     seats: 4,
     shards: 2,
-    run: 64,
+    run: 8_192,
     patience: 64,
 };
 
