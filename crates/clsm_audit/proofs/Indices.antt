@@ -1,5 +1,5 @@
 -- What holds of the record at an index, and of each record up to the end.
-use Rattle.std.proofs.Common.{◌≡◌, ℕ, ◌+◌, ◌<◌, ◌≤◌, List, [], ◌∷◌, ◌++◌, length, get_or, take, drop, Option, None, IfSome, refl, sym, ap, ◌∙◌, subst, ⊎_elim, arith}
+use Rattle.std.proofs.Common.{◌≡◌, ℕ, ◌+◌, ◌<◌, ◌≤◌, List, [], ◌∷◌, ◌++◌, length, get_or, take, drop, Option, Some, None, IfSome, refl, sym, ap, ◌∙◌, subst, ⊎_elim, arith}
 use Rattle.std.proofs.lemmas.Bool.{cases_lt}
 use Rattle.std.proofs.lemmas.List.{append-nil, drop_all, get_or_default, take_all, take_more}
 use Rattle.std.proofs.lemmas.Option.{slice_get_past, slice_get_read}
@@ -46,3 +46,11 @@ all_hold Holds found none is i = is.below i (subst (λ (o : Option ℕ). IfSome 
 
 pub none_has : (IsFault : ℕ → Type 0) (found : Option ℕ) → found ≡ None → IsFirstOf IsFault found → HasNone IsFault
 none_has IsFault found none is = subst (IsFirstOf IsFault) none is
+
+-- ---- and that it found none
+
+pub all_held : (Holds : ℕ → Type 0) → ((i : ℕ) → Holds i) → (found : Option ℕ) (i : ℕ) → found ≡ Some i → IsFirstNot Holds found → ⊥
+all_held Holds all found i some is = subst (λ (o : Option ℕ). IfSome o (λ j. ¬ Holds j)) some is.fails (all i)
+
+pub none_had : (IsFault : ℕ → Type 0) → HasNone IsFault → (found : Option ℕ) (i : ℕ) → found ≡ Some i → IsFirstOf IsFault found → ⊥
+none_had IsFault none found i some is = none i (subst (IsFirstOf IsFault) some is).here

@@ -2,10 +2,14 @@ pub mod Calls
 pub mod Indices
 pub mod OneHistory
 pub mod Orders
+pub mod Parts
+pub mod Passing
 pub mod Played
 pub mod Ranges
 pub mod Readings
+pub mod Same
 pub mod Seconds
 pub mod Slots
 pub mod Turns
 pub mod Walks
+pub mod WholeHistory

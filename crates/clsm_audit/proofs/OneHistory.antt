@@ -6,6 +6,7 @@ use Rattle.std.proofs.lemmas.List.FromFn.{length-map-range_with_len}
 use Rattle.std.proofs.lemmas.Option.{slice_get-get_or}
 use Rattle.std.specs.List.{AllByRecursion, slice_get}
 use Rattle.std.specs.Option.{IsSomeAnd}
+use Rattle.clsm_model.specs.declared.config.Config.{Config}
 use Rattle.clsm_model.specs.declared.record.CallRecord.{CallRecord}
 use Rattle.clsm_model.specs.declared.record.Deed.{Deed}
 use Rattle.clsm_model.specs.declared.record.Deed.TheVariants.{Put, Remove, Rmw, Get, Snapshot, Close, GetAt, Scan, Page}
@@ -17,6 +18,7 @@ use Rattle.clsm_model.specs.Right.{Reads, write_by}
 use Rattle.clsm_model.specs.Seats.{AreCallsIn, HasEachWrite, IsNext, IsRecordIn, IsRightDeed, IsRightRecord, Rises, StandsAs, due_after, last_due, last_open, open_after}
 use Rattle.clsm_audit.specs.Faults.{HasNone, IsSecondAt}
 use Rattle.clsm_audit.specs.Lawful.{IsAtSnapshot, IsFromDue, IsFromDueAt, IsKnown, IsKnownAt, IsRightAt, calls_of, due_of, open_of}
+use Rattle.clsm_audit.specs.Whole.{HasHistory, IsInRange}
 use Rattle.clsm_audit.specs.Written.{end_by, history_of, slot_by, write_of}
 use Rattle.clsm_audit.proofs.Calls.{calls_of-other, calls_of-own}
 use Rattle.clsm_audit.proofs.Indices.{here_if, if_here, itself, nobody, past_end, taken_more}
@@ -127,7 +129,7 @@ skip-one q x ys fails = elim (q x) as (λ (b : Bool). q x ≡ b → cond b (x �
 skip : (p q : CallRecord → Bool) (x : CallRecord) (xs : List CallRecord) → (p x ≡ true → q x ≡ true → ⊥) → filter q (filter p (x ∷ xs)) ≡ filter q (filter p xs)
 skip p q x xs fails = elim (p x) as (λ (b : Bool). p x ≡ b → filter q (cond b (x ∷ filter p xs) (filter p xs)) ≡ filter q (filter p xs)) [ true ↦ λ e. skip-one q x (filter p xs) (fails e) | false ↦ λ e. refl ] refl
 
-keep : (p q : CallRecord → Bool) (x : CallRecord) (xs : List CallRecord) → p x ≡ true → q x ≡ true → filter q (filter p (x ∷ xs)) ≡ x ∷ filter q (filter p xs)
+pub keep : (p q : CallRecord → Bool) (x : CallRecord) (xs : List CallRecord) → p x ≡ true → q x ≡ true → filter q (filter p (x ∷ xs)) ≡ x ∷ filter q (filter p xs)
 keep p q x xs e f = ap (λ (b : Bool). filter q (cond b (x ∷ filter p xs) (filter p xs))) e ∙ ap (λ (b : Bool). cond b (x ∷ filter q (filter p xs)) (filter q (filter p xs))) f
 
 none_pass : (p q : CallRecord → Bool) (xs : List CallRecord) → ((k : ℕ) → k < length xs → p (get_or xs k nobody) ≡ true → q (get_or xs k nobody) ≡ true → ⊥) → filter q (filter p xs) ≡ []
@@ -243,4 +245,14 @@ calls_in config records known alone from_due right seat = record {
     due_is = omega arith;
     open_is = refl;
   };
+}
+
+-- so they have a history
+pub has_history : (config : Config) (records : List CallRecord) → ((i : ℕ) → IsKnownAt config records i) → HasNone (IsSecondAt records) → ((i : ℕ) → IsFromDueAt records i) → ((i : ℕ) → IsRightAt records i) → HasHistory config records
+has_history config records known alone from_due right = record {
+  in_range = each_record (IsInRange config) records (λ i within.
+      let is = here_if (λ q. IsKnown config (open_of (take i records) q.seat) q) records i (get_or records i nobody) within (itself records i within) (known i) in
+      record { seat = is.seat; time = is.time });
+  history = (history_of records).slots;
+  parts = λ seat. record { due = due_of records seat; snapshot = open_of records seat; calls_in = calls_in config records known alone from_due right seat };
 }

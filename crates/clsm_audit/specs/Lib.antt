@@ -3,4 +3,5 @@ pub mod Lawful
 pub mod Numbers
 pub mod Order
 pub mod States
+pub mod Whole
 pub mod Written

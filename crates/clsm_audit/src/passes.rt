@@ -3,6 +3,7 @@ ghost use Rattle.std.specs.BTreeSet.{contains};
 ghost use Rattle.std.specs.Ordering.{nat_cmp};
 ghost use Rattle.clsm_audit.specs.Faults.{IsFirstNot, IsFirstOf, IsLawful, IsOneHistory, IsRefusal, IsSecondAt};
 ghost use Rattle.clsm_audit.specs.Lawful.{IsFromDueAt, IsKnownAt};
+ghost use Rattle.clsm_audit.specs.Whole.{HasHistory};
 ghost use Rattle.clsm_audit.specs.Written.{WritesAt, write_of};
 
 use crate::fault::{AuditError, FaultKind};
@@ -94,11 +95,14 @@ fn first_back(
 ///    that of a write. Closes and reads under an open snapshot are not held against it.
 /// 4. `WrongReply`: what was read is not what the writes below the record's time give.
 ///
-/// Refused with `Memory` for want of memory, in place of any of these answers.
+/// Refused with `Memory` for want of memory, in place of any of these answers. Records whose seats and times
+/// are in their ranges, and that are the calls of a history, are refused for nothing else.
 pub fn audit(alloc: Global, config: &Config, records: &[CallRecord]) -> Result<(), AuditError>
     ensures ok { OnOk result (IsLawful config.now records.now) }
     ensures history { OnOk result (IsOneHistory records.now) }
+    ensures has { OnOk result (HasHistory config.now records.now) }
     ensures fault { IfErr result (IsRefusal config.now records.now) }
+    ensures whole { HasHistory config.now records.now → IfErr result (λ error. error ≡ AuditError.Memory) }
 {
     if let Some(index) = first_unknown(alloc, config, records)? {
         return refuse(FaultKind::Unknown, index);

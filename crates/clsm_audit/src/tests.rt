@@ -5,7 +5,16 @@ use std::alloc::Global;
 use std::fmt::Display;
 use std::process::Abort;
 
+mod drawn;
+mod plain;
+
 const END: Time = 1 << 62;
+
+/// The keys of drawn lists are below it.
+const KEYS: u64 = 4;
+
+/// How many lists are drawn.
+const LISTS: u64 = 10_000;
 
 fn config(seats: usize) -> Config {
     Config {
@@ -209,4 +218,46 @@ fn rows_rise_and_a_page_names_the_next_key(rt: HostRuntime) {
         ];
         assert_eq!(rt; audited(alloc, 1, &records), answer);
     }
+}
+
+/// How often the audit answered each of its answers but `Memory`: `Ok`, and a fault of each kind.
+#[derive(Clone, Copy, PartialEq, Eq, Debug)]
+struct Answers {
+    lawful: u32,
+    faults: [u32; 4],
+}
+
+fn count(answers: &mut Answers, answer: Result<(), AuditError>) {
+    match answer {
+        Ok(()) => answers.lawful = answers.lawful.wrapping_add(1),
+        Err(AuditError::Fault { kind, .. }) => {
+            let place = (kind.number() as usize).wrapping_sub(1) % 4;
+            answers.faults[place] = answers.faults[place].wrapping_add(1);
+        }
+        Err(AuditError::Memory) => {}
+    }
+}
+
+#[test]
+fn drawn_lists_are_answered_as_by_a_second_check(rt: HostRuntime) {
+    let alloc = rt.alloc();
+    let mut answers = Answers {
+        lawful: 0,
+        faults: [0; 4],
+    };
+    for number in 0..LISTS {
+        let records = match drawn::draw(alloc, number) {
+            Err(_) => drawn::draw(alloc, number).expect(&rt, "memory at the second try"),
+            Ok(records) => records,
+        };
+        let answer = audited(alloc, 3, &records);
+        assert_eq!(rt; answer, plain::second_check(3, &records), "list {number}");
+        assert!(rt; number % 2 == 1 || answer.is_ok(), "list {number}");
+        count(&mut answers, answer);
+    }
+    assert!(rt; answers.lawful > 5_000);
+    assert!(rt;
+        answers.faults.iter().all(|count| *count > 100),
+        "{answers:?}"
+    );
 }

@@ -1,3 +1,3 @@
-pub mod Lines
-pub mod Parts
-pub mod Scripts
+pub mod Pairs
+pub mod Readings
+pub mod Sessions

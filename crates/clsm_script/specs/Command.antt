@@ -1,10 +1,12 @@
 -- The commands of a script, as their words say them.
 use Rattle.std.specs.Prelude.{◌≡◌, ℕ, List, [], ◌∷◌, codes}
 use Rattle.std.specs.Str.Parse.{digits_value}
-use Rattle.clsm_script.specs.Number.{IsNumber, IsValue, value_of}
+use Rattle.clsm_text.specs.Number.{IsNumber, IsValue, value_of}
+use Rattle.clsm_script.specs.declared.call.Call.{Call}
+use Rattle.clsm_script.specs.declared.call.Call.TheVariants.{Put, Remove, Try, Add, Claim}
+use Rattle.clsm_script.specs.declared.call.Call.TheVariants.{Get, Snap, Close, GetAt, Scan, Page}
 use Rattle.clsm_script.specs.declared.command.Command.{Command}
-use Rattle.clsm_script.specs.declared.command.Command.TheVariants.{Put, Remove, Try, Add, Claim}
-use Rattle.clsm_script.specs.declared.command.Command.TheVariants.{Get, Snap, Close, GetAt, Scan, Page}
+use Rattle.clsm_script.specs.declared.command.Command.TheVariants.{Call as Makes, Seat, Meet, Audit}
 use Rattle.clsm_script.specs.declared.command.Command.TheVariants.{Freeze, Merge, Reclaim}
 
 -- the text writes this number
@@ -15,30 +17,38 @@ WritesNumber text number = IsNumber text × (number ≡ digits_value 10 text)
 abbrev pub WritesValue : List ℕ → List ℕ → Type 0
 WritesValue text value = IsValue text × (value ≡ value_of text)
 
+-- the words say the call of a seat
+abbrev pub SaysCall : Call → List (List ℕ) → Type 0
+SaysCall (Put key value) (name ∷ k ∷ v ∷ []) =
+    (name ≡ codes "put") × WritesNumber k key × WritesValue v value
+SaysCall (Remove key) (name ∷ k ∷ []) = (name ≡ codes "remove") × WritesNumber k key
+SaysCall (Try key value) (name ∷ k ∷ v ∷ []) =
+    (name ≡ codes "try") × WritesNumber k key × WritesValue v value
+SaysCall (Add key by) (name ∷ k ∷ d ∷ []) =
+    (name ≡ codes "add") × WritesNumber k key × WritesNumber d by
+SaysCall (Claim key value) (name ∷ k ∷ v ∷ []) =
+    (name ≡ codes "claim") × WritesNumber k key × WritesValue v value
+SaysCall (Get key) (name ∷ k ∷ []) = (name ≡ codes "get") × WritesNumber k key
+SaysCall Snap (name ∷ []) = name ≡ codes "snap"
+SaysCall Close (name ∷ []) = name ≡ codes "close"
+SaysCall (GetAt key) (name ∷ k ∷ []) = (name ≡ codes "getat") × WritesNumber k key
+SaysCall (Scan lo hi) (name ∷ l ∷ h ∷ []) =
+    (name ≡ codes "scan") × WritesNumber l lo × WritesNumber h hi
+SaysCall (Page from hi max) (name ∷ f ∷ h ∷ m ∷ []) =
+    (name ≡ codes "page") × WritesNumber f from × WritesNumber h hi × WritesNumber m max
+SaysCall _ _ = ⊥
+
 -- the words say the command
 abbrev pub Says : Command → List (List ℕ) → Type 0
-Says (Put key value) (name ∷ k ∷ v ∷ []) =
-    (name ≡ codes "put") × WritesNumber k key × WritesValue v value
-Says (Remove key) (name ∷ k ∷ []) = (name ≡ codes "remove") × WritesNumber k key
-Says (Try key value) (name ∷ k ∷ v ∷ []) =
-    (name ≡ codes "try") × WritesNumber k key × WritesValue v value
-Says (Add key by) (name ∷ k ∷ d ∷ []) =
-    (name ≡ codes "add") × WritesNumber k key × WritesNumber d by
-Says (Claim key value) (name ∷ k ∷ v ∷ []) =
-    (name ≡ codes "claim") × WritesNumber k key × WritesValue v value
-Says (Get key) (name ∷ k ∷ []) = (name ≡ codes "get") × WritesNumber k key
-Says Snap (name ∷ []) = name ≡ codes "snap"
-Says Close (name ∷ []) = name ≡ codes "close"
-Says (GetAt key) (name ∷ k ∷ []) = (name ≡ codes "getat") × WritesNumber k key
-Says (Scan lo hi) (name ∷ l ∷ h ∷ []) =
-    (name ≡ codes "scan") × WritesNumber l lo × WritesNumber h hi
-Says (Page from hi max) (name ∷ f ∷ h ∷ m ∷ []) =
-    (name ≡ codes "page") × WritesNumber f from × WritesNumber h hi × WritesNumber m max
+Says (Makes call) words = SaysCall call words
+Says (Seat number) (name ∷ n ∷ []) = (name ≡ codes "seat") × WritesNumber n number
+Says (Meet number) (name ∷ n ∷ []) = (name ≡ codes "meet") × WritesNumber n number
+Says Audit (name ∷ []) = name ≡ codes "audit"
 Says Freeze (name ∷ []) = name ≡ codes "freeze"
 Says Merge (name ∷ []) = name ≡ codes "merge"
 Says Reclaim (name ∷ []) = name ≡ codes "reclaim"
 Says _ _ = ⊥
 
--- the words say no command
-abbrev pub SaysNone : List (List ℕ) → Type 0
-SaysNone words = (command : Command) → ¬ Says command words
+-- the words say a command
+abbrev pub IsCommand : List (List ℕ) → Type 0
+IsCommand words = (command : Command) × Says command words

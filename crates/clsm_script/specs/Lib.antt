@@ -1,9 +1,7 @@
 pub mod Answer
 pub mod Changes
 pub mod Command
-pub mod Failure
-pub mod Input
 pub mod Line
-pub mod Number
 pub mod Play
 pub mod Script
+pub mod Session

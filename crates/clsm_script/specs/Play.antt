@@ -1,55 +1,130 @@
--- What the commands of a script make of a seat and of the merger's phase, and what they answer.
-use Rattle.std.specs.Prelude.{◌≡◌, Some, None, Ok, Err}
+-- What the commands of a script make of its session and the merger's phase, and what they answer.
+use Rattle.std.specs.Prelude.{◌≡◌, ◌≢◌, ℕ, ◌<◌, ◌≤◌, ◌++◌, ◌⊎◌, List, length, set}
+use Rattle.std.specs.Prelude.{Option, Some, None, Result, Ok, Err}
+use mathlib.Core.List.{IsPrefix}
+use Rattle.clsm_model.specs.declared.record.CallRecord.{CallRecord}
 use Rattle.clsm_model.specs.declared.record.Deed.TheVariants as deeds
+use Rattle.clsm_audit.specs.Faults.{IsLawful, IsOneHistory, IsRefusal}
+use Rattle.clsm_audit.specs.declared.fault.AuditError.{AuditError}
 use Rattle.clsm_calls.specs.Seats.{SeatState, Answers, IsFull, Refuses}
 use Rattle.clsm_calls.specs.Trying.{RefusesTry}
 use Rattle.clsm_script.specs.Changes.{added, claimed}
+use Rattle.clsm_store.specs.Headline.{IsAt}
+use Rattle.clsm_store.specs.Meetings.{Meets}
 use Rattle.clsm_store.specs.Phase.{Freezes, Merges, Reclaims}
 use Rattle.clsm_script.specs.declared.answer.Answer.{Answer}
 use Rattle.clsm_script.specs.declared.answer.Answer.TheVariants.{Write, Try as Tried}
 use Rattle.clsm_script.specs.declared.answer.Answer.TheVariants.{Change as Changed, Read, ReadAt}
 use Rattle.clsm_script.specs.declared.answer.Answer.TheVariants.{Snapshot, Close as Closed}
 use Rattle.clsm_script.specs.declared.answer.Answer.TheVariants.{Scan as Scanned, Page as Paged}
+use Rattle.clsm_script.specs.declared.answer.Answer.TheVariants.{Seat as Took, Meet as Met}
+use Rattle.clsm_script.specs.declared.answer.Answer.TheVariants.{Audit as Audited}
 use Rattle.clsm_script.specs.declared.answer.Answer.TheVariants.{Freeze as Froze, Merge as Merged}
 use Rattle.clsm_script.specs.declared.answer.Answer.TheVariants.{Reclaim as Reclaimed}
+use Rattle.clsm_script.specs.declared.call.Call.{Call}
+use Rattle.clsm_script.specs.declared.call.Call.TheVariants.{Put, Remove, Try, Add, Claim}
+use Rattle.clsm_script.specs.declared.call.Call.TheVariants.{Get, Snap, Close, GetAt, Scan, Page}
 use Rattle.clsm_script.specs.declared.command.Command.{Command}
-use Rattle.clsm_script.specs.declared.command.Command.TheVariants.{Put, Remove, Try, Add, Claim}
-use Rattle.clsm_script.specs.declared.command.Command.TheVariants.{Get, Snap, Close, GetAt, Scan, Page}
+use Rattle.clsm_script.specs.declared.command.Command.TheVariants.{Call as Makes, Seat, Meet, Audit}
 use Rattle.clsm_script.specs.declared.command.Command.TheVariants.{Freeze, Merge, Reclaim}
+use Rattle.clsm_script.specs.declared.session.Session.{Session}
 use Rattle.clsm_store.specs.declared.phase.Phase.{Phase}
 
--- the command takes the seat from its old state to the new one, and is answered so
-abbrev pub Plays : Command → SeatState → SeatState → Answer → Type 0
-Plays (Put key v) old new (Write (Ok t)) = Answers old new t (deeds.Put key v)
-Plays (Put key v) old new (Write (Err full)) = IsFull old new full.time
-Plays (Remove key) old new (Write (Ok t)) = Answers old new t (deeds.Remove key)
-Plays (Remove key) old new (Write (Err full)) = IsFull old new full.time
-Plays (Try key v) old new (Tried (Ok t)) = Answers old new t (deeds.Put key v)
-Plays (Try key v) old new (Tried (Err refusal)) = RefusesTry old new refusal
-Plays (Add key by) old new (Changed (Ok rmw)) =
+-- the call takes the seat from its old state to the new one, and is answered so
+abbrev pub PlaysCall : Call → SeatState → SeatState → Answer → Type 0
+PlaysCall (Put key v) old new (Write (Ok t)) = Answers old new t (deeds.Put key v)
+PlaysCall (Put key v) old new (Write (Err full)) = IsFull old new full.time
+PlaysCall (Remove key) old new (Write (Ok t)) = Answers old new t (deeds.Remove key)
+PlaysCall (Remove key) old new (Write (Err full)) = IsFull old new full.time
+PlaysCall (Try key v) old new (Tried (Ok t)) = Answers old new t (deeds.Put key v)
+PlaysCall (Try key v) old new (Tried (Err refusal)) = RefusesTry old new refusal
+PlaysCall (Add key by) old new (Changed (Ok rmw)) =
     Answers old new rmw.time (deeds.Rmw key rmw.old rmw.change) × (rmw.change ≡ added rmw.old by)
-Plays (Add key by) old new (Changed (Err full)) = IsFull old new full.time
-Plays (Claim key v) old new (Changed (Ok rmw)) =
+PlaysCall (Add key by) old new (Changed (Err full)) = IsFull old new full.time
+PlaysCall (Claim key v) old new (Changed (Ok rmw)) =
     Answers old new rmw.time (deeds.Rmw key rmw.old rmw.change) × (rmw.change ≡ claimed rmw.old v)
-Plays (Claim key v) old new (Changed (Err full)) = IsFull old new full.time
-Plays (Get key) old new (Read got) = Answers old new got.time (deeds.Get key got.value)
-Plays Snap old new (Snapshot (Ok t)) = Answers old new t deeds.Snapshot
-Plays Snap old new (Snapshot (Err refusal)) = (new ≡ old) × (old.snapshot ≡ Some refusal.time)
-Plays Close old new (Closed (Some t)) = Answers old new t deeds.Close
-Plays Close old new (Closed None) = (new ≡ old) × (old.snapshot ≡ None)
-Plays (GetAt key) old new (ReadAt (Some got)) =
+PlaysCall (Claim key v) old new (Changed (Err full)) = IsFull old new full.time
+PlaysCall (Get key) old new (Read got) = Answers old new got.time (deeds.Get key got.value)
+PlaysCall Snap old new (Snapshot (Ok t)) = Answers old new t deeds.Snapshot
+PlaysCall Snap old new (Snapshot (Err refusal)) = (new ≡ old) × (old.snapshot ≡ Some refusal.time)
+PlaysCall Close old new (Closed (Some t)) = Answers old new t deeds.Close
+PlaysCall Close old new (Closed None) = (new ≡ old) × (old.snapshot ≡ None)
+PlaysCall (GetAt key) old new (ReadAt (Some got)) =
     Answers old new got.time (deeds.GetAt key got.value)
-Plays (GetAt key) old new (ReadAt None) = (new ≡ old) × (old.snapshot ≡ None)
-Plays (Scan lo hi) old new (Scanned (Ok scan)) =
+PlaysCall (GetAt key) old new (ReadAt None) = (new ≡ old) × (old.snapshot ≡ None)
+PlaysCall (Scan lo hi) old new (Scanned (Ok scan)) =
     Answers old new scan.time (deeds.Scan lo hi scan.rows)
-Plays (Scan lo hi) old new (Scanned (Err _)) = Refuses old new
-Plays (Page from hi max) old new (Paged (Ok page)) =
+PlaysCall (Scan lo hi) old new (Scanned (Err _)) = Refuses old new
+PlaysCall (Page from hi max) old new (Paged (Ok page)) =
     Answers old new page.time (deeds.Page from hi max page.rows page.more)
-Plays (Page from hi max) old new (Paged (Err _)) = Refuses old new
-Plays Freeze old new (Froze _) = new ≡ old
-Plays Merge old new (Merged _) = new ≡ old
-Plays Reclaim old new (Reclaimed _) = new ≡ old
-Plays _ _ _ _ = ⊥
+PlaysCall (Page from hi max) old new (Paged (Err _)) = Refuses old new
+PlaysCall _ _ _ _ = ⊥
+
+-- the seat in use makes the call; the records gain what its calls gain, and the other seats stay as
+-- they are
+pub record Calls (call : Call) (old new : Session) (answer : Answer) : Type 0 where
+  pub before : SeatState
+  pub after : SeatState
+  pub made : List CallRecord
+  pub at : IsAt old.seats.items old.used before
+  pub plays : PlaysCall call before after answer
+  pub calls : after.calls ≡ before.calls ++ made
+  pub seats : new.seats.items ≡ set old.seats.items old.used after
+  pub records : new.records.items ≡ old.records.items ++ made
+  pub used : new.used ≡ old.used
+  pub config : new.config ≡ old.config
+
+-- the seat with this number is in use from then on; it is refused where there is no such seat
+abbrev pub TakesSeat : ℕ → Session → Session → Option ℕ → Type 0
+TakesSeat number old new (Some taken) =
+    (taken ≡ number) × (number < length old.seats.items) × (new ≡ record old { used = number })
+TakesSeat number old new None = (length old.seats.items ≤ number) × (new ≡ old)
+
+-- the seats at two places meet at the time, the one first, and the others stay as they are
+pub record PairMeets (i j t : ℕ) (old new : List SeatState) : Type 0 where
+  pub one : SeatState
+  pub one_after : SeatState
+  pub other : SeatState
+  pub other_after : SeatState
+  pub at : IsAt old i one
+  pub other_at : IsAt old j other
+  pub above : one.due ≤ t
+  pub above_other : other.due ≤ t
+  pub meets : Meets t one one_after
+  pub other_meets : Meets t other other_after
+  pub begins : IsPrefix one_after.past other_after.past
+  pub seats : new ≡ set (set old i one_after) j other_after
+
+-- the seat in use and the one with this number meet at the time, and nothing else changes
+pub record MeetsAt (number : ℕ) (old new : Session) (t : ℕ) : Type 0 where
+  pub apart : number ≢ old.used
+  pub meets : PairMeets old.used number t old.seats.items new.seats.items
+  pub records : new.records ≡ old.records
+  pub used : new.used ≡ old.used
+  pub config : new.config ≡ old.config
+
+-- it is refused where that is the seat in use, or there is none
+abbrev pub MeetsSeat : ℕ → Session → Session → Option ℕ → Type 0
+MeetsSeat number old new (Some t) = MeetsAt number old new t
+MeetsSeat number old new None =
+    ((number ≡ old.used) ⊎ (length old.seats.items ≤ number)) × (new ≡ old)
+
+-- the audit of all records: they are lawful and of one history, or the first fault is named
+abbrev pub IsAudited : Session → Result (Unit {0}) AuditError → Type 0
+IsAudited session (Ok _) =
+    IsLawful session.config session.records.items × IsOneHistory session.records.items
+IsAudited session (Err error) = IsRefusal session.config session.records.items error
+
+-- the command takes the session from its old state to the new one, and is answered so
+abbrev pub Plays : Command → Session → Session → Answer → Type 0
+Plays (Makes call) old new answer = Calls call old new answer
+Plays (Seat number) old new (Took taken) = TakesSeat number old new taken
+Plays (Seat _) _ _ _ = ⊥
+Plays (Meet number) old new (Met time) = MeetsSeat number old new time
+Plays (Meet _) _ _ _ = ⊥
+Plays Audit old new (Audited answer) = (new ≡ old) × IsAudited old answer
+Plays Audit _ _ _ = ⊥
+Plays _ old new _ = new ≡ old
 
 -- the command takes the merger from its old phase to the new one, and is answered so
 abbrev pub Turns : Command → Phase → Phase → Answer → Type 0

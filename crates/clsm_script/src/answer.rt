@@ -1,9 +1,11 @@
 ghost use Rattle.std.specs.Prelude.{◌↔◌, IsTrue};
 
-use clsm_model::{Change, Memory, Rows, Time, Value};
+use clsm_audit::AuditError;
+use clsm_model::{Change, Memory, Time};
 use clsm_store::{
     FreezeError, Full, Got, MergeError, Open, Page, ReclaimError, Rmw, Scan, TryPutError,
 };
+use clsm_text::{Shown, ShownRows};
 use std::fmt;
 
 /// What a command answers. It is shown as the program writes it.
@@ -28,6 +30,13 @@ pub enum Answer {
     Scan(Result<Scan, Memory>),
     /// As a scan, then `more K` where a row is left out.
     Page(Result<Page, Memory>),
+    /// `seat S` with the number of the seat that is used from then on, or `no seat`.
+    Seat(Option<usize>),
+    /// `met @T`, or `no seat`.
+    Meet(Option<Time>),
+    /// `audit ok`, or `audit fault KIND INDEX`. A script ends at a fault, and where the audit is
+    /// refused memory.
+    Audit(Result<(), AuditError>),
     /// `frozen E`, the number of the frozen epoch; or why none was frozen: `not clean` or `worn`.
     Freeze(Result<u64, FreezeError>),
     /// `merged M`, the new number of merges; or why nothing was merged: `not frozen` or `run full`.
@@ -38,13 +47,23 @@ pub enum Answer {
 }
 
 impl Answer {
-    ghost use Rattle.clsm_script.specs.Answer.{WantsMemory};
+    ghost use Rattle.clsm_script.specs.Answer.{IsFault, WantsMemory};
 
     /// Whether the command was refused memory.
     pub fn wants_memory(&self) -> bool
         ensures { IsTrue result ↔ WantsMemory self.now }
     {
-        matches!(self, Answer::Scan(Err(_)) | Answer::Page(Err(_)))
+        matches!(
+            self,
+            Answer::Scan(Err(_)) | Answer::Page(Err(_)) | Answer::Audit(Err(AuditError::Memory))
+        )
+    }
+
+    /// Whether an audit found a fault.
+    pub fn is_fault(&self) -> bool
+        ensures { IsTrue result ↔ IsFault self.now }
+    {
+        matches!(self, Answer::Audit(Err(AuditError::Fault { .. })))
     }
 }
 
@@ -63,28 +82,19 @@ impl fmt::Display for Answer {
             Answer::Snapshot(Err(refusal)) => write!(f, "{refusal}"),
             Answer::Close(Some(time)) => write!(f, "closed @{time}"),
             Answer::Close(None) | Answer::ReadAt(None) => write!(f, "no snapshot"),
-            Answer::Scan(Ok(scan)) => write_rows(f, &scan.rows, scan.time),
+            Answer::Scan(Ok(scan)) => write!(f, "{} @{}", ShownRows(&scan.rows), scan.time),
             Answer::Page(Ok(page)) => write_page(f, page),
             Answer::Scan(Err(refusal)) | Answer::Page(Err(refusal)) => write!(f, "{refusal}"),
+            Answer::Seat(Some(number)) => write!(f, "seat {number}"),
+            Answer::Meet(Some(time)) => write!(f, "met @{time}"),
+            Answer::Seat(None) | Answer::Meet(None) => write!(f, "no seat"),
+            Answer::Audit(answer) => write_audit(f, answer),
             Answer::Freeze(Ok(epoch)) => write!(f, "frozen {epoch}"),
             Answer::Freeze(Err(refusal)) => write!(f, "{refusal}"),
             Answer::Merge(Ok(merges)) => write!(f, "merged {merges}"),
             Answer::Merge(Err(refusal)) => write!(f, "{refusal}"),
             Answer::Reclaim(Ok(())) => write!(f, "clean"),
             Answer::Reclaim(Err(refusal)) => write!(f, "{refusal}"),
-        }
-    }
-}
-
-/// A value as the program writes it: `none` where there is none.
-#[derive(Drop)]
-struct Shown<'a>(&'a Option<Value>);
-
-impl fmt::Display for Shown<'_> {
-    fn fmt<W: fmt::Write>(&self, f: &mut fmt::Formatter<W>) -> fmt::Result {
-        match self.0 {
-            Some(value) => write!(f, "{value}"),
-            None => write!(f, "none"),
         }
     }
 }
@@ -99,21 +109,21 @@ fn write_change<W: fmt::Write>(f: &mut fmt::Formatter<W>, rmw: &Rmw) -> fmt::Res
     }
 }
 
-fn write_rows<W: fmt::Write>(f: &mut fmt::Formatter<W>, rows: &Rows, time: Time) -> fmt::Result {
-    let rows = rows.as_slice();
-    if rows.is_empty() {
-        write!(f, "empty ")?;
-    }
-    for (key, value) in rows {
-        write!(f, "{key}={value} ")?;
-    }
-    write!(f, "@{time}")
-}
-
 fn write_page<W: fmt::Write>(f: &mut fmt::Formatter<W>, page: &Page) -> fmt::Result {
-    write_rows(f, &page.rows, page.time)?;
+    write!(f, "{} @{}", ShownRows(&page.rows), page.time)?;
     match page.more {
         Some(key) => write!(f, " more {key}"),
         None => Ok(()),
+    }
+}
+
+fn write_audit<W: fmt::Write>(
+    f: &mut fmt::Formatter<W>,
+    answer: &Result<(), AuditError>,
+) -> fmt::Result {
+    match answer {
+        Ok(()) => write!(f, "audit ok"),
+        Err(AuditError::Fault { kind, index }) => write!(f, "audit fault {kind} {index}"),
+        Err(AuditError::Memory) => write!(f, "memory"),
     }
 }

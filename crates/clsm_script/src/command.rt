@@ -1,41 +1,24 @@
-ghost use Rattle.std.specs.Prelude.{◌≡◌, ◌∷◌, [], IfSome, IfNone};
+ghost use Rattle.std.specs.Prelude.{◌≡◌, ◌∷◌, [], IfNone, IfOk, IfSome, OnOk};
 
 use crate::answer::Answer;
-use crate::changes::{add, claim};
-use crate::number::{parse_number, parse_value};
-use crate::snapshots::get_at;
-use clsm_model::Value;
-use clsm_store::{Pace, Phase, Seat, Store};
-use std::alloc::Global;
+use crate::call::Call;
+use crate::session::Session;
+use clsm_store::{Pace, Phase, Store};
+use clsm_text::{parse_number, parse_value};
+use std::alloc::{AllocError, Global};
 use std::sync::Wait;
 
 /// A command of a script.
 #[derive(Clone, Copy, Debug)]
 pub enum Command {
-    /// `put K V`: writes the value at the key.
-    Put { key: u64, value: Value },
-    /// `remove K`: removes the key.
-    Remove { key: u64 },
-    /// `try K V`: writes the value at the key, if no other seat is in the way.
-    Try { key: u64, value: Value },
-    /// `add K D`: adds to the key's word, which is 0 where it has no value; keeps it where the sum
-    /// passes 64 bits, or it has several words.
-    Add { key: u64, by: u64 },
-    /// `claim K V`: writes the value at the key where it has none, and else keeps it.
-    Claim { key: u64, value: Value },
-    /// `get K`: reads the value at the key.
-    Get { key: u64 },
-    /// `snap`: opens a snapshot, where none is open.
-    Snap,
-    /// `close`: closes the open snapshot.
-    Close,
-    /// `getat K`: reads the value at the key under the open snapshot.
-    GetAt { key: u64 },
-    /// `scan LO HI`: reads all keys from `LO` to `HI` that have a value, under the open snapshot if
-    /// one is open.
-    Scan { lo: u64, hi: u64 },
-    /// `page FROM HI MAX`: reads the first `MAX` of the keys that a scan would read.
-    Page { from: u64, hi: u64, max: u64 },
+    /// A call of the seat in use.
+    Call(Call),
+    /// `seat S`: takes the seat with this number into use.
+    Seat { number: u64 },
+    /// `meet S`: lets the seat in use meet the one with this number.
+    Meet { number: u64 },
+    /// `audit`: audits all calls of the script so far.
+    Audit,
     /// `freeze`: freezes the current epoch, so that writers go on in the next.
     Freeze,
     /// `merge`: merges the frozen epoch into a sorted run.
@@ -45,15 +28,16 @@ pub enum Command {
 }
 
 impl Command {
-    ghost use Rattle.clsm_script.specs.Command.{Says, SaysNone};
-    ghost use Rattle.clsm_script.specs.Line.{texts_of};
+    ghost use Rattle.clsm_script.specs.Command.{Says, IsCommand};
+    ghost use Rattle.clsm_text.specs.Line.{texts_of};
+    ghost use Rattle.clsm_script.specs.Session.{IsSession};
     ghost use Rattle.clsm_store.specs.Phase.{merger_in};
     ghost use Rattle.clsm_script.specs.Play.{Plays, Turns};
 
     /// The command that the words of a line say; `None` where they say none.
     pub fn parse(words: &[&str]) -> Option<Command>
         ensures read { IfSome result (λ command. Says command (texts_of words.now)) }
-        ensures refused { IfNone result (SaysNone (texts_of words.now)) }
+        ensures refused { IfNone result (¬ IsCommand (texts_of words.now)) }
     {
         match *words {
             [name] => Command::of_name(name),
@@ -67,11 +51,12 @@ impl Command {
     /// The command with this name alone.
     fn of_name(name: &str) -> Option<Command>
         ensures read { IfSome result (λ command. Says command (name.now ∷ [])) }
-        ensures refused { IfNone result (SaysNone (name.now ∷ [])) }
+        ensures refused { IfNone result (¬ IsCommand (name.now ∷ [])) }
     {
         match name {
-            "snap" => Some(Command::Snap),
-            "close" => Some(Command::Close),
+            "snap" => Some(Command::Call(Call::Snap)),
+            "close" => Some(Command::Call(Call::Close)),
+            "audit" => Some(Command::Audit),
             "freeze" => Some(Command::Freeze),
             "merge" => Some(Command::Merge),
             "reclaim" => Some(Command::Reclaim),
@@ -79,16 +64,18 @@ impl Command {
         }
     }
 
-    /// The command with this name and a key.
+    /// The command with this name and a key, or the number of a seat.
     fn of_key(name: &str, key: &str) -> Option<Command>
         ensures read { IfSome result (λ command. Says command (name.now ∷ key.now ∷ [])) }
-        ensures refused { IfNone result (SaysNone (name.now ∷ key.now ∷ [])) }
+        ensures refused { IfNone result (¬ IsCommand (name.now ∷ key.now ∷ [])) }
     {
         let key = parse_number(key)?;
         match name {
-            "remove" => Some(Command::Remove { key }),
-            "get" => Some(Command::Get { key }),
-            "getat" => Some(Command::GetAt { key }),
+            "remove" => Some(Command::Call(Call::Remove { key })),
+            "get" => Some(Command::Call(Call::Get { key })),
+            "getat" => Some(Command::Call(Call::GetAt { key })),
+            "seat" => Some(Command::Seat { number: key }),
+            "meet" => Some(Command::Meet { number: key }),
             _ => None,
         }
     }
@@ -97,22 +84,22 @@ impl Command {
     fn of_value(name: &str, key: &str, value: &str) -> Option<Command>
         ensures read { IfSome result
             (λ command. Says command (name.now ∷ key.now ∷ value.now ∷ [])) }
-        ensures refused { IfNone result (SaysNone (name.now ∷ key.now ∷ value.now ∷ [])) }
+        ensures refused { IfNone result (¬ IsCommand (name.now ∷ key.now ∷ value.now ∷ [])) }
     {
         let key = parse_number(key)?;
         if name == "add" {
             let by = parse_number(value)?;
-            return Some(Command::Add { key, by });
+            return Some(Command::Call(Call::Add { key, by }));
         }
         if name == "scan" {
             let hi = parse_number(value)?;
-            return Some(Command::Scan { lo: key, hi });
+            return Some(Command::Call(Call::Scan { lo: key, hi }));
         }
         let value = parse_value(value)?;
         match name {
-            "put" => Some(Command::Put { key, value }),
-            "try" => Some(Command::Try { key, value }),
-            "claim" => Some(Command::Claim { key, value }),
+            "put" => Some(Command::Call(Call::Put { key, value })),
+            "try" => Some(Command::Call(Call::Try { key, value })),
+            "claim" => Some(Command::Call(Call::Claim { key, value })),
             _ => None,
         }
     }
@@ -122,7 +109,7 @@ impl Command {
         ensures read { IfSome result
             (λ command. Says command (name.now ∷ from.now ∷ hi.now ∷ max.now ∷ [])) }
         ensures refused { IfNone result
-            (SaysNone (name.now ∷ from.now ∷ hi.now ∷ max.now ∷ [])) }
+            (¬ IsCommand (name.now ∷ from.now ∷ hi.now ∷ max.now ∷ [])) }
     {
         if name != "page" {
             return None;
@@ -130,54 +117,45 @@ impl Command {
         let from = parse_number(from)?;
         let hi = parse_number(hi)?;
         let max = parse_number(max)?;
-        Some(Command::Page { from, hi, max })
+        Some(Command::Call(Call::Page { from, hi, max }))
     }
 
-    /// Plays the command on a store, by one of its seats or by its merger, and answers what the
-    /// store answered. A command of the merger in another phase than its own does nothing, and is
-    /// answered so.
+    /// Plays the command on a store, by its seats or by its merger, and answers what the store
+    /// answered. A command of the merger in another phase than its own does nothing, and is
+    /// answered so. Refused for want of memory: a call was made then, and its record is lost.
     pub fn play<P: Pace + Drop, R: Wait>(
         self,
         rt: &R,
         alloc: Global,
         store: &Store<P>,
-        seat: &mut Seat,
+        session: &mut Session,
         phase: Phase,
-    ) -> (Phase, Answer)
-        requires seat { seat.old.store ≡ store.now }
+    ) -> Result<(Phase, Answer), AllocError>
+        requires session { IsSession store.now session.old }
         requires merger { (merger_in phase).store ≡ store.now }
-        ensures plays { Plays self seat.old seat.new result.1 }
-        ensures turns { Turns self phase result.0 result.1 }
-        ensures store { seat.new.store ≡ seat.old.store }
-        ensures merger { (merger_in result.0).store ≡ store.now }
+        ensures plays { IfOk result (λ done. Plays self session.old session.new done.1) }
+        ensures turns { IfOk result (λ done. Turns self phase done.0 done.1) }
+        ensures session { OnOk result (IsSession store.now session.new) }
+        ensures merger { IfOk result (λ done. (merger_in done.0).store ≡ store.now) }
     {
         let answer = match self {
-            Command::Put { key, value } => Answer::Write(store.put(rt, seat, key, value)),
-            Command::Remove { key } => Answer::Write(store.remove(rt, seat, key)),
-            Command::Try { key, value } => Answer::Try(store.try_put(seat, key, value)),
-            Command::Add { key, by } => Answer::Change(add(rt, store, seat, key, by)),
-            Command::Claim { key, value } => Answer::Change(claim(rt, store, seat, key, value)),
-            Command::Get { key } => Answer::Read(store.get(seat, key)),
-            Command::Snap => Answer::Snapshot(store.snapshot(seat)),
-            Command::Close => Answer::Close(store.close_snapshot(seat)),
-            Command::GetAt { key } => Answer::ReadAt(get_at(store, seat, key)),
-            Command::Scan { lo, hi } => Answer::Scan(store.scan(alloc, seat, lo, hi)),
-            Command::Page { from, hi, max } => {
-                Answer::Page(store.page(alloc, seat, from, hi, max as usize))
-            }
+            Command::Call(call) => session.call(rt, alloc, store, call)?,
+            Command::Seat { number } => Answer::Seat(session.take_seat(number)),
+            Command::Meet { number } => Answer::Meet(session.meet(store, number)),
+            Command::Audit => Answer::Audit(session.audit(alloc)),
             Command::Freeze => {
                 let (phase, answer) = phase.freeze(rt, store);
-                return (phase, Answer::Freeze(answer));
+                return Ok((phase, Answer::Freeze(answer)));
             }
             Command::Merge => {
                 let (phase, answer) = phase.merge(store);
-                return (phase, Answer::Merge(answer));
+                return Ok((phase, Answer::Merge(answer)));
             }
             Command::Reclaim => {
                 let (phase, answer) = phase.reclaim(store);
-                return (phase, Answer::Reclaim(answer));
+                return Ok((phase, Answer::Reclaim(answer)));
             }
         };
-        (phase, answer)
+        Ok((phase, answer))
     }
 }

@@ -2,13 +2,12 @@
 #![tactic(auto)]
 
 mod answer;
+mod call;
 mod changes;
 mod command;
-mod failure;
-mod input;
 mod line;
-mod number;
 mod playing;
+mod session;
 mod snapshots;
 #[cfg(test)]
 mod tests;

@@ -1,17 +1,17 @@
 ghost use Rattle.std.specs.Prelude.{◌≡◌, Err, IfSome, IfOk, OnOk, IfErr};
-ghost use Rattle.clsm_script.specs.Answer.{WantsMemory};
-ghost use Rattle.clsm_script.specs.declared.failure.Failure.TheVariants.{Memory};
-ghost use Rattle.clsm_script.specs.Script.{IsScript, IsStatus, StopsPlay, StopsScript};
-ghost use Rattle.clsm_script.specs.Failure.{IsOutside};
+ghost use Rattle.clsm_script.specs.Answer.{IsFault, WantsMemory};
+ghost use Rattle.clsm_script.specs.Script.{IsScript, IsStatus, StopsLine, StopsPlay, StopsScript};
+ghost use Rattle.clsm_script.specs.Session.{IsSession};
+ghost use Rattle.clsm_text.specs.declared.failure.Failure.TheVariants.{Fault, Memory};
 ghost use Rattle.clsm_store.specs.Phase.{merger_in};
 ghost use Rattle.clsm_model.specs.Config.{IsSound};
 
 use crate::answer::Answer;
 use crate::command::Command;
-use crate::failure::Failure;
-use crate::input::read_line;
 use crate::line::parse_line;
-use clsm_store::{Config, Opened, Pace, Phase, Seat, Store, open};
+use crate::session::Session;
+use clsm_store::{Config, Opened, Pace, Phase, Store, open};
+use clsm_text::{Failure, read_line};
 use std::alloc::Global;
 use std::io::{BufReader, Read, Write};
 use std::sync::Wait;
@@ -28,8 +28,9 @@ pub const DEFAULT_SIZES: Config = Config {
 /// Plays the commands of an input, one a line, on a new store of these sizes, and writes each
 /// answer as a line of its own to the output before the next command is played. Where that fails,
 /// a line on the faults says why: `bad line L` or `device`, with status 1, or `refused N SIZE` or
-/// `no memory`, with status 3. The status of a script that is played to its end is 0. A write to
-/// the faults that fails changes no status.
+/// `no memory`, with status 3. An audit that finds a fault ends the script with status 2, and
+/// nothing on the faults. The status of a script that is played to its end is 0. A write to the
+/// faults that fails changes no status.
 pub fn script<T, R, W, E>(
     rt: &T,
     alloc: Global,
@@ -50,15 +51,10 @@ where
     match play_script(rt, alloc, config, input, output) {
         Ok(()) => 0,
         Err(failure) => {
-            let _ = write_failure(&mut faults, failure);
+            let _ = failure.report(&mut faults);
             failure.status()
         }
     }
-}
-
-fn write_failure<E: Write>(faults: &mut E, failure: Failure) -> std::io::Result<()> {
-    writeln!(faults, "{failure}")?;
-    faults.flush()
 }
 
 fn play_script<T, R, W>(
@@ -78,12 +74,13 @@ where
 {
     let Opened {
         store,
-        mut seats,
+        seats,
         merger,
     } = open(alloc, config)?;
     let Ok(mut reader) = BufReader::new(alloc, input) else {
         return Err(Failure::Memory);
     };
+    let mut session = Session::new(alloc, config, seats);
     let phase = Phase::Clean(merger);
     play_lines(
         rt,
@@ -91,7 +88,7 @@ where
         &mut reader,
         &mut output,
         &store,
-        &mut seats[0],
+        &mut session,
         phase,
     )
 }
@@ -102,10 +99,10 @@ fn play_lines<T: Wait, R: Read, W: Write, P: Pace + Drop>(
     reader: &mut R,
     output: &mut W,
     store: &Store<P>,
-    seat: &mut Seat,
+    session: &mut Session,
     mut phase: Phase,
 ) -> Result<(), Failure>
-    requires seat { seat.old.store ≡ store.now }
+    requires session { IsSession store.now session.old }
     requires merger { (merger_in phase).store ≡ store.now }
     ensures played { OnOk result (IfSome (R.remaining reader.old) IsScript) }
     ensures stopped { IfErr result (StopsPlay (R.remaining reader.old)) }
@@ -119,7 +116,7 @@ fn play_lines<T: Wait, R: Read, W: Write, P: Pace + Drop>(
             Ok(said) => said,
             Err(error) => return Err(error.at(number)),
         };
-        phase = play_line(rt, alloc, output, store, seat, phase, said)?;
+        phase = play_line(rt, alloc, output, store, session, phase, said)?;
     }
     Err(Failure::Device)
 }
@@ -130,28 +127,31 @@ fn play_line<T: Wait, W: Write, P: Pace + Drop>(
     alloc: Global,
     output: &mut W,
     store: &Store<P>,
-    seat: &mut Seat,
+    session: &mut Session,
     phase: Phase,
     said: Option<Command>,
 ) -> Result<Phase, Failure>
-    requires seat { seat.old.store ≡ store.now }
+    requires session { IsSession store.now session.old }
     requires merger { (merger_in phase).store ≡ store.now }
-    ensures outside { IfErr result IsOutside }
-    ensures store { seat.new.store ≡ seat.old.store }
+    ensures stopped { IfErr result StopsLine }
+    ensures session { OnOk result (IsSession store.now session.new) }
     ensures merger { IfOk result (λ next. (merger_in next).store ≡ store.now) }
 {
     let Some(command) = said else {
         return Ok(phase);
     };
-    let (phase, answer) = command.play(rt, alloc, store, seat, phase);
+    let (phase, answer) = command.play(rt, alloc, store, session, phase)?;
     write_answer(alloc, output, answer)?;
     Ok(phase)
 }
 
-/// Writes the answer as a line, or ends the script where the answer is a want of memory.
+/// Writes the answer as a line. It ends the script where the answer is a want of memory, which is
+/// not written, and after a fault.
 fn write_answer<W: Write>(alloc: Global, output: &mut W, answer: Answer) -> Result<(), Failure>
-    ensures outside { IfErr result IsOutside }
+    ensures stopped { IfErr result StopsLine }
     ensures memory { WantsMemory answer → result ≡ Err Memory }
+    ensures goes_on { OnOk result (¬ IsFault answer) }
+    ensures fault { result ≡ Err Fault → IsFault answer }
 {
     if answer.wants_memory() {
         return Err(Failure::Memory);
@@ -159,5 +159,8 @@ fn write_answer<W: Write>(alloc: Global, output: &mut W, answer: Answer) -> Resu
     let text = format!(in alloc; "{answer}\n")?;
     output.write_all(text.as_bytes())?;
     output.flush()?;
+    if answer.is_fault() {
+        return Err(Failure::Fault);
+    }
     Ok(())
 }

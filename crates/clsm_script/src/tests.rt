@@ -11,6 +11,7 @@ mod ending;
 mod lines;
 mod merging;
 mod scans;
+mod seats;
 mod snapshots;
 
 const NEVER: u32 = u32::MAX;

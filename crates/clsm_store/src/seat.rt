@@ -28,7 +28,7 @@ impl Model for Seat {
 }
 
 impl Seat {
-    ghost use Rattle.std.specs.Prelude.{◌≡◌};
+    ghost use Rattle.std.specs.Prelude.{◌≡◌, ◌≤◌, ◌^◌};
     ghost use Rattle.clsm_calls.specs.Seats.{IsLawfulAlone};
 
     /// Its number, from 0 to the number of seats less 1.
@@ -53,6 +53,15 @@ impl Seat {
     #[inline]
     pub fn is_lawful(&self)
         ensures { IsLawfulAlone self.now }
+    {
+        self.raw.is_sound();
+    }
+
+    /// What holds of every seat: its due is at most 2^62, at which times end; so each of its writes stands below that, and each of its
+    /// reads at it or below. It does nothing when it runs.
+    #[inline]
+    pub fn is_in_time(&self)
+        ensures { self.now.due ≤ 2 ^ 62 }
     {
         self.raw.is_sound();
     }

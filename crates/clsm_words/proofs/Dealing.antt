@@ -96,7 +96,7 @@ unfolding opens
 new_sound z = sound_merger (opening (opened z).words [] (new_merger z)) (new_merger z) (opens z (opened z).words refl) (new_merging z) refl
 
 pub learns_sound : (k m : Known) → Sound k → Sound (learns k m)
-learns_sound k m s = record { seated = s.seated; inside = s.inside; there = s.there; small = s.small; rows = s.rows; length_is = s.length_is; agrees = s.agrees; right = s.right; rising = s.rising; own_region = s.own_region; opened = s.opened; reads = λ c held. let h = s.reads c held in record { near = h.near; below_merged = h.below_merged; below_snapshot = h.below_snapshot; runs = h.runs } }
+learns_sound k m s = record { seated = s.seated; inside = s.inside; there = s.there; small = s.small; rows = s.rows; length_is = s.length_is; agrees = s.agrees; right = s.right; rising = s.rising; in_time = s.in_time; own_region = s.own_region; opened = s.opened; reads = λ c held. let h = s.reads c held in record { near = h.near; below_merged = h.below_merged; below_snapshot = h.below_snapshot; runs = h.runs } }
 
 -- ---- dealing
 

@@ -115,6 +115,9 @@ module _ (s : State ℕ Known) (k : Known) (r : Ruled k.layout s) (ok : IsSeated
   pub past_bound : k.view.past ≤ length r.slots
   past_bound = subst (λ (u : View). u.past ≤ length r.slots) ok.view (past_below (ground setting) k.number)
 
+  due_bound : k.view.due ≤ length r.slots
+  due_bound = subst (λ (u : View). u.due ≤ length r.slots) ok.view (r.lawful.law.dues k.number)
+
   pub past_long : length k.past ≡ k.view.past
   past_long = ap (λ (xs : List Slot). length xs) ok.past ∙ end_of-past r.slots k.view.past past_bound
 
@@ -173,4 +176,5 @@ module _ (s : State ℕ Known) (k : Known) (r : Ruled k.layout s) (ok : IsSeated
     opened = opened_of;
     reads = reads_of;
     rising = subst (λ (u : View). IsRising u.calls u.due (open_time u.snapshot)) ok.view (r.lawful.law.rising k.number);
+    in_time = let below = due_bound in let bounded = r.lawful.law.bounded in let top = r.lawful.law.top in omega arith;
   }

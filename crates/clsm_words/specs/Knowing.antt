@@ -18,7 +18,7 @@ use Rattle.clsm_law.specs.declared.step.Step.{Step}
 use Rattle.clsm_law.specs.declared.step.Step.TheVariants.{Pin, Unpin, Look}
 use Rattle.clsm_law.specs.declared.view.View.{View}
 use Rattle.clsm_law.specs.declared.view.Mode.TheVariants.{Shared}
-use Rattle.clsm_law.specs.Codes.{exclusive_hold, cancelled_cell}
+use Rattle.clsm_law.specs.Codes.{exclusive_hold, cancelled_cell, last_limit}
 use Rattle.clsm_law.specs.Memory.{Memory, cell_of, region_of, is_word, room_of}
 use Rattle.clsm_law.specs.Layout.{memory}
 use Rattle.clsm_law.specs.Places.{is_named}
@@ -100,7 +100,7 @@ pub record IsReading (k : Known) (c : ℕ) : Type 0 where
   pub runs : AreReadable k.layout (row_of k) (plain k.past) c k.floor
 
 -- what a seat knows of itself: the words of its open steps are there, the numbers that these make fit 64 bits,
--- its records are right in its past and agree with it, and their times rise to its due; its drawn time is in the epoch of the limit
+-- its records are right in its past and agree with it, and their times rise to its due, which is no time past the end; its drawn time is in the epoch of the limit
 -- that it looked at in this hold of the lock, and the time of its open snapshot within its past; and what it may search
 pub record Sound (k : Known) : Type 0 where
   pub seated : k.seated ≡ true
@@ -112,6 +112,7 @@ pub record Sound (k : Known) : Type 0 where
   pub agrees : Agrees k.layout.seats k.number k.view.calls k.past
   pub right : AllByRecursion (IsRightRecord (plain k.past)) k.view.calls
   pub rising : IsRising k.view.calls k.view.due (open_time k.view.snapshot)
+  pub in_time : k.view.due ≤ last_limit
   pub own_region : (t limit : ℕ) → k.view.drawn ≡ Some t → k.view.hold_limit ≡ Some limit → region_of k.layout (cell_of k.layout (limit - 1)) ≡ region_of k.layout (cell_of k.layout t)
   pub opened : (s : ℕ) → open_time k.view.snapshot ≡ Some s → s ≤ k.view.past
   pub reads : (c : ℕ) → k.view.held ≡ Some c → IsReading k c

@@ -1,6 +1,7 @@
 //! The commands of the merger, and reads of what they merged.
 use super::*;
 use crate::answer::Answer;
+use clsm_audit::{AuditError, FaultKind};
 use clsm_store::{FreezeError, Pinned, ReclaimError, Worn};
 use std::test::Fail;
 
@@ -138,10 +139,15 @@ fn merges_nothing_where_the_run_is_full(rt: HostRuntime) -> Result<(), Fail> {
     Ok(())
 }
 
-// No script of one seat meets them.
+// No script meets them.
 #[test]
 fn shows_rare_refusals(rt: HostRuntime) -> Result<(), Fail> {
+    let fault = AuditError::Fault {
+        kind: FaultKind::WrongReply,
+        index: 3,
+    };
     for (answer, shown) in [
+        (Answer::Audit(Err(fault)), "audit fault WrongReply 3"),
         (Answer::Freeze(Err(FreezeError::Worn(Worn))), "worn"),
         (
             Answer::Reclaim(Err(ReclaimError::Pinned(Pinned(63)))),

@@ -29,11 +29,11 @@ fn scans_and_pages(rt: HostRuntime) -> Result<(), Fail> {
 // Under `rt try --test --fail-alloc N` the Nth allocation of each test is refused.
 #[test]
 fn scans_in_full_or_wants_memory(rt: HostRuntime) {
-    let text = "put 7 70\nput 8 80\nscan 0 9\npage 0 9 1\n";
+    let text = "put 7 70\nput 8 80\nscan 0 9\npage 0 9 1\naudit\n";
     let Ok(played) = play(&rt, rt.alloc(), DEFAULT_SIZES, text.as_bytes()) else {
         return;
     };
-    let full = "@0\n@1\n7=70 8=80 @2\n7=70 @2 more 8\n";
+    let full = "@0\n@1\n7=70 8=80 @2\n7=70 @2 more 8\naudit ok\n";
     let output = played.output.text();
     match played.faults.text() {
         "" => played.expect(&rt, full, "", 0),

@@ -1,12 +1,14 @@
 use Rattle.std.proofs.Common.{◌≡◌, ◌-◌}
-use Rattle.clsm_script.proofs.Scripts.{LeadsTo}
+use Rattle.clsm_script.specs.Command.{IsCommand}
+use Rattle.clsm_script.specs.Session.{IsSession}
 use Rattle.clsm_store.specs.Phase.{merger_in}
+use Rattle.clsm_text.proofs.Inputs.{LeadsTo}
 use Rattle.clsm_script.proofs.playing.play_lines.Given as goal
 
 abbrev pub invariant-loop-number : goal.invariant-loop-number
 invariant-loop-number g l = record {
-  leads : LeadsTo (g.R.Read.remaining l.initial.reader) (g.R.Read.remaining l.reader)
+  leads : LeadsTo IsCommand (g.R.Read.remaining l.initial.reader) (g.R.Read.remaining l.reader)
       (l.number - 1);
-  store : l.seat.store ≡ l.store;
+  session : IsSession l.store l.session;
   merger : (merger_in l.phase).store ≡ l.store;
 }

@@ -1,0 +1,126 @@
+//! What the command line of the program `clsm` asks for is done.
+#![tactic(auto)]
+
+ghost use Rattle.clsm_options.specs.Answers.{IsInRange};
+ghost use Rattle.clsm_options.specs.declared.options.Options.TheVariants.{Run};
+
+use clsm_model::Config;
+use clsm_options::{AuditOptions, Options, Refusal, RunOptions, parse};
+use clsm_records::audit_lines;
+use clsm_run::{Load, Shows, run};
+use clsm_script::script;
+use clsm_text::Failure;
+use std::alloc::Global;
+use std::convert::AsStr;
+use std::io::{self, Read, Write};
+use std::rt::Clock;
+use std::sync::Wait;
+use std::thread::Threads;
+
+#[cfg(test)]
+mod tests;
+
+/// Does what the words of a command line ask for, the first of which is the program's name, and
+/// answers the exit status. `script` and `audit` read the input. What is asked for is written to
+/// the output, help too; why the program does not end well is written to the faults.
+///
+/// The status is 0 where all was done; 1 for words that are refused, a bad line, or a failed read
+/// or write; 2 for a fault that an audit found; 3 for a refused opening or want of memory.
+pub fn command<T, S, R, W, E>(
+    rt: &T,
+    alloc: Global,
+    words: &[S],
+    input: R,
+    output: W,
+    faults: E,
+) -> u8
+where
+    T: Threads + Sync + Clock + Wait,
+    S: AsStr,
+    R: Read + Drop,
+    W: Write + Drop,
+    E: Write + Drop,
+{
+    match parse(alloc, words) {
+        Ok(options) => obey(rt, alloc, options, input, output, faults),
+        Err(refusal) => refuse(refusal, output, faults),
+    }
+}
+
+fn obey<T, R, W, E>(rt: &T, alloc: Global, options: Options, input: R, output: W, faults: E) -> u8
+where
+    T: Threads + Sync + Clock + Wait,
+    R: Read + Drop,
+    W: Write + Drop,
+    E: Write + Drop,
+    requires range { IsInRange options }
+{
+    match options {
+        Options::Script(config) => script(rt, alloc, config, input, output, faults),
+        Options::Run(options) => call(rt, alloc, &options, output, faults),
+        Options::Audit(options) => { audit_lines(alloc, sizes(&options), input, output, faults) }
+    }
+}
+
+/// Runs the workload.
+fn call<T, W, E>(rt: &T, alloc: Global, options: &RunOptions, output: W, faults: E) -> u8
+where
+    T: Threads + Sync + Clock + Wait,
+    W: Write + Drop,
+    E: Write + Drop,
+    requires range { IsInRange (Run options.now) }
+{
+    let load = Load {
+        ops: options.ops as u32,
+        keys: options.keys,
+        seed: options.seed,
+    };
+    let shows = Shows {
+        stats: options.stats,
+        progress: options.progress,
+        records: options.records,
+    };
+    run(rt, alloc, options.config, load, shows, output, faults)
+}
+
+/// The sizes of the store that records are of. The audit asks for the first two alone.
+fn sizes(options: &AuditOptions) -> Config {
+    Config {
+        cells: options.cells,
+        seats: options.seats,
+        shards: 1,
+        run: 4,
+        patience: 0,
+    }
+}
+
+/// Writes why words were refused to the faults, or the help that they ask for to the output. Answers
+/// the exit status, as `command` does.
+pub fn refuse<W: Write + Drop, E: Write + Drop>(
+    refusal: Refusal,
+    mut output: W,
+    mut faults: E,
+) -> u8 {
+    match refusal {
+        Refusal::Help(text) => match help(&mut output, &text) {
+            Ok(()) => 0,
+            Err(error) => fail(Failure::from(error), &mut faults),
+        },
+        Refusal::Memory => fail(Failure::Memory, &mut faults),
+        refusal => {
+            let _ = write!(faults, "{refusal}");
+            let _ = faults.flush();
+            1
+        }
+    }
+}
+
+fn help<W: Write>(output: &mut W, text: &clap::Error) -> io::Result<()> {
+    write!(output, "{text}")?;
+    output.flush()
+}
+
+fn fail<E: Write>(failure: Failure, faults: &mut E) -> u8 {
+    let _ = failure.report(faults);
+    failure.status()
+}

@@ -1,0 +1,6 @@
+pub mod Added
+pub mod Entered
+pub mod Kept
+pub mod Ranges
+pub mod Read
+pub mod Taken

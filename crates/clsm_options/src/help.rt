@@ -1,0 +1,82 @@
+//! The texts of `--help`.
+
+pub(crate) const VERSION: &str = "0.1.0";
+
+pub(crate) const PROGRAM: &str =
+    "A concurrent log-structured merge map in memory: scripts, workloads and audits";
+
+pub(crate) const AFTER_PROGRAM: &str = "\
+Exit status:
+  0  done
+  1  refused words, a bad line, a failed read or write
+  2  a fault was found
+  3  the store was not opened, or there was want of memory
+
+`clsm COMMAND --help` says what a command reads and prints, with an example.";
+
+pub(crate) const SCRIPT: &str = "Play the commands of the standard input on a new store";
+
+pub(crate) const AFTER_SCRIPT: &str = "\
+Reads commands, one a line, such as `put 7 1`, `get 7`, `scan 0 9`, `freeze`, `seat 1` and
+`audit`. Prints the answer of each on a line.
+
+Exit status: 0 done; 1 a bad line, a failed read or write; 2 an audit found a fault; 3 the
+sizes were refused or there was want of memory.
+
+Example:
+  printf 'put 7 1\\nget 7\\n' | clsm script --cells 64";
+
+pub(crate) const RUN: &str =
+    "Make drawn calls by threads on one store beside a merger, and audit their answers";
+
+pub(crate) const AFTER_RUN: &str = "\
+Reads nothing. Prints `calls N`, refused ones too, and `audit ok` or `audit fault KIND INDEX`.
+With --records it prints each answered call as a line that `clsm audit` reads, in their place.
+
+Exit status: 0 done; 1 refused words or a failed write; 2 a fault was found; 3 the sizes were
+refused or there was want of memory.
+
+Example:
+  clsm run --threads 8 --ops 10000 --stats";
+
+pub(crate) const AUDIT: &str =
+    "Tell whether the records of the standard input are the calls of one lawful history";
+
+pub(crate) const AFTER_AUDIT: &str = "\
+Reads records of answered calls, one a line, as `clsm run --records` prints them.
+Prints `audit ok`, or `audit fault KIND LINE` with the kind and the line of the first fault.
+
+Exit status: 0 lawful; 1 a bad line, a failed read or write; 2 a fault was found; 3 want of
+memory.
+
+Example:
+  clsm run --threads 4 --records | clsm audit --seats 4 --cells 1024";
+
+pub(crate) const CELLS: &str = "Cells of a region: so many writes fit between two freezes";
+
+pub(crate) const SEATS: &str = "Seats of callers";
+
+pub(crate) const SHARDS: &str = "Hash chains of a region";
+
+pub(crate) const RUN_ROOM: &str = "Entries that a place of level 1 has room for";
+
+pub(crate) const PATIENCE: &str = "Looks at an undecided time before a reader cancels it";
+
+pub(crate) const THREADS: &str = "Threads, each at a seat of its own, 1 to 64";
+
+pub(crate) const OPS: &str = "Calls of each thread, 0 to 1,000,000";
+
+pub(crate) const KEYS: &str = "Keys that the calls are of, 1 to 1,000,000";
+
+pub(crate) const SEED: &str = "What the calls are drawn from";
+
+pub(crate) const STATS: &str =
+    "Print rates and times of the calls to the standard error, at the end";
+
+pub(crate) const RUN_PROGRESS: &str = "Show on the standard error how far the run has come";
+
+pub(crate) const RECORDS: &str = "Print each answered call as a record, in place of the verdict";
+
+pub(crate) const AUDIT_SEATS: &str = "Seats that the records may be of";
+
+pub(crate) const AUDIT_CELLS: &str = "Cells of a region of the store that was called";

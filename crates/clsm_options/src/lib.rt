@@ -1,0 +1,16 @@
+//! The command line of the program `clsm`: its commands, their options with their defaults, and
+//! the words by which it is refused.
+#![tactic(auto)]
+
+mod command_line;
+mod help;
+mod options;
+mod program;
+mod reading;
+mod refusal;
+#[cfg(test)]
+mod tests;
+
+pub use command_line::{parse, words};
+pub use options::{AuditOptions, Options, RunOptions};
+pub use refusal::Refusal;

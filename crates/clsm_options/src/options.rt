@@ -1,0 +1,40 @@
+use clsm_model::Config;
+
+/// What the program is asked to do.
+#[derive(PartialEq, Eq, Debug, Drop)]
+pub enum Options {
+    /// `clsm script`: the commands of the standard input, at a store of these sizes.
+    Script(Config),
+    /// `clsm run`: calls by threads.
+    Run(RunOptions),
+    /// `clsm audit`: the records of the standard input.
+    Audit(AuditOptions),
+}
+
+/// The options of `clsm run`.
+#[derive(Clone, Copy, PartialEq, Eq, Debug)]
+pub struct RunOptions {
+    /// The sizes of the store. The seats are the threads: 1 to 64.
+    pub config: Config,
+    /// The calls of each thread: 0 to 1,000,000.
+    pub ops: u64,
+    /// The keys that they are of: 1 to 1,000,000.
+    pub keys: u64,
+    /// What the calls are drawn from.
+    pub seed: u64,
+    /// `--stats`
+    pub stats: bool,
+    /// `--progress`
+    pub progress: bool,
+    /// `--records`
+    pub records: bool,
+}
+
+/// The options of `clsm audit`.
+#[derive(Clone, Copy, PartialEq, Eq, Debug)]
+pub struct AuditOptions {
+    /// The seats that records may be of.
+    pub seats: usize,
+    /// The cells of a region of the store that they were made at.
+    pub cells: usize,
+}

@@ -1,0 +1,14 @@
+//! Records of calls as lines of text, read and written, and the audit of such lines.
+#![tactic(auto)]
+
+mod audit;
+mod deed;
+mod record;
+#[cfg(test)]
+mod tests;
+mod words;
+mod written;
+
+pub use audit::audit_lines;
+pub use record::parse_record;
+pub use written::{Line, write_record};

@@ -1,0 +1,26 @@
+-- What the commands that change a key make of its old value.
+use Rattle.std.specs.Prelude.{ℕ, ◌+◌, ◌^◌, List, [], ◌∷◌, cond, nat_lt, Option, Some, None}
+use Rattle.clsm_model.specs.declared.slot.Change.{Change}
+use Rattle.clsm_model.specs.declared.slot.Change.TheVariants.{Keep, Set}
+
+-- the word of the value plus another, where it has one word and the sum fits in 64 bits; of no
+-- value, that other
+abbrev pub word_sum : Option (List ℕ) → ℕ → Option ℕ
+word_sum None by = Some by
+word_sum (Some []) by = None
+word_sum (Some (word ∷ [])) by = cond (nat_lt (word + by) (2 ^ 64)) (Some (word + by)) None
+word_sum (Some (word ∷ more ∷ words)) by = None
+
+-- the word is set, or the old value is kept where there is none
+abbrev pub set_or_keep : Option ℕ → Change
+set_or_keep None = Keep
+set_or_keep (Some word) = Set (word ∷ [])
+
+-- the sum, or the old value where there is none
+abbrev pub added : Option (List ℕ) → ℕ → Change
+added old by = set_or_keep (word_sum old by)
+
+-- the value, where there is no old one
+abbrev pub claimed : Option (List ℕ) → List ℕ → Change
+claimed None value = Set value
+claimed (Some old) value = Keep

@@ -1,0 +1,53 @@
+//! The records of all workers as one list.
+ghost use Rattle.std.specs.Prelude.{◌≡◌, ◌∷◌, [], ◌++◌, All, IfOk, OnOk, map};
+ghost use Rattle.clsm_run.specs.Audit.{all_calls};
+
+use crate::watch::Note;
+use crate::worker::Worked;
+use clsm_model::CallRecord;
+use clsm_store::Seat;
+use std::alloc::{AllocError, Global};
+
+/// What all workers gave back.
+#[derive(Drop)]
+pub struct Gathered {
+    pub seats: Vec<Seat>,
+    pub records: Vec<CallRecord>,
+    pub notes: Vec<Note>,
+}
+
+/// What all workers gave back: their seats in their order, and all calls of these seats. Refused for
+/// want of memory.
+pub fn gather(alloc: Global, worked: Vec<Worked>) -> Result<Gathered, AllocError>
+    requires { All (λ w. w.seat.calls ≡ w.records.items) worked.items }
+    ensures seats { IfOk result (λ all. all.seats.items ≡ map (λ w. w.seat) worked.items) }
+    ensures records { IfOk result (λ all. all.records.items ≡ all_calls all.seats.items) }
+{
+    let mut all = Gathered {
+        seats: Vec::new(alloc),
+        records: Vec::new(alloc),
+        notes: Vec::new(alloc),
+    };
+    for one in worked {
+        all.take(one)?;
+    }
+    Ok(all)
+}
+
+impl Gathered {
+    /// Takes in what one worker gave back. Refused for want of memory.
+    fn take(&mut self, one: Worked) -> Result<(), AllocError>
+        ensures seats { OnOk result (self.new.seats.items ≡ self.old.seats.items ++ one.seat ∷ []) }
+        ensures records { OnOk result (self.new.records.items ≡ self.old.records.items ++ one.records.items) }
+    {
+        let Worked {
+            seat,
+            mut records,
+            mut notes,
+        } = one;
+        self.records.append(&mut records)?;
+        self.notes.append(&mut notes)?;
+        self.seats.push(seat)?;
+        Ok(())
+    }
+}

@@ -1,0 +1,29 @@
+//! A workload drawn by chance over real threads on one store, which ends in the audit.
+#![tactic(auto)]
+
+mod answer;
+mod auditing;
+mod board;
+mod changes;
+mod crew;
+mod gathering;
+mod kind;
+mod load;
+mod merging;
+mod opening;
+mod playing;
+mod progress;
+mod stats;
+#[cfg(test)]
+mod tests;
+mod watch;
+mod worker;
+mod workload;
+
+pub use crew::{Ran, run_on};
+pub use kind::Kind;
+pub use load::{Load, Shows};
+pub use opening::run;
+pub use playing::play;
+pub use watch::Note;
+pub use workload::Workload;

@@ -1,0 +1,26 @@
+//! How much a run asks of its workers, and what it shows.
+ghost use Rattle.std.specs.Prelude.{◌≤◌};
+
+/// How much a run asks of each of its workers.
+#[derive(Clone, Copy, Debug)]
+pub struct Load {
+    /// The calls that it makes.
+    pub ops: u32,
+    /// The number of keys, 1 to 1,000,000: its calls are of keys below it.
+    pub keys: u64,
+    /// What its calls are drawn by, beside its own number.
+    pub seed: u64,
+    pub ghost some_keys: { 1 ≤ keys },
+    pub ghost not_too_many_keys: { keys ≤ 1000000 },
+}
+
+/// What a run shows beside its verdict.
+#[derive(Clone, Copy, Debug, PartialEq, Eq)]
+pub struct Shows {
+    /// How many calls of each kind a second, their times, the refusals and the merges, at the end.
+    pub stats: bool,
+    /// One line that moves while it runs.
+    pub progress: bool,
+    /// Each record, in place of the verdict.
+    pub records: bool,
+}

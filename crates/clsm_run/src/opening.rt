@@ -1,0 +1,80 @@
+//! A run: its opening, its work and its end.
+ghost use Rattle.std.specs.Prelude.{◌≡◌, IfErr, OnOk};
+ghost use Rattle.clsm_model.specs.Config.{IsSound};
+ghost use Rattle.clsm_run.specs.Run.{IsStatus, StopsRun};
+
+use crate::answer::{write_records, write_verdict};
+use crate::auditing::ending;
+use crate::crew::run_on;
+use crate::load::{Load, Shows};
+use crate::stats::write_stats;
+use clsm_model::Config;
+use clsm_store::open;
+use clsm_text::Failure;
+use std::alloc::Global;
+use std::io::Write;
+use std::rt::Clock;
+use std::sync::Wait;
+use std::thread::Threads;
+
+/// Opens a store of these sizes, lets a worker for each seat make the calls of its workload while the
+/// merger merges, and audits the records of all answered calls. It prints how many calls were made,
+/// refused ones too, and `audit ok` or `audit fault KIND INDEX`; or, where it shows records, each of
+/// them as a line instead. Answers the exit status: 0, or 2
+/// where the audit found a fault, or 1 where a write to the output failed, or 3 where the sizes or
+/// memory were refused; `device`, `refused N SIZE` or `no memory` then stands on the faults. A write
+/// to the faults that fails changes nothing.
+pub fn run<R, W, E>(
+    rt: &R,
+    alloc: Global,
+    config: Config,
+    load: Load,
+    shows: Shows,
+    output: W,
+    mut faults: E,
+) -> u8
+where
+    R: Threads + Sync + Clock + Wait,
+    W: Write + Drop,
+    E: Write + Drop,
+    ensures status { IsStatus result }
+    ensures refused { ¬ IsSound config → result ≡ 3 }
+{
+    match try_run(rt, alloc, &config, &load, &shows, output, &mut faults) {
+        Ok(()) => 0,
+        Err(failure) => {
+            let _ = failure.report(&mut faults);
+            failure.status()
+        }
+    }
+}
+
+fn try_run<R, W, E>(
+    rt: &R,
+    alloc: Global,
+    config: &Config,
+    load: &Load,
+    shows: &Shows,
+    mut output: W,
+    faults: &mut E,
+) -> Result<(), Failure>
+where
+    R: Threads + Sync + Clock + Wait,
+    W: Write + Drop,
+    E: Write,
+    ensures opened { OnOk result (IsSound config.now) }
+    ensures stopped { IfErr result (StopsRun config.now) }
+{
+    let opened = open(alloc, *config)?;
+    let ran = run_on(rt, alloc, config, opened, load, shows, faults)?;
+    let calls = config.seats as u64 * u64::from(load.ops);
+    if shows.records {
+        write_records(alloc, &mut output, &ran.records)?;
+    } else {
+        write_verdict(&mut output, calls, &ran)?;
+    }
+    if shows.stats {
+        let _ = write_stats(alloc, faults, &ran);
+    }
+    ending(&ran.verdict)
+}

@@ -1,0 +1,172 @@
+//! One deal, played on a seat.
+ghost use Rattle.std.specs.Prelude.{◌≡◌, IfErr, IfOk};
+ghost use Rattle.clsm_calls.specs.Seats.{Refuses};
+ghost use Rattle.clsm_law.specs.Relation.{call_of};
+ghost use Rattle.clsm_explore.specs.declared.deal.Deal.TheVariants.{Add, Claim, Close, Get, GetAt, Put, Remove, Scan as ScanOf, Snap};
+ghost use Rattle.clsm_run.specs.Play.{Plays};
+
+use crate::changes::{added, claimed};
+use clsm_explore::Deal;
+use clsm_model::{CallRecord, Deed, Memory, Time, Value};
+use clsm_store::{Got, Pace, Rmw, Scan, Seat, Store};
+use std::alloc::Global;
+use std::sync::Wait;
+
+/// Plays a deal on one of the store's seats, and answers the record of it; none where it was
+/// refused, which is a write with `Full`, a `Snap` where a snapshot is open, and a `Close` and a
+/// `GetAt` where none is. A scan may be refused for want of memory: the seat is as before then.
+pub fn play<P: Pace + Drop, R: Wait>(
+    rt: &R,
+    alloc: Global,
+    store: &Store<P>,
+    seat: &mut Seat,
+    deal: Deal,
+) -> Result<Option<CallRecord>, Memory>
+    requires { seat.old.store ≡ store.now }
+    ensures played { IfOk result (Plays deal seat.old seat.new) }
+    ensures refused { IfErr result (λ _. Refuses seat.old seat.new) }
+{
+    match deal {
+        Deal::Put { key, value } => Ok(put(rt, store, seat, key, value)),
+        Deal::Remove { key } => Ok(remove(rt, store, seat, key)),
+        Deal::Get { key } => Ok(get(store, seat, key)),
+        Deal::Add { key, by } => Ok(add(rt, store, seat, key, by)),
+        Deal::Claim { key, value } => Ok(claim(rt, store, seat, key, value)),
+        Deal::Snap => Ok(open_snapshot(store, seat)),
+        Deal::Close => Ok(close_snapshot(store, seat)),
+        Deal::GetAt { key } => Ok(get_at(store, seat, key)),
+        Deal::Scan { lo, hi } => scan(alloc, store, seat, lo, hi),
+    }
+}
+
+/// The record of a call of the seat.
+fn recorded(seat: &Seat, time: Time, deed: Deed) -> CallRecord
+    ensures { result ≡ call_of seat.now.number time deed }
+{
+    CallRecord {
+        seat: seat.number(),
+        time,
+        deed,
+    }
+}
+
+fn put<P: Pace + Drop, R: Wait>(
+    rt: &R,
+    store: &Store<P>,
+    seat: &mut Seat,
+    key: u64,
+    value: Value,
+) -> Option<CallRecord>
+    requires { seat.old.store ≡ store.now }
+    ensures { Plays (Put key value) seat.old seat.new result }
+{
+    match store.put(rt, seat, key, value) {
+        Ok(time) => Some(recorded(seat, time, Deed::Put { key, value })),
+        Err(_) => None,
+    }
+}
+
+fn remove<P: Pace + Drop, R: Wait>(
+    rt: &R,
+    store: &Store<P>,
+    seat: &mut Seat,
+    key: u64,
+) -> Option<CallRecord>
+    requires { seat.old.store ≡ store.now }
+    ensures { Plays (Remove key) seat.old seat.new result }
+{
+    match store.remove(rt, seat, key) {
+        Ok(time) => Some(recorded(seat, time, Deed::Remove { key })),
+        Err(_) => None,
+    }
+}
+
+fn get<P: Pace + Drop>(store: &Store<P>, seat: &mut Seat, key: u64) -> Option<CallRecord>
+    requires { seat.old.store ≡ store.now }
+    ensures { Plays (Get key) seat.old seat.new result }
+{
+    let Got { time, value } = store.get(seat, key);
+    let deed = Deed::Get { key, reply: value };
+    Some(recorded(seat, time, deed))
+}
+
+fn add<P: Pace + Drop, R: Wait>(
+    rt: &R,
+    store: &Store<P>,
+    seat: &mut Seat,
+    key: u64,
+    by: u64,
+) -> Option<CallRecord>
+    requires { seat.old.store ≡ store.now }
+    ensures { Plays (Add key by) seat.old seat.new result }
+{
+    match store.rmw(rt, seat, key, &|old| added(&old, by)) {
+        Ok(Rmw { time, old, change }) => {
+            Some(recorded(seat, time, Deed::Rmw { key, old, change }))
+        }
+        Err(_) => None,
+    }
+}
+
+fn claim<P: Pace + Drop, R: Wait>(
+    rt: &R,
+    store: &Store<P>,
+    seat: &mut Seat,
+    key: u64,
+    value: Value,
+) -> Option<CallRecord>
+    requires { seat.old.store ≡ store.now }
+    ensures { Plays (Claim key value) seat.old seat.new result }
+{
+    match store.rmw(rt, seat, key, &|old| claimed(&old, value)) {
+        Ok(Rmw { time, old, change }) => {
+            Some(recorded(seat, time, Deed::Rmw { key, old, change }))
+        }
+        Err(_) => None,
+    }
+}
+
+fn open_snapshot<P: Pace + Drop>(store: &Store<P>, seat: &mut Seat) -> Option<CallRecord>
+    requires { seat.old.store ≡ store.now }
+    ensures { Plays Snap seat.old seat.new result }
+{
+    match store.snapshot(seat) {
+        Ok(time) => Some(recorded(seat, time, Deed::Snapshot)),
+        Err(_) => None,
+    }
+}
+
+fn close_snapshot<P: Pace + Drop>(store: &Store<P>, seat: &mut Seat) -> Option<CallRecord>
+    requires { seat.old.store ≡ store.now }
+    ensures { Plays Close seat.old seat.new result }
+{
+    let time = store.close_snapshot(seat)?;
+    Some(recorded(seat, time, Deed::Close))
+}
+
+fn get_at<P: Pace + Drop>(store: &Store<P>, seat: &mut Seat, key: u64) -> Option<CallRecord>
+    requires { seat.old.store ≡ store.now }
+    ensures { Plays (GetAt key) seat.old seat.new result }
+{
+    seat.snapshot_time()?;
+    let Got { time, value } = store.get_at(seat, key);
+    let deed = Deed::GetAt { key, reply: value };
+    Some(recorded(seat, time, deed))
+}
+
+/// Refused for want of memory.
+fn scan<P: Pace + Drop>(
+    alloc: Global,
+    store: &Store<P>,
+    seat: &mut Seat,
+    lo: u64,
+    hi: u64,
+) -> Result<Option<CallRecord>, Memory>
+    requires { seat.old.store ≡ store.now }
+    ensures played { IfOk result (Plays (ScanOf lo hi) seat.old seat.new) }
+    ensures refused { IfErr result (λ _. Refuses seat.old seat.new) }
+{
+    let Scan { time, rows } = store.scan(alloc, seat, lo, hi)?;
+    let deed = Deed::Scan { lo, hi, rows };
+    Ok(Some(recorded(seat, time, deed)))
+}

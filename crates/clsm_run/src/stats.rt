@@ -1,0 +1,79 @@
+//! How fast a run was.
+use crate::crew::Ran;
+use crate::kind::{KINDS, Kind};
+use crate::progress::per_second;
+use crate::watch::Note;
+use clsm_model::Memory;
+use clsm_text::Failure;
+use std::alloc::Global;
+use std::io::Write;
+use std::time::Duration;
+
+/// Writes a line for each kind of calls: how many were answered and how many refused, how many a
+/// second, and the median, the 99th and 99.9th percentile and the greatest of their times in
+/// nanoseconds; and a line with the refusals, the merges, and the time of the calls and of the audit.
+pub fn write_stats<E: Write>(alloc: Global, faults: &mut E, ran: &Ran) -> Result<(), Failure> {
+    for kind in KINDS {
+        write_kind(alloc, faults, &ran.notes, kind, ran.calling)?;
+    }
+    let full = ran.notes.iter().filter(|note| !note.is_answered).count();
+    writeln!(faults, "refused full {full}")?;
+    writeln!(faults, "merges {}", ran.merges)?;
+    let calling = ran.calling.as_millis();
+    let auditing = ran.auditing.as_millis();
+    writeln!(faults, "milliseconds calls {calling} audit {auditing}")?;
+    faults.flush()?;
+    Ok(())
+}
+
+/// The times of the answered calls of a kind, by rising length. Refused for want of memory.
+fn times_of(alloc: Global, notes: &[Note], kind: Kind) -> Result<Vec<u64>, Memory> {
+    let mut times = Vec::new(alloc);
+    for note in notes {
+        if note.is_answered && note.kind == kind {
+            times.push(note.nanoseconds).map_err(|_| Memory)?;
+        }
+    }
+    times.sort_unstable();
+    Ok(times)
+}
+
+/// The time that so many of a thousand calls do not pass.
+fn percentile(times: &[u64], thousandths: usize) -> u64 {
+    let Some(last) = times.len().checked_sub(1) else {
+        return 0;
+    };
+    let at = last as u128 * thousandths as u128 / 1_000;
+    let at = usize::try_from(at).unwrap_or(last);
+    times.get(at).copied().unwrap_or(0)
+}
+
+fn write_kind<E: Write>(
+    alloc: Global,
+    faults: &mut E,
+    notes: &[Note],
+    kind: Kind,
+    time: Duration,
+) -> Result<(), Failure> {
+    let times = times_of(alloc, notes, kind).map_err(|_| Failure::Memory)?;
+    let answered = times.len();
+    let refused = notes
+        .iter()
+        .filter(|note| note.kind == kind && !note.is_answered)
+        .count();
+    let rate = per_second(answered as u64, time);
+    let name = kind.name();
+    let median = percentile(&times, 500);
+    let most = percentile(&times, 990);
+    let nearly_all = percentile(&times, 999);
+    let greatest = percentile(&times, 1_000);
+    write!(
+        faults,
+        "{name} answered {answered} refused {refused} calls/s {rate}"
+    )?;
+    writeln!(
+        faults,
+        " nanoseconds median {median} p99 {most} p99.9 {nearly_all} greatest {greatest}"
+    )?;
+    Ok(())
+}

@@ -1,0 +1,85 @@
+//! Two workers of a run overlap: each is held until the other has gone on.
+use super::*;
+use clsm_store::{Pace, open_paced};
+use clsm_words::Kind as StepKind;
+use std::sync::atomic::AtomicU64;
+use std::sync::atomic::Ordering::SeqCst;
+use std::test::*;
+use std::thread;
+
+/// How often a held worker looks before it goes on without the other.
+const LOOKS: u64 = 10_000_000;
+
+/// How many steps the other worker has to take.
+const STEPS: u64 = 100;
+
+/// The steps that the workers 0 and 1 took, and how often one went on without the other.
+#[derive(Drop)]
+struct Steps {
+    first: AtomicU64,
+    second: AtomicU64,
+    alone: AtomicU64,
+}
+
+impl Steps {
+    /// Holds a worker until the other has taken its steps.
+    fn hold(&self, other: &AtomicU64) {
+        for _ in 0..LOOKS {
+            if other.load(SeqCst) >= STEPS {
+                return;
+            }
+            thread::yield_now();
+        }
+        self.alone.fetch_add(1, SeqCst);
+    }
+}
+
+/// Holds worker 0 before its second step until worker 1 has taken 100, and then worker 1 before its
+/// next one until worker 0 has taken 100.
+#[derive(Drop)]
+struct Turns<'a>(&'a Steps);
+
+impl Pace for Turns<'_> {
+    fn step(&self, seat: u64, _: StepKind) {
+        let steps = self.0;
+        if seat == 0 {
+            if steps.first.load(SeqCst) == 1 {
+                steps.hold(&steps.second);
+            }
+            steps.first.fetch_add(1, SeqCst);
+        } else if seat == 1 {
+            if steps.second.load(SeqCst) == STEPS {
+                steps.hold(&steps.first);
+            }
+            steps.second.fetch_add(1, SeqCst);
+        }
+    }
+}
+
+#[test]
+fn workers_overlap(rt: HostRuntime) -> Result<(), Fail> {
+    let alloc = rt.alloc();
+    let steps = Steps {
+        first: AtomicU64::new(0),
+        second: AtomicU64::new(0),
+        alone: AtomicU64::new(0),
+    };
+    let config = config(2);
+    let opened = open_paced(alloc, config, Turns(&steps)).expect(&rt, "memory");
+    let mut faults = Screen::new(alloc, NEVER);
+    let ran = run_on(
+        &rt,
+        alloc,
+        &config,
+        opened,
+        &load(1_000),
+        &PLAIN,
+        &mut faults,
+    );
+    let ran = ran.expect(&rt, "memory and a clock");
+    assert_eq!(rt; steps.alone.load(SeqCst), 0);
+    assert!(rt; steps.first.load(SeqCst) >= STEPS);
+    assert!(rt; steps.second.load(SeqCst) >= STEPS);
+    assert_eq!(rt; ran.verdict, Ok(()));
+    Ok(())
+}

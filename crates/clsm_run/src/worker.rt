@@ -1,0 +1,120 @@
+//! A worker: a thread that makes the calls of its workload by its seat, and keeps their records.
+ghost use Rattle.std.specs.Prelude.{◌≡◌, ◌<◌, vec_len};
+ghost use Rattle.std.specs.Vec.{vec_capacity};
+ghost use Rattle.clsm_run.specs.Work.{KeepsRecords, Works, kept};
+
+use crate::board::Board;
+use crate::kind::Kind;
+use crate::load::{Load, Shows};
+use crate::playing::play;
+use crate::watch::{Note, Watch};
+use crate::workload::Workload;
+use clsm_model::{CallRecord, Memory};
+use clsm_store::{Pace, Seat, Store};
+use std::alloc::Global;
+use std::rt::Clock;
+use std::sync::Wait;
+
+/// A worker at its work.
+#[derive(Drop)]
+pub struct Worker {
+    seat: Seat,
+    workload: Workload,
+    records: Vec<CallRecord>,
+    watch: Watch,
+}
+
+/// What a worker gives back: its seat, the records of the calls that it made, and its notes of them.
+#[derive(Drop)]
+pub struct Worked {
+    pub seat: Seat,
+    pub records: Vec<CallRecord>,
+    pub notes: Vec<Note>,
+}
+
+/// Makes the calls of the seat's workload, and answers the seat with the records of those that were
+/// answered. Where it is refused memory, or another worker was, it ends there, and the board says so.
+pub fn work<P: Pace + Drop, R: Clock + Wait>(
+    rt: &R,
+    alloc: Global,
+    store: &Store<P>,
+    seat: Seat,
+    load: &Load,
+    shows: &Shows,
+    board: &Board,
+) -> Worked
+    requires { seat.store ≡ store.now }
+    ensures { Works seat result }
+{
+    let workload = Workload::new(load.seed, seat.number(), load.keys);
+    let mut worker = Worker {
+        seat,
+        workload,
+        records: Vec::new(alloc),
+        watch: Watch::new(alloc, shows.stats),
+    };
+    for _ in 0..load.ops {
+        if board.is_starved() {
+            break;
+        }
+        if let Err(_) = worker.step(rt, alloc, store) {
+            board.starve();
+            break;
+        }
+        if shows.progress {
+            board.count_call();
+        }
+    }
+    worker.end()
+}
+
+impl Worker {
+    /// Makes the next call, and keeps its record if it was answered. Refused for want of memory; no
+    /// call was made then, or its record is kept too.
+    fn step<P: Pace + Drop, R: Clock + Wait>(
+        &mut self,
+        rt: &R,
+        alloc: Global,
+        store: &Store<P>,
+    ) -> Result<(), Memory>
+        requires { self.old.seat.store ≡ store.now }
+        ensures { KeepsRecords self.old self.new }
+    {
+        self.records.reserve(1)?;
+        let deal = self.workload.next(self.seat.snapshot_time().is_some());
+        let kind = Kind::of(&deal);
+        let begun = self.watch.begin(rt);
+        let record = play(rt, alloc, store, &mut self.seat, deal)?;
+        let is_answered = record.is_some();
+        keep(&mut self.records, record);
+        self.watch.note(rt, begun, kind, is_answered)
+    }
+
+    /// What it gives back.
+    fn end(self) -> Worked
+        ensures seat { result.seat ≡ self.seat }
+        ensures records { result.records.items ≡ self.records.items }
+    {
+        let Worker {
+            seat,
+            records,
+            watch,
+            ..
+        } = self;
+        Worked {
+            seat,
+            records,
+            notes: watch.notes,
+        }
+    }
+}
+
+/// Keeps the record, if there is one. There is room for it.
+fn keep(records: &mut Vec<CallRecord>, answered: Option<CallRecord>)
+    requires { vec_len records.old < vec_capacity records.old }
+    ensures { records.new.items ≡ kept records.old.items answered }
+{
+    if let Some(record) = answered {
+        records.push_reserved(record);
+    }
+}

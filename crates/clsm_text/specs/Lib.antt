@@ -1,0 +1,4 @@
+pub mod Failure
+pub mod Input
+pub mod Line
+pub mod Number

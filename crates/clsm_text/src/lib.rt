@@ -1,0 +1,17 @@
+//! What the programs read and print as lines: lines and their words, numbers, values and rows; and
+//! how a program ends that fails.
+#![tactic(auto)]
+
+mod failure;
+mod input;
+mod line;
+mod number;
+mod shown;
+#[cfg(test)]
+mod tests;
+
+pub use failure::Failure;
+pub use input::read_line;
+pub use line::{LONGEST_LINE, LineError, plain_words};
+pub use number::{parse_number, parse_value};
+pub use shown::{Shown, ShownRows};

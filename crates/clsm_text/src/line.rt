@@ -1,0 +1,73 @@
+ghost use Rattle.std.specs.Prelude.{◌≡◌, Err, IfOk, OnOk, MatchOption};
+ghost use Rattle.clsm_text.specs.Line.{texts_of, words_of, IsComment, IsText};
+ghost use Rattle.clsm_text.specs.declared.line.LineError.TheVariants.{Bad};
+
+use crate::failure::Failure;
+use std::alloc::{AllocError, Global};
+
+/// The greatest length of a line in bytes, without its line feed.
+pub const LONGEST_LINE: usize = 4096;
+
+/// Why a line is not read.
+#[derive(Clone, Copy, Debug, PartialEq, Eq)]
+pub enum LineError {
+    /// It is too long, or no text, or says nothing that the program knows.
+    Bad,
+    Memory,
+}
+
+impl LineError {
+    ghost use Rattle.clsm_text.specs.Failure.{failure_at};
+
+    /// Why the program fails at the line of this number.
+    pub fn at(self, number: u64) -> Failure
+        ensures { result ≡ failure_at number self }
+    {
+        match self {
+            LineError::Bad => Failure::BadLine(number),
+            LineError::Memory => Failure::Memory,
+        }
+    }
+}
+
+impl From<AllocError> for LineError {
+    ghost use Rattle.clsm_text.specs.declared.line.LineError.TheVariants.{Memory};
+
+    ghost from_gives = { λ _ e. e ≡ Memory };
+
+    fn from(_error: AllocError) -> LineError {
+        LineError::Memory
+    }
+}
+
+/// The words of a line that is given without its line feed, which one or more spaces part; `None`
+/// where it has no words or is a comment, which begins with `#`. It is refused as bad where it is
+/// longer than 4,096 bytes or is not UTF-8, and else only for want of memory.
+pub fn plain_words(alloc: Global, line: &[u8]) -> Result<Option<Vec<&str>>, LineError>
+    ensures text { OnOk result (IsText line.now) }
+    ensures words { IfOk result (λ said. MatchOption said
+        (IsComment (words_of line.now))
+        (λ words. (¬ IsComment (words_of line.now)) × (texts_of words.items ≡ words_of line.now))) }
+    ensures bad { result ≡ Err Bad → ¬ IsText line.now }
+{
+    if line.len() > LONGEST_LINE {
+        return Err(LineError::Bad);
+    }
+    let Ok(text) = std::str::from_utf8(line) else {
+        return Err(LineError::Bad);
+    };
+    let words = split_words(alloc, text)?;
+    if words.first().is_none_or(|word| word.starts_with('#')) {
+        return Ok(None);
+    }
+    Ok(Some(words))
+}
+
+/// The words of a line, which one or more spaces part.
+fn split_words(alloc: Global, line: &str) -> Result<Vec<&str>, AllocError>
+    ensures { IfOk result (λ words. texts_of words.items ≡ words_of line.now) }
+{
+    line.split(' ')
+        .filter(|word| !word.is_empty())
+        .collect(alloc)
+}

@@ -1,0 +1,35 @@
+//! Values and rows as the programs write them.
+use clsm_model::{Rows, Value};
+use std::fmt;
+
+/// A value, or `none` where there is none.
+#[derive(Drop)]
+pub struct Shown<'a>(pub &'a Option<Value>);
+
+impl fmt::Display for Shown<'_> {
+    fn fmt<W: fmt::Write>(&self, f: &mut fmt::Formatter<W>) -> fmt::Result {
+        match self.0 {
+            Some(value) => write!(f, "{value}"),
+            None => write!(f, "none"),
+        }
+    }
+}
+
+/// `K=V` for each row, parted by spaces; `empty` where there is no row.
+#[derive(Drop)]
+pub struct ShownRows<'a>(pub &'a Rows);
+
+impl fmt::Display for ShownRows<'_> {
+    fn fmt<W: fmt::Write>(&self, f: &mut fmt::Formatter<W>) -> fmt::Result {
+        let rows = self.0.as_slice();
+        if rows.is_empty() {
+            return write!(f, "empty");
+        }
+        let mut separator = "";
+        for (key, value) in rows {
+            write!(f, "{separator}{key}={value}")?;
+            separator = " ";
+        }
+        Ok(())
+    }
+}
