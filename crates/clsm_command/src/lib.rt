@@ -39,7 +39,7 @@ where
     S: AsStr,
     R: Read + Drop,
     W: Write + Drop,
-    E: Write + Drop,
+    E: Write + Send + Drop,
 {
     match parse(alloc, words) {
         Ok(options) => obey(rt, alloc, options, input, output, faults),
@@ -52,7 +52,7 @@ where
     T: Threads + Sync + Clock + Wait,
     R: Read + Drop,
     W: Write + Drop,
-    E: Write + Drop,
+    E: Write + Send + Drop,
     requires range { IsInRange options }
 {
     match options {
@@ -67,7 +67,7 @@ fn call<T, W, E>(rt: &T, alloc: Global, options: &RunOptions, output: W, faults:
 where
     T: Threads + Sync + Clock + Wait,
     W: Write + Drop,
-    E: Write + Drop,
+    E: Write + Send + Drop,
     requires range { IsInRange (Run options.now) }
 {
     let load = Load {

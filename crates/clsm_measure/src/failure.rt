@@ -5,9 +5,9 @@ use std::io;
 use thiserror::Error;
 
 /// Why a measurement does not end well. It is shown as the program writes it.
-#[derive(Clone, Copy, Debug, PartialEq, Eq, Error)]
+#[derive(Debug, Drop, Error)]
 pub enum Failure {
-    #[error("usage: clsm_bench [store N | merges N | beside N]")]
+    #[error("usage: clsm_bench calls, beside, merges, scans, meetings or audit")]
     Usage,
     /// A write failed, or the clock or the words on the command line could not be read.
     #[error("device")]
@@ -15,7 +15,7 @@ pub enum Failure {
     /// The store was not opened.
     #[error("refused {0}")]
     Refused(OpenError),
-    /// A call was not answered, or the merger was refused one of its own.
+    /// A call was not answered as it should be.
     #[error("unanswered")]
     Unanswered,
     #[error("no memory")]

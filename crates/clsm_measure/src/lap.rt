@@ -1,43 +1,84 @@
-//! The calls of all threads at the same moment, and their time.
-ghost use Rattle.std.specs.Prelude.{◌≡◌, ◌+◌, ◌^◌, ◌<◌, IfOk, All};
+//! Calls that were all answered, and their time.
+ghost use Rattle.std.specs.Prelude.{◌≡◌, IfOk, All};
 
-use crate::crew::Crew;
 use crate::failure::Failure;
-use crate::target::{Target, work};
-use std::fmt;
 use std::rt::Clock;
-use std::sync::Wait;
-use std::thread::{self, Threads};
+use std::sync::atomic::AtomicU64;
+use std::sync::atomic::Ordering::SeqCst;
+use std::thread;
 use std::time::{Duration, Instant};
 
-/// The calls of a thread that were answered, and when it made them.
+/// How often a thread looks whether the others have come, before it goes on without them.
+const MOST_LOOKS: u32 = 1 << 20;
+
+/// Calls that were answered, and when they were made.
 #[derive(Clone, Copy)]
 pub struct Lap {
+    /// The calls of each thread.
     pub calls: u32,
     pub start: Instant,
     pub end: Instant,
 }
 
-/// The calls of a crew.
-#[derive(Clone, Copy, Debug)]
-pub struct Span {
-    pub crew: Crew,
-    /// The calls of each thread, which all were answered.
-    pub calls: u32,
-    /// The time in which they were made.
-    pub time: Duration,
+/// Where threads meet, to begin at the same moment.
+#[derive(Drop)]
+pub struct Meeting {
+    pub threads: u64,
+    pub come: AtomicU64,
+}
+
+impl Meeting {
+    /// Comes, and looks for the others: a bounded number of times, as they may run one after
+    /// another.
+    pub fn come(&self) {
+        self.come.fetch_add(1, SeqCst);
+        for _ in 0..MOST_LOOKS {
+            if self.come.load(SeqCst) >= self.threads {
+                return;
+            }
+            thread::yield_now();
+        }
+    }
+}
+
+impl Lap {
+    pub fn time(&self) -> Duration {
+        self.end.duration_since(self.start)
+    }
+}
+
+/// Makes so many calls, numbered from 0, and counts the answered ones. Refused where one is not
+/// answered.
+#[inline]
+pub fn timed<R: Clock, F: FnMut(u32) -> bool>(
+    rt: &R,
+    calls: u32,
+    mut call: F,
+) -> Result<Lap, Failure>
+    requires { F.IsAlwaysCallable call }
+    ensures { IfOk result (λ lap. lap.calls ≡ calls) }
+{
+    let mut answered = 0;
+    let start = Instant::now(rt)?;
+    for index in 0..calls {
+        if !call(index) {
+            return Err(Failure::Unanswered);
+        }
+        answered += 1;
+    }
+    let end = Instant::now(rt)?;
+    Ok(Lap {
+        calls: answered,
+        start,
+        end,
+    })
 }
 
 /// The calls of threads that were answered so many each: from when the first began to when the
 /// last ended.
-fn span_of(
-    laps: Vec<Result<Lap, Failure>>,
-    crew: &Crew,
-    start: Instant,
-    calls: u32,
-) -> Result<Span, Failure>
+pub fn lap_of(laps: Vec<Result<Lap, Failure>>, start: Instant, calls: u32) -> Result<Lap, Failure>
     requires { All (λ lap. IfOk lap (λ lap. lap.calls ≡ calls)) laps.items }
-    ensures { IfOk result (λ span. span.calls ≡ calls) }
+    ensures { IfOk result (λ lap. lap.calls ≡ calls) }
 {
     let mut first = None;
     let mut last = start;
@@ -46,78 +87,9 @@ fn span_of(
         first = Some(first.unwrap_or(lap.start).min(lap.start));
         last = last.max(lap.end);
     }
-    Ok(Span {
-        crew: *crew,
+    Ok(Lap {
         calls,
-        time: last.duration_since(first.unwrap_or(start)),
+        start: first.unwrap_or(start),
+        end: last,
     })
-}
-
-impl Span {
-    /// No calls.
-    pub fn none(crew: Crew) -> Span
-        ensures { result.calls ≡ 0 }
-    {
-        Span {
-            crew,
-            calls: 0,
-            time: Duration::ZERO,
-        }
-    }
-
-    /// Lets each thread of the crew make so many calls, each at its target. Refused where one is
-    /// not answered.
-    pub fn take<R: Threads + Sync + Clock + Wait, T: Target + Send + Drop>(
-        rt: &R,
-        targets: Vec<T>,
-        crew: &Crew,
-        calls: u32,
-    ) -> Result<Span, Failure>
-        ensures { IfOk result (λ span. span.calls ≡ calls) }
-    {
-        let start = Instant::now(rt)?;
-        let laps = thread::map_vec(
-            rt,
-            targets,
-            &|target: T| -> Result<Lap, Failure>
-                ensures { IfOk result (λ lap. lap.calls ≡ calls) }
-            {
-                let mut target = target;
-                work(rt, &mut target, crew, calls)
-            },
-        )?;
-        span_of(laps, crew, start, calls)
-    }
-
-    /// With further calls of the same crew.
-    pub fn add(&mut self, more: &Span)
-        requires { self.old.calls + more.now.calls < 2 ^ 32 }
-        ensures { self.new.calls ≡ self.old.calls + more.now.calls }
-    {
-        self.calls += more.calls;
-        self.time = self.time.saturating_add(more.time);
-    }
-
-    /// The calls of all threads.
-    pub fn total(&self) -> u64 {
-        u64::from(self.crew.threads()) * u64::from(self.calls)
-    }
-}
-
-/// How many of so many are done in a second, if all take so long.
-pub fn per_second(count: u64, time: Duration) -> u128 {
-    u128::from(count) * 1_000_000_000 / time.as_nanos().max(1)
-}
-
-/// As the program writes it where the time matters.
-impl fmt::Display for Span {
-    fn fmt<W: fmt::Write>(&self, f: &mut fmt::Formatter<W>) -> fmt::Result {
-        let microseconds = self.time.as_micros();
-        let each = self.time.as_nanos() / u128::from(self.calls).max(1);
-        let rate = per_second(self.total(), self.time);
-        write!(
-            f,
-            "microseconds {microseconds} nanoseconds/call {each} calls/s {rate}"
-        )
-    }
 }

@@ -1,21 +1,23 @@
-//! What the program `clsm_bench` measures: calls of the store beside the same calls of a map
-//! under a lock, merges, and calls beside merges.
+//! What the program `clsm_bench` measures: the same work done in two ways in turn, round after
+//! round, and the medians of both times and of their ratio.
 #![tactic(auto)]
 
-mod beside;
-mod crew;
+mod audits;
+mod calls;
+mod compared;
+mod draws;
 mod failure;
-mod keys;
+mod kinds;
 mod lap;
-mod locked;
+mod meetings;
+mod merges;
+mod options;
+mod places;
 mod report;
-mod seated;
+mod scans;
 mod series;
 mod target;
-mod turn;
-mod versus;
-mod work;
 
 pub use failure::Failure;
-pub use report::measure;
-pub use work::Work;
+pub use options::{Options, Work};
+pub use report::{measure, measure_few};

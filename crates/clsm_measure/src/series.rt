@@ -1,93 +1,180 @@
-//! Epochs of puts, each merged in its turn.
-ghost use Rattle.std.specs.Prelude.{◌≡◌, ◌≤◌};
-
+//! Calls of a store beside those of a map, and beside a merger or scans.
+use crate::calls::{put_filled, work_all};
+use crate::compared::{Way, compare};
 use crate::failure::Failure;
-use crate::keys::WRITTEN;
-use crate::lap::per_second;
-use crate::seated::{Place, Seated, seat_all};
-use crate::target::put_all;
-use crate::turn::Turn;
-use clsm_store::{Clean, Store};
+use crate::kinds::{Beside, Kind, Place};
+use crate::lap::Lap;
+use crate::options::Options;
+use crate::places::{callers, fill_runs, sizes};
+use crate::target::Locked;
+use clsm_store::{Caller, Merger, Opened, open};
 use clsm_words::Free;
 use std::alloc::Global;
-use std::fmt;
+use std::collections::BTreeMap;
 use std::rt::Clock;
-use std::sync::Wait;
+use std::sync::atomic::AtomicBool;
+use std::sync::atomic::Ordering::SeqCst;
+use std::sync::{RwLock, Wait};
+use std::thread::{Threads, join};
 
-/// The merges that are timed: three into level 0, and one into level 1.
-const MERGES: u32 = 4;
-
-/// A merge that was timed.
-#[derive(Clone, Copy, Debug)]
-pub struct Round {
-    /// Its number, from 1 on: each fourth merge is into level 1, the others are into level 0.
-    pub number: u32,
-    /// The entries that it read.
-    pub entries: u32,
-    pub turn: Turn,
-}
-
-/// Puts at so many new keys by one seat, and merges them, as often as merges are timed. Refused
-/// where a put or a merge is.
-fn time_all<R: Clock + Wait>(
-    rt: &R,
-    store: &Store<Free>,
-    seated: &mut Seated<'_>,
-    merger: Clean,
-    alloc: Global,
-    puts: u32,
-) -> Result<Vec<Round>, Failure>
-    requires puts { puts ≤ 65_536 }
-    requires merger { merger.store ≡ store.now }
-{
-    let mut merger = merger;
-    let mut rounds = Vec::new(alloc);
-    for number in 1..=MERGES {
-        put_all(rt, seated, number, puts)?;
-        let (clean, turn) = Turn::take(rt, store, merger)?;
-        merger = clean;
-        let entries = if number == MERGES {
-            MERGES * puts
-        } else {
-            puts
-        };
-        rounds.push(Round {
-            number,
-            entries,
-            turn,
-        })?;
+/// Scans all keys.
+fn scan(alloc: Global, caller: &mut Caller<'_, Free>) -> Result<(), Failure> {
+    match caller.scan(alloc, 0, u64::MAX) {
+        Ok(_) => Ok(()),
+        Err(_) => Err(Failure::Memory),
     }
-    Ok(rounds)
 }
 
-/// Puts at so many new keys of an empty store, or at as many as it has times for, and merges
-/// them, four times.
-pub fn rounds<R: Clock + Wait>(rt: &R, alloc: Global, puts: u32) -> Result<Vec<Round>, Failure> {
-    let Place {
+/// Does what is to go on beside the calls, until it is told to stop.
+fn disturb<R: Wait>(
+    rt: &R,
+    alloc: Global,
+    beside: Beside,
+    mut caller: Caller<'_, Free>,
+    mut merger: Merger<'_, Free>,
+    stop: &AtomicBool,
+) -> Result<(), Failure> {
+    for _ in 0..u32::MAX {
+        if stop.load(SeqCst) {
+            return Ok(());
+        }
+        match beside {
+            Beside::Nothing => return Ok(()),
+            Beside::Merger => merger = merger.sweep(rt).0,
+            Beside::Scanner => scan(alloc, &mut caller)?,
+        }
+    }
+    Err(Failure::Unanswered)
+}
+
+/// Writes the keys that are read, where they are to be found.
+fn fill<'a, R: Wait>(
+    rt: &R,
+    caller: &mut Caller<'_, Free>,
+    merger: Merger<'a, Free>,
+    kind: &Kind,
+    options: &Options,
+) -> Result<Merger<'a, Free>, Failure> {
+    let keys = kind.filled(options);
+    match kind.place {
+        Place::Runs => fill_runs(rt, caller, merger, keys, options.cells),
+        Place::Chains => {
+            put_filled(rt, caller, 0, keys, keys)?;
+            Ok(merger)
+        }
+    }
+}
+
+/// Fills the store by the last caller, and lets the others make so many calls each, beside what is
+/// to go on. Refused where one is not answered.
+fn beside_lap<R: Threads + Sync + Clock + Wait>(
+    rt: &R,
+    mut targets: Vec<Caller<'_, Free>>,
+    merger: Merger<'_, Free>,
+    kind: &Kind,
+    options: &Options,
+    calls: u32,
+) -> Result<Lap, Failure> {
+    let alloc = *targets.allocator();
+    let mut extra = targets.pop().ok_or(Failure::Unanswered)?;
+    let merger = fill(rt, &mut extra, merger, kind, options)?;
+    let stop = AtomicBool::new(false);
+    let (disturbed, lap) = join(
+        rt,
+        || -> Result<(), Failure> { disturb(rt, alloc, kind.beside, extra, merger, &stop) },
+        || -> Result<Lap, Failure> {
+            let lap = work_all(rt, targets, kind, options, calls);
+            stop.store(true, SeqCst);
+            lap
+        },
+    );
+    disturbed?;
+    lap
+}
+
+/// The calls of each of so many threads on a store that is opened and filled for them, with one
+/// more seat, which fills and scans.
+fn store_lap<R: Threads + Sync + Clock + Wait>(
+    rt: &R,
+    alloc: Global,
+    kind: &Kind,
+    options: &Options,
+    threads: u32,
+) -> Result<Lap, Failure> {
+    let calls = kind.calls(options, threads);
+    let config = sizes(
+        options,
+        threads.saturating_add(1),
+        kind.room(options, threads),
+    );
+    let Opened {
         store,
         seats,
         merger,
-    } = Place::open(alloc, 1, MERGES as usize)?;
-    let mut targets = seat_all(alloc, &store, seats)?;
-    let Some(seated) = targets.first_mut() else {
-        return Err(Failure::Unanswered);
-    };
-    time_all(rt, &store, seated, merger, alloc, puts.min(WRITTEN))
+    } = open(alloc, config)?;
+    let targets = callers(alloc, &store, seats)?;
+    beside_lap(
+        rt,
+        targets,
+        Merger::new(&store, merger),
+        kind,
+        options,
+        calls,
+    )
 }
 
-/// As the program writes it where the time matters.
-impl fmt::Display for Round {
-    fn fmt<W: fmt::Write>(&self, f: &mut fmt::Formatter<W>) -> fmt::Result {
-        let number = self.number;
-        let entries = self.entries;
-        let freeze = self.turn.freeze.as_micros();
-        let merge = self.turn.merge.as_micros();
-        let reclaim = self.turn.reclaim.as_micros();
-        let rate = per_second(u64::from(entries), self.turn.merge);
-        write!(f, "merge {number} entries {entries} microseconds")?;
-        write!(
-            f,
-            " freeze {freeze} merge {merge} reclaim {reclaim} entries/s {rate}"
-        )
+/// The same calls of a map that is made and filled for them.
+fn map_lap<R: Threads + Sync + Clock + Wait>(
+    rt: &R,
+    alloc: Global,
+    kind: &Kind,
+    options: &Options,
+    threads: u32,
+) -> Result<Lap, Failure> {
+    let keys = kind.filled(options);
+    let map = RwLock::new(BTreeMap::new(alloc));
+    let mut targets = Vec::new(alloc);
+    for number in 0..threads {
+        let mut locked = Locked { number, map: &map };
+        put_filled(rt, &mut locked, 0, if number == 0 { keys } else { 0 }, keys)?;
+        targets.push(locked)?;
     }
+    work_all(rt, targets, kind, options, kind.calls(options, threads))
+}
+
+/// The calls in the one way or the other: of a store; of a map, or, where something goes on beside
+/// them, of a store with nothing beside.
+fn kind_lap<R: Threads + Sync + Clock + Wait>(
+    rt: &R,
+    alloc: Global,
+    kind: &Kind,
+    options: &Options,
+    threads: u32,
+    way: Way,
+) -> Result<Lap, Failure> {
+    match (way, kind.beside) {
+        (Way::First, _) => store_lap(rt, alloc, kind, options, threads),
+        (Way::Second, Beside::Nothing) => map_lap(rt, alloc, kind, options, threads),
+        (Way::Second, _) => store_lap(rt, alloc, &kind.alone(), options, threads),
+    }
+}
+
+/// Measures each of the kinds in one thread, two and four; but where one puts and others get, in
+/// two and four, and where little is measured, in four.
+pub fn measure_kinds<R: Threads + Sync + Clock + Wait + Print + AllocGlobal>(
+    rt: &R,
+    kinds: &[Kind],
+    options: &Options,
+) -> Result<(), Failure> {
+    let alloc = rt.alloc();
+    for kind in kinds {
+        for threads in [1, 2, 4] {
+            if kind.is_measured(options, threads) {
+                compare(rt, options, kind.name, threads, |way: Way| {
+                    kind_lap(rt, alloc, kind, options, threads, way)
+                })?;
+            }
+        }
+    }
+    Ok(())
 }

@@ -1,19 +1,10 @@
-//! What calls are made on, and the calls of one thread.
-ghost use Rattle.std.specs.Prelude.{◌≡◌, IfOk};
-
-use crate::crew::Crew;
-use crate::failure::Failure;
-use crate::keys::{FILLED, FILLER, WRITTEN, key_of};
-use crate::lap::Lap;
-use rand_core::utils::NextWord;
-use rand_pcg::Pcg32;
-use std::rt::Clock;
-use std::sync::Wait;
-use std::thread;
-use std::time::Instant;
-
-/// How often a put is tried while there is no time for it, before the thread gives up.
-const MOST_TRIES: u32 = 1 << 24;
+//! What calls are made on: a seat of a store, and a map under a lock.
+use clsm_model::Value;
+use clsm_store::Caller;
+use clsm_words::Free;
+use std::alloc::Global;
+use std::collections::BTreeMap;
+use std::sync::{RwLock, Wait};
 
 /// A thread's place at what is measured.
 pub trait Target {
@@ -25,93 +16,97 @@ pub trait Target {
 
     /// The first word of the key's value.
     fn get<R: Wait>(&mut self, rt: &R, key: u64) -> Option<u64>;
+
+    /// How many rows it reads of the range, or of its first so many.
+    fn rows<R: Wait>(
+        &mut self,
+        rt: &R,
+        alloc: Global,
+        lo: u64,
+        hi: u64,
+        max: Option<usize>,
+    ) -> Option<usize>;
 }
 
-/// Puts the word at the key, again while there is no time for it.
-fn put_at_last<R: Wait, T: Target>(
-    rt: &R,
-    target: &mut T,
-    key: u64,
-    word: u64,
-) -> Result<(), Failure> {
-    for _ in 0..MOST_TRIES {
-        if target.put(rt, key, word) {
-            return Ok(());
+impl Target for Caller<'_, Free> {
+    #[inline]
+    fn number(&self) -> u32 {
+        self.seat.number()
+    }
+
+    #[inline]
+    fn put<R: Wait>(&mut self, rt: &R, key: u64, word: u64) -> bool {
+        let value = Value::new(&[word]).unwrap();
+        self.put(rt, key, value).is_ok()
+    }
+
+    #[inline]
+    fn get<R: Wait>(&mut self, _: &R, key: u64) -> Option<u64> {
+        match self.get(key).value {
+            Some(value) => Some(value.words()[0]),
+            None => None,
         }
-        thread::yield_now();
     }
-    Err(Failure::Unanswered)
+
+    fn rows<R: Wait>(
+        &mut self,
+        _: &R,
+        alloc: Global,
+        lo: u64,
+        hi: u64,
+        max: Option<usize>,
+    ) -> Option<usize> {
+        let rows = match max {
+            Some(max) => self.page(alloc, lo, hi, max).ok()?.rows,
+            None => self.scan(alloc, lo, hi).ok()?.rows,
+        };
+        Some(rows.as_slice().len())
+    }
 }
 
-/// Makes so many puts at the keys of this number, and answers how many were answered. Refused
-/// where one is not.
-pub fn put_all<R: Wait, T: Target>(
-    rt: &R,
-    target: &mut T,
-    number: u32,
-    calls: u32,
-) -> Result<u32, Failure>
-    ensures { IfOk result (λ answered. answered ≡ calls) }
-{
-    let mut answered = 0;
-    for index in 0..calls {
-        let key = key_of(number, index % WRITTEN);
-        put_at_last(rt, target, key, u64::from(index))?;
-        answered += 1;
-    }
-    Ok(answered)
+/// A thread at the map.
+#[derive(Drop)]
+pub struct Locked<'a> {
+    pub number: u32,
+    pub map: &'a RwLock<BTreeMap<u64, Value>>,
 }
 
-/// Makes so many gets of keys that were filled, and answers how many found the value. Refused
-/// where one does not.
-fn get_all<R: Wait, T: Target>(
-    rt: &R,
-    target: &mut T,
-    number: u32,
-    calls: u32,
-) -> Result<u32, Failure>
-    ensures { IfOk result (λ answered. answered ≡ calls) }
-{
-    let mut draws = Pcg32::new(u64::from(number), 1);
-    let mut answered = 0;
-    for _ in 0..calls {
-        let index = draws.next_word() % FILLED;
-        if target.get(rt, key_of(FILLER, index)) != Some(u64::from(index)) {
-            return Err(Failure::Unanswered);
+impl Target for Locked<'_> {
+    #[inline]
+    fn number(&self) -> u32 {
+        self.number
+    }
+
+    #[inline]
+    fn put<R: Wait>(&mut self, rt: &R, key: u64, word: u64) -> bool {
+        let value = Value::new(&[word]).unwrap();
+        self.map.write(rt).insert(key, value).is_ok()
+    }
+
+    #[inline]
+    fn get<R: Wait>(&mut self, rt: &R, key: u64) -> Option<u64> {
+        match self.map.read(rt).get(&key) {
+            Some(value) => Some(value.words()[0]),
+            None => None,
         }
-        answered += 1;
     }
-    Ok(answered)
-}
 
-/// Makes so many calls, puts as a writer of the crew, else gets. Refused where one is not answered.
-pub fn work<R: Wait + Clock, T: Target>(
-    rt: &R,
-    target: &mut T,
-    crew: &Crew,
-    calls: u32,
-) -> Result<Lap, Failure>
-    ensures { IfOk result (λ lap. lap.calls ≡ calls) }
-{
-    let number = target.number();
-    let start = Instant::now(rt)?;
-    let answered = if number < crew.writers {
-        put_all(rt, target, number, calls)?
-    } else {
-        get_all(rt, target, number, calls)?
-    };
-    let end = Instant::now(rt)?;
-    Ok(Lap {
-        calls: answered,
-        start,
-        end,
-    })
-}
-
-/// Writes the keys that the crew's readers read.
-pub fn fill<R: Wait, T: Target>(rt: &R, targets: &mut [T], crew: &Crew) -> Result<(), Failure> {
-    if let Some(first) = targets.first_mut() {
-        put_all(rt, first, FILLER, crew.filled())?;
+    fn rows<R: Wait>(
+        &mut self,
+        rt: &R,
+        alloc: Global,
+        lo: u64,
+        hi: u64,
+        max: Option<usize>,
+    ) -> Option<usize> {
+        if lo > hi {
+            return Some(0);
+        }
+        let mut rows = Vec::new(alloc);
+        let map = self.map.read(rt);
+        for (key, value) in map.range(lo..=hi).take(max.unwrap_or(usize::MAX)) {
+            rows.push((*key, *value)).ok()?;
+        }
+        Some(rows.len())
     }
-    Ok(())
 }

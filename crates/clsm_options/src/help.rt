@@ -17,8 +17,19 @@ Exit status:
 pub(crate) const SCRIPT: &str = "Play the commands of the standard input on a new store";
 
 pub(crate) const AFTER_SCRIPT: &str = "\
-Reads commands, one a line, such as `put 7 1`, `get 7`, `scan 0 9`, `freeze`, `seat 1` and
-`audit`. Prints the answer of each on a line.
+Reads commands, one a line, and prints the answer of each on a line. K and the bounds LO, HI and
+FROM are keys, numbers of 64 bits; V is 1 to 8 such words, joined by commas.
+
+  put K V, remove K, try K V   a write: @T is its time; full where no write may be made
+  add K D, claim K V           add D to the word of K; write V where K has no value
+  get K                        the value of K, or none, by the writes below T
+  snap, getat K, close         open a snapshot, read K under it, close it
+  scan LO HI, page FROM HI MAX the keys with a value, under the open snapshot if there is one
+  seat S, meet S               the seat of the calls that follow; let it meet another seat
+  freeze, merge, reclaim       the three parts of a merge, in this order
+  audit                        audit ok where all calls so far are of one history
+
+An empty line and one that begins with # are passed over.
 
 Exit status: 0 done; 1 a bad line, a failed read or write; 2 an audit found a fault; 3 the
 sizes were refused or there was want of memory.
@@ -43,7 +54,8 @@ pub(crate) const AUDIT: &str =
     "Tell whether the records of the standard input are the calls of one lawful history";
 
 pub(crate) const AFTER_AUDIT: &str = "\
-Reads records of answered calls, one a line, as `clsm run --records` prints them.
+Reads records of answered calls, one a line: SEAT TIME and then the call with its answer, as
+`0 0 put 7 70`, `1 1 get 7 70` or `1 1 scan 0 9 7=70`. `clsm run --records` prints such lines.
 Prints `audit ok`, or `audit fault KIND LINE` with the kind and the line of the first fault.
 
 Exit status: 0 lawful; 1 a bad line, a failed read or write; 2 a fault was found; 3 want of
@@ -52,15 +64,15 @@ memory.
 Example:
   clsm run --threads 4 --records | clsm audit --seats 4 --cells 1024";
 
-pub(crate) const CELLS: &str = "Cells of a region: so many writes fit between two freezes";
+pub(crate) const CELLS: &str = "Writes between two merges, 4 to 65,536";
 
-pub(crate) const SEATS: &str = "Seats of callers";
+pub(crate) const SEATS: &str = "Seats of callers, 1 to 64";
 
-pub(crate) const SHARDS: &str = "Hash chains of a region";
+pub(crate) const SHARDS: &str = "Least number of hash chains, 1 to 1,024";
 
-pub(crate) const RUN_ROOM: &str = "Entries that a place of level 1 has room for";
+pub(crate) const RUN_ROOM: &str = "Entries of a run of level 1, 4 to 4,194,304";
 
-pub(crate) const PATIENCE: &str = "Looks at an undecided time before a reader cancels it";
+pub(crate) const PATIENCE: &str = "Looks at an undecided write before a reader cancels it, 0 to 64";
 
 pub(crate) const THREADS: &str = "Threads, each at a seat of its own, 1 to 64";
 
@@ -77,6 +89,6 @@ pub(crate) const RUN_PROGRESS: &str = "Show on the standard error how far the ru
 
 pub(crate) const RECORDS: &str = "Print each answered call as a record, in place of the verdict";
 
-pub(crate) const AUDIT_SEATS: &str = "Seats that the records may be of";
+pub(crate) const AUDIT_SEATS: &str = "Seats that the records may be of, 1 to 64";
 
-pub(crate) const AUDIT_CELLS: &str = "Cells of a region of the store that was called";
+pub(crate) const AUDIT_CELLS: &str = "Cells of the store that was called, 4 to 65,536";

@@ -1,9 +1,12 @@
 //! What a run prints.
+ghost use Rattle.std.specs.Prelude.{IfErr};
+ghost use Rattle.clsm_run.specs.Run.{StopsWork};
 
 use crate::crew::Ran;
 use clsm_audit::AuditError;
 use clsm_model::CallRecord;
 use clsm_records::write_record;
+use clsm_text::Failure;
 use std::alloc::Global;
 use std::io::{self, BufWriter, Write};
 
@@ -20,16 +23,19 @@ pub fn write_verdict<W: Write>(output: &mut W, calls: u64, ran: &Ran) -> io::Res
     output.flush()
 }
 
-/// Writes each record as a line.
+/// Writes each record as a line. Refused with `Memory` where none was written, and with `Device`
+/// where a write failed.
 pub fn write_records<W: Write>(
     alloc: Global,
     output: &mut W,
     records: &[CallRecord],
-) -> io::Result<()> {
+) -> Result<(), Failure>
+    ensures { IfErr result StopsWork }
+{
     let mut lines = BufWriter::new(alloc, output)?;
     for record in records {
         write_record(&mut lines, record)?;
         writeln!(lines)?;
     }
-    lines.flush()
+    Ok(lines.flush()?)
 }

@@ -54,7 +54,7 @@ pub fn run_on<P, R, E>(
 where
     P: Pace + Drop + Sync,
     R: Threads + Sync + Clock + Wait,
-    E: Write,
+    E: Write + Send,
     requires seats { AreNew opened.store config.now.seats opened.seats.items }
     requires merger { IsNewMerger opened.store opened.merger }
     ensures audited { IfOk result (λ ran.
@@ -111,21 +111,23 @@ fn work_merging<P, R, E>(
 where
     P: Pace + Drop + Sync,
     R: Threads + Sync + Clock + Wait,
-    E: Write,
+    E: Write + Send,
     requires seats { All (λ seat. seat.store ≡ store.now) seats.items }
     requires merger { merger.store ≡ store.now }
     ensures { IfOk result.0 (λ worked. AreWorked seats.items worked.items) }
 {
-    join(
+    // Where no thread can be made, the first of the two comes last, and finds that all is over.
+    let (merges, worked) = join(
         rt,
+        || -> u64
+            requires { merger.store ≡ store.now }
+        { merge_showing(rt, store, merger, shows, board, faults) },
         || -> Result<Vec<Worked>, AllocError>
             requires { All (λ seat. seat.store ≡ store.now) seats.items }
             ensures { IfOk result (λ worked. AreWorked seats.items worked.items) }
         { work_all(rt, alloc, store, seats, load, shows, board) },
-        || -> u64
-            requires { merger.store ≡ store.now }
-        { merge_showing(rt, store, merger, shows, board, faults) },
-    )
+    );
+    (worked, merges)
 }
 
 /// Lets each seat's worker work in a thread of its own, and says on the board when all have ended.
@@ -169,7 +171,7 @@ fn merge_showing<P, R, E>(
 where
     P: Pace + Drop + Sync,
     R: Threads + Sync + Clock + Wait,
-    E: Write,
+    E: Write + Send,
     requires { merger.store ≡ store.now }
 {
     let merger = Merger::new(store, merger);

@@ -36,7 +36,7 @@ pub fn run<R, W, E>(
 where
     R: Threads + Sync + Clock + Wait,
     W: Write + Drop,
-    E: Write + Drop,
+    E: Write + Send + Drop,
     ensures status { IsStatus result }
     ensures refused { ¬ IsSound config → result ≡ 3 }
 {
@@ -61,7 +61,7 @@ fn try_run<R, W, E>(
 where
     R: Threads + Sync + Clock + Wait,
     W: Write + Drop,
-    E: Write,
+    E: Write + Send,
     ensures opened { OnOk result (IsSound config.now) }
     ensures stopped { IfErr result (StopsRun config.now) }
 {

@@ -13,8 +13,6 @@ mod settling;
 mod store;
 mod sweeping;
 mod telling;
-#[cfg(test)]
-mod tests;
 mod tokens;
 
 pub use caller::Caller;

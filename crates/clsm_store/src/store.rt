@@ -16,3 +16,11 @@ impl<P: Pace> Model for Store<P> {
 
     ghost view = { λ s. store_of s.words };
 }
+
+impl<P: Pace> Store<P> {
+    /// The pace that the store was opened with.
+    #[inline]
+    pub fn pace(&self) -> &P {
+        self.words.pace()
+    }
+}

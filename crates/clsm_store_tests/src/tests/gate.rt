@@ -1,0 +1,88 @@
+//! A gate holds a seat at a step of its call until another thread lets it go.
+use clsm_words::{Kind, Pace};
+use std::sync::atomic::AtomicU64;
+use std::sync::atomic::Ordering::SeqCst;
+use std::thread;
+
+/// How often a thread looks for its turn before it goes on without it.
+const TURNS: u64 = 10_000_000;
+
+/// Holds a seat the first time that it is about to make this kind of step.
+#[derive(Drop)]
+pub(super) struct Gate {
+    pub(super) seat: u64,
+    pub(super) at: Kind,
+    pub(super) turn: AtomicU64,
+}
+
+/// The turns: the gate is open until it is watched, nobody is at it, the seat is held there, it was let go, its call was answered, and it
+/// waited too long.
+pub(super) const OPEN: u64 = 0;
+
+pub(super) const NOBODY: u64 = 1;
+
+pub(super) const HELD: u64 = 2;
+
+pub(super) const LET_GO: u64 = 3;
+
+pub(super) const ANSWERED: u64 = 4;
+
+const TOO_LONG: u64 = 5;
+
+impl Gate {
+    pub(super) fn new(seat: u64, at: Kind, turn: u64) -> Gate {
+        Gate {
+            seat,
+            at,
+            turn: AtomicU64::new(turn),
+        }
+    }
+
+    /// Waits while this is the turn, but not for ever. Answers whether the seat is held then.
+    pub(super) fn wait_while(&self, turn: u64) -> bool {
+        for _ in 0..TURNS {
+            if self.turn.load(SeqCst) != turn {
+                break;
+            }
+            thread::yield_now();
+        }
+        self.turn.load(SeqCst) == HELD
+    }
+
+    /// Takes the turn from one to the other. Answers whether it was the first.
+    pub(super) fn pass(&self, from: u64, to: u64) -> bool {
+        self.turn.compare_exchange(from, to, SeqCst, SeqCst).is_ok()
+    }
+}
+
+impl Gate {
+    /// Holds the thread that is here, if nobody was held yet, until it is let go.
+    pub(super) fn hold(&self) {
+        if self.pass(NOBODY, HELD) {
+            self.wait_while(HELD);
+            self.pass(HELD, TOO_LONG);
+        }
+    }
+}
+
+impl Pace for Gate {
+    fn step(&self, seat: u64, kind: Kind) {
+        if seat == self.seat && kind == self.at {
+            self.hold();
+        }
+    }
+}
+
+/// Two gates.
+#[derive(Drop)]
+pub(super) struct Gates {
+    pub(super) first: Gate,
+    pub(super) second: Gate,
+}
+
+impl Pace for Gates {
+    fn step(&self, seat: u64, kind: Kind) {
+        self.first.step(seat, kind);
+        self.second.step(seat, kind);
+    }
+}
