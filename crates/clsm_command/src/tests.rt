@@ -3,6 +3,8 @@ use super::*;
 use std::process::Abort;
 use std::test::Fail;
 
+mod rows;
+
 /// What is written.
 #[derive(Drop)]
 struct Screen {

@@ -11,6 +11,7 @@ use std::thread::Threads;
 mod ending;
 mod overlap;
 mod running;
+mod settling;
 mod workloads;
 
 const NEVER: u32 = u32::MAX;

@@ -179,6 +179,63 @@ fn a_held_reader_keeps_its_component(rt: HostRuntime) -> Result<(), Fail> {
     Ok(())
 }
 
+/// The scan of all keys by a reader that the first gate holds.
+fn scan_once(alloc: Global, store: &Store<Gates>, mut seat: Seat) -> Option<Scan>
+    requires { seat.store ≡ store.now }
+{
+    let scanned = store.scan(alloc, &mut seat, 0, u64::MAX);
+    store.pace().first.pass(LET_GO, ANSWERED);
+    scanned.ok()
+}
+
+/// A reader scans slowly, while the component that it holds is retired.
+fn scan_and_retire<R: Abort + Threads + Wait + Sync>(
+    rt: &R,
+    alloc: Global,
+    store: &Store<Gates>,
+    reader: Seat,
+    merger: Clean,
+) -> (Option<Scan>, (Met, bool))
+    requires reader { reader.store ≡ store.now }
+    requires merger { merger.store ≡ store.now }
+{
+    join(
+        rt,
+        || -> Option<Scan>
+            requires { reader.store ≡ store.now }
+        { scan_once(alloc, store, reader) },
+        || -> (Met, bool)
+            requires { merger.store ≡ store.now }
+        { retire_meanwhile(rt, store, merger) },
+    )
+}
+
+#[test]
+fn a_held_scan_keeps_its_component(rt: HostRuntime) -> Result<(), Fail> {
+    let gate = Gate::new(1, Kind::Look(Word::Clock), NOBODY);
+    let other = Gate::new(2, Kind::Pin, OPEN);
+    let alloc = rt.alloc();
+    let Begun {
+        store,
+        reader,
+        merger,
+        ..
+    } = begin(&rt, alloc, gate, other);
+    let (scanned, (met, held)) = scan_and_retire(&rt, alloc, &store, reader, merger);
+    assert!(rt; held, "nobody was held");
+    let expected = Met {
+        first: Some(1),
+        second: None,
+        clean: true,
+    };
+    assert_eq!(rt; met, expected);
+    let Scan { time, rows } = scanned.expect(&rt, "memory");
+    let value = Value::new(&[10]).expect(&rt, "one word");
+    assert_eq!(rt; time, 4);
+    assert_eq!(rt; rows.as_slice(), [(KEY, value)].as_slice());
+    Ok(())
+}
+
 /// Two readers get slowly, each held at its gate.
 fn get_both<R: Abort + Threads + Sync>(
     rt: &R,
