@@ -8,8 +8,6 @@ mod options;
 mod program;
 mod reading;
 mod refusal;
-#[cfg(test)]
-mod tests;
 
 pub use command_line::{parse, words};
 pub use options::{AuditOptions, Options, RunOptions};

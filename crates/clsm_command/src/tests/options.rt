@@ -1,6 +1,6 @@
-//! At most one allocation of a run is made to fail: a call that is refused memory is made again.
-use super::*;
+//! What words are read as. At most one allocation of a run is made to fail: a call that is refused memory is made again.
 use clsm_model::Config;
+use clsm_options::{AuditOptions, Options, Refusal, RunOptions, parse, words};
 use std::alloc::Global;
 use std::env::{Env, FillError};
 use std::process::Abort;
