@@ -6,8 +6,6 @@ mod passes;
 mod replies;
 mod seat;
 mod stamp;
-#[cfg(test)]
-mod tests;
 mod write;
 
 pub use fault::{AuditError, FaultKind};

@@ -5,9 +5,10 @@ ghost use Rattle.clsm_options.specs.Answers.{IsInRange};
 ghost use Rattle.clsm_options.specs.declared.options.Options.TheVariants.{Run};
 
 use clsm_model::Config;
-use clsm_options::{AuditOptions, Options, Refusal, RunOptions, parse};
+use clsm_options::{AuditOptions, ExploreOptions, Options, Refusal, RunOptions, parse};
 use clsm_records::audit_lines;
 use clsm_run::{Load, Shows, run};
+use clsm_schedules::{Shows as ShowsOf, explore_scripts};
 use clsm_script::script;
 use clsm_text::Failure;
 use std::alloc::Global;
@@ -20,12 +21,16 @@ use std::thread::Threads;
 #[cfg(test)]
 mod tests;
 
+/// The entries that a run of level 1 has room for in an exploration.
+const EXPLORED_RUN: usize = 4;
+
 /// Does what the words of a command line ask for, the first of which is the program's name, and
 /// answers the exit status. `script` and `audit` read the input. What is asked for is written to
 /// the output, help too; why the program does not end well is written to the faults.
 ///
 /// The status is 0 where all was done; 1 for words that are refused, a bad line, or a failed read
-/// or write; 2 for a fault that an audit found; 3 for a refused opening or want of memory.
+/// or write; 2 for a fault that an audit or an exploration found; 3 for a refused opening, want of
+/// memory or too many worlds.
 pub fn command<T, S, R, W, E>(
     rt: &T,
     alloc: Global,
@@ -59,6 +64,7 @@ where
         Options::Script(config) => script(rt, alloc, config, input, output, faults),
         Options::Run(options) => call(rt, alloc, &options, output, faults),
         Options::Audit(options) => { audit_lines(alloc, sizes(&options), input, output, faults) }
+        Options::Explore(options) => try_orders(alloc, &options, output, faults),
     }
 }
 
@@ -81,6 +87,34 @@ where
         records: options.records,
     };
     run(rt, alloc, options.config, load, shows, output, faults)
+}
+
+/// Explores the scripts.
+fn try_orders<W, E>(alloc: Global, options: &ExploreOptions, output: W, faults: E) -> u8
+where
+    W: Write + Drop,
+    E: Write + Drop,
+{
+    let config = Config {
+        cells: options.cells,
+        seats: options.scripts.len(),
+        shards: options.shards,
+        run: EXPLORED_RUN,
+        patience: options.patience,
+    };
+    let shows = ShowsOf {
+        answers: options.answers,
+        progress: options.progress,
+    };
+    explore_scripts(
+        alloc,
+        config,
+        &options.scripts,
+        options.merge,
+        shows,
+        output,
+        faults,
+    )
 }
 
 /// The sizes of the store that records are of. The audit asks for the first two alone.

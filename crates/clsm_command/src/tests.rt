@@ -3,6 +3,7 @@ use super::*;
 use std::process::Abort;
 use std::test::Fail;
 
+mod exploring;
 mod options;
 mod rows;
 

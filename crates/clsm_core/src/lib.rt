@@ -2,8 +2,6 @@
 #![tactic(auto)]
 
 mod machine;
-#[cfg(test)]
-mod tests;
 mod world;
 
 pub use clsm_law::{

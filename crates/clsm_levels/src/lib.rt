@@ -16,6 +16,3 @@ pub use merge::{judge, wanted};
 pub use place::Place;
 pub use sort::sort_writes;
 pub use table::{places, target};
-
-#[cfg(test)]
-mod tests;

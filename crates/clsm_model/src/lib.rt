@@ -6,8 +6,6 @@ mod plain_map;
 mod record;
 mod rows;
 mod slot;
-#[cfg(test)]
-mod tests;
 mod value;
 
 pub use config::{Config, OpenError};

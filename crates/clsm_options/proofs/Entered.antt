@@ -85,7 +85,7 @@ found_in P test [] all x e = cc
 found_in P test (y ∷ ys) all x e = or_next P (test y) y x (find test ys) all.0 (found_in P test ys all.1 x) e
 
 commands : Each (λ (s : Shape). IsCommand s.name) (built clsm).subs
-commands = (inl refl, (inr (inl refl), (inr (inr refl), tt)))
+commands = (inl refl, (inr (inl refl), (inr (inr (inl refl)), (inr (inr (inr refl)), tt))))
 
 same_first : (x y : Text × List Row) → Some x ≡ Some y → x.0 ≡ y.0
 same_first x y e = ap (λ (o : Option (Text × List Row)). option_map_or (λ p. p.0) o x.0) e

@@ -92,7 +92,10 @@ each_range = (
   (λ words e name. absurd (apart 115 114 _ _ (λ f. absurd (omega arith)) name)),
   (
     (λ words e name. run_ranges words e),
-    ((λ words e name. absurd (apart 97 114 _ _ (λ f. absurd (omega arith)) name)), tt),
+    (
+      (λ words e name. absurd (apart 97 114 _ _ (λ f. absurd (omega arith)) name)),
+      ((λ words e name. absurd (apart 101 114 _ _ (λ f. absurd (omega arith)) name)), tt),
+    ),
   ),
 )
 

@@ -13,7 +13,7 @@ use Rattle.clap.specs.declared.builder.value_parser.ValueParser.TheVariants as p
 use Rattle.clap.specs.declared.parser.matches.ArgMatches.{ArgMatches}
 use Rattle.clap.proofs.ValueTestLemmas.{Accepts-accepts, accepts-Accepts}
 use Rattle.clap.proofs.WalkLemmas.{one_text-rows, raw_values-rows}
-use Rattle.clsm_options.specs.Answers.{flag_of, number_in, number_of, rows_in}
+use Rattle.clsm_options.specs.Answers.{flag_of, number_in, number_of, rows_in, texts_of}
 use Rattle.clsm_options.specs.Program.{u64_max}
 
 -- what a getter with a fallback reads, where it reads each text as `word` says
@@ -66,3 +66,13 @@ pub flag_read : (E : Type 0) (m : ArgMatches) (id : Text) (o : Option Bool) → 
 flag_read E m id o none value =
     read_or (ParsesBool {E = E}) (λ t. bytes_eq t (codes "true")) false (flag_word E) (one_text (found_of m) id) o none value
     ∙ ap (λ x. option_map_or (λ t. bytes_eq t (codes "true")) x false) (one_text-rows (found_of m) id)
+
+slices_read : (o : Option (Bor (List (Bor Text)))) (empty v : Bor (List (Bor Text))) (x : Option (List Text)) → v ≡ unwrap_or o empty
+    → empty.now ≡ [] → option_map (λ s. map (λ t. t.now) s.now) o ≡ x → map (λ t. t.now) v.now ≡ unwrap_or x []
+slices_read None empty v x is none e = rw (is, none, ← e) refl
+slices_read (Some s) empty v x is none e = rw (is, ← e) refl
+
+pub texts_read : (m : ArgMatches) (id : Text) (o : Option (Bor (List (Bor Text)))) (empty v : Bor (List (Bor Text))) → v ≡ unwrap_or o empty
+    → empty.now ≡ [] → option_map (λ s. map (λ t. t.now) s.now) o ≡ option_map raw_values (matched_of (found_of m) id)
+    → map (λ t. t.now) v.now ≡ texts_of id (rows_in m)
+texts_read m id o empty v is none e = slices_read o empty v (all_of id (rows_in m)) is none (e ∙ raw_values-rows (found_of m) id)

@@ -16,8 +16,9 @@ use Rattle.clsm_model.specs.declared.config.Config.{Config}
 use Rattle.clsm_model.specs.Config.{IsBetween}
 use Rattle.clsm_options.specs.Program.{clsm, u64_max}
 use Rattle.clsm_options.specs.declared.options.AuditOptions.{AuditOptions}
+use Rattle.clsm_options.specs.declared.options.ExploreOptions.{ExploreOptions}
 use Rattle.clsm_options.specs.declared.options.Options.{Options}
-use Rattle.clsm_options.specs.declared.options.Options.TheVariants.{Audit, Run, Script}
+use Rattle.clsm_options.specs.declared.options.Options.TheVariants.{Audit, Explore, Run, Script}
 use Rattle.clsm_options.specs.declared.options.RunOptions.{RunOptions}
 use Rattle.clsm_options.specs.declared.refusal.Refusal.{Refusal}
 use Rattle.clsm_options.specs.declared.refusal.Refusal.TheVariants.{Help, Memory, Words}
@@ -38,6 +39,9 @@ number_of id rows = option_map_or number_in (one_of id rows) 0
 
 abbrev pub flag_of : Text → List Row → Bool
 flag_of id rows = option_map_or (λ text. bytes_eq text (codes "true")) (one_of id rows) false
+
+abbrev pub texts_of : Text → List Row → List Text
+texts_of id rows = unwrap_or (all_of id rows) []
 
 -- ---- commands
 
@@ -73,15 +77,26 @@ audit rows = record {
   cells = number_of (codes "cells") rows;
 }
 
+pub record IsExplore (rows : List Row) (options : ExploreOptions) : Type 0 where
+  pub cells : options.cells ≡ number_of (codes "cells") rows
+  pub shards : options.shards ≡ number_of (codes "shards") rows
+  pub patience : options.patience ≡ number_of (codes "patience") rows
+  pub merge : options.merge ≡ flag_of (codes "merge") rows
+  pub answers : options.answers ≡ flag_of (codes "answers") rows
+  pub progress : options.progress ≡ flag_of (codes "progress") rows
+  pub scripts : map (λ text. text.bytes.items) options.scripts.items
+      ≡ texts_of (codes "scripts") rows
+
 abbrev pub IsCommand : Text → Type 0
-IsCommand name =
-    (name ≡ codes "script") ⊎ ((name ≡ codes "run") ⊎ (name ≡ codes "audit"))
+IsCommand name = (name ≡ codes "script") ⊎ ((name ≡ codes "run")
+    ⊎ ((name ≡ codes "audit") ⊎ (name ≡ codes "explore")))
 
 -- the command with this name was asked for, and its matches give these options
 abbrev pub IsAnswer : Text → List Row → Options → Type 0
 IsAnswer name rows (Script config) = (name ≡ codes "script") × (config ≡ script rows)
 IsAnswer name rows (Run options) = (name ≡ codes "run") × (options ≡ run rows)
 IsAnswer name rows (Audit options) = (name ≡ codes "audit") × (options ≡ audit rows)
+IsAnswer name rows (Explore options) = (name ≡ codes "explore") × IsExplore rows options
 
 -- the numbers of `clsm run` that have ranges
 abbrev pub AreInRange : List Row → Type 0

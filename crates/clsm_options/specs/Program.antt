@@ -29,6 +29,14 @@ size name default = number name default 0 u64_max
 abbrev pub flag : Text → Rule
 flag name = record (new_rule name) { long = Some name; action = Some SetTrue }
 
+-- one to three words
+abbrev pub scripts : Rule
+scripts = record (new_rule (codes "scripts")) {
+  value_names = 1;
+  range = Some (record { start_inclusive = 1; end_inclusive = 3 });
+  required = true;
+}
+
 -- ---- commands
 
 abbrev pub command : Text → List Rule → Shape
@@ -64,6 +72,17 @@ audit = command (codes "audit")
     ∷ size (codes "cells") (codes "65536")
     ∷ [])
 
+abbrev pub explore : Shape
+explore = command (codes "explore")
+    (size (codes "cells") (codes "4")
+    ∷ size (codes "shards") (codes "2")
+    ∷ size (codes "patience") (codes "0")
+    ∷ flag (codes "merge")
+    ∷ flag (codes "answers")
+    ∷ flag (codes "progress")
+    ∷ scripts
+    ∷ [])
+
 -- the whole program: a command is wanted, `--help` and `--version` are there
 abbrev pub clsm : App
 clsm = record {
@@ -73,7 +92,7 @@ clsm = record {
     has_version = true;
     subcommand_required = true;
   };
-  subs = script ∷ run ∷ audit ∷ [];
+  subs = script ∷ run ∷ audit ∷ explore ∷ [];
 }
 
 -- the command is this one, and has no argument that all commands share

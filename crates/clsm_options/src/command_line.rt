@@ -40,5 +40,5 @@ pub fn parse<S: AsStr>(alloc: Global, words: &[S]) -> Result<Options, Refusal>
     let Some((name, inner)) = matches.subcommand() else {
         unreachable!()
     };
-    Ok(chosen(name, inner))
+    Ok(chosen(alloc, name, inner)?)
 }

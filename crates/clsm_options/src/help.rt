@@ -3,14 +3,14 @@
 pub(crate) const VERSION: &str = "0.1.0";
 
 pub(crate) const PROGRAM: &str =
-    "A concurrent log-structured merge map in memory: scripts, workloads and audits";
+    "A concurrent log-structured merge map in memory: scripts, workloads, audits, explorations";
 
 pub(crate) const AFTER_PROGRAM: &str = "\
 Exit status:
   0  done
   1  refused words, a bad line, a failed read or write
   2  a fault was found
-  3  the store was not opened, or there was want of memory
+  3  the store was not opened, or there was want of memory or too many worlds
 
 `clsm COMMAND --help` says what a command reads and prints, with an example.";
 
@@ -64,6 +64,23 @@ memory.
 Example:
   clsm run --threads 4 --records | clsm audit --seats 4 --cells 1024";
 
+pub(crate) const EXPLORE: &str =
+    "Try every order in which the steps of one to three scripts can fall";
+
+pub(crate) const AFTER_EXPLORE: &str = "\
+Takes a script for each seat: commands of `clsm script`, parted by semicolons, of put, remove,
+get, add, claim, snap, close, getat and scan. Tries each step that comes next in each world that
+the steps lead to, and audits the answers wherever all scripts are at their end. Prints
+`explore ok`, `explore fault`, or `explore too many` where there are more than a million worlds.
+With --answers it first prints what the calls can answer: each different end is a line of records
+as `clsm audit` reads them, parted by semicolons, or `no record`.
+
+Exit status: 0 no fault; 1 refused words, `bad script S`, a failed write; 2 a fault was found; 3
+the sizes were refused, or there was want of memory or too many worlds.
+
+Example:
+  clsm explore --answers \"put 1 1\" \"get 1\"";
+
 pub(crate) const CELLS: &str = "Writes between two merges, 4 to 65,536";
 
 pub(crate) const SEATS: &str = "Seats of callers, 1 to 64";
@@ -92,3 +109,12 @@ pub(crate) const RECORDS: &str = "Print each answered call as a record, in place
 pub(crate) const AUDIT_SEATS: &str = "Seats that the records may be of, 1 to 64";
 
 pub(crate) const AUDIT_CELLS: &str = "Cells of the store that was called, 4 to 65,536";
+
+pub(crate) const MERGE: &str = "Let the merger freeze, merge and reclaim once beside the scripts";
+
+pub(crate) const ANSWERS: &str = "Print each different set of answers that the calls can have";
+
+pub(crate) const EXPLORE_PROGRESS: &str =
+    "Show on the standard error how many worlds were found so far";
+
+pub(crate) const SCRIPTS: &str = "Scripts, one for each seat, one to three";

@@ -10,5 +10,5 @@ mod reading;
 mod refusal;
 
 pub use command_line::{parse, words};
-pub use options::{AuditOptions, Options, RunOptions};
+pub use options::{AuditOptions, ExploreOptions, Options, RunOptions};
 pub use refusal::Refusal;

@@ -9,6 +9,8 @@ pub enum Options {
     Run(RunOptions),
     /// `clsm audit`: the records of the standard input.
     Audit(AuditOptions),
+    /// `clsm explore`: every order of the steps of scripts.
+    Explore(ExploreOptions),
 }
 
 /// The options of `clsm run`.
@@ -37,4 +39,23 @@ pub struct AuditOptions {
     pub seats: usize,
     /// The cells of a region of the store that they were made at.
     pub cells: usize,
+}
+
+/// The options of `clsm explore`.
+#[derive(PartialEq, Eq, Debug, Drop)]
+pub struct ExploreOptions {
+    /// As in `Config`.
+    pub cells: usize,
+    /// As in `Config`.
+    pub shards: usize,
+    /// As in `Config`.
+    pub patience: usize,
+    /// `--merge`
+    pub merge: bool,
+    /// `--answers`
+    pub answers: bool,
+    /// `--progress`
+    pub progress: bool,
+    /// The scripts, one to three.
+    pub scripts: Vec<String>,
 }

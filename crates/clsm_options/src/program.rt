@@ -48,6 +48,18 @@ fn flag<'a>(alloc: Global, name: &'a str, help: &'a str) -> Arg<'a>
         .help(help)
 }
 
+/// `SCRIPT..`, one to three.
+fn scripts<'a>(alloc: Global) -> Arg<'a>
+    ensures rule { rule_of result ≡ spec.scripts }
+    ensures local { result.global ≡ false }
+{
+    Arg::new(alloc, "scripts")
+        .value_name("SCRIPT")
+        .num_args(1..=3)
+        .required(true)
+        .help(help::SCRIPTS)
+}
+
 /// A command with no argument yet.
 fn named<'a>(alloc: Global, name: &'a str, about: &'a str, after_help: &'a str) -> Command<'a>
     ensures { Is (spec.command name.entry.now []) result }
@@ -93,6 +105,19 @@ fn audit<'a>(alloc: Global) -> Result<Command<'a>, AllocError>
         .arg(size(alloc, "cells", "65536", help::AUDIT_CELLS))
 }
 
+fn explore<'a>(alloc: Global) -> Result<Command<'a>, AllocError>
+    ensures { IfOk result (Is spec.explore) }
+{
+    named(alloc, "explore", help::EXPLORE, help::AFTER_EXPLORE)
+        .arg(size(alloc, "cells", "4", help::CELLS))?
+        .arg(size(alloc, "shards", "2", help::SHARDS))?
+        .arg(size(alloc, "patience", "0", help::PATIENCE))?
+        .arg(flag(alloc, "merge", help::MERGE))?
+        .arg(flag(alloc, "answers", help::ANSWERS))?
+        .arg(flag(alloc, "progress", help::EXPLORE_PROGRESS))?
+        .arg(scripts(alloc))
+}
+
 /// The whole program, with its commands.
 pub(crate) fn program<'a>(alloc: Global) -> Result<Command<'a>, AllocError>
     ensures { IfOk result IsProgram }
@@ -103,5 +128,6 @@ pub(crate) fn program<'a>(alloc: Global) -> Result<Command<'a>, AllocError>
         .disable_help_subcommand(true)
         .subcommand(script(alloc)?)?
         .subcommand(run(alloc)?)?
-        .subcommand(audit(alloc)?)
+        .subcommand(audit(alloc)?)?
+        .subcommand(explore(alloc)?)
 }

@@ -1,11 +1,12 @@
 //! What the matches of a command give.
-ghost use Rattle.std.specs.Prelude.{◌≡◌, codes};
+ghost use Rattle.std.specs.Prelude.{◌≡◌, IfOk, codes, map};
 ghost use Rattle.clsm_options.specs.Answers as spec;
 ghost use Rattle.clsm_options.specs.Answers.{IsAnswer, IsCommand, rows_in};
 
-use crate::options::{AuditOptions, Options, RunOptions};
+use crate::options::{AuditOptions, ExploreOptions, Options, RunOptions};
 use clap::ArgMatches;
 use clsm_model::Config;
+use std::alloc::{AllocError, Global};
 
 /// The number of an option, which has a default; 0 where there is none.
 fn number(matches: &ArgMatches<'_>, id: &str) -> u64
@@ -24,6 +25,19 @@ fn flag(matches: &ArgMatches<'_>, id: &str) -> bool
     ensures { result ≡ spec.flag_of id.now (rows_in matches.now) }
 {
     matches.get_one::<bool>(id).unwrap_or(false)
+}
+
+/// The values of a positional argument.
+fn texts(alloc: Global, matches: &ArgMatches<'_>, id: &str) -> Result<Vec<String>, AllocError>
+    ensures { IfOk result (λ texts. map (λ t. t.bytes.items) texts.items
+        ≡ spec.texts_of id.now (rows_in matches.now)) }
+{
+    let mut texts = Vec::new(alloc);
+    let values = matches.get_strs(id).unwrap_or(&[]);
+    for value in values {
+        texts.push(String::from_str(alloc, value)?)?;
+    }
+    Ok(texts)
 }
 
 fn script(matches: &ArgMatches<'_>) -> Config
@@ -68,15 +82,35 @@ fn audit(matches: &ArgMatches<'_>) -> AuditOptions
     }
 }
 
+fn explore(alloc: Global, matches: &ArgMatches<'_>) -> Result<ExploreOptions, AllocError>
+    ensures { IfOk result (spec.IsExplore (rows_in matches.now)) }
+{
+    let scripts = texts(alloc, matches, "scripts")?;
+    Ok(ExploreOptions {
+        cells: size(matches, "cells"),
+        shards: size(matches, "shards"),
+        patience: size(matches, "patience"),
+        merge: flag(matches, "merge"),
+        answers: flag(matches, "answers"),
+        progress: flag(matches, "progress"),
+        scripts,
+    })
+}
+
 /// The options of the command with this name.
-pub(crate) fn chosen(name: &str, matches: &ArgMatches<'_>) -> Options
+pub(crate) fn chosen(
+    alloc: Global,
+    name: &str,
+    matches: &ArgMatches<'_>,
+) -> Result<Options, AllocError>
     requires { IsCommand name.now }
-    ensures { IsAnswer name.now (rows_in matches.now) result }
+    ensures { IfOk result (IsAnswer name.now (rows_in matches.now)) }
 {
     match name {
-        "script" => Options::Script(script(matches)),
-        "run" => Options::Run(run(matches)),
-        "audit" => Options::Audit(audit(matches)),
+        "script" => Ok(Options::Script(script(matches))),
+        "run" => Ok(Options::Run(run(matches))),
+        "audit" => Ok(Options::Audit(audit(matches))),
+        "explore" => Ok(Options::Explore(explore(alloc, matches)?)),
         _ => unreachable!(),
     }
 }

@@ -4,8 +4,6 @@
 mod audit;
 mod deed;
 mod record;
-#[cfg(test)]
-mod tests;
 mod words;
 mod written;
 

@@ -1,2 +1,2 @@
-mod Gathered
-mod Seated
+pub mod Brought
+pub mod Seated

@@ -6,7 +6,7 @@ use Rattle.clsm_calls.specs.Seats.{StoreId, SeatState, AreNew, newcomer}
 use Rattle.clsm_run.specs.Audit.{AreSeatsOf}
 use Rattle.clsm_run.specs.Work.{AreWorked, Works}
 use Rattle.clsm_run.specs.declared.worker.Worked.{Worked}
-use Rattle.clsm_run.proofs.Gathered.{seats_of}
+use Rattle.clsm_run.proofs.Brought.{seats_of}
 
 -- the worker whose seat stands at the place
 mapped : (ws : List Worked) (i : ℕ) (s : SeatState) → i < length ws → get_or (seats_of ws) i s ≡ s → (w : Worked) × (get_or ws i w ≡ w) × (w.seat ≡ s)

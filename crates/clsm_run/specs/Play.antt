@@ -4,8 +4,8 @@ use Rattle.clsm_model.specs.declared.record.Deed.{Deed}
 use Rattle.clsm_model.specs.declared.record.Deed.TheVariants as deeds
 use Rattle.clsm_model.specs.declared.record.CallRecord.{CallRecord}
 use Rattle.clsm_calls.specs.Seats.{IsFull, IsSameSeat, SeatState}
-use Rattle.clsm_explore.specs.declared.deal.Deal.{Deal}
-use Rattle.clsm_explore.specs.declared.deal.Deal.TheVariants.{Put, Remove, Get, Add, Claim, Snap, Close, GetAt, Scan}
+use Rattle.clsm_planner.specs.declared.deal.Deal.{Deal}
+use Rattle.clsm_planner.specs.declared.deal.Deal.TheVariants.{Put, Remove, Get, Add, Claim, Snap, Close, GetAt, Scan}
 use Rattle.clsm_run.specs.Changes.{added, claimed}
 
 -- the deed is what the deal asks for, whatever it read

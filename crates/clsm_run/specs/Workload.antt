@@ -3,8 +3,8 @@ use Rattle.std.specs.Prelude.{ℕ, ◌+◌, ◌-◌, ◌%◌, ◌^◌, ◌==◌,
 use Rattle.rand_pcg.specs.Lcg.{Lcg}
 use Rattle.rand_pcg.specs.Pcg.{pcg32}
 use Rattle.clsm_run.specs.declared.workload.Draw.{Draw}
-use Rattle.clsm_explore.specs.declared.deal.Deal.{Deal}
-use Rattle.clsm_explore.specs.declared.deal.Deal.TheVariants.{Put, Remove, Get, Add, Claim, Snap, Close, GetAt, Scan}
+use Rattle.clsm_planner.specs.declared.deal.Deal.{Deal}
+use Rattle.clsm_planner.specs.declared.deal.Deal.TheVariants.{Put, Remove, Get, Add, Claim, Snap, Close, GetAt, Scan}
 
 -- where the words come from, and the number of keys
 pub record Source : Type 0 where

@@ -97,7 +97,7 @@ where
 
 /// Lets the workers work while the merger merges and the line moves. Answers what they gave back,
 /// and the number of merges. Refused for want of memory.
-pub(crate) fn work_merging<P, R, E>(
+pub fn work_merging<P, R, E>(
     rt: &R,
     alloc: Global,
     store: &Store<P>,

@@ -1,5 +1,5 @@
 //! The kinds of calls.
-use clsm_explore::Deal;
+use clsm_planner::Deal;
 
 /// A kind of call.
 #[derive(Clone, Copy, PartialEq, Eq, Debug)]

@@ -14,16 +14,17 @@ mod opening;
 mod playing;
 mod progress;
 mod stats;
-#[cfg(test)]
-mod tests;
 mod watch;
 mod worker;
 mod workload;
 
-pub use crew::{Ran, run_on};
+pub use board::Board;
+pub use crew::{Ran, run_on, work_merging};
+pub use gathering::{Gathered, gather};
 pub use kind::Kind;
 pub use load::{Load, Shows};
 pub use opening::run;
 pub use playing::play;
 pub use watch::Note;
+pub use worker::Worked;
 pub use workload::Workload;

@@ -2,12 +2,12 @@
 ghost use Rattle.std.specs.Prelude.{◌≡◌, IfErr, IfOk};
 ghost use Rattle.clsm_calls.specs.Seats.{Refuses};
 ghost use Rattle.clsm_law.specs.Relation.{call_of};
-ghost use Rattle.clsm_explore.specs.declared.deal.Deal.TheVariants.{Add, Claim, Close, Get, GetAt, Put, Remove, Scan as ScanOf, Snap};
+ghost use Rattle.clsm_planner.specs.declared.deal.Deal.TheVariants.{Add, Claim, Close, Get, GetAt, Put, Remove, Scan as ScanOf, Snap};
 ghost use Rattle.clsm_run.specs.Play.{Plays};
 
 use crate::changes::{added, claimed};
-use clsm_explore::Deal;
 use clsm_model::{CallRecord, Deed, Memory, Time, Value};
+use clsm_planner::Deal;
 use clsm_store::{Got, Pace, Rmw, Scan, Seat, Store};
 use std::alloc::Global;
 use std::sync::Wait;

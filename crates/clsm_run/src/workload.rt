@@ -4,8 +4,8 @@ ghost use Rattle.rand_pcg.specs.Lcg.{started, increment_of};
 ghost use Rattle.rand_pcg.specs.Pcg.{multiplier_64};
 ghost use Rattle.clsm_run.specs.Workload.{after_draw, deal_of, drawn, words_by};
 
-use clsm_explore::Deal;
 use clsm_model::Value;
+use clsm_planner::Deal;
 use rand_core::utils::NextWord;
 use rand_pcg::Lcg64Xsh32;
 use std::marker::Model;

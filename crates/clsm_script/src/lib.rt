@@ -9,7 +9,6 @@ mod line;
 mod playing;
 mod session;
 mod snapshots;
-#[cfg(test)]
-mod tests;
 
+pub use answer::Answer;
 pub use playing::{DEFAULT_SIZES, script};

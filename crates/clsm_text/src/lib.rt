@@ -7,8 +7,6 @@ mod input;
 mod line;
 mod number;
 mod shown;
-#[cfg(test)]
-mod tests;
 
 pub use failure::Failure;
 pub use input::read_line;

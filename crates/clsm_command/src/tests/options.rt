@@ -1,6 +1,6 @@
 //! What words are read as. At most one allocation of a run is made to fail: a call that is refused memory is made again.
 use clsm_model::Config;
-use clsm_options::{AuditOptions, Options, Refusal, RunOptions, parse, words};
+use clsm_options::{AuditOptions, ExploreOptions, Options, Refusal, RunOptions, parse, words};
 use std::alloc::Global;
 use std::env::{Env, FillError};
 use std::process::Abort;
@@ -14,6 +14,15 @@ fn parsed(alloc: Global, words: &[&str]) -> Result<Options, Refusal> {
 
 fn taken(rt: &impl Abort, alloc: Global, words: &[&str]) -> Options {
     parsed(alloc, words).expect(rt, "options")
+}
+
+fn texts(rt: &impl Abort, alloc: Global, texts: &[&str]) -> Vec<String> {
+    let mut owned = Vec::new(alloc);
+    for text in texts {
+        let text = String::from_str(alloc, text).expect(rt, "memory");
+        owned.push(text).expect(rt, "memory");
+    }
+    owned
 }
 
 /// What is shown of a refusal.
@@ -58,6 +67,11 @@ fn options_have_defaults(rt: HostRuntime) {
             records: false,
         })
     );
+}
+
+#[test]
+fn other_commands_have_defaults(rt: HostRuntime) {
+    let alloc = rt.alloc();
     assert_eq!(rt;
         taken(&rt, alloc, &["clsm", "audit"]),
         Options::Audit(AuditOptions {
@@ -65,10 +79,22 @@ fn options_have_defaults(rt: HostRuntime) {
             cells: 65536,
         })
     );
+    assert_eq!(rt;
+        taken(&rt, alloc, &["clsm", "explore", "get 1"]),
+        Options::Explore(ExploreOptions {
+            cells: 4,
+            shards: 2,
+            patience: 0,
+            merge: false,
+            answers: false,
+            progress: false,
+            scripts: texts(&rt, alloc, &["get 1"]),
+        })
+    );
 }
 
 #[test]
-fn options_are_read(rt: HostRuntime) {
+fn options_of_a_run_are_read(rt: HostRuntime) {
     let alloc = rt.alloc();
     let words = [
         "clsm",
@@ -106,9 +132,46 @@ fn options_are_read(rt: HostRuntime) {
 }
 
 #[test]
-fn wrong_words_are_refused(rt: HostRuntime) {
+fn options_of_an_exploration_are_read(rt: HostRuntime) {
     let alloc = rt.alloc();
-    let cases: [(&[&str], &str); 11] = [
+    let words = [
+        "clsm",
+        "explore",
+        "--merge",
+        "get 1",
+        "get 2",
+        "--shards",
+        "1",
+        "--answers",
+        "snap;close",
+    ];
+    assert_eq!(rt;
+        taken(&rt, alloc, &words),
+        Options::Explore(ExploreOptions {
+            cells: 4,
+            shards: 1,
+            patience: 0,
+            merge: true,
+            answers: true,
+            progress: false,
+            scripts: texts(&rt, alloc, &["get 1", "get 2", "snap;close"]),
+        })
+    );
+}
+
+/// Words that clap refuses, with what it then says first.
+fn are_refused(rt: &impl Abort, alloc: Global, cases: &[(&[&str], &str)]) {
+    for (words, start) in cases {
+        let answer = parsed(alloc, words);
+        assert!(rt; matches!(&answer, Err(Refusal::Words(_))), "{start}");
+        let shown = shown(rt, alloc, &answer);
+        assert!(rt; shown.starts_with(*start), "{shown}");
+    }
+}
+
+#[test]
+fn wrong_words_are_refused(rt: HostRuntime) {
+    let cases: [(&[&str], &str); 6] = [
         (
             &["clsm"],
             "error: 'clsm' requires a subcommand but one was not provided\n",
@@ -122,6 +185,21 @@ fn wrong_words_are_refused(rt: HostRuntime) {
             &["clsm", "run", "--ops", "1", "--ops", "2"],
             "error: the argument '--ops <N>' cannot be used multiple times\n",
         ),
+        (
+            &["clsm", "explore"],
+            "error: the following required arguments were not provided:\n  <SCRIPT>...\n",
+        ),
+        (
+            &["clsm", "explore", "a", "b", "c", "d"],
+            "error: unexpected value 'd' for '<SCRIPT>...' found; no more were expected\n",
+        ),
+    ];
+    are_refused(&rt, rt.alloc(), &cases);
+}
+
+#[test]
+fn wrong_numbers_are_refused(rt: HostRuntime) {
+    let cases: [(&[&str], &str); 7] = [
         (
             &["clsm", "run", "--threads", "0"],
             "error: invalid value '0' for '--threads <N>': 0 is not in 1..=64\n",
@@ -151,18 +229,13 @@ fn wrong_words_are_refused(rt: HostRuntime) {
             "error: invalid value '-1' for '--cells <N>': ",
         ),
     ];
-    for (words, start) in cases {
-        let answer = parsed(alloc, words);
-        assert!(rt; matches!(&answer, Err(Refusal::Words(_))), "{start}");
-        let shown = shown(&rt, alloc, &answer);
-        assert!(rt; shown.starts_with(start), "{shown}");
-    }
+    are_refused(&rt, rt.alloc(), &cases);
 }
 
 #[test]
 fn help_and_version_are_shown(rt: HostRuntime) {
     let alloc = rt.alloc();
-    let cases: [(&[&str], &str); 5] = [
+    let cases: [(&[&str], &str); 6] = [
         (&["clsm", "--version"], "clsm 0.1.0\n"),
         (
             &["clsm", "--help"],
@@ -174,6 +247,10 @@ fn help_and_version_are_shown(rt: HostRuntime) {
         ),
         (&["clsm", "run", "--help"], "Make drawn calls by threads"),
         (&["clsm", "audit", "-h"], "Tell whether the records"),
+        (
+            &["clsm", "explore", "-h"],
+            "Try every order in which the steps",
+        ),
     ];
     for (words, start) in cases {
         let answer = parsed(alloc, words);

@@ -89,6 +89,12 @@ fn merges(rt: HostRuntime) -> Result<(), Fail> {
         "try 7 70;merge;reclaim;freeze;freeze",
         "@0;not frozen;not retired;frozen 0;not clean",
     );
+    Ok(())
+}
+
+#[test]
+fn merges_until_a_run_is_full(rt: HostRuntime) -> Result<(), Fail> {
+    let alloc = rt.alloc();
     plays(
         &rt,
         alloc,
@@ -132,6 +138,22 @@ fn snapshots_and_scans(rt: HostRuntime) -> Result<(), Fail> {
             freeze;merge;reclaim;getat 1;get 1;scan 0 9;close;scan 0 9",
         "@0;snap @1;@1;frozen 0;merged 1;clean;frozen 1;merged 2;clean;frozen 2;merged 3;clean;\
             frozen 3;merged 4;clean;10 @1;none @16;1=10 @1;closed @1;empty @16",
+    );
+    Ok(())
+}
+
+/// What a snapshot keeps fills the run, until it is closed.
+#[test]
+fn a_snapshot_fills_a_run(rt: HostRuntime) -> Result<(), Fail> {
+    let alloc = rt.alloc();
+    plays(
+        &rt,
+        alloc,
+        &["clsm", "script", "--run", "4"],
+        "put 1 1;put 2 2;snap;put 1 11;put 2 12;freeze;merge;reclaim;put 3 3;freeze;merge;reclaim;\
+            freeze;merge;reclaim;freeze;merge;close;merge;reclaim;get 1;get 3",
+        "@0;@1;snap @2;@2;@3;frozen 0;merged 1;clean;@4;frozen 1;merged 2;clean;frozen 2;merged 3;\
+            clean;frozen 3;run full;closed @2;merged 4;clean;11 @16;3 @16",
     );
     Ok(())
 }

@@ -5,7 +5,7 @@ use Rattle.clap.specs.declared.parser.matches.ArgMatches.{ArgMatches}
 use Rattle.clsm_options.proofs.Entered.{faults_of, known, met_as, refused_as, rows_met}
 use Rattle.clsm_options.specs.Answers.{AreInRange, IsAnswer, IsInRange, rows_in}
 use Rattle.clsm_options.specs.declared.options.Options.{Options}
-use Rattle.clsm_options.specs.declared.options.Options.TheVariants.{Audit, Run, Script}
+use Rattle.clsm_options.specs.declared.options.Options.TheVariants.{Audit, Explore, Run, Script}
 use Rattle.clsm_options.specs.declared.options.RunOptions.{RunOptions}
 use Rattle.clsm_options.proofs.Ranges.{in_range}
 use Rattle.clsm_options.proofs.command_line.parse.Goals as goal
@@ -30,7 +30,7 @@ returns-clause-parsed g c =
     let faultless = faults_of {X = ArgMatches} (λ (kinds : Kinds) (m : ArgMatches). kinds ≡ []) c.in_ok-matches.matches c.in_ok-command.command words
     c.in_ok-command.ensures c.in_ok-matches.ensures.kinds in
     let entered = sym (rows_met c.in_ok-command.command c.in_ok-matches.matches words c.in_ok-command.ensures c.in_ok-matches.ensures.matches) ∙ met in
-    (faultless, c.in-Some.name.now, rows_in c.in-Some.inner.now, entered, c.chosen.ensures)
+    (faultless, c.in-Some.name.now, rows_in c.in-Some.inner.now, entered, c.in_ok-chosen.ensures)
 
 -- what was read is what the rows give, and those are in their ranges
 in_range_as : (name : Text) (rows : List Row) (options : Options) → (name ≡ codes "run" → AreInRange rows) → IsAnswer name rows options
@@ -39,9 +39,10 @@ in_range_as name rows (Script config) ranges answer = tt
 in_range_as name rows (Run options) ranges answer =
     subst (λ (o : RunOptions). IsInRange (Run o)) (sym answer.1) (ranges answer.0)
 in_range_as name rows (Audit options) ranges answer = tt
+in_range_as name rows (Explore options) ranges answer = tt
 
 pub returns-clause-range : goal.returns-clause-range
 returns-clause-range g c =
     let parsed = returns-clause-parsed g c in
-    in_range_as parsed.1 parsed.2 c.chosen.result
+    in_range_as parsed.1 parsed.2 c.in_ok-chosen.field-0
     (in_range (map g.S.AsStr.text c.args.words.now) parsed.1 parsed.2 parsed.0 parsed.3) parsed.4

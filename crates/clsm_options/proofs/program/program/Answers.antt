@@ -12,4 +12,5 @@ returns c =
     let without_help = ap app_of_fields c.disable_help_subcommand.ensures ∙ ap (on_top (λ s. record s { disable_help_subcommand = true })) wants_one in
     let with_1 = command_added _ _ _ without_help c.in_ok-script.ensures c.in_ok-subcommand.ensures in
     let with_2 = command_added _ _ _ with_1 c.in_ok-run.ensures c.in_ok-subcommand-2.ensures in
-    IfOk-weaker c.subcommand-3.result _ _ (λ m adds. command_added _ _ m with_2 c.in_ok-audit.ensures adds) c.subcommand-3.ensures
+    let with_3 = command_added _ _ _ with_2 c.in_ok-audit.ensures c.in_ok-subcommand-3.ensures in
+    IfOk-weaker c.subcommand-4.result _ _ (λ m adds. command_added _ _ m with_3 c.in_ok-explore.ensures adds) c.subcommand-4.ensures

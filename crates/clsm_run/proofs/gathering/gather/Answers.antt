@@ -1,7 +1,7 @@
 use Rattle.std.proofs.Common.{◌≡◌, List, subst}
 use Rattle.std.proofs.lemmas.List.Elements.{All-head, All-tail}
 use Rattle.std.specs.Prelude.{All}
-use Rattle.clsm_run.proofs.Gathered.{gathers, gathers_calls}
+use Rattle.clsm_run.proofs.Brought.{gathers, gathers_calls}
 use Rattle.clsm_run.specs.declared.worker.Worked.{Worked}
 use Rattle.clsm_run.proofs.gathering.gather.Goals as goal
 

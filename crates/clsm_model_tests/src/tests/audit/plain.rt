@@ -1,0 +1,184 @@
+//! A second check of records, quadratic and straight from the words of the audit's four passes.
+use super::{END, KEYS};
+use clsm_audit::{AuditError, FaultKind};
+use clsm_model::{CallRecord, Change, Deed, Time, Value};
+
+/// What the call writes at the key, if it does.
+fn written(call: &CallRecord, key: u64) -> Option<Option<Value>> {
+    match &call.deed {
+        Deed::Put { key: at, value } if *at == key => Some(Some(*value)),
+        Deed::Remove { key: at } if *at == key => Some(None),
+        Deed::Rmw {
+            key: at,
+            change,
+            ..
+        } if *at == key => match change {
+            Change::Keep => None,
+            Change::Set(value) => Some(Some(*value)),
+            Change::Remove => Some(None),
+        },
+        _ => None,
+    }
+}
+
+/// Whether the call writes.
+fn is_write(call: &CallRecord) -> bool {
+    match &call.deed {
+        Deed::Put { .. } | Deed::Remove { .. } => true,
+        Deed::Rmw { change, .. } => *change != Change::Keep,
+        _ => false,
+    }
+}
+
+/// Whether the call is a scan or a page.
+fn is_ranged(call: &CallRecord) -> bool {
+    matches!(&call.deed, Deed::Scan { .. } | Deed::Page { .. })
+}
+
+/// Whether the call is a close or a read at the open snapshot.
+fn is_at_open(call: &CallRecord) -> bool {
+    matches!(&call.deed, Deed::Close | Deed::GetAt { .. })
+}
+
+/// The open snapshot of the seat after the first `count` records.
+fn open_before(records: &[CallRecord], count: usize, seat: u32) -> Option<Time> {
+    let mut open = None;
+    for call in records.iter().take(count) {
+        match call.deed {
+            Deed::Snapshot if call.seat == seat => open = Some(call.time),
+            Deed::Close if call.seat == seat => open = None,
+            _ => {}
+        }
+    }
+    open
+}
+
+/// The due of the seat after the first `count` records.
+fn due_before(records: &[CallRecord], count: usize, seat: u32) -> Time {
+    let mut due = 0;
+    for (index, call) in records.iter().enumerate().take(count) {
+        let is_old = is_ranged(call) && open_before(records, index, seat).is_some();
+        if call.seat == seat && !is_old && !is_at_open(call) {
+            due = call.time.wrapping_add(u64::from(is_write(call)));
+        }
+    }
+    due
+}
+
+fn is_unknown(seats: u32, records: &[CallRecord], index: usize, call: &CallRecord) -> bool {
+    let open = open_before(records, index, call.seat);
+    let suits = match &call.deed {
+        Deed::Snapshot => open.is_none(),
+        Deed::Close | Deed::GetAt { .. } => open == Some(call.time),
+        Deed::Scan { .. } | Deed::Page { .. } => open.is_none() || open == Some(call.time),
+        _ => true,
+    };
+    call.seat >= seats || call.time > END || (is_write(call) && call.time == END) || !suits
+}
+
+fn is_second(records: &[CallRecord], index: usize, call: &CallRecord) -> bool {
+    let mut earlier = records.iter().take(index);
+    is_write(call) && earlier.any(|other| is_write(other) && other.time == call.time)
+}
+
+fn ran_back(records: &[CallRecord], index: usize, call: &CallRecord) -> bool {
+    let is_old = is_ranged(call) && open_before(records, index, call.seat).is_some();
+    !is_old && !is_at_open(call) && call.time < due_before(records, index, call.seat)
+}
+
+/// The value that the newest write of the key below the time left.
+fn value_below(records: &[CallRecord], key: u64, time: Time) -> Option<Value> {
+    let mut newest = 0;
+    let mut value = None;
+    for call in records {
+        if let Some(left) = written(call, key) {
+            if call.time < time && call.time >= newest {
+                newest = call.time;
+                value = left;
+            }
+        }
+    }
+    value
+}
+
+/// Whether these are the first `max` pairs of the range below the call's time, and `more` the next key.
+fn is_page(
+    records: &[CallRecord],
+    time: Time,
+    (lo, hi): (u64, u64),
+    max: u64,
+    rows: &[(u64, Value)],
+    more: Option<u64>,
+) -> bool {
+    let mut rest = rows.iter();
+    let mut left = max;
+    for key in 0..KEYS {
+        let value = value_below(records, key, time);
+        if let Some(value) = value {
+            if lo <= key && key <= hi {
+                if left == 0 {
+                    return more == Some(key) && rest.next().is_none();
+                }
+                left -= 1;
+                if rest.next() != Some(&(key, value)) {
+                    return false;
+                }
+            }
+        }
+    }
+    more.is_none() && rest.next().is_none()
+}
+
+fn is_wrong(records: &[CallRecord], call: &CallRecord) -> bool {
+    let time = call.time;
+    match &call.deed {
+        Deed::Rmw { key, old, .. } => *old != value_below(records, *key, time),
+        Deed::Get { key, reply } | Deed::GetAt { key, reply } => {
+            *reply != value_below(records, *key, time)
+        }
+        Deed::Scan { lo, hi, rows } => {
+            !is_page(records, time, (*lo, *hi), u64::MAX, rows.as_slice(), None)
+        }
+        Deed::Page {
+            from,
+            hi,
+            max,
+            rows,
+            more,
+        } => !is_page(records, time, (*from, *hi), *max, rows.as_slice(), *more),
+        _ => false,
+    }
+}
+
+/// Whether the record at the index has a fault of the kind.
+fn has_fault(
+    kind: FaultKind,
+    seats: u32,
+    records: &[CallRecord],
+    index: usize,
+    call: &CallRecord,
+) -> bool {
+    match kind {
+        FaultKind::Unknown => is_unknown(seats, records, index, call),
+        FaultKind::TwoAtOneTime => is_second(records, index, call),
+        FaultKind::TimeRanBack => ran_back(records, index, call),
+        FaultKind::WrongReply => is_wrong(records, call),
+    }
+}
+
+/// What the audit is to answer.
+pub fn second_check(seats: u32, records: &[CallRecord]) -> Result<(), AuditError> {
+    for kind in [
+        FaultKind::Unknown,
+        FaultKind::TwoAtOneTime,
+        FaultKind::TimeRanBack,
+        FaultKind::WrongReply,
+    ] {
+        for (index, call) in records.iter().enumerate() {
+            if has_fault(kind, seats, records, index, call) {
+                return Err(AuditError::Fault { kind, index });
+            }
+        }
+    }
+    Ok(())
+}

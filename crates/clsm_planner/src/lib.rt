@@ -1,0 +1,21 @@
+//! The calls of seats and of the merger as steps of the pure machine: which step comes next, by
+//! what those before it found.
+#![tactic(auto)]
+
+mod caller;
+mod cells;
+mod deal;
+mod made;
+mod merging;
+mod place;
+mod planner;
+mod reading;
+mod runs;
+mod scanning;
+mod writing;
+
+pub use caller::Caller;
+pub use deal::Deal;
+pub use merging::{MergeStage, Merging};
+pub use place::{Place, Stage};
+pub use planner::{AsCalled, Planner};

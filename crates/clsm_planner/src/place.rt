@@ -1,0 +1,86 @@
+//! Where a seat stands in a call.
+use crate::deal::Deal;
+use clsm_law::Layout;
+use clsm_model::{Time, Value};
+
+/// The parts of calls. Each begins where no step of it was made, and has at least one step.
+#[derive(Clone, Copy, PartialEq, Eq, Hash)]
+pub enum Stage {
+    /// The lock is taken, shared.
+    Enter,
+    /// A read begins.
+    Begin,
+    /// A snapshot is noted.
+    Note,
+    /// The clock is looked at, which gives the read's time, or the snapshot's.
+    ReadClock,
+    /// FRONT is looked at.
+    Front,
+    /// This time is settled, or, where all are, FRONT raised.
+    Settle(Time),
+    /// The answer is found, and the read ends with it; a change that writes goes on.
+    Answer,
+    /// A time is drawn.
+    Draw,
+    /// Its cell is filled, linked and decided.
+    Fill,
+    Link,
+    Decide,
+    /// The read under a change ends with no record.
+    Unpin,
+    /// The lock is left.
+    Leave,
+    /// The snapshot is closed.
+    Close,
+    /// The call is answered.
+    Over,
+}
+
+/// A part of a call, with what those before it found.
+#[derive(Clone, Copy, PartialEq, Eq, Hash)]
+pub struct Place {
+    pub stage: Stage,
+    /// The component held, and the time of the read.
+    pub component: u64,
+    pub time: Time,
+    /// What a change read.
+    pub old: Option<Value>,
+    pub drawn: Option<Time>,
+}
+
+/// What a part of a call is played by: the sizes, the call, and the time of the seat's open
+/// snapshot.
+#[derive(Clone, Copy)]
+pub(crate) struct Setting<'a> {
+    pub(crate) layout: &'a Layout,
+    pub(crate) deal: &'a Deal,
+    pub(crate) snapshot: Option<Time>,
+}
+
+impl Place {
+    /// This stage, where nothing was found yet.
+    pub(crate) fn new(stage: Stage) -> Place {
+        Place {
+            stage,
+            component: 0,
+            time: 0,
+            old: None,
+            drawn: None,
+        }
+    }
+
+    /// The beginning of the call.
+    pub(crate) fn first(deal: &Deal) -> Place {
+        let stage = match deal {
+            Deal::Close => Stage::Close,
+            Deal::Get { .. } | Deal::GetAt { .. } | Deal::Snap | Deal::Scan { .. } => Stage::Begin,
+            _ => Stage::Enter,
+        };
+        Place::new(stage)
+    }
+
+    /// The same with this stage next.
+    pub fn at(&self, stage: Stage) -> Place {
+        Place { stage, ..*self }
+    }
+}

@@ -1,0 +1,229 @@
+//! The parts of reads.
+use crate::cells::{newest, settle};
+use crate::deal::Deal;
+use crate::made::{Made, Stop};
+use crate::place::{Place, Setting, Stage};
+use crate::runs::search;
+use crate::scanning::rows_below;
+use clsm_law::{End, Layout, Step, Word};
+use clsm_model::{Change, Deed, Time, Value};
+use std::alloc::Global;
+
+/// The value of the key below the time: by the cells of the component's epochs, and else by its
+/// runs.
+fn value_below(
+    made: &mut Made,
+    layout: &Layout,
+    component: u64,
+    time: Time,
+    key: u64,
+) -> Result<Option<Value>, Stop> {
+    if let Some(version) = newest(made, layout, component, time, key)? {
+        return Ok(version.value);
+    }
+    match search(made, component, key, key, time)? {
+        Some(entry) => Ok(entry.value),
+        None => Ok(None),
+    }
+}
+
+/// What the call makes of the old value.
+fn change_of(deal: &Deal, old: &Option<Value>) -> Change {
+    match deal {
+        Deal::Claim { value, .. } if old.is_none() => Change::Set(*value),
+        Deal::Add { by, .. } => sum_of(old, *by),
+        _ => Change::Keep,
+    }
+}
+
+/// The sum of the old value's word, 0 where it is absent, and another; nothing where it has
+/// several words or the sum is too great.
+fn sum_of(old: &Option<Value>, by: u64) -> Change {
+    let word = match old {
+        None => Some(0),
+        Some(value) => match value.words() {
+            [word] => Some(*word),
+            _ => None,
+        },
+    };
+    let Some(sum) = word.and_then(|word: u64| word.checked_add(by)) else {
+        return Change::Keep;
+    };
+    match Value::new(&[sum]) {
+        Ok(value) => Change::Set(value),
+        Err(_) => Change::Keep,
+    }
+}
+
+/// The deed of a read of one key that found this.
+fn read_of(deal: &Deal, reply: Option<Value>) -> Deed {
+    let key = deal.key();
+    match deal {
+        Deal::GetAt { .. } => Deed::GetAt { key, reply },
+        _ => Deed::Get { key, reply },
+    }
+}
+
+/// Ends the read with the record of this deed.
+fn record(made: &mut Made, deed: Deed) -> Result<(), Stop> {
+    made.step(Step::Unpin(End::Recorded(deed)))?;
+    Ok(())
+}
+
+impl Place {
+    /// Pins and holds a component.
+    pub(crate) fn begin(&self, made: &mut Made, setting: &Setting) -> Result<Place, Stop> {
+        made.step(Step::Pin)?;
+        let component = made.look(Word::Merged)?;
+        let (stage, time) = match (setting.deal, setting.snapshot) {
+            (Deal::GetAt { .. } | Deal::Scan { .. }, Some(time)) => (Stage::Answer, time),
+            (Deal::Snap, _) => (Stage::Note, 0),
+            _ => (Stage::ReadClock, 0),
+        };
+        Ok(Place {
+            stage,
+            component,
+            time,
+            ..*self
+        })
+    }
+
+    /// Looks at the clock and notes it.
+    pub(crate) fn note(&self, made: &mut Made) -> Result<Place, Stop> {
+        let time = made.look(Word::Clock)?;
+        made.step(Step::Note(time))?;
+        let stage = Stage::ReadClock;
+        Ok(Place {
+            stage,
+            time,
+            ..*self
+        })
+    }
+
+    pub(crate) fn read_clock(&self, made: &mut Made) -> Result<Place, Stop> {
+        let time = made.look(Word::Clock)?;
+        let stage = Stage::Front;
+        Ok(Place {
+            stage,
+            time,
+            ..*self
+        })
+    }
+
+    /// Looks at FRONT: each time below it, or below the component, is decided.
+    pub(crate) fn front(&self, made: &mut Made, layout: &Layout) -> Result<Place, Stop> {
+        let front = made.look(Word::Front)?;
+        let merged = self.component.saturating_mul(layout.cells);
+        Ok(self.at(Stage::Settle(front.max(merged))))
+    }
+
+    /// Settles one time, or raises FRONT where each is settled below the drawn time, or the
+    /// read's. A change whose time is drawn then looks for a write of its key since its read, and
+    /// begins the read again where there is one.
+    pub(crate) fn settle(
+        &self,
+        made: &mut Made,
+        setting: &Setting,
+        time: Time,
+    ) -> Result<Place, Stop> {
+        let until = self.drawn.unwrap_or(self.time);
+        if time < until {
+            settle(made, setting.layout, time)?;
+            return Ok(self.at(Stage::Settle(time + 1)));
+        }
+        made.step(Step::RaiseFront(until))?;
+        match self.drawn {
+            None => Ok(self.at(Stage::Answer)),
+            Some(drawn) => self.compare(made, setting, drawn),
+        }
+    }
+
+    fn compare(&self, made: &mut Made, setting: &Setting, drawn: Time) -> Result<Place, Stop> {
+        let key = setting.deal.key();
+        let found = newest(made, setting.layout, self.component, drawn, key)?;
+        if found.is_none_or(|version| version.time < self.time) {
+            return Ok(self.at(Stage::Fill));
+        }
+        made.step(Step::Cancel(drawn))?;
+        Ok(self.read_again())
+    }
+
+    /// The read of the change begins again, with the look at the clock.
+    pub(crate) fn read_again(&self) -> Place {
+        let component = self.component;
+        Place {
+            component,
+            ..Place::new(Stage::ReadClock)
+        }
+    }
+
+    /// Finds the answer, and ends the read with it.
+    pub(crate) fn answer(
+        &self,
+        made: &mut Made,
+        alloc: Global,
+        setting: &Setting,
+    ) -> Result<Place, Stop> {
+        match *setting.deal {
+            Deal::Snap => record(made, Deed::Snapshot)?,
+            Deal::Scan { lo, hi } => {
+                let rows = rows_below(made, alloc, setting.layout, self, lo, hi)?;
+                record(made, Deed::Scan { lo, hi, rows })?;
+            }
+            _ => return self.answer_key(made, setting),
+        }
+        Ok(self.at(Stage::Over))
+    }
+
+    /// The same, of a call about one key.
+    fn answer_key(&self, made: &mut Made, setting: &Setting) -> Result<Place, Stop> {
+        let key = setting.deal.key();
+        let reply = value_below(made, setting.layout, self.component, self.time, key)?;
+        if setting.deal.is_change() {
+            return self.change(made, setting.deal, reply);
+        }
+        record(made, read_of(setting.deal, reply))?;
+        Ok(self.at(Stage::Over))
+    }
+
+    /// A change that keeps what it read ends its read with the record; another goes on to draw.
+    fn change(&self, made: &mut Made, deal: &Deal, old: Option<Value>) -> Result<Place, Stop> {
+        let key = deal.key();
+        if change_of(deal, &old) == Change::Keep {
+            let change = Change::Keep;
+            record(made, Deed::Rmw { key, old, change })?;
+            return Ok(Place::new(Stage::Leave));
+        }
+        let stage = Stage::Draw;
+        Ok(Place {
+            stage,
+            old,
+            ..*self
+        })
+    }
+
+    /// What the call writes, as its record says it.
+    pub(crate) fn deed_of(&self, deal: &Deal) -> Deed {
+        match *deal {
+            Deal::Put { key, value } => Deed::Put { key, value },
+            Deal::Add { key, .. } | Deal::Claim { key, .. } => {
+                let change = change_of(deal, &self.old);
+                let old = self.old;
+                Deed::Rmw { key, old, change }
+            }
+            _ => Deed::Remove { key: deal.key() },
+        }
+    }
+
+    /// The value that the call writes; none where it removes.
+    pub(crate) fn value_of(&self, deal: &Deal) -> Option<Value> {
+        match *deal {
+            Deal::Put { value, .. } => Some(value),
+            Deal::Add { .. } | Deal::Claim { .. } => match change_of(deal, &self.old) {
+                Change::Set(value) => Some(value),
+                _ => None,
+            },
+            _ => None,
+        }
+    }
+}

@@ -1,0 +1,120 @@
+//! The parts of writes.
+use crate::made::{Made, Stop};
+use crate::place::{Place, Setting, Stage};
+use clsm_law::{EXCLUSIVE_HOLD, End, Layout, Part, Step, Word};
+use clsm_model::{Deed, Time, Value};
+
+/// Fills the drawn cell: its key, its length and its words.
+fn fill_cell(made: &mut Made, key: u64, value: Option<&Value>) -> Result<(), Stop> {
+    let words = match value {
+        Some(value) => value.words(),
+        None => &[],
+    };
+    made.step(Step::Fill(Part::Key, key))?;
+    made.step(Step::Fill(Part::Length, words.len() as u64))?;
+    for (index, word) in words.iter().enumerate() {
+        made.step(Step::Fill(Part::Value(index as u64), *word))?;
+    }
+    Ok(())
+}
+
+/// The head of the chain of the key and the time's region.
+fn head_of(layout: &Layout, time: Time, key: u64) -> Word {
+    let region = layout.region_of(layout.cell_of(time));
+    let chain = key % layout.chains;
+    Word::Head { region, chain }
+}
+
+impl Place {
+    /// Takes the lock shared; where it is held exclusively, or another seat was first, it looks
+    /// again.
+    pub(crate) fn enter(&self, made: &mut Made, setting: &Setting) -> Result<Place, Stop> {
+        let holders = made.look(Word::Lock)?;
+        if holders >= EXCLUSIVE_HOLD || !made.wins(Step::EnterShared(holders))? {
+            return Err(Stop::Again);
+        }
+        let is_change = setting.deal.is_change();
+        Ok(self.at(if is_change { Stage::Begin } else { Stage::Draw }))
+    }
+
+    /// Draws the time that the clock says, if it is below the limit.
+    pub(crate) fn draw(&self, made: &mut Made, setting: &Setting) -> Result<Place, Stop> {
+        let is_change = setting.deal.is_change();
+        let limit = made.look(Word::Limit)?;
+        let time = made.look(Word::Clock)?;
+        if time >= limit {
+            let stage = if is_change {
+                Stage::Unpin
+            } else {
+                Stage::Leave
+            };
+            return Ok(self.at(stage));
+        }
+        if !made.wins(Step::Draw(time))? {
+            return self.try_again(is_change);
+        }
+        let stage = if is_change { Stage::Front } else { Stage::Fill };
+        let drawn = Some(time);
+        Ok(Place {
+            stage,
+            drawn,
+            ..*self
+        })
+    }
+
+    /// After a lost draw or decide a change reads again, and another write draws again.
+    fn try_again(&self, is_change: bool) -> Result<Place, Stop> {
+        if is_change {
+            Ok(self.read_again())
+        } else {
+            Ok(Place::new(Stage::Draw))
+        }
+    }
+
+    pub(crate) fn fill(&self, made: &mut Made, setting: &Setting) -> Result<Place, Stop> {
+        let value = self.value_of(setting.deal);
+        fill_cell(made, setting.deal.key(), value.as_ref())?;
+        Ok(self.at(Stage::Link))
+    }
+
+    /// Puts the drawn cell in front of its chain; where another was first, it looks again.
+    pub(crate) fn link(&self, made: &mut Made, setting: &Setting) -> Result<Place, Stop> {
+        let time = self.drawn.unwrap_or(0);
+        let head = made.look(head_of(setting.layout, time, setting.deal.key()))?;
+        made.step(Step::Fill(Part::Next, head))?;
+        if !made.wins(Step::Link(head))? {
+            return Err(Stop::Again);
+        }
+        Ok(self.at(Stage::Decide))
+    }
+
+    pub(crate) fn decide(&self, made: &mut Made, setting: &Setting) -> Result<Place, Stop> {
+        let is_change = setting.deal.is_change();
+        let time = self.drawn.unwrap_or(0);
+        let deed: Deed = self.deed_of(setting.deal);
+        if !made.wins(Step::Decide(time, deed))? {
+            return self.try_again(is_change);
+        }
+        Ok(Place::new(if is_change {
+            Stage::Unpin
+        } else {
+            Stage::Leave
+        }))
+    }
+
+    /// Ends the read under a change with no record.
+    pub(crate) fn unpin(&self, made: &mut Made) -> Result<Place, Stop> {
+        made.step(Step::Unpin(End::Neither))?;
+        Ok(Place::new(Stage::Leave))
+    }
+
+    pub(crate) fn leave(&self, made: &mut Made) -> Result<Place, Stop> {
+        made.step(Step::LeaveShared)?;
+        Ok(self.at(Stage::Over))
+    }
+
+    pub(crate) fn close(&self, made: &mut Made) -> Result<Place, Stop> {
+        made.step(Step::CloseSnapshot)?;
+        Ok(self.at(Stage::Over))
+    }
+}

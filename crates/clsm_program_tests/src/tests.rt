@@ -1,0 +1,5 @@
+mod explore;
+mod records;
+mod run;
+mod script;
+mod text;
