@@ -1,4 +1,5 @@
--- A walk over the stamps in the order of time: the map at each turn is the map of the history below the turn's time.
+-- A walk over the stamps in the order of time: the map at each turn is the map of the history below
+-- the turn's time.
 use Rattle.std.proofs.Common.{◌≡◌, ◌≢◌, ℕ, ◌+◌, ◌<◌, ◌≤◌, Bool, true, false, cond, List, length, get_or, Option, Some, None, IfSome, IsTrue, ◌↔◌, MatchOption, is_some, min, refl, sym, ap, ◌∙◌, subst, arith, ⊎_elim}
 use Rattle.std.proofs.lemmas.Bool.{cases_eq, cases_lt, true≢false}
 use Rattle.std.proofs.lemmas.List.{get_or_default}

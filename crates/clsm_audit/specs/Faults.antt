@@ -73,8 +73,8 @@ pub record IsLawful (config : Config) (records : List CallRecord) : Type 0 where
   pub rises : HasNone (RanBackAt records)
   pub right : HasNone (IsWrongAt records)
 
--- each seat's calls are its part of the history of all writes: each write stands at its time, nothing
--- else is in the history, each reading is right, and the times rise
+-- each seat's calls are its part of the history of all writes: each write stands at its time,
+-- nothing else is in the history, each reading is right, and the times rise
 abbrev pub IsOneHistory : List CallRecord → Type 0
 IsOneHistory records =
     (seat : ℕ) → AreCallsIn (history_of records).slots seat (calls_of records seat) (due_of records seat) (open_of records seat)

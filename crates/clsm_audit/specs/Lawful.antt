@@ -26,8 +26,8 @@ open_of records seat = last_open None (calls_of records seat)
 abbrev pub IsTime : CallRecord → Type 0
 IsTime r = MatchBool (is_some (write_of r)) (r.time < 2 ^ 62) (r.time ≤ 2 ^ 62)
 
--- a snapshot is opened where none is open, closed and read at its time, and a scan or a page under it
--- is at its time too
+-- a snapshot is opened where none is open, closed and read at its time, and a scan or a page under
+-- it is at its time too
 abbrev pub IsAtSnapshot : Option ℕ → ℕ → Deed → Type 0
 IsAtSnapshot snapshot t Snapshot = snapshot ≡ None
 IsAtSnapshot snapshot t Close = snapshot ≡ Some t

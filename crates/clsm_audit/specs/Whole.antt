@@ -17,7 +17,8 @@ pub record IsInRange (config : Config) (r : CallRecord) : Type 0 where
   pub seat : r.seat < config.seats
   pub time : IsTime r
 
--- there is a history in which the calls of each seat are its part; so nothing but their writes stands in it
+-- there is a history in which the calls of each seat are its part; so nothing but their writes
+-- stands in it
 pub record HasHistory (config : Config) (records : List CallRecord) : Type 0 where
   pub in_range : (i : ℕ) → IfSome (slice_get records i) (IsInRange config)
   pub history : List Slot

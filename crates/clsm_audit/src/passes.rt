@@ -82,21 +82,23 @@ fn first_back(
     Ok(None)
 }
 
-/// Audits the records of answered calls: whether they are the calls of one lawful history, in which each write
-/// stands at its own time and nothing else does. Records of one seat stand in its own order; between seats any
-/// order is right. Any records are accepted. Four passes look for faults, and the answer is the lowest index
-/// in the first pass that finds one:
+/// Audits the records of answered calls: whether they are the calls of one lawful history, in which
+/// each write stands at its own time and nothing else does. Records of one seat stand in its own
+/// order; between seats any order is right. Any records are accepted. Four passes look for faults,
+/// and the answer is the lowest index in the first pass that finds one:
 ///
-/// 1. `Unknown`: the seat is not below `config.seats`; the time is not below 2^62, or for a record that is no
-///    write above 2^62; a snapshot is opened where one is open; a close or a read at the snapshot where none
-///    is open; one of these, a scan or a page at another time than the open snapshot's.
+/// 1. `Unknown`: the seat is not below `config.seats`; the time is not below 2^62, or for a record
+///    that is no write above 2^62; a snapshot is opened where one is open; a close or a read at the
+///    snapshot where none is open; one of these, a scan or a page at another time than the open
+///    snapshot's.
 /// 2. `TwoAtOneTime`: a write at the time of a write with a lower index.
-/// 3. `TimeRanBack`: a record below the due of its seat, which is the time of a read, and one more than
-///    that of a write. Closes and reads under an open snapshot are not held against it.
+/// 3. `TimeRanBack`: a record below the due of its seat, which is the time of a read, and one more
+///    than that of a write. Closes and reads under an open snapshot are not held against it.
 /// 4. `WrongReply`: what was read is not what the writes below the record's time give.
 ///
-/// Refused with `Memory` for want of memory, in place of any of these answers. Records whose seats and times
-/// are in their ranges, and that are the calls of a history, are refused for nothing else.
+/// Refused with `Memory` for want of memory, in place of any of these answers. Records whose seats
+/// and times are in their ranges, and that are the calls of a history, are refused for nothing
+/// else.
 pub fn audit(alloc: Global, config: &Config, records: &[CallRecord]) -> Result<(), AuditError>
     ensures ok { OnOk result (IsLawful config.now records.now) }
     ensures history { OnOk result (IsOneHistory records.now) }

@@ -72,8 +72,9 @@ impl SeatState {
         }
     }
 
-    /// Whether the deed suits the snapshot that is open: an opening, that none is open; a close and a read
-    /// at it, that one is open at this time; a scan or a page, that none is open at another time.
+    /// Whether the deed suits the snapshot that is open: an opening, that none is open; a close and
+    /// a read at it, that one is open at this time; a scan or a page, that none is open at another
+    /// time.
     fn is_at_snapshot(&self, time: Time, deed: &Deed) -> bool
         ensures { IsTrue result ↔ IsAtSnapshot self.now.snapshot time deed.now }
     {
@@ -87,8 +88,8 @@ impl SeatState {
         }
     }
 
-    /// Whether a call of a seat in this state is known: its seat and its time are in their ranges, and it
-    /// suits the snapshot.
+    /// Whether a call of a seat in this state is known: its seat and its time are in their ranges,
+    /// and it suits the snapshot.
     pub fn is_known(&self, config: &Config, call: &CallRecord) -> bool
         ensures { IsTrue result ↔ IsKnown config.now self.now.snapshot call.now }
     {

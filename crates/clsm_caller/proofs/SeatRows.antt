@@ -65,7 +65,8 @@ abbrev pub IsWriteOf : ℕ → Slot → Type 0
 IsWriteOf k Nothing = ⊥
 IsWriteOf k (Wrote seat key written) = key ≡ k
 
--- the newest write below a time is none where the key has no write there, or some slot below it is one
+-- the newest write below a time is none where the key has no write there, or some slot below it is
+-- one
 pub written : (h : History) (k s : ℕ) → (newest h k s ≡ None) ⊎ ((t : ℕ) × (t < s) × IsWriteOf k (slot_of h t))
 written h k zero = inl refl
 written h k (suc t) = here (slot_of h t) refl (written h k t) where

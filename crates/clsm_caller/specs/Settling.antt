@@ -4,7 +4,8 @@ use Rattle.clsm_model.specs.declared.slot.Slot.{Slot}
 use Rattle.clsm_caller.specs.declared.settling.Settling.{Settling}
 use Rattle.clsm_caller.specs.declared.settling.Settling.TheVariants.{Stays, Drawn, Decided, Undecided}
 
--- the slots after it: as before, with one more that is undecided, or with this time decided or undecided
+-- the slots after it: as before, with one more that is undecided, or with this time decided or
+-- undecided
 abbrev pub settled_by : List (Option Slot) → Settling → List (Option Slot)
 settled_by slots Stays = slots
 settled_by slots Drawn = slots ++ None ∷ []

@@ -1,5 +1,5 @@
-//! The steps of a caller's seat, as they are made: whether a step is open, its word, what it makes of the word, what the view,
-//! the slots and the answer are after it.
+//! The steps of a caller's seat, as they are made: whether a step is open, its word, what it makes
+//! of the word, what the view, the slots and the answer are after it.
 #![tactic(auto)]
 
 mod answers;

@@ -5,7 +5,8 @@ ghost use Rattle.clsm_law.specs.Worlds.{history_of};
 use crate::ranges::{is_range, value_of};
 use clsm_model::{Slot, Value};
 
-/// Whether the rows are all keys from `lo` on, below `hi`, that have a value after the slots, by rising key.
+/// Whether the rows are all keys from `lo` on, below `hi`, that have a value after the slots, by
+/// rising key.
 fn is_range_below(seen: &[Option<Slot>], lo: u64, hi: u64, rows: &[(u64, Value)]) -> bool
     ensures { IsTrue result ↔ IsRangeBelow (history_of seen.now) (length seen.now) lo hi rows.now }
 {
@@ -15,7 +16,8 @@ fn is_range_below(seen: &[Option<Slot>], lo: u64, hi: u64, rows: &[(u64, Value)]
     is_range(seen, lo, hi - 1, rows)
 }
 
-/// Whether the rows are the last of the pairs from `from` to `hi` after the slots, at most `max` of them.
+/// Whether the rows are the last of the pairs from `from` to `hi` after the slots, at most `max` of
+/// them.
 fn is_last_page(seen: &[Option<Slot>], from: u64, hi: u64, max: u64, rows: &[(u64, Value)]) -> bool
     ensures { IsTrue result ↔ IsPageOf (history_of seen.now) (length seen.now) from hi max rows.now None }
 {
@@ -44,7 +46,8 @@ fn is_page_before(
         && is_range_below(seen, from, next, rows)
 }
 
-/// Whether the rows are the first `max` pairs with keys from `from` to `hi` after the slots, and `more` the key of the next one.
+/// Whether the rows are the first `max` pairs with keys from `from` to `hi` after the slots, and
+/// `more` the key of the next one.
 pub(crate) fn is_page(
     seen: &[Option<Slot>],
     from: u64,

@@ -54,7 +54,8 @@ fn is_each_row_given(seen: &[Option<Slot>], lo: u64, hi: u64, rows: &[(u64, Valu
     rows.iter().all(|row| lo <= row.0 && row.0 <= hi && gives(seen, rows, row.0))
 }
 
-/// Whether the rows give the key of the write its value after the slots, where the key is from `lo` to `hi`.
+/// Whether the rows give the key of the write its value after the slots, where the key is from `lo`
+/// to `hi`.
 fn is_given_write(
     seen: &[Option<Slot>],
     lo: u64,
@@ -77,7 +78,8 @@ fn is_each_write_given(seen: &[Option<Slot>], lo: u64, hi: u64, rows: &[(u64, Va
         .all(|slot| is_given_write(seen, lo, hi, rows, *slot))
 }
 
-/// Whether the rows are all keys from `lo` to `hi` that have a value after the slots, by rising key.
+/// Whether the rows are all keys from `lo` to `hi` that have a value after the slots, by rising
+/// key.
 pub(crate) fn is_range(seen: &[Option<Slot>], lo: u64, hi: u64, rows: &[(u64, Value)]) -> bool
     ensures { IsTrue result ↔ IsRange (history_of seen.now) (length seen.now) lo hi rows.now }
 {

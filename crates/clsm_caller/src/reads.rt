@@ -25,7 +25,8 @@ fn timed(snapshot: SnapshotState) -> Option<Time>
     }
 }
 
-/// The time at which a read with this deed stands: the open snapshot's, or the clock looked at under this pin.
+/// The time at which a read with this deed stands: the open snapshot's, or the clock looked at
+/// under this pin.
 pub(crate) fn time_of_read(view: &View, deed: &Deed) -> Option<Time>
     ensures { result ≡ time_of_read view.now deed.now }
 {

@@ -26,7 +26,8 @@ fn reads(seen: &[Option<Slot>], deed: &Deed) -> bool
     }
 }
 
-/// Whether the deed stands at a time of the past, and what it read is what the slots below that time give.
+/// Whether the deed stands at a time of the past, and what it read is what the slots below that
+/// time give.
 pub(crate) fn is_right(slots: &[Option<Slot>], past: Time, time: Time, deed: &Deed) -> bool
     ensures { IsTrue result ↔ IsRight (past_of slots.now past) time deed.now }
 {

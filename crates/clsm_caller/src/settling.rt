@@ -18,8 +18,8 @@ pub enum Settling {
     Undecided(Time),
 }
 
-/// What the step that found this word makes of the times: a drawn time is one more, and a decided time comes to its write,
-/// or to nothing.
+/// What the step that found this word makes of the times: a drawn time is one more, and a decided
+/// time comes to its write, or to nothing.
 pub fn settling_by(seat: u32, step: &Step, found: u64) -> Settling
     ensures { (slots : List (Option Slot)) → settled_by slots result ≡ slots_after seat slots step.now found }
 {

@@ -32,7 +32,8 @@ use Rattle.clsm_calls.specs.Merging.{epoch_known, frozen_of, runs_known}
 pub epoch_is : (k : Known) → epoch_known k ≡ entries_of k.past (k.merger.merged * k.layout.cells) (epoch_end k.layout k.merger)
 epoch_is k = ap (λ (l : List Slot). entries_of l (k.merger.merged * k.layout.cells) (epoch_end k.layout k.merger)) (settled_known k.past)
 
--- in a frozen phase, the seat knows more of the past alone, and its layout and the number of merges are as they were
+-- in a frozen phase, the seat knows more of the past alone, and its layout and the number of merges
+-- are as they were
 module _ (k k' : Known) (sound : IsSoundMerger k) (frozen : is_frozen k.merger.phase ≡ true) (free : k.merger.exclusive ≡ false)
     (layout : k'.layout ≡ k.layout) (merged : k'.merger.merged ≡ k.merger.merged) (longer : IsPrefix k.past k'.past) where
   same_past : (t : ℕ) → t < epoch_end k.layout k.merger → get_or k'.past t Nothing ≡ get_or k.past t Nothing

@@ -52,7 +52,8 @@ pub record EndsDrawn (old new : Known) : Type 0 where
   pub gave_up : new.view.gave_up ≡ old.view.gave_up
   pub reached : old.view.reached ≤ new.view.reached
 
--- what a decide makes of the drawn time: a write at it, which is recorded where the due was not above it, or nothing
+-- what a decide makes of the drawn time: a write at it, which is recorded where the due was not
+-- above it, or nothing
 abbrev pub DecidesDrawn : Known → Known → ℕ → Deed → Decided → Type 0
 DecidesDrawn old new t deed Done = EndsDrawn old new × (old.view.due ≤ t → Records old new t deed)
 DecidesDrawn old new t deed Overtaken = EndsDrawn old new × Still old new

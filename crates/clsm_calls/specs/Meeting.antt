@@ -19,7 +19,8 @@ pub record MeetsAt (old new : Known) (t : ℕ) : Type 0 where
   pub heard : old.heard ≤ t
   pub unlocked : TakesNoLock (tally_of old) (tally_of new)
 
--- one look, after which its calls are known to agree with what it was told: contracts see the same seat
+-- one look, after which its calls are known to agree with what it was told: contracts see the same
+-- seat
 pub record Confirms (old new : Known) : Type 0 where
   pub number : new.number ≡ old.number
   pub layout : new.layout ≡ old.layout

@@ -25,7 +25,8 @@ runs_known k = runs_of (row_of k) k.merger.merged
 abbrev pub merger_of : MergerSeat → MergerState
 merger_of m = record { store = record { table = m.raw.table; layout = m.raw.knows.layout }; merges = m.merges; holds = m.raw.knows.merger.holds }
 
--- the same while an epoch is frozen: with its floor and its rounds, and with what the next merge reads
+-- the same while an epoch is frozen: with its floor and its rounds, and with what the next merge
+-- reads
 abbrev pub frozen_of : MergerSeat → FrozenState
 frozen_of m = record { merger = merger_of m; floor = m.floor; rounds = m.raw.knows.merger.rounds; epoch = epoch_known m.raw.knows; runs = runs_known m.raw.knows }
 
@@ -33,7 +34,8 @@ frozen_of m = record { merger = merger_of m; floor = m.floor; rounds = m.raw.kno
 abbrev pub retired_of : MergerSeat → RetiredState
 retired_of m = record { merger = merger_of m; floor = m.floor; rounds = m.raw.knows.merger.rounds; readers = m.seen.items }
 
--- it knows its floor, which is not past the end of the epoch of the next merge, and has room for a merge
+-- it knows its floor, which is not past the end of the epoch of the next merge, and has room for a
+-- merge
 pub record IsReady (m : MergerSeat) : Type 0 where
   pub floor : m.floor ≡ m.raw.knows.merger.floor
   pub early : m.floor ≤ (m.merges + 1) * m.raw.knows.layout.cells
@@ -52,7 +54,8 @@ pub record IsRetiring (m : MergerSeat) : Type 0 where
   pub ready : IsReady m
   pub seen : m.seen.items ≡ m.raw.knows.merger.readers
 
--- It looked at all snapshot words in one round, and took this floor from it: a floor never falls, and is not past the epoch's end
+-- It looked at all snapshot words in one round, and took this floor from it: a floor never falls,
+-- and is not past the epoch's end
 pub record TakesFloor (s : FrozenState) (floor rounds : ℕ) : Type 0 where
   pub looked : rounds ≡ next_word s.rounds
   pub kept : s.floor ≤ floor

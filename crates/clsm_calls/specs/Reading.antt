@@ -7,7 +7,8 @@ use Rattle.clsm_law.specs.Relation.{call_of, next_word, open_time}
 use Rattle.clsm_words.specs.declared.known.Known.{Known}
 use Rattle.clsm_calls.specs.Tally.{TakesNoLock, tally_of}
 
--- a read of the held component may be at the time: nothing that is merged into it is later, or the seat's open snapshot is of that time
+-- a read of the held component may be at the time: nothing that is merged into it is later, or the
+-- seat's open snapshot is of that time
 abbrev pub MayReadAt : Known → ℕ → ℕ → Type 0
 MayReadAt k component time = (component * k.layout.cells ≤ time) ⊎ (open_time k.view.snapshot ≡ Some time)
 

@@ -10,7 +10,8 @@ use Rattle.clsm_words.specs.Merging.{IsLetGo, facts_known}
 use Rattle.clsm_pins.specs.Quieting.{IsNotedOdd}
 use Rattle.clsm_calls.specs.Freezing.{IsOut}
 
--- the seat with this number was looked at once more and not found quiet, each with a lower one was found so, and those found so before stay so
+-- the seat with this number was looked at once more and not found quiet, each with a lower one was
+-- found so, and those found so before stay so
 pub record IsLowestLoud (before now : List Reader) (number : ℕ) : Type 0 where
   pub again : (reader_at now number).looks ≡ next_word (reader_at before number).looks
   pub loud : (reader_at now number).quiet ≡ false

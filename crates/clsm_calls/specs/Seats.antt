@@ -27,8 +27,8 @@ pub record StoreId : Type 0 where
 abbrev pub HasSizes : StoreId → Config → Type 0
 HasSizes store config = HasSizesOf store.layout config
 
--- a seat: its store, its number, the beginning of the history that it knows, its records in order, the time below which it answers no more,
--- and the time of its open snapshot
+-- a seat: its store, its number, the beginning of the history that it knows, its records in order,
+-- the time below which it answers no more, and the time of its open snapshot
 pub record SeatState : Type 0 where
   pub store : StoreId
   pub number : ℕ
@@ -53,8 +53,9 @@ pub record MergerState : Type 0 where
   pub merges : ℕ
   pub holds : ℕ
 
--- and, while an epoch is frozen, the floor of the last try to merge, how many rounds of looks at all snapshot words it made, modulo 2^64, the epoch's
--- writes, the newest first, and the runs in the order in which they are searched
+-- and, while an epoch is frozen, the floor of the last try to merge, how many rounds of looks at
+-- all snapshot words it made, modulo 2^64, the epoch's writes, the newest first, and the runs in
+-- the order in which they are searched
 pub record FrozenState : Type 0 where
   pub merger : MergerState
   pub floor : ℕ
@@ -62,7 +63,8 @@ pub record FrozenState : Type 0 where
   pub epoch : List Entry
   pub runs : List (List Entry)
 
--- and, while a component is retired, the floor of the merge that retired it, the rounds, and what was noted of each seat since
+-- and, while a component is retired, the floor of the merge that retired it, the rounds, and what
+-- was noted of each seat since
 pub record RetiredState : Type 0 where
   pub merger : MergerState
   pub floor : ℕ
@@ -75,8 +77,9 @@ IsNewMerger store merger = merger ≡ record { store = store; merges = 0; holds 
 
 -- ---- what holds of every seat
 
--- The seat is lawful in the history h: its past is a beginning of h; each of its writes stands in h and each write in h with its number is one of
--- its records, as far as h reaches; what it read is right; and its records' times rise to its due
+-- The seat is lawful in the history h: its past is a beginning of h; each of its writes stands in h
+-- and each write in h with its number is one of its records, as far as h reaches; what it read is
+-- right; and its records' times rise to its due
 pub record IsLawfulIn (h : List Slot) (s : SeatState) : Type 0 where
   pub begins : IsPrefix s.past h
   pub agrees : Agrees s.store.layout.seats s.number s.calls h
@@ -95,7 +98,8 @@ pub record IsSameSeat (old new : SeatState) : Type 0 where
   pub number : new.number ≡ old.number
   pub longer : IsPrefix old.past new.past
 
--- The call was answered: one record more, at a time that may come next, and the due and the open snapshot as it leaves them
+-- The call was answered: one record more, at a time that may come next, and the due and the open
+-- snapshot as it leaves them
 pub record Answers (old new : SeatState) (t : ℕ) (deed : Deed) : Type 0 where
   pub same : IsSameSeat old new
   pub next : IsNext old.due old.snapshot t deed
@@ -111,7 +115,8 @@ pub record IsWrittenFrom (slots : List Slot) (key from : ℕ) : Type 0 where
   pub written : Option (List ℕ)
   pub stands : slice_index_or slots time Nothing ≡ Wrote seat key written
 
--- the call gave up no time, unless a write of the key stands at or above the due that the seat had before
+-- the call gave up no time, unless a write of the key stands at or above the due that the seat had
+-- before
 abbrev pub GivesUpForWrites : SeatState → SeatState → ℕ → Type 0
 GivesUpForWrites old new key = (new.tally.gave_up ≡ old.tally.gave_up) ⊎ IsWrittenFrom new.past key old.due
 

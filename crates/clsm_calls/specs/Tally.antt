@@ -5,8 +5,9 @@ use Rattle.clsm_words.specs.declared.known.Known.{Known}
 use Rattle.clsm_calls.specs.declared.refusal.TryPutError.{TryPutError}
 use Rattle.clsm_calls.specs.declared.refusal.TryPutError.TheVariants.{Full, Busy, Raced, Overtaken}
 
--- Each modulo 2^64: its entries into the lock; the tries that it lost there, at draws and links, and to readers that overtook it; the times
--- of its own that it gave up, and those of others that it cancelled. And the limit and the clock that it looked at in its last hold of the lock
+-- Each modulo 2^64: its entries into the lock; the tries that it lost there, at draws and links,
+-- and to readers that overtook it; the times of its own that it gave up, and those of others that
+-- it cancelled. And the limit and the clock that it looked at in its last hold of the lock
 pub record Tally : Type 0 where
   pub entries : ℕ
   pub busy : ℕ
@@ -49,7 +50,8 @@ pub record CancelsNone (old new : Tally) : Type 0 where
 abbrev pub looked : Tally → Tally → Tally
 looked old new = record old { limit = new.limit; clock = new.clock }
 
--- it lost a race, and gave up its time where it had drawn one, unless a reader had cancelled that first
+-- it lost a race, and gave up its time where it had drawn one, unless a reader had cancelled that
+-- first
 pub record IsRaced (old new : Tally) : Type 0 where
   pub counts : new ≡ record old { raced = next_word old.raced; overtaken = new.overtaken; gave_up = new.gave_up; limit = new.limit; clock = new.clock }
   pub once : (new.gave_up ≡ old.gave_up) ⊎ (new.gave_up ≡ next_word old.gave_up)
@@ -62,7 +64,8 @@ CountsInHold old new (Err Busy) = ⊥
 CountsInHold old new (Err Raced) = IsRaced old new
 CountsInHold old new (Err Overtaken) = new ≡ record (looked old new) { overtaken = next_word old.overtaken }
 
--- what a try counts: with `Busy` that alone, else the one time that it entered the lock, and what came of it there
+-- what a try counts: with `Busy` that alone, else the one time that it entered the lock, and what
+-- came of it there
 abbrev pub CountsTry : Tally → Tally → Result ℕ TryPutError → Type 0
 CountsTry old new (Err Busy) = new ≡ record old { busy = next_word old.busy }
 CountsTry old new answer = CountsInHold (record old { entries = next_word old.entries }) new answer

@@ -10,8 +10,9 @@ abbrev pub Fails : Known → Known → TryPutError → Type 0
 Fails old new (Full t) = FindsFull old new t
 Fails old new _ = Still old new
 
--- The call was refused, for this reason: the clock at its limit; an exclusive holder of the lock, or another seat that entered or left between
--- the look and the exchange; another seat that drew the time or linked its cell first; a reader that cancelled the time
+-- The call was refused, for this reason: the clock at its limit; an exclusive holder of the lock,
+-- or another seat that entered or left between the look and the exchange; another seat that drew
+-- the time or linked its cell first; a reader that cancelled the time
 abbrev pub RefusesTry : SeatState → SeatState → TryPutError → Type 0
 RefusesTry old new (Full t) = IsFull old new t
 RefusesTry old new _ = Refuses old new

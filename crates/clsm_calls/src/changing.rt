@@ -1,4 +1,5 @@
-//! Read-modify-writes at the words: a read in a hold of the lock, and a write at a later time if no write of the key came between.
+//! Read-modify-writes at the words: a read in a hold of the lock, and a write at a later time if no
+//! write of the key came between.
 ghost use Rattle.std.specs.Prelude.{◌≡◌, ◌≢◌, ◌*◌, ◌≤◌, false, true, None, Some, length, IfOk, IfErr};
 ghost use Rattle.clsm_model.specs.declared.slot.Slot.TheVariants.{Wrote};
 ghost use Rattle.clsm_model.specs.History.{plain, value};
@@ -240,7 +241,8 @@ fn change_pinned<P: Pace, R: Wait, F: Fn(Option<Value>) -> Change>(
     unreachable!()
 }
 
-/// How the read under a read-modify-write ends: with its record where the key was kept, else with none, since its write has it.
+/// How the read under a read-modify-write ends: with its record where the key was kept, else with
+/// none, since its write has it.
 fn read_end(key: u64, answer: &Result<Rmw, Full>) -> End
     ensures { result ≡ read_end key answer.now }
 {

@@ -27,8 +27,10 @@ fn least(a: Option<Time>, b: Option<Time>) -> Option<Time>
     }
 }
 
-/// Looks at each snapshot word in the order of the seats, and answers the floor that the merger takes from them: never below the floor before, and
-/// else at most the end of the frozen epoch and each time that a snapshot noted (as in LevelDB, where the oldest snapshot says what may be dropped).
+/// Looks at each snapshot word in the order of the seats, and answers the floor that the merger
+/// takes from them: never below the floor before, and else at most the end of the frozen epoch and
+/// each time that a snapshot noted (as in LevelDB, where the oldest snapshot says what may be
+/// dropped).
 pub(crate) fn take_floor<P: Pace>(
     words: &Words<P>,
     merger: &mut RawMerger,

@@ -11,7 +11,8 @@ use clsm_lock::{lock_exclusive, unlock_exclusive};
 use clsm_words::{Pace, RawMerger, Words};
 use std::sync::Wait;
 
-/// Cancels the cells of the undrawn times of the epoch that ends at `end`, in the merger's hold of the lock.
+/// Cancels the cells of the undrawn times of the epoch that ends at `end`, in the merger's hold of
+/// the lock.
 fn pad<P: Pace>(words: &Words<P>, merger: &mut RawMerger, merges: u64, end: u64)
     requires of { IsSeatOf words.now merger.old }
     requires held { (merger.old.knows.merger.exclusive ≡ true) × (merger.old.knows.merger.merged ≡ merges) }

@@ -23,8 +23,8 @@ impl Got {
     }
 }
 
-/// The answer of a read-modify-write: the value of the key below its time, and what was made of it. With `Keep` its time is that of a read,
-/// else that of its write.
+/// The answer of a read-modify-write: the value of the key below its time, and what was made of it.
+/// With `Keep` its time is that of a read, else that of its write.
 #[derive(Clone, Copy, PartialEq, Eq, Debug)]
 pub struct Rmw {
     pub time: Time,
@@ -47,8 +47,8 @@ impl Rmw {
     }
 }
 
-/// The answer of a scan: its time, and all pairs of the map of the writes below it whose keys are in
-/// the range, by rising key.
+/// The answer of a scan: its time, and all pairs of the map of the writes below it whose keys are
+/// in the range, by rising key.
 #[derive(PartialEq, Eq, Debug, Drop)]
 pub struct Scan {
     pub time: Time,

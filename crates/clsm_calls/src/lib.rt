@@ -1,5 +1,5 @@
-//! The calls at the words: what a seat or the merger does between two rests. The store binds them to
-//! its seats and tokens; nobody else calls them.
+//! The calls at the words: what a seat or the merger does between two rests. The store binds them
+//! to its seats and tokens; nobody else calls them.
 #![tactic(auto)]
 
 mod changing;

@@ -14,7 +14,8 @@ pub struct MergerSeat {
     pub merges: u64,
     /// The floor that the last merge took.
     pub floor: Time,
-    /// The row in which a merge sorts the writes of an epoch: empty between merges, with room for an epoch.
+    /// The row in which a merge sorts the writes of an epoch: empty between merges, with room for
+    /// an epoch.
     pub row: Vec<Entry>,
     /// What was noted of each seat since the last merge.
     pub seen: Vec<Reader>,

@@ -24,7 +24,8 @@ fn sort(row: &mut Vec<Entry>)
     sort_writes(row);
 }
 
-/// Takes the floor of the merge, and gathers the writes of the frozen epoch in the merger's row, sorted.
+/// Takes the floor of the merge, and gathers the writes of the frozen epoch in the merger's row,
+/// sorted.
 fn prepare<P: Pace>(words: &Words<P>, merger: &mut MergerSeat)
     requires of { IsSeatOf words.now merger.old.raw }
     requires frozen { IsFrozen merger.old.raw.knows merger.old.merges }
@@ -55,8 +56,8 @@ fn forget(seen: &mut Vec<Reader>)
     });
 }
 
-/// Merges the frozen epoch into a run that readers search from then on. Refused, where the merge would keep more than the run has room for, with the
-/// epoch frozen as before.
+/// Merges the frozen epoch into a run that readers search from then on. Refused, where the merge
+/// would keep more than the run has room for, with the epoch frozen as before.
 pub fn merge<P: Pace>(words: &Words<P>, merger: &mut MergerSeat) -> Result<(), RunFull>
     requires of { IsSeatOf words.now merger.old.raw }
     requires frozen { IsFrozen merger.old.raw.knows merger.old.merges }

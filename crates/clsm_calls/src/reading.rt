@@ -1,4 +1,5 @@
-//! Reads at the words: a pin, a look at the clock, all below it settled, a search, and the unpin with the record.
+//! Reads at the words: a pin, a look at the clock, all below it settled, a search, and the unpin
+//! with the record.
 ghost use Rattle.std.specs.Prelude.{◌≡◌, ◌*◌, ◌+◌, ◌≤◌, None, Some, length};
 ghost use Rattle.clsm_model.specs.History.{plain, value};
 ghost use Rattle.clsm_model.specs.declared.record.Deed.TheVariants.{Get};
@@ -17,8 +18,9 @@ use clsm_pins::{pin, unpin};
 use clsm_runs::search;
 use clsm_words::{Pace, RawSeat, Words};
 
-/// The value of the key below the time: by the chains of the component's epochs, and else by its runs. The time is not below what
-/// is merged into the component, or it is that of the seat's open snapshot.
+/// The value of the key below the time: by the chains of the component's epochs, and else by its
+/// runs. The time is not below what is merged into the component, or it is that of the seat's open
+/// snapshot.
 pub(crate) fn value_below<P: Pace>(
     words: &Words<P>,
     seat: &mut RawSeat,

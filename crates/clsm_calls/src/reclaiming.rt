@@ -1,4 +1,5 @@
-//! The reclaim of a retired component: it is given up when no reader has it, and its region cleaned for the epoch after the next.
+//! The reclaim of a retired component: it is given up when no reader has it, and its region cleaned
+//! for the epoch after the next.
 ghost use Rattle.std.specs.Prelude.{◌≡◌, ◌+◌, ◌*◌, ◌%◌, ◌<◌, ◌≤◌, true, false, length, IfErr, OnOk};
 ghost use Rattle.clsm_law.specs.declared.merger.Phase.TheVariants.{Clean};
 ghost use Rattle.clsm_law.specs.Merging.{is_all_quiet, is_retired, retired_region};
@@ -10,7 +11,8 @@ use clsm_law::{Reader, Word};
 use clsm_pins::quiet;
 use clsm_words::{Pace, RawMerger, Words};
 
-/// Looks at each seat that was not found quiet yet, in the order of their numbers. Refused with the first that is not quiet now.
+/// Looks at each seat that was not found quiet yet, in the order of their numbers. Refused with the
+/// first that is not quiet now.
 fn find_all_quiet<P: Pace>(
     words: &Words<P>,
     merger: &mut RawMerger,
@@ -65,7 +67,8 @@ fn last_written<P: Pace>(words: &Words<P>, merger: &mut RawMerger, first: u64, e
     first
 }
 
-/// Empties the cells of the region up to the last one that is not empty: with it the region is clean.
+/// Empties the cells of the region up to the last one that is not empty: with it the region is
+/// clean.
 fn clear_states<P: Pace>(words: &Words<P>, merger: &mut RawMerger, first: u64, end: u64, last: u64)
     requires of { IsSeatOf words.now merger.old }
     requires cleaning { IsCleaning merger.old.knows first end }
@@ -79,7 +82,8 @@ fn clear_states<P: Pace>(words: &Words<P>, merger: &mut RawMerger, first: u64, e
     words.clear_state(merger, last);
 }
 
-/// Gives the retired component up and cleans its region, if no seat holds anything of it. Refused with the lowest seat that may.
+/// Gives the retired component up and cleans its region, if no seat holds anything of it. Refused
+/// with the lowest seat that may.
 pub fn reclaim<P: Pace>(
     words: &Words<P>,
     merger: &mut RawMerger,

@@ -2,8 +2,8 @@
 use clsm_model::Time;
 use thiserror::Error;
 
-/// The refusal of a write, number 1: while the seat held the lock, the clock stood at its limit, which is this time. There is no time
-/// for a write before the next freeze.
+/// The refusal of a write, number 1: while the seat held the lock, the clock stood at its limit,
+/// which is this time. There is no time for a write before the next freeze.
 #[derive(Clone, Copy, PartialEq, Eq, Debug, Error)]
 #[error("full @{time}")]
 pub struct Full {
@@ -22,7 +22,8 @@ pub struct Open {
 #[error("worn")]
 pub struct Worn;
 
-/// The refusal of a reclaim, number 1: the pin word of the seat with this number was found to keep the retired component.
+/// The refusal of a reclaim, number 1: the pin word of the seat with this number was found to keep
+/// the retired component.
 #[derive(Clone, Copy, PartialEq, Eq, Debug, Error)]
 #[error("pinned {0}")]
 pub struct Pinned(pub u32);
@@ -33,10 +34,12 @@ pub enum TryPutError {
     /// Number 1: as `Full`.
     #[error("full @{time}")]
     Full { time: Time },
-    /// Number 2: the lock was held exclusively, or another seat entered or left it between the look and the exchange.
+    /// Number 2: the lock was held exclusively, or another seat entered or left it between the look
+    /// and the exchange.
     #[error("busy")]
     Busy,
-    /// Number 3: another seat drew the time first, or linked a cell in the same chain between the look and the exchange.
+    /// Number 3: another seat drew the time first, or linked a cell in the same chain between the
+    /// look and the exchange.
     #[error("raced")]
     Raced,
     /// Number 4: a reader cancelled the drawn time.

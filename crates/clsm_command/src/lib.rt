@@ -128,8 +128,8 @@ fn sizes(options: &AuditOptions) -> Config {
     }
 }
 
-/// Writes why words were refused to the faults, or the help that they ask for to the output. Answers
-/// the exit status, as `command` does.
+/// Writes why words were refused to the faults, or the help that they ask for to the output.
+/// Answers the exit status, as `command` does.
 pub fn refuse<W: Write + Drop, E: Write + Drop>(
     refusal: Refusal,
     mut output: W,

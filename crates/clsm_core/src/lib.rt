@@ -1,4 +1,5 @@
-//! The pure machine: all words and all views as plain data, each atomic step one event, and one law that every step keeps.
+//! The pure machine: all words and all views as plain data, each atomic step one event, and one law
+//! that every step keeps.
 #![tactic(auto)]
 
 mod machine;

@@ -1,4 +1,5 @@
--- What an open step of a seat never takes back: decided slots stay, the history grows, and the pasts with it.
+-- What an open step of a seat never takes back: decided slots stay, the history grows, and the
+-- pasts with it.
 use Rattle.std.proofs.Common.{◌≡◌, ℕ, ◌+◌, ◌<◌, ◌≤◌, cond, [], ◌∷◌, ◌++◌, length, set, refl, ◌∙◌, arith, ⊎_elim, Option, Some, None, length-set, length-append}
 use Rattle.clsm_model.specs.declared.slot.Slot.{Slot}
 use Rattle.clsm_model.specs.declared.slot.Slot.TheVariants.{Nothing}

@@ -1,4 +1,5 @@
--- What a history says below a time depends on its slots below that time; so what is right in a past stays right in each past that goes on from it.
+-- What a history says below a time depends on its slots below that time; so what is right in a past
+-- stays right in each past that goes on from it.
 use Rattle.std.proofs.Common.{◌≡◌, ◌≢◌, ℕ, zero, suc, ◌<◌, ◌≤◌, min, List, [], ◌∷◌, length, take, sym, refl, ap, ◌∙◌, subst, arith, add-one, Option, Some, None}
 use Rattle.std.specs.List.{AllByRecursion}
 use Rattle.std.specs.Option.{unwrap_or}
@@ -57,7 +58,8 @@ Reads-same h h' s Close same r = tt
 
 -- ---- a history that goes on
 
--- h' goes on from h: it has no batch, is as long or longer, and has the same slots below the end of h
+-- h' goes on from h: it has no batch, is as long or longer, and has the same slots below the end of
+-- h
 pub record GoesOn (h h' : History) : Type 0 where
   pub plain : h'.batches ≡ []
   pub longer : end_of h ≤ end_of h'

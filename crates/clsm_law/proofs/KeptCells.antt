@@ -1,4 +1,5 @@
--- How the clauses on cells are kept: the cell of a shown time shows what the time came to, and the cell of an undrawn time is empty.
+-- How the clauses on cells are kept: the cell of a shown time shows what the time came to, and the
+-- cell of an undrawn time is empty.
 use Rattle.std.proofs.Common.{◌≡◌, ◌≢◌, ℕ, zero, suc, ◌+◌, ◌-◌, ◌*◌, ◌%◌, ◌<◌, ◌≤◌, ◌==◌, ◌⊎◌, ◌&&◌, ◌||◌, not, Bool, true, false, cond, List, [], ◌∷◌, ◌++◌, length, take, set, get_or, sym, refl, ap, ◌∙◌, subst, arith, inl, inr, ⊎_elim, Option, Some, None, length-set, length-append}
 use Rattle.std.specs.Prelude.{replicate, slice_index}
 use mathlib.Core.Logic.{dite}

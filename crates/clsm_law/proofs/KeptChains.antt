@@ -108,7 +108,8 @@ standing_kept s (Cancel t) o = by_test (λ b. AreStanding s.z (first_shown s.z s
 standing_kept s step o = λ t i key written le e. stays_in s step _ _ t (s.law.standing t i key written le e)
 
 -- ---- a drawn time stands in a chain, its own, just where it is linked
--- what is drawn, the key and whether it is linked are as they were after a look; after a Fill, two of them
+-- what is drawn, the key and whether it is linked are as they were after a look; after a Fill, two
+-- of them
 looked_as : (z : Layout) (y : View) (c : Word) (n : ℕ) (P : Option ℕ → Option ℕ → Bool → Type 0) → P y.drawn y.key y.linked → P (looked z y c n).drawn (looked z y c n).key (looked z y c n).linked
 looked_as z y Lock n P h = h
 looked_as z y c n P h = h

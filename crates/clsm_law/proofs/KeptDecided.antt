@@ -1,4 +1,5 @@
--- How the clauses on decided times are kept: times below FRONT, below the merges, and below what a seat reached and RaiseFront told.
+-- How the clauses on decided times are kept: times below FRONT, below the merges, and below what a
+-- seat reached and RaiseFront told.
 use Rattle.std.proofs.Common.{◌≡◌, ◌≢◌, ℕ, ◌+◌, ◌*◌, ◌<◌, ◌≤◌, ◌==◌, ◌&&◌, not, nat_lt, nat_le, true, cond, List, length, set, max, sym, refl, ap, ◌∙◌, subst, arith, inl, inr, Option, Some, None}
 use Rattle.std.proofs.lemmas.Bool.{cases_lt, and_parts, ltb-true, leb-true, eqb-true, eqb-false, not-true}
 use Rattle.clsm_model.specs.declared.slot.Slot.{Slot}
@@ -69,7 +70,8 @@ looked_merged z m (Snap i) y = refl
 looked_merged z m (PinOf i) y = refl
 looked_merged z m word y = refl
 
--- the epoch that a merge takes up is decided: a time of it that is not would be drawn, and drawn times are of the epoch behind
+-- the epoch that a merge takes up is decided: a time of it that is not would be drawn, and drawn
+-- times are of the epoch behind
 pub frozen_decided : (g : Ground) → is_frozen g.merger.phase ≡ true → IsDecidedBelow (outcome_at g.slots) ((g.merger.merged + 1) * g.z.cells)
 frozen_decided g frozen t lt none =
     let limit : g.memory Limit ≡ (g.merger.merged + 2) * g.z.cells = g.law.limit ∙ rw frozen refl in

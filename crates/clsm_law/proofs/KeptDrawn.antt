@@ -1,4 +1,5 @@
--- How the clauses on drawn times are kept: who drew a time holds the lock, the time is of the current epoch, it is one seat's, and the filled parts are in its cell.
+-- How the clauses on drawn times are kept: who drew a time holds the lock, the time is of the
+-- current epoch, it is one seat's, and the filled parts are in its cell.
 use Rattle.std.proofs.Common.{◌≡◌, ◌≢◌, ℕ, zero, suc, ◌+◌, ◌<◌, ◌≤◌, ◌==◌, ◌⊎◌, not, Bool, true, false, cond, List, [], ◌∷◌, ◌++◌, length, set, get_or, sym, refl, ap, ◌∙◌, subst, arith, inl, inr, ⊎_elim, Option, Some, None, length-set, length-append, get_or-set_other}
 use mathlib.Core.Logic.{dite}
 use native.Mathlib.Decide.{ℕ_discrete}

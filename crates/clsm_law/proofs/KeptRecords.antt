@@ -1,4 +1,5 @@
--- How the clauses of the seats' records are kept: they are right in the seat's past, their writes stand, each write is recorded, and the dues.
+-- How the clauses of the seats' records are kept: they are right in the seat's past, their writes
+-- stand, each write is recorded, and the dues.
 use Rattle.std.proofs.Common.{◌≡◌, ◌≢◌, ℕ, zero, suc, ◌+◌, ◌-◌, ◌<◌, ◌≤◌, ◌==◌, ◌⊎◌, Bool, cond, List, [], ◌∷◌, ◌++◌, length, set, sym, refl, ap, ◌∙◌, subst, arith, inl, inr, ⊎_elim, Option, Some, None}
 use Rattle.std.specs.Prelude.{replicate}
 use Rattle.std.specs.List.{AllByRecursion}

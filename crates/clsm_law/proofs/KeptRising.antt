@@ -1,4 +1,5 @@
--- How the clause of rising times is kept: each seat's calls rise to its due, and leave its snapshot open or closed.
+-- How the clause of rising times is kept: each seat's calls rise to its due, and leave its snapshot
+-- open or closed.
 use Rattle.std.proofs.Common.{◌≡◌, ℕ, ◌+◌, ◌≤◌, false, cond, List, [], ◌∷◌, ◌++◌, sym, refl, ap, ◌∙◌, subst, arith, Option, Some, None}
 use Rattle.std.specs.Prelude.{is_some}
 use Rattle.std.proofs.lemmas.List.{append-nil}
@@ -40,7 +41,8 @@ pub last_open-append : (snapshot : Option ℕ) (cs : List CallRecord) (r : CallR
 last_open-append snapshot [] r = refl
 last_open-append snapshot (c ∷ cs) r = last_open-append (open_after snapshot c.time c.deed) cs r
 
--- the record comes next after calls with a due of at most this, and leaves this due and this snapshot
+-- the record comes next after calls with a due of at most this, and leaves this due and this
+-- snapshot
 pub record Follows (due : ℕ) (snapshot : Option ℕ) (r : CallRecord) (due' : ℕ) (snapshot' : Option ℕ) : Type 0 where
   pub next : (d : ℕ) → d ≤ due → IsNext d snapshot r.time r.deed
   pub within : (d : ℕ) → d ≤ due → due_after d snapshot r.time r.deed ≤ due'

@@ -1,9 +1,12 @@
--- The row as a memory: a read finds what stands at the word's place, and a write there puts into that word alone.
+-- The row as a memory: a read finds what stands at the word's place, and a write there puts into
+-- that word alone.
 --   memory-at    : is_word z w ≡ true → memory z words w ≡ slice_index words (index_of z w)
---   memory-set   : is_word z w ≡ true → length words ≡ size_of z → memory z (slice_set words (index_of z w) x) ≡ put (memory z words) w x
+--   memory-set   : is_word z w ≡ true → length words ≡ size_of z →
+--                  memory z (slice_set words (index_of z w) x) ≡ put (memory z words) w x
 --   memory-zeros : memory z (replicate n 0) ≡ λ w. 0
 --   is_layout    : (z : Layout) → IsLayout z
--- The lemmas below them: index_inside and index_apart (LayoutIndex), is_same-refl and same_word (LayoutWords).
+-- The lemmas below them: index_inside and index_apart (LayoutIndex), is_same-refl and same_word
+-- (LayoutWords).
 use Rattle.std.proofs.Common.{◌≡◌, ℕ, true, false, cond, List, length, get_or, inl, inr, ap, sym, ◌∙◌, arith, replicate, slice_index, slice_set}
 use Rattle.std.proofs.lemmas.Bool.{cases_lt, cases_Bool, true≢false}
 use Rattle.std.proofs.lemmas.List.{get_or_past, get_or-replicate, get_or-set_other, get_or-set_same, length-replicate}

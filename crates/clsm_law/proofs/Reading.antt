@@ -155,7 +155,8 @@ component_read g component floor key s live shown runs below from until =
 newest_live : (g : Ground) → first_epoch g ≤ g.merger.merged
 newest_live g = elim (is_retired g.merger.phase) as (λ b. cond b (g.merger.merged - 1) g.merger.merged ≤ g.merger.merged) [ true ↦ omega arith | false ↦ omega arith ]
 
--- In a lawful world a search of the component finds the history's value, at each time from the floor to the clock.
+-- In a lawful world a search of the component finds the history's value, at each time from the
+-- floor to the clock.
 pub read_right : (g : Ground) (component floor key s : ℕ) → AnswersFrom g.merger component floor → floor ≤ s → s ≤ length g.slots
     → read g.z g.memory component key s ≡ value (history_of g.slots) key s
 read_right g component floor key s (inl newest) from until =

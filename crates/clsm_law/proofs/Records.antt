@@ -1,4 +1,5 @@
--- A seat's records by themselves: one record more, what a read's end adds, and how far the due moves.
+-- A seat's records by themselves: one record more, what a read's end adds, and how far the due
+-- moves.
 use Rattle.std.proofs.Common.{◌≡◌, ◌≢◌, ℕ, ◌<◌, ◌≤◌, true, false, cond, List, [], ◌∷◌, ◌++◌, length, set, sym, refl, subst, arith, inl, inr, Option, Some, None, get_or-set_other, get_or-set_same}
 use Rattle.std.specs.List.{AllByRecursion}
 use Rattle.clsm_model.specs.declared.slot.Slot.{Slot}
@@ -21,7 +22,7 @@ use Rattle.clsm_model.specs.Seats.{IsRightDeed, IsRightRecord, StandsAs, IsStand
 use Rattle.clsm_law.proofs.Frames.{at_each}
 use Rattle.clsm_law.proofs.Histories.{GoesOn, IsRightDeed-right, IsRight-goes_on}
 
--- ---- a fact of each seat's view, from the one of the seat that made the step and those of the others
+-- ---- a fact of each seat's view, from that of the seat that made the step and of the others
 pub at_views : (z : Layout) (views : List View) (me : ℕ) (w : View) → me < length views → (P : ℕ → View → Type 0) → P me w → ((i : ℕ) → i ≢ me → P i (view_at z views i)) → (i : ℕ) → P i (view_at z (set views me w) i)
 at_views z views me w lt P here other = at_each (λ i. P i (view_at z (set views me w) i)) me
     (subst (P me) (sym (get_or-set_same views me w (idle z) lt)) here)

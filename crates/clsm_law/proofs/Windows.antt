@@ -25,7 +25,8 @@ pub none_quiet : (seats : ℕ) → 1 ≤ seats → is_all_quiet (replicate seats
 none_quiet zero some = absurd (omega arith)
 none_quiet (suc n) some = refl
 
--- the first shown time by the phase and by whether all are quiet, and the first live time by the phase
+-- the first shown time by the phase and by whether all are quiet, and the first live time by the
+-- phase
 module _ (n merged : ℕ) where
   abbrev shown : Phase → Bool → ℕ
   shown p quiet = cond (is_retired p && not quiet) ((merged - 1) * n) (merged * n)

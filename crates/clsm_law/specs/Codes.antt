@@ -9,7 +9,8 @@ exclusive_hold = 4294967296
 abbrev pub last_limit : ℕ
 last_limit = 2 ^ 62
 
--- the states of a cell: nothing was decided of its time, it was cancelled, or it wrote a value or a removal
+-- the states of a cell: nothing was decided of its time, it was cancelled, or it wrote a value or a
+-- removal
 abbrev pub undecided_cell : ℕ
 undecided_cell = 0
 

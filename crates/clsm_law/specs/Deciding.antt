@@ -1,5 +1,5 @@
--- What the executable merger relies on, and how it decides whether what is written is what is wanted: the sources of a merge by their
--- numbers, which it goes through without taking memory.
+-- What the executable merger relies on, and how it decides whether what is written is what is
+-- wanted: the sources of a merge by their numbers, which it goes through without taking memory.
 use Rattle.std.specs.Prelude.{◌≡◌, ℕ, ◌+◌, ◌-◌, ◌*◌, ◌^◌, ◌<◌, ◌≤◌, true, cond, nat_lt, List, [], ◌∷◌, length, Option, Some, None}
 use Rattle.std.specs.List.{Contains}
 use Rattle.clsm_model.specs.declared.slot.Slot.{Slot}
@@ -66,7 +66,8 @@ searched_entry memory component [] number = None
 searched_entry memory component (p ∷ ps) number =
     cond (nat_lt number (searched_count memory component p)) (Some (entry_in memory p number)) (searched_entry memory component ps (number - searched_count memory component p))
 
--- the numbers of the sources: those of the times of the epoch, and behind them those of the entries of all runs, where these are merged
+-- the numbers of the sources: those of the times of the epoch, and behind them those of the entries
+-- of all runs, where these are merged
 unfoldable pub source_count : Layout → List ℕ → MergerView → ℕ
 source_count z words m = z.cells + cond (is_to_level_one m.merged) (searched_total (memory z words) m.merged search_order) 0
 
@@ -90,7 +91,8 @@ written_of z words m = entries_in (memory z words) (target_of m)
 unfoldable pub wanted_of : Layout → List ℕ → MergerView → List (Option Slot) → List Entry
 wanted_of z words m slots = wanted m.merged m.floor (epoch_of z slots m.merged) (runs_of (memory z words) m.merged)
 
--- the other does not hide the entry below the floor: it is of another key, or not below the floor, or no newer
+-- the other does not hide the entry below the floor: it is of another key, or not below the floor,
+-- or no newer
 abbrev pub IsPassedBy : ℕ → Entry → Entry → Type 0
 IsPassedBy floor e other = other.key ≡ e.key → other.time < floor → other.time ≤ e.time
 

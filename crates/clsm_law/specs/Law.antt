@@ -1,4 +1,5 @@
--- The law of a world: what every open step keeps. Each clause is stated over the few functions that it names.
+-- The law of a world: what every open step keeps. Each clause is stated over the few functions that
+-- it names.
 use Rattle.std.specs.Prelude.{◌≡◌, ◌≢◌, ℕ, ◌+◌, ◌-◌, ◌*◌, ◌%◌, ◌^◌, ◌<◌, ◌≤◌, ◌&&◌, ◌||◌, ◌⊎◌, Bool, true, false, not, cond, List, [], ◌∷◌, length, slice_index, slice_index_or, Option, Some, None}
 use Rattle.std.specs.List.{AllByRecursion, sum_by}
 use Rattle.clsm_model.specs.declared.slot.Slot.{Slot}
@@ -123,7 +124,8 @@ first_shown z m = cond (is_held_back m) ((m.merged - 1) * z.cells) (m.merged * z
 abbrev pub first_live : Layout → MergerView → ℕ
 first_live z m = cond (is_retired m.phase) ((m.merged - 1) * z.cells) (m.merged * z.cells)
 
--- the first time that may not be drawn: the end of the epoch that is written, which is the next one as soon as a freeze moved the limit
+-- the first time that may not be drawn: the end of the epoch that is written, which is the next one
+-- as soon as a freeze moved the limit
 abbrev pub first_free : Layout → MergerView → ℕ
 first_free z m = cond (is_frozen m.phase || m.limit_extended) ((m.merged + 2) * z.cells) ((m.merged + 1) * z.cells)
 
@@ -311,7 +313,8 @@ pub record AreFloors (z : Layout) (m : MergerView) : Type 0 where
   pub below_merged : m.merged_floor ≤ m.merged * z.cells
   pub below_former : m.former_floor ≤ (m.merged - 1) * z.cells
 
--- what the readers of a component search is exact from its floor on, and fits its places, and no word there says more than its entries
+-- what the readers of a component search is exact from its floor on, and fits its places, and no
+-- word there says more than its entries
 pub record AreRuns (z : Layout) (memory : Memory) (h : History) (component floor : ℕ) : Type 0 where
   pub content : IsContent h (runs_of memory component) floor (component * z.cells)
   pub within : AreWithin z.cells component (held_at memory)
@@ -357,7 +360,8 @@ AreDuesBelowOwn drawn slot due = (i t : ℕ) → drawn i ≡ Some t → slot t �
 
 -- ---- the law
 
--- the law of a world with these words, views, merger and slots, and with these chains of times: one field a clause
+-- the law of a world with these words, views, merger and slots, and with these chains of times: one
+-- field a clause
 pub record LawOf (z : Layout) (memory : Memory) (views : List View) (m : MergerView) (slots : List (Option Slot)) (chains : Chains) : Type 0 where
   -- the lock
   pub seated : length views ≡ z.seats

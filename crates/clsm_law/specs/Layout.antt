@@ -41,9 +41,10 @@ entry_words = 11
 abbrev pub place_size : Layout → ℕ → ℕ
 place_size z p = 1 + entry_words * room_of z p
 
--- the row is made of blocks, one behind the other, and these are their lengths: of LOCK, CLOCK, LIMIT, FRONT
--- and MERGED, of the pins, of the snapshots, of the cells, of the heads, and of the five places. The heads stand
--- behind the cells, since their number could push the cells off their lines
+-- the row is made of blocks, one behind the other, and these are their lengths: of LOCK, CLOCK,
+-- LIMIT, FRONT and MERGED, of the pins, of the snapshots, of the cells, of the heads, and of the
+-- five places. The heads stand behind the cells, since their number could push the cells off their
+-- lines
 abbrev pub blocks : Layout → List ℕ
 blocks z =
     spacing ∷ spacing ∷ spacing ∷ spacing ∷ spacing ∷ (spacing * z.seats) ∷ (spacing * z.seats) ∷ (cell_words * (2 * z.cells)) ∷ (2 * z.chains) ∷ (place_size z 0) ∷ (place_size z 1) ∷ (place_size z 2) ∷ (place_size z 3) ∷ (place_size z 4) ∷ []
@@ -63,14 +64,16 @@ block_of (Head region chain) = 8
 block_of (Count p) = 9 + p
 block_of (Entry p e i) = 9 + p
 
--- where a part stands in its cell: what a walk reads and the length in the first line, of which four words are free, and the value in the second
+-- where a part stands in its cell: what a walk reads and the length in the first line, of which
+-- four words are free, and the value in the second
 abbrev pub part_offset : Part → ℕ
 part_offset Key = 1
 part_offset Next = 2
 part_offset Length = 7
 part_offset (Value j) = 8 + j
 
--- where a word of an entry stands behind its place's count: the keys of all entries side by side, and then the other words of each
+-- where a word of an entry stands behind its place's count: the keys of all entries side by side,
+-- and then the other words of each
 abbrev pub entry_offset : ℕ → ℕ → ℕ → ℕ
 entry_offset room e i = cond (i == 0) e (room + ((entry_words - 1) * e + (i - 1)))
 

@@ -1,4 +1,5 @@
--- The steps of the merger, by cases in the order of the step's members. Beside its view, a step of the merger knows some facts of the world.
+-- The steps of the merger, by cases in the order of the step's members. Beside its view, a step of
+-- the merger knows some facts of the world.
 use Rattle.std.specs.Prelude.{◌≡◌, ℕ, ◌+◌, ◌-◌, ◌*◌, ◌%◌, ◌^◌, ◌<◌, ◌≤◌, ◌==◌, ◌&&◌, ◌||◌, Bool, true, false, not, cond, max, min, List, [], ◌++◌, length, replicate, slice_index_or, slice_set, Option, Some, None}
 use Rattle.std.specs.List.{list_all}
 use prog.Atomic.{either}
@@ -129,9 +130,11 @@ IsOpenToMerger z f m (WriteRun word x) = (is_frozen m.phase ≡ true) × IsRunWo
 IsOpenToMerger z f m (ClearHead region chain) = (is_retired m.phase ≡ true) × (is_all_quiet m.readers ≡ true) × (region ≡ retired_region m) × (chain < z.chains)
 -- the same; the cell is one of its region, whose heads are all 0
 IsOpenToMerger z f m (ClearState cell) = (is_retired m.phase ≡ true) × (is_all_quiet m.readers ≡ true) × (cell < 2 * z.cells) × (region_of z cell ≡ retired_region m) × (f.headless ≡ true)
--- an epoch is frozen, and its run is written: the entries that are wanted, within the room of the place, and no word that says more
+-- an epoch is frozen, and its run is written: the entries that are wanted, within the room of the
+-- place, and no word that says more
 IsOpenToMerger z f m Publish = (is_frozen m.phase ≡ true) × (f.count ≤ room_of z (target_of m)) × (f.written ≡ f.wanted) × (f.canonical ≡ true)
--- it holds the lock, the undrawn cells of the epoch are cancelled, and the next epoch ends at the last limit at most
+-- it holds the lock, the undrawn cells of the epoch are cancelled, and the next epoch ends at the
+-- last limit at most
 IsOpenToMerger z f m ExtendClock = (m.exclusive ≡ true) × (f.padded ≡ true) × ((m.merged + 2) * z.cells ≤ last_limit)
 -- it holds the lock, and has moved the clock in this hold; the bound is the same
 IsOpenToMerger z f m ExtendLimit = (m.exclusive ≡ true) × (m.clock_extended ≡ true) × ((m.merged + 2) * z.cells ≤ last_limit)
@@ -197,7 +200,8 @@ least (Some a) (Some b) = Some (min a b)
 abbrev pub noted_time : ℕ → Option ℕ
 noted_time x = cond (x == 0) None (Some (x - 1))
 
--- a look at the snapshot word of the seat i: it goes on with the round where the seat is next, and else breaks it off
+-- a look at the snapshot word of the seat i: it goes on with the round where the seat is next, and
+-- else breaks it off
 abbrev pub round_on : Option Round → ℕ → ℕ → Option Round
 round_on None i x = None
 round_on (Some r) i x = cond (r.next == i) (Some (record { next = i + 1; least = least r.least (noted_time x) })) None
@@ -225,8 +229,8 @@ least_or bound (Some r) = lesser bound r.least
 abbrev pub round_end : ℕ → Option Round → Option Round
 round_end seats round = cond (is_whole seats round) None round
 
--- the floor after a look: a round that passed all seats takes it up to the least time noted, or to the end of the epoch where that is less;
--- it never falls
+-- the floor after a look: a round that passed all seats takes it up to the least time noted, or to
+-- the end of the epoch where that is less; it never falls
 abbrev pub floor_by : Layout → MergerView → Option Round → ℕ
 floor_by z m round = cond (is_whole z.seats round) (max m.floor (least_or (epoch_end z m) round)) m.floor
 
@@ -244,7 +248,8 @@ abbrev pub first_noted : Option ℕ → ℕ → Option ℕ
 first_noted None x = Some x
 first_noted (Some first) x = Some first
 
--- what is noted of a seat after a look at its pin word: quiet where that is even, or differs from the one first noted, and from then on
+-- what is noted of a seat after a look at its pin word: quiet where that is even, or differs from
+-- the one first noted, and from then on
 abbrev pub reader_by : Reader → ℕ → Reader
 reader_by r x = record { first_pin = first_noted r.first_pin x; quiet = r.quiet || x % 2 == 0 || differs r.first_pin x; looks = next_word r.looks }
 
@@ -254,7 +259,8 @@ reader_at readers i = slice_index_or readers i unseen
 
 -- what a look of the merger notes, by its word
 abbrev pub merger_looked : Layout → MergerView → Word → ℕ → MergerView
--- while an epoch is frozen: a round goes on, and one that passed all seats gives the floor and is counted
+-- while an epoch is frozen: a round goes on, and one that passed all seats gives the floor and is
+-- counted
 merger_looked z m (Snap i) x = let round = cond (is_frozen m.phase) (round_by m.round i x) m.round in record m {
   round = cond (is_frozen m.phase) (round_end z.seats round) m.round;
   floor = cond (is_frozen m.phase) (floor_by z m round) m.floor;
@@ -269,7 +275,8 @@ merger_looked z m _ x = m
 abbrev pub merger_after : Layout → Facts → MergerView → Step → ℕ → MergerView
 -- won: the lock is held, which is counted
 merger_after z f m EnterExclusive x = record m { exclusive = cond (x == 0) true m.exclusive; holds = one_more_if (x == 0) m.holds }
--- the lock is given back; where the limit was moved in the hold an epoch is frozen, and no round of looks has begun
+-- the lock is given back; where the limit was moved in the hold an epoch is frozen, and no round of
+-- looks has begun
 merger_after z f m LeaveExclusive x = record m {
   exclusive = false;
   phase = cond m.limit_extended Frozen m.phase;
@@ -284,7 +291,8 @@ merger_after z f m (Look word) x = merger_looked z m word x
 merger_after z f m (Pad t) x = record m { padded = true }
 -- the last state of the region ends the retirement
 merger_after z f m (ClearState cell) x = record m { phase = cond (f.last cell) Clean m.phase }
--- one merge more: a component is retired, no seat is found quiet yet, the new runs have the floor, and no round of looks has begun
+-- one merge more: a component is retired, no seat is found quiet yet, the new runs have the floor,
+-- and no round of looks has begun
 merger_after z f m Publish x = record m {
   merged = m.merged + 1;
   phase = Retired;
@@ -305,7 +313,8 @@ merger_after z f m _ x = m
 abbrev pub passed_over : List (Option Slot) → ℕ → List (Option Slot)
 passed_over slots t = slots ++ replicate (t - length slots) (Some Nothing)
 
--- the slots after a step: where the clock is moved, the undrawn times up to the end of the epoch come to nothing
+-- the slots after a step: where the clock is moved, the undrawn times up to the end of the epoch
+-- come to nothing
 abbrev pub slots_after_merger : Layout → MergerView → List (Option Slot) → Step → List (Option Slot)
 slots_after_merger z m slots ExtendClock = passed_over slots (epoch_end z m)
 slots_after_merger z m slots _ = slots

@@ -1,4 +1,5 @@
--- The places of the runs by their numbers: 0 to 2 of level 0, 3 and 4 of level 1; and the entries that their words spell.
+-- The places of the runs by their numbers: 0 to 2 of level 0, 3 and 4 of level 1; and the entries
+-- that their words spell.
 use Rattle.std.specs.Prelude.{ℕ, zero, suc, ◌+◌, ◌/◌, ◌%◌, ◌==◌, Bool, cond, nat_lt, List, [], ◌∷◌, take, Some, None}
 use Rattle.clsm_levels.specs.declared.entry.Entry.{Entry}
 use Rattle.clsm_levels.specs.declared.place.Place.{Place}

@@ -1,5 +1,6 @@
--- The steps of a caller's seat, by cases in the order of the step's members: where each is open, its word, what it makes of the word,
--- the view after it, the slots and chains after it, and its answer. `x` is the word that the step finds.
+-- The steps of a caller's seat, by cases in the order of the step's members: where each is open,
+-- its word, what it makes of the word, the view after it, the slots and chains after it, and its
+-- answer. `x` is the word that the step finds.
 use Rattle.std.specs.Prelude.{◌≡◌, ◌≢◌, ℕ, ◌+◌, ◌-◌, ◌*◌, ◌%◌, ◌^◌, ◌<◌, ◌≤◌, ◌==◌, ◌&&◌, ◌⊎◌, Bool, true, false, not, cond, nat_lt, nat_le, max, List, [], ◌∷◌, ◌++◌, length, take, map, replicate, slice_index_or, slice_set, Option, Some, None, is_some}
 use prog.Atomic.{either}
 use Rattle.clsm_model.specs.declared.slot.Slot.{Slot}
@@ -175,7 +176,8 @@ abbrev pub IsCurrentRegion : Layout → Option ℕ → ℕ → Type 0
 IsCurrentRegion z None region = ⊥
 IsCurrentRegion z (Some limit) region = region_of z (cell_of z (limit - 1)) ≡ region
 
--- the seat may look into the region: it holds a component, or it holds the lock and the region is the current epoch's
+-- the seat may look into the region: it holds a component, or it holds the lock and the region is
+-- the current epoch's
 abbrev pub MayVisit : Layout → View → ℕ → Type 0
 MayVisit z v region = (v.held ≢ None) ⊎ ((v.mode ≢ Free) × IsCurrentRegion z v.hold_limit region)
 
@@ -200,7 +202,8 @@ abbrev pub open_time : SnapshotState → Option ℕ
 open_time (Open noted time) = Some time
 open_time _ = None
 
--- the time at which a read with this deed stands: the open snapshot's, or the clock looked at under this pin
+-- the time at which a read with this deed stands: the open snapshot's, or the clock looked at under
+-- this pin
 abbrev pub time_of_read : View → Deed → Option ℕ
 time_of_read v (Get key reply) = v.pin_clock
 time_of_read v (Rmw key old Keep) = v.pin_clock
@@ -221,7 +224,8 @@ abbrev pub timed : SnapshotState → Option ℕ
 timed (Timed noted time) = Some time
 timed _ = None
 
--- the deed is right at the time, where there is one, and that is not below the due, reads under an open snapshot apart
+-- the deed is right at the time, where there is one, and that is not below the due, reads under an
+-- open snapshot apart
 abbrev pub IsRightAt : History → View → Deed → Option ℕ → Type 0
 IsRightAt h v deed None = ⊥
 IsRightAt h v deed (Some s) = (is_old v deed ≡ false → v.due ≤ s) × IsRight h s deed
@@ -253,22 +257,26 @@ abbrev pub IsOpen : Layout → History → View → Step → Type 0
 IsOpen z h v (EnterShared l) = (v.mode ≡ Free) × (v.fresh_lock ≡ Some l) × (l < exclusive_hold)
 -- it holds the lock shared, and has no drawn time
 IsOpen z h v LeaveShared = (v.mode ≡ Shared) × (v.drawn ≡ None)
--- the same; its fresh look found the clock at t, and t is below the limit that it looked at in this hold
+-- the same; its fresh look found the clock at t, and t is below the limit that it looked at in this
+-- hold
 IsOpen z h v (Draw t) = (v.mode ≡ Shared) × (v.drawn ≡ None) × (v.fresh_clock ≡ Some t) × IsBelow t v.hold_limit
 -- it has a drawn time whose cell is not linked, and a cell has that part
 IsOpen z h v (Fill part w) = (v.drawn ≢ None) × (v.linked ≡ false) × (is_part part ≡ true)
 -- the same; all parts are filled, and NEXT is the head, as the fresh look found it
 IsOpen z h v (Link head) = (v.drawn ≢ None) × (v.linked ≡ false) × (v.key ≢ None) × (v.length ≢ None) × (is_all_some (take (or_zero v.length) v.words) ≡ true) × (v.next ≡ Some head) × (slice_index_or v.fresh_heads (own_line z v) None ≡ Some head)
--- t is drawn and its cell linked; what the parts say is the write that the deed makes; and what a read-modify-write read is right at t,
--- which the past of the seat has reached
+-- t is drawn and its cell linked; what the parts say is the write that the deed makes; and what a
+-- read-modify-write read is right at t, which the past of the seat has reached
 IsOpen z h v (Decide t deed) = (v.drawn ≡ Some t) × (v.linked ≡ true) × SaysWrite v (write_by 0 deed) × IsReadBelow h v t deed
--- t is drawn by the seat, or it is not before the held component and below the clock as the seat last looked at it
+-- t is drawn by the seat, or it is not before the held component and below the clock as the seat
+-- last looked at it
 IsOpen z h v (Cancel t) = (v.drawn ≡ Some t) ⊎ (HoldsFrom z v.held t × IsBelow t v.clock)
 -- no read runs
 IsOpen z h v Pin = v.pinned ≡ false
--- a read runs, and may end so: with a right record, a meeting or neither, and with a snapshot exactly where one was noted under this pin
+-- a read runs, and may end so: with a right record, a meeting or neither, and with a snapshot
+-- exactly where one was noted under this pin
 IsOpen z h v (Unpin end) = (v.pinned ≡ true) × IsEndingWith h v v.snapshot end
--- there is such a word; cells and heads ask for a component, or a hold of the lock for the current region; runs for a component that names them
+-- there is such a word; cells and heads ask for a component, or a hold of the lock for the current
+-- region; runs for a component that names them
 IsOpen z h v (Look word) = (is_word z word ≡ true) × IsLookable z v word
 -- the seat has found each time below s decided
 IsOpen z h v (RaiseFront s) = s ≤ v.reached
@@ -308,7 +316,8 @@ word_of z i v _ = Lock
 
 -- ---- what the operation makes of the word
 
--- the word that the step leaves where it finds x; an exchange that does not find the word that it names leaves x
+-- the word that the step leaves where it finds x; an exchange that does not find the word that it
+-- names leaves x
 abbrev pub changed : Layout → View → Step → ℕ → ℕ
 -- compare_exchange: one holder more, where the number is l
 changed z v (EnterShared l) x = either (x == l) (l + 1) x
@@ -360,7 +369,8 @@ abbrev pub is_own : Option ℕ → ℕ → Bool
 is_own None t = false
 is_own (Some u) t = u == t
 
--- a cancel of t that found x is counted: the own time is given up, or another had cancelled it, or t is another's
+-- a cancel of t that found x is counted: the own time is given up, or another had cancelled it, or
+-- t is another's
 abbrev pub counted_cancel : View → ℕ → ℕ → View
 counted_cancel v t x = let own = is_own v.drawn t in record v {
   overtaken = one_more_if (own && not (x == undecided_cell)) v.overtaken;
@@ -379,7 +389,8 @@ ended_calls i v Meeting = []
 ended_calls i v (Recorded Snapshot) = call_of i (or_zero (timed v.snapshot)) Snapshot ∷ []
 ended_calls i v (Recorded deed) = call_of i (or_zero (time_of_read v deed)) deed ∷ []
 
--- the due after a read: the time of its record or meeting, but as before where it recorded nothing or read under an open snapshot
+-- the due after a read: the time of its record or meeting, but as before where it recorded nothing
+-- or read under an open snapshot
 abbrev pub ended_due : View → End → ℕ
 ended_due v Neither = v.due
 ended_due v Meeting = or_zero v.pin_clock
@@ -406,9 +417,11 @@ holds_lock v = not (is_free v.mode)
 
 -- what a look notes, by its word
 abbrev pub looked : Layout → View → Word → ℕ → View
--- it is fresh, unless it finds the lock held exclusively; a seat that does not hold the lock counts that
+-- it is fresh, unless it finds the lock held exclusively; a seat that does not hold the lock counts
+-- that
 looked z v Lock x = record v { fresh_lock = cond (x == exclusive_hold) None (Some x); busy = one_more_if (is_free v.mode && x == exclusive_hold) v.busy }
--- it is fresh and the last of all, and that of the hold and of the pin, where there are such; and a noted snapshot gets its time
+-- it is fresh and the last of all, and that of the hold and of the pin, where there are such; and a
+-- noted snapshot gets its time
 looked z v Clock x = record v { fresh_clock = Some x; hold_clock = cond (holds_lock v) (Some x) v.hold_clock; clock = Some x; pin_clock = cond v.pinned (Some x) v.pin_clock; snapshot = timed_by v.snapshot x }
 -- the limit of the hold, where there is one
 looked z v Limit x = record v { hold_limit = cond (holds_lock v) (Some x) v.hold_limit }
@@ -418,7 +431,8 @@ looked z v Front x = record v { reached = max v.reached x }
 looked z v Merged x = record v { held = cond (takes_hold v) (Some x) v.held; reached = cond (takes_hold v) (max v.reached (x * z.cells)) v.reached }
 -- in a hold of the lock it is fresh
 looked z v (Head region chain) x = record v { fresh_heads = cond (holds_lock v) (slice_set v.fresh_heads (line_of region chain) (Some x)) v.fresh_heads }
--- where it is not empty, and is that of the time reached, and the component and the clock cover this, one time more is reached
+-- where it is not empty, and is that of the time reached, and the component and the clock cover
+-- this, one time more is reached
 looked z v (State cell) x = record v { reached = reached_by_state z v cell x }
 -- of other words nothing is noted
 looked z v _ x = v
@@ -430,9 +444,11 @@ filled v Length w = record v { length = Some w }
 filled v (Value j) w = record v { words = slice_set v.words j (Some w) }
 filled v Next w = record v { next = Some w }
 
--- The view of the seat i after a step that found x. An exchange is won where it finds the word that it names, and else lost.
+-- The view of the seat i after a step that found x. An exchange is won where it finds the word that
+-- it names, and else lost.
 abbrev pub view_after : Layout → ℕ → View → Step → ℕ → View
--- The look is fresh no more. Won: the lock is held shared, and no look before is fresh or of this hold. Both are counted.
+-- The look is fresh no more. Won: the lock is held shared, and no look before is fresh or of this
+-- hold. Both are counted.
 view_after z i v (EnterShared l) x = let won = x == l in record v {
   mode = cond won Shared v.mode;
   fresh_lock = None;
@@ -445,7 +461,8 @@ view_after z i v (EnterShared l) x = let won = x == l in record v {
 }
 -- the lock is given back, and no look is fresh; the looks of the hold are known still
 view_after z i v LeaveShared x = record v { mode = Free; fresh_lock = None; fresh_clock = None; fresh_heads = blank (2 * z.chains) }
--- The look is fresh no more. Won: t is drawn, no part is filled, and the cell is not linked; lost: it is counted.
+-- The look is fresh no more. Won: t is drawn, no part is filled, and the cell is not linked; lost:
+-- it is counted.
 view_after z i v (Draw t) x = let won = x == t in record v {
   drawn = cond won (Some t) v.drawn;
   key = cond won None v.key;
@@ -464,7 +481,8 @@ view_after z i v (Link head) x = let won = x == head in record v {
   fresh_heads = slice_set v.fresh_heads (own_line z v) None;
   raced = one_more_if (not won) v.raced;
 }
--- Nothing is drawn, and t is found decided. Won: the call is recorded, and the due is behind it; lost: it is counted.
+-- Nothing is drawn, and t is found decided. Won: the call is recorded, and the due is behind it;
+-- lost: it is counted.
 view_after z i v (Decide t deed) x = let won = x == 0 in record v {
   drawn = None;
   reached = reached_after z v t;
@@ -476,7 +494,8 @@ view_after z i v (Decide t deed) x = let won = x == 0 in record v {
 view_after z i v (Cancel t) x = record (counted_cancel v t x) { drawn = given_up v.drawn t; reached = reached_after z v t }
 -- a read runs, by the next pin word: no component is held, and no clock is looked at yet
 view_after z i v Pin x = record v { pin = next_word v.pin; pinned = true; held = None; pin_clock = None }
--- the read is over, by the next pin word: what it recorded joins the calls, the due follows, and a snapshot that got its time is open
+-- the read is over, by the next pin word: what it recorded joins the calls, the due follows, and a
+-- snapshot that got its time is open
 view_after z i v (Unpin end) x = record v {
   pin = next_word v.pin;
   pinned = false;

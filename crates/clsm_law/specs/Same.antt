@@ -1,4 +1,5 @@
--- What the comparison of worlds says: whether they are the same but for the counts of the seats and of the merger.
+-- What the comparison of worlds says: whether they are the same but for the counts of the seats and
+-- of the merger.
 use Rattle.std.specs.Prelude.{◌≡◌, ◌==◌, ◌&&◌, ◌++◌, Bool, true, map, pos, Option, Some, None}
 use Rattle.std.proofs.Common.{refl, sym, ap}
 use Rattle.std.proofs.Math.Bool.{true≢false}

@@ -26,7 +26,8 @@ pub record IsRangeBelow (h : History) (s lo hi : ℕ) (rows : List Pair) : Type 
   pub below : (k : ℕ) → k < lo → value_at rows k ≡ None
   pub above : (k : ℕ) → hi ≤ k → value_at rows k ≡ None
 
--- the rows are the first so many of all pairs with keys from lo to hi, and the key of the next one is this
+-- the rows are the first so many of all pairs with keys from lo to hi, and the key of the next one
+-- is this
 abbrev pub IsPageOf : History → ℕ → ℕ → ℕ → ℕ → List Pair → Option ℕ → Type 0
 IsPageOf h s lo hi max rows more = (all : List Pair) × IsRange h s lo hi all × IsPage all max rows more
 

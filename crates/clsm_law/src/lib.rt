@@ -1,5 +1,5 @@
-//! The shared words as plain data, the relation that says what each atomic step does to them and to what a seat knows, and the law
-//! that every open step keeps.
+//! The shared words as plain data, the relation that says what each atomic step does to them and to
+//! what a seat knows, and the law that every open step keeps.
 #![tactic(auto)]
 
 mod codes;

@@ -15,7 +15,8 @@ pub enum Phase {
     Retired,
 }
 
-/// A round of looks at the snapshot words in the order of the seats: the next seat, and the least time noted so far.
+/// A round of looks at the snapshot words in the order of the seats: the next seat, and the least
+/// time noted so far.
 #[derive(Clone, Copy, PartialEq, Eq, Hash, Debug)]
 pub struct Round {
     pub next: u64,
@@ -42,7 +43,8 @@ pub struct MergerView {
     pub phase: Phase,
     /// The number of merges.
     pub merged: u64,
-    /// It holds the lock exclusively; in this hold it cancelled an undrawn cell, moved the clock to the epoch's end, and moved the limit.
+    /// It holds the lock exclusively; in this hold it cancelled an undrawn cell, moved the clock to
+    /// the epoch's end, and moved the limit.
     pub exclusive: bool,
     /// How often it took the lock, modulo 2^64.
     #[derive_where(skip(EqHashOrd))]

@@ -23,7 +23,8 @@ pub enum Step {
     Fill(Part, u64),
     /// compare_exchange the head of the drawn cell's chain from this word to the drawn cell.
     Link(u64),
-    /// compare_exchange the state of the drawn cell from empty to set or removed, as the deed writes.
+    /// compare_exchange the state of the drawn cell from empty to set or removed, as the deed
+    /// writes.
     Decide(Time, Deed),
     /// compare_exchange the state of this time's cell from empty to cancelled.
     Cancel(Time),

@@ -29,15 +29,16 @@ pub enum SnapshotState {
 #[derive_where(PartialEq, Eq, Hash)]
 pub struct View {
     pub mode: Mode,
-    /// The last look at LOCK, at CLOCK and at each head, while it is fresh: no exchange of the seat's
-    /// own on that word and no entering or leaving of the lock since.
+    /// The last look at LOCK, at CLOCK and at each head, while it is fresh: no exchange of the
+    /// seat's own on that word and no entering or leaving of the lock since.
     pub fresh_lock: Option<u64>,
     pub fresh_clock: Option<Time>,
     pub fresh_heads: Items<Option<u64>>,
     /// The looks at LIMIT and CLOCK in the last hold of the lock.
     pub hold_limit: Option<Time>,
     pub hold_clock: Option<Time>,
-    /// The time that it drew and has not decided, the parts of its cell that it filled, and whether the cell is linked.
+    /// The time that it drew and has not decided, the parts of its cell that it filled, and whether
+    /// the cell is linked.
     pub drawn: Option<Time>,
     pub key: Option<u64>,
     pub length: Option<u64>,
@@ -59,9 +60,9 @@ pub struct View {
     /// No later call of the seat has a time below it.
     pub due: Time,
     pub calls: Items<CallRecord>,
-    /// Modulo 2^64: entries into the lock; looks that found it held exclusively and entries that lost;
-    /// draws and links that lost; decides of the drawn time that lost; own drawn times that it gave up;
-    /// times of other seats that it cancelled.
+    /// Modulo 2^64: entries into the lock; looks that found it held exclusively and entries that
+    /// lost; draws and links that lost; decides of the drawn time that lost; own drawn times that
+    /// it gave up; times of other seats that it cancelled.
     #[derive_where(skip(EqHashOrd))]
     pub entries: u64,
     #[derive_where(skip(EqHashOrd))]

@@ -23,7 +23,8 @@ pub enum Word {
     State(u64),
     /// The number of entries in a place.
     Count(u64),
-    /// One of the eleven words of an entry of a place: key, twice the time plus 1 for a removal, length, eight words.
+    /// One of the eleven words of an entry of a place: key, twice the time plus 1 for a removal,
+    /// length, eight words.
     Entry { place: u64, entry: u64, part: u64 },
 }
 

@@ -29,7 +29,8 @@ value_above h k a s older le is =
 pub first_in_runs-above : (runs : List (List Entry)) (k a s : ℕ) → AreBelow a (all_of runs) → a ≤ s → first_in_runs runs k s ≡ first_in_runs runs k a
 first_in_runs-above runs k a s older le = first_in_runs-all_of runs k s ∙ first_below-above (all_of runs) k a s older le ∙ sym (first_in_runs-all_of runs k a)
 
--- runs that are exact up to a, all older than a, and the writes from a to b before them are exact up to b
+-- runs that are exact up to a, all older than a, and the writes from a to b before them are exact
+-- up to b
 exact_with_epoch : (h : History) (runs : List (List Entry)) (f a b : ℕ) → f ≤ a → a ≤ b → AreBelow a (all_of runs) → IsExact runs h f a → IsExact (entries_of h.slots a b ∷ runs) h f b
 exact_with_epoch h runs f a b fa ab older exact k s fs sb =
     let epoch = entries_of h.slots a b in

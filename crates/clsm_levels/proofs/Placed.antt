@@ -52,7 +52,8 @@ target_free m = ⊎_elim
     (λ (ne : m % 4 ≡ 3 → ⊥). subst (λ (t : Place). IsFree t (places m)) (sym (target_zero m ne)) (level_zero_free (m % 4) (m % 4) (m / 4 % 2) (omega arith)))
     (cases_eq (m % 4) 3)
 
--- nor one that the component before it names, but where m + 1 is the first after a merge into level 1
+-- nor one that the component before it names, but where m + 1 is the first after a merge into level
+-- 1
 pub target_free_before : (m : ℕ) → ((m + 1) % 4 ≡ 0 → ⊥) → IsFree (target (m + 1)) (places m)
 target_free_before m first = ⊎_elim
     (λ (e : (m + 1) % 4 ≡ 3). subst (λ (t : Place). IsFree t (places m)) (sym (target_one (m + 1) e)) (level_one_free (m % 4) (((m + 1) / 4 + 1) % 2) (m / 4 % 2) (λ x. omega arith)))

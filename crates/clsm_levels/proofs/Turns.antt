@@ -31,7 +31,8 @@ runs_same held held' place run (p ∷ ps) w free =
 pub runs_stay : (held held' : Place → List Entry) (m : ℕ) (run : List Entry) → WritesRun held held' (target m) run → runs_at held' (places m) ≡ runs_at held (places m)
 runs_stay held held' m run w = runs_same held held' (target m) run (places m) w (target_free m)
 
--- and readers of the component before it too, but where m + 1 is the first after a merge into level 1
+-- and readers of the component before it too, but where m + 1 is the first after a merge into level
+-- 1
 pub runs_stay_before : (held held' : Place → List Entry) (m : ℕ) (run : List Entry) → ((m + 1) % 4 ≡ 0 → ⊥) → WritesRun held held' (target (m + 1)) run → runs_at held' (places m) ≡ runs_at held (places m)
 runs_stay_before held held' m run first w = runs_same held held' (target (m + 1)) run (places m) w (target_free_before m first)
 
@@ -51,7 +52,8 @@ module _ (h : History) (held : Place → List Entry) (m n f floor : ℕ) where
   longer : m * n ≤ (m + 1) * n
   longer = grind arith
 
-  -- where the target holds what is wanted of the epoch and of the runs of m, the runs of m + 1 are a content up to the epoch's end
+  -- where the target holds what is wanted of the epoch and of the runs of m, the runs of m + 1 are
+  -- a content up to the epoch's end
   pub turn_in_place : held (target m) ≡ wanted m floor (entries_of h.slots (m * n) ((m + 1) * n)) (runs_at held (places m)) → f ≤ floor → f ≤ m * n → IsContent h (runs_at held (places m)) f (m * n) → IsContent h (runs_at held (places (m + 1))) floor ((m + 1) * n)
   turn_in_place made up low c =
       let epoch = entries_of h.slots (m * n) ((m + 1) * n) in
@@ -65,7 +67,8 @@ module _ (h : History) (held : Place → List Entry) (m n f floor : ℕ) where
       subst (λ (l : List (List Entry)). IsContent h l floor ((m + 1) * n)) (sym is) (content_level_zero h runs f floor (m * n) ((m + 1) * n) low longer up c))
       (cases_eq (m % 4) 3)
 
--- a merge writes what is wanted into its target: the runs of m + 1 are then a content up to the epoch's end
+-- a merge writes what is wanted into its target: the runs of m + 1 are then a content up to the
+-- epoch's end
 pub turn : (h : History) (held held' : Place → List Entry) (m n f floor : ℕ) → WritesRun held held' (target m) (wanted m floor (entries_of h.slots (m * n) ((m + 1) * n)) (runs_at held (places m))) → f ≤ floor → f ≤ m * n → IsContent h (runs_at held (places m)) f (m * n) → IsContent h (runs_at held' (places (m + 1))) floor ((m + 1) * n)
 turn h held held' m n f floor w up low c =
     let epoch = entries_of h.slots (m * n) ((m + 1) * n) in

@@ -27,7 +27,8 @@ same_within n m place run ne within =
     let same = same_epochs m ne place in
     subst (λ (first : ℕ). AllByRecursion (λ e. (first * n ≤ e.time) × (e.time < end_epoch (m + 1) place * n)) run) (sym same.0) (subst (λ (end : ℕ). AllByRecursion (λ e. (first_epoch m place * n ≤ e.time) × (e.time < end * n)) run) (sym same.1) within)
 
--- the runs of m + 1 hold only times of their places, where those of m do and the target holds what is wanted
+-- the runs of m + 1 hold only times of their places, where those of m do and the target holds what
+-- is wanted
 pub within_next : (slots : List Slot) (held : Place → List Entry) (m n floor : ℕ) → held (target m) ≡ wanted m floor (entries_of slots (m * n) ((m + 1) * n)) (runs_at held (places m)) → AreBelow (m * n) (all_of (runs_at held (places m))) → AreWithin n m held → AreWithin n (m + 1) held
 within_next slots held m n floor made older within =
     let epoch = entries_of slots (m * n) ((m + 1) * n) in

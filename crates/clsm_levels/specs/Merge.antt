@@ -30,6 +30,7 @@ kept floor to_level_one (e ∷ es) =
 abbrev pub is_to_level_one : ℕ → Bool
 is_to_level_one m = m % 4 == 3
 
--- What the merge from m to m + 1 writes: the epoch's entries into level 0, or those and all runs into level 1.
+-- What the merge from m to m + 1 writes: the epoch's entries into level 0, or those and all runs
+-- into level 1.
 abbrev pub wanted : ℕ → ℕ → List Entry → List (List Entry) → List Entry
 wanted m floor epoch runs = cond (is_to_level_one m) (kept floor true (merged (all_of (epoch ∷ runs)))) (kept floor false (merged epoch))

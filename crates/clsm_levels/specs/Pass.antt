@@ -14,7 +14,8 @@ abbrev pub is_key : Option ℕ → ℕ → Bool
 is_key None k = false
 is_key (Some j) k = j == k
 
--- what is kept of the entries that follow, where an entry below the floor was last of the key `settled`
+-- what is kept of the entries that follow, where an entry below the floor was last of the key
+-- `settled`
 abbrev pub kept_after : Option ℕ → ℕ → Bool → List Entry → List Entry
 kept_after settled floor to_level_one [] = []
 kept_after settled floor to_level_one (e ∷ es) =

@@ -19,7 +19,8 @@ pub record IsNewestBelow (floor : ℕ) (es : List Entry) (e : Entry) : Type 0 wh
 abbrev pub IsNeeded : Bool → Entry → Type 0
 IsNeeded to_level_one e = (to_level_one ≡ false) ⊎ (is_removal e ≡ false)
 
--- an entry stays at or above the floor, and below it where it is the newest of its key there and needed
+-- an entry stays at or above the floor, and below it where it is the newest of its key there and
+-- needed
 abbrev pub Stays : ℕ → Bool → List Entry → Entry → Type 0
 Stays floor to_level_one es e = (floor ≤ e.time) ⊎ (IsNewestBelow floor es e × IsNeeded to_level_one e)
 
@@ -27,7 +28,8 @@ Stays floor to_level_one es e = (floor ≤ e.time) ⊎ (IsNewestBelow floor es e
 abbrev pub sources : ℕ → List Entry → List (List Entry) → List Entry
 sources m epoch runs = cond (is_to_level_one m) (all_of (epoch ∷ runs)) epoch
 
--- of what the merge from m reads, where that falls in each key, the run has exactly the entries that stay
+-- of what the merge from m reads, where that falls in each key, the run has exactly the entries
+-- that stay
 abbrev pub KeepsByRule : ℕ → ℕ → List Entry → List (List Entry) → List Entry → Type 0
 KeepsByRule m floor epoch runs run = TimesFallByKey (sources m epoch runs) → (e : Entry) → Contains run e ↔ (Contains (sources m epoch runs) e × Stays floor (is_to_level_one m) (sources m epoch runs) e)
 

@@ -11,7 +11,8 @@ pub struct Cursor {
     pub head: Option<Entry>,
 }
 
-/// The first of the cursors whose heads have the least key, and its head. None, where no cursor has a head.
+/// The first of the cursors whose heads have the least key, and its head. None, where no cursor has
+/// a head.
 pub fn least(cursors: &[Cursor]) -> Option<(usize, Entry)>
     ensures { MatchOption result (IsEmptied cursors.now (length cursors.now))
         (λ p. IsLeast cursors.now (length cursors.now) p.0 p.1) }

@@ -20,7 +20,8 @@ fn entry_at(slots: &[Option<Slot>], time: Time) -> Option<Entry>
     }
 }
 
-/// The writes with `from <= time < to`, the newest first. A slot that is not decided, or not there, is no write.
+/// The writes with `from <= time < to`, the newest first. A slot that is not decided, or not there,
+/// is no write.
 pub fn entries_of(
     alloc: Global,
     slots: &[Option<Slot>],

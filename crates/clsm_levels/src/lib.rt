@@ -1,4 +1,5 @@
-//! Sorted runs and the levels they stand in: what a merge keeps, and which places hold the runs, over plain data.
+//! Sorted runs and the levels they stand in: what a merge keeps, and which places hold the runs,
+//! over plain data.
 #![tactic(auto)]
 
 mod cursor;

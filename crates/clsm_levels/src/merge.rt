@@ -7,8 +7,9 @@ ghost use Rattle.clsm_levels.specs.Pass.{RisesByKey, kept_after};
 use crate::entry::Entry;
 use std::alloc::{AllocError, Global};
 
-/// Whether a merge keeps the next entry by rising key, where entries of one key come the newest first. `settled` is the
-/// key of the last entry below the floor before it, if there is one, and the second result that key after it.
+/// Whether a merge keeps the next entry by rising key, where entries of one key come the newest
+/// first. `settled` is the key of the last entry below the floor before it, if there is one, and
+/// the second result that key after it.
 pub fn judge(
     settled: Option<u64>,
     entry: Entry,
@@ -48,7 +49,8 @@ fn kept(
     Ok(run)
 }
 
-/// What the merge after so many reads: the epoch's entries, and behind them those of all runs where it writes level 1.
+/// What the merge after so many reads: the epoch's entries, and behind them those of all runs where
+/// it writes level 1.
 fn sources(
     alloc: Global,
     merges: u64,
@@ -74,10 +76,11 @@ fn merged(mut entries: Vec<Entry>) -> Result<Vec<Entry>, AllocError>
     Ok(entries)
 }
 
-/// What the merge after so many writes into its target, by rising key: of the epoch's entries where it writes level 0,
-/// and of those and all runs where it writes level 1, each at or above the floor, and of each key the newest below it,
-/// unless that is a removal that goes to level 1. The epoch's entries are given the newest first, and the runs in the
-/// order in which they are searched. Level 0 is given no more entries than the epoch has.
+/// What the merge after so many writes into its target, by rising key: of the epoch's entries where
+/// it writes level 0, and of those and all runs where it writes level 1, each at or above the
+/// floor, and of each key the newest below it, unless that is a removal that goes to level 1. The
+/// epoch's entries are given the newest first, and the runs in the order in which they are
+/// searched. Level 0 is given no more entries than the epoch has.
 pub fn wanted(
     alloc: Global,
     merges: u64,

@@ -14,8 +14,8 @@ fn compare(x: &Entry, y: &Entry) -> Ordering
     x.key.cmp(&y.key).then(y.time.cmp(&x.time))
 }
 
-/// Puts writes of different times in the order of a run: by rising key, and the newest of a key first.
-/// It takes no memory.
+/// Puts writes of different times in the order of a run: by rising key, and the newest of a key
+/// first. It takes no memory.
 pub fn sort_writes(entries: &mut [Entry])
     requires { TimesFall entries.old }
     ensures { entries.new ≡ merged entries.old }

@@ -10,7 +10,8 @@ use Rattle.clsm_words.specs.Knowing.{row_of}
 use Rattle.clsm_words.specs.Keeping.{KeepsPlace}
 use Rattle.clsm_words.specs.Merging.{IsOwn}
 
--- it entered: it holds the lock shared, in a hold in which it has looked at nothing; how often it was refused before is open
+-- it entered: it holds the lock shared, in a hold in which it has looked at nothing; how often it
+-- was refused before is open
 pub record Enters (old new : Known) : Type 0 where
   pub place : KeepsPlace old new
   pub view : new.view ≡ record old.view { mode = Shared; fresh_lock = None; fresh_clock = None; fresh_heads = blank (2 * old.layout.chains); hold_limit = None; hold_clock = None; entries = next_word old.view.entries; busy = new.view.busy }
@@ -27,7 +28,8 @@ pub record Leaves (old new : Known) : Type 0 where
 
 -- ---- the merger's hold
 
--- the merger is where it was, but that it may hold the lock; its past goes on, and it knows of its words what it knew
+-- the merger is where it was, but that it may hold the lock; its past goes on, and it knows of its
+-- words what it knew
 pub record KeepsMerge (old new : Known) : Type 0 where
   pub number : new.number ≡ old.number
   pub dealt : new.dealt ≡ old.dealt

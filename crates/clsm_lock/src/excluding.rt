@@ -10,8 +10,9 @@ use clsm_words::{Pace, RawMerger, Words};
 use std::sync::Wait;
 use std::thread;
 
-/// Holds the lock alone, and waits for that as long as it takes. Nothing is frozen then. While the merger holds it no caller does (a clause of
-/// the law that the words keep), so no time is drawn, and what each time came to is known to the merger.
+/// Holds the lock alone, and waits for that as long as it takes. Nothing is frozen then. While the
+/// merger holds it no caller does (a clause of the law that the words keep), so no time is drawn,
+/// and what each time came to is known to the merger.
 pub fn lock_exclusive<P: Pace, R: Wait>(rt: &R, words: &Words<P>, merger: &mut RawMerger)
     requires of { IsSeatOf words.now merger.old }
     requires clean { is_clean merger.old.knows.merger.phase ≡ true }
@@ -29,7 +30,8 @@ pub fn lock_exclusive<P: Pace, R: Wait>(rt: &R, words: &Words<P>, merger: &mut R
     unreachable!()
 }
 
-/// Leaves the lock that the merger holds. A freeze that it began is whole. It never waits and is never refused.
+/// Leaves the lock that the merger holds. A freeze that it began is whole. It never waits and is
+/// never refused.
 pub fn unlock_exclusive<P: Pace>(words: &Words<P>, merger: &mut RawMerger)
     requires of { IsSeatOf words.now merger.old }
     requires holds { merger.old.knows.merger.exclusive ≡ true }

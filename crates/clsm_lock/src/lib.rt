@@ -1,4 +1,5 @@
-//! The lock: many callers hold it shared, or the merger has it alone. A write is made in a shared hold, a freeze in the merger's.
+//! The lock: many callers hold it shared, or the merger has it alone. A write is made in a shared
+//! hold, a freeze in the merger's.
 #![tactic(auto)]
 
 mod excluding;

@@ -11,15 +11,17 @@ use std::sync::Wait;
 use std::thread;
 use thiserror::Error;
 
-/// Why a seat did not enter: the lock was held exclusively, or another seat entered or left between the look and the exchange.
+/// Why a seat did not enter: the lock was held exclusively, or another seat entered or left between
+/// the look and the exchange.
 #[derive(Clone, Copy, PartialEq, Eq, Debug, Error)]
 #[error("busy")]
 pub struct Busy;
 
-/// Tries once to hold the lock shared: one look at it, and one exchange where the look finds no exclusive holder.
-/// It never waits. With `Ok` the seat holds the lock, in a hold in which it has looked at nothing yet.
-/// Refused with `Busy` where the look finds an exclusive holder, or the exchange finds that others entered or left since; the seat
-/// is then as it was, but that its count of such refusals has moved by one.
+/// Tries once to hold the lock shared: one look at it, and one exchange where the look finds no
+/// exclusive holder. It never waits. With `Ok` the seat holds the lock, in a hold in which it has
+/// looked at nothing yet. Refused with `Busy` where the look finds an exclusive holder, or the
+/// exchange finds that others entered or left since; the seat is then as it was, but that its count
+/// of such refusals has moved by one.
 pub fn try_lock_shared<P: Pace>(words: &Words<P>, seat: &mut RawSeat) -> Result<(), Busy>
     requires of { IsSeatOf words.now seat.old }
     requires free { seat.old.knows.view.mode ≡ Free }
@@ -58,8 +60,8 @@ pub fn lock_shared<P: Pace, R: Wait>(rt: &R, words: &Words<P>, seat: &mut RawSea
     unreachable!()
 }
 
-/// Leaves the lock that the seat holds shared. The seat has drawn no time that it has not decided or given up. It never waits and is
-/// never refused.
+/// Leaves the lock that the seat holds shared. The seat has drawn no time that it has not decided
+/// or given up. It never waits and is never refused.
 pub fn unlock_shared<P: Pace>(words: &Words<P>, seat: &mut RawSeat)
     requires of { IsSeatOf words.now seat.old }
     requires holds { seat.old.knows.view.mode ≡ Shared }

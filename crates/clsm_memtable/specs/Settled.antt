@@ -7,8 +7,8 @@ abbrev pub IsClockFrom : Option ℕ → ℕ → Type 0
 IsClockFrom None s = ⊥
 IsClockFrom (Some clock) s = s ≤ clock
 
--- the seat may settle the time: it holds the component, the time is of its two epochs and below a clock that it looked at, and an own
--- drawn time is above it
+-- the seat may settle the time: it holds the component, the time is of its two epochs and below a
+-- clock that it looked at, and an own drawn time is above it
 pub record MaySettle (k : Known) (component t : ℕ) : Type 0 where
   pub held : k.view.held ≡ Some component
   pub from : component * k.layout.cells ≤ t

@@ -62,7 +62,8 @@ abbrev pub Decides : Known → Known → ℕ → Deed → Decided → Type 0
 Decides old new t deed Done = Records old new t deed
 Decides old new t deed Overtaken = LosesTime old new t
 
--- nothing has the time, and nothing is recorded; it is counted whether the seat cancelled it or somebody had done so first
+-- nothing has the time, and nothing is recorded; it is counted whether the seat cancelled it or
+-- somebody had done so first
 pub record GivesUp (old new : Known) (t : ℕ) : Type 0 where
   pub place : KeepsPlace old new
   pub view : new.view ≡ record old.view { drawn = None; reached = reached_after old.layout old.view t; overtaken = new.view.overtaken; gave_up = new.view.gave_up }

@@ -17,9 +17,11 @@ pub enum Decided {
     Overtaken,
 }
 
-/// Decides the drawn time, whose cell is linked and says the deed's write: one exchange. With `Done` the write stands, the call is
-/// recorded at the time, and later calls of the seat have later times. With `Overtaken` somebody had cancelled the time: nothing
-/// is recorded, and the seat's count of such times has moved by one. Either way the time is no longer the seat's. It never waits.
+/// Decides the drawn time, whose cell is linked and says the deed's write: one exchange. With
+/// `Done` the write stands, the call is recorded at the time, and later calls of the seat have
+/// later times. With `Overtaken` somebody had cancelled the time: nothing is recorded, and the
+/// seat's count of such times has moved by one. Either way the time is no longer the seat's. It
+/// never waits.
 pub fn decide<P: Pace>(words: &Words<P>, seat: &mut RawSeat, time: Time, deed: &Deed) -> Decided
     requires { MayPlay words.now seat.old (Decide time deed.now) }
     ensures of { IsSeatOf words.now seat.new }
@@ -32,9 +34,9 @@ pub fn decide<P: Pace>(words: &Words<P>, seat: &mut RawSeat, time: Time, deed: &
     }
 }
 
-/// Gives up the drawn time, linked or not: one exchange, after which no write has the time. Nothing is recorded. It never waits
-/// and is never refused; either the seat's count of times given up has moved by one, or, where somebody else had cancelled the time, its count
-/// of those.
+/// Gives up the drawn time, linked or not: one exchange, after which no write has the time. Nothing
+/// is recorded. It never waits and is never refused; either the seat's count of times given up has
+/// moved by one, or, where somebody else had cancelled the time, its count of those.
 pub fn give_up<P: Pace>(words: &Words<P>, seat: &mut RawSeat, time: Time)
     requires of { IsSeatOf words.now seat.old }
     requires drawn { seat.old.knows.view.drawn ≡ Some time }

@@ -12,7 +12,8 @@ use thiserror::Error;
 /// Why a seat drew no time.
 #[derive(Clone, Copy, PartialEq, Eq, Debug, Error)]
 pub enum DrawError {
-    /// Number 1: every time of the epoch is drawn; the clock stands at this time, which is the limit.
+    /// Number 1: every time of the epoch is drawn; the clock stands at this time, which is the
+    /// limit.
     #[error("full @{0}")]
     Full(Time),
     /// Number 2: another seat drew the time between the look and the exchange.
@@ -20,11 +21,12 @@ pub enum DrawError {
     Raced,
 }
 
-/// Draws the next time, in a hold of the lock: one look at LIMIT, one at CLOCK, and one exchange of CLOCK where it is below the limit.
-/// With `Ok` the seat has drawn the time, whose cell is not filled yet, and has to decide it or give it up before it leaves the lock.
-/// Refused with `Full` where the clock is at the limit: there is no time before the next freeze. Refused with `Raced` where another
-/// seat drew the time first: the seat's count of such refusals has then moved by one. After a refusal it has drawn nothing, and its
-/// calls are where they were. It never waits.
+/// Draws the next time, in a hold of the lock: one look at LIMIT, one at CLOCK, and one exchange of
+/// CLOCK where it is below the limit. With `Ok` the seat has drawn the time, whose cell is not
+/// filled yet, and has to decide it or give it up before it leaves the lock. Refused with `Full`
+/// where the clock is at the limit: there is no time before the next freeze. Refused with `Raced`
+/// where another seat drew the time first: the seat's count of such refusals has then moved by one.
+/// After a refusal it has drawn nothing, and its calls are where they were. It never waits.
 pub fn draw<P: Pace>(words: &Words<P>, seat: &mut RawSeat) -> Result<Time, DrawError>
     requires of { IsSeatOf words.now seat.old }
     requires holds { seat.old.knows.view.mode ≡ Shared }

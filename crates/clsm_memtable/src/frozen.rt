@@ -119,8 +119,9 @@ fn entry_at<P: Pace>(words: &Words<P>, merger: &mut RawMerger, time: Time) -> Op
     Some(Entry { key, time, value })
 }
 
-/// Gathers the writes of the frozen epoch, from its first time to before its end, behind one another, the newest first. It never waits, and takes no
-/// memory where the row has room for them all.
+/// Gathers the writes of the frozen epoch, from its first time to before its end, behind one
+/// another, the newest first. It never waits, and takes no memory where the row has room for them
+/// all.
 pub fn gather<P: Pace>(
     words: &Words<P>,
     merger: &mut RawMerger,

@@ -1,4 +1,5 @@
-//! The component in memory: times are drawn and decided by those who write, and settled by those who read.
+//! The component in memory: times are drawn and decided by those who write, and settled by those
+//! who read.
 #![tactic(auto)]
 
 mod deciding;

@@ -12,15 +12,18 @@ use std::sync::Wait;
 use std::thread;
 use thiserror::Error;
 
-/// Why a seat did not link its cell: another cell was linked in the chain between the look and the exchange.
+/// Why a seat did not link its cell: another cell was linked in the chain between the look and the
+/// exchange.
 #[derive(Clone, Copy, PartialEq, Eq, Debug, Error)]
 #[error("raced")]
 pub struct Raced;
 
-/// Tries once to link the drawn cell, in which the seat filled this key, in a hold of the lock in which it drew the time: one look at the
-/// head of the cell's chain, a fill of the cell's next, and one exchange of the head. With `Ok` the cell stands at the head of its chain.
-/// Refused with `Raced` where another cell was linked there since the look: the seat's count of such refusals has then moved by one, and
-/// the cell is as it was, but for its next. A walk of a chain that the seat had begun is ended. It never waits.
+/// Tries once to link the drawn cell, in which the seat filled this key, in a hold of the lock in
+/// which it drew the time: one look at the head of the cell's chain, a fill of the cell's next, and
+/// one exchange of the head. With `Ok` the cell stands at the head of its chain. Refused with
+/// `Raced` where another cell was linked there since the look: the seat's count of such refusals
+/// has then moved by one, and the cell is as it was, but for its next. A walk of a chain that the
+/// seat had begun is ended. It never waits.
 pub fn try_link<P: Pace>(
     words: &Words<P>,
     seat: &mut RawSeat,
@@ -46,8 +49,9 @@ pub fn try_link<P: Pace>(
     }
 }
 
-/// Links the drawn cell, and tries until it is linked, as long as that takes. Each try that lost has moved the seat's count of such
-/// refusals by one. A walk of a chain that the seat had begun is ended.
+/// Links the drawn cell, and tries until it is linked, as long as that takes. Each try that lost
+/// has moved the seat's count of such refusals by one. A walk of a chain that the seat had begun is
+/// ended.
 pub fn link<P: Pace, R: Wait>(rt: &R, words: &Words<P>, seat: &mut RawSeat, time: Time, key: u64)
     requires of { IsSeatOf words.now seat.old }
     requires holds { seat.old.knows.view.mode ≡ Shared }

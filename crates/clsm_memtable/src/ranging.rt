@@ -44,8 +44,8 @@ fn entry_in<P: Pace>(
     Some(Entry { key, time, value })
 }
 
-/// The writes with `lo <= key <= hi` of times from the component's first time and below `until`, the
-/// newest first.
+/// The writes with `lo <= key <= hi` of times from the component's first time and below `until`,
+/// the newest first.
 fn writes_in<P: Pace>(
     words: &Words<P>,
     seat: &mut RawSeat,
@@ -73,10 +73,10 @@ fn writes_in<P: Pace>(
     Ok(row)
 }
 
-/// The writes with `lo <= key <= hi` of times from the component's first time and below `until`, in the
-/// order of a run: by rising key, and the newest of a key first. They are those of both epochs of the
-/// held component. Each time below `until` has to be settled. It takes memory, and is refused for want
-/// of it: the seat is then as after looks. It never waits.
+/// The writes with `lo <= key <= hi` of times from the component's first time and below `until`, in
+/// the order of a run: by rising key, and the newest of a key first. They are those of both epochs
+/// of the held component. Each time below `until` has to be settled. It takes memory, and is
+/// refused for want of it: the seat is then as after looks. It never waits.
 pub fn gather_range<P: Pace>(
     words: &Words<P>,
     seat: &mut RawSeat,

@@ -20,7 +20,8 @@ fn is_later(best: Option<Time>, time: Time) -> bool
     }
 }
 
-/// The best so far, or the time of this cell in the epoch that begins at `first`, where that is below `until`, later, and a write of the key.
+/// The best so far, or the time of this cell in the epoch that begins at `first`, where that is
+/// below `until`, later, and a write of the key.
 fn better<P: Pace>(
     words: &Words<P>,
     seat: &mut RawSeat,
@@ -71,8 +72,8 @@ fn next_of<P: Pace>(words: &Words<P>, seat: &mut RawSeat, cell: u64) -> u64
     words.look(seat, Word::Cell { cell, part })
 }
 
-/// Walks along the chain of the epoch that begins at `first`, of which `next` leads to the first cell: the time of the newest write of the key
-/// below `until`.
+/// Walks along the chain of the epoch that begins at `first`, of which `next` leads to the first
+/// cell: the time of the newest write of the key below `until`.
 fn newest_ahead<P: Pace>(
     words: &Words<P>,
     seat: &mut RawSeat,
@@ -155,10 +156,11 @@ fn newest_in<P: Pace>(
     Some(found(words, seat, component, time, cell))
 }
 
-/// The newest write of the key below `until` in the two epochs of the held component: by the key's chain of the later epoch, which is walked
-/// only where it begins below `until`, and then by that of the earlier one. With `None` no write of the key below `until` is at or above
-/// the component's first time; it may be in the runs. Each time below `until` has to be settled. It never waits, takes no memory and is never
-/// refused. A walk of a chain that the seat had begun is ended.
+/// The newest write of the key below `until` in the two epochs of the held component: by the key's
+/// chain of the later epoch, which is walked only where it begins below `until`, and then by that
+/// of the earlier one. With `None` no write of the key below `until` is at or above the component's
+/// first time; it may be in the runs. Each time below `until` has to be settled. It never waits,
+/// takes no memory and is never refused. A walk of a chain that the seat had begun is ended.
 pub fn newest<P: Pace>(
     words: &Words<P>,
     seat: &mut RawSeat,

@@ -1,4 +1,5 @@
-//! Times below a read's own are settled before it reads: each is decided then, and none below changes any more.
+//! Times below a read's own are settled before it reads: each is decided then, and none below
+//! changes any more.
 ghost use Rattle.std.specs.Prelude.{◌≡◌, ◌+◌, ◌*◌, ◌≤◌, true, length};
 ghost use Rattle.clsm_words.specs.Plays.{IsSeatOf};
 ghost use Rattle.clsm_words.specs.Keeping.{OnlyReads};
@@ -21,7 +22,8 @@ fn is_decided<P: Pace>(words: &Words<P>, seat: &mut RawSeat, component: u64, tim
     words.look(seat, Word::State(cell)) != 0
 }
 
-/// Looks at the time's state, and up to `patience` times more while it is undecided. Answers whether it is decided.
+/// Looks at the time's state, and up to `patience` times more while it is undecided. Answers
+/// whether it is decided.
 fn is_found_decided<P: Pace>(
     words: &Words<P>,
     seat: &mut RawSeat,
@@ -61,10 +63,12 @@ fn settle<P: Pace>(words: &Words<P>, seat: &mut RawSeat, component: u64, time: T
     }
 }
 
-/// Settles each time from the one that FRONT and the component begin with up to `time`, and raises FRONT to `time`: each time below it is
-/// decided then, and the seat's past reaches it. A time whose writer is slower than `patience` looks is cancelled, and comes to nothing;
-/// its writer finds that out and writes again (the cLSM paper's readers wait for it instead). `component` is what the seat holds, and
-/// `time` at most the clock that it looked at in this read. It never waits, takes no memory and is never refused.
+/// Settles each time from the one that FRONT and the component begin with up to `time`, and raises
+/// FRONT to `time`: each time below it is decided then, and the seat's past reaches it. A time
+/// whose writer is slower than `patience` looks is cancelled, and comes to nothing; its writer
+/// finds that out and writes again (the cLSM paper's readers wait for it instead). `component` is
+/// what the seat holds, and `time` at most the clock that it looked at in this read. It never
+/// waits, takes no memory and is never refused.
 pub fn settle_below<P: Pace>(
     words: &Words<P>,
     seat: &mut RawSeat,

@@ -1,4 +1,5 @@
--- What is written is what is wanted exactly where it is a run, each of its entries is kept, and each entry that is kept is in it.
+-- What is written is what is wanted exactly where it is a run, each of its entries is kept, and
+-- each entry that is kept is in it.
 use Rattle.std.proofs.Common.{◌≡◌, ℕ, ◌+◌, ◌*◌, ◌↔◌, Bool, true, false, cond, List, ◌++◌, sym, subst, Option}
 use Rattle.std.specs.List.{Contains}
 use Rattle.clsm_model.specs.declared.slot.Slot.{Slot}

@@ -86,8 +86,8 @@ fn is_newest(
     true
 }
 
-/// Whether the merge keeps the entry, if it is a source: it stays at or above the floor, and below it where it is the newest of
-/// its key there, and no removal that goes to level 1.
+/// Whether the merge keeps the entry, if it is a source: it stays at or above the floor, and below
+/// it where it is the newest of its key there, and no removal that goes to level 1.
 fn is_staying(
     layout: &Layout,
     words: &[u64],
@@ -207,7 +207,8 @@ fn is_run_written(layout: &Layout, words: &[u64], merger: &MergerView) -> bool
     true
 }
 
-/// Whether the target holds what the next merge is to write: a run of exactly the sources that the merge keeps. It takes no memory.
+/// Whether the target holds what the next merge is to write: a run of exactly the sources that the
+/// merge keeps. It takes no memory.
 pub(crate) fn is_wanted_written(
     layout: &Layout,
     words: &[u64],

@@ -9,7 +9,8 @@ use clsm_law::{Layout, Word};
 use clsm_model::{Slot, Time, Value};
 use std::marker::Model;
 
-/// An entry whose value may have no word too: the words of a place may spell one that nobody wrote. Contracts see the entry.
+/// An entry whose value may have no word too: the words of a place may spell one that nobody wrote.
+/// Contracts see the entry.
 #[derive(Drop)]
 pub(crate) struct PlainEntry {
     key: u64,
@@ -90,7 +91,8 @@ impl PlainEntry {
         self.is_removal || self.words[..self.count] == other.words[..other.count]
     }
 
-    /// Whether it stands before the other in a run: by rising key, and within a key by falling time.
+    /// Whether it stands before the other in a run: by rising key, and within a key by falling
+    /// time.
     pub(crate) fn comes_before(&self, other: &PlainEntry) -> bool
         ensures { IsTrue result ↔ ComesBefore self.now other.now }
     {

@@ -53,7 +53,8 @@ pub(crate) fn is_last(layout: &Layout, words: &[u64], merger: &MergerView, cell:
     true
 }
 
-/// Whether an entry with this time word may have the length: 0 for a removal, at most 8 for a value.
+/// Whether an entry with this time word may have the length: 0 for a removal, at most 8 for a
+/// value.
 fn is_length(spelled: u64, length: u64) -> bool
     ensures { result ≡ is_length spelled length }
 {

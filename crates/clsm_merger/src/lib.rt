@@ -1,5 +1,5 @@
-//! The steps of the merger, as they are made: whether a step is open, its word, what it makes of the word, what the merger's view
-//! and the slots are after it.
+//! The steps of the merger, as they are made: whether a step is open, its word, what it makes of
+//! the word, what the merger's view and the slots are after it.
 #![tactic(auto)]
 
 mod beginning;

@@ -70,7 +70,8 @@ fn is_retired_cell(layout: &Layout, merger: &MergerView, cell: u64) -> bool
     cell < 2 * layout.cells && layout.region_of(cell) == retired_region(layout, merger)
 }
 
-/// Whether the target holds what the next merge is to write and nothing besides, and has room for it.
+/// Whether the target holds what the next merge is to write and nothing besides, and has room for
+/// it.
 #[tactic(auto, unfolding(clsm_law::specs::Deciding::written_of, clsm_law::specs::Deciding::wanted_of))]
 fn is_publishable(
     layout: &Layout,

@@ -25,7 +25,8 @@ pub(crate) fn reader_at(readers: &Items<Reader>, seat: u64) -> Reader
         .unwrap_or(UNSEEN)
 }
 
-/// What is known of a seat after a look at its pin word: it is quiet where the word is even, or another than first noted.
+/// What is known of a seat after a look at its pin word: it is quiet where the word is even, or
+/// another than first noted.
 pub(crate) fn reader_by(reader: Reader, found: u64) -> Reader
     ensures { result ≡ reader_by reader found }
 {

@@ -24,7 +24,8 @@ fn least(first: Option<Time>, second: Option<Time>) -> Option<Time>
     }
 }
 
-/// The round after a look at the snapshot word of the seat: it goes on with the round, begins one, or breaks it off.
+/// The round after a look at the snapshot word of the seat: it goes on with the round, begins one,
+/// or breaks it off.
 pub(crate) fn round_by(
     layout: &Layout,
     round: Option<Round>,
@@ -76,7 +77,8 @@ pub(crate) fn round_end(layout: &Layout, round: Option<Round>) -> Option<Round>
     if is_whole(layout, round) { None } else { round }
 }
 
-/// The floor after a look that leaves this round: a whole round raises it to the least time noted, or to the end of the epoch.
+/// The floor after a look that leaves this round: a whole round raises it to the least time noted,
+/// or to the end of the epoch.
 pub(crate) fn floor_by(layout: &Layout, merger: &MergerView, round: Option<Round>) -> Time
     requires { IsMergerSmall layout.now merger.now }
     ensures { result ≡ floor_by layout.now merger.now round }

@@ -7,8 +7,8 @@ use clsm_law::{Layout, MergerView, Step};
 use clsm_model::Slot;
 use std::alloc::AllocError;
 
-/// Notes what the merger's step makes of the times: where it moves the clock, the undrawn times of the epoch come to nothing.
-/// Refused for want of memory, the slots stay as they were.
+/// Notes what the merger's step makes of the times: where it moves the clock, the undrawn times of
+/// the epoch come to nothing. Refused for want of memory, the slots stay as they were.
 pub fn settle_merger(
     layout: &Layout,
     merger: &MergerView,

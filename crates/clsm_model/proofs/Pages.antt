@@ -199,7 +199,8 @@ range-append h s lo hi more rows tail rise inside below above low high from rang
   above = λ k lt. value_at-append rows tail k ∙ ap (λ (o : Option (List ℕ)). or_else o (value_at tail k)) (above k (omega arith)) ∙ range.above k lt;
 }
 
--- rows that are the range from lo up to a key with a value, which they leave out, are a page: that key is the next
+-- rows that are the range from lo up to a key with a value, which they leave out, are a page: that
+-- key is the next
 pub page_of : (h : History) (s lo hi more : ℕ) (words : List ℕ) (rows : List Pair) (max : ℕ) → length rows ≡ max → KeysRise rows
     → ((k : ℕ) → lo ≤ k → k < more → value_at rows k ≡ value h k s) → ((k : ℕ) → k < lo → value_at rows k ≡ None) → ((k : ℕ) → more ≤ k → value_at rows k ≡ None)
     → lo ≤ more → more ≤ hi → value h more s ≡ Some words → (all : List Pair) × IsRange h s lo hi all × IsPage all max rows (Some more)

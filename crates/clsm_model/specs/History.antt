@@ -51,7 +51,8 @@ abbrev pub left_by : Option Write → Option (List ℕ)
 left_by None = None
 left_by (Some w) = w.value
 
--- the value of the key below the time s: there is none where no write is, or the newest is a removal
+-- the value of the key below the time s: there is none where no write is, or the newest is a
+-- removal
 abbrev pub value : History → ℕ → ℕ → Option (List ℕ)
 value h k s = left_by (newest h k s)
 

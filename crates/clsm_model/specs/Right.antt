@@ -41,7 +41,8 @@ Reads h s (Scan lo hi rows) = IsRange h s lo hi rows
 Reads h s (Page from hi max rows more) = (all : List Pair) × IsRange h s from hi all × IsPage all max rows more
 Reads h s _ = Unit {0}
 
--- the deed stands at a time of the history, and what it read is what the writes below that time give
+-- the deed stands at a time of the history, and what it read is what the writes below that time
+-- give
 pub record IsRight (h : History) (s : ℕ) (deed : Deed) : Type 0 where
   pub readable : IsReadable h s
   pub reads : Reads h s deed

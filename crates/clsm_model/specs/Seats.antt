@@ -39,7 +39,8 @@ abbrev pub HasWrite : ℕ → ℕ → Slot → List CallRecord → Type 0
 HasWrite i t write [] = ⊥
 HasWrite i t write (r ∷ rs) = ((r.time ≡ t) × (write_by i r.deed ≡ Some write)) ⊎ HasWrite i t write rs
 
--- ---- dues: no later call of the seat has a time below its due, reads under an open snapshot and its close apart
+-- ---- dues: no later call of the seat has a time below its due, but reads under an open snapshot
+-- and its close
 
 -- the snapshot that is open after a call
 abbrev pub open_after : Option ℕ → ℕ → Deed → Option ℕ
@@ -52,7 +53,8 @@ abbrev pub due_by : ℕ → Change → ℕ
 due_by t Keep = t
 due_by t _ = t + 1
 
--- the due after a call at the time t: past a write, at a read, and as it was after a close or a read under an open snapshot
+-- the due after a call at the time t: past a write, at a read, and as it was after a close or a
+-- read under an open snapshot
 abbrev pub due_after : ℕ → Option ℕ → ℕ → Deed → ℕ
 due_after due snapshot t (Put key written) = t + 1
 due_after due snapshot t (Remove key) = t + 1
@@ -69,8 +71,8 @@ abbrev pub IsNextRead : ℕ → Option ℕ → ℕ → Type 0
 IsNextRead due None t = due ≤ t
 IsNextRead due (Some s) t = t ≡ s
 
--- a call with this deed may come next: a close and the reads under an open snapshot at its time, all others at or above the due,
--- and a snapshot only where none is open
+-- a call with this deed may come next: a close and the reads under an open snapshot at its time,
+-- all others at or above the due, and a snapshot only where none is open
 abbrev pub IsNext : ℕ → Option ℕ → ℕ → Deed → Type 0
 IsNext due snapshot t Snapshot = (snapshot ≡ None) × (due ≤ t)
 IsNext due snapshot t Close = snapshot ≡ Some t
@@ -106,13 +108,15 @@ pub record IsRising (calls : List CallRecord) (due : ℕ) (snapshot : Option ℕ
 abbrev pub writes_at : ℕ → ℕ → List CallRecord → List CallRecord
 writes_at i t calls = filter (λ r. r.time == t && is_some (write_by i r.deed)) calls
 
--- each write of the history with the seat's number is the write of exactly one of its records, at that time
+-- each write of the history with the seat's number is the write of exactly one of its records, at
+-- that time
 abbrev pub HasEachWrite : List Slot → ℕ → List CallRecord → Type 0
 HasEachWrite h i calls = (t key : ℕ) (written : Option (List ℕ)) → t < length h → slice_index_or h t Nothing ≡ Wrote i key written
     → (r : CallRecord) × (writes_at i t calls ≡ r ∷ []) × (write_by i r.deed ≡ Some (Wrote i key written))
 
--- The calls are the seat's part of the history h: h reaches the seat's due; each of the writes stands in h, and each write in h with the seat's
--- number is one of these, once; what was read is right; and the times rise to the due
+-- The calls are the seat's part of the history h: h reaches the seat's due; each of the writes
+-- stands in h, and each write in h with the seat's number is one of these, once; what was read is
+-- right; and the times rise to the due
 pub record AreCallsIn (h : List Slot) (i : ℕ) (calls : List CallRecord) (due : ℕ) (snapshot : Option ℕ) : Type 0 where
   pub reached : due ≤ length h
   pub stand : AllByRecursion (IsRecordIn h i) calls

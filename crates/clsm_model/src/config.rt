@@ -52,8 +52,8 @@ impl OpenError {
 }
 
 impl Config {
-    /// Tests the sizes. Refused with the first one out of its range, in the order cells, seats, shards, run,
-    /// patience, and never with `Memory`.
+    /// Tests the sizes. Refused with the first one out of its range, in the order cells, seats,
+    /// shards, run, patience, and never with `Memory`.
     pub fn check(&self) -> Result<(), OpenError>
         ensures { IsChecked self.now result }
     {

@@ -1,4 +1,5 @@
-//! Slots, records and the plain map: what a history of writes means, with no thread and no shared word.
+//! Slots, records and the plain map: what a history of writes means, with no thread and no shared
+//! word.
 #![tactic(auto)]
 
 mod config;

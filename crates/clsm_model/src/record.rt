@@ -40,7 +40,8 @@ pub enum Deed {
         hi: u64,
         rows: Rows,
     },
-    /// The first `max` pairs with `from <= key <= hi`, and the key of the next pair, if there is one.
+    /// The first `max` pairs with `from <= key <= hi`, and the key of the next pair, if there is
+    /// one.
     Page {
         from: u64,
         hi: u64,

@@ -1,5 +1,5 @@
--- Where clap finds no fault, a command of the program was entered, and clap's matches are those that
--- its own function of the words gives.
+-- Where clap finds no fault, a command of the program was entered, and clap's matches are those
+-- that its own function of the words gives.
 use Rattle.std.proofs.Common.{◌≡◌, ◌∙◌, Bool, true, false, List, [], ◌∷◌, Option, Some, None, refl, ap, sym, subst, is_some, cond, inl, inr, option_map}
 use Rattle.std.specs.Prelude.{Err, Ok, Result, find, IfErr, IsErrAnd, ⊤}
 use Rattle.std.specs.Box.{box_value}

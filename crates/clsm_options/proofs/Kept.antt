@@ -1,4 +1,5 @@
--- What each use of an argument keeps of the rows, a walk over words in which clap finds no fault keeps.
+-- What each use of an argument keeps of the rows, a walk over words in which clap finds no fault
+-- keeps.
 use Rattle.std.proofs.Common.{◌≡◌, ◌∷◌, ◌&&◌, [], ℕ, Bool, true, false, List, Option, Some, None, refl, zero, suc, length, drop}
 use Rattle.std.specs.Prelude.{fold, is_some, slice_get, encode_utf8, if◌then◌else◌}
 use Rattle.std.specs.Option.{option_map_or}

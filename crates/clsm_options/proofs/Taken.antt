@@ -1,5 +1,5 @@
--- After words in which clap finds no fault, each argument with a default has a value that its parser
--- takes.
+-- After words in which clap finds no fault, each argument with a default has a value that its
+-- parser takes.
 use Rattle.std.proofs.Common.{◌≡◌, ◌∙◌, ◌⊎◌, ◌∷◌, ◌&&◌, ◌||◌, ◌++◌, [], ℕ, Bool, true, false, not, List, Option, Some, None, refl, ap, sym, subst, cond, length, inl, inr, option_map, true≢false}
 use Rattle.std.specs.Prelude.{find, fold, nat_lt, if◌then◌else◌}
 use Rattle.std.specs.Str.{bytes_eq}

@@ -6,14 +6,16 @@ use Rattle.clsm_law.specs.Relation.{next_word, ended_calls, ended_due, ended_sna
 use Rattle.clsm_words.specs.declared.known.Known.{Known}
 use Rattle.clsm_words.specs.Keeping.{KeepsPast}
 
--- it holds the component, in a read that has looked at no clock yet; it has reached all that is merged into it
+-- it holds the component, in a read that has looked at no clock yet; it has reached all that is
+-- merged into it
 pub record Pins (old new : Known) (component : ℕ) : Type 0 where
   pub keeps : KeepsPast old new
   pub view : new.view ≡ record old.view { pin = next_word old.view.pin; pinned = true; held = Some component; pin_clock = None; reached = new.view.reached }
   pub reached : old.view.reached ≤ new.view.reached
   pub merged : component * old.layout.cells ≤ new.view.reached
 
--- its read has ended so, with its records; what it was told is a beginning of what it knows, if that is as long
+-- its read has ended so, with its records; what it was told is a beginning of what it knows, if
+-- that is as long
 pub record Unpins (old new : Known) (end : End) : Type 0 where
   pub keeps : KeepsPast old new
   pub view : new.view ≡ record old.view { pin = next_word old.view.pin; pinned = false; held = None; pin_clock = None; snapshot = ended_snapshot old.view.snapshot; due = ended_due old.view end; calls = old.view.calls ++ ended_calls old.number old.view end }

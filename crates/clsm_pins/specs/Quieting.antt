@@ -15,7 +15,8 @@ pub record LooksAtPin (old new : Known) (seat : ℕ) (seen : Reader) : Type 0 wh
   pub past : IsPrefix old.past new.past
   pub merger : new.merger ≡ record old.merger { readers = slice_set old.merger.readers seat seen }
 
--- in each world that may be, with this view of the merger, the seat with this number holds no component but the newest
+-- in each world that may be, with this view of the merger, the seat with this number holds no
+-- component but the newest
 abbrev pub HoldsNothingRetired : MergerView → ℕ → Type 0
 HoldsNothingRetired m seat = (w : WorldState) (component : ℕ) → IsLawful w → w.merger ≡ m → each w.layout held_of w.views seat ≡ Some component → component ≡ m.merged
 

@@ -7,8 +7,9 @@ use Rattle.clsm_words.specs.declared.known.Known.{Known}
 use Rattle.clsm_words.specs.Knowing.{IsNearHeld}
 use Rattle.clsm_words.specs.Keeping.{KeepsPast}
 
--- It noted a time, and then looked at the clock, which gave the snapshot its time t; no record has the snapshot yet. The time is as that of
--- each read: not below the due nor the past, and of the epochs of the component held
+-- It noted a time, and then looked at the clock, which gave the snapshot its time t; no record has
+-- the snapshot yet. The time is as that of each read: not below the due nor the past, and of the
+-- epochs of the component held
 pub record NotesSnapshot (old new : Known) (t : ℕ) : Type 0 where
   pub keeps : KeepsPast old new
   pub view : new.view ≡ record old.view { fresh_clock = Some t; clock = Some t; pin_clock = Some t; snapshot = new.view.snapshot }

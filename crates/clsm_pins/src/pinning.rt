@@ -7,9 +7,10 @@ ghost use Rattle.clsm_pins.specs.Pinning.{Pins, Unpins};
 use clsm_law::{End, Word};
 use clsm_words::{Pace, RawSeat, Words};
 
-/// Begins a read: two steps, the pin and one look at MERGED, which gives the component that the seat holds until it unpins. `pin` is
-/// the seat's pin word. What the seat holds is neither merged away nor reclaimed meanwhile (the cLSM paper's pinned component).
-/// It takes no lock, never waits and is never refused.
+/// Begins a read: two steps, the pin and one look at MERGED, which gives the component that the
+/// seat holds until it unpins. `pin` is the seat's pin word. What the seat holds is neither merged
+/// away nor reclaimed meanwhile (the cLSM paper's pinned component). It takes no lock, never waits
+/// and is never refused.
 pub fn pin<P: Pace>(words: &Words<P>, seat: &mut RawSeat, pin: u64) -> u64
     requires of { IsSeatOf words.now seat.old }
     requires free { seat.old.knows.view.pinned ≡ false }
@@ -22,7 +23,8 @@ pub fn pin<P: Pace>(words: &Words<P>, seat: &mut RawSeat, pin: u64) -> u64
     words.look(seat, Word::Merged)
 }
 
-/// Ends a read with its records, in one step. `pin` is the seat's pin word. It never waits and is never refused.
+/// Ends a read with its records, in one step. `pin` is the seat's pin word. It never waits and is
+/// never refused.
 pub fn unpin<P: Pace>(words: &Words<P>, seat: &mut RawSeat, pin: u64, end: &End)
     requires opens { MayPlay words.now seat.old (Unpin end.now) }
     requires pin { pin ≡ seat.old.knows.view.pin }

@@ -8,8 +8,9 @@ ghost use Rattle.clsm_pins.specs.Quieting.{HoldsNothingRetired, IsNotedOdd, Look
 use clsm_law::{Reader, Word};
 use clsm_words::{Pace, RawMerger, Words};
 
-/// What is noted of a seat whose pin word is this now: it is quiet where the word is even, as no read runs, or where it differs from the one first
-/// noted in this retirement, as that read has ended.
+/// What is noted of a seat whose pin word is this now: it is quiet where the word is even, as no
+/// read runs, or where it differs from the one first noted in this retirement, as that read has
+/// ended.
 fn noted(seen: Reader, word: u64) -> Reader
     ensures noted { result ≡ reader_by seen word }
     ensures loud { result.quiet ≡ false → IsNotedOdd result.first_pin }
@@ -22,8 +23,9 @@ fn noted(seen: Reader, word: u64) -> Reader
     }
 }
 
-/// Looks once at the pin word of the seat with this number, and answers whether the seat holds nothing of the retired component: it stays so
-/// until the next merge. `seen` is what was noted of the seat in this retirement. It never waits and is never refused.
+/// Looks once at the pin word of the seat with this number, and answers whether the seat holds
+/// nothing of the retired component: it stays so until the next merge. `seen` is what was noted of
+/// the seat in this retirement. It never waits and is never refused.
 pub fn quiet<P: Pace>(
     words: &Words<P>,
     merger: &mut RawMerger,

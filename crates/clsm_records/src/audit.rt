@@ -56,9 +56,9 @@ struct Listed {
 /// verdict on the output: `audit ok`, with status 0, or `audit fault KIND LINE`, with status 2,
 /// where `LINE` is the line, counted from 1, of the record that has the fault. Where there is no
 /// verdict, a line on the faults says why: `bad line L`, or `device` for a failed read or write,
-/// with status 1, or `no memory`, with status 3. A write to the faults that fails changes no status. Of
-/// the sizes the audit uses only the number of seats: a record of another seat is `Unknown`. All
-/// records are kept, so memory limits how many there may be, and how long a line is.
+/// with status 1, or `no memory`, with status 3. A write to the faults that fails changes no
+/// status. Of the sizes the audit uses only the number of seats: a record of another seat is
+/// `Unknown`. All records are kept, so memory limits how many there may be, and how long a line is.
 pub fn audit_lines<R, W, E>(
     alloc: Global,
     config: Config,

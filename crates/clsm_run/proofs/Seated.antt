@@ -1,4 +1,5 @@
--- The seats that workers give back are those of the store, in their order, and their calls are the records.
+-- The seats that workers give back are those of the store, in their order, and their calls are the
+-- records.
 use Rattle.std.proofs.Common.{◌≡◌, ℕ, zero, suc, ◌<◌, List, [], ◌∷◌, length, get_or, refl, sym, ap, ◌∙◌, arith}
 use Rattle.std.proofs.lemmas.List.{get_or_default, length-map}
 use Rattle.std.specs.Prelude.{All}

@@ -16,8 +16,8 @@ pub record AreSeatsOf (store : StoreId) (count : ℕ) (seats : List SeatState) :
   pub counted : length seats ≡ count
   pub each : (i : ℕ) (s : SeatState) → i < count → slice_index_or seats i s ≡ s → (s.store ≡ store) × (s.number ≡ i)
 
--- what the audit says of the records: they are the calls of one lawful history, or which fault is the
--- first, or there was no memory for it
+-- what the audit says of the records: they are the calls of one lawful history, or which fault is
+-- the first, or there was no memory for it
 abbrev pub IsVerdict : Config → List CallRecord → Result ⊤ AuditError → Type 0
 IsVerdict config records (Ok _) = IsLawful config records × IsOneHistory records
 IsVerdict config records (Err error) = IsRefusal config records error

@@ -41,8 +41,8 @@ IsRefusedFor (GetAt _) old new = old.snapshot ≡ None
 IsRefusedFor (Get _) old new = ⊥
 IsRefusedFor (Scan _ _) old new = ⊥
 
--- the deal was answered, and the seat has exactly this record more; or it was refused for its cause,
--- and the seat has the same calls
+-- the deal was answered, and the seat has exactly this record more; or it was refused for its
+-- cause, and the seat has the same calls
 abbrev pub Plays : Deal → SeatState → SeatState → Option CallRecord → Type 0
 Plays deal old new (Some r) =
     IsSameSeat old new × (new.calls ≡ old.calls ++ r ∷ []) × IsDeedOf deal r.deed

@@ -25,8 +25,8 @@ use std::sync::Wait;
 use std::thread::{self, Threads, join};
 use std::time::{Duration, Instant};
 
-/// What a run came to: the seats of its store, the records of all their calls, what the audit says of
-/// these, and what was noted meanwhile.
+/// What a run came to: the seats of its store, the records of all their calls, what the audit says
+/// of these, and what was noted meanwhile.
 #[derive(Drop)]
 pub struct Ran {
     pub seats: Vec<Seat>,

@@ -16,8 +16,8 @@ pub struct Gathered {
     pub notes: Vec<Note>,
 }
 
-/// What all workers gave back: their seats in their order, and all calls of these seats. Refused for
-/// want of memory.
+/// What all workers gave back: their seats in their order, and all calls of these seats. Refused
+/// for want of memory.
 pub fn gather(alloc: Global, worked: Vec<Worked>) -> Result<Gathered, AllocError>
     requires { All (λ w. w.seat.calls ≡ w.records.items) worked.items }
     ensures seats { IfOk result (λ all. all.seats.items ≡ map (λ w. w.seat) worked.items) }

@@ -17,13 +17,13 @@ use std::rt::Clock;
 use std::sync::Wait;
 use std::thread::Threads;
 
-/// Opens a store of these sizes, lets a worker for each seat make the calls of its workload while the
-/// merger merges, and audits the records of all answered calls. It prints how many calls were made,
-/// refused ones too, and `audit ok` or `audit fault KIND INDEX`; or, where it shows records, each of
-/// them as a line instead. Answers the exit status: 0, or 2
-/// where the audit found a fault, or 1 where a write to the output failed, or 3 where the sizes or
-/// memory were refused; `device`, `refused N SIZE` or `no memory` then stands on the faults. A write
-/// to the faults that fails changes nothing.
+/// Opens a store of these sizes, lets a worker for each seat make the calls of its workload while
+/// the merger merges, and audits the records of all answered calls. It prints how many calls were
+/// made, refused ones too, and `audit ok` or `audit fault KIND INDEX`; or, where it shows records,
+/// each of them as a line instead. Answers the exit status: 0, or 2 where the audit found a fault,
+/// or 1 where a write to the output failed, or 3 where the sizes or memory were refused; `device`,
+/// `refused N SIZE` or `no memory` then stands on the faults. A write to the faults that fails
+/// changes nothing.
 pub fn run<R, W, E>(
     rt: &R,
     alloc: Global,

@@ -24,7 +24,8 @@ pub struct Worker {
     watch: Watch,
 }
 
-/// What a worker gives back: its seat, the records of the calls that it made, and its notes of them.
+/// What a worker gives back: its seat, the records of the calls that it made, and its notes of
+/// them.
 #[derive(Drop)]
 pub struct Worked {
     pub seat: Seat,
@@ -33,7 +34,8 @@ pub struct Worked {
 }
 
 /// Makes the calls of the seat's workload, and answers the seat with the records of those that were
-/// answered. Where it is refused memory, or another worker was, it ends there, and the board says so.
+/// answered. Where it is refused memory, or another worker was, it ends there, and the board says
+/// so.
 pub fn work<P: Pace + Drop, R: Clock + Wait>(
     rt: &R,
     alloc: Global,

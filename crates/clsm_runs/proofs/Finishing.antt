@@ -1,4 +1,5 @@
--- A merge before its first entry, over a look, and when it has taken each entry and writes how many it has written.
+-- A merge before its first entry, over a look, and when it has taken each entry and writes how many
+-- it has written.
 use Rattle.std.proofs.Common.{◌≡◌, ℕ, ◌<◌, ◌≤◌, Bool, true, List, [], ◌++◌, append-nil, length, Option, None, ap, sym, ◌∙◌, arith, subst}
 use Rattle.clsm_levels.specs.declared.entry.Entry.{Entry}
 use Rattle.clsm_levels.specs.declared.cursor.Cursor.{Cursor}

@@ -22,7 +22,8 @@ use Rattle.clsm_runs.proofs.NamedRuns.{at_entry}
 earlier_before : (key until : ℕ) (x y : Entry) → ComesBefore x y → ComesEarlier key until y → ComesEarlier key until x
 earlier_before key until x y before earlier = grind arith
 
--- no search for the key or a greater one finds an entry that is of a smaller key, or not of a time below until
+-- no search for the key or a greater one finds an entry that is of a smaller key, or not of a time
+-- below until
 pub not_found : (from until : ℕ) (x : Entry) (xs : List Entry) → (x.key < from) ⊎ (until ≤ x.time) → (key : ℕ) → from ≤ key → first_below (x ∷ xs) key until ≡ first_below xs key until
 not_found from until x xs is key le = grind (arith, nat_tests)
 

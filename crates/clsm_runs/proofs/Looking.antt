@@ -1,4 +1,5 @@
--- What stays over looks while a component is held: the words of its runs, and so what was found in them.
+-- What stays over looks while a component is held: the words of its runs, and so what was found in
+-- them.
 use Rattle.std.proofs.Common.{◌≡◌, ℕ, zero, suc, ◌+◌, ◌-◌, ◌<◌, List, refl, sym, ap, ◌∙◌, subst, Option}
 use Rattle.clsm_levels.specs.declared.entry.Entry.{Entry}
 use Rattle.clsm_levels.specs.Entry.{first_below}

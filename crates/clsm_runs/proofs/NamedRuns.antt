@@ -24,7 +24,8 @@ use Rattle.clsm_runs.specs.Placing.{IsMergedEntry}
 
 -- ---- the places that a component names
 
--- a place of level 0 that it names is below the number of its runs there, and its place of level 1 is the one
+-- a place of level 0 that it names is below the number of its runs there, and its place of level 1
+-- is the one
 named_cases : (P : Type 0) (m p : ℕ) → is_named m p ≡ true → (p < 3 → p < m % 4 → P) → (p ≡ 3 + m / 4 % 2 → P) → P
 named_cases P m p named low high = elim (cases_lt p 3) [
   | inl lt ↦ low lt (ltb-true p (m % 4) (subst (λ (b : Bool). cond b (nat_lt p (m % 4)) (p == 3 + m / 4 % 2) ≡ true) (lt-ltb p 3 lt) named))

@@ -26,7 +26,8 @@ pub record IsFrozenBehind (k : Known) (merges : ℕ) : Type 0 where
 
 -- ---- what is read
 
--- each row is by rising key, and neither its times nor its entries' numbers are so great that words do not hold them
+-- each row is by rising key, and neither its times nor its entries' numbers are so great that words
+-- do not hold them
 pub record AreSources (rows : List (List Entry)) : Type 0 where
   pub rise : AllRise rows
   pub early : AllByRecursion (AreBelow (2 ^ 62)) rows
@@ -54,18 +55,21 @@ pub record IsSameOutput (o o' : Output) : Type 0 where
   pub floor : o'.floor ≡ o.floor
   pub to_level_one : o'.to_level_one ≡ o.to_level_one
 
--- what is written, and what will be kept of the rest, are all that is to be kept; no word says more than the entries
+-- what is written, and what will be kept of the rest, are all that is to be kept; no word says more
+-- than the entries
 pub record LeavesOff (k : Known) (o : Output) (rest all : List Entry) : Type 0 where
   pub split : entries_from (row_of k) o.place 0 o.count ++ kept_after o.settled o.floor o.to_level_one rest ≡ all
   pub canonical : passes_from (is_canonical (row_of k) o.place) 0 o.count ≡ true
 
 -- ---- the whole
 
--- what a merge with this floor keeps of the epoch's sorted writes, and of the runs where it writes level 1
+-- what a merge with this floor keeps of the epoch's sorted writes, and of the runs where it writes
+-- level 1
 abbrev pub kept_of : Known → ℕ → List Entry → List Entry
 kept_of k floor epoch = kept floor (is_to_level_one k.merger.merged) (merged (all_of (rows_of k epoch)))
 
--- the place of the next merge holds these entries, and has room for them, and no word of it says more
+-- the place of the next merge holds these entries, and has room for them, and no word of it says
+-- more
 pub record HasWritten (k : Known) (entries : List Entry) : Type 0 where
   pub written : entries_in (row_of k) (target_of k.merger) ≡ entries
   pub fits : row_of k (Count (target_of k.merger)) ≤ room_of k.layout (target_of k.merger)

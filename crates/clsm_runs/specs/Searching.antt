@@ -57,7 +57,8 @@ pub record StandsFrom (k : Known) (place until from position : ℕ) : Type 0 whe
 abbrev pub ComesEarlier : ℕ → ℕ → Entry → Type 0
 ComesEarlier key until e = (e.key < key) ⊎ ((e.key ≡ key) × (until ≤ e.time))
 
--- where the entry stands to the first of the key with a time below until: before it, of the key with this time word, or behind each of the key
+-- where the entry stands to the first of the key with a time below until: before it, of the key
+-- with this time word, or behind each of the key
 abbrev pub IsSide : Memory → ℕ → ℕ → ℕ → ℕ → Side → Type 0
 IsSide memory place entry key until (Before found) = ComesEarlier key until (entry_in memory place entry)
 IsSide memory place entry key until (Hit spelled) = (memory (EntryWord place entry 0) ≡ key) × (memory (EntryWord place entry 1) ≡ spelled) × ((entry_in memory place entry).time < until)
@@ -83,6 +84,7 @@ IsPosition k place key until (Some hit) = (hit.0 < count_of k place) × (entry_w
 
 -- ---- a search of run after run
 
--- the runs of the component at the places of level 0 below j, the newest first, and behind them that of level 1
+-- the runs of the component at the places of level 0 below j, the newest first, and behind them
+-- that of level 1
 abbrev pub runs_below : Memory → ℕ → ℕ → List (List Entry)
 runs_below memory component j = runs_at (held_at memory) (level_zero_places j ++ LevelOne (component / 4 % 2) ∷ [])

@@ -13,7 +13,8 @@ use clsm_levels::Entry;
 use clsm_model::Time;
 use clsm_words::{Pace, RawSeat, Words};
 
-/// Where the entry stands to the first of the key with a time below `until`. Its time is looked at only where it is of the key.
+/// Where the entry stands to the first of the key with a time below `until`. Its time is looked at
+/// only where it is of the key.
 fn compare<P: Pace>(
     words: &Words<P>,
     seat: &mut RawSeat,
@@ -78,10 +79,12 @@ pub(crate) fn bound<P: Pace>(
     span
 }
 
-/// The first entry of the key with a time below `until` in the run at the place, which the held component names. The run's last and first keys
-/// may exclude the key; else the search guesses by how evenly the keys stand, and halves in turn. As in LevelDB
-/// the newest entry of a key stands first, so it is the newest version below `until`; a removal is found as an entry without a value. Only the
-/// found entry's value is read. It never waits, takes no memory and is never refused.
+/// The first entry of the key with a time below `until` in the run at the place, which the held
+/// component names. The run's last and first keys may exclude the key; else the search guesses by
+/// how evenly the keys stand, and halves in turn. As in LevelDB the newest entry of a key stands
+/// first, so it is the newest version below `until`; a removal is found as an entry without a
+/// value. Only the found entry's value is read. It never waits, takes no memory and is never
+/// refused.
 pub fn find<P: Pace>(
     words: &Words<P>,
     seat: &mut RawSeat,

@@ -1,4 +1,5 @@
-//! Sorted runs in the words: their entries are looked at, found by halving, searched run by run, and merged.
+//! Sorted runs in the words: their entries are looked at, found by halving, searched run by run,
+//! and merged.
 #![tactic(auto)]
 
 mod finding;

@@ -21,7 +21,8 @@ use clsm_model::Time;
 use clsm_words::{Pace, RawMerger, Words};
 use thiserror::Error;
 
-/// The refusal of a merge, number 1: a merge into level 1 would keep more entries than a run has room for.
+/// The refusal of a merge, number 1: a merge into level 1 would keep more entries than a run has
+/// room for.
 #[derive(Clone, Copy, PartialEq, Eq, Debug, Error)]
 #[error("run full")]
 pub struct RunFull;
@@ -82,9 +83,10 @@ fn take<P: Pace>(
     Ok(())
 }
 
-/// Writes what the next merge keeps by this floor at its place, behind one another by rising key: of the frozen epoch's writes, which are given
-/// sorted, where it writes level 0, and of these and all runs where it writes level 1. It takes no memory and never waits. Refused, with
-/// what is written there unseen by any reader, where that is more than the place has room for.
+/// Writes what the next merge keeps by this floor at its place, behind one another by rising key:
+/// of the frozen epoch's writes, which are given sorted, where it writes level 0, and of these and
+/// all runs where it writes level 1. It takes no memory and never waits. Refused, with what is
+/// written there unseen by any reader, where that is more than the place has room for.
 pub fn merge<P: Pace>(
     words: &Words<P>,
     merger: &mut RawMerger,

@@ -13,7 +13,8 @@ use clsm_law::Word;
 use clsm_levels::{Cursor, Entry, least};
 use clsm_words::{Pace, RawMerger, Words};
 
-/// A merge reads at most so many rows: the epoch's writes, three runs of level 0 and that of level 1.
+/// A merge reads at most so many rows: the epoch's writes, three runs of level 0 and that of level
+/// 1.
 const ROWS: usize = 5;
 
 /// The entry with this number of the run at the place, if it has so many.
@@ -41,8 +42,8 @@ fn entry_at<P: Pace>(
     }
 }
 
-/// The entry of the row at the position, if it has so many. The first row is the epoch's writes; the runs follow in the order in which they are
-/// searched, where the merge writes level 1.
+/// The entry of the row at the position, if it has so many. The first row is the epoch's writes;
+/// the runs follow in the order in which they are searched, where the merge writes level 1.
 fn head<P: Pace>(
     words: &Words<P>,
     merger: &mut RawMerger,

@@ -14,9 +14,10 @@ use clsm_words::{Pace, RawSeat, Words};
 /// The number of the first place of level 1.
 const LEVEL_ONE: u64 = 3;
 
-/// The newest entry of the key with a time below `until` in the runs of the held component: through the runs of level 0, the newest first,
-/// and then that of level 1, up to the first that has one. This is LevelDB's order: each run holds newer versions of a key than those
-/// behind it. It never waits, takes no memory and is never refused.
+/// The newest entry of the key with a time below `until` in the runs of the held component: through
+/// the runs of level 0, the newest first, and then that of level 1, up to the first that has one.
+/// This is LevelDB's order: each run holds newer versions of a key than those behind it. It never
+/// waits, takes no memory and is never refused.
 pub fn search<P: Pace>(
     words: &Words<P>,
     seat: &mut RawSeat,

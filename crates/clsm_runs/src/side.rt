@@ -30,7 +30,8 @@ pub(crate) enum Turn {
 }
 
 impl Turn {
-    /// Half of the looks halve the span whatever its keys are, so keys that are far from even cost at most twice the looks of a search by halving.
+    /// Half of the looks halve the span whatever its keys are, so keys that are far from even cost
+    /// at most twice the looks of a search by halving.
     #[inline]
     pub(crate) fn next(self) -> Turn {
         match self {
@@ -47,7 +48,8 @@ pub(crate) struct Span {
     /// The first of them, and the first behind them.
     pub(crate) low: u64,
     pub(crate) high: u64,
-    /// The entry at `high`, by its number and its time word, where it is of the key with a time below the bound.
+    /// The entry at `high`, by its number and its time word, where it is of the key with a time
+    /// below the bound.
     pub(crate) hit: Option<(u64, u64)>,
     /// Bounds of their keys.
     pub(crate) low_key: u64,

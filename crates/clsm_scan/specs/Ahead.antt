@@ -4,7 +4,8 @@ use Rattle.clsm_levels.specs.declared.entry.Entry.{Entry}
 use Rattle.clsm_model.specs.History.{or_else}
 use Rattle.clsm_levels.specs.Yields.{IsNextFrom}
 
--- The entry that was read ahead is the next one from the key on, or its key is passed, and the cursor stands behind it; or none was read ahead
+-- The entry that was read ahead is the next one from the key on, or its key is passed, and the
+-- cursor stands behind it; or none was read ahead
 abbrev pub IsAhead : (ℕ → Option Entry) → (ℕ → Type 0) → ℕ → Option Entry → Type 0
 IsAhead found stands from None = stands from
 IsAhead found stands from (Some e) = stands (e.key + 1) × (from ≤ e.key → IsNextFrom found from (Some e))

@@ -47,7 +47,8 @@ pub record IsStopped (value : ℕ → Option (List ℕ)) (lo hi : ℕ) (max : Op
   pub there : (words : List ℕ) × (value more ≡ Some words)
   pub full : max ≡ Some (length rows)
 
--- the rows are all from `lo` to `hi`, or as many of the first as may be, and the key of the next one
+-- the rows are all from `lo` to `hi`, or as many of the first as may be, and the key of the next
+-- one
 abbrev pub IsCollected : (ℕ → Option (List ℕ)) → ℕ → ℕ → Option ℕ → List Pair → Option ℕ → Type 0
 IsCollected value lo hi max rows None = AreAll value lo hi rows × IsAtMost (length rows) max
 IsCollected value lo hi max rows (Some more) = IsStopped value lo hi max rows more

@@ -9,7 +9,8 @@ use Rattle.clsm_words.specs.declared.known.Known.{Known}
 use Rattle.clsm_words.specs.Knowing.{row_of}
 use Rattle.clsm_scan.specs.declared.run_cursor.RunCursor.{RunCursor}
 
--- the newest write of the key below the time: of those of the component's epochs, which the seat knows, and else of those that its runs keep
+-- the newest write of the key below the time: of those of the component's epochs, which the seat
+-- knows, and else of those that its runs keep
 abbrev pub found_in_component : Known → ℕ → ℕ → ℕ → Option Entry
 found_in_component k component until key =
     or_else (first_below (entries_of k.past (component * k.layout.cells) until) key until) (first_in_runs (runs_of (row_of k) component) key until)

@@ -58,8 +58,8 @@ fn push_row(rows: &mut Vec<(u64, Value)>, row: (u64, Value)) -> Result<(), Memor
     }
 }
 
-/// The rows of all keys from `lo` to `hi`, by rising key: at most `max` of them, where that is given.
-/// Refused for want of memory.
+/// The rows of all keys from `lo` to `hi`, by rising key: at most `max` of them, where that is
+/// given. Refused for want of memory.
 pub fn collect<C: Cursor, P: Pace>(
     words: &Words<P>,
     seat: &mut RawSeat,

@@ -11,8 +11,8 @@ use clsm_levels::Entry;
 use clsm_model::Time;
 use clsm_words::{Pace, RawSeat, Words};
 
-/// A cursor over a row of entries that was gathered before and sorted as a run. The row has the keys
-/// of one range alone, so to seek is to begin again.
+/// A cursor over a row of entries that was gathered before and sorted as a run. The row has the
+/// keys of one range alone, so to seek is to begin again.
 #[derive(Drop)]
 pub struct Gathered {
     row: Vec<Entry>,

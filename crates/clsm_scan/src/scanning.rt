@@ -23,8 +23,8 @@ use clsm_model::{Memory, Time};
 use clsm_words::{Pace, RawSeat, Words};
 use std::alloc::Global;
 
-/// Cursors over the rows of a component, the newest first: the epochs' writes, the runs of level 0, as
-/// far as the component has them, and that of level 1.
+/// Cursors over the rows of a component, the newest first: the epochs' writes, the runs of level 0,
+/// as far as the component has them, and that of level 1.
 type Sources = Merged<
     Gathered,
     Merged<Option<RunCursor>, Merged<Option<RunCursor>, Merged<Option<RunCursor>, RunCursor>>>,
@@ -59,8 +59,8 @@ fn sources(row: Vec<Entry>, component: u64, until: Time) -> Sources
     Merged::new(Gathered::new(row, until), runs)
 }
 
-/// The rows of all keys from `lo` to `hi` below the time, by rising key: at most `max` of them, where
-/// that is given.
+/// The rows of all keys from `lo` to `hi` below the time, by rising key: at most `max` of them,
+/// where that is given.
 pub fn scan<P: Pace>(
     words: &Words<P>,
     seat: &mut RawSeat,

@@ -1,4 +1,5 @@
--- The calls of all seats, one seat's after another's, are the records of the seats; and settling keeps whose records they are.
+-- The calls of all seats, one seat's after another's, are the records of the seats; and settling
+-- keeps whose records they are.
 use Rattle.std.proofs.Common.{◌≡◌, ◌≢◌, ℕ, ◌==◌, zero, suc, Bool, cond, List, [], ◌∷◌, ◌++◌, get_or, refl, sym, ap, ◌∙◌, arith}
 use Rattle.std.proofs.lemmas.Bool.{eq-eqb, ne_eqb}
 use Rattle.std.proofs.lemmas.List.{append-nil, get_or_default}

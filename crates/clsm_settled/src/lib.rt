@@ -1,4 +1,5 @@
-//! The audit of settled seats, which finds no fault: what the seats of a store did is one lawful history.
+//! The audit of settled seats, which finds no fault: what the seats of a store did is one lawful
+//! history.
 #![tactic(auto)]
 
 ghost use Rattle.std.specs.Prelude.{◌≡◌};
@@ -27,8 +28,9 @@ fn are_in_time(seats: &[Seat])
     }
 }
 
-/// What holds of all seats of a store that are settled: records that are each seat's calls in its own
-/// order, however those of several seats are mixed, have no fault. It does nothing when it runs.
+/// What holds of all seats of a store that are settled: records that are each seat's calls in its
+/// own order, however those of several seats are mixed, have no fault. It does nothing when it
+/// runs.
 pub fn are_lawful<P: Pace>(
     store: &Store<P>,
     config: &Config,
@@ -44,9 +46,9 @@ pub fn are_lawful<P: Pace>(
     are_in_time(seats);
 }
 
-/// Audits the records of all seats of a store, which are settled: each seat's calls in its own order,
-/// however those of several seats are mixed. No fault is found. Refused with `Memory` for want of
-/// memory, and for nothing else.
+/// Audits the records of all seats of a store, which are settled: each seat's calls in its own
+/// order, however those of several seats are mixed. No fault is found. Refused with `Memory` for
+/// want of memory, and for nothing else.
 pub fn audit_settled<P: Pace>(
     alloc: Global,
     store: &Store<P>,
@@ -68,8 +70,8 @@ pub fn audit_settled<P: Pace>(
     }
 }
 
-/// What the seats' calls joined in the order of the seats are: the records of all seats of the store. It
-/// does nothing when it runs.
+/// What the seats' calls joined in the order of the seats are: the records of all seats of the
+/// store. It does nothing when it runs.
 pub fn joined_are_records<P: Pace>(store: &Store<P>, seats: &[Seat], records: &[CallRecord])
     requires order { AreAllInOrder store.now seats.now }
     requires joined { records.now ≡ joined seats.now }
@@ -88,8 +90,8 @@ fn have_own_calls(seats: &[Seat])
     }
 }
 
-/// Settles all seats of a store, and audits their records as `audit_settled` does. The same seats come
-/// back in the same order, settled, whether or not there was memory for the audit.
+/// Settles all seats of a store, and audits their records as `audit_settled` does. The same seats
+/// come back in the same order, settled, whether or not there was memory for the audit.
 pub fn settle_audited<P: Pace>(
     alloc: Global,
     store: &Store<P>,

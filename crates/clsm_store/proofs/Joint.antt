@@ -1,4 +1,5 @@
--- Seats that followed one another and are confirmed by the last one have a joint history: what that one knows.
+-- Seats that followed one another and are confirmed by the last one have a joint history: what that
+-- one knows.
 use Rattle.std.proofs.Common.{◌≡◌, ℕ, zero, suc, ◌<◌, ◌≤◌, ◌==◌, Bool, true, false, cond, List, [], ◌∷◌, length, get_or, refl, ap, ◌∙◌, sym, subst, arith, lt-ltb, le-ltb, ltb, lt_of_not-le}
 use mathlib.Core.List.{IsPrefix}
 use native.Mathlib.Decide.{dec_le}

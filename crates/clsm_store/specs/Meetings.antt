@@ -9,7 +9,8 @@ use Rattle.clsm_store.specs.Headline.{IsAt}
 use Rattle.clsm_calls.specs.Seats.{IsLawfulAlone, IsSameSeat, SeatState, StoreId}
 use Rattle.clsm_calls.specs.Tally.{TakesNoLock}
 
--- the seat read with no record: the same calls and snapshot, no lock taken, and its due did not fall
+-- the seat read with no record: the same calls and snapshot, no lock taken, and its due did not
+-- fall
 pub record IsUnrecorded (old new : SeatState) : Type 0 where
   pub same : IsSameSeat old new
   pub calls : new.calls ≡ old.calls
@@ -23,7 +24,8 @@ pub record Meets (t : ℕ) (old new : SeatState) : Type 0 where
   pub due : t ≤ new.due
   pub reaches : t ≤ length new.past
 
--- it took the message in and read at t: it knows what it was told, and t is not below the due that it was told of
+-- it took the message in and read at t: it knows what it was told, and t is not below the due that
+-- it was told of
 pub record Follows (message : MessageState) (t : ℕ) (old new : SeatState) : Type 0 where
   pub read : IsUnrecorded old new
   pub due : new.due ≡ t

@@ -16,9 +16,10 @@ use clsm_words::Pace;
 use std::sync::Wait;
 
 impl<P: Pace> Store<P> {
-    /// Writes the value at the key, and answers the write's time. It waits while a freeze holds the lock, and tries again where another seat
-    /// was faster or a reader overtook it. Refused with `Full` where the clock stands at the limit while the seat holds the lock: nothing
-    /// was written then, and the seat is as before.
+    /// Writes the value at the key, and answers the write's time. It waits while a freeze holds the
+    /// lock, and tries again where another seat was faster or a reader overtook it. Refused with
+    /// `Full` where the clock stands at the limit while the seat holds the lock: nothing was
+    /// written then, and the seat is as before.
     pub fn put<R: Wait>(
         &self,
         rt: &R,
@@ -35,7 +36,8 @@ impl<P: Pace> Store<P> {
         write(rt, &self.words, &mut seat.raw, key, &Some(value))
     }
 
-    /// Removes the key, and answers the removal's time, whether or not the key had a value. It waits and is refused as `put`.
+    /// Removes the key, and answers the removal's time, whether or not the key had a value. It
+    /// waits and is refused as `put`.
     pub fn remove<R: Wait>(&self, rt: &R, seat: &mut Seat, key: u64) -> Result<Time, Full>
         requires { seat.old.store ≡ self.now }
         ensures written { IfOk result (λ time. Answers seat.old seat.new time (Remove key)) }
@@ -46,9 +48,10 @@ impl<P: Pace> Store<P> {
         write(rt, &self.words, &mut seat.raw, key, &None)
     }
 
-    /// Writes the value at the key as `put`, but tries each exchange once and never waits. Refused with `Full` as `put`, with `Busy` where the
-    /// lock was not free to enter, with `Raced` where another seat was faster, and with `Overtaken` where a reader cancelled the time:
-    /// nothing was written then, and the seat is as before, but for its count of such refusals.
+    /// Writes the value at the key as `put`, but tries each exchange once and never waits. Refused
+    /// with `Full` as `put`, with `Busy` where the lock was not free to enter, with `Raced` where
+    /// another seat was faster, and with `Overtaken` where a reader cancelled the time: nothing was
+    /// written then, and the seat is as before, but for its count of such refusals.
     pub fn try_put(&self, seat: &mut Seat, key: u64, value: Value) -> Result<Time, TryPutError>
         requires { seat.old.store ≡ self.now }
         ensures written { IfOk result (λ time. Answers seat.old seat.new time (Put key value)) }
@@ -58,9 +61,10 @@ impl<P: Pace> Store<P> {
         try_write(&self.words, &mut seat.raw, key, value)
     }
 
-    /// The value of the key at a time of the read's own, which is the clock as the read found it: the value that the newest write below that
-    /// time left. It takes no lock and never waits; a write that is drawn below its time and not decided after `patience` looks is cancelled,
-    /// and its writer writes again. It is never refused.
+    /// The value of the key at a time of the read's own, which is the clock as the read found it:
+    /// the value that the newest write below that time left. It takes no lock and never waits; a
+    /// write that is drawn below its time and not decided after `patience` looks is cancelled, and
+    /// its writer writes again. It is never refused.
     pub fn get(&self, seat: &mut Seat, key: u64) -> Got
         requires { seat.old.store ≡ self.now }
         ensures answers { Answers seat.old seat.new result.time (Get key result.value) }
@@ -77,9 +81,11 @@ impl<P: Pace> Store<P> {
         got
     }
 
-    /// Reads the key, and makes of its value what the function answers to it: with `Keep` the call is a read alone, with a time of its own as
-    /// `get`; else it is a write, and `old` is the value of the key below the write's time, as no other write of the key came between (the
-    /// cLSM paper's optimistic read-modify-write). The function may be asked several times. It waits and is refused as `put`.
+    /// Reads the key, and makes of its value what the function answers to it: with `Keep` the call
+    /// is a read alone, with a time of its own as `get`; else it is a write, and `old` is the value
+    /// of the key below the write's time, as no other write of the key came between (the cLSM
+    /// paper's optimistic read-modify-write). The function may be asked several times. It waits and
+    /// is refused as `put`.
     pub fn rmw<R: Wait, F: Fn(Option<Value>) -> Change>(
         &self,
         rt: &R,
@@ -108,9 +114,11 @@ impl<P: Pace> Store<P> {
         answer
     }
 
-    /// Opens a snapshot at a time of its own, which is the clock as the call found it: it reads the map of the writes below that time until it
-    /// is closed, through every merge (the cLSM paper's snapshot; LevelDB's). All below its time is decided when it answers. It takes no
-    /// lock and never waits. Refused with `Open` where the seat has an open snapshot, which stays; nothing was done then.
+    /// Opens a snapshot at a time of its own, which is the clock as the call found it: it reads the
+    /// map of the writes below that time until it is closed, through every merge (the cLSM paper's
+    /// snapshot; LevelDB's). All below its time is decided when it answers. It takes no lock and
+    /// never waits. Refused with `Open` where the seat has an open snapshot, which stays; nothing
+    /// was done then.
     pub fn snapshot(&self, seat: &mut Seat) -> Result<Time, Open>
         requires { seat.old.store ≡ self.now }
         ensures opened { IfOk result (λ time. Answers seat.old seat.new time Snapshot) }
@@ -126,8 +134,8 @@ impl<P: Pace> Store<P> {
         Ok(time)
     }
 
-    /// Closes the seat's snapshot, and answers its time, or `None` where none was open. Merges may then forget what only it read. It takes no
-    /// lock, never waits and is never refused.
+    /// Closes the seat's snapshot, and answers its time, or `None` where none was open. Merges may
+    /// then forget what only it read. It takes no lock, never waits and is never refused.
     pub fn close_snapshot(&self, seat: &mut Seat) -> Option<Time>
         requires { seat.old.store ≡ self.now }
         ensures closed { IfSome result (λ time. Answers seat.old seat.new time Close) }
@@ -140,7 +148,8 @@ impl<P: Pace> Store<P> {
         Some(time)
     }
 
-    /// The value of the key below the time of the seat's open snapshot. It takes no lock, never waits and is never refused.
+    /// The value of the key below the time of the seat's open snapshot. It takes no lock, never
+    /// waits and is never refused.
     pub fn get_at(&self, seat: &mut Seat, key: u64) -> Got
         requires of { seat.old.store ≡ self.now }
         requires opened { seat.old.snapshot ≢ None }

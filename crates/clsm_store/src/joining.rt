@@ -13,9 +13,10 @@ use clsm_words::Pace;
 
 impl<P: Pace> Store<P> {
     /// Lets two callers meet: each reads at a time of its own that is not below any earlier time of
-    /// either, and the one knows all that the other did before. It answers the first of those times:
-    /// each later call of either seat has a time at or above it, reads under an earlier snapshot and
-    /// its close apart. It takes no memory and no lock, never waits and is never refused.
+    /// either, and the one knows all that the other did before. It answers the first of those
+    /// times: each later call of either seat has a time at or above it, reads under an earlier
+    /// snapshot and its close apart. It takes no memory and no lock, never waits and is never
+    /// refused.
     pub fn meet(&self, one: &mut Seat, other: &mut Seat) -> Time
         requires one { one.old.store ≡ self.now }
         requires other { other.old.store ≡ self.now }
@@ -33,11 +34,11 @@ impl<P: Pace> Store<P> {
     }
 
     /// Settles what these seats did: the same seats in the same order, with the same calls and
-    /// snapshots, have one joint history from then on, which is what the one that knows most of them
-    /// knows. Each answered put, remove and read-modify-write stands in it once, at its own time;
-    /// each read answered as a plain map of the writes below its time; no seat's times run back. With
-    /// all seats of the store no other write stands in it. It takes no memory and no lock, never
-    /// waits and is never refused; an empty list comes back empty.
+    /// snapshots, have one joint history from then on, which is what the one that knows most of
+    /// them knows. Each answered put, remove and read-modify-write stands in it once, at its own
+    /// time; each read answered as a plain map of the writes below its time; no seat's times run
+    /// back. With all seats of the store no other write stands in it. It takes no memory and no
+    /// lock, never waits and is never refused; an empty list comes back empty.
     pub fn settle(&self, mut seats: Vec<Seat>) -> Vec<Seat>
         requires { AreOf self.now seats.items }
         ensures of_store { AreOf self.now result.items }

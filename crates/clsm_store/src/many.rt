@@ -36,9 +36,9 @@ impl<P: Pace> Store<P> {
     }
 
     /// All pairs with `lo <= key <= hi` by rising key, as one read: at the time of the seat's open
-    /// snapshot, else at a time of its own, as `get`. There are none where `lo > hi`. Of the runs it
-    /// reads what it answers; the component in memory is gathered whole. It takes no lock and never
-    /// waits. Refused for want of memory: nothing is recorded then, and the seat is at rest.
+    /// snapshot, else at a time of its own, as `get`. There are none where `lo > hi`. Of the runs
+    /// it reads what it answers; the component in memory is gathered whole. It takes no lock and
+    /// never waits. Refused for want of memory: nothing is recorded then, and the seat is at rest.
     pub fn scan(&self, alloc: Global, seat: &mut Seat, lo: u64, hi: u64) -> Result<Scan, Memory>
         requires { seat.old.store ≡ self.now }
         ensures answers { IfOk result (λ scan. Answers seat.old seat.new scan.time (ScanOf lo hi scan.rows)) }
@@ -52,10 +52,10 @@ impl<P: Pace> Store<P> {
         }
     }
 
-    /// The first `max` of the pairs with `from <= key <= hi` by rising key, and the key of the first
-    /// one that is left out, where the next page begins. It reads at the time of the seat's open
-    /// snapshot, else at a time of its own, so only pages under one snapshot are of one map. It takes
-    /// no lock, never waits and is refused as `scan`.
+    /// The first `max` of the pairs with `from <= key <= hi` by rising key, and the key of the
+    /// first one that is left out, where the next page begins. It reads at the time of the seat's
+    /// open snapshot, else at a time of its own, so only pages under one snapshot are of one map.
+    /// It takes no lock, never waits and is refused as `scan`.
     pub fn page(
         &self,
         alloc: Global,

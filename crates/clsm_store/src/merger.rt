@@ -30,8 +30,8 @@ impl<'a, P: Pace + Drop> Merger<'a, P> {
         Merger { store, phase }
     }
 
-    /// As `Clean::freeze`: answers the number of the epoch that is frozen. Refused with `NotClean` in
-    /// any other phase.
+    /// As `Clean::freeze`: answers the number of the epoch that is frozen. Refused with `NotClean`
+    /// in any other phase.
     pub fn freeze<R: Wait>(self, rt: &R) -> (Merger<'a, P>, Result<u64, FreezeError>)
         ensures { Freezes self.entry.phase result.0.phase result.1 }
     {
@@ -60,9 +60,9 @@ impl<'a, P: Pace + Drop> Merger<'a, P> {
     }
 
     /// Freezes the current epoch, merges it and gives up what that retired, from the phase in which
-    /// the merger is and as far as these go: a flush of the component in memory, and each fourth time
-    /// a compaction of all runs. It waits for the lock as a freeze does, and for nothing else. Where
-    /// it was stopped, the next sweep goes on from there, and `Stopped` says what stopped it.
+    /// the merger is and as far as these go: a flush of the component in memory, and each fourth
+    /// time a compaction of all runs. It waits for the lock as a freeze does, and for nothing else.
+    /// Where it was stopped, the next sweep goes on from there, and `Stopped` says what stopped it.
     pub fn sweep<R: Wait>(self, rt: &R) -> (Merger<'a, P>, Result<(), Stopped>)
         ensures { Sweeps self.entry.phase result.0.phase result.1 }
     {

@@ -25,9 +25,9 @@ pub struct Opened<P: Pace> {
     pub merger: Clean,
 }
 
-/// Opens an empty store of these sizes, and makes all its room. Refused with the first size out of its range,
-/// in the order cells, seats, shards, run, patience, and with `Memory` only where all are in their ranges.
-/// Nothing is kept after a refusal.
+/// Opens an empty store of these sizes, and makes all its room. Refused with the first size out of
+/// its range, in the order cells, seats, shards, run, patience, and with `Memory` only where all
+/// are in their ranges. Nothing is kept after a refusal.
 pub fn open(alloc: Global, config: Config) -> Result<Opened<Free>, OpenError>
     ensures sizes { OnOk result (IsSound config) }
     ensures store { IfOk result (λ opened. HasSizes opened.store config) }

@@ -3,8 +3,9 @@ use clsm_model::Time;
 use clsm_words::RawSeat;
 use std::marker::Model;
 
-/// A caller's place at a store: each call is made by one of its seats. It may be moved to another thread. Contracts see its store, its number,
-/// the beginning of the history that it knows, its records, its due and its snapshot.
+/// A caller's place at a store: each call is made by one of its seats. It may be moved to another
+/// thread. Contracts see its store, its number, the beginning of the history that it knows, its
+/// records, its due and its snapshot.
 #[derive(Drop)]
 pub struct Seat {
     pub(crate) raw: RawSeat,
@@ -48,8 +49,9 @@ impl Seat {
         self.snapshot
     }
 
-    /// What holds of every seat: each of its writes stands in the history that it knows, each write there with its number is one of its
-    /// records, what it read is right, and its records' times rise to its due. It does nothing when it runs.
+    /// What holds of every seat: each of its writes stands in the history that it knows, each write
+    /// there with its number is one of its records, what it read is right, and its records' times
+    /// rise to its due. It does nothing when it runs.
     #[inline]
     pub fn is_lawful(&self)
         ensures { IsLawfulAlone self.now }
@@ -57,8 +59,8 @@ impl Seat {
         self.raw.is_sound();
     }
 
-    /// What holds of every seat: its due is at most 2^62, at which times end; so each of its writes stands below that, and each of its
-    /// reads at it or below. It does nothing when it runs.
+    /// What holds of every seat: its due is at most 2^62, at which times end; so each of its writes
+    /// stands below that, and each of its reads at it or below. It does nothing when it runs.
     #[inline]
     pub fn is_in_time(&self)
         ensures { self.now.due ≤ 2 ^ 62 }

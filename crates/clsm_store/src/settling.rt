@@ -1,5 +1,5 @@
-//! How seats settle: each tells its due, each follows the one before it, and each is confirmed by the
-//! last one's past. It takes no memory.
+//! How seats settle: each tells its due, each follows the one before it, and each is confirmed by
+//! the last one's past. It takes no memory.
 ghost use Rattle.std.specs.Prelude.{◌≡◌, ◌<◌, length};
 ghost use Rattle.clsm_store.specs.Meetings.{AreChained, AreConfirmed, AreDueBelow, AreMetAt, AreOf};
 

@@ -17,7 +17,8 @@ pub enum Stopped {
     /// No epoch can be frozen any more: the next limit would pass 2^62.
     #[error(transparent)]
     Worn(Worn),
-    /// The merge would keep more entries than a run has room for. A snapshot that is closed may help.
+    /// The merge would keep more entries than a run has room for. A snapshot that is closed may
+    /// help.
     #[error(transparent)]
     RunFull(RunFull),
     /// The seat with this number may still read what is retired.

@@ -11,7 +11,8 @@ use clsm_words::Pace;
 use std::marker::Model;
 use std::sync::Wait;
 
-/// The merger's token, where nothing is frozen. It may be moved to another thread. Contracts see its store and the number of merges.
+/// The merger's token, where nothing is frozen. It may be moved to another thread. Contracts see
+/// its store and the number of merges.
 #[derive(Drop)]
 pub struct Clean {
     pub(crate) merger: MergerSeat,
@@ -29,9 +30,10 @@ impl Model for Clean {
     ghost invariant = { λ c. IsClean c.merger.raw.knows c.merger.merges × IsReady c.merger };
 }
 
-/// The merger's token, where an epoch is frozen. It may be moved to another thread. Contracts see its store and the number of merges, which
-/// is also the number of the frozen epoch; the floor of the last try to merge, and how many rounds of looks at the snapshot words were made;
-/// the epoch's writes; and the runs.
+/// The merger's token, where an epoch is frozen. It may be moved to another thread. Contracts see
+/// its store and the number of merges, which is also the number of the frozen epoch; the floor of
+/// the last try to merge, and how many rounds of looks at the snapshot words were made; the epoch's
+/// writes; and the runs.
 #[derive(Drop)]
 pub struct Frozen {
     pub(crate) merger: MergerSeat,
@@ -49,8 +51,9 @@ impl Model for Frozen {
     ghost invariant = { λ f. IsFrozen f.merger.raw.knows f.merger.merges × IsReady f.merger };
 }
 
-/// The merger's token, where a component is retired. It may be moved to another thread. Contracts see its store and the number of merges, the one
-/// that retired the component among them; the floor of that merge, and the rounds; and what was noted of each seat since.
+/// The merger's token, where a component is retired. It may be moved to another thread. Contracts
+/// see its store and the number of merges, the one that retired the component among them; the floor
+/// of that merge, and the rounds; and what was noted of each seat since.
 #[derive(Drop)]
 pub struct Retired {
     pub(crate) merger: MergerSeat,
@@ -76,9 +79,11 @@ impl Clean {
         self.merger.merges()
     }
 
-    /// Freezes the current epoch: waits until no caller holds the lock, cancels the epoch's cells that were never drawn, and moves the clock to
-    /// its end and the limit to that of the next. Writers go on in the next epoch, and readers go on (the cLSM paper's switch of the memory
-    /// component). Refused with `Worn`, and with the token as it was, where the next limit would pass 2^62; nothing was done then.
+    /// Freezes the current epoch: waits until no caller holds the lock, cancels the epoch's cells
+    /// that were never drawn, and moves the clock to its end and the limit to that of the next.
+    /// Writers go on in the next epoch, and readers go on (the cLSM paper's switch of the memory
+    /// component). Refused with `Worn`, and with the token as it was, where the next limit would
+    /// pass 2^62; nothing was done then.
     pub fn freeze<P: Pace, R: Wait>(
         mut self,
         rt: &R,
@@ -108,12 +113,15 @@ impl Frozen {
         self.merger.merges()
     }
 
-    /// Merges the frozen epoch into a sorted run: of three merges each writes the epoch's run into level 0, and the fourth all runs and the epoch
-    /// into level 1, as LevelDB's compactions do. Of each key it keeps every version from the floor on, and of those before it the newest; a removal
-    /// that is the newest there is left out of level 1. For the floor it looks at each snapshot word in one round, and takes the end of the epoch,
-    /// or the least time that is noted there where that is earlier; a floor never falls. Readers and writers go on beside it, and it never waits.
-    /// Refused with `RunFull`, and with the token, where a merge into level 1 would keep more entries than a run has room for; nothing is published
-    /// then, and a snapshot that is closed may help the next try.
+    /// Merges the frozen epoch into a sorted run: of three merges each writes the epoch's run into
+    /// level 0, and the fourth all runs and the epoch into level 1, as LevelDB's compactions do. Of
+    /// each key it keeps every version from the floor on, and of those before it the newest; a
+    /// removal that is the newest there is left out of level 1. For the floor it looks at each
+    /// snapshot word in one round, and takes the end of the epoch, or the least time that is noted
+    /// there where that is earlier; a floor never falls. Readers and writers go on beside it, and
+    /// it never waits. Refused with `RunFull`, and with the token, where a merge into level 1 would
+    /// keep more entries than a run has room for; nothing is published then, and a snapshot that is
+    /// closed may help the next try.
     pub fn merge<P: Pace>(mut self, store: &Store<P>) -> Result<Retired, (Frozen, RunFull)>
         requires { self.merger.store ≡ store.now }
         ensures retired { IfOk result (λ retired. retired.merger ≡ record self.merger { merges = self.merger.merges + 1 }) }
@@ -143,9 +151,11 @@ impl Retired {
         self.merger.merges()
     }
 
-    /// Gives the retired component up, if no seat holds anything of it, and makes its cells free for the epoch after the next: looks at the pin word
-    /// of each seat that was not found quiet yet, in the order of their numbers. Refused with `Pinned`, and with the token, where the pin word
-    /// of that seat was found to keep the component; the seats that were found quiet stay so for the next try. It never waits.
+    /// Gives the retired component up, if no seat holds anything of it, and makes its cells free
+    /// for the epoch after the next: looks at the pin word of each seat that was not found quiet
+    /// yet, in the order of their numbers. Refused with `Pinned`, and with the token, where the pin
+    /// word of that seat was found to keep the component; the seats that were found quiet stay so
+    /// for the next try. It never waits.
     pub fn reclaim<P: Pace>(mut self, store: &Store<P>) -> Result<Clean, (Retired, Pinned)>
         requires { self.merger.store ≡ store.now }
         ensures clean { IfOk result (λ clean. clean ≡ self.merger) }

@@ -1,5 +1,5 @@
-//! Stores and their seats, as the tests use them. At most one allocation of a run is made to fail: a call that is refused memory is made
-//! once more.
+//! Stores and their seats, as the tests use them. At most one allocation of a run is made to fail:
+//! a call that is refused memory is made once more.
 ghost use Rattle.std.specs.Prelude.{◌≡◌, length};
 ghost use Rattle.clsm_calls.specs.Seats.{AreNew, IsNewMerger};
 

@@ -1,4 +1,5 @@
--- Beginnings of one history: the shorter begins the longer, and where decided slots stay, so do they.
+-- Beginnings of one history: the shorter begins the longer, and where decided slots stay, so do
+-- they.
 use Rattle.std.proofs.Common.{◌≡◌, ◌≢◌, ℕ, zero, suc, ◌<◌, ◌≤◌, List, [], ◌∷◌, length, take, get_or, sym, refl, ap, ◌∙◌, subst, arith, inl, inr, Option, Some, None}
 use Rattle.std.specs.Option.{unwrap_or}
 use Rattle.std.proofs.lemmas.Bool.{cases_lt}

@@ -52,7 +52,8 @@ small_at z (Note b) x h = h
 small_at z (Look word) x h = small_look z word x h
 small_at z step x h = tt
 
--- the limit is the end of an epoch, and a time less than an epoch before it is in that epoch's region
+-- the limit is the end of an epoch, and a time less than an epoch before it is in that epoch's
+-- region
 end_of_limit : (z : Layout) (m : MergerView) → (epoch : ℕ) × (first_free z m ≡ (epoch + 1) * z.cells)
 end_of_limit z m = by_bool (λ b. (epoch : ℕ) × (cond b ((m.merged + 2) * z.cells) ((m.merged + 1) * z.cells) ≡ (epoch + 1) * z.cells)) (is_frozen m.phase || m.limit_extended)
     (λ _. (m.merged + 1, let e : m.merged + 2 ≡ m.merged + 1 + 1 = omega arith in ap (λ (a : ℕ). a * z.cells) e)) (λ _. (m.merged, refl))

@@ -40,7 +40,8 @@ module _ (s : State ℕ Known) (k : Known) (r : Ruled k.layout s) (ok : IsMergin
   abbrev pub setting : Ground
   setting = lawful_ground world r.lawful
 
-  -- a step that is open to what the merger knows is open to it by the world's facts, and by what it knows with the world's view
+  -- a step that is open to what the merger knows is open to it by the world's facts, and by what it
+  -- knows with the world's view
   pub open_by_row : (step : Step) → OpensToMerger k step → IsOpenToMerger k.layout (facts_of k.layout (row_of k) r.merger (map (λ slot. Some slot) k.past)) r.merger step
   open_by_row step o = subst (λ (m : MergerView). IsOpenToMerger k.layout (facts_of k.layout (row_of k) m (map (λ slot. Some slot) k.past)) m step) ok.view o
 

@@ -4,7 +4,8 @@ use mathlib.Core.List.{IsPrefix}
 use Rattle.clsm_words.specs.declared.known.Known.{Known}
 use Rattle.clsm_words.specs.Knowing.{KeepsRuns}
 
--- It is the seat that it was, with a past that goes on. While it holds a component, the runs that it searches stay
+-- It is the seat that it was, with a past that goes on. While it holds a component, the runs that
+-- it searches stay
 pub record KeepsSeat (old new : Known) : Type 0 where
   pub number : new.number ≡ old.number
   pub dealt : new.dealt ≡ old.dealt
@@ -29,8 +30,8 @@ pub record KeepsPlace (old new : Known) : Type 0 where
   pub past : new.past ≡ old.past
   pub trail : new.trail ≡ old.trail
 
--- It only read: its view is as it was, but for the heads that it looked at, what it reached, how far its past goes, and how many times of
--- others it cancelled; what it reached does not fall back
+-- It only read: its view is as it was, but for the heads that it looked at, what it reached, how
+-- far its past goes, and how many times of others it cancelled; what it reached does not fall back
 pub record OnlyReads (old new : Known) : Type 0 where
   pub seat : KeepsSeat old new
   pub view : new.view ≡ record old.view { fresh_heads = new.view.fresh_heads; reached = new.view.reached; past = new.view.past; cancelled = new.view.cancelled }

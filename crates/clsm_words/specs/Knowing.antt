@@ -1,4 +1,5 @@
--- What a seat at the words knows: how it begins, what a step makes of it, and what each step tells it.
+-- What a seat at the words knows: how it begins, what a step makes of it, and what each step tells
+-- it.
 use Rattle.std.specs.Prelude.{max, min, true, false, ◌≡◌, ℕ, ◌+◌, ◌-◌, ◌*◌, ◌%◌, ◌^◌, ◌<◌, ◌≤◌, ◌⊎◌, List, [], ◌∷◌, length, slice_index, slice_index_or, Option, Some, None}
 use Rattle.std.specs.List.{AllByRecursion}
 use Rattle.std.proofs.Common.{arith}
@@ -41,7 +42,8 @@ least_layout = record { cells = 4; seats = 1; chains = 1; run = 4; patience = 0;
 abbrev pub unplayed : Layout → ℕ → Known
 unplayed z number = record { seated = true; merges = false; number = number; dealt = 0; layout = z; view = idle z; merger = opening z; row = []; trail = []; region = 0; chain = 0; floor = 0; past = []; told = []; heard = 0 }
 
--- the merger's, which is the first of all and deals the others: its number is the number of the callers' seats
+-- the merger's, which is the first of all and deals the others: its number is the number of the
+-- callers' seats
 abbrev pub new_merger : Layout → Known
 new_merger z = record { seated = false; merges = true; number = z.seats; dealt = 0; layout = z; view = idle z; merger = opening z; row = (opened z).words; trail = []; region = 0; chain = 0; floor = 0; past = []; told = []; heard = 0 }
 
@@ -53,14 +55,16 @@ deals k = record k { dealt = k.dealt + 1 }
 abbrev pub messenger : List Slot → ℕ → Known
 messenger told heard = record { seated = false; merges = false; number = 0; dealt = 0; layout = least_layout; view = idle least_layout; merger = opening least_layout; row = []; trail = []; region = 0; chain = 0; floor = 0; past = []; told = told; heard = heard }
 
--- a seat that takes in what another carries: its beginning of the history, and its due where that is greater
+-- a seat that takes in what another carries: its beginning of the history, and its due where that
+-- is greater
 abbrev pub learns : Known → Known → Known
 learns k m = record k { told = m.told; heard = max k.heard m.heard }
 
 -- ---- a seat's records and the history
 
--- As far as the slots go: each record's write stands in them, and each write in them with the seat's number is one of its records;
--- no other number writes, and no write has more words than a cell, nor a value none
+-- As far as the slots go: each record's write stands in them, and each write in them with the
+-- seat's number is one of its records; no other number writes, and no write has more words than a
+-- cell, nor a value none
 pub record Agrees (seats number : ℕ) (calls : List CallRecord) (slots : List Slot) : Type 0 where
   pub stand : AllByRecursion (IsRecordIn slots number) calls
   pub recorded : (t key : ℕ) (written : Option (List ℕ)) → t < length slots → slice_index_or slots t Nothing ≡ Wrote number key written → HasWrite number t (Wrote number key written) calls
@@ -80,9 +84,10 @@ pub record HasRows (z : Layout) (v : View) : Type 0 where
 abbrev pub row_of : Known → Memory
 row_of k = memory k.layout k.row
 
--- What a reader may rely on, however far its past goes: runs of a component in order, of times that are merged, whose values have at
--- most eight words, which fit their places and say no more than their entries. They are exact for the history from their floor on, to
--- its end or that of what is merged
+-- What a reader may rely on, however far its past goes: runs of a component in order, of times that
+-- are merged, whose values have at most eight words, which fit their places and say no more than
+-- their entries. They are exact for the history from their floor on, to its end or that of what is
+-- merged
 pub record AreReadable (z : Layout) (memory : Memory) (h : History) (component floor : ℕ) : Type 0 where
   pub exact : IsExact (runs_of memory component) h floor (min (end_of h) (component * z.cells))
   pub order : AllByRecursion IsRun (runs_of memory component)
@@ -91,17 +96,19 @@ pub record AreReadable (z : Layout) (memory : Memory) (h : History) (component f
   pub counts : (p : ℕ) → is_named component p ≡ true → memory (Count p) ≤ room_of z p
   pub canonical : (p : ℕ) → is_named component p ≡ true → are_canonical memory p ≡ true
 
--- what it may search while it holds the component c, whose two epochs its past is not beyond: runs that it may rely on, whose floor is below
--- the merged epochs and no open snapshot
+-- what it may search while it holds the component c, whose two epochs its past is not beyond: runs
+-- that it may rely on, whose floor is below the merged epochs and no open snapshot
 pub record IsReading (k : Known) (c : ℕ) : Type 0 where
   pub below_merged : k.floor ≤ c * k.layout.cells
   pub near : length k.past ≤ (c + 2) * k.layout.cells
   pub below_snapshot : (s : ℕ) → open_time k.view.snapshot ≡ Some s → k.floor ≤ s
   pub runs : AreReadable k.layout (row_of k) (plain k.past) c k.floor
 
--- what a seat knows of itself: the words of its open steps are there, the numbers that these make fit 64 bits,
--- its records are right in its past and agree with it, and their times rise to its due, which is no time past the end; its drawn time is in the epoch of the limit
--- that it looked at in this hold of the lock, and the time of its open snapshot within its past; and what it may search
+-- what a seat knows of itself: the words of its open steps are there, the numbers that these make
+-- fit 64 bits, its records are right in its past and agree with it, and their times rise to its
+-- due, which is no time past the end; its drawn time is in the epoch of the limit that it looked at
+-- in this hold of the lock, and the time of its open snapshot within its past; and what it may
+-- search
 pub record Sound (k : Known) : Type 0 where
   pub seated : k.seated ≡ true
   pub inside : k.number < k.layout.seats
@@ -119,7 +126,8 @@ pub record Sound (k : Known) : Type 0 where
 
 -- ---- what a step tells
 
--- the seat knows what the time came to, and holds a component that reaches down to it; and the cell is the time's
+-- the seat knows what the time came to, and holds a component that reaches down to it; and the cell
+-- is the time's
 abbrev pub IsKnownIn : Known → ℕ → ℕ → Type 0
 IsKnownIn k cell t = (t < length k.past) × (cell_of k.layout t ≡ cell) × HoldsFrom k.layout k.view.held t
 
@@ -156,7 +164,8 @@ Tells _ k x = Unit {0}
 
 -- ---- chains and runs
 
--- an epoch whose chains the seat may walk: that of the held component, and the next where the seat's past is within it
+-- an epoch whose chains the seat may walk: that of the held component, and the next where the
+-- seat's past is within it
 abbrev pub IsHeldEpoch : Layout → Option ℕ → ℕ → ℕ → Type 0
 IsHeldEpoch z None past e = ⊥
 IsHeldEpoch z (Some m) past e = (e ≡ m) ⊎ ((e ≡ m + 1) × (e * z.cells < past))
@@ -166,14 +175,16 @@ abbrev pub LeadsTo : Layout → ℕ → List ℕ → Type 0
 LeadsTo z x [] = x ≡ 0
 LeadsTo z x (t ∷ ts) = x ≡ cell_of z t + 1
 
--- the seat's trail is a chain of the epoch e and the chain, to which the word x leads: in it stands each write of the past with a key of the chain
+-- the seat's trail is a chain of the epoch e and the chain, to which the word x leads: in it stands
+-- each write of the past with a key of the chain
 pub record IsTrail (k : Known) (e chain x : ℕ) : Type 0 where
   pub leads : LeadsTo k.layout x k.trail
   pub distinct : Distinct k.trail
   pub inside : (t : ℕ) → In t k.trail → (e * k.layout.cells ≤ t) × (t < (e + 1) * k.layout.cells)
   pub standing : (t i key : ℕ) (written : Option (List ℕ)) → e * k.layout.cells ≤ t → t < (e + 1) * k.layout.cells → t < length k.past → slice_index_or k.past t Nothing ≡ Wrote i key written → key % k.layout.chains ≡ chain → In t k.trail
 
--- what a step that found x makes of the trail: a look at a head begins it, one at the NEXT of its first cell goes on
+-- what a step that found x makes of the trail: a look at a head begins it, one at the NEXT of its
+-- first cell goes on
 abbrev pub Walks : Step → Known → ℕ → Known → Type 0
 Walks (Look (Head region chain)) k x k' = (e : ℕ) → IsHeldEpoch k.layout k.view.held (length k.past) e → region ≡ e % 2 → IsTrail k' e chain x
 Walks (Look (Cell cell Next)) k x k' = (t : ℕ) (rest : List ℕ) → k.trail ≡ t ∷ rest → cell_of k.layout t ≡ cell → (k'.trail ≡ rest) × LeadsTo k.layout x rest
@@ -189,8 +200,8 @@ IsNamedWord c word = IsRunWord word × (is_named c (place_of word) ≡ true)
 abbrev pub KeepsRuns : Known → Known → Type 0
 KeepsRuns k k' = (c : ℕ) → k.view.held ≡ Some c → k'.view.held ≡ Some c → (k'.floor ≡ k.floor) × ((word : Word) → IsNamedWord c word → row_of k' word ≡ row_of k word)
 
--- the seat after a step that found x: its view is the machine's, and its past only grows. What it was told and its past are beginnings
--- of one history, with which its records agree
+-- the seat after a step that found x: its view is the machine's, and its past only grows. What it
+-- was told and its past are beginnings of one history, with which its records agree
 pub record Follows (step : Step) (k : Known) (x : ℕ) (k' : Known) : Type 0 where
   pub number : k'.number ≡ k.number
   pub dealt : k'.dealt ≡ k.dealt

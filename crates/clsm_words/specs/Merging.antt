@@ -1,5 +1,5 @@
--- What the merger's seat at the words knows: the words that only it changes, the facts that it draws from them, what a step makes of
--- what it knows, and what each step tells it.
+-- What the merger's seat at the words knows: the words that only it changes, the facts that it
+-- draws from them, what a step makes of what it knows, and what each step tells it.
 use Rattle.std.specs.Prelude.{true, ◌≡◌, ℕ, ◌*◌, ◌<◌, ◌≤◌, ◌⊎◌, cond, map, List, length, slice_index_or, Option, Some}
 use mathlib.Core.List.{IsPrefix}
 use Rattle.clsm_model.specs.declared.slot.Slot.TheVariants.{Nothing, Wrote}
@@ -25,8 +25,8 @@ use Rattle.clsm_words.specs.Knowing.{row_of, code_of, IsPartOf}
 abbrev pub IsLetGo : MergerView → Type 0
 IsLetGo m = (is_retired m.phase ≡ true) × (is_all_quiet m.readers ≡ true)
 
--- those of the runs; while the merger holds the lock the clock and the states; and while nobody holds what is retired, the heads and
--- states of the retired region
+-- those of the runs; while the merger holds the lock the clock and the states; and while nobody
+-- holds what is retired, the heads and states of the retired region
 abbrev pub IsOwn : Layout → MergerView → Word → Type 0
 IsOwn z m Clock = m.exclusive ≡ true
 IsOwn z m (Head region chain) = IsLetGo m × (region ≡ retired_region m)
@@ -45,13 +45,15 @@ facts_known k = facts_of k.layout (row_of k) k.merger (map (λ slot. Some slot) 
 abbrev pub OpensToMerger : Known → Step → Type 0
 OpensToMerger k step = IsOpenToMerger k.layout (facts_known k) k.merger step
 
--- it knows what each time came to up to the clock while it holds the lock, up to the end of a frozen epoch, and of all merged ones
+-- it knows what each time came to up to the clock while it holds the lock, up to the end of a
+-- frozen epoch, and of all merged ones
 abbrev pub known_end : Layout → MergerView → ℕ → ℕ
 known_end z m clock = cond m.exclusive clock (cond (is_frozen m.phase) (epoch_end z m) (m.merged * z.cells))
 
--- what the merger's seat knows of itself: the words of its open steps are there; the next merge can be decided by the words that it
--- knows, and what its runs hold is what its past says; in its hold of the lock its past ends at the clock; a write of its past is a removal or
--- has one to eight words
+-- what the merger's seat knows of itself: the words of its open steps are there; the next merge can
+-- be decided by the words that it knows, and what its runs hold is what its past says; in its hold
+-- of the lock its past ends at the clock; a write of its past is a removal or has one to eight
+-- words
 pub record IsSoundMerger (k : Known) : Type 0 where
   pub merges : k.merges ≡ true
   pub there : (step : Step) → OpensToMerger k step → is_word k.layout (word_of_merger k.layout k.merger step) ≡ true
@@ -68,14 +70,16 @@ pub record IsSoundMerger (k : Known) : Type 0 where
 abbrev pub IsFrozenIn : Known → ℕ → ℕ → Type 0
 IsFrozenIn k cell t = (is_frozen k.merger.phase ≡ true) × (cell_of k.layout t ≡ cell) × (k.merger.merged * k.layout.cells ≤ t) × (t < epoch_end k.layout k.merger)
 
--- what a look that found x tells the merger: the cells of the frozen epoch show what their times came to
+-- what a look that found x tells the merger: the cells of the frozen epoch show what their times
+-- came to
 abbrev pub TellsMerger : Step → Known → ℕ → Type 0
 TellsMerger (Look (State cell)) k x = (t : ℕ) → IsFrozenIn k cell t → x ≡ code_of (slice_index_or k.past t Nothing)
 TellsMerger (Look (Cell cell part)) k x = (t : ℕ) → IsFrozenIn k cell t → IsPartOf (slice_index_or k.past t Nothing) part x
 TellsMerger _ k x = Unit {0}
 
--- the merger's seat after a step that found x: its view is the machine's, its past only grows, and of its own words it knows that this
--- one became what the step makes of it, and that the others stay
+-- the merger's seat after a step that found x: its view is the machine's, its past only grows, and
+-- of its own words it knows that this one became what the step makes of it, and that the others
+-- stay
 pub record FollowsMerger (step : Step) (k : Known) (x : ℕ) (k' : Known) : Type 0 where
   pub number : k'.number ≡ k.number
   pub dealt : k'.dealt ≡ k.dealt

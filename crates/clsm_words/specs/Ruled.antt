@@ -1,4 +1,5 @@
--- The rule of the words: there is a lawful world that has them, and each seat at them has the view of its number there.
+-- The rule of the words: there is a lawful world that has them, and each seat at them has the view
+-- of its number there.
 use Rattle.std.specs.Prelude.{true, false, ◌≡◌, ◌≢◌, ℕ, ◌+◌, ◌%◌, ◌<◌, ◌≤◌, ◌⊎◌, List, [], ◌++◌, length, take, Option, Some, None}
 use mathlib.Core.Option.{some}
 use lib.ListN.{get_elem?}
@@ -33,8 +34,9 @@ IsEndOf end list = (front : List ℕ) × (front ++ end ≡ list)
 abbrev pub IsHeldLine : Layout → Known → Type 0
 IsHeldLine z k = (e : ℕ) × IsHeldEpoch z k.view.held k.view.past e × (k.region ≡ e % 2) × (k.chain < z.chains)
 
--- what is so of a seat in the world: its view is the one of its number, and its past is what the times below the view's past came to;
--- while it holds a component it knows the words of its runs, and their floor; and its trail is an end of a chain that it may walk
+-- what is so of a seat in the world: its view is the one of its number, and its past is what the
+-- times below the view's past came to; while it holds a component it knows the words of its runs,
+-- and their floor; and its trail is an end of a chain that it may walk
 pub record IsSeated (z : Layout) (words : List ℕ) (m : MergerView) (slots : List (Option Slot)) (chains : Chains) (views : List View) (k : Known) : Type 0 where
   pub layout : k.layout ≡ z
   pub inside : k.number < z.seats
@@ -57,8 +59,8 @@ pub record IsTold (slots : List (Option Slot)) (told : List Slot) (heard : ℕ) 
   pub begins : Begins slots told
   pub below : heard ≤ length slots
 
--- what is so of the merger's seat in the world: its view is the merger's there, it knows what times came to as far as it says, and it
--- knows what stands in the words that only it changes
+-- what is so of the merger's seat in the world: its view is the merger's there, it knows what times
+-- came to as far as it says, and it knows what stands in the words that only it changes
 pub record IsMerging (z : Layout) (words : List ℕ) (m : MergerView) (slots : List (Option Slot)) (k : Known) : Type 0 where
   pub layout : k.layout ≡ z
   pub unseated : k.seated ≡ false

@@ -9,7 +9,8 @@ pub record RawState : Type 0 where
   pub table : TableId
   pub knows : Known
 
--- a message: which words it is of, and what it carries from one seat to another, a beginning of the history and a due
+-- a message: which words it is of, and what it carries from one seat to another, a beginning of the
+-- history and a due
 pub record MessageState : Type 0 where
   pub table : TableId
   pub told : List Slot

@@ -4,7 +4,8 @@ use std::collections::LinkedList;
 
 /// What a seat at the words knows. No value of it is made.
 pub struct Known {
-    /// True for a caller's seat, and true for the merger's; neither for one that only carries what another knew.
+    /// True for a caller's seat, and true for the merger's; neither for one that only carries what
+    /// another knew.
     pub seated: bool,
     pub merges: bool,
     pub number: u64,

@@ -1,4 +1,5 @@
-//! The machine's words as threads share them, under the machine's one law: one function for each kind of step.
+//! The machine's words as threads share them, under the machine's one law: one function for each
+//! kind of step.
 #![tactic(auto)]
 
 mod divisor;

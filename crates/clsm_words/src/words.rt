@@ -164,7 +164,8 @@ impl RawMerger {
     }
 }
 
-/// What a seat knew of the past. It has no bytes. Contracts see which words it is of, the beginning of the history and the due.
+/// What a seat knew of the past. It has no bytes. Contracts see which words it is of, the beginning
+/// of the history and the due.
 #[derive(Drop)]
 pub struct Message {
     pub(crate) seat: Seat<u64, Known>,

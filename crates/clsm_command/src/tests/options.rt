@@ -1,4 +1,5 @@
-//! What words are read as. At most one allocation of a run is made to fail: a call that is refused memory is made again.
+//! What words are read as. At most one allocation of a run is made to fail: a call that is refused
+//! memory is made again.
 use clsm_model::Config;
 use clsm_options::{AuditOptions, ExploreOptions, Options, Refusal, RunOptions, parse, words};
 use std::alloc::Global;

@@ -36,7 +36,8 @@ fn counts_are_left_out(rt: HostRuntime) {
     assert!(rt; overtaken.world != alone.world);
 }
 
-/// An empty epoch is merged, with so many looks at each snapshot word and then at the first seat's pin word.
+/// An empty epoch is merged, with so many looks at each snapshot word and then at the first seat's
+/// pin word.
 fn merged_with_looks(rt: &impl Abort, alloc: Global, looks: usize) -> Play {
     let mut play = Play::new(rt, alloc, SMALL);
     play.freezes(rt, 0);

@@ -133,8 +133,8 @@ fn reader_keeps_the_retired_cells(rt: HostRuntime) {
     assert_eq!(rt; play.world.calls(1), of_reader.as_slice());
 }
 
-/// A reader that pinned after the publish is waited for too, where its pin word was found odd first.
-/// One whose pin word is found odd and another holds nothing retired any more.
+/// A reader that pinned after the publish is waited for too, where its pin word was found odd
+/// first. One whose pin word is found odd and another holds nothing retired any more.
 #[test]
 fn reader_that_pinned_again_is_quiet(rt: HostRuntime) {
     let mut play = Play::new(&rt, rt.alloc(), SMALL);
@@ -282,7 +282,8 @@ fn full_run_is_not_published(rt: HostRuntime) {
     play.is_run(&rt);
 }
 
-/// Without a whole round of looks at the snapshot words in the order of the seats each version is kept.
+/// Without a whole round of looks at the snapshot words in the order of the seats each version is
+/// kept.
 #[test]
 fn round_out_of_order_raises_no_floor(rt: HostRuntime) {
     let [ten, eleven] = [10, 11].map(|word| value(&rt, &[word]));

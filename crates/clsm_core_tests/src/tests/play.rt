@@ -131,7 +131,8 @@ impl Play {
         }
     }
 
-    /// The answer of a step that is made, and noted in the list. Where memory is refused the world is as it was.
+    /// The answer of a step that is made, and noted in the list. Where memory is refused the world
+    /// is as it was.
     fn answer(&mut self, rt: &impl Abort, event: &Event) -> Result<Answer, StepError> {
         let mut answer = self.world.step(repeated(rt, event));
         if answer == Err(StepError::Memory) {

@@ -79,7 +79,8 @@ impl Play {
             && self.look(rt, seat, Word::State(cell)) > 1
     }
 
-    /// The value of the newest write of the key in the epoch's chain below the time. None where there is no such write.
+    /// The value of the newest write of the key in the epoch's chain below the time. None where
+    /// there is no such write.
     fn in_chain(
         &mut self,
         rt: &impl Abort,
@@ -108,7 +109,8 @@ impl Play {
         Some(self.value_in_cell(rt, seat, cell))
     }
 
-    /// The value of the newest entry of the key in the place below the time. None where there is no such entry.
+    /// The value of the newest entry of the key in the place below the time. None where there is no
+    /// such entry.
     fn in_place(
         &mut self,
         rt: &impl Abort,

@@ -216,7 +216,8 @@ fn publish_needs_exactly_what_is_kept(rt: HostRuntime) {
     play.is_run(&rt);
 }
 
-/// Each row is an entry, a part of it, a word that says more than the entry, and the word that is right there.
+/// Each row is an entry, a part of it, a word that says more than the entry, and the word that is
+/// right there.
 #[test]
 fn publish_needs_each_word_of_an_entry(rt: HostRuntime) {
     let ten = value(&rt, &[10]);

@@ -1,4 +1,5 @@
-//! Whether two worlds of one layout are the same, as far as worlds tell: word by word, slot by slot, call by call.
+//! Whether two worlds of one layout are the same, as far as worlds tell: word by word, slot by
+//! slot, call by call.
 use clsm_core::{Layout, Part, Word, World};
 use std::process::Abort;
 

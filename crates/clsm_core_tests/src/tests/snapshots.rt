@@ -6,7 +6,8 @@ use clsm_core::{End, Step, Word};
 use clsm_model::{Config, Deed, Value};
 use std::process::Abort;
 
-/// Seat 2 notes a time after the merger passed it, and looks at the clock after one write more: its snapshot is at 5.
+/// Seat 2 notes a time after the merger passed it, and looks at the clock after one write more: its
+/// snapshot is at 5.
 fn opens_behind_the_merger(rt: &impl Abort, play: &mut Play, twelve: Value) {
     let rows = [
         done(2, Step::Pin),
@@ -111,7 +112,8 @@ fn snapshots_outlast_merges(rt: HostRuntime) {
     assert_eq!(rt; play.world.calls(1), calls.as_slice());
 }
 
-/// A snapshot that is noted before the freeze is opened after the publish, under the component held since.
+/// A snapshot that is noted before the freeze is opened after the publish, under the component held
+/// since.
 #[test]
 fn snapshot_is_opened_across_a_publish(rt: HostRuntime) {
     let [ten, eleven, twelve] = [10, 11, 12].map(|word| value(&rt, &[word]));

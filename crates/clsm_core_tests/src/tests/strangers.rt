@@ -1,4 +1,5 @@
-//! Steps of callers are never open to the merger, nor its steps to callers, nor any step to a seat that is not there.
+//! Steps of callers are never open to the merger, nor its steps to callers, nor any step to a seat
+//! that is not there.
 use crate::tests::play::{Play, done, refused};
 use crate::tests::{MERGER, SMALL, get, put, recorded, value};
 use clsm_core::{End, Part, Step, Word};
@@ -59,7 +60,8 @@ fn refuses_strangers(rt: &impl Abort, play: &mut Play, value: Value) {
     }
 }
 
-/// Each step of a put, a get and a snapshot is refused to strangers in the world in which it is made.
+/// Each step of a put, a get and a snapshot is refused to strangers in the world in which it is
+/// made.
 #[test]
 fn strangers_are_refused_beside_callers(rt: HostRuntime) {
     let ten = value(&rt, &[10]);
@@ -88,7 +90,8 @@ fn strangers_are_refused_beside_callers(rt: HostRuntime) {
     play.is_run(&rt);
 }
 
-/// Each step of a freeze, a merge and a reclaim is refused to strangers in the world in which it is made.
+/// Each step of a freeze, a merge and a reclaim is refused to strangers in the world in which it is
+/// made.
 #[test]
 fn strangers_are_refused_beside_the_merger(rt: HostRuntime) {
     let ten = value(&rt, &[10]);

@@ -1,4 +1,5 @@
-//! What a world tells of words, times and seats, also of those that it has not; and the sizes that a layout takes.
+//! What a world tells of words, times and seats, also of those that it has not; and the sizes that
+//! a layout takes.
 use crate::tests::play::Play;
 use crate::tests::{GREATEST, SMALL, remove};
 use clsm_core::{Layout, Part, Word};

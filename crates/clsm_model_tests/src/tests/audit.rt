@@ -1,4 +1,5 @@
-//! At most one allocation of a run is made to fail: an audit that is refused memory is made once more.
+//! At most one allocation of a run is made to fail: an audit that is refused memory is made once
+//! more.
 use clsm_audit::{AuditError, FaultKind, audit};
 use clsm_model::{CallRecord, Change, Config, Deed, Rows, Time, Value};
 use std::alloc::Global;

@@ -195,7 +195,8 @@ fn least_of_no_heads(rt: HostRuntime) {
     assert_eq!(rt; least(&[cursor(None), cursor(None)]), None);
 }
 
-/// The floor is 5: the entries of key 1 at and above it stay, then the first below it, and the next one is hidden.
+/// The floor is 5: the entries of key 1 at and above it stay, then the first below it, and the next
+/// one is hidden.
 #[test]
 fn judge_by_the_floor(rt: HostRuntime) -> Result<(), Fail> {
     let table: [(Option<u64>, Entry, (bool, Option<u64>)); 5] = [

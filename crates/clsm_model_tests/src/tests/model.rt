@@ -1,4 +1,5 @@
-//! At most one allocation of a run is made to fail: a call that is refused memory is made once more.
+//! At most one allocation of a run is made to fail: a call that is refused memory is made once
+//! more.
 use clsm_model::*;
 use std::alloc::Global;
 use std::fmt::Display;

@@ -1,4 +1,5 @@
-//! A try is refused where another holds the lock alone, and where another enters between its look and its exchange.
+//! A try is refused where another holds the lock alone, and where another enters between its look
+//! and its exchange.
 ghost use Rattle.std.specs.Prelude.{◌≡◌};
 
 use super::gate::{ANSWERED, Gate, HELD, LET_GO, NOBODY};
@@ -9,7 +10,8 @@ use std::thread::{Threads, join};
 
 const KEY: u64 = 7;
 
-/// Holds seat 0 between its look at the lock and its exchange, until seat 1 is about to draw in its own hold; there seat 1 waits for the answer.
+/// Holds seat 0 between its look at the lock and its exchange, until seat 1 is about to draw in its
+/// own hold; there seat 1 waits for the answer.
 #[derive(Drop)]
 struct Between {
     gate: Gate,

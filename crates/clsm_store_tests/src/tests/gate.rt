@@ -15,8 +15,8 @@ pub(super) struct Gate {
     pub(super) turn: AtomicU64,
 }
 
-/// The turns: the gate is open until it is watched, nobody is at it, the seat is held there, it was let go, its call was answered, and it
-/// waited too long.
+/// The turns: the gate is open until it is watched, nobody is at it, the seat is held there, it was
+/// let go, its call was answered, and it waited too long.
 pub(super) const OPEN: u64 = 0;
 
 pub(super) const NOBODY: u64 = 1;

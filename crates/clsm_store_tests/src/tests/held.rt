@@ -72,15 +72,17 @@ fn get_once(store: &Store<Gates>, mut seat: Seat) -> Got
     get_slowly(store, &store.pace().first, &mut seat)
 }
 
-/// Lets the held reader go, and waits until its call is answered. Answers whether it was held till then.
+/// Lets the held reader go, and waits until its call is answered. Answers whether it was held till
+/// then.
 fn let_go(gate: &Gate) -> bool {
     let held = gate.pass(HELD, LET_GO);
     gate.wait_while(LET_GO);
     held
 }
 
-/// Retires the component that the reader at the first gate holds, and tries to reclaim it. Answers the token, where the component is not clean
-/// yet, what the try met, and whether the reader came to its gate.
+/// Retires the component that the reader at the first gate holds, and tries to reclaim it. Answers
+/// the token, where the component is not clean yet, what the try met, and whether the reader came
+/// to its gate.
 fn retire_held<R: Abort + Wait>(
     rt: &R,
     store: &Store<Gates>,
@@ -104,7 +106,8 @@ fn retire_held<R: Abort + Wait>(
     }
 }
 
-/// The same, and then lets the reader go and tries again. Answers so too, with whether the reader was held all the while.
+/// The same, and then lets the reader go and tries again. Answers so too, with whether the reader
+/// was held all the while.
 fn retire_beside_one<R: Abort + Wait>(
     rt: &R,
     store: &Store<Gates>,
@@ -260,7 +263,8 @@ fn get_both<R: Abort + Threads + Sync>(
     )
 }
 
-/// Waits until the second reader is held too, retires their component with the first, and then lets the second go and tries again.
+/// Waits until the second reader is held too, retires their component with the first, and then lets
+/// the second go and tries again.
 fn retire_beside_two<R: Abort + Wait>(rt: &R, store: &Store<Gates>, merger: Clean) -> (Met, bool)
     requires { merger.store ≡ store.now }
 {
@@ -331,7 +335,8 @@ fn get_twice(store: &Store<Gates>, mut seat: Seat) -> (Got, Got)
     (first, second)
 }
 
-/// Retires the component that the reader holds, lets it go to its second get, and tries to reclaim while it is held there.
+/// Retires the component that the reader holds, lets it go to its second get, and tries to reclaim
+/// while it is held there.
 fn retire_between<R: Abort + Wait>(rt: &R, store: &Store<Gates>, merger: Clean) -> (Met, bool)
     requires { merger.store ≡ store.now }
 {

@@ -1,4 +1,5 @@
-//! A writer is held between its draw and its first fill, while the epoch before is merged and given up.
+//! A writer is held between its draw and its first fill, while the epoch before is merged and given
+//! up.
 ghost use Rattle.std.specs.Prelude.{◌≡◌};
 
 use super::gate::{Gate, HELD, LET_GO, NOBODY, OPEN};
@@ -9,8 +10,8 @@ use std::thread::{Threads, join};
 
 const KEY: u64 = 1;
 
-/// Waits until the writer is held, merges the frozen epoch and gives it up, reads, and lets the writer go. Answers what it read, and whether the
-/// writer was held all the while.
+/// Waits until the writer is held, merges the frozen epoch and gives it up, reads, and lets the
+/// writer go. Answers what it read, and whether the writer was held all the while.
 fn merge_meanwhile<R: Abort>(
     rt: &R,
     store: &Store<Gate>,

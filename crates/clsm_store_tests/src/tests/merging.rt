@@ -42,7 +42,8 @@ fn the_tokens_count_merges(rt: HostRuntime) -> Result<(), Fail> {
     Ok(())
 }
 
-/// Writes a key of the epoch's number, removes another, writes one that all epochs write, and merges; then reads them through the runs.
+/// Writes a key of the epoch's number, removes another, writes one that all epochs write, and
+/// merges; then reads them through the runs.
 fn write_and_merge<R: Abort + Wait>(
     rt: &R,
     store: &Store<Free>,
@@ -176,7 +177,8 @@ fn values_are_merged_whole(rt: HostRuntime) -> Result<(), Fail> {
     Ok(())
 }
 
-/// Four keys in the first epoch and another in the second: the fourth merge would keep five entries.
+/// Four keys in the first epoch and another in the second: the fourth merge would keep five
+/// entries.
 fn write_five<R: Abort + Wait>(rt: &R, store: &Store<Free>, seat: &mut Seat, merger: Clean) -> Clean
     requires seat { seat.old.store ≡ store.now }
     requires merger { merger.store ≡ store.now }
@@ -204,7 +206,8 @@ fn is_refused<R: Abort>(rt: &R, store: &Store<Free>, frozen: Frozen) -> Frozen
     frozen
 }
 
-/// Level 1 has room for four entries: the fourth merge is refused again and again, and reads and writes go on.
+/// Level 1 has room for four entries: the fourth merge is refused again and again, and reads and
+/// writes go on.
 #[test]
 fn a_full_run_is_refused_with_its_token(rt: HostRuntime) -> Result<(), Fail> {
     let config = Config {

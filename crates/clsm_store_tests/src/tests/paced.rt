@@ -100,7 +100,8 @@ fn gated(rt: &impl Abort, alloc: Global, at: Kind) -> Opened<Gate>
     open_paced(alloc, FOUR_CELLS, gate).expect(rt, "memory")
 }
 
-/// Seat 0 makes its call, and while it is held at such a step seat 1 makes the other; then seat 0 reads these words. The answers are these.
+/// Seat 0 makes its call, and while it is held at such a step seat 1 makes the other; then seat 0
+/// reads these words. The answers are these.
 fn check<R: Abort + Threads + Wait + Sync>(
     rt: &R,
     alloc: Global,
@@ -270,8 +271,8 @@ fn a_read_is_at_the_clock_that_it_found(rt: HostRuntime) -> Result<(), Fail> {
     Ok(())
 }
 
-/// Seat 0 has put a value, and is held before its first step of this kind in a second put, while seat 1 gets; then seat 0 gets. The answers
-/// are these, if it was held.
+/// Seat 0 has put a value, and is held before its first step of this kind in a second put, while
+/// seat 1 gets; then seat 0 gets. The answers are these, if it was held.
 fn check_put<R: Abort + Threads + Wait + Sync>(
     rt: &R,
     alloc: Global,

@@ -7,7 +7,8 @@ use std::test::*;
 use std::thread;
 use std::thread::{Threads, join};
 
-// read-modify-writes that overtake one another may use up the times: what is refused then is left out
+// read-modify-writes that overtake one another may use up the times: what is refused then is left
+// out
 const FOUR_SEATS: Config = Config {
     cells: 65_536,
     seats: 4,
@@ -23,7 +24,8 @@ const ATTEMPTS: u64 = 20_000;
 
 const KEYS: u64 = 8;
 
-/// What a call answered of a key: its time, the key, the value that it read, if it read, and what it wrote, if it wrote.
+/// What a call answered of a key: its time, the key, the value that it read, if it read, and what
+/// it wrote, if it wrote.
 #[derive(Clone, Copy, Debug)]
 pub(super) struct Answered {
     time: Time,
@@ -36,7 +38,8 @@ fn one(rt: &impl Abort, word: u64) -> Value {
     Value::new(&[word]).expect(rt, "one word")
 }
 
-/// One more than the value's word; a value that is even is removed, and one that can be divided by five stays.
+/// One more than the value's word; a value that is even is removed, and one that can be divided by
+/// five stays.
 fn next(old: Option<Value>) -> Change {
     let word = match &old {
         Some(value) => value.words()[0],
@@ -250,7 +253,8 @@ fn call_any<R: Abort + Wait>(
     }
 }
 
-/// Makes its calls, and answers what they answered. Where one is refused, other threads go on first.
+/// Makes its calls, and answers what they answered. Where one is refused, other threads go on
+/// first.
 fn work<R: Abort + Wait>(
     rt: &R,
     alloc: Global,
@@ -296,7 +300,8 @@ fn two<R: Abort + Threads + Wait + Sync>(
     )
 }
 
-/// Where an answer stands in the replay: by its time, and a read before the write at that time, which it does not see.
+/// Where an answer stands in the replay: by its time, and a read before the write at that time,
+/// which it does not see.
 fn place_of(answer: &Answered) -> u64 {
     answer
         .time
@@ -304,7 +309,8 @@ fn place_of(answer: &Answered) -> u64 {
         .wrapping_add(answer.wrote.is_some() as u64)
 }
 
-/// No two writes have one time, and each read answered what a plain map of the writes below its time holds.
+/// No two writes have one time, and each read answered what a plain map of the writes below its
+/// time holds.
 fn replay(rt: &impl Abort, alloc: Global, answers: &[Answered]) {
     let mut map = PlainMap::new(alloc);
     let mut next = 0;

@@ -1,4 +1,5 @@
-//! A snapshot that is opened before each step of a running merge reads the same through later merges.
+//! A snapshot that is opened before each step of a running merge reads the same through later
+//! merges.
 ghost use Rattle.std.specs.Prelude.{◌≡◌};
 
 use super::gate::{ANSWERED, Gate, HELD, LET_GO, NOBODY, OPEN};

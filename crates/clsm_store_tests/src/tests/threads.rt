@@ -16,7 +16,8 @@ const FOUR_SEATS: Config = Config {
 
 const CALLS: u64 = 2_000;
 
-/// Keys that all threads write. Each thread alone writes the key that is so many more than its number.
+/// Keys that all threads write. Each thread alone writes the key that is so many more than its
+/// number.
 const SHARED: u64 = 16;
 
 /// A write that was answered.

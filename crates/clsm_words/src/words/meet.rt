@@ -28,7 +28,8 @@ impl WordTable {
         self.table.shared.join_seat::<Tells>(&mut to.seat, other);
     }
 
-    /// The seat learns of the message. From its next step on its past begins with what it was told, or the other way round.
+    /// The seat learns of the message. From its next step on its past begins with what it was told,
+    /// or the other way round.
     pub(super) fn learn(&self, to: &mut RawSeat, message: Message)
         requires seat { IsSeatOf self.now to.old }
         requires message { IsMessageOf self.now message }
@@ -58,7 +59,8 @@ impl<P: Pace> Words<P> {
         self.words.join(to, message);
     }
 
-    /// The seat learns of the message. From its next step on its past begins with what it was told, or the other way round.
+    /// The seat learns of the message. From its next step on its past begins with what it was told,
+    /// or the other way round.
     pub fn learn(&self, to: &mut RawSeat, message: Message)
         requires seat { IsSeatOf self.now to.old }
         requires message { IsMessageOf self.now message }

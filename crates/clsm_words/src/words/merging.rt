@@ -1,4 +1,5 @@
-//! The merger's steps: its hold of the lock, a freeze, the words of runs, a merge's end, and a reclaim.
+//! The merger's steps: its hold of the lock, a freeze, the words of runs, a merge's end, and a
+//! reclaim.
 ghost use Rattle.std.specs.Prelude.{◌≡◌};
 ghost use Rattle.clsm_law.specs.Merging.{epoch_end};
 ghost use Rattle.clsm_law.specs.declared.step.Step.TheVariants.{EnterExclusive, LeaveExclusive, Look, Pad, WriteRun, ClearHead, ClearState, Publish, ExtendClock, ExtendLimit};
@@ -20,7 +21,8 @@ impl<P: Pace> Words<P> {
         self.pace.step(self.words.layout.seats, kind);
     }
 
-    /// Enters the lock alone, if nobody holds it. Answers `Lost` where somebody does: the merger is outside then.
+    /// Enters the lock alone, if nobody holds it. Answers `Lost` where somebody does: the merger is
+    /// outside then.
     #[inline(always)]
     pub fn enter_exclusive(&self, seat: &mut RawMerger) -> Answer
         requires { MayMerge self.now seat.old EnterExclusive }
@@ -76,7 +78,8 @@ impl<P: Pace> Words<P> {
             .merger_store(seat, &Step::WriteRun(word, written), word, written);
     }
 
-    /// Ends a merge: readers search the place that was written from now on. `merged` is the number of merges before it.
+    /// Ends a merge: readers search the place that was written from now on. `merged` is the number
+    /// of merges before it.
     #[inline(always)]
     pub fn publish(&self, seat: &mut RawMerger, merged: u64)
         requires opens { MayMerge self.now seat.old Publish }

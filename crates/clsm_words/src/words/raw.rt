@@ -1,4 +1,5 @@
-//! One function for each operation on a word, told which step it is. The step costs nothing when it runs.
+//! One function for each operation on a word, told which step it is. The step costs nothing when it
+//! runs.
 ghost use Rattle.std.specs.Prelude.{◌≡◌, ℕ, ◌+◌, ◌-◌, ◌%◌, ◌^◌, ◌<◌, ◌==◌, true, max};
 ghost use prog.Atomic.{either};
 ghost use Rattle.clsm_law.specs.Memory.{is_word};

@@ -1,4 +1,5 @@
--- What each kind of step notes holds in every layout, at every seat, and whatever was found, where the view takes none of these in.
+-- What each kind of step notes holds in every layout, at every seat, and whatever was found, where
+-- the view takes none of these in.
 use Rattle.clsm_caller.proofs.notes.note.Goals as goal
 
 pub returns-in_ok-note_entry-in-EnterShared : goal.returns-in_ok-note_entry-in-EnterShared

@@ -1,5 +1,5 @@
-//! Short lists of records that are drawn: lawful ones, made by calls that are played on plain maps, and such
-//! lists with one field altered.
+//! Short lists of records that are drawn: lawful ones, made by calls that are played on plain maps,
+//! and such lists with one field altered.
 use super::{END, KEYS};
 use clsm_model::{CallRecord, Change, Deed, Memory, PlainMap, Rows, Slot, Time, Value};
 use rand_core::utils::NextWord;

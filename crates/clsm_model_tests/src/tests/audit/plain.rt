@@ -101,7 +101,8 @@ fn value_below(records: &[CallRecord], key: u64, time: Time) -> Option<Value> {
     value
 }
 
-/// Whether these are the first `max` pairs of the range below the call's time, and `more` the next key.
+/// Whether these are the first `max` pairs of the range below the call's time, and `more` the next
+/// key.
 fn is_page(
     records: &[CallRecord],
     time: Time,
