@@ -139,11 +139,11 @@ fn options_of_an_exploration_are_read(rt: HostRuntime) {
         "clsm",
         "explore",
         "--merge",
-        "get 1",
-        "get 2",
         "--shards",
         "1",
         "--answers",
+        "get 1",
+        "get 2",
         "snap;close",
     ];
     assert_eq!(rt;
