@@ -13,6 +13,8 @@ mod merging;
 mod scans;
 mod seats;
 mod snapshots;
+mod store;
+mod through_merges;
 
 const NEVER: u32 = u32::MAX;
 

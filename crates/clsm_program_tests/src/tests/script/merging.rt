@@ -2,7 +2,7 @@
 use super::*;
 use clsm_audit::{AuditError, FaultKind};
 use clsm_script::Answer;
-use clsm_store::{FreezeError, Pinned, ReclaimError, Worn};
+use clsm_store::{FreezeError, Full, Pinned, ReclaimError, TryPutError, Worn};
 use std::test::Fail;
 
 #[test]
@@ -148,6 +148,14 @@ fn shows_rare_refusals(rt: HostRuntime) -> Result<(), Fail> {
     };
     for (answer, shown) in [
         (Answer::Audit(Err(fault)), "audit fault WrongReply 3"),
+        (Answer::Write(Err(Full { time: 4 })), "full @4"),
+        (
+            Answer::Try(Err(TryPutError::Full { time: u64::MAX })),
+            "full @18446744073709551615",
+        ),
+        (Answer::Try(Err(TryPutError::Busy)), "busy"),
+        (Answer::Try(Err(TryPutError::Raced)), "raced"),
+        (Answer::Try(Err(TryPutError::Overtaken)), "overtaken"),
         (Answer::Freeze(Err(FreezeError::Worn(Worn))), "worn"),
         (
             Answer::Reclaim(Err(ReclaimError::Pinned(Pinned(63)))),
