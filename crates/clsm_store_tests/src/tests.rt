@@ -8,23 +8,16 @@ use std::alloc::Global;
 use std::process::Abort;
 use std::sync::Wait;
 
+mod acting;
 mod alone;
-mod busy;
 mod counting;
-mod freezing;
 mod gate;
 mod held;
-mod held_writer;
-mod meetings;
-mod merging;
 mod opening;
-mod paced;
 mod replay;
-mod replay_merges;
 mod scans;
 mod snapshot_steps;
-mod snapshots;
-mod threads;
+mod working;
 
 const FOUR_CELLS: Config = Config {
     cells: 4,
@@ -53,62 +46,13 @@ fn take_seat<P: Pace>(rt: &impl Abort, store: &Store<P>, seats: &mut Vec<Seat>) 
     seats.pop().expect(rt, "a seat")
 }
 
-/// Writes these words.
-fn put<P: Pace, R: Abort + Wait>(
+/// Writes these words, and answers the write's time.
+fn write<P: Pace, R: Abort + Wait>(
     rt: &R,
-    store: &Store<P>,
-    seat: &mut Seat,
+    caller: &mut Caller<P>,
     key: u64,
     words: &[u64],
-) -> Result<Time, Full>
-    requires { seat.old.store ≡ store.now }
-    ensures { seat.new.store ≡ store.now }
-{
+) -> Result<Time, Full> {
     let value = Value::new(words).expect(rt, "one to eight words");
-    store.put(rt, seat, key, value)
-}
-
-/// Removes the key.
-fn remove<P: Pace, R: Wait>(
-    rt: &R,
-    store: &Store<P>,
-    seat: &mut Seat,
-    key: u64,
-) -> Result<Time, Full>
-    requires { seat.old.store ≡ store.now }
-    ensures { seat.new.store ≡ store.now }
-{
-    store.remove(rt, seat, key)
-}
-
-/// Tries to write these words.
-fn try_put<P: Pace>(
-    rt: &impl Abort,
-    store: &Store<P>,
-    seat: &mut Seat,
-    key: u64,
-    words: &[u64],
-) -> Result<Time, TryPutError>
-    requires { seat.old.store ≡ store.now }
-    ensures { seat.new.store ≡ store.now }
-{
-    let value = Value::new(words).expect(rt, "one to eight words");
-    store.try_put(seat, key, value)
-}
-
-/// Freezes the epoch.
-fn freeze<P: Pace, R: Abort + Wait>(rt: &R, store: &Store<P>, merger: Clean) -> Frozen
-    requires { merger.store ≡ store.now }
-    ensures { result.merger.store ≡ store.now }
-{
-    let Ok(frozen) = merger.freeze(rt, store) else {
-        panic!(rt; "worn");
-    };
-    frozen
-}
-
-/// A read that answers so.
-fn got(rt: &impl Abort, time: Time, words: &[u64]) -> Got {
-    let value = Value::new(words).ok();
-    Got { time, value }
+    caller.put(rt, key, value)
 }

@@ -1,6 +1,4 @@
 //! The steps of a call are counted by a pace.
-ghost use Rattle.std.specs.Prelude.{◌≡◌};
-
 use super::*;
 use clsm_words::Kind;
 use std::sync::atomic::AtomicU64;
@@ -19,11 +17,6 @@ impl Pace for Counted {
     }
 }
 
-/// Steps since this was last asked.
-fn taken(store: &Store<Counted>) -> u64 {
-    store.pace().steps.swap(0, SeqCst)
-}
-
 #[test]
 fn a_put_fills_what_its_value_says(rt: HostRuntime) -> Result<(), Fail> {
     let steps = AtomicU64::new(0);
@@ -32,13 +25,14 @@ fn a_put_fills_what_its_value_says(rt: HostRuntime) -> Result<(), Fail> {
         mut seats,
         ..
     } = open_paced(rt.alloc(), FOUR_CELLS, Counted { steps }).expect(&rt, "memory");
-    let mut seat = take_seat(&rt, &store, &mut seats);
+    let mut caller = Caller::new(&store, take_seat(&rt, &store, &mut seats));
     let eight = [1, 2, 3, 4, 5, 6, 7, 8];
-    assert!(rt; put(&rt, &store, &mut seat, 7, &[70]).is_ok());
-    assert_eq!(rt; taken(&store), 13);
-    assert!(rt; put(&rt, &store, &mut seat, 7, &eight).is_ok());
-    assert_eq!(rt; taken(&store), 20);
-    assert!(rt; remove(&rt, &store, &mut seat, 7).is_ok());
-    assert_eq!(rt; taken(&store), 12);
+    let steps = &store.pace().steps;
+    assert!(rt; write(&rt, &mut caller, 7, &[70]).is_ok());
+    assert_eq!(rt; steps.swap(0, SeqCst), 13);
+    assert!(rt; write(&rt, &mut caller, 7, &eight).is_ok());
+    assert_eq!(rt; steps.swap(0, SeqCst), 20);
+    assert!(rt; caller.remove(&rt, 7).is_ok());
+    assert_eq!(rt; steps.swap(0, SeqCst), 12);
     Ok(())
 }

@@ -7,12 +7,15 @@ use std::thread;
 /// How often a thread looks for its turn before it goes on without it.
 const TURNS: u64 = 10_000_000;
 
-/// Holds a seat the first time that it is about to make this kind of step.
+/// Holds a seat, once, when it is about to make a step of this kind, or of any. So many such steps
+/// it lets pass first, counted since it is watched.
 #[derive(Drop)]
 pub(super) struct Gate {
-    pub(super) seat: u64,
-    pub(super) at: Kind,
-    pub(super) turn: AtomicU64,
+    seat: u64,
+    at: Option<Kind>,
+    passed: u64,
+    taken: AtomicU64,
+    turn: AtomicU64,
 }
 
 /// The turns: the gate is open until it is watched, nobody is at it, the seat is held there, it was
@@ -30,10 +33,12 @@ pub(super) const ANSWERED: u64 = 4;
 const TOO_LONG: u64 = 5;
 
 impl Gate {
-    pub(super) fn new(seat: u64, at: Kind, turn: u64) -> Gate {
+    pub(super) fn new(seat: u64, at: Option<Kind>, passed: u64, turn: u64) -> Gate {
         Gate {
             seat,
             at,
+            passed,
+            taken: AtomicU64::new(0),
             turn: AtomicU64::new(turn),
         }
     }
@@ -53,22 +58,18 @@ impl Gate {
     pub(super) fn pass(&self, from: u64, to: u64) -> bool {
         self.turn.compare_exchange(from, to, SeqCst, SeqCst).is_ok()
     }
-}
 
-impl Gate {
-    /// Holds the thread that is here, if nobody was held yet, until it is let go.
-    pub(super) fn hold(&self) {
-        if self.pass(NOBODY, HELD) {
+    fn step(&self, seat: u64, kind: Kind) {
+        let is_here = match self.at {
+            Some(at) => at == kind,
+            None => true,
+        };
+        if seat != self.seat || !is_here || self.turn.load(SeqCst) != NOBODY {
+            return;
+        }
+        if self.taken.fetch_add(1, SeqCst) == self.passed && self.pass(NOBODY, HELD) {
             self.wait_while(HELD);
             self.pass(HELD, TOO_LONG);
-        }
-    }
-}
-
-impl Pace for Gate {
-    fn step(&self, seat: u64, kind: Kind) {
-        if seat == self.seat && kind == self.at {
-            self.hold();
         }
     }
 }

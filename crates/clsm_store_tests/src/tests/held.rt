@@ -1,400 +1,231 @@
-//! Readers are held in a get while the component that they hold is merged and retired.
-ghost use Rattle.std.specs.Prelude.{◌≡◌, IfSome};
-
-use super::gate::{ANSWERED, Gate, Gates, HELD, LET_GO, NOBODY, OPEN};
-use super::merging::retire;
+//! A seat is held at a step of its call while others make theirs.
+use super::acting::{Act, Answer, check};
+use super::gate::{Gate, NOBODY, OPEN};
 use super::*;
 use clsm_law::Word;
 use clsm_words::Kind;
 use std::test::*;
-use std::thread::{Threads, join};
 
-const KEY: u64 = 1;
+const KEY: u64 = 7;
 
-/// A store where the key was put, its other two seats, and the merger's token.
-#[derive(Drop)]
-struct Begun {
-    store: Store<Gates>,
-    reader: Seat,
-    third: Seat,
-    merger: Clean,
+/// The merger's number, behind those of three callers.
+const MERGER: u64 = 3;
+
+/// Holds a seat at its first step of this kind.
+fn at(seat: u64, kind: Kind, turn: u64) -> Gate {
+    Gate::new(seat, Some(kind), 0, turn)
 }
 
-/// Opens a store of three seats with these gates, and puts the key by the first seat.
-fn begin<R: Abort + Wait>(rt: &R, alloc: Global, first: Gate, second: Gate) -> Begun
-    ensures reader { result.reader.store ≡ result.store }
-    ensures third { result.third.store ≡ result.store }
-    ensures merger { result.merger.store ≡ result.store }
-{
-    let config = Config {
-        seats: 3,
-        ..FOUR_CELLS
-    };
-    let Opened {
-        store,
-        mut seats,
-        merger,
-    } = open_paced(alloc, config, Gates { first, second }).expect(rt, "memory");
-    let third = take_seat(rt, &store, &mut seats);
-    let reader = take_seat(rt, &store, &mut seats);
-    let mut writer = take_seat(rt, &store, &mut seats);
-    assert_eq!(rt; put(rt, &store, &mut writer, KEY, &[10]), Ok(0));
-    Begun {
-        store,
-        reader,
-        third,
-        merger,
+/// Seat 1 is held before its first step of this kind until seat 2's call is answered; then it gets.
+#[test]
+fn a_seat_is_held_while_another_calls(rt: HostRuntime) -> Result<(), Fail> {
+    let (put, put_too) = (Act::Put(KEY, 1), Act::Put(KEY, 2));
+    let (try_put, try_too) = (Act::TryPut(KEY, 1), Act::TryPut(KEY, 2));
+    let (get, clock) = (Act::Get(KEY), Kind::Look(Word::Clock));
+    let overtaken = Answer::Refused(TryPutError::Overtaken);
+    let raced = Answer::Refused(TryPutError::Raced);
+    let (zero, one) = (Answer::At(0), Answer::At(1));
+    let (old, none) = (Answer::None(0), Answer::None(1));
+    let (first, second) = (Answer::Got(2, 1), Answer::Got(2, 2));
+    let early = Answer::Got(1, 2);
+    for (kind, slow, quick, after) in [
+        // writers overlap, and one that is held holds up no other
+        (Kind::Decide, (put, zero), (put_too, one), second),
+        (Kind::Decide, (put, zero), (try_too, one), second),
+        (Kind::Decide, (try_put, zero), (put_too, one), second),
+        // a reader overtakes it
+        (Kind::Decide, (put, one), (get, none), first),
+        (Kind::Decide, (try_put, overtaken), (get, none), none),
+        // another seat is faster
+        (Kind::Draw, (put, one), (put_too, zero), first),
+        (Kind::Link, (put, zero), (put_too, one), second),
+        (Kind::Draw, (try_put, raced), (put_too, zero), early),
+        (Kind::Link, (try_put, raced), (put_too, one), second),
+        // a read is at the clock that it found
+        (clock, (get, early), (put_too, zero), early),
+        (Kind::RaiseFront, (get, old), (put_too, zero), early),
+        (Kind::Unpin, (get, old), (put_too, zero), early),
+    ] {
+        let gates = (at(1, kind, NOBODY), at(2, kind, OPEN));
+        let slow = [slow, (get, after)];
+        let quick = [
+            (Act::Wait(0), Answer::Held(true)),
+            quick,
+            (Act::LetGo(0), Answer::Held(true)),
+        ];
+        check(&rt, rt.alloc(), 8, gates, &[], [&[], &slow, &quick]);
     }
+    Ok(())
 }
 
-/// What tries to reclaim met: the seats that kept the component, and whether it is clean at last.
-#[derive(Clone, Copy, PartialEq, Eq, Debug)]
-struct Met {
-    first: Option<u32>,
-    second: Option<u32>,
-    clean: bool,
-}
-
-/// The get of a reader that the gate holds.
-fn get_slowly(store: &Store<Gates>, gate: &Gate, seat: &mut Seat) -> Got
-    requires { seat.old.store ≡ store.now }
-    ensures { seat.new.store ≡ store.now }
-{
-    let answer = store.get(seat, KEY);
-    gate.pass(LET_GO, ANSWERED);
-    answer
-}
-
-/// The get of a reader that the first gate holds.
-fn get_once(store: &Store<Gates>, mut seat: Seat) -> Got
-    requires { seat.store ≡ store.now }
-{
-    get_slowly(store, &store.pace().first, &mut seat)
-}
-
-/// Lets the held reader go, and waits until its call is answered. Answers whether it was held till
-/// then.
-fn let_go(gate: &Gate) -> bool {
-    let held = gate.pass(HELD, LET_GO);
-    gate.wait_while(LET_GO);
-    held
-}
-
-/// Retires the component that the reader at the first gate holds, and tries to reclaim it. Answers
-/// the token, where the component is not clean yet, what the try met, and whether the reader came
-/// to its gate.
-fn retire_held<R: Abort + Wait>(
-    rt: &R,
-    store: &Store<Gates>,
-    merger: Clean,
-) -> (Option<Retired>, Met, bool)
-    requires { merger.store ≡ store.now }
-    ensures { IfSome result.0 (λ retired. retired.merger.store ≡ store.now) }
-{
-    let came = store.pace().first.wait_while(NOBODY);
-    let mut met = Met {
-        first: None,
-        second: None,
-        clean: true,
-    };
-    match retire(rt, store, merger).reclaim(store) {
-        Ok(_) => (None, met, came),
-        Err((retired, Pinned(seat))) => {
-            met.first = Some(seat);
-            (Some(retired), met, came)
-        }
+/// The key has a value, and seat 1 is held before its first step of this kind in a put, while
+/// seat 2 gets; then seat 1 gets.
+#[test]
+fn a_writer_is_held_before_each_kind_of_its_steps(rt: HostRuntime) -> Result<(), Fail> {
+    let (one, two) = (Answer::At(1), Answer::At(2));
+    let (old, late) = (Answer::Got(1, 10), Answer::Got(2, 10));
+    let (new, newer) = (Answer::Got(2, 1), Answer::Got(3, 1));
+    for (kind, during, time, after) in [
+        (Kind::EnterShared, old, one, new),
+        (Kind::Draw, old, one, new),
+        (Kind::Fill, late, two, newer),
+        (Kind::Link, late, two, newer),
+        (Kind::Decide, late, two, newer),
+        (Kind::LeaveShared, new, one, new),
+    ] {
+        let gates = (at(1, kind, NOBODY), at(2, kind, OPEN));
+        let before = [(Act::Put(KEY, 10), Answer::At(0))];
+        let slow = [(Act::Put(KEY, 1), time), (Act::Get(KEY), after)];
+        let quick = [
+            (Act::Wait(0), Answer::Held(true)),
+            (Act::Get(KEY), during),
+            (Act::LetGo(0), Answer::Held(true)),
+        ];
+        check(&rt, rt.alloc(), 0, gates, &before, [&[], &slow, &quick]);
     }
+    Ok(())
 }
 
-/// The same, and then lets the reader go and tries again. Answers so too, with whether the reader
-/// was held all the while.
-fn retire_beside_one<R: Abort + Wait>(
-    rt: &R,
-    store: &Store<Gates>,
-    merger: Clean,
-) -> (Option<Retired>, Met, bool)
-    requires { merger.store ≡ store.now }
-    ensures { IfSome result.0 (λ retired. retired.merger.store ≡ store.now) }
-{
-    let (kept, mut met, came) = retire_held(rt, store, merger);
-    let Some(retired) = kept else {
-        return (None, met, false);
-    };
-    let held = let_go(&store.pace().first);
-    match retired.reclaim(store) {
-        Ok(_) => (None, met, came && held),
-        Err((retired, Pinned(seat))) => {
-            met.second = Some(seat);
-            met.clean = false;
-            (Some(retired), met, came && held)
-        }
-    }
+/// A writer is held between its draw and its first fill, while the epoch before is merged and given
+/// up.
+#[test]
+fn a_held_writer_holds_up_no_merge(rt: HostRuntime) -> Result<(), Fail> {
+    let gates = (at(1, Kind::Fill, NOBODY), at(2, Kind::Fill, OPEN));
+    let before = [
+        (Act::Put(KEY, 10), Answer::At(0)),
+        (Act::Freeze, Answer::Frozen(0)),
+    ];
+    let merger = [
+        (Act::Wait(0), Answer::Held(true)),
+        (Act::Merge, Answer::Merged(1)),
+        (Act::Reclaim, Answer::Clean),
+        (Act::Get(KEY), Answer::Got(5, 10)),
+        (Act::LetGo(0), Answer::Held(true)),
+    ];
+    let writer = [
+        (Act::Put(KEY, 11), Answer::At(5)),
+        (Act::Get(KEY), Answer::Got(6, 11)),
+    ];
+    check(&rt, rt.alloc(), 0, gates, &before, [&merger, &writer, &[]]);
+    Ok(())
 }
 
-/// The same, without the token.
-fn retire_meanwhile<R: Abort + Wait>(rt: &R, store: &Store<Gates>, merger: Clean) -> (Met, bool)
-    requires { merger.store ≡ store.now }
-{
-    let (_, met, held) = retire_beside_one(rt, store, merger);
-    (met, held)
-}
-
-/// A reader gets slowly, while the component that it holds is retired.
-fn get_and_retire<R: Abort + Threads + Wait + Sync>(
-    rt: &R,
-    store: &Store<Gates>,
-    reader: Seat,
-    merger: Clean,
-) -> (Got, (Met, bool))
-    requires reader { reader.store ≡ store.now }
-    requires merger { merger.store ≡ store.now }
-{
-    join(
-        rt,
-        || -> Got
-            requires { reader.store ≡ store.now }
-        { get_once(store, reader) },
-        || -> (Met, bool)
-            requires { merger.store ≡ store.now }
-        { retire_meanwhile(rt, store, merger) },
-    )
-}
-
+/// A reader is held in its call while the component that it holds is merged and retired.
 #[test]
 fn a_held_reader_keeps_its_component(rt: HostRuntime) -> Result<(), Fail> {
-    let gate = Gate::new(1, Kind::Look(Word::Clock), NOBODY);
-    let other = Gate::new(2, Kind::Pin, OPEN);
-    let Begun {
-        store,
-        reader,
-        merger,
-        ..
-    } = begin(&rt, rt.alloc(), gate, other);
-    let (read, (met, held)) = get_and_retire(&rt, &store, reader, merger);
-    assert!(rt; held, "nobody was held");
-    let expected = Met {
-        first: Some(1),
-        second: None,
-        clean: true,
-    };
-    assert_eq!(rt; met, expected);
-    assert_eq!(rt; read, got(&rt, 4, &[10]));
-    Ok(())
-}
-
-/// The scan of all keys by a reader that the first gate holds.
-fn scan_once(alloc: Global, store: &Store<Gates>, mut seat: Seat) -> Option<Scan>
-    requires { seat.store ≡ store.now }
-{
-    let scanned = store.scan(alloc, &mut seat, 0, u64::MAX);
-    store.pace().first.pass(LET_GO, ANSWERED);
-    scanned.ok()
-}
-
-/// A reader scans slowly, while the component that it holds is retired.
-fn scan_and_retire<R: Abort + Threads + Wait + Sync>(
-    rt: &R,
-    alloc: Global,
-    store: &Store<Gates>,
-    reader: Seat,
-    merger: Clean,
-) -> (Option<Scan>, (Met, bool))
-    requires reader { reader.store ≡ store.now }
-    requires merger { merger.store ≡ store.now }
-{
-    join(
-        rt,
-        || -> Option<Scan>
-            requires { reader.store ≡ store.now }
-        { scan_once(alloc, store, reader) },
-        || -> (Met, bool)
-            requires { merger.store ≡ store.now }
-        { retire_meanwhile(rt, store, merger) },
-    )
-}
-
-#[test]
-fn a_held_scan_keeps_its_component(rt: HostRuntime) -> Result<(), Fail> {
-    let gate = Gate::new(1, Kind::Look(Word::Clock), NOBODY);
-    let other = Gate::new(2, Kind::Pin, OPEN);
-    let alloc = rt.alloc();
-    let Begun {
-        store,
-        reader,
-        merger,
-        ..
-    } = begin(&rt, alloc, gate, other);
-    let (scanned, (met, held)) = scan_and_retire(&rt, alloc, &store, reader, merger);
-    assert!(rt; held, "nobody was held");
-    let expected = Met {
-        first: Some(1),
-        second: None,
-        clean: true,
-    };
-    assert_eq!(rt; met, expected);
-    let Scan { time, rows } = scanned.expect(&rt, "memory");
-    let value = Value::new(&[10]).expect(&rt, "one word");
-    assert_eq!(rt; time, 4);
-    assert_eq!(rt; rows.as_slice(), [(KEY, value)].as_slice());
-    Ok(())
-}
-
-/// Two readers get slowly, each held at its gate.
-fn get_both<R: Abort + Threads + Sync>(
-    rt: &R,
-    store: &Store<Gates>,
-    first: Seat,
-    second: Seat,
-) -> (Got, Got)
-    requires first { first.store ≡ store.now }
-    requires second { second.store ≡ store.now }
-{
-    join(
-        rt,
-        || -> Got
-            requires { first.store ≡ store.now }
-        { get_once(store, first) },
-        || -> Got
-            requires { second.store ≡ store.now }
-        {
-            let mut second = second;
-            get_slowly(store, &store.pace().second, &mut second)
-        },
-    )
-}
-
-/// Waits until the second reader is held too, retires their component with the first, and then lets
-/// the second go and tries again.
-fn retire_beside_two<R: Abort + Wait>(rt: &R, store: &Store<Gates>, merger: Clean) -> (Met, bool)
-    requires { merger.store ≡ store.now }
-{
-    let both = store.pace().second.wait_while(NOBODY);
-    let (retired, mut met, held) = retire_beside_one(rt, store, merger);
-    let held_too = let_go(&store.pace().second);
-    if let Some(retired) = retired
-        && retired.reclaim(store).is_ok()
-    {
-        met.clean = true;
+    let clock = Kind::Look(Word::Clock);
+    for (call, answer) in [
+        (Act::Get(KEY), Answer::Got(4, 10)),
+        (Act::Scan, Answer::Row(4, KEY, 10)),
+    ] {
+        let gates = (at(1, clock, NOBODY), at(2, clock, OPEN));
+        let before = [(Act::Put(KEY, 10), Answer::At(0))];
+        let merger = [
+            (Act::Wait(0), Answer::Held(true)),
+            (Act::Freeze, Answer::Frozen(0)),
+            (Act::Merge, Answer::Merged(1)),
+            (Act::Reclaim, Answer::Pinned(1)),
+            (Act::LetEnd(0), Answer::Held(true)),
+            (Act::Reclaim, Answer::Clean),
+        ];
+        let reader = [(call, answer), (Act::End(0), Answer::Done)];
+        check(&rt, rt.alloc(), 8, gates, &before, [&merger, &reader, &[]]);
     }
-    (met, both && held && held_too)
-}
-
-/// Two readers get slowly, while the component that they hold is retired.
-fn get_both_and_retire<R: Abort + Threads + Wait + Sync>(
-    rt: &R,
-    store: &Store<Gates>,
-    first: Seat,
-    second: Seat,
-    merger: Clean,
-) -> ((Got, Got), (Met, bool))
-    requires first { first.store ≡ store.now }
-    requires second { second.store ≡ store.now }
-    requires merger { merger.store ≡ store.now }
-{
-    join(
-        rt,
-        || -> (Got, Got)
-            requires first { first.store ≡ store.now }
-            requires second { second.store ≡ store.now }
-        { get_both(rt, store, first, second) },
-        || -> (Met, bool)
-            requires { merger.store ≡ store.now }
-        { retire_beside_two(rt, store, merger) },
-    )
+    Ok(())
 }
 
 #[test]
 fn two_held_readers_are_named_one_after_the_other(rt: HostRuntime) -> Result<(), Fail> {
-    let first = Gate::new(1, Kind::Look(Word::Clock), NOBODY);
-    let second = Gate::new(2, Kind::Look(Word::Clock), NOBODY);
-    let Begun {
-        store,
-        reader,
-        third,
-        merger,
-    } = begin(&rt, rt.alloc(), first, second);
-    let (reads, (met, held)) = get_both_and_retire(&rt, &store, reader, third, merger);
-    assert!(rt; held, "nobody was held");
-    let expected = Met {
-        first: Some(1),
-        second: Some(2),
-        clean: true,
-    };
-    assert_eq!(rt; met, expected);
-    assert_eq!(rt; reads, (got(&rt, 4, &[10]), got(&rt, 4, &[10])));
+    let clock = Kind::Look(Word::Clock);
+    let gates = (at(1, clock, NOBODY), at(2, clock, NOBODY));
+    let before = [(Act::Put(KEY, 10), Answer::At(0))];
+    let merger = [
+        (Act::Wait(0), Answer::Held(true)),
+        (Act::Wait(1), Answer::Held(true)),
+        (Act::Freeze, Answer::Frozen(0)),
+        (Act::Merge, Answer::Merged(1)),
+        (Act::Reclaim, Answer::Pinned(1)),
+        (Act::LetEnd(0), Answer::Held(true)),
+        (Act::Reclaim, Answer::Pinned(2)),
+        (Act::LetEnd(1), Answer::Held(true)),
+        (Act::Reclaim, Answer::Clean),
+    ];
+    let get = (Act::Get(KEY), Answer::Got(4, 10));
+    let first = [get, (Act::End(0), Answer::Done)];
+    let second = [get, (Act::End(1), Answer::Done)];
+    check(
+        &rt,
+        rt.alloc(),
+        8,
+        gates,
+        &before,
+        [&merger, &first, &second],
+    );
     Ok(())
 }
 
-/// A reader gets slowly, and again: it is held in the second get under its new pin.
-fn get_twice(store: &Store<Gates>, mut seat: Seat) -> (Got, Got)
-    requires { seat.store ≡ store.now }
-{
-    let first = get_slowly(store, &store.pace().first, &mut seat);
-    store.pace().second.pass(OPEN, NOBODY);
-    let second = get_slowly(store, &store.pace().second, &mut seat);
-    (first, second)
+/// The reader is held in a second get, under its new pin.
+#[test]
+fn a_reader_that_began_anew_keeps_nothing_retired(rt: HostRuntime) -> Result<(), Fail> {
+    let clock = Kind::Look(Word::Clock);
+    let gates = (at(1, clock, NOBODY), at(1, clock, OPEN));
+    let before = [(Act::Put(KEY, 10), Answer::At(0))];
+    let merger = [
+        (Act::Wait(0), Answer::Held(true)),
+        (Act::Freeze, Answer::Frozen(0)),
+        (Act::Merge, Answer::Merged(1)),
+        (Act::Reclaim, Answer::Pinned(1)),
+        (Act::LetEnd(0), Answer::Held(true)),
+        (Act::Wait(1), Answer::Held(true)),
+        (Act::Reclaim, Answer::Clean),
+        (Act::LetEnd(1), Answer::Held(true)),
+    ];
+    let get = (Act::Get(KEY), Answer::Got(4, 10));
+    let reader = [
+        get,
+        (Act::End(0), Answer::Done),
+        (Act::Watch(1), Answer::Done),
+        get,
+        (Act::End(1), Answer::Done),
+    ];
+    check(&rt, rt.alloc(), 8, gates, &before, [&merger, &reader, &[]]);
+    Ok(())
 }
 
-/// Retires the component that the reader holds, lets it go to its second get, and tries to reclaim
-/// while it is held there.
-fn retire_between<R: Abort + Wait>(rt: &R, store: &Store<Gates>, merger: Clean) -> (Met, bool)
-    requires { merger.store ≡ store.now }
-{
-    let Gates { first, second } = store.pace();
-    let (kept, mut met, came) = retire_held(rt, store, merger);
-    let Some(retired) = kept else {
-        return (met, false);
-    };
-    let held = let_go(first);
-    second.wait_while(OPEN);
-    let again = second.wait_while(NOBODY);
-    if let Err((_, Pinned(seat))) = retired.reclaim(store) {
-        met.second = Some(seat);
-        met.clean = false;
-    }
-    let still = let_go(second);
-    (met, came && held && again && still)
-}
-
-/// A reader gets twice, while the component that it held first is retired.
-fn get_twice_and_retire<R: Abort + Threads + Wait + Sync>(
-    rt: &R,
-    store: &Store<Gates>,
-    reader: Seat,
-    merger: Clean,
-) -> ((Got, Got), (Met, bool))
-    requires reader { reader.store ≡ store.now }
-    requires merger { merger.store ≡ store.now }
-{
-    join(
-        rt,
-        || -> (Got, Got)
-            requires { reader.store ≡ store.now }
-        { get_twice(store, reader) },
-        || -> (Met, bool)
-            requires { merger.store ≡ store.now }
-        { retire_between(rt, store, merger) },
-    )
+/// Seat 1 is held between its look at the lock and its exchange, until seat 2 is about to draw in
+/// its own hold; there seat 2 is held until seat 1's try is answered.
+#[test]
+fn a_try_is_busy_where_another_enters_first(rt: HostRuntime) -> Result<(), Fail> {
+    let gates = (at(1, Kind::EnterShared, NOBODY), at(2, Kind::Draw, NOBODY));
+    let between = [
+        (Act::Wait(1), Answer::Held(true)),
+        (Act::LetEnd(0), Answer::Held(true)),
+        (Act::LetGo(1), Answer::Held(true)),
+    ];
+    let first = [
+        (Act::TryPut(KEY, 1), Answer::Refused(TryPutError::Busy)),
+        (Act::End(0), Answer::Done),
+    ];
+    let second = [
+        (Act::Wait(0), Answer::Held(true)),
+        (Act::Put(KEY, 2), Answer::At(0)),
+    ];
+    check(&rt, rt.alloc(), 8, gates, &[], [&between, &first, &second]);
+    Ok(())
 }
 
 #[test]
-fn a_reader_that_began_anew_keeps_nothing_retired(rt: HostRuntime) -> Result<(), Fail> {
-    let first = Gate::new(1, Kind::Look(Word::Clock), NOBODY);
-    let second = Gate::new(1, Kind::Look(Word::Clock), OPEN);
-    let Begun {
-        store,
-        reader,
-        merger,
-        ..
-    } = begin(&rt, rt.alloc(), first, second);
-    let (reads, (met, held)) = get_twice_and_retire(&rt, &store, reader, merger);
-    assert!(rt; held, "nobody was held");
-    let expected = Met {
-        first: Some(1),
-        second: None,
-        clean: true,
-    };
-    assert_eq!(rt; met, expected);
-    assert_eq!(rt; reads, (got(&rt, 4, &[10]), got(&rt, 4, &[10])));
+fn a_try_is_busy_while_an_epoch_is_frozen(rt: HostRuntime) -> Result<(), Fail> {
+    let gates = (
+        at(MERGER, Kind::ExtendLimit, NOBODY),
+        at(MERGER, Kind::Pad, OPEN),
+    );
+    let merger = [(Act::Freeze, Answer::Frozen(0))];
+    let caller = [
+        (Act::Wait(0), Answer::Held(true)),
+        (Act::TryPut(KEY, 1), Answer::Refused(TryPutError::Busy)),
+        (Act::LetGo(0), Answer::Held(true)),
+    ];
+    check(&rt, rt.alloc(), 8, gates, &[], [&merger, &caller, &[]]);
     Ok(())
 }
