@@ -1,9 +1,10 @@
-//! Worlds that are played event by event, against answers that are written out by hand.
-//! At most one allocation of a run is made to fail: what is refused memory is made once more.
+//! Worlds that are played event by event, against answers that are written out by hand: schedules
+//! are data, and one player plays them.
 mod calls;
 mod copies;
 mod deeds;
 mod equal;
+mod linking;
 mod merges;
 mod merging;
 mod overtaken;
@@ -12,17 +13,18 @@ mod reading;
 mod refused_merges;
 mod refused_reads;
 mod refused_writes;
+mod row;
 mod same;
 mod snapshots;
+mod spelling;
 mod stalled;
 mod strangers;
 mod thin_path;
 mod words;
 
-use clsm_core::{End, Step};
-use clsm_model::{CallRecord, Config, Deed, Rows, Slot, Time, Value};
-use std::alloc::Global;
-use std::process::Abort;
+use crate::tests::row::Words;
+use clsm_core::Word;
+use clsm_model::Config;
 
 const GREATEST: u64 = u64::MAX;
 
@@ -38,48 +40,24 @@ const SMALL: Config = Config {
 /// The merger's number where there are two callers.
 const MERGER: u32 = 2;
 
-fn value(rt: &impl Abort, words: &[u64]) -> Value {
-    Value::new(words).expect(rt, "one to eight words")
-}
+/// The first chain of the first region.
+const HEAD: Word = Word::Head {
+    region: 0,
+    chain: 0,
+};
 
-fn put(key: u64, value: Value) -> Deed {
-    Deed::Put { key, value }
-}
+const TEN: Words = &[10];
 
-fn remove(key: u64) -> Deed {
-    Deed::Remove { key }
-}
+const ELEVEN: Words = &[11];
 
-fn get(key: u64, reply: Option<Value>) -> Deed {
-    Deed::Get { key, reply }
-}
+const TWELVE: Words = &[12];
 
-fn get_at(key: u64, reply: Option<Value>) -> Deed {
-    Deed::GetAt { key, reply }
-}
+const THIRTEEN: Words = &[13];
 
-fn rows_of(rt: &impl Abort, alloc: Global, pairs: &[(u64, Value)]) -> Rows {
-    let rows = match pairs.to_vec(alloc) {
-        Err(_) => pairs.to_vec(alloc).expect(rt, "memory at the second try"),
-        Ok(rows) => rows,
-    };
-    Rows::new(rows)
-}
+const TWENTY: Words = &[20];
 
-fn scan(rt: &impl Abort, alloc: Global, lo: u64, hi: u64, pairs: &[(u64, Value)]) -> Deed {
-    let rows = rows_of(rt, alloc, pairs);
-    Deed::Scan { lo, hi, rows }
-}
+const TWENTY_ONE: Words = &[21];
 
-/// The read of a pin ends with this deed.
-fn recorded(deed: Deed) -> Step {
-    Step::Unpin(End::Recorded(deed))
-}
+const THIRTY: Words = &[30];
 
-fn wrote(seat: u32, key: u64, value: Option<Value>) -> Option<Slot> {
-    Some(Slot::Wrote { seat, key, value })
-}
-
-fn call(seat: u32, time: Time, deed: Deed) -> CallRecord {
-    CallRecord { seat, time, deed }
-}
+const EIGHT_WORDS: Words = &[1, 2, 3, 4, 5, 6, 7, 8];

@@ -1,35 +1,48 @@
 //! The calls of the merger, as their steps.
 use crate::tests::play::Play;
-use clsm_core::{Step, Word};
-use clsm_levels::Entry;
-use clsm_model::{Time, Value};
+use crate::tests::row::{Act, Entry, Row};
+use clsm_core::Word;
+use clsm_model::Time;
 use std::process::Abort;
 
-pub(super) fn entry(key: u64, time: Time, value: Option<Value>) -> Entry {
-    Entry { key, time, value }
-}
-
 impl Play {
-    /// A step of the merger.
-    pub(super) fn merger_does(&mut self, rt: &impl Abort, step: Step) {
-        self.does(rt, self.merger, step);
+    pub(super) fn merger_call(&mut self, rt: &impl Abort, row: &Row) {
+        match row {
+            Row::Freezes(clock) => self.freezes(rt, *clock),
+            Row::LooksAtSnapshots => self.looks_at_snapshots(rt),
+            Row::WritesRun(place, entries) => self.writes_run(rt, *place, entries),
+            Row::Merges(place, entries) => {
+                self.looks_at_snapshots(rt);
+                self.writes_run(rt, *place, entries);
+                self.merger_does(rt, &Act::Publish);
+            }
+            Row::LooksAtPins => self.looks_at_pins(rt),
+            Row::Clears(region) => self.clears(rt, *region),
+            Row::Reclaims(region) => {
+                self.looks_at_pins(rt);
+                self.clears(rt, *region);
+            }
+            _ => panic!(rt; "a row that nobody plays"),
+        }
     }
 
-    /// Freezes the current epoch, where the clock is this.
-    pub(super) fn freezes(&mut self, rt: &impl Abort, clock: Time) {
-        self.merger_does(rt, Step::EnterExclusive);
+    fn merger_does(&mut self, rt: &impl Abort, act: &Act) {
+        self.does(rt, self.merger, act);
+    }
+
+    fn freezes(&mut self, rt: &impl Abort, clock: Time) {
+        self.merger_does(rt, &Act::EnterExclusive);
         let limit = self.look(rt, self.merger, Word::Limit);
         self.finds(rt, self.merger, Word::Clock, clock);
         for time in clock..limit {
-            self.merger_does(rt, Step::Pad(time));
+            self.merger_does(rt, &Act::Pad(time));
         }
-        self.merger_does(rt, Step::ExtendClock);
-        self.merger_does(rt, Step::ExtendLimit);
-        self.merger_does(rt, Step::LeaveExclusive);
+        self.merger_does(rt, &Act::ExtendClock);
+        self.merger_does(rt, &Act::ExtendLimit);
+        self.merger_does(rt, &Act::LeaveExclusive);
     }
 
-    /// Looks at each snapshot word in the order of the seats.
-    pub(super) fn looks_at_snapshots(&mut self, rt: &impl Abort) {
+    fn looks_at_snapshots(&mut self, rt: &impl Abort) {
         for seat in 0..self.layout.seats {
             self.look(rt, self.merger, Word::Snap(seat));
         }
@@ -37,17 +50,15 @@ impl Play {
 
     fn writes_part(&mut self, rt: &impl Abort, place: u64, entry: u64, part: u64, word: u64) {
         let written = Word::Entry { place, entry, part };
-        self.merger_does(rt, Step::WriteRun(written, word));
+        self.merger_does(rt, &Act::WriteRun(written, word));
     }
 
-    /// Writes the entry with this number.
-    pub(super) fn writes_entry(&mut self, rt: &impl Abort, place: u64, number: u64, entry: &Entry) {
-        let (words, removal) = match &entry.value {
-            Some(value) => (value.words(), 0),
-            None => (&[][..], 1),
-        };
-        let stamp = entry.time.saturating_mul(2).saturating_add(removal);
-        self.writes_part(rt, place, number, 0, entry.key);
+    fn writes_entry(&mut self, rt: &impl Abort, place: u64, number: u64, entry: &Entry) {
+        let (key, time, reply) = *entry;
+        let removal = if reply.is_some() { 0 } else { 1 };
+        let words = reply.unwrap_or(&[]);
+        let stamp = time.saturating_mul(2).saturating_add(removal);
+        self.writes_part(rt, place, number, 0, key);
         self.writes_part(rt, place, number, 1, stamp);
         self.writes_part(rt, place, number, 2, words.len() as u64);
         for part in 0..8 {
@@ -56,44 +67,29 @@ impl Play {
         }
     }
 
-    /// Writes the entries into the place, and their number.
-    pub(super) fn writes_run(&mut self, rt: &impl Abort, place: u64, entries: &[Entry]) {
+    fn writes_run(&mut self, rt: &impl Abort, place: u64, entries: &[Entry]) {
         for (number, entry) in (0..).zip(entries) {
             self.writes_entry(rt, place, number, entry);
         }
         let count = entries.len() as u64;
-        self.merger_does(rt, Step::WriteRun(Word::Count(place), count));
+        self.merger_does(rt, &Act::WriteRun(Word::Count(place), count));
     }
 
-    /// A merge from its beginning to its end, which writes these entries into the place.
-    pub(super) fn merges(&mut self, rt: &impl Abort, place: u64, entries: &[Entry]) {
-        self.looks_at_snapshots(rt);
-        self.writes_run(rt, place, entries);
-        self.merger_does(rt, Step::Publish);
-    }
-
-    /// Looks at each pin word in the order of the seats.
-    pub(super) fn looks_at_pins(&mut self, rt: &impl Abort) {
+    fn looks_at_pins(&mut self, rt: &impl Abort) {
         for seat in 0..self.layout.seats {
             self.look(rt, self.merger, Word::Pin(seat));
         }
     }
 
-    /// Clears the heads and the states of the region.
-    pub(super) fn clears(&mut self, rt: &impl Abort, region: u64) {
+    /// Clears the heads and then the states.
+    fn clears(&mut self, rt: &impl Abort, region: u64) {
         for chain in 0..self.layout.chains {
-            self.merger_does(rt, Step::ClearHead { region, chain });
+            self.merger_does(rt, &Act::ClearHead(region, chain));
         }
         for cell in 0..2 * self.layout.cells {
             if cell / self.layout.cells == region {
-                self.merger_does(rt, Step::ClearState(cell));
+                self.merger_does(rt, &Act::ClearState(cell));
             }
         }
-    }
-
-    /// A reclaim from its beginning to its end, of a component that no seat holds.
-    pub(super) fn reclaims(&mut self, rt: &impl Abort, region: u64) {
-        self.looks_at_pins(rt);
-        self.clears(rt, region);
     }
 }

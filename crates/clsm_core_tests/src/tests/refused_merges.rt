@@ -1,285 +1,329 @@
 //! Steps of the merger that are refused to it, phase by phase.
-use crate::tests::merging::entry;
-use crate::tests::play::{Play, done, found, refused};
-use crate::tests::{GREATEST, MERGER, SMALL, put, remove, value};
-use clsm_core::{Part, Step, Word};
-use std::process::Abort;
+use crate::tests::play::play_all;
+use crate::tests::row::Act::*;
+use crate::tests::row::Call::*;
+use crate::tests::row::Row::*;
+use crate::tests::row::{Act, Schedule};
+use crate::tests::{EIGHT_WORDS, GREATEST, HEAD, MERGER, SMALL, TEN, TWENTY};
+use clsm_core::{Part, Word};
 
-const HEAD: Word = Word::Head {
-    region: 0,
-    chain: 0,
+const FREEZING: &[Act] = &[LeaveExclusive, Pad(0), Pad(4), ExtendClock, ExtendLimit];
+
+const MERGING: &[Act] = &[
+    WriteRun(Word::Count(0), 0),
+    WriteRun(Word::Count(4), 0),
+    WriteRun(
+        Word::Entry {
+            place: 0,
+            entry: 0,
+            part: 0,
+        },
+        1,
+    ),
+    Publish,
+];
+
+const RECLAIMING: &[Act] = &[
+    ClearHead(0, 0),
+    ClearHead(1, 0),
+    ClearState(0),
+    ClearState(4),
+];
+
+// words of the entries 0, 1 and 2 of the first place
+const SECOND_WORD_0: Word = Word::Entry {
+    place: 0,
+    entry: 0,
+    part: 4,
 };
 
-const KEY: Word = Word::Cell {
-    cell: 0,
-    part: Part::Key,
+const EIGHTH_WORD_0: Word = Word::Entry {
+    place: 0,
+    entry: 0,
+    part: 10,
 };
 
-/// A part of an entry of the first place.
-fn part_of_entry(entry: u64, part: u64) -> Word {
-    let place = 0;
-    Word::Entry { place, entry, part }
-}
+const LENGTH_0: Word = Word::Entry {
+    place: 0,
+    entry: 0,
+    part: 2,
+};
 
-fn clear(region: u64, chain: u64) -> Step {
-    Step::ClearHead { region, chain }
-}
+const LENGTH_1: Word = Word::Entry {
+    place: 0,
+    entry: 1,
+    part: 2,
+};
 
-fn refuses_freezing(rt: &impl Abort, play: &mut Play) {
-    let rows = [
-        refused(MERGER, Step::LeaveExclusive),
-        refused(MERGER, Step::Pad(0)),
-        refused(MERGER, Step::Pad(4)),
-        refused(MERGER, Step::ExtendClock),
-        refused(MERGER, Step::ExtendLimit),
-    ];
-    play.rows(rt, &rows);
-}
+const LENGTH_2: Word = Word::Entry {
+    place: 0,
+    entry: 2,
+    part: 2,
+};
 
-fn refuses_merging(rt: &impl Abort, play: &mut Play) {
-    let rows = [
-        refused(MERGER, Step::WriteRun(Word::Count(0), 0)),
-        refused(MERGER, Step::WriteRun(Word::Count(4), 0)),
-        refused(MERGER, Step::WriteRun(part_of_entry(0, 0), 1)),
-        refused(MERGER, Step::Publish),
-    ];
-    play.rows(rt, &rows);
-}
+const FIRST_WORD_2: Word = Word::Entry {
+    place: 0,
+    entry: 2,
+    part: 3,
+};
 
-fn refuses_reclaiming(rt: &impl Abort, play: &mut Play) {
-    let rows = [
-        refused(MERGER, clear(0, 0)),
-        refused(MERGER, clear(1, 0)),
-        refused(MERGER, Step::ClearState(0)),
-        refused(MERGER, Step::ClearState(4)),
-    ];
-    play.rows(rt, &rows);
-}
+const EIGHTH_WORD_2: Word = Word::Entry {
+    place: 0,
+    entry: 2,
+    part: 10,
+};
+
+const SCHEDULES: &[Schedule] = &[
+    Schedule {
+        name: "each phase refuses the steps of the others",
+        config: SMALL,
+        rows: &[
+            AllRefused(&[MERGER], FREEZING),
+            AllRefused(&[MERGER], MERGING),
+            AllRefused(&[MERGER], RECLAIMING),
+            Done(MERGER, EnterExclusive),
+            Refused(MERGER, EnterExclusive),
+            AllRefused(&[MERGER], MERGING),
+            AllRefused(&[MERGER], RECLAIMING),
+            Done(MERGER, LeaveExclusive),
+            AllRefused(&[MERGER], FREEZING),
+            AllRefused(&[MERGER], MERGING),
+            Freezes(0),
+            Refused(MERGER, EnterExclusive),
+            AllRefused(&[MERGER], FREEZING),
+            AllRefused(&[MERGER], RECLAIMING),
+            Merges(0, &[]),
+            LooksAtPins,
+            Refused(MERGER, EnterExclusive),
+            AllRefused(&[MERGER], FREEZING),
+            AllRefused(&[MERGER], MERGING),
+            Clears(0),
+            AllRefused(&[MERGER], FREEZING),
+            AllRefused(&[MERGER], MERGING),
+            AllRefused(&[MERGER], RECLAIMING),
+            IsRun,
+        ],
+    },
+    Schedule {
+        name: "freeze is made in its order",
+        config: SMALL,
+        rows: &[
+            Puts(0, 0, Put(1, TEN)),
+            Done(MERGER, EnterExclusive),
+            Refused(MERGER, Pad(0)),
+            Refused(MERGER, Pad(4)),
+            Refused(MERGER, Pad(GREATEST)),
+            Refused(MERGER, ExtendClock),
+            Refused(MERGER, ExtendLimit),
+            Done(MERGER, Pad(3)),
+            Refused(MERGER, LeaveExclusive),
+            Done(MERGER, Pad(1)),
+            Refused(MERGER, ExtendClock),
+            Done(MERGER, Pad(2)),
+            Refused(MERGER, ExtendLimit),
+            Refused(MERGER, LeaveExclusive),
+            Done(MERGER, ExtendClock),
+            Refused(MERGER, Pad(3)),
+            Refused(MERGER, LeaveExclusive),
+            Done(MERGER, ExtendLimit),
+            Refused(MERGER, Pad(4)),
+            Refused(MERGER, EnterExclusive),
+            Done(MERGER, LeaveExclusive),
+            Has(Word::Clock, 4),
+            Has(Word::Limit, 8),
+            IsRun,
+        ],
+    },
+
+    // The clock stands at the end of a full epoch, and is stored there all the same before the
+    // limit.
+    Schedule {
+        name: "freeze of a full epoch stores the clock",
+        config: SMALL,
+        rows: &[
+            Puts(0, 0, Put(1, TEN)),
+            Puts(0, 1, Put(1, TEN)),
+            Puts(0, 2, Put(1, TEN)),
+            Puts(0, 3, Put(1, TEN)),
+            Done(MERGER, EnterExclusive),
+            Refused(MERGER, Pad(3)),
+            Refused(MERGER, Pad(4)),
+            Refused(MERGER, ExtendLimit),
+            Done(MERGER, ExtendClock),
+            Done(MERGER, ExtendLimit),
+            Done(MERGER, LeaveExclusive),
+            Has(Word::Clock, 4),
+            Has(Word::Limit, 8),
+            IsRun,
+        ],
+    },
+    Schedule {
+        name: "run is written where no reader searches",
+        config: SMALL,
+        rows: &[
+            Freezes(0),
+            AllRefused(
+                &[MERGER],
+                &[
+                    WriteRun(Word::Count(3), 0),
+                    WriteRun(Word::Count(5), 0),
+                    WriteRun(
+                        Word::Entry {
+                            place: 0,
+                            entry: 4,
+                            part: 0,
+                        },
+                        0,
+                    ),
+                    WriteRun(
+                        Word::Entry {
+                            place: 0,
+                            entry: 0,
+                            part: 11,
+                        },
+                        0,
+                    ),
+                    WriteRun(
+                        Word::Cell {
+                            cell: 0,
+                            part: Part::Key,
+                        },
+                        0,
+                    ),
+                    WriteRun(Word::State(0), 0),
+                    WriteRun(Word::Lock, 0),
+                    WriteRun(Word::Clock, 0),
+                    WriteRun(Word::Limit, 0),
+                    WriteRun(Word::Front, 0),
+                    WriteRun(Word::Merged, 0),
+                    WriteRun(Word::Pin(0), 0),
+                    WriteRun(Word::Snap(0), 0),
+                    WriteRun(HEAD, 0),
+                ],
+            ),
+            Merges(0, &[]),
+            Reclaims(0),
+            Freezes(4),
+            Refused(MERGER, WriteRun(Word::Count(0), 0)),
+            Refused(MERGER, WriteRun(Word::Count(3), 0)),
+            Done(MERGER, WriteRun(Word::Count(1), 0)),
+            Done(MERGER, WriteRun(Word::Count(4), 0)),
+            IsRun,
+        ],
+    },
+    Schedule {
+        name: "publish needs exactly what is kept",
+        config: SMALL,
+        rows: &[
+            Puts(0, 0, Put(1, TEN)),
+            Puts(0, 1, Put(2, TWENTY)),
+            Freezes(2),
+            LooksAtSnapshots,
+            WritesRun(0, &[]),
+            Refused(MERGER, Publish),
+            WritesRun(0, &[(1, 0, Some(TEN))]),
+            Refused(MERGER, Publish),
+            WritesRun(0, &[(2, 1, Some(TWENTY))]),
+            Refused(MERGER, Publish),
+            WritesRun(0, &[(2, 1, Some(TWENTY)), (1, 0, Some(TEN))]),
+            Refused(MERGER, Publish),
+            WritesRun(0, &[(1, 0, Some(TEN)), (1, 0, Some(TEN))]),
+            Refused(MERGER, Publish),
+            WritesRun(0, &[(1, 0, Some(TEN)), (2, 1, Some(TEN))]),
+            Refused(MERGER, Publish),
+            WritesRun(0, &[(1, 0, Some(TEN)), (2, 0, Some(TWENTY))]),
+            Refused(MERGER, Publish),
+            WritesRun(0, &[(1, 0, Some(TEN)), (2, 1, None)]),
+            Refused(MERGER, Publish),
+            WritesRun(0, &[(1, 0, Some(TEN)), (3, 1, Some(TWENTY))]),
+            Refused(MERGER, Publish),
+            WritesRun(
+                0,
+                &[(1, 0, Some(TEN)), (2, 1, Some(TWENTY)), (3, 2, Some(TEN))],
+            ),
+            Refused(MERGER, Publish),
+            WritesRun(0, &[(1, 0, Some(TEN)), (2, 1, Some(TWENTY))]),
+            Done(MERGER, WriteRun(Word::Count(0), 3)),
+            Refused(MERGER, Publish),
+            Done(MERGER, WriteRun(Word::Count(0), GREATEST)),
+            Refused(MERGER, Publish),
+            Done(MERGER, WriteRun(Word::Count(0), 2)),
+            Done(MERGER, Publish),
+            IsRun,
+        ],
+    },
+    Schedule {
+        name: "publish needs each word of an entry",
+        config: SMALL,
+        rows: &[
+            Puts(0, 0, Put(1, TEN)),
+            Puts(0, 1, Put(2, EIGHT_WORDS)),
+            Puts(0, 2, Remove(3)),
+            Freezes(3),
+            LooksAtSnapshots,
+            WritesRun(
+                0,
+                &[(1, 0, Some(TEN)), (2, 1, Some(EIGHT_WORDS)), (3, 2, None)],
+            ),
+            // a word that says more than the entry, and the one that is right there
+            Done(MERGER, WriteRun(SECOND_WORD_0, 7)),
+            Refused(MERGER, Publish),
+            Done(MERGER, WriteRun(SECOND_WORD_0, 0)),
+            Done(MERGER, WriteRun(EIGHTH_WORD_0, GREATEST)),
+            Refused(MERGER, Publish),
+            Done(MERGER, WriteRun(EIGHTH_WORD_0, 0)),
+            Done(MERGER, WriteRun(LENGTH_0, 8)),
+            Refused(MERGER, Publish),
+            Done(MERGER, WriteRun(LENGTH_0, 1)),
+            Done(MERGER, WriteRun(LENGTH_1, 9)),
+            Refused(MERGER, Publish),
+            Done(MERGER, WriteRun(LENGTH_1, 8)),
+            Done(MERGER, WriteRun(LENGTH_1, GREATEST)),
+            Refused(MERGER, Publish),
+            Done(MERGER, WriteRun(LENGTH_1, 8)),
+            Done(MERGER, WriteRun(LENGTH_2, 1)),
+            Refused(MERGER, Publish),
+            Done(MERGER, WriteRun(LENGTH_2, 0)),
+            Done(MERGER, WriteRun(LENGTH_2, 99)),
+            Refused(MERGER, Publish),
+            Done(MERGER, WriteRun(LENGTH_2, 0)),
+            Done(MERGER, WriteRun(FIRST_WORD_2, 7)),
+            Refused(MERGER, Publish),
+            Done(MERGER, WriteRun(FIRST_WORD_2, 0)),
+            Done(MERGER, WriteRun(EIGHTH_WORD_2, 1)),
+            Refused(MERGER, Publish),
+            Done(MERGER, WriteRun(EIGHTH_WORD_2, 0)),
+            Done(MERGER, Publish),
+            IsRun,
+        ],
+    },
+    Schedule {
+        name: "region is cleared heads first",
+        config: SMALL,
+        rows: &[
+            Puts(0, 0, Put(1, TEN)),
+            Freezes(1),
+            Merges(0, &[(1, 0, Some(TEN))]),
+            AllRefused(&[MERGER], RECLAIMING),
+            Found(MERGER, Word::Pin(0), 0),
+            AllRefused(&[MERGER], RECLAIMING),
+            Found(MERGER, Word::Pin(1), 0),
+            Refused(MERGER, ClearHead(1, 0)),
+            Refused(MERGER, ClearHead(0, 1)),
+            Refused(MERGER, ClearHead(2, 0)),
+            Refused(MERGER, ClearState(0)),
+            Done(MERGER, ClearHead(0, 0)),
+            Refused(MERGER, ClearState(4)),
+            Refused(MERGER, ClearState(8)),
+            Refused(MERGER, ClearState(GREATEST)),
+            Done(MERGER, ClearState(0)),
+            Clears(0),
+            IsRun,
+        ],
+    },
+];
 
 #[test]
-fn each_phase_refuses_the_steps_of_the_others(rt: HostRuntime) {
-    let mut play = Play::new(&rt, rt.alloc(), SMALL);
-    refuses_freezing(&rt, &mut play);
-    refuses_merging(&rt, &mut play);
-    refuses_reclaiming(&rt, &mut play);
-    play.merger_does(&rt, Step::EnterExclusive);
-    play.rows(&rt, &[refused(MERGER, Step::EnterExclusive)]);
-    refuses_merging(&rt, &mut play);
-    refuses_reclaiming(&rt, &mut play);
-    play.merger_does(&rt, Step::LeaveExclusive);
-    refuses_freezing(&rt, &mut play);
-    refuses_merging(&rt, &mut play);
-    play.freezes(&rt, 0);
-    play.rows(&rt, &[refused(MERGER, Step::EnterExclusive)]);
-    refuses_freezing(&rt, &mut play);
-    refuses_reclaiming(&rt, &mut play);
-    play.merges(&rt, 0, &[]);
-    play.looks_at_pins(&rt);
-    play.rows(&rt, &[refused(MERGER, Step::EnterExclusive)]);
-    refuses_freezing(&rt, &mut play);
-    refuses_merging(&rt, &mut play);
-    play.clears(&rt, 0);
-    refuses_freezing(&rt, &mut play);
-    refuses_merging(&rt, &mut play);
-    refuses_reclaiming(&rt, &mut play);
-    play.is_run(&rt);
-}
-
-#[test]
-fn freeze_is_made_in_its_order(rt: HostRuntime) {
-    let ten = value(&rt, &[10]);
-    let mut play = Play::new(&rt, rt.alloc(), SMALL);
-    play.puts(&rt, 0, 0, put(1, ten));
-    let rows = [
-        done(MERGER, Step::EnterExclusive),
-        refused(MERGER, Step::Pad(0)),
-        refused(MERGER, Step::Pad(4)),
-        refused(MERGER, Step::Pad(GREATEST)),
-        refused(MERGER, Step::ExtendClock),
-        refused(MERGER, Step::ExtendLimit),
-        done(MERGER, Step::Pad(3)),
-        refused(MERGER, Step::LeaveExclusive),
-        done(MERGER, Step::Pad(1)),
-        refused(MERGER, Step::ExtendClock),
-        done(MERGER, Step::Pad(2)),
-        refused(MERGER, Step::ExtendLimit),
-        refused(MERGER, Step::LeaveExclusive),
-        done(MERGER, Step::ExtendClock),
-        refused(MERGER, Step::Pad(3)),
-        refused(MERGER, Step::LeaveExclusive),
-        done(MERGER, Step::ExtendLimit),
-        refused(MERGER, Step::Pad(4)),
-        refused(MERGER, Step::EnterExclusive),
-        done(MERGER, Step::LeaveExclusive),
-    ];
-    play.rows(&rt, &rows);
-    play.has(&rt, Word::Clock, 4);
-    play.has(&rt, Word::Limit, 8);
-    play.is_run(&rt);
-}
-
-/// The clock stands at the end of a full epoch, and is stored there all the same before the limit.
-#[test]
-fn freeze_of_a_full_epoch_stores_the_clock(rt: HostRuntime) {
-    let ten = value(&rt, &[10]);
-    let mut play = Play::new(&rt, rt.alloc(), SMALL);
-    for time in 0..4 {
-        play.puts(&rt, 0, time, put(1, ten));
-    }
-    let rows = [
-        done(MERGER, Step::EnterExclusive),
-        refused(MERGER, Step::Pad(3)),
-        refused(MERGER, Step::Pad(4)),
-        refused(MERGER, Step::ExtendLimit),
-        done(MERGER, Step::ExtendClock),
-        done(MERGER, Step::ExtendLimit),
-        done(MERGER, Step::LeaveExclusive),
-    ];
-    play.rows(&rt, &rows);
-    play.has(&rt, Word::Clock, 4);
-    play.has(&rt, Word::Limit, 8);
-    play.is_run(&rt);
-}
-
-#[test]
-fn run_is_written_where_no_reader_searches(rt: HostRuntime) {
-    let mut play = Play::new(&rt, rt.alloc(), SMALL);
-    play.freezes(&rt, 0);
-    for word in [
-        Word::Count(3),
-        Word::Count(5),
-        part_of_entry(4, 0),
-        part_of_entry(0, 11),
-        KEY,
-        Word::State(0),
-        Word::Lock,
-        Word::Clock,
-        Word::Limit,
-        Word::Front,
-        Word::Merged,
-        Word::Pin(0),
-        Word::Snap(0),
-        HEAD,
-    ] {
-        play.rows(&rt, &[refused(MERGER, Step::WriteRun(word, 0))]);
-    }
-    play.merges(&rt, 0, &[]);
-    play.reclaims(&rt, 0);
-    play.freezes(&rt, 4);
-    let rows = [
-        refused(MERGER, Step::WriteRun(Word::Count(0), 0)),
-        refused(MERGER, Step::WriteRun(Word::Count(3), 0)),
-        done(MERGER, Step::WriteRun(Word::Count(1), 0)),
-        done(MERGER, Step::WriteRun(Word::Count(4), 0)),
-    ];
-    play.rows(&rt, &rows);
-    play.is_run(&rt);
-}
-
-#[test]
-fn publish_needs_exactly_what_is_kept(rt: HostRuntime) {
-    let [ten, twenty] = [10, 20].map(|word| value(&rt, &[word]));
-    let mut play = Play::new(&rt, rt.alloc(), SMALL);
-    play.puts(&rt, 0, 0, put(1, ten));
-    play.puts(&rt, 0, 1, put(2, twenty));
-    play.freezes(&rt, 2);
-    play.looks_at_snapshots(&rt);
-    for run in [
-        &[][..],
-        &[entry(1, 0, Some(ten))][..],
-        &[entry(2, 1, Some(twenty))][..],
-        &[entry(2, 1, Some(twenty)), entry(1, 0, Some(ten))][..],
-        &[entry(1, 0, Some(ten)), entry(1, 0, Some(ten))][..],
-        &[entry(1, 0, Some(ten)), entry(2, 1, Some(ten))][..],
-        &[entry(1, 0, Some(ten)), entry(2, 0, Some(twenty))][..],
-        &[entry(1, 0, Some(ten)), entry(2, 1, None)][..],
-        &[entry(1, 0, Some(ten)), entry(3, 1, Some(twenty))][..],
-        &[
-            entry(1, 0, Some(ten)),
-            entry(2, 1, Some(twenty)),
-            entry(3, 2, Some(ten)),
-        ][..],
-    ] {
-        play.writes_run(&rt, 0, run);
-        play.rows(&rt, &[refused(MERGER, Step::Publish)]);
-    }
-    play.writes_run(&rt, 0, &[entry(1, 0, Some(ten)), entry(2, 1, Some(twenty))]);
-    play.does(&rt, MERGER, Step::WriteRun(Word::Count(0), 3));
-    let rows = [
-        refused(MERGER, Step::Publish),
-        done(MERGER, Step::WriteRun(Word::Count(0), GREATEST)),
-        refused(MERGER, Step::Publish),
-        done(MERGER, Step::WriteRun(Word::Count(0), 2)),
-        done(MERGER, Step::Publish),
-    ];
-    play.rows(&rt, &rows);
-    play.is_run(&rt);
-}
-
-/// Each row is an entry, a part of it, a word that says more than the entry, and the word that is
-/// right there.
-#[test]
-fn publish_needs_each_word_of_an_entry(rt: HostRuntime) {
-    let ten = value(&rt, &[10]);
-    let eight = value(&rt, &[1, 2, 3, 4, 5, 6, 7, 8]);
-    let mut play = Play::new(&rt, rt.alloc(), SMALL);
-    play.puts(&rt, 0, 0, put(1, ten));
-    play.puts(&rt, 0, 1, put(2, eight));
-    play.puts(&rt, 0, 2, remove(3));
-    play.freezes(&rt, 3);
-    play.looks_at_snapshots(&rt);
-    let run = [
-        entry(1, 0, Some(ten)),
-        entry(2, 1, Some(eight)),
-        entry(3, 2, None),
-    ];
-    play.writes_run(&rt, 0, &run);
-    for (number, part, wrong, right) in [
-        (0, 4, 7, 0),
-        (0, 10, GREATEST, 0),
-        (0, 2, 8, 1),
-        (1, 2, 9, 8),
-        (1, 2, GREATEST, 8),
-        (2, 2, 1, 0),
-        (2, 2, 99, 0),
-        (2, 3, 7, 0),
-        (2, 10, 1, 0),
-    ] {
-        let word = part_of_entry(number, part);
-        let rows = [
-            done(MERGER, Step::WriteRun(word, wrong)),
-            refused(MERGER, Step::Publish),
-            done(MERGER, Step::WriteRun(word, right)),
-        ];
-        play.rows(&rt, &rows);
-    }
-    play.merger_does(&rt, Step::Publish);
-    play.is_run(&rt);
-}
-
-#[test]
-fn region_is_cleared_heads_first(rt: HostRuntime) {
-    let ten = value(&rt, &[10]);
-    let mut play = Play::new(&rt, rt.alloc(), SMALL);
-    play.puts(&rt, 0, 0, put(1, ten));
-    play.freezes(&rt, 1);
-    play.merges(&rt, 0, &[entry(1, 0, Some(ten))]);
-    refuses_reclaiming(&rt, &mut play);
-    play.finds(&rt, MERGER, Word::Pin(0), 0);
-    refuses_reclaiming(&rt, &mut play);
-    let rows = [
-        found(MERGER, Word::Pin(1), 0),
-        refused(MERGER, clear(1, 0)),
-        refused(MERGER, clear(0, 1)),
-        refused(MERGER, clear(2, 0)),
-        refused(MERGER, Step::ClearState(0)),
-        done(MERGER, clear(0, 0)),
-        refused(MERGER, Step::ClearState(4)),
-        refused(MERGER, Step::ClearState(8)),
-        refused(MERGER, Step::ClearState(GREATEST)),
-        done(MERGER, Step::ClearState(0)),
-    ];
-    play.rows(&rt, &rows);
-    play.clears(&rt, 0);
-    play.is_run(&rt);
+fn refused_steps_of_the_merger(rt: HostRuntime) {
+    play_all(&rt, rt.alloc(), SCHEDULES);
 }

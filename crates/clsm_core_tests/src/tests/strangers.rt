@@ -1,120 +1,152 @@
 //! Steps of callers are never open to the merger, nor its steps to callers, nor any step to a seat
 //! that is not there.
-use crate::tests::play::{Play, done, refused};
-use crate::tests::{MERGER, SMALL, get, put, recorded, value};
-use clsm_core::{End, Part, Step, Word};
-use clsm_model::{Deed, Value};
-use std::process::Abort;
+use crate::tests::play::play_all;
+use crate::tests::row::Act::*;
+use crate::tests::row::Call::*;
+use crate::tests::row::Row::*;
+use crate::tests::row::{Row, Schedule};
+use crate::tests::{MERGER, SMALL, TEN};
+use clsm_core::{Part, Word};
 
-/// A caller's steps are refused to this seat.
-fn refuses_callers_steps(rt: &impl Abort, play: &mut Play, seat: u32, value: Value) {
-    let rows = [
-        refused(seat, Step::EnterShared(0)),
-        refused(seat, Step::EnterShared(1)),
-        refused(seat, Step::LeaveShared),
-        refused(seat, Step::Draw(0)),
-        refused(seat, Step::Draw(1)),
-        refused(seat, Step::Fill(Part::Key, 1)),
-        refused(seat, Step::Link(0)),
-        refused(seat, Step::Decide(0, put(1, value))),
-        refused(seat, Step::Cancel(0)),
-        refused(seat, Step::Pin),
-        refused(seat, Step::Unpin(End::Neither)),
-        refused(seat, Step::Unpin(End::Meeting)),
-        refused(seat, recorded(get(1, None))),
-        refused(seat, Step::RaiseFront(0)),
-        refused(seat, Step::Note(0)),
-        refused(seat, Step::Note(1)),
-        refused(seat, Step::CloseSnapshot),
-    ];
-    play.rows(rt, &rows);
-}
+/// Callers' steps are refused to the merger and to seats that are not there.
+const MERGERS_ARE_REFUSED: Row = AllRefused(
+    &[MERGER, 3, u32::MAX],
+    &[
+        EnterShared(0),
+        EnterShared(1),
+        LeaveShared,
+        Draw(0),
+        Draw(1),
+        Fill(Part::Key, 1),
+        Link(0),
+        Decide(0, Put(1, TEN)),
+        Cancel(0),
+        Pin,
+        Unpin,
+        Meet,
+        Record(Get(1, None)),
+        RaiseFront(0),
+        Note(0),
+        Note(1),
+        CloseSnapshot,
+    ],
+);
 
-/// The merger's steps are refused to this seat.
-fn refuses_mergers_steps(rt: &impl Abort, play: &mut Play, seat: u32) {
-    let region = 0;
-    let chain = 0;
-    let rows = [
-        refused(seat, Step::EnterExclusive),
-        refused(seat, Step::LeaveExclusive),
-        refused(seat, Step::Pad(0)),
-        refused(seat, Step::Pad(1)),
-        refused(seat, Step::WriteRun(Word::Count(0), 0)),
-        refused(seat, Step::ClearHead { region, chain }),
-        refused(seat, Step::ClearState(0)),
-        refused(seat, Step::Publish),
-        refused(seat, Step::ExtendClock),
-        refused(seat, Step::ExtendLimit),
-    ];
-    play.rows(rt, &rows);
-}
+/// The merger's steps are refused to callers and to seats that are not there.
+const CALLERS_ARE_REFUSED: Row = AllRefused(
+    &[0, 1, 3, u32::MAX],
+    &[
+        EnterExclusive,
+        LeaveExclusive,
+        Pad(0),
+        Pad(1),
+        WriteRun(Word::Count(0), 0),
+        ClearHead(0, 0),
+        ClearState(0),
+        Publish,
+        ExtendClock,
+        ExtendLimit,
+    ],
+);
 
-fn refuses_strangers(rt: &impl Abort, play: &mut Play, value: Value) {
-    refuses_callers_steps(rt, play, MERGER, value);
-    refuses_mergers_steps(rt, play, 0);
-    refuses_mergers_steps(rt, play, 1);
-    for seat in [3, u32::MAX] {
-        refuses_callers_steps(rt, play, seat, value);
-        refuses_mergers_steps(rt, play, seat);
-        play.rows(rt, &[refused(seat, Step::Look(Word::Lock))]);
-    }
-}
+/// Seats that are not there look at nothing.
+const NOBODY_LOOKS: Row = AllRefused(&[3, u32::MAX], &[Look(Word::Lock)]);
 
-/// Each step of a put, a get and a snapshot is refused to strangers in the world in which it is
-/// made.
+const SCHEDULES: &[Schedule] = &[
+    // Each step of a put, a get and a snapshot is refused to strangers in the world in which it is
+    // made.
+    Schedule {
+        name: "strangers are refused beside callers",
+        config: SMALL,
+        rows: &[
+            MERGERS_ARE_REFUSED,
+            CALLERS_ARE_REFUSED,
+            NOBODY_LOOKS,
+            Found(0, Word::Lock, 0),
+            MERGERS_ARE_REFUSED,
+            CALLERS_ARE_REFUSED,
+            NOBODY_LOOKS,
+            Done(0, EnterShared(0)),
+            Found(0, Word::Limit, 4),
+            Found(0, Word::Clock, 0),
+            MERGERS_ARE_REFUSED,
+            CALLERS_ARE_REFUSED,
+            NOBODY_LOOKS,
+            Done(0, Draw(0)),
+            MERGERS_ARE_REFUSED,
+            CALLERS_ARE_REFUSED,
+            NOBODY_LOOKS,
+            Fills(0, 1, Some(TEN)),
+            Links(0, 1, 0),
+            MERGERS_ARE_REFUSED,
+            CALLERS_ARE_REFUSED,
+            NOBODY_LOOKS,
+            Done(0, Decide(0, Put(1, TEN))),
+            Pins(1, 0),
+            Found(1, Word::Clock, 1),
+            MERGERS_ARE_REFUSED,
+            CALLERS_ARE_REFUSED,
+            NOBODY_LOOKS,
+            Done(1, Note(1)),
+            Settles(1, 0, 1),
+            MERGERS_ARE_REFUSED,
+            CALLERS_ARE_REFUSED,
+            NOBODY_LOOKS,
+            Done(1, Record(Snapshot)),
+            MERGERS_ARE_REFUSED,
+            CALLERS_ARE_REFUSED,
+            NOBODY_LOOKS,
+            IsRun,
+        ],
+    },
+
+    // Each step of a freeze, a merge and a reclaim is refused to strangers in the world in which it
+    // is made.
+    Schedule {
+        name: "strangers are refused beside the merger",
+        config: SMALL,
+        rows: &[
+            Done(MERGER, EnterExclusive),
+            MERGERS_ARE_REFUSED,
+            CALLERS_ARE_REFUSED,
+            NOBODY_LOOKS,
+            Done(MERGER, Pad(0)),
+            Done(MERGER, Pad(1)),
+            Done(MERGER, Pad(2)),
+            Done(MERGER, Pad(3)),
+            MERGERS_ARE_REFUSED,
+            CALLERS_ARE_REFUSED,
+            NOBODY_LOOKS,
+            Done(MERGER, ExtendClock),
+            MERGERS_ARE_REFUSED,
+            CALLERS_ARE_REFUSED,
+            NOBODY_LOOKS,
+            Done(MERGER, ExtendLimit),
+            MERGERS_ARE_REFUSED,
+            CALLERS_ARE_REFUSED,
+            NOBODY_LOOKS,
+            Done(MERGER, LeaveExclusive),
+            MERGERS_ARE_REFUSED,
+            CALLERS_ARE_REFUSED,
+            NOBODY_LOOKS,
+            Merges(0, &[]),
+            MERGERS_ARE_REFUSED,
+            CALLERS_ARE_REFUSED,
+            NOBODY_LOOKS,
+            LooksAtPins,
+            MERGERS_ARE_REFUSED,
+            CALLERS_ARE_REFUSED,
+            NOBODY_LOOKS,
+            Done(MERGER, ClearHead(0, 0)),
+            MERGERS_ARE_REFUSED,
+            CALLERS_ARE_REFUSED,
+            NOBODY_LOOKS,
+            IsRun,
+        ],
+    },
+];
+
 #[test]
-fn strangers_are_refused_beside_callers(rt: HostRuntime) {
-    let ten = value(&rt, &[10]);
-    let mut play = Play::new(&rt, rt.alloc(), SMALL);
-    refuses_strangers(&rt, &mut play, ten);
-    play.look(&rt, 0, Word::Lock);
-    refuses_strangers(&rt, &mut play, ten);
-    play.does(&rt, 0, Step::EnterShared(0));
-    play.look(&rt, 0, Word::Limit);
-    play.look(&rt, 0, Word::Clock);
-    refuses_strangers(&rt, &mut play, ten);
-    play.does(&rt, 0, Step::Draw(0));
-    refuses_strangers(&rt, &mut play, ten);
-    play.fills(&rt, 0, 1, Some(ten));
-    play.links(&rt, 0, 1, 0);
-    refuses_strangers(&rt, &mut play, ten);
-    play.does(&rt, 0, Step::Decide(0, put(1, ten)));
-    play.pins(&rt, 1, 0);
-    play.look(&rt, 1, Word::Clock);
-    refuses_strangers(&rt, &mut play, ten);
-    play.does(&rt, 1, Step::Note(1));
-    play.settles(&rt, 1, 0, 1);
-    refuses_strangers(&rt, &mut play, ten);
-    play.unpins(&rt, 1, Deed::Snapshot);
-    refuses_strangers(&rt, &mut play, ten);
-    play.is_run(&rt);
-}
-
-/// Each step of a freeze, a merge and a reclaim is refused to strangers in the world in which it is
-/// made.
-#[test]
-fn strangers_are_refused_beside_the_merger(rt: HostRuntime) {
-    let ten = value(&rt, &[10]);
-    let mut play = Play::new(&rt, rt.alloc(), SMALL);
-    play.merger_does(&rt, Step::EnterExclusive);
-    refuses_strangers(&rt, &mut play, ten);
-    for time in 0..4 {
-        play.merger_does(&rt, Step::Pad(time));
-    }
-    refuses_strangers(&rt, &mut play, ten);
-    play.merger_does(&rt, Step::ExtendClock);
-    refuses_strangers(&rt, &mut play, ten);
-    play.merger_does(&rt, Step::ExtendLimit);
-    refuses_strangers(&rt, &mut play, ten);
-    play.merger_does(&rt, Step::LeaveExclusive);
-    refuses_strangers(&rt, &mut play, ten);
-    play.merges(&rt, 0, &[]);
-    refuses_strangers(&rt, &mut play, ten);
-    play.looks_at_pins(&rt);
-    refuses_strangers(&rt, &mut play, ten);
-    let region = 0;
-    let chain = 0;
-    play.rows(&rt, &[done(MERGER, Step::ClearHead { region, chain })]);
-    refuses_strangers(&rt, &mut play, ten);
-    play.is_run(&rt);
+fn strangers_are_refused(rt: HostRuntime) {
+    play_all(&rt, rt.alloc(), SCHEDULES);
 }

@@ -1,156 +1,224 @@
 //! What a world tells of words, times and seats, also of those that it has not; and the sizes that
 //! a layout takes.
-use crate::tests::play::Play;
-use crate::tests::{GREATEST, SMALL, remove};
+use crate::tests::play::play_all;
+use crate::tests::row::Call::*;
+use crate::tests::row::Row::*;
+use crate::tests::row::Schedule;
+use crate::tests::{GREATEST, SMALL};
 use clsm_core::{Layout, Part, Word};
 use clsm_model::{Config, OpenError};
 
-const ALL_WRONG: Config = Config {
-    cells: 3,
-    seats: 65,
-    shards: 0,
-    run: 3,
-    patience: 65,
+/// The least sizes.
+const LEAST: Config = Config {
+    cells: 4,
+    seats: 1,
+    shards: 1,
+    run: 4,
+    patience: 0,
 };
 
-fn head(region: u64, chain: u64) -> Word {
-    Word::Head { region, chain }
-}
-
-fn cell(cell: u64, part: Part) -> Word {
-    Word::Cell { cell, part }
-}
-
-fn entry(place: u64, entry: u64, part: u64) -> Word {
-    Word::Entry { place, entry, part }
-}
+const SCHEDULES: &[Schedule] = &[
+    Schedule {
+        name: "world has the words of its layout",
+        config: SMALL,
+        rows: &[
+            IsRun,
+            Has(Word::Lock, 0),
+            Has(Word::Limit, 4),
+            Has(Word::Pin(1), 0),
+            Has(Word::Snap(1), 0),
+            Has(
+                Word::Head {
+                    region: 1,
+                    chain: 0,
+                },
+                0,
+            ),
+            Has(
+                Word::Cell {
+                    cell: 7,
+                    part: Part::Key,
+                },
+                0,
+            ),
+            Has(
+                Word::Cell {
+                    cell: 7,
+                    part: Part::Value(7),
+                },
+                0,
+            ),
+            Has(
+                Word::Cell {
+                    cell: 7,
+                    part: Part::Next,
+                },
+                0,
+            ),
+            Has(Word::State(7), 0),
+            Has(Word::Count(4), 0),
+            Has(
+                Word::Entry {
+                    place: 2,
+                    entry: 3,
+                    part: 10,
+                },
+                0,
+            ),
+            Has(
+                Word::Entry {
+                    place: 4,
+                    entry: 7,
+                    part: 10,
+                },
+                0,
+            ),
+        ],
+    },
+    Schedule {
+        name: "world has no other word",
+        config: SMALL,
+        rows: &[HasNone(&[
+            Word::Pin(2),
+            Word::Pin(GREATEST),
+            Word::Snap(2),
+            Word::Snap(GREATEST),
+            Word::Head {
+                region: 2,
+                chain: 0,
+            },
+            Word::Head {
+                region: 0,
+                chain: 1,
+            },
+            Word::Head {
+                region: GREATEST,
+                chain: GREATEST,
+            },
+            Word::Cell {
+                cell: 8,
+                part: Part::Key,
+            },
+            Word::Cell {
+                cell: GREATEST,
+                part: Part::Length,
+            },
+            Word::Cell {
+                cell: 0,
+                part: Part::Value(8),
+            },
+            Word::Cell {
+                cell: 0,
+                part: Part::Value(GREATEST),
+            },
+            Word::State(8),
+            Word::State(GREATEST),
+            Word::Count(5),
+            Word::Count(GREATEST),
+            Word::Entry {
+                place: 5,
+                entry: 0,
+                part: 0,
+            },
+            Word::Entry {
+                place: 2,
+                entry: 4,
+                part: 0,
+            },
+            Word::Entry {
+                place: 3,
+                entry: 8,
+                part: 0,
+            },
+            Word::Entry {
+                place: 4,
+                entry: GREATEST,
+                part: 0,
+            },
+            Word::Entry {
+                place: 0,
+                entry: 0,
+                part: 11,
+            },
+            Word::Entry {
+                place: GREATEST,
+                entry: 0,
+                part: GREATEST,
+            },
+        ])],
+    },
+    Schedule {
+        name: "times and seats that are not there tell nothing",
+        config: SMALL,
+        rows: &[
+            Undecided(0),
+            Undecided(1),
+            Undecided(4),
+            Undecided(GREATEST),
+            Recorded(0, &[]),
+            Recorded(1, &[]),
+            Recorded(2, &[]),
+            Recorded(3, &[]),
+            Recorded(u32::MAX, &[]),
+            Enters(0),
+            Draws(0, 0),
+            Undecided(0),
+            Writes(0, 0, Remove(1)),
+            Wrote(0, 0, 1, None),
+            Undecided(1),
+            Recorded(0, &[(0, Remove(1))]),
+            Recorded(2, &[]),
+        ],
+    },
+    Schedule {
+        name: "least sizes",
+        config: LEAST,
+        rows: &[IsRun],
+    },
+];
 
 #[test]
-fn world_has_the_words_of_its_layout(rt: HostRuntime) {
-    let play = Play::new(&rt, rt.alloc(), SMALL);
-    play.is_run(&rt);
-    for (word, value) in [
-        (Word::Lock, 0),
-        (Word::Limit, 4),
-        (Word::Pin(1), 0),
-        (Word::Snap(1), 0),
-        (head(1, 0), 0),
-        (cell(7, Part::Key), 0),
-        (cell(7, Part::Value(7)), 0),
-        (cell(7, Part::Next), 0),
-        (Word::State(7), 0),
-        (Word::Count(4), 0),
-        (entry(2, 3, 10), 0),
-        (entry(4, 7, 10), 0),
-    ] {
-        play.has(&rt, word, value);
-    }
+fn worlds_tell_what_they_have(rt: HostRuntime) {
+    play_all(&rt, rt.alloc(), SCHEDULES);
 }
 
-#[test]
-fn world_has_no_other_word(rt: HostRuntime) {
-    let play = Play::new(&rt, rt.alloc(), SMALL);
-    for word in [
-        Word::Pin(2),
-        Word::Pin(GREATEST),
-        Word::Snap(2),
-        Word::Snap(GREATEST),
-        head(2, 0),
-        head(0, 1),
-        head(GREATEST, GREATEST),
-        cell(8, Part::Key),
-        cell(GREATEST, Part::Length),
-        cell(0, Part::Value(8)),
-        cell(0, Part::Value(GREATEST)),
-        Word::State(8),
-        Word::State(GREATEST),
-        Word::Count(5),
-        Word::Count(GREATEST),
-        entry(5, 0, 0),
-        entry(2, 4, 0),
-        entry(3, 8, 0),
-        entry(4, GREATEST, 0),
-        entry(0, 0, 11),
-        entry(GREATEST, 0, GREATEST),
-    ] {
-        assert_eq!(rt; play.world.word(word), None, "at {word:?}");
-    }
-}
+/// Sizes that are asked for, and the cells, seats, chains and runs that a layout then has, or the
+/// first size that is out of its range.
+const SIZES: &[([usize; 5], Result<[u64; 4], OpenError>)] = &[
+    ([3, 65, 0, 3, 65], Err(OpenError::Cells)),
+    ([65_537, 65, 0, 3, 65], Err(OpenError::Cells)),
+    ([65_536, 65, 0, 3, 65], Err(OpenError::Seats)),
+    ([65_536, 0, 0, 3, 65], Err(OpenError::Seats)),
+    ([65_536, 64, 0, 3, 65], Err(OpenError::Shards)),
+    ([65_536, 64, 1_025, 3, 65], Err(OpenError::Shards)),
+    ([65_536, 64, 1_024, 3, 65], Err(OpenError::Run)),
+    ([65_536, 64, 1_024, 4_194_305, 65], Err(OpenError::Run)),
+    ([65_536, 64, 1_024, 4_194_304, 65], Err(OpenError::Patience)),
+    (
+        [65_536, 64, 1_024, 4_194_304, 64],
+        Ok([65_536, 64, 16_384, 4_194_304]),
+    ),
+    ([4, 1, 1, 4, 0], Ok([4, 1, 1, 4])),
+    // a chain for four cells, and as many as the user asked for at least
+    ([4, 2, 2, 8, 0], Ok([4, 2, 2, 8])),
+    ([7, 2, 1, 8, 0], Ok([7, 2, 1, 8])),
+    ([64, 2, 2, 8, 0], Ok([64, 2, 16, 8])),
+    ([64, 2, 32, 8, 0], Ok([64, 2, 32, 8])),
+];
 
 #[test]
-fn times_and_seats_that_are_not_there_tell_nothing(rt: HostRuntime) {
-    let mut play = Play::new(&rt, rt.alloc(), SMALL);
-    for time in [0, 1, 4, GREATEST] {
-        assert_eq!(rt; play.world.slot(time), None, "at {time}");
-    }
-    for seat in [0, 1, 2, 3, u32::MAX] {
-        assert!(rt; play.world.calls(seat).is_empty(), "of {seat}");
-    }
-    play.enters(&rt, 0);
-    play.draws(&rt, 0, 0);
-    assert_eq!(rt; play.world.slot(0), None);
-    play.writes(&rt, 0, 0, remove(1));
-    assert!(rt; play.world.slot(0).is_some());
-    assert_eq!(rt; play.world.slot(1), None);
-    assert_eq!(rt; play.world.calls(0).len(), 1);
-    assert!(rt; play.world.calls(2).is_empty());
-}
-
-#[test]
-fn layout_names_the_first_size_out_of_its_range(rt: HostRuntime) {
-    let mut config = ALL_WRONG;
-    assert_eq!(rt; Layout::new(config).err(), Some(OpenError::Cells));
-    config.cells = 65_537;
-    assert_eq!(rt; Layout::new(config).err(), Some(OpenError::Cells));
-    config.cells = 65_536;
-    assert_eq!(rt; Layout::new(config).err(), Some(OpenError::Seats));
-    config.seats = 0;
-    assert_eq!(rt; Layout::new(config).err(), Some(OpenError::Seats));
-    config.seats = 64;
-    assert_eq!(rt; Layout::new(config).err(), Some(OpenError::Shards));
-    config.shards = 1_025;
-    assert_eq!(rt; Layout::new(config).err(), Some(OpenError::Shards));
-    config.shards = 1_024;
-    assert_eq!(rt; Layout::new(config).err(), Some(OpenError::Run));
-    config.run = 4_194_305;
-    assert_eq!(rt; Layout::new(config).err(), Some(OpenError::Run));
-    config.run = 4_194_304;
-    assert_eq!(rt; Layout::new(config).err(), Some(OpenError::Patience));
-    config.patience = 64;
-    let layout = Layout::new(config).expect(&rt, "the greatest sizes");
-    assert_eq!(rt; layout.cells, 65_536);
-    assert_eq!(rt; layout.seats, 64);
-    assert_eq!(rt; layout.chains, 16_384);
-    assert_eq!(rt; layout.run, 4_194_304);
-}
-
-#[test]
-fn layout_takes_the_least_sizes(rt: HostRuntime) {
-    let least = Config {
-        cells: 4,
-        seats: 1,
-        shards: 1,
-        run: 4,
-        patience: 0,
-    };
-    let play = Play::new(&rt, rt.alloc(), least);
-    assert_eq!(rt; play.layout.cells, 4);
-    assert_eq!(rt; play.layout.seats, 1);
-    assert_eq!(rt; play.layout.chains, 1);
-    assert_eq!(rt; play.layout.run, 4);
-    play.is_run(&rt);
-}
-
-/// A chain for four cells, and as many as the user asked for at least.
-#[test]
-fn chains_grow_with_the_cells(rt: HostRuntime) {
-    for (cells, shards, chains) in [(4, 2, 2), (7, 1, 1), (64, 2, 16), (64, 32, 32)] {
+fn layout_takes_sizes_in_their_ranges(rt: HostRuntime) {
+    for (sizes, expected) in SIZES {
+        let [cells, seats, shards, run, patience] = *sizes;
         let config = Config {
             cells,
+            seats,
             shards,
-            ..SMALL
+            run,
+            patience,
         };
-        let layout = Layout::new(config).expect(&rt, "sizes in their ranges");
-        assert_eq!(rt; layout.chains, chains, "at {config:?}");
+        let layout = Layout::new(config);
+        let found = layout.map(|layout| [layout.cells, layout.seats, layout.chains, layout.run]);
+        assert_eq!(rt; found, *expected, "of {config:?}");
     }
 }
