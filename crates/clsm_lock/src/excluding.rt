@@ -22,7 +22,7 @@ pub fn lock_exclusive<P: Pace, R: Wait>(rt: &R, words: &Words<P>, merger: &mut R
 {
     for _ in rt.forever() {
         if words.enter_exclusive(merger) == Answer::Done {
-            merger.is_sound();
+            merger.show_invariant();
             return;
         }
         thread::yield_now();

@@ -32,7 +32,7 @@ pub fn try_lock_shared<P: Pace>(words: &Words<P>, seat: &mut RawSeat) -> Result<
     ensures counted { OnErr result (seat.new.knows.view.busy ≡ next_word seat.old.knows.view.busy) }
     ensures unlooked { OnErr result (seat.new.knows.view.fresh_lock ≡ None) }
 {
-    seat.is_sound();
+    seat.show_invariant();
     let holders = words.look(seat, Word::Lock);
     if holders >= EXCLUSIVE_HOLD {
         return Err(Busy);
@@ -69,6 +69,6 @@ pub fn unlock_shared<P: Pace>(words: &Words<P>, seat: &mut RawSeat)
     ensures of { IsSeatOf words.now seat.new }
     ensures left { Leaves seat.old.knows seat.new.knows }
 {
-    seat.is_sound();
+    seat.show_invariant();
     words.leave_shared(seat);
 }

@@ -4,3 +4,4 @@ pub mod Filling
 pub mod Writing
 pub mod Frozen
 pub mod Ranging
+pub mod Staying

@@ -27,7 +27,7 @@ pub fn decide<P: Pace>(words: &Words<P>, seat: &mut RawSeat, time: Time, deed: &
     ensures of { IsSeatOf words.now seat.new }
     ensures decided { Decides seat.old.knows seat.new.knows time deed.now result }
 {
-    seat.is_sound();
+    seat.show_invariant();
     match words.decide(seat, time, deed) {
         Answer::Done => Decided::Done,
         _ => Decided::Overtaken,
@@ -43,6 +43,6 @@ pub fn give_up<P: Pace>(words: &Words<P>, seat: &mut RawSeat, time: Time)
     ensures of { IsSeatOf words.now seat.new }
     ensures given_up { GivesUp seat.old.knows seat.new.knows time }
 {
-    seat.is_sound();
+    seat.show_invariant();
     words.cancel(seat, time);
 }

@@ -36,7 +36,7 @@ pub fn draw<P: Pace>(words: &Words<P>, seat: &mut RawSeat) -> Result<Time, DrawE
     ensures drawn { IfOk result (λ time. Draws seat.old.knows seat.new.knows time) }
     ensures refused { IfErr result (λ refusal. RefusesDraw seat.old.knows seat.new.knows refusal) }
 {
-    seat.is_sound();
+    seat.show_invariant();
     let limit = words.look(seat, Word::Limit);
     let time = words.look(seat, Word::Clock);
     if time >= limit {

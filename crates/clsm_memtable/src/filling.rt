@@ -20,7 +20,7 @@ fn fill_words<P: Pace>(words: &Words<P>, seat: &mut RawSeat, time: Time, value: 
     ensures words { take (length value.now) seat.new.knows.view.words ≡ map (λ w. Some w) value.now }
 {
     for (index, word) in value.iter().enumerate() {
-        seat.is_sound();
+        seat.show_invariant();
         words.fill(seat, time, Part::Value(index as u64), *word);
     }
 }
@@ -37,9 +37,9 @@ fn fill_cell<P: Pace>(words: &Words<P>, seat: &mut RawSeat, time: Time, key: u64
     ensures length { seat.new.knows.view.length ≡ Some (length value.now) }
     ensures words { take (length value.now) seat.new.knows.view.words ≡ map (λ w. Some w) value.now }
 {
-    seat.is_sound();
+    seat.show_invariant();
     words.fill(seat, time, Part::Key, key);
-    seat.is_sound();
+    seat.show_invariant();
     words.fill(seat, time, Part::Length, value.len() as u64);
     fill_words(words, seat, time, value);
 }

@@ -1,19 +1,21 @@
 //! The writes of a frozen epoch, as the merger reads them.
-ghost use Rattle.std.specs.Prelude.{◌≡◌, ◌*◌, ◌+◌, ◌<◌, ◌≤◌, true, false, [], Some, vec_capacity, vec_len};
+ghost use Rattle.std.specs.Prelude.{◌≡◌, ◌*◌, ◌+◌, ◌≤◌, true, false, [], vec_capacity};
+ghost use Rattle.std.proofs.Common.{ap, ◌∙◌};
 ghost use Rattle.clsm_levels.specs.Entry.{entries_of};
 ghost use Rattle.clsm_law.specs.Memory.{is_part};
 ghost use Rattle.clsm_law.specs.Merging.{epoch_end, is_frozen};
-ghost use Rattle.clsm_law.specs.Relation.{length_of};
 ghost use Rattle.clsm_words.specs.Changing.{Changes, NoWord};
 ghost use Rattle.clsm_words.specs.Knowing.{IsPartOf, code_of};
 ghost use Rattle.clsm_words.specs.Plays.{IsSeatOf};
+ghost use Rattle.clsm_words.proofs.Changing.{changes_trans};
 ghost use Rattle.clsm_memtable.specs.Searching.{slot_in, value_in};
 ghost use Rattle.clsm_memtable.specs.Frozen.{IsEntryOf, IsOfFrozen, IsFrozenTime};
+ghost use Rattle.clsm_memtable.specs.Staying.{frozen_stays, slot_on};
 
 use clsm_law::{Part, Word};
 use clsm_levels::Entry;
 use clsm_model::{Time, Value};
-use clsm_words::{Pace, RawMerger, Words};
+use clsm_words::{Load, Pace, RawMerger, Words, load_value};
 
 /// What the state of the time's cell is.
 #[inline]
@@ -24,7 +26,7 @@ fn state<P: Pace>(words: &Words<P>, merger: &mut RawMerger, time: Time, cell: u6
     ensures looks { Changes NoWord merger.old.knows merger.new.knows }
     ensures told { result ≡ code_of (slot_in merger.old.knows time) }
 {
-    merger.is_sound();
+    merger.show_invariant();
     words.look_as_merger(merger, Word::State(cell))
 }
 
@@ -38,44 +40,42 @@ fn part<P: Pace>(words: &Words<P>, merger: &mut RawMerger, time: Time, cell: u64
     ensures looks { Changes NoWord merger.old.knows merger.new.knows }
     ensures told { IsPartOf (slot_in merger.old.knows time) part result }
 {
-    merger.is_sound();
+    merger.show_invariant();
     words.look_as_merger(merger, Word::Cell { cell, part })
 }
 
-/// How many words the value of a time has that sets one.
-fn length<P: Pace>(words: &Words<P>, merger: &mut RawMerger, time: Time, cell: u64) -> u64
-    requires of { IsSeatOf words.now merger.old }
-    requires frozen { IsFrozenTime merger.old.knows time cell }
-    requires set { code_of (slot_in merger.old.knows time) ≡ 2 }
-    ensures of { IsSeatOf words.now merger.new }
-    ensures looks { Changes NoWord merger.old.knows merger.new.knows }
-    ensures told { result ≡ length_of (value_in (slot_in merger.old.knows time)) }
-    ensures some { 1 ≤ result }
-    ensures few { result ≤ 8 }
-{
-    merger.is_sound();
-    part(words, merger, time, cell, Part::Length)
+/// The cell of a time of the frozen epoch that sets a value.
+#[derive(Clone, Copy)]
+struct FrozenCell {
+    time: Time,
+    cell: u64,
 }
 
-/// The value of a time that sets one.
-fn value<P: Pace>(words: &Words<P>, merger: &mut RawMerger, time: Time, cell: u64) -> Value
-    requires of { IsSeatOf words.now merger.old }
-    requires frozen { IsFrozenTime merger.old.knows time cell }
-    requires set { code_of (slot_in merger.old.knows time) ≡ 2 }
-    ensures of { IsSeatOf words.now merger.new }
-    ensures looks { Changes NoWord merger.old.knows merger.new.knows }
-    ensures told { value_in (slot_in merger.old.knows time) ≡ Some result }
-{
-    merger.is_sound();
-    let count = length(words, merger, time, cell) as usize;
-    let mut read = [0; 8];
-    for index in 0..count {
-        read[index] = part(words, merger, time, cell, Part::Value(index as u64));
+impl Load<RawMerger> for FrozenCell {
+    ghost stands = { λ words merger at. IsSeatOf words merger × IsFrozenTime merger.knows at.time at.cell × (code_of (slot_in merger.knows at.time) ≡ 2) };
+
+    ghost value = { λ merger at. value_in (slot_in merger.knows at.time) };
+
+    ghost looks = { λ words a b. IsSeatOf words b × Changes NoWord a.knows b.knows };
+
+    #[inline]
+    fn length<P: Pace>(&self, words: &Words<P>, merger: &mut RawMerger) -> usize {
+        merger.show_invariant();
+        part(words, merger, self.time, self.cell, Part::Length) as usize
     }
-    match Value::new(&read[..count]) {
-        Ok(value) => value,
-        Err(_) => unreachable!(),
+
+    #[inline]
+    fn word<P: Pace>(&self, words: &Words<P>, merger: &mut RawMerger, index: usize) -> u64 {
+        merger.show_invariant();
+        let wanted = Part::Value(index as u64);
+        part(words, merger, self.time, self.cell, wanted)
     }
+
+    ghost stands_on = { λ words a b at is looks. (looks.0, frozen_stays a.knows b.knows at.time at.cell looks.1 is.1, ap code_of (slot_on a.knows b.knows at.time looks.1 is.1.known) ∙ is.2) };
+
+    ghost value_stays = { λ words a b at is looks. ap value_in (slot_on a.knows b.knows at.time looks.1 is.1.known) };
+
+    ghost looks_on = { λ words a b c first then. (then.0, changes_trans NoWord a.knows b.knows c.knows first.1 then.1) };
 }
 
 /// The value of a time with this state: none where it is a removal.
@@ -93,9 +93,9 @@ fn value_by<P: Pace>(
     ensures looks { Changes NoWord merger.old.knows merger.new.knows }
     ensures told { result ≡ value_in (slot_in merger.old.knows time) }
 {
-    merger.is_sound();
+    merger.show_invariant();
     match code {
-        2 => Some(value(words, merger, time, cell)),
+        2 => Some(load_value(words, merger, &FrozenCell { time, cell })),
         _ => None,
     }
 }
@@ -108,7 +108,7 @@ fn entry_at<P: Pace>(words: &Words<P>, merger: &mut RawMerger, time: Time) -> Op
     ensures looks { Changes NoWord merger.old.knows merger.new.knows }
     ensures entry { IsEntryOf time (slot_in merger.old.knows time) result }
 {
-    merger.is_sound();
+    merger.show_invariant();
     let cell = words.cell_of(time);
     let code = state(words, merger, time, cell);
     if code < 2 {
@@ -141,7 +141,7 @@ pub fn gather<P: Pace>(
     ensures room { end ≤ first + vec_capacity row.new }
     ensures gathered { row.new.items ≡ entries_of merger.new.knows.past first end }
 {
-    merger.is_sound();
+    merger.show_invariant();
     for time in (first..end).rev() {
         if let Some(entry) = entry_at(words, merger, time) {
             row.push(entry).unwrap();

@@ -40,7 +40,7 @@ pub fn try_link<P: Pace>(
     ensures raced { OnErr result (StaysUnlinked seat.old.knows seat.new.knows) }
     ensures counted { OnErr result (seat.new.knows.view.raced ≡ next_word seat.old.knows.view.raced) }
 {
-    seat.is_sound();
+    seat.show_invariant();
     let head = words.look(seat, words.head_of(time, key));
     words.fill(seat, time, Part::Next, head);
     match words.link(seat, time, key, head) {

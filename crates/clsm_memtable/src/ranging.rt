@@ -10,10 +10,10 @@ ghost use Rattle.clsm_words.specs.Plays.{IsSeatOf};
 ghost use Rattle.clsm_memtable.specs.Ranging.{in_range};
 ghost use Rattle.clsm_memtable.specs.Searching.{IsKnownTime, slot_in};
 
-use crate::reading::{key, state, value};
+use crate::reading::{KnownCell, key, state};
 use clsm_levels::{Entry, sort_writes};
 use clsm_model::Time;
-use clsm_words::{Pace, RawSeat, Words};
+use clsm_words::{Pace, RawSeat, Words, load_value};
 use std::alloc::{AllocError, Global};
 
 /// The write of the time, if it is one of a key from `lo` to `hi`.
@@ -38,7 +38,14 @@ fn entry_in<P: Pace>(
     }
     let value = match state(words, seat, component, time, cell) {
         0 | 1 => return None,
-        2 => Some(value(words, seat, component, time, cell)),
+        2 => {
+            let at = KnownCell {
+                component,
+                time,
+                cell,
+            };
+            Some(load_value(words, seat, &at))
+        }
         _ => None,
     };
     Some(Entry { key, time, value })

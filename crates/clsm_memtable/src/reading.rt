@@ -1,16 +1,18 @@
 //! Looks at the cells of times that the seat knows.
-ghost use Rattle.std.specs.Prelude.{◌≡◌, ◌<◌, ◌≤◌, ◌≢◌, None, Some, length, take, slice_index};
-ghost use Rattle.clsm_law.specs.Relation.{length_of, words_of};
+ghost use Rattle.std.specs.Prelude.{◌≡◌};
+ghost use Rattle.std.proofs.Common.{ap, ◌∙◌};
 ghost use Rattle.clsm_words.specs.Knowing.{IsPartOf, code_of};
 ghost use Rattle.clsm_words.specs.Keeping.{LooksAside};
 ghost use Rattle.clsm_words.specs.Plays.{IsSeatOf};
-ghost use Rattle.clsm_law.specs.declared.word.Part.TheVariants.{Key, Length, Value as WordOf};
+ghost use Rattle.clsm_words.proofs.Keeps.{aside_trans};
+ghost use Rattle.clsm_law.specs.declared.word.Part.TheVariants.{Key};
 ghost use Rattle.clsm_memtable.specs.Searching.{IsKnownTime, is_write, slot_in, value_in};
+ghost use Rattle.clsm_memtable.specs.Staying.{known_stays, slot_stays};
 
 use crate::found::Found;
 use clsm_law::{Part, Word};
-use clsm_model::{Time, Value};
-use clsm_words::{Pace, RawSeat, Words};
+use clsm_model::Time;
+use clsm_words::{Load, Pace, RawSeat, Words, load_value};
 
 /// What the state of the time's cell is.
 #[inline]
@@ -27,7 +29,7 @@ pub(crate) fn state<P: Pace>(
     ensures looks { LooksAside seat.old.knows seat.new.knows }
     ensures told { result ≡ code_of (slot_in seat.old.knows time) }
 {
-    seat.is_sound();
+    seat.show_invariant();
     words.look(seat, Word::State(cell))
 }
 
@@ -46,7 +48,7 @@ pub(crate) fn key<P: Pace>(
     ensures looks { LooksAside seat.old.knows seat.new.knows }
     ensures told { IsPartOf (slot_in seat.old.knows time) Key result }
 {
-    seat.is_sound();
+    seat.show_invariant();
     words.look(
         seat,
         Word::Cell {
@@ -56,83 +58,42 @@ pub(crate) fn key<P: Pace>(
     )
 }
 
-/// What the length of the time's cell is.
-#[inline]
-fn length<P: Pace>(
-    words: &Words<P>,
-    seat: &mut RawSeat,
-    component: u64,
-    time: Time,
-    cell: u64,
-) -> u64
-    requires of { IsSeatOf words.now seat.old }
-    requires known { IsKnownTime seat.old.knows component time cell }
-    ensures of { IsSeatOf words.now seat.new }
-    ensures looks { LooksAside seat.old.knows seat.new.knows }
-    ensures told { IsPartOf (slot_in seat.old.knows time) Length result }
-{
-    seat.is_sound();
-    words.look(
-        seat,
-        Word::Cell {
-            cell,
-            part: Part::Length,
-        },
-    )
+/// The cell of a time that sets a value, which the seat knows, of a component that it holds.
+#[derive(Clone, Copy)]
+pub(crate) struct KnownCell {
+    pub(crate) component: u64,
+    pub(crate) time: Time,
+    pub(crate) cell: u64,
 }
 
-/// What this one of the eight words of the time's cell is.
-#[inline]
-fn word<P: Pace>(
-    words: &Words<P>,
-    seat: &mut RawSeat,
-    component: u64,
-    time: Time,
-    cell: u64,
-    index: u64,
-) -> u64
-    requires of { IsSeatOf words.now seat.old }
-    requires known { IsKnownTime seat.old.knows component time cell }
-    requires inside { index < 8 }
-    ensures of { IsSeatOf words.now seat.new }
-    ensures looks { LooksAside seat.old.knows seat.new.knows }
-    ensures told { IsPartOf (slot_in seat.old.knows time) (WordOf index) result }
-{
-    seat.is_sound();
-    words.look(
-        seat,
-        Word::Cell {
-            cell,
-            part: Part::Value(index),
-        },
-    )
-}
+impl Load<RawSeat> for KnownCell {
+    ghost stands = { λ words seat at. IsSeatOf words seat × IsKnownTime seat.knows at.component at.time at.cell × (code_of (slot_in seat.knows at.time) ≡ 2) };
 
-/// The value of a time that sets one.
-pub(crate) fn value<P: Pace>(
-    words: &Words<P>,
-    seat: &mut RawSeat,
-    component: u64,
-    time: Time,
-    cell: u64,
-) -> Value
-    requires of { IsSeatOf words.now seat.old }
-    requires known { IsKnownTime seat.old.knows component time cell }
-    requires set { code_of (slot_in seat.old.knows time) ≡ 2 }
-    ensures of { IsSeatOf words.now seat.new }
-    ensures looks { LooksAside seat.old.knows seat.new.knows }
-    ensures told { value_in (slot_in seat.old.knows time) ≡ Some result }
-{
-    seat.is_sound();
-    let count = length(words, seat, component, time, cell) as usize;
-    let mut read = [0; 8];
-    for index in 0..count {
-        read[index] = word(words, seat, component, time, cell, index as u64);
+    ghost value = { λ seat at. value_in (slot_in seat.knows at.time) };
+
+    ghost looks = { λ words a b. IsSeatOf words b × LooksAside a.knows b.knows };
+
+    #[inline]
+    fn length<P: Pace>(&self, words: &Words<P>, seat: &mut RawSeat) -> usize {
+        seat.show_invariant();
+        let cell = self.cell;
+        let part = Part::Length;
+        words.look(seat, Word::Cell { cell, part }) as usize
     }
-    match Value::new(&read[..count]) {
-        Ok(value) => value,
-        Err(_) => unreachable!(),
+
+    #[inline]
+    fn word<P: Pace>(&self, words: &Words<P>, seat: &mut RawSeat, index: usize) -> u64 {
+        seat.show_invariant();
+        let cell = self.cell;
+        let part = Part::Value(index as u64);
+        words.look(seat, Word::Cell { cell, part })
     }
+
+    ghost stands_on = { λ words a b at is looks. (looks.0, known_stays a.knows b.knows at.component at.time at.cell looks.1.looks is.1, ap code_of (slot_stays a.knows b.knows at.time looks.1.looks) ∙ is.2) };
+
+    ghost value_stays = { λ words a b at is looks. ap value_in (slot_stays a.knows b.knows at.time looks.1.looks) };
+
+    ghost looks_on = { λ words a b c first then. (then.0, aside_trans a.knows b.knows c.knows first.1 then.1) };
 }
 
 /// What the time came to, as far as its key is concerned: the value that it sets, or none.
@@ -151,7 +112,14 @@ pub(crate) fn found<P: Pace>(
     ensures value { result.value ≡ value_in (slot_in seat.old.knows time) }
 {
     let value = match state(words, seat, component, time, cell) {
-        2 => Some(value(words, seat, component, time, cell)),
+        2 => {
+            let at = KnownCell {
+                component,
+                time,
+                cell,
+            };
+            Some(load_value(words, seat, &at))
+        }
         _ => None,
     };
     Found { time, value }

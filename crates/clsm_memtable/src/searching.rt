@@ -67,7 +67,7 @@ fn next_of<P: Pace>(words: &Words<P>, seat: &mut RawSeat, cell: u64) -> u64
     ensures looks { Looks seat.old.knows seat.new.knows }
     ensures walks { GoesOn seat.old.knows cell result seat.new.knows }
 {
-    seat.is_sound();
+    seat.show_invariant();
     let part = Part::Next;
     words.look(seat, Word::Cell { cell, part })
 }
@@ -124,7 +124,7 @@ fn newest_time<P: Pace>(
     ensures looks { Looks seat.old.knows seat.new.knows }
     ensures newest { IsNewestTime seat.old.knows first key until result }
 {
-    seat.is_sound();
+    seat.show_invariant();
     let chain = words.chain_of(key);
     let region = epoch % 2;
     let head = words.look(seat, Word::Head { region, chain });

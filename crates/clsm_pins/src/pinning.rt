@@ -18,7 +18,7 @@ pub fn pin<P: Pace>(words: &Words<P>, seat: &mut RawSeat, pin: u64) -> u64
     ensures of { IsSeatOf words.now seat.new }
     ensures pinned { Pins seat.old.knows seat.new.knows result }
 {
-    seat.is_sound();
+    seat.show_invariant();
     words.pin(seat, pin);
     words.look(seat, Word::Merged)
 }
@@ -31,6 +31,6 @@ pub fn unpin<P: Pace>(words: &Words<P>, seat: &mut RawSeat, pin: u64, end: &End)
     ensures of { IsSeatOf words.now seat.new }
     ensures unpinned { Unpins seat.old.knows seat.new.knows end.now }
 {
-    seat.is_sound();
+    seat.show_invariant();
     words.unpin(seat, pin, end);
 }

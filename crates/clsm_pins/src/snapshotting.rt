@@ -23,11 +23,11 @@ pub fn open_snapshot<P: Pace>(words: &Words<P>, seat: &mut RawSeat) -> Time
     ensures of { IsSeatOf words.now seat.new }
     ensures noted { NotesSnapshot seat.old.knows seat.new.knows result }
 {
-    seat.is_sound();
+    seat.show_invariant();
     let noted = words.look(seat, Word::Clock);
-    seat.is_sound();
+    seat.show_invariant();
     words.note(seat, noted);
-    seat.is_sound();
+    seat.show_invariant();
     words.look(seat, Word::Clock)
 }
 
@@ -39,6 +39,6 @@ pub fn close_snapshot<P: Pace>(words: &Words<P>, seat: &mut RawSeat, time: Time)
     ensures of { IsSeatOf words.now seat.new }
     ensures closed { ClosesSnapshot seat.old.knows seat.new.knows time }
 {
-    seat.is_sound();
+    seat.show_invariant();
     words.close_snapshot(seat);
 }

@@ -1,12 +1,12 @@
 -- The value that an entry of a run holds, read word by word.
-use Rattle.std.proofs.Common.{◌≡◌, ◌≢◌, ℕ, zero, suc, ◌+◌, ◌%◌, ◌<◌, ◌≤◌, ◌==◌, Bool, true, cond, nat_lt, List, [], ◌∷◌, ◌++◌, length, take, set, refl, ap, sym, ◌∙◌, arith, subst, Some, None}
+use Rattle.std.proofs.Common.{◌≡◌, ◌≢◌, ℕ, zero, suc, ◌+◌, ◌%◌, ◌<◌, ◌≤◌, ◌==◌, Bool, true, cond, nat_lt, List, [], take, refl, ap, sym, ◌∙◌, arith, subst, Option, Some, None}
 use Rattle.std.specs.Prelude.{slice_index}
 use Rattle.std.proofs.lemmas.Bool.{ltb-true, ne_eqb, and_parts}
-use Rattle.std.proofs.lemmas.List.{take_more, take_more_set, length-take}
+use Rattle.std.proofs.lemmas.List.{get_or-take, length-take}
 use Rattle.clsm_law.specs.declared.word.Word.TheVariants.{Count, Entry as EntryWord}
 use Rattle.clsm_law.specs.Memory.{Memory}
 use Rattle.clsm_law.specs.Places.{value_words, entry_in}
-use Rattle.clsm_law.specs.Relation.{IsShort}
+use Rattle.clsm_law.specs.Relation.{IsShort, length_of, words_of}
 use Rattle.clsm_law.specs.Worlds.{is_length, is_ended, is_canonical, are_canonical}
 use Rattle.clsm_law.proofs.Passes.{passes_at}
 
@@ -22,11 +22,6 @@ word_at memory p e (suc (suc (suc (suc (suc zero))))) lt = refl
 word_at memory p e (suc (suc (suc (suc (suc (suc zero)))))) lt = refl
 word_at memory p e (suc (suc (suc (suc (suc (suc (suc zero))))))) lt = refl
 word_at memory p e (suc (suc (suc (suc (suc (suc (suc (suc j)))))))) lt = absurd (omega arith)
-
--- one word more
-pub reads_more : (memory : Memory) (p e : ℕ) (words : List ℕ) (i x : ℕ) → length words ≡ 8 → i < 8 → take i words ≡ take i (value_words memory p e) → x ≡ memory (EntryWord p e (3 + i)) → take (i + 1) (set words i x) ≡ take (i + 1) (value_words memory p e)
-reads_more memory p e words i x long lt front is =
-    take_more_set words i x (omega arith) ∙ ap (λ (l : List ℕ). l ++ x ∷ []) front ∙ ap (λ (y : ℕ). take i (value_words memory p e) ++ y ∷ []) (is ∙ sym (word_at memory p e i lt)) ∙ sym (take_more (value_words memory p e) i 0 lt)
 
 -- ---- an entry that is no removal
 
@@ -51,3 +46,17 @@ module _ (memory : Memory) (place entry : ℕ) (valued : memory (EntryWord place
       let some : IsShort (Some (take count (value_words memory place entry))) = subst IsShort value_there short in
       let at_least = some.0 in
       omega (arith, length-take count (value_words memory place entry))
+
+  -- so long is its value
+  pub is_long : count ≤ 8 → count ≡ length_of (entry_in memory place entry).value
+  is_long few = let long = length-take count (value_words memory place entry) in let same = ap length_of value_there in omega arith
+
+  -- which has at most eight words, and they are those
+  pub few_there : length_of (entry_in memory place entry).value ≤ 8
+  few_there = let long = length-take count (value_words memory place entry) in let same = ap length_of value_there in omega arith
+
+  pub word_there : (j : ℕ) → j < length_of (entry_in memory place entry).value → memory (EntryWord place entry (3 + j)) ≡ slice_index (words_of (entry_in memory place entry).value) j
+  word_there j lt =
+      let long = length-take count (value_words memory place entry) in
+      let same = ap length_of value_there in
+      sym (ap (λ (v : Option (List ℕ)). slice_index (words_of v) j) value_there ∙ get_or-take count (value_words memory place entry) j 0 (omega arith) ∙ word_at memory place entry j (omega arith))

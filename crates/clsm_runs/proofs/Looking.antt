@@ -3,28 +3,17 @@
 use Rattle.std.proofs.Common.{◌≡◌, ℕ, zero, suc, ◌+◌, ◌-◌, ◌<◌, List, refl, sym, ap, ◌∙◌, subst, Option}
 use Rattle.clsm_levels.specs.declared.entry.Entry.{Entry}
 use Rattle.clsm_levels.specs.Entry.{first_below}
-use Rattle.clsm_law.specs.declared.word.Word.{Word}
-use Rattle.clsm_law.specs.declared.word.Word.TheVariants.{Count, Entry as EntryWord}
-use Rattle.clsm_law.specs.declared.view.View.{View}
-use Rattle.clsm_law.specs.Places.{entry_in, entries_from}
-use Rattle.clsm_law.proofs.KeptRuns.{SamePlace, entry_same, place_same}
+use Rattle.clsm_law.specs.Places.{entries_from}
+use Rattle.clsm_law.proofs.KeptRuns.{place_same}
 use Rattle.clsm_words.specs.declared.known.Known.{Known}
-use Rattle.clsm_words.specs.Knowing.{IsNamedWord, row_of}
+use Rattle.clsm_words.specs.Knowing.{row_of}
 use Rattle.clsm_words.specs.Keeping.{Looks}
+use Rattle.clsm_runs.specs.Staying.{entry_in_stays, place_stays}
 use Rattle.clsm_runs.specs.declared.side.Side.{Side}
 use Rattle.clsm_runs.specs.declared.side.Side.TheVariants.{Before, Hit, Behind}
 use Rattle.clsm_runs.specs.Searching.{ComesEarlier, IsSearchable, IsSide, count_of, rest_from, run_at}
 
--- ---- the words of a run
-
-word_stays : (k k' : Known) (component place : ℕ) (word : Word) → Looks k k' → IsSearchable k component place → IsNamedWord component word → row_of k' word ≡ row_of k word
-word_stays k k' component place word looks run named = (looks.reads.seat.runs component run.held (ap (λ (v : View). v.held) looks.reads.view ∙ run.held)).1 word named
-
-pub place_stays : (k k' : Known) (component place : ℕ) → Looks k k' → IsSearchable k component place → SamePlace (row_of k) (row_of k') place
-place_stays k k' component place looks run = record {
-  count = word_stays k k' component place (Count place) looks run (tt, run.named);
-  words = λ entry part. word_stays k k' component place (EntryWord place entry part) looks run (tt, run.named);
-}
+-- ---- a run
 
 pub run_stays : (k k' : Known) (component place : ℕ) → Looks k k' → IsSearchable k component place → run_at k' place ≡ run_at k place
 run_stays k k' component place looks run = place_same (row_of k) (row_of k') place (place_stays k k' component place looks run)
@@ -33,10 +22,7 @@ run_stays k k' component place looks run = place_same (row_of k) (row_of k') pla
 pub found_stays : (k k' : Known) (component place key until : ℕ) (o : Option Entry) → Looks k k' → IsSearchable k component place → o ≡ first_below (run_at k' place) key until → o ≡ first_below (run_at k place) key until
 found_stays k k' component place key until o looks run is = is ∙ ap (λ (es : List Entry). first_below es key until) (run_stays k k' component place looks run)
 
--- ---- an entry
-
-pub entry_in_stays : (k k' : Known) (component place entry : ℕ) → Looks k k' → IsSearchable k component place → entry_in (row_of k') place entry ≡ entry_in (row_of k) place entry
-entry_in_stays k k' component place entry looks run = entry_same (row_of k) (row_of k') place entry ((place_stays k k' component place looks run).words entry)
+-- ---- entries
 
 entries_stay : (k k' : Known) (component place i n : ℕ) → Looks k k' → IsSearchable k component place → entries_from (row_of k') place i n ≡ entries_from (row_of k) place i n
 entries_stay k k' component place i zero looks run = refl

@@ -3,15 +3,14 @@ use Rattle.std.proofs.Common.{ℕ, ◌<◌, ap, sym, ◌∙◌, subst}
 use Rattle.clsm_law.specs.declared.layout.Layout.{Layout}
 use Rattle.clsm_law.specs.declared.merger.MergerView.{MergerView}
 use Rattle.clsm_law.specs.declared.word.Word.{Word}
-use Rattle.clsm_law.specs.declared.word.Word.TheVariants.{Count}
 use Rattle.clsm_law.specs.Memory.{room_of}
 use Rattle.clsm_law.specs.Merging.{is_frozen}
 use Rattle.clsm_law.specs.Places.{is_named}
 use Rattle.clsm_words.specs.declared.known.Known.{Known}
 use Rattle.clsm_runs.specs.declared.output.Output.{Output}
 use Rattle.clsm_runs.specs.Outputs.{IsOutput}
-use Rattle.clsm_words.specs.Changing.{Changes, NoWord}
-use Rattle.clsm_runs.specs.Placing.{MayWriteInto, IsMergedEntry}
+use Rattle.clsm_words.specs.Changing.{Changes}
+use Rattle.clsm_runs.specs.Placing.{MayWriteInto}
 
 -- ---- the place of the next merge
 
@@ -30,14 +29,4 @@ output_stays Those k k' o changes is = record {
   there = is.there;
   room = is.room ∙ ap (λ (z : Layout). room_of z o.place) (sym changes.layout);
   few = is.few;
-}
-
--- ---- the merged runs
-
-pub merged_stays : (k k' : Known) (place entry : ℕ) → Changes NoWord k k' → IsMergedEntry k place entry → IsMergedEntry k' place entry
-merged_stays k k' place entry looks has = record {
-  frozen = ap (λ (m : MergerView). is_frozen m.phase) looks.view ∙ has.frozen;
-  free = ap (λ (m : MergerView). m.exclusive) looks.view ∙ has.free;
-  named = ap (λ (m : MergerView). is_named m.merged place) looks.view ∙ has.named;
-  inside = subst (λ (n : ℕ). entry < n) (sym (looks.stays (Count place) tt (λ no. no))) has.inside;
 }

@@ -11,7 +11,8 @@ use Rattle.clsm_words.specs.declared.known.Known.{Known}
 use Rattle.clsm_words.specs.Knowing.{row_of}
 use Rattle.clsm_words.specs.Keeping.{Looks}
 use Rattle.clsm_runs.specs.Searching.{IsSearchable, StandsFrom, count_of, rest_from, run_at}
-use Rattle.clsm_runs.proofs.Looking.{place_stays, rest_stays, run_stays}
+use Rattle.clsm_runs.specs.Staying.{place_stays}
+use Rattle.clsm_runs.proofs.Looking.{rest_stays, run_stays}
 use Rattle.clsm_runs.proofs.Halving.{behind, hit_here, not_found, rest_more, run_of_all}
 
 -- ---- what stays

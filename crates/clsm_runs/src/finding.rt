@@ -62,7 +62,7 @@ pub(crate) fn bound<P: Pace>(
     ensures stands { StandsFrom seat.old.knows place until key result.low }
     ensures found { IsPosition seat.old.knows place key until result.hit }
 {
-    seat.is_sound();
+    seat.show_invariant();
     let mut span = Span::whole(count(words, seat, component, place));
     let mut turn = Turn::Last;
     while span.low < span.high {

@@ -104,7 +104,7 @@ pub fn merge<P: Pace>(
     ensures written { OnOk result (HasWritten merger.new.knows (kept_of merger.old.knows floor epoch.now)) }
     ensures full { IfErr result (λ refusal. room_of merger.old.knows.layout (target_of merger.old.knows.merger) < length (kept_of merger.old.knows floor epoch.now)) }
 {
-    merger.is_sound();
+    merger.show_invariant();
     let mut output = open_output(words, merger, merges, floor);
     let mut cursors = open_cursors(words, merger, merges, epoch);
     while let Some(entry) = next(words, merger, merges, epoch, &mut cursors) {

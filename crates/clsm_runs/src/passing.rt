@@ -57,7 +57,7 @@ pub fn next<P: Pace>(
     ensures next { IsNextFrom (λ key. first_below (run_at seat.old.knows place) key until) from result }
     ensures stands { StandsFrom seat.old.knows place until (behind from result) position.new }
 {
-    seat.is_sound();
+    seat.show_invariant();
     let count = count(words, seat, component, place);
     while *position < count {
         let number = *position;

@@ -1,15 +1,18 @@
 //! Looks at the runs of the component that the seat holds.
-ghost use Rattle.std.specs.Prelude.{◌≡◌, ◌≢◌, ◌%◌, ◌<◌, ◌≤◌, Some};
+ghost use Rattle.std.specs.Prelude.{◌≡◌, ◌≢◌, ◌%◌, ◌<◌};
+ghost use Rattle.std.proofs.Common.{ap};
+ghost use Rattle.clsm_levels.specs.declared.entry.Entry.{Entry};
 ghost use Rattle.clsm_law.specs.Places.{entry_in};
 ghost use Rattle.clsm_words.specs.Knowing.{row_of};
 ghost use Rattle.clsm_words.specs.Keeping.{LooksAside};
 ghost use Rattle.clsm_words.specs.Plays.{IsSeatOf};
+ghost use Rattle.clsm_words.proofs.Keeps.{aside_trans};
 ghost use Rattle.clsm_runs.specs.Searching.{HasEntry, IsSearchable, count_of, entry_word};
+ghost use Rattle.clsm_runs.specs.Staying.{entry_in_stays, has_stays, valued_stays};
 
 use clsm_law::Word;
 use clsm_levels::Entry;
-use clsm_model::Value;
-use clsm_words::{Pace, RawSeat, Words};
+use clsm_words::{Load, Pace, RawSeat, Words, load_value};
 
 /// An entry's words: its key.
 pub(crate) const KEY: u64 = 0;
@@ -34,7 +37,7 @@ pub(crate) fn count<P: Pace>(
     ensures looks { LooksAside seat.old.knows seat.new.knows }
     ensures told { result ≡ count_of seat.old.knows place }
 {
-    seat.is_sound();
+    seat.show_invariant();
     words.look(seat, Word::Count(place))
 }
 
@@ -55,55 +58,43 @@ pub(crate) fn part<P: Pace>(
     ensures looks { LooksAside seat.old.knows seat.new.knows }
     ensures told { result ≡ entry_word seat.old.knows place entry part }
 {
-    seat.is_sound();
+    seat.show_invariant();
     words.look(seat, Word::Entry { place, entry, part })
 }
 
-/// How many words the value of an entry has that is no removal.
-fn length<P: Pace>(
-    words: &Words<P>,
-    seat: &mut RawSeat,
+/// An entry that is no removal, of a run of the component that the seat holds.
+#[derive(Clone, Copy)]
+struct HeldEntry {
     component: u64,
     place: u64,
     entry: u64,
-) -> usize
-    requires of { IsSeatOf words.now seat.old }
-    requires has { HasEntry seat.old.knows component place entry }
-    requires valued { entry_word seat.old.knows place entry 1 % 2 ≢ 1 }
-    ensures of { IsSeatOf words.now seat.new }
-    ensures looks { LooksAside seat.old.knows seat.new.knows }
-    ensures told { result ≡ entry_word seat.old.knows place entry 2 }
-    ensures some { 1 ≤ result }
-    ensures at_most_eight { result ≤ 8 }
-{
-    seat.is_sound();
-    part(words, seat, component, place, entry, LENGTH) as usize
 }
 
-/// The value of an entry that is no removal: only its own words are looked at.
-fn value<P: Pace>(
-    words: &Words<P>,
-    seat: &mut RawSeat,
-    component: u64,
-    place: u64,
-    entry: u64,
-) -> Value
-    requires of { IsSeatOf words.now seat.old }
-    requires has { HasEntry seat.old.knows component place entry }
-    requires valued { entry_word seat.old.knows place entry 1 % 2 ≢ 1 }
-    ensures of { IsSeatOf words.now seat.new }
-    ensures looks { LooksAside seat.old.knows seat.new.knows }
-    ensures told { (entry_in (row_of seat.old.knows) place entry).value ≡ Some result }
-{
-    let count = length(words, seat, component, place, entry);
-    let mut read = [0; 8];
-    for index in 0..count {
-        read[index] = part(words, seat, component, place, entry, VALUE + index as u64);
+impl Load<RawSeat> for HeldEntry {
+    ghost stands = { λ words seat at. IsSeatOf words seat × HasEntry seat.knows at.component at.place at.entry × (entry_word seat.knows at.place at.entry 1 % 2 ≢ 1) };
+
+    ghost value = { λ seat at. (entry_in (row_of seat.knows) at.place at.entry).value };
+
+    ghost looks = { λ words a b. IsSeatOf words b × LooksAside a.knows b.knows };
+
+    #[inline]
+    fn length<P: Pace>(&self, words: &Words<P>, seat: &mut RawSeat) -> usize {
+        seat.show_invariant();
+        let length = part(words, seat, self.component, self.place, self.entry, LENGTH);
+        length as usize
     }
-    match Value::new(&read[..count]) {
-        Ok(value) => value,
-        Err(_) => unreachable!(),
+
+    #[inline]
+    fn word<P: Pace>(&self, words: &Words<P>, seat: &mut RawSeat, index: usize) -> u64 {
+        let wanted = VALUE + index as u64;
+        part(words, seat, self.component, self.place, self.entry, wanted)
     }
+
+    ghost stands_on = { λ words a b at is looks. (looks.0, has_stays a.knows b.knows at.component at.place at.entry looks.1.looks is.1, valued_stays a.knows b.knows at.component at.place at.entry looks.1.looks is.1.run is.2) };
+
+    ghost value_stays = { λ words a b at is looks. ap (λ (e : Entry). e.value) (entry_in_stays a.knows b.knows at.component at.place at.entry looks.1.looks is.1.run) };
+
+    ghost looks_on = { λ words a b c first then. (then.0, aside_trans a.knows b.knows c.knows first.1 then.1) };
 }
 
 /// The entry with this key and this time word.
@@ -132,6 +123,11 @@ pub(crate) fn entry<P: Pace>(
             value: None,
         };
     }
-    let value = Some(value(words, seat, component, place, entry));
+    let at = HeldEntry {
+        component,
+        place,
+        entry,
+    };
+    let value = Some(load_value(words, seat, &at));
     Entry { key, time, value }
 }

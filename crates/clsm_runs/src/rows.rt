@@ -33,7 +33,7 @@ fn entry_at<P: Pace>(
     ensures looks { Changes NoWord merger.old.knows merger.new.knows }
     ensures head { result ≡ first_of (drop number (run_at merger.old.knows place)) }
 {
-    merger.is_sound();
+    merger.show_invariant();
     let count = words.look_as_merger(merger, Word::Count(place));
     if number < count {
         Some(entry(words, merger, place, number))
@@ -138,7 +138,7 @@ pub(crate) fn next<P: Pace>(
     ensures heads { HeadsOf (rows_of merger.old.knows epoch.now) cursors.new }
     ensures next { IsNextOf (rows_of merger.old.knows epoch.now) cursors.old cursors.new result }
 {
-    merger.is_sound();
+    merger.show_invariant();
     let Some((row, entry)) = least(cursors) else {
         return None;
     };

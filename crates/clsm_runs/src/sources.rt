@@ -1,17 +1,20 @@
 //! Looks of the merger at the merged runs.
-ghost use Rattle.std.specs.Prelude.{◌≡◌, ◌≢◌, ◌%◌, ◌<◌, ◌≤◌, Some};
+ghost use Rattle.std.specs.Prelude.{◌≡◌, ◌≢◌, ◌%◌, ◌<◌};
+ghost use Rattle.std.proofs.Common.{ap};
+ghost use Rattle.clsm_levels.specs.declared.entry.Entry.{Entry};
 ghost use Rattle.clsm_law.specs.Places.{entry_in};
 ghost use Rattle.clsm_words.specs.Knowing.{row_of};
 ghost use Rattle.clsm_words.specs.Plays.{IsSeatOf};
 ghost use Rattle.clsm_words.specs.Changing.{Changes, NoWord};
+ghost use Rattle.clsm_words.proofs.Changing.{changes_trans};
 ghost use Rattle.clsm_runs.specs.Placing.{IsMergedEntry};
 ghost use Rattle.clsm_runs.specs.Searching.{entry_word};
+ghost use Rattle.clsm_runs.specs.Staying.{merged_entry_stays, merged_stays, merged_valued_stays};
 
 use crate::reading::{KEY, LENGTH, TIME, VALUE};
 use clsm_law::Word;
 use clsm_levels::Entry;
-use clsm_model::Value;
-use clsm_words::{Pace, RawMerger, Words};
+use clsm_words::{Load, Pace, RawMerger, Words, load_value};
 
 /// One of the words of the entry.
 fn part<P: Pace>(words: &Words<P>, merger: &mut RawMerger, place: u64, entry: u64, part: u64) -> u64
@@ -22,43 +25,40 @@ fn part<P: Pace>(words: &Words<P>, merger: &mut RawMerger, place: u64, entry: u6
     ensures looks { Changes NoWord merger.old.knows merger.new.knows }
     ensures told { result ≡ entry_word merger.old.knows place entry part }
 {
-    merger.is_sound();
+    merger.show_invariant();
     words.look_as_merger(merger, Word::Entry { place, entry, part })
 }
 
-/// How many words the value of an entry has that is no removal.
-fn length<P: Pace>(words: &Words<P>, merger: &mut RawMerger, place: u64, entry: u64) -> usize
-    requires of { IsSeatOf words.now merger.old }
-    requires has { IsMergedEntry merger.old.knows place entry }
-    requires valued { entry_word merger.old.knows place entry 1 % 2 ≢ 1 }
-    ensures of { IsSeatOf words.now merger.new }
-    ensures looks { Changes NoWord merger.old.knows merger.new.knows }
-    ensures told { result ≡ entry_word merger.old.knows place entry 2 }
-    ensures some { 1 ≤ result }
-    ensures at_most_eight { result ≤ 8 }
-{
-    merger.is_sound();
-    part(words, merger, place, entry, LENGTH) as usize
+/// An entry that is no removal, of a merged run.
+#[derive(Clone, Copy)]
+struct MergedEntry {
+    place: u64,
+    entry: u64,
 }
 
-/// The value of an entry that is no removal.
-fn value<P: Pace>(words: &Words<P>, merger: &mut RawMerger, place: u64, entry: u64) -> Value
-    requires of { IsSeatOf words.now merger.old }
-    requires has { IsMergedEntry merger.old.knows place entry }
-    requires valued { entry_word merger.old.knows place entry 1 % 2 ≢ 1 }
-    ensures of { IsSeatOf words.now merger.new }
-    ensures looks { Changes NoWord merger.old.knows merger.new.knows }
-    ensures told { (entry_in (row_of merger.old.knows) place entry).value ≡ Some result }
-{
-    let count = length(words, merger, place, entry);
-    let mut read = [0; 8];
-    for index in 0..count {
-        read[index] = part(words, merger, place, entry, VALUE + index as u64);
+impl Load<RawMerger> for MergedEntry {
+    ghost stands = { λ words merger at. IsSeatOf words merger × IsMergedEntry merger.knows at.place at.entry × (entry_word merger.knows at.place at.entry 1 % 2 ≢ 1) };
+
+    ghost value = { λ merger at. (entry_in (row_of merger.knows) at.place at.entry).value };
+
+    ghost looks = { λ words a b. IsSeatOf words b × Changes NoWord a.knows b.knows };
+
+    #[inline]
+    fn length<P: Pace>(&self, words: &Words<P>, merger: &mut RawMerger) -> usize {
+        merger.show_invariant();
+        part(words, merger, self.place, self.entry, LENGTH) as usize
     }
-    match Value::new(&read[..count]) {
-        Ok(value) => value,
-        Err(_) => unreachable!(),
+
+    #[inline]
+    fn word<P: Pace>(&self, words: &Words<P>, merger: &mut RawMerger, index: usize) -> u64 {
+        part(words, merger, self.place, self.entry, VALUE + index as u64)
     }
+
+    ghost stands_on = { λ words a b at is looks. (looks.0, merged_stays a.knows b.knows at.place at.entry looks.1 is.1, merged_valued_stays a.knows b.knows at.place at.entry looks.1 is.2) };
+
+    ghost value_stays = { λ words a b at is looks. ap (λ (e : Entry). e.value) (merged_entry_stays a.knows b.knows at.place at.entry looks.1) };
+
+    ghost looks_on = { λ words a b c first then. (then.0, changes_trans NoWord a.knows b.knows c.knows first.1 then.1) };
 }
 
 /// The entry with this number of the run at the place.
@@ -84,6 +84,6 @@ pub(crate) fn entry<P: Pace>(
             value: None,
         };
     }
-    let value = Some(value(words, merger, place, entry));
+    let value = Some(load_value(words, merger, &MergedEntry { place, entry }));
     Entry { key, time, value }
 }

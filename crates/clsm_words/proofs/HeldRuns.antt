@@ -1,6 +1,5 @@
 -- What a seat that holds a component may search, by what the law says of its runs.
 use Rattle.std.proofs.Common.{◌≡◌, ◌≢◌, ◌∙◌, unwrap_or, Option, None, ℕ, ◌+◌, ◌-◌, ◌*◌, ◌<◌, ◌≤◌, ⊎_elim, Bool, true, List, length, refl, sym, ap, subst, arith, Some}
-use Rattle.std.specs.List.{AllByRecursion}
 use Rattle.clsm_model.specs.declared.slot.Slot.{Slot}
 use Rattle.clsm_model.specs.declared.slot.Slot.TheVariants.{Nothing, Wrote}
 use Rattle.clsm_model.specs.History.{plain}

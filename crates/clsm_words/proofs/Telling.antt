@@ -1,6 +1,6 @@
 -- What a look finds, by what the law says of the word.
-use Rattle.std.proofs.Common.{◌+◌, ◌-◌, ⊎_elim, ◌≡◌, ℕ, ◌*◌, ◌^◌, ◌<◌, ◌≤◌, Bool, true, false, cond, nat_lt, List, [], ◌∷◌, length, sum_by, take, get_or, refl, sym, ap, ◌∙◌, subst, arith, Option, Some, None}
-use Rattle.std.proofs.lemmas.Bool.{ltb-true, and_parts}
+use Rattle.std.proofs.Common.{◌≡◌, ℕ, ◌*◌, ◌^◌, ◌<◌, ◌≤◌, Bool, true, false, cond, nat_lt, List, [], ◌∷◌, length, sum_by, take, get_or, refl, sym, ap, ◌∙◌, subst, arith, Option, Some, None}
+use Rattle.std.proofs.lemmas.Bool.{and_parts}
 use Rattle.std.proofs.lemmas.List.Sums.{sum_by-cons}
 use mathlib.Core.Option.{some}
 use lib.ListN.{get_elem?}
@@ -18,9 +18,9 @@ use Rattle.clsm_law.specs.Memory.{Memory, cell_of, is_part, put}
 use Rattle.clsm_law.specs.Relation.{is_shared, HoldsFrom, word_of, changed}
 use Rattle.clsm_law.specs.Layout.{memory}
 use Rattle.clsm_law.specs.Worlds.{view_at, settled}
-use Rattle.clsm_law.specs.Law.{Shows, first_shown, first_live, holders, IsRetiredFor, each, pin_of}
+use Rattle.clsm_law.specs.Law.{Shows, first_shown, holders}
 use Rattle.clsm_law.proofs.Frames.{put_same}
-use Rattle.clsm_law.proofs.Setting.{Ground, ground, x, M, held_shown, clock_live, live_below_shown, past_below, shown_below_merged}
+use Rattle.clsm_law.proofs.Setting.{ground, x, M, held_shown, past_below}
 use Rattle.clsm_words.specs.declared.known.Known.{Known}
 use Rattle.clsm_words.specs.Knowing.{row_of, Opens, code_of, IsPartOf, IsNearHeld, Tells}
 use Rattle.clsm_words.specs.Ruled.{Begins, Ruled}

@@ -4,10 +4,12 @@
 
 mod divisor;
 mod known;
+mod load;
 mod pace;
 mod rule;
 mod words;
 
 pub use known::Known;
+pub use load::{Load, load_value};
 pub use pace::{Free, Kind, Pace};
 pub use words::{Message, RawMerger, RawSeat, WordTable, Words};

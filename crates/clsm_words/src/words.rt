@@ -125,12 +125,20 @@ impl RawSeat {
         self.number
     }
 
-    /// What holds of every seat. It does nothing when it runs.
+    /// Shows what holds of every seat. It does nothing when it runs.
+    #[inline]
+    pub fn show_invariant(&self)
+        ensures { Sound self.now.knows }
+    {
+        let _ = &self.seat;
+    }
+
+    /// The older name of `show_invariant`, which crates above still call.
     #[inline]
     pub fn is_sound(&self)
         ensures { Sound self.now.knows }
     {
-        let _ = &self.seat;
+        self.show_invariant();
     }
 }
 
@@ -155,12 +163,20 @@ impl Model for RawMerger {
 impl RawMerger {
     ghost use Rattle.clsm_words.specs.Merging.{IsSoundMerger};
 
-    /// What holds of the merger's seat. It does nothing when it runs.
+    /// Shows what holds of the merger's seat. It does nothing when it runs.
+    #[inline]
+    pub fn show_invariant(&self)
+        ensures { IsSoundMerger self.now.knows }
+    {
+        let _ = &self.seat;
+    }
+
+    /// The older name of `show_invariant`, which crates above still call.
     #[inline]
     pub fn is_sound(&self)
         ensures { IsSoundMerger self.now.knows }
     {
-        let _ = &self.seat;
+        self.show_invariant();
     }
 }
 

@@ -87,7 +87,7 @@ impl<P: Pace> Words<P> {
         ensures { PlaysAsMerger self.now seat.old Publish seat.new }
     {
         self.pace_merger(Kind::Publish);
-        seat.is_sound();
+        seat.show_invariant();
         self.words
             .merger_store(seat, &Step::Publish, Word::Merged, merged + 1);
     }
@@ -123,7 +123,7 @@ impl<P: Pace> Words<P> {
         ensures { PlaysAsMerger self.now seat.old ExtendClock seat.new }
     {
         self.pace_merger(Kind::ExtendClock);
-        seat.is_sound();
+        seat.show_invariant();
         let end = (merged + 1) * self.words.layout.cells;
         self.words
             .merger_store(seat, &Step::ExtendClock, Word::Clock, end);
@@ -137,7 +137,7 @@ impl<P: Pace> Words<P> {
         ensures { PlaysAsMerger self.now seat.old ExtendLimit seat.new }
     {
         self.pace_merger(Kind::ExtendLimit);
-        seat.is_sound();
+        seat.show_invariant();
         let end = (merged + 2) * self.words.layout.cells;
         self.words
             .merger_store(seat, &Step::ExtendLimit, Word::Limit, end);

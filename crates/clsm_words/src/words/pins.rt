@@ -60,7 +60,7 @@ impl<P: Pace> Words<P> {
         ensures { Plays self.now seat.old (Note time) seat.new }
     {
         self.pace.step(seat.number(), Kind::Note);
-        seat.is_sound();
+        seat.show_invariant();
         let word = Word::Snap(seat.number);
         self.words.store(seat, &Step::Note(time), word, time + 1);
     }

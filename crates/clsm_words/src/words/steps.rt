@@ -42,7 +42,7 @@ impl<P: Pace> Words<P> {
         ensures { PlaysTo self.now seat.old (Draw time) result seat.new }
     {
         self.pace.step(seat.number(), Kind::Draw);
-        seat.is_sound();
+        seat.show_invariant();
         let step = Step::Draw(time);
         let found = self
             .words

@@ -1,5 +1,5 @@
-use Rattle.std.proofs.Common.{◌≡◌, length}
-use Rattle.clsm_law.specs.declared.word.Part.TheVariants.{Key, Length, Next}
+use Rattle.std.proofs.Common.{length}
+use Rattle.clsm_law.specs.declared.word.Part.TheVariants.{Key, Length}
 use Rattle.clsm_memtable.proofs.Fillings.{fills_by, fills_trans}
 use Rattle.clsm_memtable.proofs.filling.fill_cell.Goals as goal
 
@@ -9,6 +9,6 @@ returns-clause-filled g c =
     let keyed = c.fill.new.seat.knows in
     let sized = c.fill-2.new.seat.knows in
     let filled = c.fill_words.new.seat.knows in
-    let by_key = fills_by old keyed Key c.args.key c.fill.ensures.0 (λ e. cc) c.is_sound.ensures c.fill.ensures.1.1 in
-    let by_length = fills_by keyed sized Length (length c.args.value.now) c.fill-2.ensures.0 (λ e. cc) c.is_sound-2.ensures c.fill-2.ensures.1.1 in
+    let by_key = fills_by old keyed Key c.args.key c.fill.ensures.0 (λ e. cc) c.show_invariant.ensures c.fill.ensures.1.1 in
+    let by_length = fills_by keyed sized Length (length c.args.value.now) c.fill-2.ensures.0 (λ e. cc) c.show_invariant-2.ensures c.fill-2.ensures.1.1 in
     fills_trans old sized filled (fills_trans old keyed sized by_key by_length) c.fill_words.ensures.filled

@@ -1,6 +1,6 @@
-use Rattle.std.proofs.Common.{◌≡◌, ◌+◌, ◌++◌, ◌∷◌, [], ℕ, List, Option, Some, map, take, get_or, set, sym, ap, ◌∙◌, arith}
+use Rattle.std.proofs.Common.{◌+◌, ◌++◌, ◌∷◌, [], ℕ, List, Option, Some, take, get_or, sym, ap, ◌∙◌, arith}
 use Rattle.std.proofs.lemmas.List.{map_more, take_more_set}
-use Rattle.clsm_law.specs.declared.word.Part.TheVariants.{Value, Next}
+use Rattle.clsm_law.specs.declared.word.Part.TheVariants.{Value}
 use Rattle.clsm_law.specs.declared.view.View.{View}
 use Rattle.clsm_memtable.proofs.Fillings.{fills_by, fills_trans}
 use Rattle.clsm_memtable.proofs.filling.fill_words.Goals as goal
@@ -14,7 +14,7 @@ loop-index-preserved g c =
     let x = c.fill.ensures.0 in
     let word = get_or c.args.value.now i 0 in
     let follows = c.fill.ensures.1.1 in
-    let sound = c.is_sound.ensures in
+    let sound = c.show_invariant.ensures in
     record {
       of = c.fill.ensures.1.0;
       filled = fills_trans old k k' c.loop-index.invariant.filled (fills_by k k' (Value i) word x (λ e. cc) sound follows);

@@ -6,7 +6,8 @@ use Rattle.clsm_words.specs.Changing.{NoWord}
 use Rattle.clsm_words.proofs.Changing.{changes_trans}
 use Rattle.clsm_words.proofs.MergerFacts.{entries_below}
 use Rattle.clsm_memtable.specs.Searching.{slot_in}
-use Rattle.clsm_memtable.proofs.FrozenTimes.{entries_next, frozen_known, slot_on}
+use Rattle.clsm_memtable.specs.Staying.{slot_on}
+use Rattle.clsm_memtable.proofs.FrozenTimes.{entries_next, frozen_known}
 use Rattle.clsm_memtable.proofs.frozen.gather.Goals as goal
 
 pub returns-clause-gathered : goal.returns-clause-gathered
@@ -14,7 +15,7 @@ returns-clause-gathered g c =
     let k = c.args.merger.now.knows in
     let inv = c.loop-time.invariant in
     let none = entries_none k.past c.args.first c.loop-time.time (let stop = c.loop-time-test.false in omega arith) in
-    let same = entries_below c.loop-time.merger.knows.past k.past c.args.first c.args.end (λ t lt. slot_on k c.loop-time.merger.knows t inv.looks (frozen_known k t c.is_sound.ensures c.requires.free c.requires.frozen (let e = c.requires.end in omega arith))) in
+    let same = entries_below c.loop-time.merger.knows.past k.past c.args.first c.args.end (λ t lt. slot_on k c.loop-time.merger.knows t inv.looks (frozen_known k t c.show_invariant.ensures c.requires.free c.requires.frozen (let e = c.requires.end in omega arith))) in
     sym (append-nil c.loop-time.row.items) ∙ ap (λ (l : List Entry). c.loop-time.row.items ++ l) (sym none) ∙ inv.gathered ∙ sym same
 
 pub loop-time-preserved-in-Some : goal.loop-time-preserved-in-Some
@@ -24,7 +25,7 @@ loop-time-preserved-in-Some g c =
     let inv = c.loop-time.invariant in
     let lt = c.loop-time-test.true in
     let t = c.loop-time.time - 1 in
-    let same = slot_on k now t inv.looks (frozen_known k t c.is_sound.ensures c.requires.free c.requires.frozen (let e = c.requires.end in let few = inv.few in omega arith)) in
+    let same = slot_on k now t inv.looks (frozen_known k t c.show_invariant.ensures c.requires.free c.requires.frozen (let e = c.requires.end in let few = inv.few in omega arith)) in
     let entry : entry_of t (slot_in k t) ≡ c.in-Some.entry ∷ [] = ap (entry_of t) (sym same) ∙ c.in-Some.ensures.entry in
     let pushed : c.push.new.self.items ≡ c.loop-time.row.items ++ c.in-Some.entry ∷ [] = search rules in
     record {
@@ -43,7 +44,7 @@ loop-time-preserved g c =
     let inv = c.loop-time.invariant in
     let lt = c.loop-time-test.true in
     let t = c.loop-time.time - 1 in
-    let same = slot_on k now t inv.looks (frozen_known k t c.is_sound.ensures c.requires.free c.requires.frozen (let e = c.requires.end in let few = inv.few in omega arith)) in
+    let same = slot_on k now t inv.looks (frozen_known k t c.show_invariant.ensures c.requires.free c.requires.frozen (let e = c.requires.end in let few = inv.few in omega arith)) in
     let none : entry_of t (slot_in k t) ≡ [] = ap (entry_of t) (sym same) ∙ c.in_default.ensures.entry in
     record {
       of = c.in_default.ensures.of;

@@ -12,5 +12,5 @@ look-head-requires g c =
     let is : c.head_of.result ≡ head_of k.layout c.args.time c.args.key = c.head_of.ensures ∙ ap (λ (z : Layout). head_of z c.args.time c.args.key) (sym c.requires.of.1) in (
       c.requires.of,
       subst (λ (w : Word). (is_word k.layout w ≡ true) × IsLookable k.layout k.view w) (sym is)
-          (head_there k.layout k.view c.args.time c.args.key, head_lookable k.layout k.view c.args.time c.args.key c.requires.holds c.requires.limit (λ limit e. c.is_sound.ensures.own_region c.args.time limit c.requires.filled.drawn e)),
+          (head_there k.layout k.view c.args.time c.args.key, head_lookable k.layout k.view c.args.time c.args.key c.requires.holds c.requires.limit (λ limit e. c.show_invariant.ensures.own_region c.args.time limit c.requires.filled.drawn e)),
     )

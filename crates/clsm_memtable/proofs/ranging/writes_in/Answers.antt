@@ -5,7 +5,7 @@ use Rattle.clsm_levels.specs.Entry.{entries_of, entry_of}
 use Rattle.clsm_law.specs.declared.layout.Layout.{Layout}
 use Rattle.clsm_words.proofs.Keeps.{aside_trans}
 use Rattle.clsm_memtable.specs.Ranging.{in_range}
-use Rattle.clsm_memtable.proofs.Looking.{slot_stays}
+use Rattle.clsm_memtable.specs.Staying.{slot_stays}
 use Rattle.clsm_memtable.proofs.Ranges.{range_all, range_next}
 use Rattle.clsm_memtable.proofs.ranging.writes_in.Goals as goal
 

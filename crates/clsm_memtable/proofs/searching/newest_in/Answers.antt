@@ -1,6 +1,6 @@
 use Rattle.std.proofs.Common.{sym, ◌∙◌, ap, subst}
 use Rattle.clsm_memtable.specs.Searching.{IsNewestIn, value_in}
-use Rattle.clsm_memtable.proofs.Looking.{slot_stays}
+use Rattle.clsm_memtable.specs.Staying.{slot_stays}
 use Rattle.clsm_memtable.proofs.NewestWrites.{found_none, found_some}
 use Rattle.clsm_memtable.proofs.searching.newest_in.Goals as goal
 

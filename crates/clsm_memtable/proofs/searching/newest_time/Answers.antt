@@ -11,7 +11,7 @@ newest_ahead-requires-clause-chain g c =
     let k = c.args.seat.now.knows in
     let k' = c.look-head.new.seat.knows in
     let follows = c.look-head.ensures.1 in
-    let looks = looks_at_head k k' (c.args.epoch % 2) c.chain_of-chain.result c.look-head.result c.is_sound.ensures follows in
+    let looks = looks_at_head k k' (c.args.epoch % 2) c.chain_of-chain.result c.look-head.result c.show_invariant.ensures follows in
     let chain = c.chain_of-chain.ensures ∙ ap (λ (z : Layout). c.args.key % z.chains) (sym c.requires.of.1 ∙ sym looks.reads.seat.layout) in
     let trail = subst (λ (n : ℕ). IsTrail k' c.args.epoch n c.look-head.result) chain (follows.walks c.args.epoch c.requires.may.held refl) in
     on_chain k k' c.args.epoch c.args.first c.args.until c.args.key c.look-head.result c.requires.may looks trail
@@ -21,7 +21,7 @@ newest_ahead-requires-clause-ahead g c =
     let k = c.args.seat.now.knows in
     let k' = c.look-head.new.seat.knows in
     let follows = c.look-head.ensures.1 in
-    let looks = looks_at_head k k' (c.args.epoch % 2) c.chain_of-chain.result c.look-head.result c.is_sound.ensures follows in
+    let looks = looks_at_head k k' (c.args.epoch % 2) c.chain_of-chain.result c.look-head.result c.show_invariant.ensures follows in
     let chain = c.chain_of-chain.ensures ∙ ap (λ (z : Layout). c.args.key % z.chains) (sym c.requires.of.1 ∙ sym looks.reads.seat.layout) in
     let trail = subst (λ (n : ℕ). IsTrail k' c.args.epoch n c.look-head.result) chain (follows.walks c.args.epoch c.requires.may.held refl) in
     walked_nothing k k' c.args.epoch c.args.first c.args.until c.args.key c.look-head.result c.requires.may looks trail
@@ -30,4 +30,4 @@ pub returns-clause-looks : goal.returns-clause-looks
 returns-clause-looks g c =
     let k = c.args.seat.now.knows in
     let k' = c.look-head.new.seat.knows in
-    looks_trans k k' c.newest_ahead.new.seat.knows (looks_at_head k k' (c.args.epoch % 2) c.chain_of-chain.result c.look-head.result c.is_sound.ensures c.look-head.ensures.1) c.newest_ahead.ensures.looks
+    looks_trans k k' c.newest_ahead.new.seat.knows (looks_at_head k k' (c.args.epoch % 2) c.chain_of-chain.result c.look-head.result c.show_invariant.ensures c.look-head.ensures.1) c.newest_ahead.ensures.looks

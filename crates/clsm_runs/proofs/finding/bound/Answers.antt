@@ -16,7 +16,7 @@ loop-span-preserved-in-Before g c =
     let place = c.args.place in
     let before = c.loop-span.invariant.span in
     let side = side_stays k now c.args.component place at c.args.key c.args.until (Before c.in-Before.found) c.loop-span.invariant.looks.looks c.requires.run c.in-Before.ensures.side in
-    let run = (run_there k c.args.component place c.is_sound.ensures c.requires.run).order in
+    let run = (run_there k c.args.component place c.show_invariant.ensures c.requires.run).order in
     record {
       of = c.compare.ensures.of;
       looks = aside_trans k now c.compare.new.seat.knows c.loop-span.invariant.looks c.compare.ensures.looks;
@@ -36,7 +36,7 @@ loop-span-preserved g c =
     let place = c.args.place in
     let before = c.loop-span.invariant.span in
     let side = side_stays k now c.args.component place at c.args.key c.args.until (Behind c.in-Behind.found) c.loop-span.invariant.looks.looks c.requires.run c.in-Behind.ensures.side in
-    let run = run_of_all k place (run_there k c.args.component place c.is_sound.ensures c.requires.run).order in
+    let run = run_of_all k place (run_there k c.args.component place c.show_invariant.ensures c.requires.run).order in
     record {
       of = c.compare.ensures.of;
       looks = aside_trans k now c.compare.new.seat.knows c.loop-span.invariant.looks c.compare.ensures.looks;

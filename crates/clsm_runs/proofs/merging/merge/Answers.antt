@@ -44,7 +44,7 @@ pub next-requires-clause-sources : goal.next-requires-clause-sources
 next-requires-clause-sources g c =
     let k = c.args.merger.now.knows in
     let inv = c.loop-entry.invariant in
-    subst AreSources (sym (rows_stay k c.loop-entry.merger.knows c.args.epoch.now inv.changes)) (are_sources k c.is_sound.ensures c.args.epoch.now c.requires.sorted c.requires.early c.requires.few)
+    subst AreSources (sym (rows_stay k c.loop-entry.merger.knows c.args.epoch.now inv.changes)) (are_sources k c.show_invariant.ensures c.args.epoch.now c.requires.sorted c.requires.early c.requires.few)
 
 pub next-requires-clause-heads : goal.next-requires-clause-heads
 next-requires-clause-heads g c =

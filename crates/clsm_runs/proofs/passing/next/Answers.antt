@@ -7,7 +7,7 @@ use Rattle.clsm_words.specs.Knowing.{row_of}
 use Rattle.clsm_words.proofs.Keeps.{aside_trans}
 use Rattle.clsm_runs.specs.Searching.{IsSearchable, StandsFrom, run_at}
 use Rattle.clsm_runs.proofs.NamedRuns.{run_there}
-use Rattle.clsm_runs.proofs.Looking.{entry_in_stays, place_stays}
+use Rattle.clsm_runs.specs.Staying.{entry_in_stays, place_stays}
 use Rattle.clsm_runs.proofs.Standing.{passes, passes_taken, takes}
 use Rattle.clsm_runs.proofs.passing.next.Goals as goal
 
@@ -72,7 +72,7 @@ returns-then-spelled-until g c =
     let is = c.entry.ensures.told ∙ entry_in_stays k second component place at two.looks run in
     let early : (entry_in (row_of k) place at).time < until = omega (arith, spelled) in
     let later : from ≤ (entry_in (row_of k) place at).key = omega (arith, key) in
-    let order = (run_there k component place c.is_sound.ensures run).order in
+    let order = (run_there k component place c.show_invariant.ensures run).order in
     let found = λ (key : ℕ). first_below (run_at k place) key until in
     record {
       of = c.entry.ensures.of;
