@@ -140,7 +140,7 @@ fn write_later<P: Pace, R: Wait>(
     ensures spared { GivesUpFor seat.old.knows seat.new.knows key }
     ensures writes { WritesLater seat.old.knows seat.new.knows key read.old read.change result }
 {
-    seat.is_sound();
+    seat.show_invariant();
     let time = match draw(words, seat) {
         Ok(time) => time,
         Err(DrawError::Full(time)) => return ChangeAttempt::Full(time),
@@ -150,7 +150,7 @@ fn write_later<P: Pace, R: Wait>(
         give_up(words, seat, time);
         return ChangeAttempt::Lost;
     }
-    seat.is_sound();
+    seat.show_invariant();
     match write_drawn(rt, words, seat, time, key, value, &deed_of(key, &read)) {
         Decided::Done => ChangeAttempt::Done(read.at(time)),
         Decided::Overtaken => ChangeAttempt::Lost,

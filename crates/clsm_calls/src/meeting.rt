@@ -24,7 +24,7 @@ pub fn meet_at<P: Pace>(words: &Words<P>, seat: &mut RawSeat, pin_word: u64, pat
 {
     let (component, time) = begin(words, seat, pin_word);
     settle_below(words, seat, component, time, patience);
-    seat.is_sound();
+    seat.show_invariant();
     unpin(words, seat, pin_word.wrapping_add(1), &End::Meeting);
     time
 }
@@ -37,7 +37,7 @@ pub fn confirm_at<P: Pace>(words: &Words<P>, seat: &mut RawSeat)
     ensures rests { IsAtRest seat.new.knows }
     ensures confirms { Confirms seat.old.knows seat.new.knows }
 {
-    seat.is_sound();
+    seat.show_invariant();
     words.look(seat, Word::Clock);
-    seat.is_sound();
+    seat.show_invariant();
 }

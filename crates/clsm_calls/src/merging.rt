@@ -35,7 +35,7 @@ fn prepare<P: Pace>(words: &Words<P>, merger: &mut MergerSeat)
     ensures floor { TakesFloor (frozen_of merger.old) merger.new.floor merger.new.raw.knows.merger.rounds }
     ensures row { merger.new.row.items ≡ merged (frozen_of merger.old).epoch }
 {
-    merger.raw.is_sound();
+    merger.raw.show_invariant();
     let cells = words.cells();
     let first = merger.merges * cells;
     let end = first + cells;
@@ -70,7 +70,7 @@ pub fn merge<P: Pace>(words: &Words<P>, merger: &mut MergerSeat) -> Result<(), R
     ensures full { IfErr result (λ refusal. IsRunFull (frozen_of merger.old) merger.new.floor) }
 {
     prepare(words, merger);
-    merger.raw.is_sound();
+    merger.raw.show_invariant();
     clsm_runs::merge(
         words,
         &mut merger.raw,

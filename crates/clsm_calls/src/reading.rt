@@ -40,7 +40,7 @@ pub(crate) fn value_below<P: Pace>(
     if let Some(found) = newest(words, seat, component, key, time) {
         return found.value;
     }
-    seat.is_sound();
+    seat.show_invariant();
     match search(words, seat, component, key, time) {
         Some(entry) => entry.value,
         None => None,

@@ -28,7 +28,7 @@ fn find_all_quiet<P: Pace>(
     ensures loud { IfErr result (IsLowestLoud merger.old.knows.merger.readers merger.new.knows.merger.readers) }
     ensures few { IfErr result (λ number. number < 64) }
 {
-    merger.is_sound();
+    merger.show_invariant();
     for number in 0..seen.len() {
         if !seen[number].quiet && !quiet(words, merger, number as u64, &mut seen[number]) {
             return Err(number as u64);

@@ -102,7 +102,7 @@ fn deed_below<P: Pace>(
     ensures reads { IfOk result (Reads (plain seat.old.knows.past) time) }
     ensures answers { IfOk result (IsAnswerTo asked) }
 {
-    seat.is_sound();
+    seat.show_invariant();
     let (lo, hi) = asked.bounds();
     let found = scan(words, seat, alloc, component, lo, hi, time, asked.most())?;
     Ok(deed_of(asked, found))
@@ -184,7 +184,7 @@ pub fn scan_under<P: Pace>(
     ensures given_up { IfErr result (λ refusal. GivesUpRead seat.old.knows seat.new.knows) }
 {
     let component = pin(words, seat, pin_word);
-    seat.is_sound();
+    seat.show_invariant();
     let read = deed_below(words, seat, alloc, component, asked, time);
     let deed = end(words, seat, pin_word.wrapping_add(1), read)?;
     Ok((time, deed))

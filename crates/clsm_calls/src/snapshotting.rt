@@ -65,7 +65,7 @@ pub fn read_under<P: Pace>(
     ensures reads { ReadsUnder seat.old.knows seat.new.knows time (GetAt key result.value) }
 {
     let component = pin(words, seat, pin_word);
-    seat.is_sound();
+    seat.show_invariant();
     let value = value_below(words, seat, component, key, time);
     let got = Got { time, value };
     unpin(words, seat, pin_word.wrapping_add(1), &end_of(key, &got));

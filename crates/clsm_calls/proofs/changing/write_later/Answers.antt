@@ -11,7 +11,7 @@ use Rattle.clsm_calls.proofs.Unchanged.{value_later}
 use Rattle.clsm_calls.proofs.changing.write_later.Goals as goal
 
 pub is_unchanged-requires-clause-later : goal.is_unchanged-requires-clause-later
-is_unchanged-requires-clause-later g c = let a = c.requires.reads.settled in let b = c.is_sound.ensures.length_is in let d = c.in-Ok.ensures.drawn.passed in omega arith
+is_unchanged-requires-clause-later g c = let a = c.requires.reads.settled in let b = c.show_invariant.ensures.length_is in let d = c.in-Ok.ensures.drawn.passed in omega arith
 
 pub write_drawn-requires-clause-read : goal.write_drawn-requires-clause-read
 write_drawn-requires-clause-read g c =
@@ -24,7 +24,7 @@ write_drawn-requires-clause-read g c =
     let later = value_later k.past k'.past k''.past c.args.key c.args.read.time c.in-Ok.ensures.drawn.place.past c.is_unchanged.ensures.reads.seat.past read.settled in
     let old = read.is ∙ later ∙ sym (c.if-not-is_unchanged.ensures.unchanged refl) in
     subst (IsReadBelow (plain k''.past) k''.view t) (sym c.deed_of.ensures)
-    (let long = c.is_sound-2.ensures.length_is in omega arith, record { readable = record { reached = settled; uncut = tt }; reads = old })
+    (let long = c.show_invariant-2.ensures.length_is in omega arith, record { readable = record { reached = settled; uncut = tt }; reads = old })
 
 pub returns-then-not-is_unchanged-clause-spared : goal.returns-then-not-is_unchanged-clause-spared
 returns-then-not-is_unchanged-clause-spared g c =

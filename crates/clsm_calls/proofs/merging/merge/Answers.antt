@@ -29,13 +29,13 @@ pub merge-requires-clause-sorted : goal.merge-requires-clause-sorted
 merge-requires-clause-sorted g c =
     let k = c.prepare.new.merger.raw.knows in
     let is = c.deref.ensures.value ∙ c.prepare.ensures.row ∙ ap (λ (s : FrozenState). merged s.epoch) (sym c.prepare.ensures.stays.same) in
-    subst IsRun (sym is) (sorted_run k c.is_sound.ensures)
+    subst IsRun (sym is) (sorted_run k c.show_invariant.ensures)
 
 pub merge-requires-clause-early : goal.merge-requires-clause-early
 merge-requires-clause-early g c =
     let k = c.prepare.new.merger.raw.knows in
     let is = c.deref.ensures.value ∙ c.prepare.ensures.row ∙ ap (λ (s : FrozenState). merged s.epoch) (sym c.prepare.ensures.stays.same) in
-    subst (AreBelow 4611686018427387904) (sym is) (sorted_early k c.is_sound.ensures)
+    subst (AreBelow 4611686018427387904) (sym is) (sorted_early k c.show_invariant.ensures)
 
 pub returns-in_err-merge-clause-stays : goal.returns-in_err-merge-clause-stays
 returns-in_err-merge-clause-stays g c =
@@ -55,8 +55,8 @@ returns-in_err-merge-clause-stays g c =
         seats = stays.ready.seats ∙ ap (λ (z : Layout). z.seats) (sym changes.layout);
       };
       same = same_frozen ready left (c.in_err-merge.ensures.of.0 ∙ sym c.prepare.ensures.of.0) changes.layout refl (ap (λ (m : MergerView). m.holds) changes.view)
-          (epoch_same k k' c.deref.result.now c.is_sound.ensures stays.frozen.frozen stays.frozen.out.free is changes)
-          (runs_same k k' c.deref.result.now c.is_sound.ensures stays.frozen.frozen stays.frozen.out.free is changes) ∙ ap (λ (s : FrozenState). record s { floor = ready.floor; rounds = k'.merger.rounds }) stays.same;
+          (epoch_same k k' c.deref.result.now c.show_invariant.ensures stays.frozen.frozen stays.frozen.out.free is changes)
+          (runs_same k k' c.deref.result.now c.show_invariant.ensures stays.frozen.frozen stays.frozen.out.free is changes) ∙ ap (λ (s : FrozenState). record s { floor = ready.floor; rounds = k'.merger.rounds }) stays.same;
     })
 
 pub returns-in_err-merge-clause-full : goal.returns-in_err-merge-clause-full
@@ -66,7 +66,7 @@ returns-in_err-merge-clause-full g c =
     let stays = c.prepare.ensures.stays in
     let is = c.deref.ensures.value ∙ c.prepare.ensures.row ∙ ap (λ (s : FrozenState). merged s.epoch) (sym stays.same) in
     let old = frozen_of c.args.merger.now in
-    where_refused (IsRunFull old ready.floor) c.from_residual.result (run_full k ready.floor c.deref.result.now c.is_sound.ensures is old
+    where_refused (IsRunFull old ready.floor) c.from_residual.result (run_full k ready.floor c.deref.result.now c.show_invariant.ensures is old
     (ap (λ (s : FrozenState). s.merger.store.layout) (sym stays.same)) (ap (λ (s : FrozenState). s.merger.merges) (sym stays.same) ∙ sym stays.frozen.out.merged)
     (same_kept c.args.merger.now ready c.deref.result.now is stays) c.in_err-merge.ensures.full)
 
@@ -76,7 +76,7 @@ publish-requires-clause-opens g c =
     let k = ready.raw.knows in
     let stays = c.prepare.ensures.stays in
     let is = c.deref.ensures.value ∙ c.prepare.ensures.row ∙ ap (λ (s : FrozenState). merged s.epoch) (sym stays.same) in
-    (c.in_ok-merge.ensures.of, may_publish k c.merge.new.merger.knows c.deref.result.now c.is_sound.ensures stays.frozen.frozen stays.frozen.out.free is c.in_ok-merge.ensures.changes ready.floor stays.ready.floor c.in_ok-merge.ensures.written)
+    (c.in_ok-merge.ensures.of, may_publish k c.merge.new.merger.knows c.deref.result.now c.show_invariant.ensures stays.frozen.frozen stays.frozen.out.free is c.in_ok-merge.ensures.changes ready.floor stays.ready.floor c.in_ok-merge.ensures.written)
 
 pub returns-clause-fits : goal.returns-clause-fits
 returns-clause-fits g c =
@@ -85,6 +85,6 @@ returns-clause-fits g c =
     let stays = c.prepare.ensures.stays in
     let is = c.deref.ensures.value ∙ c.prepare.ensures.row ∙ ap (λ (s : FrozenState). merged s.epoch) (sym stays.same) in
     let changes = c.in_ok-merge.ensures.changes in
-    not_full k ready.floor c.deref.result.now c.is_sound.ensures is (frozen_of c.args.merger.now) c.merge.new.merger.knows
+    not_full k ready.floor c.deref.result.now c.show_invariant.ensures is (frozen_of c.args.merger.now) c.merge.new.merger.knows
     (ap (λ (s : FrozenState). s.merger.store.layout) (sym stays.same)) (ap (λ (s : FrozenState). s.merger.merges) (sym stays.same) ∙ sym stays.frozen.out.merged)
     (same_kept c.args.merger.now ready c.deref.result.now is stays) changes.view changes.layout c.in_ok-merge.ensures.written

@@ -25,7 +25,7 @@ same_epoch g c =
     let gathered = c.gather.new.merger.knows in
     let keeps = c.take_floor-merger.ensures.keeps in
     let looks = c.gather.ensures.looks in
-    epoch_stays k gathered c.is_sound.ensures c.requires.frozen.frozen c.requires.frozen.out.free (looks.layout ∙ keeps.layout)
+    epoch_stays k gathered c.show_invariant.ensures c.requires.frozen.frozen c.requires.frozen.out.free (looks.layout ∙ keeps.layout)
     (ap (λ (m : MergerView). m.merged) looks.view ∙ ap (λ (m : MergerView). m.merged) keeps.view) (prefix_trans k.past floored.past gathered.past keeps.past looks.past)
 
 -- the floor is not past the end of the epoch, as it was not before

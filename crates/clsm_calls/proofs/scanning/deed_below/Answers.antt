@@ -22,4 +22,4 @@ returns-clause-reads g c =
     (subst (λ (m : Option ℕ). IsCollected (left_at (found_in_component k c.args.component c.args.time)) c.bounds-lo.result.0 c.bounds-lo.result.1 m rows more) c.most.ensures c.in_ok-found.ensures.rows) in
     c.deed_of.ensures.reads h c.args.time (gives_asked h c.args.time asked rows more
     (collected_same (left_at (found_in_component k c.args.component c.args.time)) (λ key. value h key c.args.time) lo hi (most_of asked) rows more
-    (λ key above below. sym (component_value k c.args.component c.args.time key c.is_sound.ensures c.requires.held c.requires.may c.requires.settled)) collected))
+    (λ key above below. sym (component_value k c.args.component c.args.time key c.show_invariant.ensures c.requires.held c.requires.may c.requires.settled)) collected))

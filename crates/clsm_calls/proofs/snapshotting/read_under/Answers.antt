@@ -5,7 +5,7 @@ use Rattle.clsm_calls.proofs.snapshotting.read_under.Goals as goal
 
 pub value_below-value-requires-clause-within : goal.value_below-value-requires-clause-within
 value_below-value-requires-clause-within g c =
-    let sound = c.is_sound.ensures in
+    let sound = c.show_invariant.ensures in
     let pins = c.pin-component.ensures.pinned in
     let near = (sound.reads c.pin-component.result (ap (λ (v : View). v.held) pins.view)).near in
     let opened = sound.opened c.args.time (ap (λ (v : View). open_time v.snapshot) pins.view ∙ c.requires.opened) in
