@@ -24,7 +24,7 @@ fn are_in_time(seats: &[Seat])
     ensures { AreInTime seats.now }
 {
     for seat in seats {
-        seat.is_in_time();
+        seat.show_due();
     }
 }
 
@@ -86,7 +86,7 @@ fn have_own_calls(seats: &[Seat])
     ensures { HaveOwnCalls seats.now }
 {
     for seat in seats {
-        seat.is_lawful();
+        seat.show_records();
     }
 }
 

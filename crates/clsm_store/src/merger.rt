@@ -1,4 +1,5 @@
-//! The merger with its store, in whichever phase it is.
+//! The merger: its tokens, one for each phase, and the merger with its store, in whichever phase it
+//! is.
 ghost use Rattle.std.specs.Prelude.{◌≡◌, IfOk};
 ghost use Rattle.clsm_store.specs.declared.phase.Phase.TheVariants.{Clean as CleanPhase};
 ghost use Rattle.clsm_store.specs.Phase.{Freezes, Merges, Reclaims, merger_in};
@@ -7,9 +8,12 @@ ghost use Rattle.clsm_store.specs.Sweeping.{Sweeps};
 use crate::phase::{FreezeError, MergeError, Phase, ReclaimError};
 use crate::store::Store;
 use crate::sweeping::{Stopped, sweep};
-use crate::tokens::Clean;
 use clsm_words::Pace;
 use std::sync::Wait;
+
+mod tokens;
+
+pub use tokens::{Clean, Frozen, Retired};
 
 /// The merger of a store: the store, and its one token in whichever phase it is. It may be moved to
 /// another thread.

@@ -8,9 +8,9 @@ ghost use Rattle.clsm_calls.specs.Seats.{AreNew, HasSizes, IsNewMerger};
 ghost use Rattle.clsm_store.specs.Opening.{IsRefusal};
 ghost use Rattle.clsm_calls.specs.Resting.{store_of};
 
+use crate::merger::Clean;
 use crate::seat::Seat;
 use crate::store::Store;
-use crate::tokens::Clean;
 use clsm_calls::MergerSeat;
 use clsm_law::{Layout, Reader};
 use clsm_model::{Config, OpenError};

@@ -2,8 +2,8 @@
 ghost use Rattle.std.specs.Prelude.{◌≡◌};
 ghost use Rattle.clsm_store.specs.Phase.{Freezes, Merges, Reclaims, merger_in};
 
+use crate::merger::{Clean, Frozen, Retired};
 use crate::store::Store;
-use crate::tokens::{Clean, Frozen, Retired};
 use clsm_calls::{Pinned, Worn};
 use clsm_runs::RunFull;
 use clsm_words::Pace;

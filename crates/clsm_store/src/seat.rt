@@ -37,7 +37,7 @@ impl Seat {
     pub fn number(&self) -> u32
         ensures { result ≡ self.now.number }
     {
-        self.raw.is_sound();
+        self.raw.show_invariant();
         self.raw.number() as u32
     }
 
@@ -49,22 +49,23 @@ impl Seat {
         self.snapshot
     }
 
-    /// What holds of every seat: each of its writes stands in the history that it knows, each write
-    /// there with its number is one of its records, what it read is right, and its records' times
-    /// rise to its due. It does nothing when it runs.
+    /// Shows what holds of every seat: each of its writes stands in the history that it knows, each
+    /// write there with its number is one of its records, what it read is right, and its records'
+    /// times rise to its due. It does nothing when it runs.
     #[inline]
-    pub fn is_lawful(&self)
+    pub fn show_records(&self)
         ensures { IsLawfulAlone self.now }
     {
-        self.raw.is_sound();
+        self.raw.show_invariant();
     }
 
-    /// What holds of every seat: its due is at most 2^62, at which times end; so each of its writes
-    /// stands below that, and each of its reads at it or below. It does nothing when it runs.
+    /// Shows what holds of every seat: its due is at most 2^62, at which times end; so each of its
+    /// writes stands below that, and each of its reads at it or below. It does nothing when it
+    /// runs.
     #[inline]
-    pub fn is_in_time(&self)
+    pub fn show_due(&self)
         ensures { self.now.due ≤ 2 ^ 62 }
     {
-        self.raw.is_sound();
+        self.raw.show_invariant();
     }
 }

@@ -56,7 +56,7 @@ pub(crate) fn confirm<P: Pace>(store: &Store<P>, seat: &mut Seat, message: Messa
     ensures seat { seat.new ≡ seat.old }
     ensures confirmed { IsConfirmedBy message.told seat.old }
 {
-    seat.is_lawful();
+    seat.show_records();
     store.words.learn(&mut seat.raw, message);
     confirm_at(&store.words, &mut seat.raw);
 }

@@ -132,14 +132,6 @@ impl RawSeat {
     {
         let _ = &self.seat;
     }
-
-    /// The older name of `show_invariant`, which crates above still call.
-    #[inline]
-    pub fn is_sound(&self)
-        ensures { Sound self.now.knows }
-    {
-        self.show_invariant();
-    }
 }
 
 /// The merger's seat at the words, the first of all.
@@ -169,14 +161,6 @@ impl RawMerger {
         ensures { IsSoundMerger self.now.knows }
     {
         let _ = &self.seat;
-    }
-
-    /// The older name of `show_invariant`, which crates above still call.
-    #[inline]
-    pub fn is_sound(&self)
-        ensures { IsSoundMerger self.now.knows }
-    {
-        self.show_invariant();
     }
 }
 

@@ -39,7 +39,7 @@ fn are_numbered(rt: &impl Abort, seats: &[Seat]) {
     for (place, seat) in seats.iter().enumerate() {
         assert_eq!(rt; seat.number() as usize, place);
         assert_eq!(rt; seat.snapshot_time(), None);
-        seat.is_lawful();
+        seat.show_records();
     }
 }
 

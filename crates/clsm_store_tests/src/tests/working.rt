@@ -210,7 +210,7 @@ impl Worker<'_> {
                 .wrapping_add(1_442_695_040_888_963_407);
             self.call_any(rt, alloc, load, word);
         }
-        self.caller.seat.is_lawful();
+        self.caller.seat.show_records();
         self
     }
 }

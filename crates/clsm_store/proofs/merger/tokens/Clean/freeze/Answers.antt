@@ -1,7 +1,7 @@
 use Rattle.std.proofs.Common.{◌+◌, ◌*◌, ◌/◌, ℕ, ◌<◌, refl, ap, sym, ◌∙◌, subst, arith}
 use Rattle.clsm_calls.specs.Seats.{MergerState, StoreId}
 use Rattle.clsm_calls.proofs.LastTimes.{passes}
-use Rattle.clsm_store.proofs.tokens.Clean.freeze.Goals as goal
+use Rattle.clsm_store.proofs.merger.tokens.Clean.freeze.Goals as goal
 
 pub returns-then-merges-cells-clause-worn : goal.returns-then-merges-cells-clause-worn
 returns-then-merges-cells-clause-worn g c =
