@@ -17,6 +17,7 @@ pub fn answer(step: &Step, found: u64) -> Answer
         Step::EnterShared(lock) => done_if(found == *lock),
         Step::Draw(time) => done_if(found == *time),
         Step::Link(head) => done_if(found == *head),
+        Step::Insert(_, next) => done_if(found == *next),
         Step::EnterExclusive | Step::Decide(..) | Step::Cancel(_) => done_if(found == 0),
         Step::Look(_) => Answer::Value(found),
         _ => Answer::Done,

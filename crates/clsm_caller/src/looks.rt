@@ -1,10 +1,14 @@
-ghost use Rattle.std.specs.Prelude.{◌≡◌};
+ghost use Rattle.std.specs.Prelude.{◌≡◌, ◌==◌, ◌+◌, ◌<◌, ◌^◌};
+ghost use Rattle.clsm_law.specs.Memory.{link_at};
 ghost use Rattle.clsm_law.specs.declared.layout.Layout.{Layout};
-ghost use Rattle.clsm_law.specs.Relation.{holds_lock, looked, takes_hold};
+ghost use Rattle.clsm_law.specs.Relation.{holds_lock, is_listed, looked, takes_hold};
 ghost use Rattle.clsm_law.specs.SeatBounds.{IsSmallLook};
 
 use crate::reaches::reached_by_state;
-use clsm_law::{EXCLUSIVE_HOLD, Layout, Mode, SnapshotState, View, Word};
+use crate::words::{or_zero, own_place, own_region};
+use clsm_law::{
+    EXCLUSIVE_HOLD, Layout, Mode, Part, REMOVAL_CELL, SnapshotState, VALUE_CELL, View, Word,
+};
 use clsm_model::Time;
 
 fn holds_lock(view: &View) -> bool
@@ -59,6 +63,66 @@ fn note_merged(layout: &Layout, view: &mut View, found: u64)
     }
 }
 
+/// Whether the link is behind this place of the region's list.
+fn is_link_at(link: u64, region: u64, place: u64) -> bool
+    ensures { result ≡ link == link_at region place }
+{
+    if place == 0 {
+        link == region
+    } else {
+        place.checked_add(1) == Some(link)
+    }
+}
+
+/// Whether the link is behind a place that the seat knows in the list of its drawn cell.
+fn is_listed(layout: &Layout, view: &View, link: u64) -> bool
+    ensures { result ≡ is_listed layout.now view.now link }
+{
+    let region = own_region(layout, view);
+    view.drawn.is_some()
+        && (link == region
+            || is_link_at(link, region, view.met)
+            || is_link_at(link, region, view.low))
+}
+
+fn note_order(layout: &Layout, view: &mut View, link: u64, found: u64)
+    ensures { view.new ≡ looked layout.now view.old (Word.Order link) found }
+{
+    if is_listed(layout, view, link) {
+        view.met = found;
+    }
+}
+
+/// Notes a state; a written cell of the drawn one's region stands in its list.
+fn note_state(layout: &Layout, view: &mut View, cell: u64, found: u64)
+    requires { cell + 1 < 2 ^ 64 }
+    ensures { view.new ≡ looked layout.now view.old (Word.State cell) found }
+{
+    let reached = reached_by_state(layout, view, cell, found);
+    let is_written = found == VALUE_CELL || found == REMOVAL_CELL;
+    if view.drawn.is_some() && layout.region_of(cell) == own_region(layout, view) && is_written {
+        view.met = cell + 1;
+    }
+    view.reached = reached;
+}
+
+/// Notes a key: the cell met last is before the drawn one, or behind it.
+fn note_key(layout: &Layout, view: &mut View, cell: u64, found: u64)
+    requires { cell + 1 < 2 ^ 64 }
+    ensures { view.new ≡ looked layout.now view.old (Word.Cell cell Part.Key) found }
+{
+    let place = cell + 1;
+    if place != view.met {
+        return;
+    }
+    let key = or_zero(view.key);
+    if found < key || found == key && place < own_place(layout, view) {
+        view.low = place;
+    } else {
+        view.high = place;
+    }
+}
+
 /// Notes in the view what a look at the word found.
 pub(crate) fn note_look(layout: &Layout, view: &mut View, word: Word, found: u64)
     requires { IsSmallLook layout.now word found }
@@ -74,7 +138,12 @@ pub(crate) fn note_look(layout: &Layout, view: &mut View, word: Word, found: u64
             let line = (2 * chain + region) as usize;
             view.fresh_heads.set(line, Some(found));
         }
-        Word::State(cell) => view.reached = reached_by_state(layout, view, cell, found),
+        Word::Order(link) => note_order(layout, view, link, found),
+        Word::Cell {
+            cell,
+            part: Part::Key,
+        } => note_key(layout, view, cell, found),
+        Word::State(cell) => note_state(layout, view, cell, found),
         _ => {}
     }
 }

@@ -8,7 +8,8 @@ use crate::looks::note_look;
 use crate::reads::{ended_due, ended_snapshot, ended_time, open_time};
 use crate::words::or_zero;
 use crate::writes::{
-    note_cancel, note_decision, note_draw, note_entry, note_filling, note_leaving, note_link,
+    note_cancel, note_decision, note_draw, note_entry, note_filling, note_insert, note_leaving,
+    note_link,
 };
 use clsm_law::{End, Layout, SnapshotState, Step, View};
 use clsm_model::{CallRecord, Deed};
@@ -75,6 +76,8 @@ pub fn note(
         Step::Draw(time) => note_draw(view, time, found)?,
         Step::Fill(part, word) => note_filling(view, part, word),
         Step::Link(head) => note_link(layout, view, head, found),
+        Step::FillOrder(word) => view.order_next = Some(word),
+        Step::Insert(pred, next) => note_insert(view, pred, next, found),
         Step::Decide(time, deed) => note_decision(layout, seat, view, time, deed, found)?,
         Step::Cancel(time) => note_cancel(layout, view, time, found),
         Step::Pin => note_pin(view),

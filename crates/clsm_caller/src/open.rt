@@ -1,4 +1,4 @@
-ghost use Rattle.std.specs.Prelude.{◌≡◌, ◌≢◌, ◌↔◌, IsTrue, ℕ, take};
+ghost use Rattle.std.specs.Prelude.{◌≡◌, ◌≢◌, ◌↔◌, IsTrue, false, ℕ, take};
 ghost use Rattle.clsm_model.specs.History.{History};
 ghost use Rattle.clsm_law.specs.declared.layout.Layout.{Layout};
 ghost use Rattle.clsm_law.specs.declared.step.Step.{Step};
@@ -54,6 +54,23 @@ fn may_link(layout: &Layout, view: &View, head: u64) -> bool
         && fresh_head(layout, view) == Some(head)
 }
 
+/// Whether the drawn cell is not in the ordered list yet.
+fn is_outside(view: &View) -> bool
+    ensures { IsTrue result ↔ ((view.now.drawn ≢ None) × (view.now.inserted ≡ false)) }
+{
+    view.drawn.is_some() && !view.inserted
+}
+
+fn may_insert(view: &View, pred: u64, next: u64) -> bool
+    ensures { (z : Layout) (h : History) → IsTrue result ↔ IsOpen z h view.now (Step.Insert pred next) }
+{
+    is_outside(view)
+        && view.linked
+        && view.order_next == Some(next)
+        && (pred == 0 || pred == view.low)
+        && (next == 0 || next == view.high)
+}
+
 fn may_decide(slots: &[Option<Slot>], view: &View, time: Time, deed: &Deed) -> bool
     ensures { (z : Layout) → IsTrue result ↔ IsOpen z (past_of slots.now view.now.past) view.now (Step.Decide time deed.now) }
 {
@@ -61,6 +78,7 @@ fn may_decide(slots: &[Option<Slot>], view: &View, time: Time, deed: &Deed) -> b
         && view.linked
         && says_write(view, write_by(0, deed))
         && is_read_below(slots, view, time, deed)
+        && view.inserted
 }
 
 fn may_cancel(layout: &Layout, view: &View, time: Time) -> bool
@@ -85,6 +103,12 @@ pub fn is_open(layout: &Layout, slots: &[Option<Slot>], view: &View, step: &Step
         Step::Draw(time) => may_draw(view, *time),
         Step::Fill(part, _) => may_fill(layout, view, *part),
         Step::Link(head) => may_link(layout, view, *head),
+        Step::FillOrder(_) => is_outside(view),
+        Step::Insert(pred, next) => may_insert(view, *pred, *next),
+        Step::StoreHint { cell, hint, .. } => layout.is_word(Word::Hint {
+            cell: *cell,
+            hint: *hint,
+        }),
         Step::Decide(time, deed) => may_decide(slots, view, *time, deed),
         Step::Cancel(time) => may_cancel(layout, view, *time),
         Step::Pin => !view.pinned,

@@ -1,4 +1,5 @@
 ghost use Rattle.std.specs.Prelude.{◌≡◌, ◌↔◌, IsTrue};
+ghost use Rattle.clsm_law.specs.Memory.{region_of_link};
 ghost use Rattle.clsm_law.specs.Places.{is_named};
 ghost use Rattle.clsm_law.specs.Relation.{HoldsFrom, IsCurrentRegion, IsLookable, IsNamedBy, MayVisit};
 
@@ -55,6 +56,17 @@ fn is_named_by(held: Option<u64>, place: u64) -> bool
     }
 }
 
+/// The region whose ordered list the link is of.
+fn region_of_link(layout: &Layout, link: u64) -> u64
+    ensures { result ≡ region_of_link layout.now link }
+{
+    if link < 2 {
+        link
+    } else {
+        layout.region_of(link - 2)
+    }
+}
+
 /// Whether the seat may look at the word.
 pub(crate) fn is_lookable(layout: &Layout, view: &View, word: Word) -> bool
     ensures { IsTrue result ↔ IsLookable layout.now view.now word }
@@ -62,6 +74,8 @@ pub(crate) fn is_lookable(layout: &Layout, view: &View, word: Word) -> bool
     match word {
         Word::Head { region, .. } => may_visit(layout, view, region),
         Word::Cell { cell, .. } => may_visit(layout, view, layout.region_of(cell)),
+        Word::Order(link) => may_visit(layout, view, region_of_link(layout, link)),
+        Word::Hint { cell, .. } => may_visit(layout, view, layout.region_of(cell)),
         Word::State(cell) => may_visit(layout, view, layout.region_of(cell)),
         Word::Count(place) => is_named_by(view.held, place),
         Word::Entry { place, .. } => is_named_by(view.held, place),

@@ -1,8 +1,8 @@
-ghost use Rattle.std.specs.Prelude.{◌≡◌};
+ghost use Rattle.std.specs.Prelude.{◌≡◌, ◌+◌, ◌<◌, ◌^◌, IsTrue};
 ghost use Rattle.clsm_model.specs.Right.{write_by};
-ghost use Rattle.clsm_law.specs.Memory.{head_of};
+ghost use Rattle.clsm_law.specs.Memory.{head_of, is_word, link_at};
 ghost use Rattle.clsm_law.specs.SeatBounds.{IsSmall};
-ghost use Rattle.clsm_law.specs.Relation.{changed, or_zero, own_time, own_line, state_by, next_word, word_of};
+ghost use Rattle.clsm_law.specs.Relation.{changed, or_zero, own_time, own_line, own_place, own_region, state_by, next_word, word_of};
 
 use clsm_law::{
     CANCELLED_CELL, Layout, REMOVAL_CELL, Step, UNDECIDED_CELL, VALUE_CELL, View, Word,
@@ -34,8 +34,30 @@ fn head_of(layout: &Layout, time: Time, key: u64) -> Word
     }
 }
 
-/// The word that the step of this seat is on.
+/// The region of the drawn cell, and its place in the ordered list.
+pub(crate) fn own_region(layout: &Layout, view: &View) -> u64
+    ensures { result ≡ own_region layout.now view.now }
+{
+    layout.region_of(layout.cell_of(or_zero(view.drawn)))
+}
+
+pub(crate) fn own_place(layout: &Layout, view: &View) -> u64
+    ensures { result ≡ own_place layout.now view.now }
+{
+    layout.cell_of(or_zero(view.drawn)) + 1
+}
+
+/// The number of the link behind a place in the list of a region.
+pub(crate) fn link_at(region: u64, place: u64) -> u64
+    requires { place + 1 < 2 ^ 64 }
+    ensures { result ≡ link_at region place }
+{
+    if place == 0 { region } else { place + 1 }
+}
+
+/// The word that the step of this seat is on, which is there.
 pub fn word_of(layout: &Layout, seat: u32, view: &View, step: &Step) -> Word
+    requires there { IsTrue (is_word layout.now (word_of layout.now seat view.now step.now)) }
     ensures { result ≡ word_of layout.now seat view.now step.now }
 {
     match step {
@@ -45,6 +67,12 @@ pub fn word_of(layout: &Layout, seat: u32, view: &View, step: &Step) -> Word
             part: *part,
         },
         Step::Link(_) => head_of(layout, or_zero(view.drawn), or_zero(view.key)),
+        Step::FillOrder(_) => Word::Order(own_place(layout, view) + 1),
+        Step::Insert(pred, _) => Word::Order(link_at(own_region(layout, view), *pred)),
+        Step::StoreHint { cell, hint, .. } => Word::Hint {
+            cell: *cell,
+            hint: *hint,
+        },
         Step::Decide(time, _) => Word::State(layout.cell_of(*time)),
         Step::Cancel(time) => Word::State(layout.cell_of(*time)),
         Step::Pin | Step::Unpin(_) => Word::Pin(u64::from(seat)),
@@ -99,6 +127,9 @@ pub fn changed(layout: &Layout, view: &View, step: &Step, found: u64) -> u64
         Step::Draw(time) if found == *time => *time + 1,
         Step::Fill(_, word) => *word,
         Step::Link(head) if found == *head => layout.cell_of(or_zero(view.drawn)) + 1,
+        Step::FillOrder(word) => *word,
+        Step::Insert(_, next) if found == *next => own_place(layout, view),
+        Step::StoreHint { word, .. } => *word,
         Step::Decide(_, deed) if found == UNDECIDED_CELL => state_by(write_by(0, deed)),
         Step::Cancel(_) if found == UNDECIDED_CELL => CANCELLED_CELL,
         Step::Pin | Step::Unpin(_) => view.pin.wrapping_add(1),

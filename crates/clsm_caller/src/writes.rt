@@ -44,6 +44,9 @@ pub(crate) fn note_leaving(layout: &Layout, view: &mut View) -> Result<(), Alloc
     view.mode = Mode::Free;
     view.fresh_lock = None;
     view.fresh_clock = None;
+    view.met = 0;
+    view.low = 0;
+    view.high = 0;
     Ok(())
 }
 
@@ -60,6 +63,10 @@ pub(crate) fn note_draw(view: &mut View, time: Time, found: u64) -> Result<(), A
         view.length = None;
         view.next = None;
         view.linked = false;
+        view.order_next = None;
+        view.inserted = false;
+        view.low = 0;
+        view.high = 0;
     } else {
         view.raced = view.raced.wrapping_add(1);
     }
@@ -72,7 +79,11 @@ pub(crate) fn note_filling(view: &mut View, part: Part, word: u64)
     ensures { view.new ≡ filled view.old part word }
 {
     match part {
-        Part::Key => view.key = Some(word),
+        Part::Key => {
+            view.key = Some(word);
+            view.low = 0;
+            view.high = 0;
+        }
         Part::Length => view.length = Some(word),
         Part::Value(place) => view.words.set(place as usize, Some(word)),
         Part::Next => view.next = Some(word),
@@ -87,6 +98,17 @@ pub(crate) fn note_link(layout: &Layout, view: &mut View, head: u64, found: u64)
     view.fresh_heads.set(line, None);
     if found == head {
         view.linked = true;
+    } else {
+        view.raced = view.raced.wrapping_add(1);
+    }
+}
+
+/// Notes an exchange on a link of the ordered list from this word to the drawn cell.
+pub(crate) fn note_insert(view: &mut View, pred: u64, next: u64, found: u64)
+    ensures { (z : Layout) (i : ℕ) → view.new ≡ view_after z i view.old (Step.Insert pred next) found }
+{
+    if found == next {
+        view.inserted = true;
     } else {
         view.raced = view.raced.wrapping_add(1);
     }

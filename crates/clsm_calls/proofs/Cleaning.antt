@@ -8,7 +8,7 @@ use Rattle.std.proofs.lemmas.Nat.{mod_below}
 use Rattle.clsm_law.specs.declared.layout.Layout.{Layout}
 use Rattle.clsm_law.specs.declared.merger.MergerView.{MergerView}
 use Rattle.clsm_law.specs.declared.merger.Phase.TheVariants.{Clean}
-use Rattle.clsm_law.specs.declared.word.Word.TheVariants.{Head, State}
+use Rattle.clsm_law.specs.declared.word.Word.TheVariants.{Head, Order, State}
 use Rattle.clsm_law.specs.declared.step.Step.{Step}
 use Rattle.clsm_law.specs.declared.step.Step.TheVariants.{ClearState, Look}
 use Rattle.clsm_law.specs.Memory.{is_same, region_of}
@@ -19,7 +19,7 @@ use Rattle.clsm_words.specs.declared.known.Known.{Known}
 use Rattle.clsm_words.specs.Knowing.{row_of}
 use Rattle.clsm_words.specs.Merging.{FollowsMerger, IsLetGo, facts_known}
 use Rattle.clsm_calls.specs.Reclaiming.{IsCleaning}
-use Rattle.clsm_calls.proofs.Quiet.{headless_if}
+use Rattle.clsm_calls.proofs.Quiet.{headless_if, orderless_if}
 
 -- ---- the cells of the region
 
@@ -42,6 +42,9 @@ module _ (k : Known) (first end : ℕ) (is : IsCleaning k first end) where
     heads_stay : (s : ℕ) → row_of k' (Head (retired_region k.merger) s) ≡ row_of k (Head (retired_region k.merger) s)
     heads_stay s = follows.stays (Head (retired_region k.merger) s) (is.letgo, refl) ∙ ap (λ w. cond (is_same (Head (retired_region k.merger) s) w) y (row_of k (Head (retired_region k.merger) s))) on
 
+    order_stays : row_of k' (Order (retired_region k.merger)) ≡ row_of k (Order (retired_region k.merger))
+    order_stays = follows.stays (Order (retired_region k.merger)) (is.letgo, refl) ∙ ap (λ w. cond (is_same (Order (retired_region k.merger)) w) y (row_of k (Order (retired_region k.merger)))) on
+
     states_stay : (c : ℕ) → first ≤ c → c < end → row_of k' (State c) ≡ cond (c == cell) y (row_of k (State c))
     states_stay c from until = follows.stays (State c) (inr (is.letgo, in_region c from until)) ∙ ap (λ w. cond (is_same (State c) w) y (row_of k (State c))) on
 
@@ -49,6 +52,7 @@ module _ (k : Known) (first end : ℕ) (is : IsCleaning k first end) where
     still_cleaning same = record {
       letgo = subst IsLetGo (sym same) is.letgo;
       headless = headless_if k' (retired_region k.merger) (ap retired_region (sym same)) (λ s lt. heads_stay s ∙ zero_head s (let e = ap (λ (z : Layout). z.chains) follows.layout in omega arith));
+      orderless = orderless_if k' (retired_region k.merger) (ap retired_region (sym same)) (order_stays ∙ eqb-true _ 0 is.orderless);
       begins = is.begins ∙ ap (λ (m : MergerView). retired_region m * k.layout.cells) (sym same) ∙ ap (λ (z : Layout). retired_region k'.merger * z.cells) (sym follows.layout);
       ends = is.ends ∙ ap (λ (z : Layout). first + z.cells) (sym follows.layout);
     }

@@ -11,7 +11,8 @@ use Rattle.clsm_words.specs.declared.known.Known.{Known}
 use Rattle.clsm_words.specs.Keeping.{KeepsPlace, OnlyReads}
 use Rattle.clsm_words.proofs.Keeps.{prefix_trans}
 use Rattle.clsm_memtable.specs.Writing.{Draws, FindsLimit, GivesUp, LosesDraw, LosesTime, Records as Decides}
-use Rattle.clsm_memtable.specs.Filling.{Fills, Links}
+use Rattle.clsm_memtable.specs.Filling.{Fills}
+use Rattle.clsm_memtable.specs.Inserting.{Enters}
 use Rattle.clsm_calls.specs.Resting.{Keeps, Still, Records, FindsFull}
 
 pub keeps_trans : (a b c : Known) → Keeps a b → Keeps b c → Keeps a c
@@ -86,12 +87,12 @@ records_by a b t deed above h = record {
 pub lost_by : (a b : Known) (t : ℕ) → LosesTime a b t → Still a b
 lost_by a b t h = still_by a b h.place (ap left h.view)
 
--- filled and linked
-pub still_linked : (a b c : Known) (key : ℕ) (written : Option (List ℕ)) → Fills a b key written → Links b c → Still a c
-still_linked a b c key written fills links = still_trans a b c (still_by a b fills.parts.place (ap left fills.parts.view)) (record {
-  keeps = record { number = links.seat.number; layout = links.seat.layout; past = links.seat.past; pin = ap (λ (v : View). v.pin) links.view; snapshot = ap (λ (v : View). v.snapshot) links.view };
-  calls = ap (λ (v : View). v.calls) links.view;
-  due = ap (λ (v : View). v.due) links.view;
+-- filled and entered
+pub still_entered : (a b c : Known) (key : ℕ) (written : Option (List ℕ)) → Fills a b key written → Enters b c → Still a c
+still_entered a b c key written fills enters = still_trans a b c (still_by a b fills.parts.place (ap left fills.parts.view)) (record {
+  keeps = record { number = enters.seat.number; layout = enters.seat.layout; past = enters.seat.past; pin = ap (λ (v : View). v.pin) enters.view; snapshot = ap (λ (v : View). v.snapshot) enters.view };
+  calls = ap (λ (v : View). v.calls) enters.view;
+  due = ap (λ (v : View). v.due) enters.view;
 })
 
 pub still_reads : (a b : Known) → OnlyReads a b → Still a b

@@ -25,16 +25,20 @@ pub record KeepsRetired (old new : Known) : Type 0 where
   pub view : new.merger ≡ record old.merger { readers = new.merger.readers }
   pub count : length new.merger.readers ≡ length old.merger.readers
 
--- the heads of the retired region are 0, and its view is as it was
-pub record HasHeadsCleared (old new : Known) : Type 0 where
+-- the heads of the retired region are 0, and that of its ordered list, and the merger's view is as
+-- it was
+pub record HasListsCleared (old new : Known) : Type 0 where
   pub layout : new.layout ≡ old.layout
   pub view : new.merger ≡ old.merger
   pub headless : (facts_known new).headless ≡ true
+  pub orderless : (facts_known new).orderless ≡ true
 
--- nobody holds what is retired, the region from first to before end is its own, and its heads are 0
+-- nobody holds what is retired, the region from first to before end is its own, and its heads are
+-- 0, and that of its ordered list
 pub record IsCleaning (k : Known) (first end : ℕ) : Type 0 where
   pub letgo : IsLetGo k.merger
   pub headless : (facts_known k).headless ≡ true
+  pub orderless : (facts_known k).orderless ≡ true
   pub begins : first ≡ retired_region k.merger * k.layout.cells
   pub ends : end ≡ first + k.layout.cells
 

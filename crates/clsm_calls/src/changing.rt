@@ -19,7 +19,7 @@ use crate::reading::value_below;
 use crate::refusal::Full;
 use clsm_law::{End, Word};
 use clsm_lock::{lock_shared, unlock_shared};
-use clsm_memtable::{Decided, DrawError, decide, draw, fill, give_up, link, newest, settle_below};
+use clsm_memtable::{Decided, DrawError, decide, draw, enter, fill, give_up, newest, settle_below};
 use clsm_model::{Change, Deed, Time, Value};
 use clsm_pins::{pin, unpin};
 use clsm_words::{Pace, RawSeat, Words};
@@ -85,7 +85,7 @@ fn is_unchanged<P: Pace>(
     }
 }
 
-/// Fills, links and decides the drawn cell.
+/// Fills the drawn cell, enters it and decides it.
 fn write_drawn<P: Pace, R: Wait>(
     rt: &R,
     words: &Words<P>,
@@ -100,14 +100,15 @@ fn write_drawn<P: Pace, R: Wait>(
     requires limit { seat.old.knows.view.hold_limit ≢ None }
     requires drawn { seat.old.knows.view.drawn ≡ Some time }
     requires unlinked { seat.old.knows.view.linked ≡ false }
+    requires out { seat.old.knows.view.inserted ≡ false }
     requires writes { write_by 0 deed.now ≡ Some (Wrote 0 key value.now) }
     requires read { IsReadBelow (plain seat.old.knows.past) seat.old.knows.view time deed.now }
     ensures of { IsSeatOf words.now seat.new }
     ensures writes { DecidesDrawn seat.old.knows seat.new.knows time deed.now result }
 {
     fill(words, seat, time, key, value.as_ref());
-    link(rt, words, seat, time, key);
-    decide(words, seat, time, deed)
+    let trace = enter(rt, words, seat, time, key);
+    decide(words, seat, time, deed, &trace)
 }
 
 /// The read-modify-write with this answer.

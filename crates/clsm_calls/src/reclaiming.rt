@@ -5,7 +5,7 @@ ghost use Rattle.clsm_law.specs.declared.merger.Phase.TheVariants.{Clean};
 ghost use Rattle.clsm_law.specs.Merging.{is_all_quiet, is_retired, retired_region};
 ghost use Rattle.clsm_words.specs.Plays.{IsSeatOf};
 ghost use Rattle.clsm_calls.specs.Freezing.{IsClean};
-ghost use Rattle.clsm_calls.specs.Reclaiming.{HasHeadsCleared, IsCleaning, IsLastWritten, IsLowestLoud, IsRetired, KeepsRetired};
+ghost use Rattle.clsm_calls.specs.Reclaiming.{HasListsCleared, IsCleaning, IsLastWritten, IsLowestLoud, IsRetired, KeepsRetired};
 
 use clsm_law::{Reader, Word};
 use clsm_pins::quiet;
@@ -37,17 +37,18 @@ fn find_all_quiet<P: Pace>(
     Ok(())
 }
 
-/// Empties the chains of the retired region.
-fn clear_heads<P: Pace>(words: &Words<P>, merger: &mut RawMerger, region: u64)
+/// Empties the chains of the retired region, and its ordered list.
+fn clear_lists<P: Pace>(words: &Words<P>, merger: &mut RawMerger, region: u64)
     requires of { IsSeatOf words.now merger.old }
     requires retired { (is_retired merger.old.knows.merger.phase ≡ true) × (is_all_quiet merger.old.knows.merger.readers ≡ true) }
     requires region { region ≡ retired_region merger.old.knows.merger }
     ensures of { IsSeatOf words.now merger.new }
-    ensures keeps { HasHeadsCleared merger.old.knows merger.new.knows }
+    ensures keeps { HasListsCleared merger.old.knows merger.new.knows }
 {
     for chain in 0..words.chains() {
         words.clear_head(merger, region, chain);
     }
+    words.clear_order(merger, region);
 }
 
 /// The last cell of the region from `first` to before `end` whose state is not 0, or the first one.
@@ -106,7 +107,7 @@ pub fn reclaim<P: Pace>(
 {
     find_all_quiet(words, merger, seen)?;
     let region = 1 - merges % 2;
-    clear_heads(words, merger, region);
+    clear_lists(words, merger, region);
     let first = region * words.cells();
     let end = first + words.cells();
     let last = last_written(words, merger, first, end);

@@ -10,7 +10,7 @@ ghost use Rattle.clsm_calls.specs.Trying.{Fails};
 use crate::refusal::TryPutError;
 use crate::writing::deed_of;
 use clsm_lock::{try_lock_shared, unlock_shared};
-use clsm_memtable::{Decided, DrawError, decide, draw, fill, give_up, try_link};
+use clsm_memtable::{Decided, DrawError, decide, draw, fill, give_up, try_enter};
 use clsm_model::{Time, Value};
 use clsm_words::{Pace, RawSeat, Words};
 
@@ -48,11 +48,11 @@ fn try_in_hold<P: Pace>(
 {
     let time = try_draw(words, seat)?;
     fill(words, seat, time, key, Some(&value));
-    if let Err(_) = try_link(words, seat, time, key) {
+    let Ok(trace) = try_enter(words, seat, time, key) else {
         give_up(words, seat, time);
         return Err(TryPutError::Raced);
-    }
-    match decide(words, seat, time, &deed_of(key, &Some(value))) {
+    };
+    match decide(words, seat, time, &deed_of(key, &Some(value)), &trace) {
         Decided::Done => Ok(time),
         Decided::Overtaken => Err(TryPutError::Overtaken),
     }

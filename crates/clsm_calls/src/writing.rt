@@ -7,7 +7,7 @@ ghost use Rattle.clsm_calls.specs.Resting.{IsAtRest, IsInHold, FindsFull, Record
 
 use crate::refusal::Full;
 use clsm_lock::{lock_shared, unlock_shared};
-use clsm_memtable::{Decided, DrawError, decide, draw, fill, link};
+use clsm_memtable::{Decided, DrawError, decide, draw, enter, fill};
 use clsm_model::{Deed, Time, Value};
 use clsm_words::{Pace, RawSeat, Words};
 use std::sync::Wait;
@@ -53,8 +53,8 @@ fn try_write<P: Pace, R: Wait>(
         Err(DrawError::Raced) => return Attempt::Lost,
     };
     fill(words, seat, time, key, value.as_ref());
-    link(rt, words, seat, time, key);
-    match decide(words, seat, time, &deed_of(key, value)) {
+    let trace = enter(rt, words, seat, time, key);
+    match decide(words, seat, time, &deed_of(key, value), &trace) {
         Decided::Done => Attempt::Written(time),
         Decided::Overtaken => Attempt::Lost,
     }

@@ -18,9 +18,6 @@ use std::rt::Clock;
 use std::sync::Wait;
 use std::thread::Threads;
 
-#[cfg(test)]
-mod tests;
-
 /// The entries that a run of level 1 has room for in an exploration.
 const EXPLORED_RUN: usize = 4;
 

@@ -62,6 +62,11 @@ view-same v w h =
     Decides-and _ _ (words v.words w.words) (
     Decides-and _ _ (word v.next w.next) (
     Decides-and _ _ (booleans_Decides v.linked w.linked) (
+    Decides-and _ _ (word v.order_next w.order_next) (
+    Decides-and _ _ (booleans_Decides v.inserted w.inserted) (
+    Decides-and _ _ (unsigned_Decides v.met w.met) (
+    Decides-and _ _ (unsigned_Decides v.low w.low) (
+    Decides-and _ _ (unsigned_Decides v.high w.high) (
     Decides-and _ _ (unsigned_Decides v.pin w.pin) (
     Decides-and _ _ (booleans_Decides v.pinned w.pinned) (
     Decides-and _ _ (word v.held w.held) (
@@ -71,7 +76,7 @@ view-same v w h =
     Decides-and _ _ (unsigned_Decides v.reached w.reached) (
     Decides-and _ _ (unsigned_Decides v.past w.past) (
     Decides-and _ _ (unsigned_Decides v.due w.due) (
-    pointwise_decides CallRecord-Decides v.calls w.calls)))))))))))))))))))))).0 h in
+    pointwise_decides CallRecord-Decides v.calls w.calls))))))))))))))))))))))))))).0 h in
     cc
 
 -- two views are equal where they are the same without their counts

@@ -1,7 +1,7 @@
 -- A lawful world stays lawful under every open step: each clause by its own lemma.
 use Rattle.clsm_law.specs.declared.step.Step.{Step}
 use Rattle.clsm_law.specs.Law.{LawOf}
-use Rattle.clsm_law.proofs.Setting.{Setting, Ground, M, V, S, C, Opens, merger', memory', slots', chains', OpensTo}
+use Rattle.clsm_law.proofs.Setting.{Setting, Ground, M, V, S, C, O, Opens, merger', memory', slots', chains', orders', OpensTo}
 use Rattle.clsm_law.proofs.KeptCells.{shown_kept, shown_merged, empty_kept, empty_merged}
 use Rattle.clsm_law.proofs.KeptChains.{chained_kept, lies_kept, once_kept, standing_kept, linked_kept, loose_kept}
 use Rattle.clsm_law.proofs.KeptChainsMerger.{chained_merged, lies_merged, once_merged, standing_merged, linked_merged, loose_merged}
@@ -10,6 +10,11 @@ use Rattle.clsm_law.proofs.KeptDecided.{front_kept, front_merged, merged_decided
 use Rattle.clsm_law.proofs.KeptDrawn.{holding_kept, holding_merged, pending_kept, pending_merged, owned_kept, owned_merged, alone_kept, alone_merged, filled_kept, filled_merged}
 use Rattle.clsm_law.proofs.KeptLock.{seated_kept, seated_merged, lock_kept, lock_merged, locked_out_kept, locked_out_merged, callers_kept, callers_merged, merger_kept, merger_merged}
 use Rattle.clsm_law.proofs.KeptNotes.{limits_kept, limits_merged, fresh_clocks_kept, fresh_clocks_merged, hold_clocks_kept, hold_clocks_merged, clocks_kept, clocks_merged, pin_clocks_kept, pin_clocks_merged}
+use Rattle.clsm_law.proofs.KeptOrders.{ordered_kept, sorted_kept, placed_kept, entered_kept}
+use Rattle.clsm_law.proofs.KeptInserted.{inserted_kept, outside_kept, leading_kept}
+use Rattle.clsm_law.proofs.KeptPlaces.{met_kept, lows_kept, highs_kept}
+use Rattle.clsm_law.proofs.KeptSides.{lower_kept, higher_kept}
+use Rattle.clsm_law.proofs.KeptOrdersMerger.{ordered_merged, sorted_merged, placed_merged, entered_merged, inserted_merged, outside_merged, leading_merged, met_merged, lows_merged, highs_merged, lower_merged, higher_merged}
 use Rattle.clsm_law.proofs.KeptPins.{pins_kept, pins_merged, odd_kept, odd_merged, held_kept, held_merged, notes_kept, notes_merged}
 use Rattle.clsm_law.proofs.KeptRecords.{right_kept, right_merged, stand_kept, stand_merged, recorded_kept, recorded_merged, dues_kept, dues_merged, own_dues_kept, own_dues_merged}
 use Rattle.clsm_law.proofs.KeptRising.{rising_kept, rising_merged}
@@ -18,7 +23,7 @@ use Rattle.clsm_law.proofs.KeptShort.{short_kept, short_merged}
 use Rattle.clsm_law.proofs.KeptSnapshots.{snapshots_kept, snapshots_merged, passed_kept, passed_merged, floors_kept, floors_merged}
 
 -- a caller's step
-pub kept : (s : Setting) (step : Step) → Opens s step → LawOf s.z (M s step) (V s step) s.merger (S s step) (C s step)
+pub kept : (s : Setting) (step : Step) → Opens s step → LawOf s.z (M s step) (V s step) s.merger (S s step) (C s step) (O s step)
 kept s step o = record {
   seated = seated_kept s step o;
   lock = lock_kept s step o;
@@ -48,6 +53,18 @@ kept s step o = record {
   standing = standing_kept s step o;
   linked = linked_kept s step o;
   loose = loose_kept s step o;
+  ordered = ordered_kept s step o;
+  sorted = sorted_kept s step o;
+  placed = placed_kept s step o;
+  entered = entered_kept s step o;
+  inserted = inserted_kept s step o;
+  outside = outside_kept s step o;
+  leading = leading_kept s step o;
+  met = met_kept s step o;
+  lows = lows_kept s step o;
+  highs = highs_kept s step o;
+  lower = lower_kept s step o;
+  higher = higher_kept s step o;
   limits = limits_kept s step o;
   fresh_clocks = fresh_clocks_kept s step o;
   hold_clocks = hold_clocks_kept s step o;
@@ -73,7 +90,7 @@ kept s step o = record {
 }
 
 -- a step of the merger
-pub kept' : (g : Ground) (step : Step) → OpensTo g step → LawOf g.z (memory' g step) g.views (merger' g step) (slots' g step) (chains' g step)
+pub kept' : (g : Ground) (step : Step) → OpensTo g step → LawOf g.z (memory' g step) g.views (merger' g step) (slots' g step) (chains' g step) (orders' g step)
 kept' g step o = record {
   seated = seated_merged g step o;
   lock = lock_merged g step o;
@@ -103,6 +120,18 @@ kept' g step o = record {
   standing = standing_merged g step o;
   linked = linked_merged g step o;
   loose = loose_merged g step o;
+  ordered = ordered_merged g step o;
+  sorted = sorted_merged g step o;
+  placed = placed_merged g step o;
+  entered = entered_merged g step o;
+  inserted = inserted_merged g step o;
+  outside = outside_merged g step o;
+  leading = leading_merged g step o;
+  met = met_merged g step o;
+  lows = lows_merged g step o;
+  highs = highs_merged g step o;
+  lower = lower_merged g step o;
+  higher = higher_merged g step o;
   limits = limits_merged g step o;
   fresh_clocks = fresh_clocks_merged g step o;
   hold_clocks = hold_clocks_merged g step o;

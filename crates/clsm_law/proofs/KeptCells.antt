@@ -1,12 +1,12 @@
 -- How the clauses on cells are kept: the cell of a shown time shows what the time came to, and the
 -- cell of an undrawn time is empty.
-use Rattle.std.proofs.Common.{◌≡◌, ◌≢◌, ℕ, zero, suc, ◌+◌, ◌-◌, ◌*◌, ◌%◌, ◌<◌, ◌≤◌, ◌==◌, ◌⊎◌, ◌&&◌, ◌||◌, not, Bool, true, false, cond, List, [], ◌∷◌, ◌++◌, length, take, set, get_or, sym, refl, ap, ◌∙◌, subst, arith, inl, inr, ⊎_elim, Option, Some, None, length-set, length-append}
+use Rattle.std.proofs.Common.{◌≡◌, ◌≢◌, ℕ, zero, suc, ◌+◌, ◌-◌, ◌*◌, ◌%◌, ◌<◌, ◌≤◌, ◌==◌, ◌⊎◌, ◌&&◌, ◌||◌, not, Bool, true, false, cond, List, [], ◌∷◌, ◌++◌, length, set, get_or, sym, refl, ap, ◌∙◌, subst, arith, inl, inr, ⊎_elim, Option, Some, None, length-set, length-append}
 use Rattle.std.specs.Prelude.{replicate, slice_index}
 use mathlib.Core.Logic.{dite}
 use native.Mathlib.Decide.{ℕ_discrete}
 use prog.Atomic.{either}
 use Rattle.std.proofs.lemmas.Bool.{cases_lt, and_parts, and_from, or_cases, eqb-true, lt-ltb, le-ltb, false_from_ne_true}
-use Rattle.std.proofs.lemmas.List.{get_or-map, get_or-take, length-take-le, length-replicate}
+use Rattle.std.proofs.lemmas.List.{get_or-map, get_or-take}
 use Rattle.clsm_model.specs.declared.slot.Slot.{Slot}
 use Rattle.clsm_model.specs.declared.slot.Slot.TheVariants.{Nothing, Wrote}
 use Rattle.clsm_model.specs.declared.record.Deed.{Deed}
@@ -27,7 +27,6 @@ use Rattle.clsm_law.specs.Merging.{is_clean, is_frozen, is_retired, is_all_quiet
 use Rattle.clsm_law.specs.Worlds.{outcome_at, passes_from, is_last}
 use Rattle.clsm_law.specs.Law.{Shows, AreShown, AreEmpty, first_shown, first_live}
 use Rattle.clsm_law.proofs.Cases.{by_test, by_bool}
-use Rattle.clsm_law.proofs.Histories.{at_most_eight}
 use Rattle.clsm_law.proofs.Frames.{keep1, puts_slot, slots_grown, past_end, put_same, put_here, put_other}
 use Rattle.clsm_law.proofs.Times.{Live, at_live, apart, cell_below, region_of_epoch}
 use Rattle.clsm_law.proofs.Setting.{Setting, Ground, ground, v, x, M, S, Opens, OpensTo, memory', merger', slots', own, own_drawn, looked_same, merger_looked_same, drawn_live, shown_live, limit_live, live_below_shown, shown_below_merged}

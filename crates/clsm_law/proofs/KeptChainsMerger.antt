@@ -36,7 +36,7 @@ not_clean Retired e = refl
 
 module _ (g : Ground) (retired : is_retired g.merger.phase ≡ true) where
   -- no freeze is half done, so the limit ends the epoch
-  limit_retired : g.memory Limit ≡ epoch_end g.z g.merger
+  pub limit_retired : g.memory Limit ≡ epoch_end g.z g.merger
   limit_retired = by_bool (λ b. g.merger.limit_extended ≡ b → g.memory Limit ≡ epoch_end g.z g.merger) g.merger.limit_extended
       (λ _ e. let clean = g.law.merger.clean (g.law.merger.extends (g.law.merger.limit_after e)) in absurd (let f = not_clean g.merger.phase retired in cc))
       (λ _ e. g.law.limit ∙ rw (not_frozen g.merger.phase retired, e) refl) refl
@@ -83,13 +83,13 @@ headless_from g cell o r k t i =
     ]
 
 -- at a clean or frozen phase the current epoch is the first that lives
-clean_live : (n merged : ℕ) (p : Phase) (b : Bool) → is_clean p ≡ true → cond (is_retired (cond b Frozen p)) ((merged - 1) * n) (merged * n) ≡ cond (is_retired p) ((merged - 1) * n) (merged * n)
+pub clean_live : (n merged : ℕ) (p : Phase) (b : Bool) → is_clean p ≡ true → cond (is_retired (cond b Frozen p)) ((merged - 1) * n) (merged * n) ≡ cond (is_retired p) ((merged - 1) * n) (merged * n)
 clean_live n merged Clean true e = refl
 clean_live n merged Clean false e = refl
 clean_live n merged Frozen b e = absurd cc
 clean_live n merged Retired b e = absurd cc
 
-frozen_live : (n merged : ℕ) (p : Phase) → is_frozen p ≡ true → (merged + 1 - 1) * n ≡ cond (is_retired p) ((merged - 1) * n) (merged * n)
+pub frozen_live : (n merged : ℕ) (p : Phase) → is_frozen p ≡ true → (merged + 1 - 1) * n ≡ cond (is_retired p) ((merged - 1) * n) (merged * n)
 frozen_live n merged Clean e = absurd cc
 frozen_live n merged Frozen e = let f : merged + 1 - 1 ≡ merged = omega arith in ap (λ (k : ℕ). k * n) f
 frozen_live n merged Retired e = absurd cc
@@ -121,7 +121,7 @@ once_merged g step o = g.law.once
 
 -- ---- a write stands in the chain of its key
 -- a time that the moved clock passed over is no write
-passes_over_none : (g : Ground) → OpensTo g ExtendClock → (t i key : ℕ) (written : Option (List ℕ)) → outcome_at (slots' g ExtendClock) t ≡ Some (Wrote i key written) → outcome_at g.slots t ≡ Some (Wrote i key written)
+pub passes_over_none : (g : Ground) → OpensTo g ExtendClock → (t i key : ℕ) (written : Option (List ℕ)) → outcome_at (slots' g ExtendClock) t ≡ Some (Wrote i key written) → outcome_at g.slots t ≡ Some (Wrote i key written)
 passes_over_none g o t i key written e = elim (cases_lt t (length g.slots)) [
   | inl lt ↦ sym (passed_before g.slots (epoch_end g.z g.merger) t lt) ∙ e
   | inr le ↦ let below = slot_below (slots' g ExtendClock) t (λ none. absurd (cc (none, e))) in let l = length_passed g o in let is = passed_behind g.slots (epoch_end g.z g.merger) t le (omega arith) in absurd (cc (is, e))

@@ -1,9 +1,9 @@
 -- Each word there is stands in the row, and no two stand at one place.
-use Rattle.std.proofs.Common.{◌≡◌, ℕ, zero, suc, ◌+◌, ◌-◌, ◌*◌, ◌<◌, ◌≤◌, ◌&&◌, true, length, get_or, nat_lt, refl, ap, arith, ne_eqb}
+use Rattle.std.proofs.Common.{◌≡◌, ◌≢◌, ℕ, zero, suc, ◌+◌, ◌-◌, ◌*◌, ◌<◌, ◌≤◌, ◌&&◌, true, length, get_or, nat_lt, refl, ap, arith, ne_eqb}
 use Rattle.std.proofs.lemmas.Bool.{and_parts, ltb-true}
 use Rattle.clsm_law.specs.declared.layout.Layout.{Layout}
 use Rattle.clsm_law.specs.declared.word.Word.{Word}
-use Rattle.clsm_law.specs.declared.word.Word.TheVariants.{Lock, Clock, Limit, Front, Merged, Pin, Snap, Head, Cell, State, Count, Entry}
+use Rattle.clsm_law.specs.declared.word.Word.TheVariants.{Lock, Clock, Limit, Front, Merged, Pin, Snap, Head, Cell, Order, Hint, State, Count, Entry}
 use Rattle.clsm_law.specs.declared.word.Part.{Part}
 use Rattle.clsm_law.specs.declared.word.Part.TheVariants.{Key, Length, Value, Next}
 use Rattle.clsm_law.specs.Memory.{is_part, is_word, room_of}
@@ -35,6 +35,16 @@ part_inside Key h = (omega arith, omega arith)
 part_inside Length h = (omega arith, omega arith)
 part_inside Next h = (omega arith, omega arith)
 
+-- and neither where the link of the ordered list stands nor where the hints do
+part_apart : (part : Part) (k : ℕ) → 3 ≤ k → k < 7 → part_offset part ≢ k
+part_apart (Value j) k a b e = absurd (omega arith)
+part_apart Key k a b e = absurd (omega arith)
+part_apart Length k a b e = absurd (omega arith)
+part_apart Next k a b e = absurd (omega arith)
+
+hinted : (z : Layout) (c i : ℕ) → is_word z (Hint c i) ≡ true → (c < 2 * z.cells) × (i < 3)
+hinted z c i h = let a = and_parts (nat_lt c (2 * z.cells)) (nat_lt i 3) h in (ltb-true c (2 * z.cells) a.0, ltb-true i 3 a.1)
+
 record Entered (z : Layout) (p e i : ℕ) : Type 0 where
   place : p < 5
   entry : e < room_of z p
@@ -58,6 +68,8 @@ offset_below z (Cell c part) h =
     let a = and_parts (nat_lt c (2 * z.cells)) (is_part part) h in
     let inside = part_inside part a.1 in
     omega (arith, ltb-true c (2 * z.cells) a.0)
+offset_below z (Order k) h = omega (arith, ltb-true k (2 + 2 * z.cells) h)
+offset_below z (Hint c i) h = let a = hinted z c i h in omega (arith, a.0, a.1)
 offset_below z (State c) h = omega (arith, ltb-true c (2 * z.cells) h)
 offset_below z (Head region chain) h =
     let a = and_parts (nat_lt region 2) (nat_lt chain z.chains) h in
@@ -103,6 +115,21 @@ same_place z (Cell c p) (Cell d q) h k b e =
     let n = part_inside q y.1 in
     let f : c ≡ d = omega arith in
     let g = same_part_offset p q x.1 y.1 (omega arith) in cc
+same_place z (Order x) (Order y) h k b e = let f : x ≡ y = omega arith in ap Order f
+same_place z (Hint c i) (Hint d j) h k b e = let m = hinted z c i h in let n = hinted z d j k in let x = m.1 in let y = n.1 in
+    let f : c ≡ d = omega arith in let g : i ≡ j = omega arith in cc
+same_place z (Cell c p) (Order y) h k b e =
+    let m = part_inside p (and_parts (nat_lt c (2 * z.cells)) (is_part p) h).1 in absurd (part_apart p 3 (omega arith) (omega arith) (omega arith))
+same_place z (Order x) (Cell d q) h k b e =
+    let m = part_inside q (and_parts (nat_lt d (2 * z.cells)) (is_part q) k).1 in absurd (part_apart q 3 (omega arith) (omega arith) (omega arith))
+same_place z (Cell c p) (Hint d j) h k b e =
+    let m = part_inside p (and_parts (nat_lt c (2 * z.cells)) (is_part p) h).1 in let y = (hinted z d j k).1 in absurd (part_apart p (4 + j) (omega arith) (omega arith) (omega arith))
+same_place z (Hint c i) (Cell d q) h k b e =
+    let m = part_inside q (and_parts (nat_lt d (2 * z.cells)) (is_part q) k).1 in let y = (hinted z c i h).1 in absurd (part_apart q (4 + i) (omega arith) (omega arith) (omega arith))
+same_place z (State c) (Hint d j) h k b e = let y = (hinted z d j k).1 in absurd (omega arith)
+same_place z (Hint c i) (State d) h k b e = let y = (hinted z c i h).1 in absurd (omega arith)
+same_place z (Order x) (Hint d j) h k b e = let y = (hinted z d j k).1 in absurd (omega arith)
+same_place z (Hint c i) (Order x) h k b e = let y = (hinted z c i h).1 in absurd (omega arith)
 same_place z (State c) (State d) h k b e = let f : c ≡ d = omega arith in ap State f
 same_place z (Cell c p) (State d) h k b e =
     let m = part_inside p (and_parts (nat_lt c (2 * z.cells)) (is_part p) h).1 in absurd (omega arith)

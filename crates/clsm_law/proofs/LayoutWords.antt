@@ -2,7 +2,7 @@
 use Rattle.std.proofs.Common.{◌≡◌, ◌==◌, ◌&&◌, true, refl, ap, eq-eqb}
 use Rattle.std.proofs.lemmas.Bool.{and_parts, and_from, eqb-true}
 use Rattle.clsm_law.specs.declared.word.Word.{Word}
-use Rattle.clsm_law.specs.declared.word.Word.TheVariants.{Lock, Clock, Limit, Front, Merged, Pin, Snap, Head, Cell, State, Count, Entry}
+use Rattle.clsm_law.specs.declared.word.Word.TheVariants.{Lock, Clock, Limit, Front, Merged, Pin, Snap, Head, Cell, Order, Hint, State, Count, Entry}
 use Rattle.clsm_law.specs.declared.word.Part.{Part}
 use Rattle.clsm_law.specs.declared.word.Part.TheVariants.{Key, Length, Value, Next}
 use Rattle.clsm_law.specs.Memory.{is_same, is_same_part}
@@ -24,6 +24,8 @@ is_same-refl (Pin i) = eq-eqb i i refl
 is_same-refl (Snap i) = eq-eqb i i refl
 is_same-refl (Head r s) = and_from _ _ (eq-eqb r r refl) (eq-eqb s s refl)
 is_same-refl (Cell c p) = and_from _ _ (eq-eqb c c refl) (is_same_part-refl p)
+is_same-refl (Order k) = eq-eqb k k refl
+is_same-refl (Hint c i) = and_from _ _ (eq-eqb c c refl) (eq-eqb i i refl)
 is_same-refl (State c) = eq-eqb c c refl
 is_same-refl (Count p) = eq-eqb p p refl
 is_same-refl (Entry p e i) = and_from _ _ (and_from _ _ (eq-eqb p p refl) (eq-eqb e e refl)) (eq-eqb i i refl)
@@ -52,6 +54,11 @@ same_word (Cell c p) (Cell d q) h =
     let e = and_parts (c == d) (is_same_part p q) h in
     let f = eqb-true c d e.0 in
     let g = same_part p q e.1 in cc
+same_word (Order k) (Order l) h = ap Order (eqb-true k l h)
+same_word (Hint c i) (Hint d j) h =
+    let e = and_parts (c == d) (i == j) h in
+    let f = eqb-true c d e.0 in
+    let g = eqb-true i j e.1 in cc
 same_word (State c) (State d) h = ap State (eqb-true c d h)
 same_word (Count p) (Count q) h = ap Count (eqb-true p q h)
 same_word (Entry p e i) (Entry q f j) h =

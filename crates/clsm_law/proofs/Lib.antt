@@ -13,6 +13,8 @@ pub mod Passes
 pub mod Histories
 pub mod Records
 pub mod ChainFacts
+pub mod OrderLists
+pub mod OrderFacts
 pub mod Short
 pub mod WordsThere
 pub mod Opening
@@ -22,6 +24,12 @@ pub mod KeptDrawn
 pub mod KeptDecided
 pub mod KeptChains
 pub mod KeptChainsMerger
+pub mod KeptOrders
+pub mod KeptInserted
+pub mod OrderMembers
+pub mod KeptPlaces
+pub mod KeptSides
+pub mod KeptOrdersMerger
 pub mod KeptRecords
 pub mod KeptRuns
 pub mod KeptCells
@@ -36,6 +44,7 @@ pub mod MachineSteps
 pub mod SteppedKeeps
 pub mod Keeping
 pub mod ReadingChains
+pub mod ReadingOrders
 pub mod ReadingWrites
 pub mod Reading
 pub mod SeatSmall

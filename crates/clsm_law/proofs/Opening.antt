@@ -12,7 +12,7 @@ use Rattle.clsm_law.specs.Layout.{IsLayout, index_of, size_of}
 use Rattle.clsm_law.specs.Relation.{idle, open_time}
 use Rattle.clsm_law.specs.Merging.{opening, unseen}
 use Rattle.clsm_law.specs.Worlds.{view_at, outcome_at, past_of, history_of, runs_of}
-use Rattle.clsm_law.specs.Law.{LawOf, IsSnapshot, note_of, each, mode_of, drawn_of, holders, hold_limit_of, fresh_clock_of, hold_clock_of, clock_of, pin_clock_of, past_time_of, reached_of, pin_of, held_of}
+use Rattle.clsm_law.specs.Law.{LawOf, IsSnapshot, note_of, each, mode_of, drawn_of, holders, met_of, low_of, high_of, hold_limit_of, fresh_clock_of, hold_clock_of, clock_of, pin_clock_of, past_time_of, reached_of, pin_of, held_of}
 use Rattle.clsm_model.specs.Seats.{IsRightRecord, IsStandingRecord, IsRising}
 use Rattle.clsm_law.specs.Machine.{IsLawful, opened}
 use Rattle.clsm_law.proofs.Layouts.{memory-set, memory-zeros}
@@ -51,7 +51,7 @@ module _ (z : Layout) where
   all_idle : (P : View → Type 0) → P (idle z) → (n i : ℕ) → P (view_at z (vs n) i)
   all_idle P h n i = subst P (sym (idle_at n i)) h
 
-  pub opening_law : IsLayout z → LawOf z fresh (vs z.seats) (opening z) [] (λ r s. [])
+  pub opening_law : IsLayout z → LawOf z fresh (vs z.seats) (opening z) [] (λ r s. []) (λ r. [])
   opening_law sound = let n = z.seats in record {
     seated = length-replicate n (idle z);
     lock = no_holders n;
@@ -90,6 +90,18 @@ module _ (z : Layout) where
     standing = λ t i key written a e. absurd cc;
     linked = λ i t e. absurd (none_at drawn_of n i t refl e);
     loose = λ i t e. absurd (none_at drawn_of n i t refl e);
+    ordered = λ r lt. refl;
+    sorted = λ r. tt;
+    placed = λ r p i. absurd i;
+    entered = λ t i key written a e. absurd cc;
+    inserted = λ i t e. absurd (none_at drawn_of n i t refl e);
+    outside = λ i t e. absurd (none_at drawn_of n i t refl e);
+    leading = λ i t w e. absurd (none_at drawn_of n i t refl e);
+    met = λ i ne. absurd (ne (ap met_of (idle_at n i)));
+    lows = λ i ne. absurd (ne (ap low_of (idle_at n i)));
+    highs = λ i ne. absurd (ne (ap high_of (idle_at n i)));
+    lower = λ i t k e. absurd (none_at drawn_of n i t refl e);
+    higher = λ i t k e. absurd (none_at drawn_of n i t refl e);
     limits = λ i x e f. absurd (none_at hold_limit_of n i x refl f);
     fresh_clocks = λ i x e. absurd (none_at fresh_clock_of n i x refl e);
     hold_clocks = λ i x e. absurd (none_at hold_clock_of n i x refl e);
@@ -120,7 +132,8 @@ module _ (z : Layout) where
     sound = sound;
     size = length-set (replicate (size_of z) 0) (index_of z Limit) z.cells ∙ length-replicate (size_of z) 0;
     chains = λ r s. [];
-    law = subst (λ (m : Memory). LawOf z m (vs z.seats) (opening z) [] (λ r s. []))
+    orders = λ r. [];
+    law = subst (λ (m : Memory). LawOf z m (vs z.seats) (opening z) [] (λ r s. []) (λ r. []))
         (sym (memory-set z (replicate (size_of z) 0) Limit z.cells refl (length-replicate (size_of z) 0) ∙ ap (λ (m : Memory). put m Limit z.cells) (memory-zeros z (size_of z))))
         (opening_law sound);
   }

@@ -1,6 +1,7 @@
 -- What a reader finds in a lawful world: the history's value.
 use Rattle.std.proofs.Common.{◌≡◌, ℕ, zero, suc, ◌+◌, ◌-◌, ◌*◌, ◌%◌, ◌<◌, ◌≤◌, not, Bool, true, false, cond, nat_lt, min, List, length, sym, refl, ap, ◌∙◌, subst, arith, inl, inr, ⊎_elim, Option, Some, None, eq-eqb}
 use Rattle.std.proofs.lemmas.Bool.{cases_lt, lt-ltb, le-ltb, and_parts}
+use Rattle.std.proofs.lemmas.Nat.{mod_below}
 use Rattle.std.proofs.lemmas.List.{get_or_past}
 use Rattle.std.proofs.Math.Nat.{mul-le-mul_right}
 use Rattle.clsm_model.specs.declared.slot.Slot.{Slot}
@@ -12,12 +13,12 @@ use Rattle.clsm_levels.proofs.Exactness.{first_in_runs-above}
 use Rattle.clsm_law.specs.declared.layout.Layout.{Layout}
 use Rattle.clsm_law.specs.declared.view.SnapshotState.{SnapshotState}
 use Rattle.clsm_law.specs.declared.view.SnapshotState.TheVariants.{Absent, Noted, Timed, Open}
-use Rattle.clsm_law.specs.Memory.{Memory, cell_of, region_of}
+use Rattle.clsm_law.specs.Memory.{Memory, cell_of, region_of, link_of, key_at}
 use Rattle.clsm_law.specs.Relation.{idle, or_zero, open_time}
 use Rattle.clsm_law.specs.Merging.{is_retired, is_all_quiet}
 use Rattle.clsm_law.specs.Worlds.{outcome_at, history_of, runs_of}
-use Rattle.clsm_law.specs.Law.{In, AreRuns, IsSnapshot, IsRetiredFor, each, pin_of, held_of, snapshot_of, past_time_of, is_held_back, first_shown}
-use Rattle.clsm_law.specs.Reading.{write_at, newest_among, chain_of, newest_in, left_or, read, AnswersFrom, SnapshotsRead, HoldersRead}
+use Rattle.clsm_law.specs.Law.{In, Leads, Rising, Shows, AreRuns, IsSnapshot, IsRetiredFor, each, pin_of, held_of, snapshot_of, past_time_of, place_of_time, is_held_back, first_shown}
+use Rattle.clsm_law.specs.Reading.{write_at, newest_among, chain_of, newest_in, left_or, read, AnswersFrom, SnapshotsRead, HoldersRead, IsWalkOf, OrdersRead}
 use Rattle.clsm_law.specs.Machine.{WorldState, IsLawful}
 use Rattle.clsm_law.proofs.Cases.{by_test}
 use Rattle.clsm_law.proofs.Times.{region_of_epoch}
@@ -25,6 +26,7 @@ use Rattle.clsm_law.proofs.Histories.{settle, slot_of-history}
 use Rattle.clsm_law.proofs.Setting.{Ground, clock_live, shown_below_merged, past_below, not_all_quiet}
 use Rattle.clsm_law.proofs.Stepped.{lawful_ground}
 use Rattle.clsm_law.proofs.ReadingChains.{first_epoch, first_epoch_live, one_of_two, of_epoch, chain_found}
+use Rattle.clsm_law.proofs.ReadingOrders.{order_found, order_own}
 use Rattle.clsm_law.proofs.ReadingWrites.{write_shown, IsNewestOf, newest_among_is}
 
 -- ---- the newest write of a history
@@ -226,3 +228,53 @@ holders_read w l i component s holds at key =
     let high = known.1 in
     read_right g component answers.0 key s answers.1 (omega arith) (omega arith))
     at
+
+-- ---- ordered lists
+
+-- the epochs of a component that answers are live, and shown
+answers_live : (g : Ground) (c floor : ℕ) → AnswersFrom g.merger c floor → (first_epoch g ≤ c) × (c ≤ first_epoch g + 1) × (first_shown g.z g.merger ≤ c * g.z.cells)
+answers_live g c floor (inl newest) = subst (λ (k : ℕ). (first_epoch g ≤ k) × (k ≤ first_epoch g + 1) × (first_shown g.z g.merger ≤ k * g.z.cells)) (sym newest.0) (newest_live g, newest_near g, shown_below_merged g)
+  where
+    newest_near : (g : Ground) → g.merger.merged ≤ first_epoch g + 1
+    newest_near g = elim (is_retired g.merger.phase) as (λ b. g.merger.merged ≤ cond b (g.merger.merged - 1) g.merger.merged + 1) [ true ↦ omega arith | false ↦ omega arith ]
+answers_live g c floor (inr retired) =
+    let back = retired.0 in
+    let former : g.merger.merged - 1 ≡ c = let a = retired.1 in omega arith in
+    let phase : is_retired g.merger.phase ≡ true = (and_parts (is_retired g.merger.phase) (not (is_all_quiet g.merger.readers)) back).0 in
+    subst (λ (k : ℕ). (first_epoch g ≤ k) × (k ≤ first_epoch g + 1) × (first_shown g.z g.merger ≤ k * g.z.cells)) former (rw phase (omega arith), rw phase (omega arith), rw back (omega arith))
+
+-- a written time is drawn
+written_drawn : (slots : List (Option Slot)) (t : ℕ) (slot : Slot) → outcome_at slots t ≡ Some slot → t < length slots
+written_drawn slots t slot is = ⊎_elim (λ (lt : t < length slots). lt) (λ (le : length slots ≤ t). absurd (let none : outcome_at slots t ≡ None = get_or_past slots t None le in cc (none, is))) (cases_lt t (length slots))
+
+-- the walk of a live and shown epoch
+epoch_walked : (w : WorldState) (l : IsLawful w) (epoch : ℕ) → first_epoch (lawful_ground w l) ≤ epoch → epoch ≤ first_epoch (lawful_ground w l) + 1 → first_shown w.layout w.merger ≤ epoch * w.layout.cells → IsWalkOf w epoch
+epoch_walked w l epoch from until shown =
+    let g = lawful_ground w l in
+    let found = order_found g epoch in
+    record {
+      ends = subst (Leads (link_of g.memory (epoch % 2)) 0) (sym found) (g.law.ordered (epoch % 2) (mod_below epoch 2 (omega arith)));
+      rises = subst (Rising (key_at g.memory)) (sym found) (g.law.sorted (epoch % 2));
+      own = λ p i. order_own g epoch p from until (subst (In p) found i);
+      writes = λ t i key written low high is. (
+        subst (In (place_of_time g.z t)) (sym found) (subst (λ (r : ℕ). In (place_of_time g.z t) (g.orders r)) (region_of_epoch g.z epoch t low high) (g.law.entered t i key written (omega arith) is)),
+        subst (Shows g.memory (cell_of g.z t)) is (g.law.shown t (omega arith) (written_drawn g.slots t (Wrote i key written) is)),
+      );
+    }
+
+pub orders_read : (w : WorldState) → IsLawful w → OrdersRead w
+orders_read w l i component epoch holds which =
+    let g = lawful_ground w l in
+    let answers = held_answers g i component holds in
+    let live = answers_live g component answers.0 answers.1 in
+    let from = live.0 in
+    let past = past_below g i in
+    ⊎_elim
+    (λ (first : epoch ≡ component). subst (IsWalkOf w) (sym first) (epoch_walked w l component from live.1 live.2))
+    (λ (second : (epoch ≡ component + 1) × (epoch * w.layout.cells < each w.layout past_time_of w.views i)).
+    let next = second.0 in
+    let begun = second.1 in
+    let shown = live.2 in
+    let after : component * w.layout.cells ≤ epoch * w.layout.cells = mul-le-mul_right w.layout.cells (omega arith) in
+    epoch_walked w l epoch (omega arith) (one_of_two g epoch (omega arith) (omega arith)) (omega arith))
+    which

@@ -1,14 +1,12 @@
 -- What the cells of a lawful world hold are the history's writes, and the newest of those in a
 -- chain.
-use Rattle.std.proofs.Common.{◌≡◌, ℕ, zero, suc, ◌-◌, ◌<◌, ◌≤◌, ◌==◌, ◌&&◌, Bool, true, false, cond, nat_lt, List, [], ◌∷◌, length, take, replicate, sym, refl, ap, ◌∙◌, subst, arith, inl, inr, ⊎_elim, Option, Some, None, eq-eqb, ne_eqb, length-append}
+use Rattle.std.proofs.Common.{◌≡◌, ℕ, zero, suc, ◌<◌, ◌≤◌, ◌==◌, ◌&&◌, Bool, true, false, cond, nat_lt, List, [], ◌∷◌, length, take, sym, refl, ap, ◌∙◌, subst, arith, inl, inr, ⊎_elim, Option, Some, None, eq-eqb, ne_eqb}
 use Rattle.std.specs.Prelude.{slice_index}
 use Rattle.std.proofs.lemmas.Bool.{cases_lt, lt-ltb, le-ltb}
-use Rattle.std.proofs.lemmas.List.{length-replicate, length-take-le, get_or-take, ext_get_or}
+use Rattle.std.proofs.lemmas.List.{length-take-le, get_or-take, ext_get_or}
 use Rattle.std.proofs.lemmas.Option.{cond_some}
-use Rattle.std.proofs.Math.Seq.{take-append_seam}
 use Rattle.clsm_model.specs.declared.slot.Slot.{Slot}
 use Rattle.clsm_model.specs.declared.slot.Slot.TheVariants.{Nothing, Wrote}
-use Rattle.clsm_model.specs.Value.{padded}
 use Rattle.clsm_model.specs.History.{Write, write_of}
 use Rattle.clsm_law.specs.declared.layout.Layout.{Layout}
 use Rattle.clsm_law.specs.declared.word.Word.TheVariants.{Cell, State}

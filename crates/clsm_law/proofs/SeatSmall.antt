@@ -1,11 +1,11 @@
 -- In a lawful world a step that is open to a seat makes numbers of 64 bits alone.
-use Rattle.std.proofs.Common.{◌≡◌, ℕ, ◌+◌, ◌^◌, ◌<◌, ◌≤◌, true, nat_lt, length, arith}
+use Rattle.std.proofs.Common.{◌≡◌, ℕ, ◌+◌, ◌*◌, ◌^◌, ◌<◌, ◌≤◌, true, nat_lt, length, arith}
 use Rattle.std.proofs.lemmas.Bool.{and_parts, ltb-true}
 use Rattle.clsm_law.specs.declared.word.Word.{Word}
-use Rattle.clsm_law.specs.declared.word.Word.TheVariants.{Head, Merged}
+use Rattle.clsm_law.specs.declared.word.Word.TheVariants.{Head, Merged, Cell, State}
 use Rattle.clsm_law.specs.declared.step.Step.{Step}
 use Rattle.clsm_law.specs.declared.step.Step.TheVariants.{EnterShared, Draw, Decide, Look, Note}
-use Rattle.clsm_law.specs.Memory.{is_word}
+use Rattle.clsm_law.specs.Memory.{is_word, is_part}
 use Rattle.clsm_law.specs.SeatBounds.{IsSmall, IsSmallLook}
 use Rattle.clsm_law.proofs.Setting.{Setting, Opens, x}
 
@@ -20,6 +20,8 @@ look_small s (Head region chain) there =
     let inside : chain < s.z.chains = ltb-true chain s.z.chains parts.1 in
     let few = s.sound.2.1 in omega arith
 look_small s Merged there = let begun = s.law.begun in let bounded = s.law.bounded in let top = s.law.top in rw s.law.merged (omega arith)
+look_small s (Cell c part) there = let inside = ltb-true c (2 * s.z.cells) (and_parts (nat_lt c (2 * s.z.cells)) (is_part part) there).0 in let few = s.sound.0.1 in omega arith
+look_small s (State c) there = let inside = ltb-true c (2 * s.z.cells) there in let few = s.sound.0.1 in omega arith
 look_small s word there = tt
 
 pub step_small : (s : Setting) (step : Step) → Opens s step → IsSmall s.z step (x s step)

@@ -15,8 +15,8 @@ use Rattle.clsm_law.specs.declared.merger.Phase.{Phase}
 use Rattle.clsm_law.specs.declared.merger.Phase.TheVariants.{Clean, Frozen, Retired}
 use Rattle.clsm_law.specs.Memory.{Memory, cell_of, put}
 use Rattle.clsm_law.specs.Layout.{IsLayout}
-use Rattle.clsm_law.specs.Relation.{Chains, is_shared, or_zero, IsOpen, own_time, word_of, changed, view_after, slots_after, chains_after}
-use Rattle.clsm_law.specs.Merging.{is_clean, Facts, IsOpenToMerger, word_of_merger, changed_by_merger, merger_after, slots_after_merger, chains_after_merger, is_retired, is_frozen, is_all_quiet, reader_at}
+use Rattle.clsm_law.specs.Relation.{Chains, Orders, is_shared, or_zero, IsOpen, own_time, word_of, changed, view_after, slots_after, chains_after, orders_after}
+use Rattle.clsm_law.specs.Merging.{is_clean, Facts, IsOpenToMerger, word_of_merger, changed_by_merger, merger_after, slots_after_merger, chains_after_merger, orders_after_merger, is_retired, is_frozen, is_all_quiet, reader_at}
 use Rattle.clsm_law.specs.Worlds.{view_at, outcome_at, past_of, facts_of}
 use Rattle.clsm_law.specs.Law.{LawOf, Shows, each, mode_of, drawn_of, held_of, pin_of, past_time_of, IsRetiredFor, first_shown, first_live, is_held_back}
 use Rattle.clsm_law.proofs.Frames.{put_same, past_end}
@@ -32,7 +32,8 @@ pub record Setting : Type 0 where
   pub merger : MergerView
   pub slots : List (Option Slot)
   pub chains : Chains
-  pub law : LawOf z memory views merger slots chains
+  pub orders : Orders
+  pub law : LawOf z memory views merger slots chains orders
   pub me : ℕ
   pub inside : me < length views
 
@@ -44,7 +45,7 @@ v s = view_at s.z s.views s.me
 abbrev pub x : Setting → Step → ℕ
 x s step = s.memory (word_of s.z s.me (v s) step)
 
--- after the step: the seat's view, the memory, the views, the slots, the chains
+-- after the step: the seat's view, the memory, the views, the slots, the chains, the lists
 abbrev pub w : Setting → Step → View
 w s step = view_after s.z s.me (v s) step (x s step)
 
@@ -59,6 +60,9 @@ S s step = slots_after s.me s.slots step (x s step)
 
 abbrev pub C : Setting → Step → Chains
 C s step = chains_after s.z (v s) s.chains step (x s step)
+
+abbrev pub O : Setting → Step → Orders
+O s step = orders_after s.z (v s) s.orders step (x s step)
 
 -- the step is open to the seat
 abbrev pub Opens : Setting → Step → Type 0
@@ -86,10 +90,11 @@ pub record Ground : Type 0 where
   pub merger : MergerView
   pub slots : List (Option Slot)
   pub chains : Chains
-  pub law : LawOf z memory views merger slots chains
+  pub orders : Orders
+  pub law : LawOf z memory views merger slots chains orders
 
 abbrev pub ground : Setting → Ground
-ground s = record { z = s.z; sound = s.sound; memory = s.memory; views = s.views; merger = s.merger; slots = s.slots; chains = s.chains; law = s.law }
+ground s = record { z = s.z; sound = s.sound; memory = s.memory; views = s.views; merger = s.merger; slots = s.slots; chains = s.chains; orders = s.orders; law = s.law }
 
 -- ---- a step of the merger
 
@@ -100,7 +105,7 @@ facts g = facts_of g.z g.memory g.merger g.slots
 abbrev pub found : Ground → Step → ℕ
 found g step = g.memory (word_of_merger g.z g.merger step)
 
--- after the merger's step: its view, the memory, the slots, the chains
+-- after the merger's step: its view, the memory, the slots, the chains, the lists
 abbrev pub merger' : Ground → Step → MergerView
 merger' g step = merger_after g.z (facts g) g.merger step (found g step)
 
@@ -112,6 +117,9 @@ slots' g step = slots_after_merger g.z g.merger g.slots step
 
 abbrev pub chains' : Ground → Step → Chains
 chains' g step = chains_after_merger g.chains step
+
+abbrev pub orders' : Ground → Step → Orders
+orders' g step = orders_after_merger g.orders step
 
 abbrev pub OpensTo : Ground → Step → Type 0
 OpensTo g step = IsOpenToMerger g.z (facts g) g.merger step

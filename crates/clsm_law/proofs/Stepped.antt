@@ -11,15 +11,15 @@ use Rattle.clsm_law.specs.Law.{LawOf}
 use Rattle.clsm_law.specs.Machine.{WorldState, IsLawful, MayStep, stepped, after_seat, after_merger, memory_of}
 use Rattle.clsm_law.proofs.Layouts.{memory-set}
 use Rattle.clsm_law.proofs.WordsThere.{word_there, word_there'}
-use Rattle.clsm_law.proofs.Setting.{Setting, Ground, v, x, V, S, C, found, merger', slots', chains'}
+use Rattle.clsm_law.proofs.Setting.{Setting, Ground, v, x, V, S, C, O, found, merger', slots', chains', orders'}
 use Rattle.clsm_law.proofs.Kept.{kept, kept'}
 
 -- the world and its seat
 abbrev pub seat_setting : (w : WorldState) (l : IsLawful w) (seat : ℕ) → seat < length w.views → Setting
-seat_setting w l seat lt = record { z = w.layout; sound = l.sound; memory = memory_of w; views = w.views; merger = w.merger; slots = w.slots; chains = l.chains; law = l.law; me = seat; inside = lt }
+seat_setting w l seat lt = record { z = w.layout; sound = l.sound; memory = memory_of w; views = w.views; merger = w.merger; slots = w.slots; chains = l.chains; orders = l.orders; law = l.law; me = seat; inside = lt }
 
 abbrev pub lawful_ground : (w : WorldState) → IsLawful w → Ground
-lawful_ground w l = record { z = w.layout; sound = l.sound; memory = memory_of w; views = w.views; merger = w.merger; slots = w.slots; chains = l.chains; law = l.law }
+lawful_ground w l = record { z = w.layout; sound = l.sound; memory = memory_of w; views = w.views; merger = w.merger; slots = w.slots; chains = l.chains; orders = l.orders; law = l.law }
 
 pub lawful_after_seat : (w : WorldState) (l : IsLawful w) (seat : ℕ) (step : Step) (lt : seat < length w.views) → IsOpen w.layout (past_of w.slots (view_at w.layout w.views seat).past) (view_at w.layout w.views seat) step → IsLawful (after_seat w seat step)
 unfolding memory
@@ -31,7 +31,8 @@ lawful_after_seat w l seat step lt o =
       sound = l.sound;
       size = length-set w.words (index_of w.layout word) y ∙ l.size;
       chains = C s step;
-      law = subst (λ (m : Memory). LawOf w.layout m (V s step) w.merger (S s step) (C s step)) (sym (memory-set w.layout w.words word y (word_there s step o) l.size)) (kept s step o);
+      orders = O s step;
+      law = subst (λ (m : Memory). LawOf w.layout m (V s step) w.merger (S s step) (C s step) (O s step)) (sym (memory-set w.layout w.words word y (word_there s step o) l.size)) (kept s step o);
     }
 
 pub lawful_after_merger : (w : WorldState) (l : IsLawful w) (step : Step) → IsOpenToMerger w.layout (facts_of w.layout (memory_of w) w.merger w.slots) w.merger step → IsLawful (after_merger w step)
@@ -44,7 +45,8 @@ lawful_after_merger w l step o =
       sound = l.sound;
       size = length-set w.words (index_of w.layout word) y ∙ l.size;
       chains = chains' g step;
-      law = subst (λ (m : Memory). LawOf w.layout m w.views (merger' g step) (slots' g step) (chains' g step)) (sym (memory-set w.layout w.words word y (word_there' g step o) l.size)) (kept' g step o);
+      orders = orders' g step;
+      law = subst (λ (m : Memory). LawOf w.layout m w.views (merger' g step) (slots' g step) (chains' g step) (orders' g step)) (sym (memory-set w.layout w.words word y (word_there' g step o) l.size)) (kept' g step o);
     }
 
 pub lawful_after : (w : WorldState) (seat : ℕ) (step : Step) → IsLawful w → MayStep w seat step → IsLawful (stepped w seat step)

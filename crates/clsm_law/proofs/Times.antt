@@ -30,10 +30,10 @@ at_live z first P t l here other u m = dite (ℕ_discrete u t) (λ e. subst P (s
 
 -- ---- the region of a time of the epoch e is e mod 2
 
-even_cell : (n q d : ℕ) → d < n → (q * 2 * n + d) % (2 * n) ≡ d
+pub even_cell : (n q d : ℕ) → d < n → (q * 2 * n + d) % (2 * n) ≡ d
 even_cell n q d lt = ap (λ (y : ℕ). (y + d) % (2 * n)) (mul_assoc q 2 n) ∙ mod-mul-add q (2 * n) d (omega arith)
 
-odd_cell : (n q d : ℕ) → d < n → ((q * 2 + 1) * n + d) % (2 * n) ≡ n + d
+pub odd_cell : (n q d : ℕ) → d < n → ((q * 2 + 1) * n + d) % (2 * n) ≡ n + d
 odd_cell n q d lt = let e : (q * 2 + 1) * n ≡ q * 2 * n + 1 * n = add-mul (q * 2) 1 n in let f = mul_assoc q 2 n in
     let g : (q * 2 + 1) * n + d ≡ q * (2 * n) + (n + d) = omega arith in ap (λ (y : ℕ). y % (2 * n)) g ∙ mod-mul-add q (2 * n) (n + d) (omega arith)
 

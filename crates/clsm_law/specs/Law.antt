@@ -1,6 +1,6 @@
 -- The law of a world: what every open step keeps. Each clause is stated over the few functions that
 -- it names.
-use Rattle.std.specs.Prelude.{◌≡◌, ◌≢◌, ℕ, ◌+◌, ◌-◌, ◌*◌, ◌%◌, ◌^◌, ◌<◌, ◌≤◌, ◌&&◌, ◌||◌, ◌⊎◌, Bool, true, false, not, cond, List, [], ◌∷◌, length, slice_index, slice_index_or, Option, Some, None}
+use Rattle.std.specs.Prelude.{◌≡◌, ◌≢◌, ℕ, ◌+◌, ◌-◌, ◌*◌, ◌%◌, ◌<◌, ◌≤◌, ◌&&◌, ◌||◌, ◌⊎◌, Bool, true, false, not, cond, List, [], ◌∷◌, length, slice_index, slice_index_or, Option, Some, None}
 use Rattle.std.specs.List.{AllByRecursion, sum_by}
 use Rattle.clsm_model.specs.declared.slot.Slot.{Slot}
 use Rattle.clsm_model.specs.declared.slot.Slot.TheVariants.{Nothing, Wrote}
@@ -9,7 +9,7 @@ use Rattle.clsm_model.specs.History.{History}
 use Rattle.clsm_levels.specs.Content.{IsContent}
 use Rattle.clsm_levels.specs.Place.{AreWithin}
 use Rattle.clsm_law.specs.declared.layout.Layout.{Layout}
-use Rattle.clsm_law.specs.declared.word.Word.TheVariants.{Lock, Clock, Limit, Front, Merged, Pin, Snap, Head, Cell, State, Count}
+use Rattle.clsm_law.specs.declared.word.Word.TheVariants.{Lock, Clock, Limit, Front, Merged, Pin, Snap, Head, Cell, Order, State, Count}
 use Rattle.clsm_law.specs.declared.word.Part.{Part}
 use Rattle.clsm_law.specs.declared.word.Part.TheVariants.{Key, Length, Value, Next}
 use Rattle.clsm_law.specs.declared.view.View.{View}
@@ -20,9 +20,9 @@ use Rattle.clsm_law.specs.declared.view.SnapshotState.TheVariants.{Absent, Noted
 use Rattle.clsm_law.specs.declared.merger.MergerView.{MergerView}
 use Rattle.clsm_law.specs.declared.merger.Round.{Round}
 use Rattle.clsm_law.specs.Codes.{exclusive_hold, last_limit}
-use Rattle.clsm_law.specs.Memory.{Memory, cell_of, region_of, room_of}
+use Rattle.clsm_law.specs.Memory.{Memory, cell_of, region_of, link_of, key_at, room_of}
 use Rattle.clsm_law.specs.Places.{is_named, held_at}
-use Rattle.clsm_law.specs.Relation.{IsShort, Chains, is_shared, length_of, words_of, state_of, open_time}
+use Rattle.clsm_law.specs.Relation.{IsShort, Chains, Orders, Before, is_shared, length_of, words_of, state_of, open_time}
 use Rattle.clsm_law.specs.Merging.{is_clean, is_frozen, is_retired, is_all_quiet, reader_at, epoch_end}
 use Rattle.clsm_model.specs.Seats.{IsRightRecord, IsStandingRecord, HasWrite, IsRising}
 use Rattle.clsm_law.specs.Worlds.{view_at, outcome_at, past_of, history_of, runs_of, are_canonical}
@@ -48,6 +48,24 @@ key_of v = v.key
 -- the drawn cell is linked
 abbrev pub linked_of : View → Bool
 linked_of v = v.linked
+
+-- the link that it filled behind the drawn cell
+abbrev pub order_next_of : View → Option ℕ
+order_next_of v = v.order_next
+
+-- the drawn cell stands in the ordered list
+abbrev pub inserted_of : View → Bool
+inserted_of v = v.inserted
+
+-- the places of the list that it met last, and found last before and behind the drawn cell
+abbrev pub met_of : View → ℕ
+met_of v = v.met
+
+abbrev pub low_of : View → ℕ
+low_of v = v.low
+
+abbrev pub high_of : View → ℕ
+high_of v = v.high
 
 -- the last look at CLOCK, while it is fresh
 abbrev pub fresh_clock_of : View → Option ℕ
@@ -237,6 +255,85 @@ AreLinked z drawn key linked chains = (i t : ℕ) → drawn i ≡ Some t → lin
 abbrev pub AreLoose : (ℕ → Option ℕ) → (ℕ → Bool) → Chains → Type 0
 AreLoose drawn linked chains = (i t : ℕ) → drawn i ≡ Some t → linked i ≡ false → (r s : ℕ) → ¬ In t (chains r s)
 
+-- from the place p on, the links lead through these places, and end
+abbrev pub Leads : (ℕ → ℕ) → ℕ → List ℕ → Type 0
+Leads link p [] = link p ≡ 0
+Leads link p (t ∷ ts) = (link p ≡ t) × Leads link t ts
+
+-- from each region's head the links lead through its list and end
+abbrev pub AreOrdered : Memory → Orders → Type 0
+AreOrdered memory orders = (r : ℕ) → r < 2 → Leads (link_of memory r) 0 (orders r)
+
+-- a place is before those of the list, by its key and its number
+abbrev pub IsBeforeAll : (ℕ → ℕ) → ℕ → List ℕ → Type 0
+IsBeforeAll key t list = (u : ℕ) → In u list → Before (key t) t (key u) u
+
+-- and so is each place of the list before those behind it
+abbrev pub Rising : (ℕ → ℕ) → List ℕ → Type 0
+Rising key [] = Unit {0}
+Rising key (t ∷ ts) = IsBeforeAll key t ts × Rising key ts
+
+-- each list rises by key, and within a key by place
+abbrev pub AreSorted : Memory → Orders → Type 0
+AreSorted memory orders = (r : ℕ) → Rising (key_at memory) (orders r)
+
+-- the place of a time's cell
+abbrev pub place_of_time : Layout → ℕ → ℕ
+place_of_time z t = cell_of z t + 1
+
+-- a place of a list is that of a drawn time of the epoch in its region
+pub record IsPlaced (z : Layout) (first clock r p : ℕ) : Type 0 where
+  pub time : ℕ
+  pub live : first ≤ time
+  pub drawn : time < clock
+  pub place : place_of_time z time ≡ p
+  pub region : region_of z (cell_of z time) ≡ r
+
+-- and that is so of each place in each list
+abbrev pub ArePlaced : Layout → ℕ → ℕ → Orders → Type 0
+ArePlaced z first clock orders = (r p : ℕ) → In p (orders r) → IsPlaced z first clock r p
+
+-- the time's place stands in the list of its region
+abbrev pub IsInOrder : Layout → Orders → ℕ → Type 0
+IsInOrder z orders t = In (place_of_time z t) (orders (region_of z (cell_of z t)))
+
+-- each write from the first time shown on stands in the list of its region
+abbrev pub AreInOrder : Layout → ℕ → (ℕ → Option Slot) → Orders → Type 0
+AreInOrder z first slot orders = (t i key : ℕ) (written : Option (List ℕ)) → first ≤ t → slot t ≡ Some (Wrote i key written) → IsInOrder z orders t
+
+-- a drawn time whose cell is inserted stands in the list, and is linked
+abbrev pub AreInserted : Layout → (ℕ → Option ℕ) → (ℕ → Bool) → (ℕ → Bool) → Orders → Type 0
+AreInserted z drawn linked inserted orders = (i t : ℕ) → drawn i ≡ Some t → inserted i ≡ true → (linked i ≡ true) × IsInOrder z orders t
+
+-- a drawn time whose cell is not inserted stands in no list
+abbrev pub AreOutside : Layout → (ℕ → Option ℕ) → (ℕ → Bool) → Orders → Type 0
+AreOutside z drawn inserted orders = (i t : ℕ) → drawn i ≡ Some t → inserted i ≡ false → (r : ℕ) → ¬ In (place_of_time z t) (orders r)
+
+-- and the link that is filled behind it equals the word
+abbrev pub AreLeading : Layout → Memory → (ℕ → Option ℕ) → (ℕ → Bool) → (ℕ → Option ℕ) → Type 0
+AreLeading z memory drawn inserted next = (i t w : ℕ) → drawn i ≡ Some t → inserted i ≡ false → next i ≡ Some w → memory (Order (place_of_time z t + 1)) ≡ w
+
+-- the seat holds the lock, and the place stands in the list of the current epoch
+pub record IsMember (z : Layout) (limit : ℕ) (orders : Orders) (mode : Mode) (p : ℕ) : Type 0 where
+  pub holds : mode ≡ Shared
+  pub time : ℕ
+  pub recent : limit ≤ time + z.cells
+  pub until : time < limit
+  pub place : place_of_time z time ≡ p
+  pub stands : IsInOrder z orders time
+
+-- and that is so of each place that a seat knows
+abbrev pub AreMembers : Layout → ℕ → Orders → (ℕ → Mode) → (ℕ → ℕ) → Type 0
+AreMembers z limit orders mode place = (i : ℕ) → place i ≢ 0 → IsMember z limit orders (mode i) (place i)
+
+-- the place found before the drawn cell is before it
+abbrev pub AreLower : Layout → Memory → (ℕ → Option ℕ) → (ℕ → Option ℕ) → (ℕ → ℕ) → Type 0
+AreLower z memory drawn key low = (i t k : ℕ) → drawn i ≡ Some t → key i ≡ Some k → low i ≢ 0 → Before (key_at memory (low i)) (low i) k (place_of_time z t)
+
+-- and the one found behind it is behind it
+abbrev pub AreHigher : Layout → Memory → (ℕ → Option ℕ) → (ℕ → Option ℕ) → (ℕ → Bool) → (ℕ → ℕ) → Type 0
+AreHigher z memory drawn key inserted high = (i t k : ℕ) → drawn i ≡ Some t → key i ≡ Some k → inserted i ≡ false → high i ≢ 0 → Before k (place_of_time z t) (key_at memory (high i)) (high i)
+
 -- a number noted is at most the bound
 abbrev pub AreNotedBelow : (ℕ → Option ℕ) → ℕ → Type 0
 AreNotedBelow noted bound = (i x : ℕ) → noted i ≡ Some x → x ≤ bound
@@ -360,9 +457,9 @@ AreDuesBelowOwn drawn slot due = (i t : ℕ) → drawn i ≡ Some t → slot t �
 
 -- ---- the law
 
--- the law of a world with these words, views, merger and slots, and with these chains of times: one
--- field a clause
-pub record LawOf (z : Layout) (memory : Memory) (views : List View) (m : MergerView) (slots : List (Option Slot)) (chains : Chains) : Type 0 where
+-- the law of a world with these words, views, merger and slots, and with these chains of times and
+-- ordered lists: one field a clause
+pub record LawOf (z : Layout) (memory : Memory) (views : List View) (m : MergerView) (slots : List (Option Slot)) (chains : Chains) (orders : Orders) : Type 0 where
   -- the lock
   pub seated : length views ≡ z.seats
   pub lock : memory Lock ≡ cond m.exclusive exclusive_hold (sum_by holders views)
@@ -396,6 +493,19 @@ pub record LawOf (z : Layout) (memory : Memory) (views : List View) (m : MergerV
   pub standing : AreStanding z (first_shown z m) (outcome_at slots) chains
   pub linked : AreLinked z (each z drawn_of views) (each z key_of views) (each z linked_of views) chains
   pub loose : AreLoose (each z drawn_of views) (each z linked_of views) chains
+  -- ordered lists
+  pub ordered : AreOrdered memory orders
+  pub sorted : AreSorted memory orders
+  pub placed : ArePlaced z (first_live z m) (length slots) orders
+  pub entered : AreInOrder z (first_shown z m) (outcome_at slots) orders
+  pub inserted : AreInserted z (each z drawn_of views) (each z linked_of views) (each z inserted_of views) orders
+  pub outside : AreOutside z (each z drawn_of views) (each z inserted_of views) orders
+  pub leading : AreLeading z memory (each z drawn_of views) (each z inserted_of views) (each z order_next_of views)
+  pub met : AreMembers z (memory Limit) orders (each z mode_of views) (each z met_of views)
+  pub lows : AreMembers z (memory Limit) orders (each z mode_of views) (each z low_of views)
+  pub highs : AreMembers z (memory Limit) orders (each z mode_of views) (each z high_of views)
+  pub lower : AreLower z memory (each z drawn_of views) (each z key_of views) (each z low_of views)
+  pub higher : AreHigher z memory (each z drawn_of views) (each z key_of views) (each z inserted_of views) (each z high_of views)
   -- what is noted
   pub limits : AreLimits (each z mode_of views) (each z hold_limit_of views) (memory Limit)
   pub fresh_clocks : AreNotedBelow (each z fresh_clock_of views) (length slots)

@@ -4,7 +4,7 @@ use Rattle.clsm_model.specs.Config.{IsBetween}
 use Rattle.clsm_model.specs.declared.config.Config.{Config}
 use Rattle.clsm_law.specs.declared.layout.Layout.{Layout}
 use Rattle.clsm_law.specs.declared.word.Word.{Word}
-use Rattle.clsm_law.specs.declared.word.Word.TheVariants.{Lock, Clock, Limit, Front, Merged, Pin, Snap, Head, Cell, State, Count, Entry}
+use Rattle.clsm_law.specs.declared.word.Word.TheVariants.{Lock, Clock, Limit, Front, Merged, Pin, Snap, Head, Cell, Order, Hint, State, Count, Entry}
 use Rattle.clsm_law.specs.declared.word.Part.{Part}
 use Rattle.clsm_law.specs.declared.word.Part.TheVariants.{Key, Length, Value, Next}
 use Rattle.clsm_law.specs.Memory.{Memory, is_word, room_of}
@@ -42,12 +42,12 @@ abbrev pub place_size : Layout → ℕ → ℕ
 place_size z p = 1 + entry_words * room_of z p
 
 -- the row is made of blocks, one behind the other, and these are their lengths: of LOCK, CLOCK,
--- LIMIT, FRONT and MERGED, of the pins, of the snapshots, of the cells, of the heads, and of the
--- five places. The heads stand behind the cells, since their number could push the cells off their
--- lines
+-- LIMIT, FRONT and MERGED, of the pins, of the snapshots, of the cells with the heads of the two
+-- ordered lists before them, of the heads, and of the five places. The heads stand behind the
+-- cells, since their number could push the cells off their lines
 abbrev pub blocks : Layout → List ℕ
 blocks z =
-    spacing ∷ spacing ∷ spacing ∷ spacing ∷ spacing ∷ (spacing * z.seats) ∷ (spacing * z.seats) ∷ (cell_words * (2 * z.cells)) ∷ (2 * z.chains) ∷ (place_size z 0) ∷ (place_size z 1) ∷ (place_size z 2) ∷ (place_size z 3) ∷ (place_size z 4) ∷ []
+    spacing ∷ spacing ∷ spacing ∷ spacing ∷ spacing ∷ (spacing * z.seats) ∷ (spacing * z.seats) ∷ (cell_words * (2 + 2 * z.cells)) ∷ (2 * z.chains) ∷ (place_size z 0) ∷ (place_size z 1) ∷ (place_size z 2) ∷ (place_size z 3) ∷ (place_size z 4) ∷ []
 
 -- the block that a word stands in
 abbrev pub block_of : Word → ℕ
@@ -59,30 +59,41 @@ block_of Merged = 4
 block_of (Pin i) = 5
 block_of (Snap i) = 6
 block_of (Cell c part) = 7
+block_of (Order k) = 7
+block_of (Hint c i) = 7
 block_of (State c) = 7
 block_of (Head region chain) = 8
 block_of (Count p) = 9 + p
 block_of (Entry p e i) = 9 + p
 
--- where a part stands in its cell: what a walk reads and the length in the first line, of which
--- four words are free, and the value in the second
+-- where a part stands in its cell: what a walk reads, the link of the ordered list, three hints and
+-- the length in the first line, and the value in the second
 abbrev pub part_offset : Part → ℕ
 part_offset Key = 1
 part_offset Next = 2
 part_offset Length = 7
 part_offset (Value j) = 8 + j
 
+-- and where the link of the ordered list and the first hint stand there
+abbrev pub order_offset : ℕ
+order_offset = 3
+
+abbrev pub hint_offset : ℕ
+hint_offset = 4
+
 -- where a word of an entry stands behind its place's count: the keys of all entries side by side,
 -- and then the other words of each
 abbrev pub entry_offset : ℕ → ℕ → ℕ → ℕ
 entry_offset room e i = cond (i == 0) e (room + ((entry_words - 1) * e + (i - 1)))
 
--- where a word stands in its block
+-- where a word stands in its block; a list's head has the link's place in a cell of its own
 abbrev pub offset_of : Layout → Word → ℕ
 offset_of z (Pin i) = spacing * i
 offset_of z (Snap i) = spacing * i
-offset_of z (Cell c part) = cell_words * c + part_offset part
-offset_of z (State c) = cell_words * c
+offset_of z (Cell c part) = cell_words * (2 + c) + part_offset part
+offset_of z (Order k) = cell_words * k + order_offset
+offset_of z (Hint c i) = cell_words * (2 + c) + hint_offset + i
+offset_of z (State c) = cell_words * (2 + c)
 offset_of z (Head region chain) = 2 * chain + region
 offset_of z (Entry p e i) = 1 + entry_offset (room_of z p) e i
 offset_of z _ = 0

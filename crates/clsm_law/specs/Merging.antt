@@ -9,9 +9,9 @@ use Rattle.clsm_levels.specs.declared.entry.Entry.{Entry}
 use Rattle.clsm_levels.specs.Place.{target}
 use Rattle.clsm_law.specs.declared.layout.Layout.{Layout}
 use Rattle.clsm_law.specs.declared.word.Word.{Word}
-use Rattle.clsm_law.specs.declared.word.Word.TheVariants.{Lock, Clock, Limit, Merged, Pin, Snap, Head, State, Count, Entry as EntryWord}
+use Rattle.clsm_law.specs.declared.word.Word.TheVariants.{Lock, Clock, Limit, Merged, Pin, Snap, Head, Order, State, Count, Entry as EntryWord}
 use Rattle.clsm_law.specs.declared.step.Step.{Step}
-use Rattle.clsm_law.specs.declared.step.Step.TheVariants.{EnterExclusive, LeaveExclusive, Look, Pad, WriteRun, ClearHead, ClearState, Publish, ExtendClock, ExtendLimit}
+use Rattle.clsm_law.specs.declared.step.Step.TheVariants.{EnterExclusive, LeaveExclusive, Look, Pad, WriteRun, ClearHead, ClearState, ClearOrder, Publish, ExtendClock, ExtendLimit}
 use Rattle.clsm_law.specs.declared.merger.MergerView.{MergerView}
 use Rattle.clsm_law.specs.declared.merger.Phase.{Phase}
 use Rattle.clsm_law.specs.declared.merger.Phase.TheVariants.{Clean, Frozen, Retired}
@@ -20,7 +20,7 @@ use Rattle.clsm_law.specs.declared.merger.Reader.{Reader}
 use Rattle.clsm_law.specs.Codes.{exclusive_hold, last_limit, cancelled_cell}
 use Rattle.clsm_law.specs.Memory.{cell_of, region_of, room_of, is_word}
 use Rattle.clsm_law.specs.Places.{number_of, is_named}
-use Rattle.clsm_law.specs.Relation.{Chains, next_word, one_more_if}
+use Rattle.clsm_law.specs.Relation.{Chains, Orders, next_word, one_more_if}
 
 -- what the merger knows of the world
 pub record Facts : Type 0 where
@@ -30,6 +30,8 @@ pub record Facts : Type 0 where
   pub padded : Bool
   -- the heads of the retired region are 0
   pub headless : Bool
+  -- so is the head of its ordered list
+  pub orderless : Bool
   -- so are the states of its other cells, for each cell
   pub last : ℕ → Bool
   -- what the merge is to write, and how many entries, and what the target holds
@@ -128,8 +130,10 @@ IsOpenToMerger z f m (Pad t) = (m.exclusive ≡ true) × (f.clock ≤ t) × (t <
 IsOpenToMerger z f m (WriteRun word x) = (is_frozen m.phase ≡ true) × IsRunWord word × (is_word z word ≡ true) × (is_named m.merged (place_of word) ≡ false)
 -- a component is retired and all seats are quiet; the head is one of its region
 IsOpenToMerger z f m (ClearHead region chain) = (is_retired m.phase ≡ true) × (is_all_quiet m.readers ≡ true) × (region ≡ retired_region m) × (chain < z.chains)
--- the same; the cell is one of its region, whose heads are all 0
-IsOpenToMerger z f m (ClearState cell) = (is_retired m.phase ≡ true) × (is_all_quiet m.readers ≡ true) × (cell < 2 * z.cells) × (region_of z cell ≡ retired_region m) × (f.headless ≡ true)
+-- the same; the region is that one
+IsOpenToMerger z f m (ClearOrder region) = (is_retired m.phase ≡ true) × (is_all_quiet m.readers ≡ true) × (region ≡ retired_region m)
+-- the same; the cell is one of its region, whose heads are all 0, that of its list too
+IsOpenToMerger z f m (ClearState cell) = (is_retired m.phase ≡ true) × (is_all_quiet m.readers ≡ true) × (cell < 2 * z.cells) × (region_of z cell ≡ retired_region m) × (f.headless ≡ true) × (f.orderless ≡ true)
 -- an epoch is frozen, and its run is written: the entries that are wanted, within the room of the
 -- place, and no word that says more
 IsOpenToMerger z f m Publish = (is_frozen m.phase ≡ true) × (f.count ≤ room_of z (target_of m)) × (f.written ≡ f.wanted) × (f.canonical ≡ true)
@@ -154,8 +158,9 @@ word_of_merger z m (Look word) = word
 word_of_merger z m (Pad t) = State (cell_of z t)
 -- the word of the run
 word_of_merger z m (WriteRun word x) = word
--- the head, or the state
+-- the head, of a chain or of a list, or the state
 word_of_merger z m (ClearHead region chain) = Head region chain
+word_of_merger z m (ClearOrder region) = Order region
 word_of_merger z m (ClearState cell) = State cell
 -- the number of merges
 word_of_merger z m Publish = Merged
@@ -178,8 +183,9 @@ changed_by_merger z m (Look word) x = x
 changed_by_merger z m (Pad t) x = cancelled_cell
 -- store
 changed_by_merger z m (WriteRun word w) x = w
--- store 0: a chain of no cells, and an empty state
+-- store 0: a chain or a list of no cells, and an empty state
 changed_by_merger z m (ClearHead region chain) x = 0
+changed_by_merger z m (ClearOrder region) x = 0
 changed_by_merger z m (ClearState cell) x = 0
 -- store: one merge more
 changed_by_merger z m Publish x = m.merged + 1
@@ -327,3 +333,12 @@ emptied chains region chain r s = cond (r == region && s == chain) [] (chains r 
 abbrev pub chains_after_merger : Chains → Step → Chains
 chains_after_merger chains (ClearHead region chain) = emptied chains region chain
 chains_after_merger chains _ = chains
+
+-- the list of one region is empty
+abbrev pub order_emptied : Orders → ℕ → Orders
+order_emptied orders region r = cond (r == region) [] (orders r)
+
+-- the lists after a step: one whose head is cleared has no cell
+abbrev pub orders_after_merger : Orders → Step → Orders
+orders_after_merger orders (ClearOrder region) = order_emptied orders region
+orders_after_merger orders _ = orders

@@ -1,7 +1,7 @@
 -- The steps of a caller's seat, by cases in the order of the step's members: where each is open,
 -- its word, what it makes of the word, the view after it, the slots and chains after it, and its
 -- answer. `x` is the word that the step finds.
-use Rattle.std.specs.Prelude.{◌≡◌, ◌≢◌, ℕ, ◌+◌, ◌-◌, ◌*◌, ◌%◌, ◌^◌, ◌<◌, ◌≤◌, ◌==◌, ◌&&◌, ◌⊎◌, Bool, true, false, not, cond, nat_lt, nat_le, max, List, [], ◌∷◌, ◌++◌, length, take, map, replicate, slice_index_or, slice_set, Option, Some, None, is_some}
+use Rattle.std.specs.Prelude.{◌≡◌, ◌≢◌, ℕ, ◌+◌, ◌-◌, ◌*◌, ◌%◌, ◌^◌, ◌<◌, ◌≤◌, ◌==◌, ◌&&◌, ◌||◌, ◌⊎◌, Bool, true, false, not, cond, nat_lt, nat_le, max, List, [], ◌∷◌, ◌++◌, length, take, map, replicate, slice_index_or, slice_set, Option, Some, None, is_some}
 use prog.Atomic.{either}
 use Rattle.clsm_model.specs.declared.slot.Slot.{Slot}
 use Rattle.clsm_model.specs.declared.slot.Slot.TheVariants.{Nothing, Wrote}
@@ -13,11 +13,11 @@ use Rattle.clsm_model.specs.History.{History, or_else}
 use Rattle.clsm_model.specs.Right.{IsRight, write_by}
 use Rattle.clsm_law.specs.declared.layout.Layout.{Layout}
 use Rattle.clsm_law.specs.declared.word.Word.{Word}
-use Rattle.clsm_law.specs.declared.word.Word.TheVariants.{Lock, Clock, Limit, Front, Merged, Pin as PinOf, Snap, Head, Cell, State, Count, Entry}
+use Rattle.clsm_law.specs.declared.word.Word.TheVariants.{Lock, Clock, Limit, Front, Merged, Pin as PinOf, Snap, Head, Cell, Order, Hint, State, Count, Entry}
 use Rattle.clsm_law.specs.declared.word.Part.{Part}
 use Rattle.clsm_law.specs.declared.word.Part.TheVariants.{Key, Length, Value, Next}
 use Rattle.clsm_law.specs.declared.step.Step.{Step}
-use Rattle.clsm_law.specs.declared.step.Step.TheVariants.{EnterShared, LeaveShared, EnterExclusive, Draw, Fill, Link, Decide, Cancel, Pin, Unpin, Look, RaiseFront, Note, CloseSnapshot}
+use Rattle.clsm_law.specs.declared.step.Step.TheVariants.{EnterShared, LeaveShared, EnterExclusive, Draw, Fill, Link, FillOrder, Insert, StoreHint, Decide, Cancel, Pin, Unpin, Look, RaiseFront, Note, CloseSnapshot}
 use Rattle.clsm_law.specs.declared.step.End.{End}
 use Rattle.clsm_law.specs.declared.step.End.TheVariants.{Neither, Meeting, Recorded}
 use Rattle.clsm_law.specs.declared.step.Answer.{Answer}
@@ -28,7 +28,7 @@ use Rattle.clsm_law.specs.declared.view.Mode.TheVariants.{Free, Shared}
 use Rattle.clsm_law.specs.declared.view.SnapshotState.{SnapshotState}
 use Rattle.clsm_law.specs.declared.view.SnapshotState.TheVariants.{Absent, Noted, Timed, Open}
 use Rattle.clsm_law.specs.Codes.{exclusive_hold, undecided_cell, cancelled_cell, value_cell, removal_cell}
-use Rattle.clsm_law.specs.Memory.{cell_of, region_of, head_of, is_part, is_word}
+use Rattle.clsm_law.specs.Memory.{cell_of, region_of, region_of_link, link_at, head_of, is_part, is_word}
 use Rattle.clsm_law.specs.Places.{is_named}
 
 -- ---- a seat at its beginning
@@ -52,6 +52,11 @@ idle z = record {
   words = blank 8;
   next = None;
   linked = false;
+  order_next = None;
+  inserted = false;
+  met = 0;
+  low = 0;
+  high = 0;
   pin = 0;
   pinned = false;
   held = None;
@@ -115,6 +120,13 @@ own_time v = or_zero v.drawn
 abbrev pub own_line : Layout → View → ℕ
 own_line z v = line_of (region_of z (cell_of z (own_time v))) (or_zero v.key % z.chains)
 
+-- its region, and its place in the ordered list
+abbrev pub own_region : Layout → View → ℕ
+own_region z v = region_of z (cell_of z (own_time v))
+
+abbrev pub own_place : Layout → View → ℕ
+own_place z v = cell_of z (own_time v) + 1
+
 -- each of the numbers is there
 abbrev pub is_all_some : List (Option ℕ) → Bool
 is_all_some [] = true
@@ -155,6 +167,43 @@ abbrev pub state_by : Option Slot → ℕ
 state_by (Some (Wrote seat key written)) = state_of written
 state_by _ = undecided_cell
 
+-- ---- the ordered list
+
+-- the order: by key, and within a key by place, which is by time within an epoch
+abbrev pub Before : ℕ → ℕ → ℕ → ℕ → Type 0
+Before key p other q = (key ≤ other) × (key ≡ other → p < q)
+
+-- the test of the same
+abbrev pub is_before : ℕ → ℕ → ℕ → ℕ → Bool
+is_before key p other q = nat_lt key other || (key == other && nat_lt p q)
+
+-- the link is behind a place that the seat knows in the list of its drawn cell
+abbrev pub is_listed : Layout → View → ℕ → Bool
+is_listed z v k = is_some v.drawn && (k == link_at (own_region z v) 0 || (k == link_at (own_region z v) v.met || k == link_at (own_region z v) v.low))
+
+-- the state is that of a write
+abbrev pub is_written_state : ℕ → Bool
+is_written_state x = x == value_cell || x == removal_cell
+
+-- the cell is of the drawn one's region, and its state says that it is written: so it stands in the
+-- list
+abbrev pub is_met_by_state : Layout → View → ℕ → ℕ → Bool
+is_met_by_state z v cell x = is_some v.drawn && (region_of z cell == own_region z v && is_written_state x)
+
+-- the key of the place met is before that of the drawn cell
+abbrev pub is_lower : Layout → View → ℕ → ℕ → Bool
+is_lower z v cell x = is_before x (cell + 1) (or_zero v.key) (own_place z v)
+
+-- what the last place found before the drawn cell is after a look at a part of a cell
+abbrev pub low_seen : Layout → View → ℕ → Part → ℕ → ℕ
+low_seen z v cell Key x = cond (cell + 1 == v.met && is_lower z v cell x) (cell + 1) v.low
+low_seen z v cell _ x = v.low
+
+-- and the last found behind it
+abbrev pub high_seen : Layout → View → ℕ → Part → ℕ → ℕ
+high_seen z v cell Key x = cond (cell + 1 == v.met && not (is_lower z v cell x)) (cell + 1) v.high
+high_seen z v cell _ x = v.high
+
 -- ---- the component held
 
 -- a time of the held component, below a clock that the seat looked at
@@ -190,6 +239,8 @@ IsNamedBy (Some m) place = is_named m place ≡ true
 abbrev pub IsLookable : Layout → View → Word → Type 0
 IsLookable z v (Head region chain) = MayVisit z v region
 IsLookable z v (Cell cell part) = MayVisit z v (region_of z cell)
+IsLookable z v (Order k) = MayVisit z v (region_of_link z k)
+IsLookable z v (Hint cell i) = MayVisit z v (region_of z cell)
 IsLookable z v (State cell) = MayVisit z v (region_of z cell)
 IsLookable z v (Count place) = IsNamedBy v.held place
 IsLookable z v (Entry place entry part) = IsNamedBy v.held place
@@ -264,9 +315,17 @@ IsOpen z h v (Draw t) = (v.mode ≡ Shared) × (v.drawn ≡ None) × (v.fresh_cl
 IsOpen z h v (Fill part w) = (v.drawn ≢ None) × (v.linked ≡ false) × (is_part part ≡ true)
 -- the same; all parts are filled, and NEXT is the head, as the fresh look found it
 IsOpen z h v (Link head) = (v.drawn ≢ None) × (v.linked ≡ false) × (v.key ≢ None) × (v.length ≢ None) × (is_all_some (take (or_zero v.length) v.words) ≡ true) × (v.next ≡ Some head) × (slice_index_or v.fresh_heads (own_line z v) None ≡ Some head)
--- t is drawn and its cell linked; what the parts say is the write that the deed makes; and what a
--- read-modify-write read is right at t, which the past of the seat has reached
-IsOpen z h v (Decide t deed) = (v.drawn ≡ Some t) × (v.linked ≡ true) × SaysWrite v (write_by 0 deed) × IsReadBelow h v t deed
+-- it has a drawn time whose cell does not stand in the ordered list
+IsOpen z h v (FillOrder w) = (v.drawn ≢ None) × (v.inserted ≡ false)
+-- the same; the cell is linked, so that its key stays; the place is the list's head, or one found
+-- before the cell, and the link behind the cell is filled with none, or one found behind it
+IsOpen z h v (Insert p next) = (v.drawn ≢ None) × (v.inserted ≡ false) × (v.linked ≡ true) × (v.order_next ≡ Some next) × ((p ≡ 0) ⊎ (p ≡ v.low)) × ((next ≡ 0) ⊎ (next ≡ v.high))
+-- there is such a hint
+IsOpen z h v (StoreHint cell i w) = is_word z (Hint cell i) ≡ true
+-- t is drawn and its cell linked; what the parts say is the write that the deed makes; what a
+-- read-modify-write read is right at t, which the past of the seat has reached; and the cell stands
+-- in the ordered list
+IsOpen z h v (Decide t deed) = (v.drawn ≡ Some t) × (v.linked ≡ true) × SaysWrite v (write_by 0 deed) × IsReadBelow h v t deed × (v.inserted ≡ true)
 -- t is drawn by the seat, or it is not before the held component and below the clock as the seat
 -- last looked at it
 IsOpen z h v (Cancel t) = (v.drawn ≡ Some t) ⊎ (HoldsFrom z v.held t × IsBelow t v.clock)
@@ -299,6 +358,10 @@ word_of z i v (Draw t) = Clock
 -- the part of the drawn cell, and the head of its chain
 word_of z i v (Fill part w) = Cell (cell_of z (own_time v)) part
 word_of z i v (Link head) = head_of z (own_time v) (or_zero v.key)
+-- the link behind the drawn cell, the link behind a place of its region, and the hint
+word_of z i v (FillOrder w) = Order (own_place z v + 1)
+word_of z i v (Insert p next) = Order (link_at (own_region z v) p)
+word_of z i v (StoreHint cell j w) = Hint cell j
 -- the state of the time's cell
 word_of z i v (Decide t deed) = State (cell_of z t)
 word_of z i v (Cancel t) = State (cell_of z t)
@@ -329,6 +392,12 @@ changed z v (Draw t) x = either (x == t) (t + 1) x
 changed z v (Fill part w) x = w
 -- compare_exchange: the drawn cell plus 1, where the head is still this one
 changed z v (Link head) x = either (x == head) (cell_of z (own_time v) + 1) x
+-- store
+changed z v (FillOrder w) x = w
+-- compare_exchange: the drawn cell plus 1, where the link is still this one
+changed z v (Insert p next) x = either (x == next) (own_place z v) x
+-- store
+changed z v (StoreHint cell i w) x = w
 -- compare_exchange: a value or a removal, as the deed writes, where nothing is decided
 changed z v (Decide t deed) x = either (x == undecided_cell) (state_by (write_by 0 deed)) x
 -- compare_exchange: cancelled, where nothing is decided
@@ -432,14 +501,18 @@ looked z v Merged x = record v { held = cond (takes_hold v) (Some x) v.held; rea
 -- in a hold of the lock it is fresh
 looked z v (Head region chain) x = record v { fresh_heads = cond (holds_lock v) (slice_set v.fresh_heads (line_of region chain) (Some x)) v.fresh_heads }
 -- where it is not empty, and is that of the time reached, and the component and the clock cover
--- this, one time more is reached
-looked z v (State cell) x = record v { reached = reached_by_state z v cell x }
+-- this, one time more is reached; and a written cell is met
+looked z v (State cell) x = record v { reached = reached_by_state z v cell x; met = cond (is_met_by_state z v cell x) (cell + 1) v.met }
+-- what follows in the list of the drawn cell is met
+looked z v (Order k) x = record v { met = cond (is_listed z v k) x v.met }
+-- the cell met is before the drawn one, or behind it
+looked z v (Cell cell part) x = record v { low = low_seen z v cell part x; high = high_seen z v cell part x }
 -- of other words nothing is noted
 looked z v _ x = v
 
--- the part is filled with w
+-- the part is filled with w; by another key, other places are before and behind
 abbrev pub filled : View → Part → ℕ → View
-filled v Key w = record v { key = Some w }
+filled v Key w = record v { key = Some w; low = 0; high = 0 }
 filled v Length w = record v { length = Some w }
 filled v (Value j) w = record v { words = slice_set v.words j (Some w) }
 filled v Next w = record v { next = Some w }
@@ -459,10 +532,11 @@ view_after z i v (EnterShared l) x = let won = x == l in record v {
   entries = one_more_if won v.entries;
   busy = one_more_if (not won) v.busy;
 }
--- the lock is given back, and no look is fresh; the looks of the hold are known still
-view_after z i v LeaveShared x = record v { mode = Free; fresh_lock = None; fresh_clock = None; fresh_heads = blank (2 * z.chains) }
--- The look is fresh no more. Won: t is drawn, no part is filled, and the cell is not linked; lost:
--- it is counted.
+-- the lock is given back, no look is fresh, and no place of the list is known; the looks of the hold
+-- are known still
+view_after z i v LeaveShared x = record v { mode = Free; fresh_lock = None; fresh_clock = None; fresh_heads = blank (2 * z.chains); met = 0; low = 0; high = 0 }
+-- The look is fresh no more. Won: t is drawn, no part is filled, the cell is neither linked nor
+-- inserted, and no place is before or behind it; lost: it is counted.
 view_after z i v (Draw t) x = let won = x == t in record v {
   drawn = cond won (Some t) v.drawn;
   key = cond won None v.key;
@@ -470,6 +544,10 @@ view_after z i v (Draw t) x = let won = x == t in record v {
   words = cond won (blank 8) v.words;
   next = cond won None v.next;
   linked = cond won false v.linked;
+  order_next = cond won None v.order_next;
+  inserted = cond won false v.inserted;
+  low = cond won 0 v.low;
+  high = cond won 0 v.high;
   fresh_clock = None;
   raced = one_more_if (not won) v.raced;
 }
@@ -481,6 +559,12 @@ view_after z i v (Link head) x = let won = x == head in record v {
   fresh_heads = slice_set v.fresh_heads (own_line z v) None;
   raced = one_more_if (not won) v.raced;
 }
+-- the link is filled
+view_after z i v (FillOrder w) x = record v { order_next = Some w }
+-- Won: the cell stands in the list; lost: it is counted.
+view_after z i v (Insert p next) x = let won = x == next in record v { inserted = cond won true v.inserted; raced = one_more_if (not won) v.raced }
+-- of a hint nothing is noted
+view_after z i v (StoreHint cell j w) x = v
 -- Nothing is drawn, and t is found decided. Won: the call is recorded, and the due is behind it;
 -- lost: it is counted.
 view_after z i v (Decide t deed) x = let won = x == 0 in record v {
@@ -542,6 +626,24 @@ abbrev pub chains_after : Layout → View → Chains → Step → ℕ → Chains
 chains_after z v chains (Link head) x = cond (x == head) (pushed chains (region_of z (cell_of z (own_time v))) (or_zero v.key % z.chains) (own_time v)) chains
 chains_after z v chains _ x = chains
 
+-- the ordered list of each region: the places that stand in it
+abbrev pub Orders : Type 0
+Orders = ℕ → List ℕ
+
+-- the place t put behind the place p, in the list that the place q leads to
+abbrev pub put_after : ℕ → ℕ → ℕ → List ℕ → List ℕ
+put_after q p t [] = cond (q == p) (t ∷ []) []
+put_after q p t (u ∷ us) = cond (q == p) (t ∷ u ∷ us) (u ∷ put_after u p t us)
+
+-- the same in the list of one region
+abbrev pub put_in_order : Orders → ℕ → ℕ → ℕ → Orders
+put_in_order orders region p t r = cond (r == region) (put_after 0 p t (orders r)) (orders r)
+
+-- the lists after a step that found x: a won insert puts the drawn cell behind its place
+abbrev pub orders_after : Layout → View → Orders → Step → ℕ → Orders
+orders_after z v orders (Insert p next) x = cond (x == next) (put_in_order orders (own_region z v) p (own_place z v)) orders
+orders_after z v orders _ x = orders
+
 -- ---- the answer
 
 -- what an exchange answers
@@ -555,6 +657,7 @@ answer_of (EnterShared l) x = won_if (x == l)
 answer_of (EnterExclusive) x = won_if (x == 0)
 answer_of (Draw t) x = won_if (x == t)
 answer_of (Link head) x = won_if (x == head)
+answer_of (Insert p next) x = won_if (x == next)
 answer_of (Decide t deed) x = won_if (x == 0)
 answer_of (Cancel t) x = won_if (x == 0)
 -- looks: the word

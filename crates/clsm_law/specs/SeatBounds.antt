@@ -2,15 +2,18 @@
 use Rattle.std.specs.Prelude.{ℕ, ◌+◌, ◌*◌, ◌^◌, ◌<◌}
 use Rattle.clsm_law.specs.declared.layout.Layout.{Layout}
 use Rattle.clsm_law.specs.declared.word.Word.{Word}
-use Rattle.clsm_law.specs.declared.word.Word.TheVariants.{Merged, Head}
+use Rattle.clsm_law.specs.declared.word.Word.TheVariants.{Merged, Head, Cell, State}
 use Rattle.clsm_law.specs.declared.step.Step.{Step}
 use Rattle.clsm_law.specs.declared.step.Step.TheVariants.{EnterShared, Draw, Decide, Look, Note}
 use Rattle.clsm_law.specs.Relation.{line_of}
 
--- of a look: the place of a head among the fresh heads, and the first time of the component found
+-- of a look: the place of a head among the fresh heads, the first time of the component found, and
+-- the place of a cell in the ordered list
 abbrev pub IsSmallLook : Layout → Word → ℕ → Type 0
 IsSmallLook z (Head region chain) x = line_of region chain < 2 ^ 64
 IsSmallLook z Merged x = x * z.cells < 2 ^ 64
+IsSmallLook z (Cell cell part) x = cell + 1 < 2 ^ 64
+IsSmallLook z (State cell) x = cell + 1 < 2 ^ 64
 IsSmallLook z word x = Unit {0}
 
 -- and one holder more, and the time behind one that is drawn, decided or noted

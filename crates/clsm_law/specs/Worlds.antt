@@ -8,7 +8,7 @@ use Rattle.clsm_levels.specs.Entry.{entries_of}
 use Rattle.clsm_levels.specs.Merge.{wanted}
 use Rattle.clsm_levels.specs.Place.{places, runs_at}
 use Rattle.clsm_law.specs.declared.layout.Layout.{Layout}
-use Rattle.clsm_law.specs.declared.word.Word.TheVariants.{Clock, Head, State, Count, Entry as EntryWord}
+use Rattle.clsm_law.specs.declared.word.Word.TheVariants.{Clock, Head, Order, State, Count, Entry as EntryWord}
 use Rattle.clsm_law.specs.declared.view.View.{View}
 use Rattle.clsm_law.specs.declared.merger.MergerView.{MergerView}
 use Rattle.clsm_law.specs.Memory.{Memory, cell_of}
@@ -55,6 +55,10 @@ is_padded z memory m = passes_from (λ t. memory (State (cell_of z t)) == 1) (me
 abbrev pub is_headless : Layout → Memory → MergerView → Bool
 is_headless z memory m = passes_from (λ chain. memory (Head (retired_region m) chain) == 0) 0 z.chains
 
+-- the head of the retired region's ordered list is 0
+abbrev pub is_orderless : Memory → MergerView → Bool
+is_orderless memory m = memory (Order (retired_region m)) == 0
+
 -- the states of the retired region are 0, the cell's own apart
 abbrev pub is_last : Layout → Memory → MergerView → ℕ → Bool
 is_last z memory m cell = passes_from (λ other. other == cell || memory (State other) == 0) (retired_region m * z.cells) z.cells
@@ -89,6 +93,7 @@ facts_of z memory m slots = record {
   clock = memory Clock;
   padded = is_padded z memory m;
   headless = is_headless z memory m;
+  orderless = is_orderless memory m;
   last = is_last z memory m;
   wanted = wanted m.merged m.floor (epoch_of z slots m.merged) (runs_of memory m.merged);
   count = memory (Count (target_of m));

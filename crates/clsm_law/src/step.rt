@@ -23,6 +23,13 @@ pub enum Step {
     Fill(Part, u64),
     /// compare_exchange the head of the drawn cell's chain from this word to the drawn cell.
     Link(u64),
+    /// Store the link behind the drawn cell in the ordered list.
+    FillOrder(u64),
+    /// compare_exchange the link behind this place of the list, 0 or a cell plus 1, from this word
+    /// to the drawn cell.
+    Insert(u64, u64),
+    /// Store a hint.
+    StoreHint { cell: u64, hint: u64, word: u64 },
     /// compare_exchange the state of the drawn cell from empty to set or removed, as the deed
     /// writes.
     Decide(Time, Deed),
@@ -48,6 +55,8 @@ pub enum Step {
     /// Store 0 in a head, and in a state, of the retired region.
     ClearHead { region: u64, chain: u64 },
     ClearState(u64),
+    /// Store 0 in the head of the retired region's list.
+    ClearOrder(u64),
     /// Store MERGED, one more merge.
     Publish,
     /// Store CLOCK, the end of the epoch, and then LIMIT, an epoch more.

@@ -45,6 +45,15 @@ pub struct View {
     pub words: Items<Option<u64>>,
     pub next: Option<u64>,
     pub linked: bool,
+    /// The link behind the drawn cell that it filled, and whether the cell stands in the ordered
+    /// list.
+    pub order_next: Option<u64>,
+    pub inserted: bool,
+    /// Cells of that list, plus 1: the last that it met in this hold of the lock, and the last that
+    /// it found before and behind the drawn one; 0 for none.
+    pub met: u64,
+    pub low: u64,
+    pub high: u64,
     /// Its pin word, which is odd while it is pinned.
     pub pin: u64,
     pub pinned: bool,

@@ -19,6 +19,11 @@ pub enum Word {
     Head { region: u64, chain: u64 },
     /// A part of a cell.
     Cell { cell: u64, part: Part },
+    /// A link of the ordered lists, by its place: at 0 and 1 the first cell of each region's list,
+    /// and from 2 on the cell behind the cell `place - 2`, each plus 1; 0 where none follows.
+    Order(u64),
+    /// One of three free words of a cell, of which nothing is said.
+    Hint { cell: u64, hint: u64 },
     /// 0 empty, 1 cancelled, 2 set, 3 removed.
     State(u64),
     /// The number of entries in a place.

@@ -1,5 +1,5 @@
 -- What the calls on the lock leave of a seat as it was, and what they change.
-use Rattle.std.specs.Prelude.{◌≡◌, ◌*◌, true, false, length, None}
+use Rattle.std.specs.Prelude.{◌≡◌, ◌*◌, true, length, None}
 use mathlib.Core.List.{IsPrefix}
 use Rattle.clsm_law.specs.declared.word.Word.{Word}
 use Rattle.clsm_law.specs.declared.word.Word.TheVariants.{Clock}
@@ -21,10 +21,11 @@ pub record StaysOut (old new : Known) : Type 0 where
   pub place : KeepsPlace old new
   pub view : new.view ≡ record old.view { fresh_lock = new.view.fresh_lock; busy = new.view.busy }
 
--- it left: it does not hold the lock, and what it looked at is no longer fresh
+-- it left: it does not hold the lock, what it looked at is no longer fresh, and it knows no place of
+-- the ordered list
 pub record Leaves (old new : Known) : Type 0 where
   pub place : KeepsPlace old new
-  pub view : new.view ≡ record old.view { mode = Free; fresh_lock = None; fresh_clock = None; fresh_heads = blank (2 * old.layout.chains) }
+  pub view : new.view ≡ record old.view { mode = Free; fresh_lock = None; fresh_clock = None; fresh_heads = blank (2 * old.layout.chains); met = 0; low = 0; high = 0 }
 
 -- ---- the merger's hold
 

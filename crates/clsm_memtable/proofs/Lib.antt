@@ -1,3 +1,6 @@
+pub mod Exchanges
+pub mod Drawn
+pub mod Linked
 pub mod Places
 pub mod Settles
 pub mod Looking
@@ -6,4 +9,11 @@ pub mod Chains
 pub mod NewestWrites
 pub mod FrozenTimes
 pub mod Fillings
-pub mod Ranges
+pub mod Seeks
+pub mod Inserts
+pub mod Entries
+pub mod Orders
+pub mod Walks
+pub mod Shown
+pub mod Turns
+pub mod EpochWrites

@@ -1,5 +1,5 @@
 -- Places that are filled one after another.
-use Rattle.std.proofs.Common.{◌≡◌, ℕ, zero, suc, ◌+◌, ◌<◌, List, [], ◌∷◌, ◌++◌, length, map, take, set, get_or, replicate, refl, ap, sym, ◌∙◌, true, Option, Some}
+use Rattle.std.proofs.Common.{◌≡◌, ℕ, ◌+◌, ◌<◌, List, [], ◌∷◌, ◌++◌, length, map, take, set, get_or, refl, ap, sym, ◌∙◌, true, Option, Some}
 use Rattle.std.proofs.lemmas.List.{take_more_set, map_more}
 use Rattle.clsm_law.specs.Relation.{is_all_some}
 

@@ -3,5 +3,7 @@ pub mod Searching
 pub mod Filling
 pub mod Writing
 pub mod Frozen
-pub mod Ranging
 pub mod Staying
+pub mod Ordering
+pub mod Seeking
+pub mod Inserting

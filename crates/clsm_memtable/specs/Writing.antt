@@ -19,10 +19,11 @@ IsUnnoted _ = Unit {0}
 
 -- ---- draws
 
--- it drew the time: no part of its cell is filled, and it is not linked
+-- it drew the time: no part of its cell is filled, it is neither linked nor inserted, and no place
+-- of the ordered list is known before or behind it
 pub record Draws (old new : Known) (t : ℕ) : Type 0 where
   pub place : KeepsPlace old new
-  pub view : new.view ≡ record old.view { drawn = Some t; key = None; length = None; words = blank 8; next = None; linked = false; fresh_clock = None; hold_limit = new.view.hold_limit; hold_clock = Some t; clock = Some t; pin_clock = new.view.pin_clock }
+  pub view : new.view ≡ record old.view { drawn = Some t; key = None; length = None; words = blank 8; next = None; linked = false; order_next = None; inserted = false; low = 0; high = 0; fresh_clock = None; hold_limit = new.view.hold_limit; hold_clock = Some t; clock = Some t; pin_clock = new.view.pin_clock }
   pub looked : new.view.hold_limit ≢ None
   pub below : IsBelow t new.view.hold_limit
   pub due : old.view.due ≤ t

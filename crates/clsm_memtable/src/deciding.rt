@@ -4,6 +4,8 @@ ghost use Rattle.clsm_law.specs.declared.step.Step.TheVariants.{Decide};
 ghost use Rattle.clsm_words.specs.Plays.{IsSeatOf, MayPlay};
 ghost use Rattle.clsm_memtable.specs.Writing.{Decides, GivesUp};
 
+use crate::hints::leave_hints;
+use crate::inserting::Trace;
 use clsm_law::Answer;
 use clsm_model::{Deed, Time};
 use clsm_words::{Pace, RawSeat, Words};
@@ -17,12 +19,8 @@ pub enum Decided {
     Overtaken,
 }
 
-/// Decides the drawn time, whose cell is linked and says the deed's write: one exchange. With
-/// `Done` the write stands, the call is recorded at the time, and later calls of the seat have
-/// later times. With `Overtaken` somebody had cancelled the time: nothing is recorded, and the
-/// seat's count of such times has moved by one. Either way the time is no longer the seat's. It
-/// never waits.
-pub fn decide<P: Pace>(words: &Words<P>, seat: &mut RawSeat, time: Time, deed: &Deed) -> Decided
+/// Decides the drawn time, whose cell is linked and stands in the ordered list.
+fn decide_drawn<P: Pace>(words: &Words<P>, seat: &mut RawSeat, time: Time, deed: &Deed) -> Decided
     requires { MayPlay words.now seat.old (Decide time deed.now) }
     ensures of { IsSeatOf words.now seat.new }
     ensures decided { Decides seat.old.knows seat.new.knows time deed.now result }
@@ -32,6 +30,30 @@ pub fn decide<P: Pace>(words: &Words<P>, seat: &mut RawSeat, time: Time, deed: &
         Answer::Done => Decided::Done,
         _ => Decided::Overtaken,
     }
+}
+
+/// Decides the drawn time, whose cell is linked, was inserted by this search and says the deed's
+/// write: one exchange. With `Done` the write stands, the call is recorded at the time, and later
+/// calls of the seat have later times; hints lead to the cell then, where it is higher than others
+/// of the ordered list. With `Overtaken` somebody had cancelled the time: nothing is recorded, and
+/// the seat's count of such times has moved by one. Either way the time is no longer the seat's. It
+/// never waits.
+pub fn decide<P: Pace>(
+    words: &Words<P>,
+    seat: &mut RawSeat,
+    time: Time,
+    deed: &Deed,
+    trace: &Trace,
+) -> Decided
+    requires { MayPlay words.now seat.old (Decide time deed.now) }
+    ensures of { IsSeatOf words.now seat.new }
+    ensures decided { Decides seat.old.knows seat.new.knows time deed.now result }
+{
+    let decided = decide_drawn(words, seat, time, deed);
+    if let Decided::Done = decided {
+        leave_hints(words, seat, time, trace);
+    }
+    decided
 }
 
 /// Gives up the drawn time, linked or not: one exchange, after which no write has the time. Nothing

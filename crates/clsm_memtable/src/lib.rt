@@ -2,23 +2,29 @@
 //! who read.
 #![tactic(auto)]
 
+mod buckets;
 mod deciding;
 mod drawing;
+mod entering;
 mod filling;
 mod found;
 mod frozen;
+mod hints;
+mod inserting;
 mod linking;
-mod ranging;
+mod ordering;
 mod reading;
 mod searching;
 mod settling;
 
 pub use deciding::{Decided, decide, give_up};
 pub use drawing::{DrawError, draw};
+pub use entering::{enter, try_enter};
 pub use filling::fill;
 pub use found::Found;
 pub use frozen::gather;
-pub use linking::{Raced, link, try_link};
-pub use ranging::gather_range;
+pub use inserting::Trace;
+pub use linking::Raced;
+pub use ordering::{Epoch, next, seek};
 pub use searching::newest;
 pub use settling::settle_below;

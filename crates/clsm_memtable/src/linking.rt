@@ -24,7 +24,7 @@ pub struct Raced;
 /// `Raced` where another cell was linked there since the look: the seat's count of such refusals
 /// has then moved by one, and the cell is as it was, but for its next. A walk of a chain that the
 /// seat had begun is ended. It never waits.
-pub fn try_link<P: Pace>(
+pub(crate) fn try_link<P: Pace>(
     words: &Words<P>,
     seat: &mut RawSeat,
     time: Time,
@@ -52,7 +52,13 @@ pub fn try_link<P: Pace>(
 /// Links the drawn cell, and tries until it is linked, as long as that takes. Each try that lost
 /// has moved the seat's count of such refusals by one. A walk of a chain that the seat had begun is
 /// ended.
-pub fn link<P: Pace, R: Wait>(rt: &R, words: &Words<P>, seat: &mut RawSeat, time: Time, key: u64)
+pub(crate) fn link<P: Pace, R: Wait>(
+    rt: &R,
+    words: &Words<P>,
+    seat: &mut RawSeat,
+    time: Time,
+    key: u64,
+)
     requires of { IsSeatOf words.now seat.old }
     requires holds { seat.old.knows.view.mode ≡ Shared }
     requires limit { seat.old.knows.view.hold_limit ≢ None }

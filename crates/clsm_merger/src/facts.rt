@@ -1,6 +1,6 @@
 ghost use Rattle.std.specs.Prelude.{◌≡◌, length};
 ghost use Rattle.clsm_law.specs.Layout.{memory, size_of};
-ghost use Rattle.clsm_law.specs.Worlds.{is_padded, is_headless, is_last, is_length, is_ended, is_canonical, are_canonical};
+ghost use Rattle.clsm_law.specs.Worlds.{is_padded, is_headless, is_orderless, is_last, is_length, is_ended, is_canonical, are_canonical};
 ghost use Rattle.clsm_law.specs.Merging.{target_of};
 ghost use Rattle.clsm_law.specs.Deciding.{IsMergerSmall};
 
@@ -36,6 +36,15 @@ pub(crate) fn is_headless(layout: &Layout, words: &[u64], merger: &MergerView) -
         }
     }
     true
+}
+
+/// Whether the head of the retired region's ordered list is 0.
+pub(crate) fn is_orderless(layout: &Layout, words: &[u64], merger: &MergerView) -> bool
+    requires size { length words.now ≡ size_of layout.now }
+    requires small { IsMergerSmall layout.now merger.now }
+    ensures { result ≡ is_orderless (memory layout.now words.now) merger.now }
+{
+    word_at(layout, words, Word::Order(retired_region(layout, merger))) == 0
 }
 
 /// Whether the states of the retired region are 0, that of this cell apart.

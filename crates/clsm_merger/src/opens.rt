@@ -8,7 +8,7 @@ ghost use Rattle.clsm_law.specs.Merging.{IsOpenToMerger, IsRunWord, epoch_end, i
 ghost use Rattle.clsm_law.specs.Deciding.{IsMergeable, IsMergerSmall, wanted_of, written_of};
 
 use crate::deciding::is_wanted_written;
-use crate::facts::{is_headless, is_padded, is_target_canonical};
+use crate::facts::{is_headless, is_orderless, is_padded, is_target_canonical};
 use crate::phases::{is_clean, is_frozen, is_retired};
 use crate::words::{epoch_end, is_named, retired_region, target_of, word_at};
 use clsm_law::{Items, LAST_LIMIT, Layout, MergerView, Reader, Step, Word};
@@ -113,6 +113,10 @@ pub fn is_open_to_merger(
             is_let_go(merger)
                 && is_retired_cell(layout, merger, *cell)
                 && is_headless(layout, words, merger)
+                && is_orderless(layout, words, merger)
+        }
+        Step::ClearOrder(region) => {
+            is_let_go(merger) && *region == retired_region(layout, merger)
         }
         Step::Publish => { is_frozen(merger.phase) && is_publishable(layout, words, merger, slots) }
         Step::ExtendClock => {

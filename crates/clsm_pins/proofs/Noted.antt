@@ -1,5 +1,5 @@
 -- A seat after it noted a snapshot, and after it closed one.
-use Rattle.std.proofs.Common.{◌≡◌, ℕ, List, [], ◌∷◌, ◌++◌, ◌≤◌, refl, sym, ap, subst, ◌∙◌, arith, Bool, true, cond, not, Option, Some, None}
+use Rattle.std.proofs.Common.{◌≡◌, ℕ, [], ◌∷◌, ◌++◌, refl, sym, ap, subst, ◌∙◌, arith, Bool, true, cond, not, Option, Some}
 use Rattle.clsm_law.specs.declared.layout.Layout.{Layout}
 use Rattle.clsm_law.specs.declared.word.Word.TheVariants.{Clock}
 use Rattle.clsm_law.specs.declared.step.Step.TheVariants.{Note, CloseSnapshot, Look}
@@ -8,8 +8,7 @@ use Rattle.clsm_law.specs.declared.view.Mode.{Mode}
 use Rattle.clsm_law.specs.declared.view.Mode.TheVariants.{Free}
 use Rattle.clsm_law.specs.declared.view.SnapshotState.TheVariants.{Absent, Noted, Timed, Open}
 use Rattle.clsm_law.specs.declared.view.SnapshotState.{SnapshotState}
-use Rattle.clsm_law.specs.Relation.{IsOpenSnapshot, call_of, holds_lock, is_free, looked, open_time, or_zero, timed, view_after}
-use Rattle.clsm_model.specs.declared.record.CallRecord.{CallRecord}
+use Rattle.clsm_law.specs.Relation.{IsOpenSnapshot, call_of, is_free, looked, open_time, or_zero, timed}
 use Rattle.clsm_model.specs.declared.record.Deed.TheVariants.{Close}
 use Rattle.clsm_words.specs.declared.known.Known.{Known}
 use Rattle.clsm_words.specs.Knowing.{Sound, Follows, IsNearHeld}

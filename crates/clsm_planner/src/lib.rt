@@ -5,6 +5,7 @@
 mod caller;
 mod cells;
 mod deal;
+mod inserting;
 mod made;
 mod merging;
 mod place;

@@ -22,9 +22,12 @@ pub enum Stage {
     Answer,
     /// A time is drawn.
     Draw,
-    /// Its cell is filled, linked and decided.
+    /// Its cell is filled and linked.
     Fill,
     Link,
+    /// It is inserted into the ordered list, behind this place or a later one.
+    Insert(u64),
+    /// It is decided.
     Decide,
     /// The read under a change ends with no record.
     Unpin,

@@ -85,7 +85,7 @@ impl Place {
         if !made.wins(Step::Link(head))? {
             return Err(Stop::Again);
         }
-        Ok(self.at(Stage::Decide))
+        Ok(self.at(Stage::Insert(0)))
     }
 
     pub(crate) fn decide(&self, made: &mut Made, setting: &Setting) -> Result<Place, Stop> {

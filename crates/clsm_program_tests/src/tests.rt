@@ -1,5 +1,7 @@
+//! Command lines, and the parts of the program below them.
+mod device;
 mod explore;
-mod records;
+mod failing;
+mod lines;
 mod run;
-mod script;
-mod text;
+mod words;

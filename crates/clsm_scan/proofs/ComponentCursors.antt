@@ -9,13 +9,11 @@ use Rattle.clsm_levels.specs.Run.{first_in_runs}
 use Rattle.clsm_law.specs.Worlds.{runs_of}
 use Rattle.clsm_words.specs.declared.known.Known.{Known}
 use Rattle.clsm_words.specs.Knowing.{row_of}
-use Rattle.clsm_words.specs.Keeping.{Looks}
 use Rattle.clsm_runs.specs.Searching.{IsSearchable, run_at, runs_below}
 use Rattle.clsm_runs.proofs.NamedRuns.{names_one, names_zero}
 use Rattle.clsm_scan.specs.declared.run_cursor.RunCursor.{RunCursor}
-use Rattle.clsm_runs.proofs.Looking.{run_stays}
 use Rattle.clsm_scan.specs.Collected.{IsCollected}
-use Rattle.clsm_scan.specs.Optional.{If, found_in, found_same}
+use Rattle.clsm_scan.specs.Optional.{If, found_in}
 use Rattle.clsm_scan.specs.Sources.{level_one_cursor, level_zero_cursor}
 
 -- what a cursor over a run finds, and that it is over one
@@ -57,18 +55,6 @@ module _ (k : Known) (component until : ℕ) where
 
   pub runs_found : (key : ℕ) → or_else (found_in (run_found k) (level_zero_cursor component 2 until) key) (or_else (found_in (run_found k) (level_zero_cursor component 1 until) key) (or_else (found_in (run_found k) (level_zero_cursor component 0 until) key) (run_found k (level_one_cursor component until) key))) ≡ first_in_runs (runs_of (row_of k) component) key until
   runs_found key = rw (zero_found 2 key, zero_found 1 key, zero_found 0 key) (all_found (component % 4) key (omega arith))
-
--- while the component is held its runs answer the same
-module _ (k k' : Known) (component until : ℕ) (looks : Looks k k') (held : k.view.held ≡ Some component) where
-  zero_same : (place key : ℕ) → found_in (run_found k') (level_zero_cursor component place until) key ≡ found_in (run_found k) (level_zero_cursor component place until) key
-  zero_same place key = found_same (run_found k) (run_found k') (run_over k) (level_zero_cursor component place until)
-      (λ c over j. ap (λ es. first_below es j c.until) (run_stays k k' c.component c.place looks over)) (zero_over k component until place held) key
-
-  one_same : (key : ℕ) → run_found k' (level_one_cursor component until) key ≡ run_found k (level_one_cursor component until) key
-  one_same key = ap (λ es. first_below es key until) (run_stays k k' component (3 + component / 4 % 2) looks (one_over k component until held))
-
-  pub runs_same : (key : ℕ) → first_in_runs (runs_of (row_of k') component) key until ≡ first_in_runs (runs_of (row_of k) component) key until
-  runs_same key = sym (runs_found k' component until key) ∙ rw (zero_same 2 key, zero_same 1 key, zero_same 0 key, one_same key) (runs_found k component until key)
 
 -- ---- rows of what is found
 

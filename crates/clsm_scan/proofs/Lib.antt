@@ -1,4 +1,5 @@
 pub mod Turns
 pub mod Rows
-pub mod Passing
 pub mod ComponentCursors
+pub mod EpochCursors
+pub mod AllCursors

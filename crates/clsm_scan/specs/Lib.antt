@@ -2,5 +2,5 @@ pub mod Ahead
 pub mod MergedLaws
 pub mod Collected
 pub mod Optional
-pub mod Gathering
+pub mod Walking
 pub mod Sources

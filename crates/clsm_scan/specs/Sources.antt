@@ -1,5 +1,5 @@
 -- What a held component has of each key, and the cursors over it.
-use Rattle.std.specs.Prelude.{ℕ, ◌+◌, ◌*◌, ◌/◌, ◌%◌, nat_lt, cond, Option, Some, None}
+use Rattle.std.specs.Prelude.{◌≡◌, ℕ, ◌+◌, ◌*◌, ◌/◌, ◌%◌, ◌≤◌, nat_lt, cond, min, length, Option, Some, None}
 use Rattle.clsm_model.specs.History.{or_else}
 use Rattle.clsm_levels.specs.declared.entry.Entry.{Entry}
 use Rattle.clsm_levels.specs.Entry.{entries_of, first_below}
@@ -7,6 +7,7 @@ use Rattle.clsm_levels.specs.Run.{first_in_runs}
 use Rattle.clsm_law.specs.Worlds.{runs_of}
 use Rattle.clsm_words.specs.declared.known.Known.{Known}
 use Rattle.clsm_words.specs.Knowing.{row_of}
+use Rattle.clsm_scan.specs.declared.epoch_cursor.EpochCursor.{EpochCursor}
 use Rattle.clsm_scan.specs.declared.run_cursor.RunCursor.{RunCursor}
 
 -- the newest write of the key below the time: of those of the component's epochs, which the seat
@@ -14,6 +15,17 @@ use Rattle.clsm_scan.specs.declared.run_cursor.RunCursor.{RunCursor}
 abbrev pub found_in_component : Known → ℕ → ℕ → ℕ → Option Entry
 found_in_component k component until key =
     or_else (first_below (entries_of k.past (component * k.layout.cells) until) key until) (first_in_runs (runs_of (row_of k) component) key until)
+
+-- the seat holds the component, and knows what each of its times below `until` came to, which is not
+-- past its later epoch
+pub record MayScan (k : Known) (component until : ℕ) : Type 0 where
+  pub held : k.view.held ≡ Some component
+  pub within : until ≤ (component + 2) * k.layout.cells
+  pub settled : until ≤ length k.past
+
+-- the cursor over an epoch, where it begins below `until`: for its writes below that
+abbrev pub epoch_cursor : ℕ → ℕ → ℕ → ℕ → ℕ → Option EpochCursor
+epoch_cursor component number first cells until = cond (nat_lt first until) (Some (record { epoch = record { component = component; number = number; first = first; until = min until (first + cells) }; ahead = None })) None
 
 -- the cursor at the beginning of the run at a place of level 0, where the component names it
 abbrev pub level_zero_cursor : ℕ → ℕ → ℕ → Option RunCursor

@@ -3,7 +3,7 @@
 
 mod collecting;
 mod cursor;
-mod gathered;
+mod epoch_cursor;
 mod merged;
 mod optional;
 mod run_cursor;
@@ -11,7 +11,7 @@ mod scanning;
 
 pub use collecting::{Collected, collect};
 pub use cursor::Cursor;
-pub use gathered::Gathered;
+pub use epoch_cursor::EpochCursor;
 pub use merged::Merged;
 pub use run_cursor::RunCursor;
 pub use scanning::scan;

@@ -1,37 +1,56 @@
 //! The rows of a range of keys in a held component.
-ghost use Rattle.std.specs.Prelude.{◌≡◌, ◌+◌, ◌*◌, ◌≤◌, ◌%◌, ℕ, IfOk, Some, length};
-ghost use Rattle.clsm_levels.specs.Entry.{entries_of, first_below};
-ghost use Rattle.clsm_levels.specs.Run.{IsRun, first_in_runs};
-ghost use Rattle.clsm_law.specs.Worlds.{runs_of};
+ghost use Rattle.std.specs.Prelude.{◌≡◌, ◌+◌, ◌*◌, ◌≤◌, ◌<◌, ◌%◌, ℕ, IfOk, Some, length};
 ghost use Rattle.clsm_words.specs.declared.known.Known.{Known};
-ghost use Rattle.clsm_words.specs.Knowing.{row_of};
 ghost use Rattle.clsm_words.specs.Keeping.{LooksAside};
 ghost use Rattle.clsm_words.specs.Plays.{IsSeatOf};
-ghost use Rattle.clsm_scan.specs.Ahead.{first_found};
 ghost use Rattle.clsm_scan.specs.Collected.{IsCollected, left_at};
-ghost use Rattle.clsm_model.specs.History.{or_else};
-ghost use Rattle.clsm_scan.specs.Sources.{found_in_component, level_zero_cursor};
+ghost use Rattle.clsm_scan.specs.Sources.{MayScan, epoch_cursor, found_in_component, level_zero_cursor};
 
 use crate::collecting::{Collected, collect};
 use crate::cursor::Cursor;
-use crate::gathered::Gathered;
+use crate::epoch_cursor::EpochCursor;
 use crate::merged::Merged;
 use crate::run_cursor::RunCursor;
-use clsm_levels::Entry;
-use clsm_memtable::gather_range;
+use clsm_memtable::Epoch;
 use clsm_model::{Memory, Time};
 use clsm_words::{Pace, RawSeat, Words};
 use std::alloc::Global;
 
-/// Cursors over the rows of a component, the newest first: the epochs' writes, the runs of level 0,
-/// as far as the component has them, and that of level 1.
-type Sources = Merged<
-    Gathered,
-    Merged<Option<RunCursor>, Merged<Option<RunCursor>, Merged<Option<RunCursor>, RunCursor>>>,
+/// Cursors over the runs of a component, the newest first: those of level 0, as far as the
+/// component has them, and that of level 1.
+type Runs = Merged<
+    Option<RunCursor>,
+    Merged<Option<RunCursor>, Merged<Option<RunCursor>, RunCursor>>,
 >;
+
+/// Cursors over all of a component, the newest first: its later epoch and the one before, as far as
+/// they begin below the time of the scan, and its runs.
+type Sources = Merged<Option<EpochCursor>, Merged<Option<EpochCursor>, Runs>>;
 
 /// The number of the first place of level 1.
 const LEVEL_ONE: u64 = 3;
+
+/// The cursor over the epoch's writes below the time, if it begins below that.
+fn epoch_below(
+    component: u64,
+    number: u64,
+    first: Time,
+    cells: u64,
+    until: Time,
+) -> Option<EpochCursor>
+    ensures { result ≡ epoch_cursor component number first cells until }
+{
+    if first < until {
+        Some(EpochCursor::new(Epoch {
+            component,
+            number,
+            first,
+            until: until.min(first.saturating_add(cells)),
+        }))
+    } else {
+        None
+    }
+}
 
 /// The cursor over the run at the place of level 0, if the component names it.
 fn level_zero(component: u64, place: u64, until: Time) -> Option<RunCursor>
@@ -44,11 +63,15 @@ fn level_zero(component: u64, place: u64, until: Time) -> Option<RunCursor>
     }
 }
 
-/// The cursors over the epochs' writes, which were gathered, and over the component's runs.
-fn sources(row: Vec<Entry>, component: u64, until: Time) -> Sources
-    ensures over { (k : Known) → k.view.held ≡ Some component → IsRun row.items → ⟦<Sources as Cursor>⟧.is_over k result }
-    ensures found { (k : Known) (key : ℕ) → ⟦<Sources as Cursor>⟧.found k result key ≡ or_else (first_below row.items key until) (first_in_runs (runs_of (row_of k) component) key until) }
+/// The cursors over the component's epochs and its runs.
+fn sources<P: Pace>(words: &Words<P>, component: u64, until: Time) -> Sources
+    ensures over { (k : Known) → k.layout ≡ words.now.layout → MayScan k component until → ⟦<Sources as Cursor>⟧.is_over k result }
+    ensures found { (k : Known) → k.layout ≡ words.now.layout → MayScan k component until → (key : ℕ) → ⟦<Sources as Cursor>⟧.found k result key ≡ found_in_component k component until key }
 {
+    let cells = words.cells();
+    let first = component.saturating_mul(cells);
+    let second = first.saturating_add(cells);
+    let later = component.saturating_add(1);
     let level_one = LEVEL_ONE + component / 4 % 2;
     let oldest = Merged::new(
         level_zero(component, 0, until),
@@ -56,11 +79,13 @@ fn sources(row: Vec<Entry>, component: u64, until: Time) -> Sources
     );
     let older = Merged::new(level_zero(component, 1, until), oldest);
     let runs = Merged::new(level_zero(component, 2, until), older);
-    Merged::new(Gathered::new(row, until), runs)
+    let earlier = Merged::new(epoch_below(component, component, first, cells, until), runs);
+    Merged::new(epoch_below(component, later, second, cells, until), earlier)
 }
 
 /// The rows of all keys from `lo` to `hi` below the time, by rising key: at most `max` of them,
-/// where that is given.
+/// where that is given. It goes along the ordered lists of the epochs and the runs, and takes
+/// memory for the rows alone; refused for want of it, the seat is as after looks. It never waits.
 pub fn scan<P: Pace>(
     words: &Words<P>,
     seat: &mut RawSeat,
@@ -79,8 +104,7 @@ pub fn scan<P: Pace>(
     ensures looks { LooksAside seat.old.knows seat.new.knows }
     ensures rows { IfOk result (λ all. IsCollected (left_at (found_in_component seat.old.knows component until)) lo hi max all.rows.items all.more) }
 {
-    let row = gather_range(words, seat, alloc, component, lo, hi, until)?;
-    let mut cursor = sources(row, component, until);
+    let mut cursor = sources(words, component, until);
     cursor.seek(words, seat, lo);
     collect(words, seat, alloc, &mut cursor, lo, hi, max)
 }

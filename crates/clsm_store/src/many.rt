@@ -36,9 +36,10 @@ impl<P: Pace> Store<P> {
     }
 
     /// All pairs with `lo <= key <= hi` by rising key, as one read: at the time of the seat's open
-    /// snapshot, else at a time of its own, as `get`. There are none where `lo > hi`. Of the runs
-    /// it reads what it answers; the component in memory is gathered whole. It takes no lock and
-    /// never waits. Refused for want of memory: nothing is recorded then, and the seat is at rest.
+    /// snapshot, else at a time of its own, as `get`. There are none where `lo > hi`. It reads the
+    /// runs and the ordered lists of the component in memory from `lo` to `hi`, and takes memory
+    /// for the rows alone. It takes no lock and never waits. Refused for want of memory: nothing is
+    /// recorded then, and the seat is at rest.
     pub fn scan(&self, alloc: Global, seat: &mut Seat, lo: u64, hi: u64) -> Result<Scan, Memory>
         requires { seat.old.store ≡ self.now }
         ensures answers { IfOk result (λ scan. Answers seat.old seat.new scan.time (ScanOf lo hi scan.rows)) }

@@ -15,6 +15,7 @@ use Rattle.clsm_words.proofs.Played.{me_seated, found, next, slots', after, told
 use Rattle.clsm_words.proofs.PastGrowth.{past_grows}
 use Rattle.clsm_words.proofs.Telling.{tells_of}
 use Rattle.clsm_words.proofs.Walking.{walks_of, runs_of_step}
+use Rattle.clsm_words.proofs.Neighbours.{order_of, leaves_of, spots_of_step}
 
 module _ (s : State ℕ Known) (id : ℕ) (k : Known) (r : Ruled k.layout s) (at : get_elem? s.views id ≡ some k) (sits : k.seated ≡ true) (step : Step) (o : Opens k step) where
   next_past : Begins (slots' s id k r at sits step o) (next s id k r at sits step o).past
@@ -51,6 +52,9 @@ module _ (s : State ℕ Known) (id : ℕ) (k : Known) (r : Ruled k.layout s) (at
     tells = tells_of s id k r at sits step o;
     walks = walks_of s id k r at sits step o;
     runs = runs_of_step s id k r at sits step o;
+    order = order_of s id k r at sits step o;
+    leaves = leaves_of s id k r at sits step o;
+    spots = spots_of_step s id k r at sits step o;
     sound = sound';
   }
 

@@ -10,16 +10,17 @@ use Rattle.clsm_law.specs.declared.word.Word.{Word}
 use Rattle.clsm_law.specs.declared.view.View.{View}
 use Rattle.clsm_law.specs.declared.merger.MergerView.{MergerView}
 use Rattle.clsm_law.specs.Layout.{size_of, memory}
-use Rattle.clsm_law.specs.Relation.{Chains, idle}
+use Rattle.clsm_law.specs.Relation.{Chains, Orders, idle}
 use Rattle.clsm_law.specs.Merging.{opening as opening_merger}
 use Rattle.clsm_law.specs.Worlds.{view_at, settled}
 use Rattle.clsm_law.specs.Machine.{IsLawful, opened}
 use Rattle.clsm_law.proofs.Layouts.{is_layout}
 use Rattle.clsm_law.proofs.Opening.{opened_lawful, idle_at}
 use Rattle.clsm_words.specs.declared.known.Known.{Known}
-use Rattle.clsm_words.specs.Knowing.{unplayed, new_merger, deals, messenger, learns, HasRows, IsHeldEpoch, IsNamedWord, Sound}
+use Rattle.clsm_words.specs.declared.known.Spot.{Spot}
+use Rattle.clsm_words.specs.Knowing.{unplayed, new_merger, deals, messenger, learns, HasRows, HasSpot, IsHeldEpoch, IsNamedWord, Sound}
 use Rattle.clsm_words.specs.Merging.{IsOwn, known_end, IsSoundMerger}
-use Rattle.clsm_words.specs.Ruled.{world_of, HasFloor, IsEndOf, IsSeated, Begins, IsTold, IsMerging, IsDealing, AreSeats, Ruled}
+use Rattle.clsm_words.specs.Ruled.{world_of, HasFloor, IsEndOf, IsSpot, IsSeated, Begins, IsTold, IsMerging, IsDealing, AreSeats, Ruled}
 use Rattle.clsm_words.proofs.Trails.{end_none}
 use Rattle.clsm_words.proofs.Rows.{idle_rows}
 use Rattle.clsm_words.proofs.Knows.{own_past, sound_of}
@@ -37,8 +38,8 @@ untold slots = record { begins = record { until = 0; is = refl; decided = λ t l
 
 -- ---- the opening
 
-newcomer_seated : (z : Layout) (words : List ℕ) (m : MergerView) (slots : List (Option Slot)) (chains : Chains) (views : List View) (number : ℕ) → number < z.seats → view_at z views number ≡ idle z → IsSeated z words m slots chains views (unplayed z number)
-newcomer_seated z words m slots chains views number lt is = record {
+newcomer_seated : (z : Layout) (words : List ℕ) (m : MergerView) (slots : List (Option Slot)) (chains : Chains) (orders : Orders) (views : List View) (number : ℕ) → number < z.seats → view_at z views number ≡ idle z → IsSeated z words m slots chains orders views (unplayed z number)
+newcomer_seated z words m slots chains orders views number lt is = record {
   layout = refl;
   inside = lt;
   view = is;
@@ -48,6 +49,7 @@ newcomer_seated z words m slots chains views number lt is = record {
   floor = λ c held. absurd cc;
   ends = end_none (chains 0 0);
   line = λ some. absurd (some refl);
+  spots = λ p key none. absurd cc;
 }
 
 -- the merger's seat at the opening
@@ -89,14 +91,14 @@ opens z words e = record {
 pub fresh_sound : (z : Layout) (number : ℕ) → number < z.seats → Sound (unplayed z number)
 unfolding opens
 fresh_sound z number lt = let r = opens z (opened z).words refl in sound_of (opening (opened z).words [] (new_merger z)) (unplayed z number) r
-    (newcomer_seated z (opened z).words r.merger r.slots r.lawful.chains (replicate z.seats (idle z)) number lt (idle_at z z.seats number)) refl
+    (newcomer_seated z (opened z).words r.merger r.slots r.lawful.chains r.lawful.orders (replicate z.seats (idle z)) number lt (idle_at z z.seats number)) refl
 
 pub new_sound : (z : Layout) → IsSoundMerger (new_merger z)
 unfolding opens
 new_sound z = sound_merger (opening (opened z).words [] (new_merger z)) (new_merger z) (opens z (opened z).words refl) (new_merging z) refl
 
 pub learns_sound : (k m : Known) → Sound k → Sound (learns k m)
-learns_sound k m s = record { seated = s.seated; inside = s.inside; there = s.there; small = s.small; rows = s.rows; length_is = s.length_is; agrees = s.agrees; right = s.right; rising = s.rising; in_time = s.in_time; own_region = s.own_region; opened = s.opened; reads = λ c held. let h = s.reads c held in record { near = h.near; below_merged = h.below_merged; below_snapshot = h.below_snapshot; runs = h.runs } }
+learns_sound k m s = record { seated = s.seated; inside = s.inside; there = s.there; small = s.small; rows = s.rows; length_is = s.length_is; agrees = s.agrees; right = s.right; rising = s.rising; in_time = s.in_time; own_region = s.own_region; own_places = λ p drawn some known. let h = s.own_places p drawn some known in record { inside = h.inside; region = h.region }; opened = s.opened; reads = λ c held. let h = s.reads c held in record { near = h.near; below_merged = h.below_merged; below_snapshot = h.below_snapshot; runs = h.runs }; keyed = s.keyed; spotted = λ p key has. let h = s.spotted p key has in record { epoch = h.epoch; walked = h.walked; some = h.some; inside = h.inside; region = h.region } }
 
 -- ---- dealing
 
@@ -113,13 +115,14 @@ pub record Like (o j : Known) : Type 0 where
   pub trail : o.trail ≡ j.trail
   pub region : o.region ≡ j.region
   pub chain : o.chain ≡ j.chain
+  pub spots : o.spots ≡ j.spots
   pub floor : o.floor ≡ j.floor
 
 alike : (k : Known) → Like k k
-alike k = record { seated = refl; merges = refl; number = refl; layout = refl; view = refl; merger = refl; row = refl; past = refl; trail = refl; region = refl; chain = refl; floor = refl }
+alike k = record { seated = refl; merges = refl; number = refl; layout = refl; view = refl; merger = refl; row = refl; past = refl; trail = refl; region = refl; chain = refl; spots = refl; floor = refl }
 
-like_seated : (z : Layout) (words : List ℕ) (m : MergerView) (slots : List (Option Slot)) (chains : Chains) (views : List View) (o j : Known) → Like o j → IsSeated z words m slots chains views o → IsSeated z words m slots chains views j
-like_seated z words m slots chains views o j l h = record {
+like_seated : (z : Layout) (words : List ℕ) (m : MergerView) (slots : List (Option Slot)) (chains : Chains) (orders : Orders) (views : List View) (o j : Known) → Like o j → IsSeated z words m slots chains orders views o → IsSeated z words m slots chains orders views j
+like_seated z words m slots chains orders views o j l h = record {
   layout = sym l.layout ∙ h.layout;
   inside = let e = l.number in let i = h.inside in omega arith;
   view = (λ i. view_at z views (sym l.number i)) ∙ h.view ∙ l.view;
@@ -129,6 +132,7 @@ like_seated z words m slots chains views o j l h = record {
   floor = subst (λ (y : View × ℕ). (c : ℕ) → y.0.held ≡ Some c → HasFloor m c y.1) (λ i. (l.view i, l.floor i)) h.floor;
   ends = subst (λ (y : List ℕ × ℕ × ℕ). IsEndOf y.0 (chains y.1 y.2)) (λ i. (l.trail i, l.region i, l.chain i)) h.ends;
   line = subst (λ (y : List ℕ × View × ℕ × ℕ). y.0 ≢ [] → (e : ℕ) × IsHeldEpoch z y.1.held y.1.past e × (y.2 ≡ e % 2) × (y.3 < z.chains)) (λ i. (l.trail i, l.view i, l.region i, l.chain i)) h.line;
+  spots = subst (λ (y : View × List Spot). (p key : ℕ) → HasSpot y.1 p key → IsSpot z (memory z words) orders y.0.held y.0.past p key) (λ i. (l.view i, l.spots i)) h.spots;
 }
 
 like_merging : (z : Layout) (words : List ℕ) (m : MergerView) (slots : List (Option Slot)) (o j : Known) → Like o j → IsMerging z words m slots o → IsMerging z words m slots j
@@ -155,7 +159,7 @@ module _ (id : ℕ) (k : Known) (merges : k.merges ≡ true) (room : k.dealt < k
   Old i j = (o : Known) × (get_elem? s.views i ≡ some o) × Like o j × (IsTold r.slots j.told j.heard) × (j.merges ≡ true → j.dealt ≡ k.dealt + 1)
 
   dealt_like : Like k (deals k)
-  dealt_like = record { seated = refl; merges = refl; number = refl; layout = refl; view = refl; merger = refl; row = refl; past = refl; trail = refl; region = refl; chain = refl; floor = refl }
+  dealt_like = record { seated = refl; merges = refl; number = refl; layout = refl; view = refl; merger = refl; row = refl; past = refl; trail = refl; region = refl; chain = refl; spots = refl; floor = refl }
 
   old : (i : ℕ) (j : Known) → get_elem? mid i ≡ some j → Old i j
   old i j e = ⊎_elim
@@ -180,14 +184,14 @@ module _ (id : ℕ) (k : Known) (merges : k.merges ≡ true) (room : k.dealt < k
       (λ (h : (i ≡ length mid) × (right ≡ j)). absurd (merges_not j h.1 p))
       (at_end mid right j i e)
 
-  right_seated : IsSeated k.layout s.words r.merger r.slots r.lawful.chains r.views right
-  right_seated = newcomer_seated k.layout s.words r.merger r.slots r.lawful.chains r.views k.dealt room ((r.seats.dealer id k at merges).idle_above k.dealt (omega arith))
+  right_seated : IsSeated k.layout s.words r.merger r.slots r.lawful.chains r.lawful.orders r.views right
+  right_seated = newcomer_seated k.layout s.words r.merger r.slots r.lawful.chains r.lawful.orders r.views k.dealt room ((r.seats.dealer id k at merges).idle_above k.dealt (omega arith))
 
-  dealt_seats : AreSeats k.layout s.words r.merger r.slots r.lawful.chains r.views (mid ++ right ∷ [])
+  dealt_seats : AreSeats k.layout s.words r.merger r.slots r.lawful.chains r.lawful.orders r.views (mid ++ right ∷ [])
   dealt_seats = record {
     seated = λ i j e sat. ⊎_elim
-        (λ (o : Old i j). like_seated k.layout s.words r.merger r.slots r.lawful.chains r.views o.0 j o.2 (r.seats.seated i o.0 o.1 (o.2.seated ∙ sat)))
-        (λ (h : (i ≡ length mid) × (right ≡ j)). subst (IsSeated k.layout s.words r.merger r.slots r.lawful.chains r.views) h.1 right_seated)
+        (λ (o : Old i j). like_seated k.layout s.words r.merger r.slots r.lawful.chains r.lawful.orders r.views o.0 j o.2 (r.seats.seated i o.0 o.1 (o.2.seated ∙ sat)))
+        (λ (h : (i ≡ length mid) × (right ≡ j)). subst (IsSeated k.layout s.words r.merger r.slots r.lawful.chains r.lawful.orders r.views) h.1 right_seated)
         (split i j e);
     merging = λ i j e p. ⊎_elim
         (λ (o : Old i j). like_merging k.layout s.words r.merger r.slots o.0 j o.2 (r.seats.merging i o.0 o.1 (o.2.merges ∙ p)))
@@ -232,7 +236,7 @@ deals_one id k merges room s r at = dealt_on id k merges room s r at
 abbrev IsMessenger : List (Option Slot) → Known → Type 0
 IsMessenger slots j = (j.seated ≡ false) × (j.merges ≡ false) × IsTold slots j.told j.heard
 
-module _ (z : Layout) (words : List ℕ) (m : MergerView) (slots : List (Option Slot)) (chains : Chains) (views : List View) (a b : List Known) (q : AreSeats z words m slots chains views a) where
+module _ (z : Layout) (words : List ℕ) (m : MergerView) (slots : List (Option Slot)) (chains : Chains) (orders : Orders) (views : List View) (a b : List Known) (q : AreSeats z words m slots chains orders views a) where
   abbrev Was : ℕ → Known → Type 0
   Was i j = (o : Known) × (get_elem? a i ≡ some o) × Like o j × (o.dealt ≡ j.dealt) × IsTold slots j.told j.heard
 
@@ -243,9 +247,9 @@ module _ (z : Layout) (words : List ℕ) (m : MergerView) (slots : List (Option 
     merged_was : (i : ℕ) (j : Known) → get_elem? b i ≡ some j → j.merges ≡ true → Was i j
     merged_was i j e p = ⊎_elim (λ (m : IsMessenger slots j). absurd (let f : true ≡ false = sym p ∙ m.1 in cc)) (λ (w : Was i j). w) (back i j e)
 
-    regroup : AreSeats z words m slots chains views b
+    regroup : AreSeats z words m slots chains orders views b
     regroup = record {
-      seated = λ i j e sat. let w = sat_was i j e sat in like_seated z words m slots chains views w.0 j w.2 (q.seated i w.0 w.1 (w.2.seated ∙ sat));
+      seated = λ i j e sat. let w = sat_was i j e sat in like_seated z words m slots chains orders views w.0 j w.2 (q.seated i w.0 w.1 (w.2.seated ∙ sat));
       merging = λ i j e p. let w = merged_was i j e p in like_merging z words m slots w.0 j w.2 (q.merging i w.0 w.1 (w.2.merges ∙ p));
       told = λ i j e. ⊎_elim (λ (m : IsMessenger slots j). m.2) (λ (w : Was i j). w.4) (back i j e);
       apart = λ i i' j j' e e' sat sat' same. let w = sat_was i j e sat in let w' = sat_was i' j' e' sat' in q.apart i i' w.0 w'.0 w.1 w'.1 (w.2.seated ∙ sat) (w'.2.seated ∙ sat') (w.2.number ∙ same ∙ sym w'.2.number);
@@ -267,8 +271,8 @@ module _ (id : ℕ) (k : Known) (sits : k.seated ≡ true) (s : State ℕ Known)
     below = subst (λ (u : View). u.due ≤ length r.slots) ok.view (r.lawful.law.dues k.number);
   }
 
-  told_seats : AreSeats k.layout s.words r.merger r.slots r.lawful.chains r.views (set s.views id k ++ sent ∷ [])
-  told_seats = regroup k.layout s.words r.merger r.slots r.lawful.chains r.views s.views (set s.views id k ++ sent ∷ []) r.seats (λ i j e. ⊎_elim
+  told_seats : AreSeats k.layout s.words r.merger r.slots r.lawful.chains r.lawful.orders r.views (set s.views id k ++ sent ∷ [])
+  told_seats = regroup k.layout s.words r.merger r.slots r.lawful.chains r.lawful.orders r.views s.views (set s.views id k ++ sent ∷ []) r.seats (λ i j e. ⊎_elim
       (λ (h : get_elem? (set s.views id k) i ≡ some j). let h' : get_elem? s.views i ≡ some j = subst (λ (vs : List Known). get_elem? vs i ≡ some j) (set_again s.views id k at) h in
       inr (j, h', alike j, refl, r.seats.told i j h'))
       (λ (h : (i ≡ length (set s.views id k)) × (sent ≡ j)). inl (subst (IsMessenger r.slots) h.1 (refl, refl, sent_told)))
@@ -286,7 +290,7 @@ module _ (z : Layout) (id other : ℕ) (k m : Known) (s : State ℕ Known) (r : 
   both = learns k m
 
   both_like : Like k both
-  both_like = record { seated = refl; merges = refl; number = refl; layout = refl; view = refl; merger = refl; row = refl; past = refl; trail = refl; region = refl; chain = refl; floor = refl }
+  both_like = record { seated = refl; merges = refl; number = refl; layout = refl; view = refl; merger = refl; row = refl; past = refl; trail = refl; region = refl; chain = refl; spots = refl; floor = refl }
 
   abbrev spent : Known
   spent = messenger [] 0
@@ -310,7 +314,7 @@ module _ (z : Layout) (id other : ℕ) (k m : Known) (s : State ℕ Known) (r : 
       (at_set (set s.views id both) other i spent j e)
 
   pub learned_on : Ruled z record { words = s.words; homes = s.homes; views = joined }
-  learned_on = record { views = r.views; merger = r.merger; slots = r.slots; lawful = r.lawful; seats = regroup z s.words r.merger r.slots r.lawful.chains r.views s.views joined r.seats joined_back }
+  learned_on = record { views = r.views; merger = r.merger; slots = r.slots; lawful = r.lawful; seats = regroup z s.words r.merger r.slots r.lawful.chains r.lawful.orders r.views s.views joined r.seats joined_back }
 
 pub learns_one : (z : Layout) (id other : ℕ) (k m : Known) → m.seated ≡ false → m.merges ≡ false → Joins (Ruled z) id k other m (learns k m) (messenger [] 0)
 learns_one z id other k m carries none s r at apart there =

@@ -24,10 +24,11 @@ seat_by step k k' x follows = record {
   heard = follows.heard;
   past = follows.longer;
   runs = follows.runs;
+  spots = follows.spots;
 }
 
 pub seat_stays : (k : Known) → KeepsSeat k k
-seat_stays k = record { number = refl; dealt = refl; layout = refl; told = refl; heard = refl; past = ([], append-nil k.past); runs = λ c held held'. (refl, λ word named. refl) }
+seat_stays k = record { number = refl; dealt = refl; layout = refl; told = refl; heard = refl; past = ([], append-nil k.past); runs = λ c held held'. (refl, λ word named. refl); spots = λ c held held'. record { each = λ p key has. has } }
 
 -- a component that was held before and is held after was held between
 pub seat_trans : (a b c : Known) → KeepsSeat a b → KeepsSeat b c → ((m : ℕ) → a.view.held ≡ Some m → c.view.held ≡ Some m → b.view.held ≡ Some m) → KeepsSeat a c
@@ -39,6 +40,7 @@ seat_trans a b c h k between = record {
   heard = k.heard ∙ h.heard;
   past = prefix_trans a.past b.past c.past h.past k.past;
   runs = λ m held held'. let mid = between m held held' in let one = h.runs m held mid in let two = k.runs m mid held' in (two.0 ∙ one.0, λ word named. two.1 word named ∙ one.1 word named);
+  spots = λ m held held'. let mid = between m held held' in let one = h.spots m held mid in let two = k.spots m mid held' in record { each = λ p key has. two.each p key (one.each p key has) };
 }
 
 -- ---- the seat and its past
@@ -79,15 +81,15 @@ place_trans a b c h k between = record { seat = seat_trans a b c h.seat k.seat b
 -- ---- reads
 
 -- the view but for what reading changes
-abbrev pub but_read : View → List (Option ℕ) → ℕ → ℕ → ℕ → View
-but_read v heads reached past cancelled = record v { fresh_heads = heads; reached = reached; past = past; cancelled = cancelled }
+abbrev pub but_read : View → List (Option ℕ) → ℕ → ℕ → ℕ → ℕ → ℕ → ℕ → View
+but_read v heads met low high reached past cancelled = record v { fresh_heads = heads; met = met; low = low; high = high; reached = reached; past = past; cancelled = cancelled }
 
 -- a step that changes nothing else of the view, and falls back in nothing, only reads
-pub reads_by : (step : Step) (k k' : Known) (x : ℕ) (heads : List (Option ℕ)) (reached past cancelled : ℕ) → Follows step k x k' → view_after k.layout k.number k.view step x ≡ but_read k.view heads reached past cancelled → k.view.reached ≤ reached → OnlyReads k k'
-reads_by step k k' x heads reached past cancelled follows e le =
-    let is : k'.view ≡ but_read k.view heads reached past cancelled = follows.view ∙ e in record {
+pub reads_by : (step : Step) (k k' : Known) (x : ℕ) (heads : List (Option ℕ)) (met low high reached past cancelled : ℕ) → Follows step k x k' → view_after k.layout k.number k.view step x ≡ but_read k.view heads met low high reached past cancelled → k.view.reached ≤ reached → OnlyReads k k'
+reads_by step k k' x heads met low high reached past cancelled follows e le =
+    let is : k'.view ≡ but_read k.view heads met low high reached past cancelled = follows.view ∙ e in record {
       seat = seat_by step k k' x follows;
-      view = subst (λ (v : View). v ≡ but_read k.view v.fresh_heads v.reached v.past v.cancelled) (sym is) refl;
+      view = subst (λ (v : View). v ≡ but_read k.view v.fresh_heads v.met v.low v.high v.reached v.past v.cancelled) (sym is) refl;
       reached = let r = ap (λ (v : View). v.reached) is in omega arith;
     }
 
@@ -97,7 +99,7 @@ reads_none k = record { seat = seat_stays k; view = refl; reached = omega arith 
 pub reads_trans : (a b c : Known) → OnlyReads a b → OnlyReads b c → OnlyReads a c
 reads_trans a b c h k = record {
   seat = seat_trans a b c h.seat k.seat (λ m held held'. ap (λ (v : View). v.held) h.view ∙ held);
-  view = k.view ∙ ap (λ (v : View). but_read v c.view.fresh_heads c.view.reached c.view.past c.view.cancelled) h.view;
+  view = k.view ∙ ap (λ (v : View). but_read v c.view.fresh_heads c.view.met c.view.low c.view.high c.view.reached c.view.past c.view.cancelled) h.view;
   reached = let x = h.reached in let y = k.reached in omega arith;
 }
 

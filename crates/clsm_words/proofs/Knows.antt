@@ -1,5 +1,5 @@
 -- What the rule says of a seat, the seat knows.
-use Rattle.std.proofs.Common.{◌≡◌, ℕ, ◌+◌, ◌-◌, ◌*◌, ◌<◌, ◌≤◌, ◌||◌, Bool, true, cond, List, refl, length, get_or, sym, ap, ◌∙◌, subst, arith, inl, inr, Option, Some}
+use Rattle.std.proofs.Common.{◌≡◌, ◌≢◌, ◌⊎◌, ⊎_elim, ℕ, ◌+◌, ◌-◌, ◌*◌, ◌%◌, ◌<◌, ◌≤◌, ◌||◌, Bool, true, cond, List, refl, length, get_or, sym, ap, ◌∙◌, subst, arith, inl, inr, Option, Some, None}
 use Rattle.std.specs.List.{AllByRecursion}
 use Rattle.std.proofs.lemmas.Bool.{cases_lt}
 use Rattle.std.proofs.lemmas.List.{get_or_past}
@@ -10,7 +10,7 @@ use Rattle.clsm_model.specs.History.{History, plain}
 use Rattle.clsm_model.specs.Right.{write_by}
 use Rattle.clsm_law.specs.declared.layout.Layout.{Layout}
 use Rattle.clsm_law.specs.declared.word.Word.{Word}
-use Rattle.clsm_law.specs.declared.word.Word.TheVariants.{Merged}
+use Rattle.clsm_law.specs.declared.word.Word.TheVariants.{Limit, Merged}
 use Rattle.clsm_law.specs.declared.step.Step.{Step}
 use Rattle.clsm_law.specs.declared.step.Step.TheVariants.{EnterShared, Draw, Decide, Look, Note}
 use Rattle.clsm_law.specs.declared.view.View.{View}
@@ -18,23 +18,25 @@ use Rattle.clsm_law.specs.declared.view.SnapshotState.{SnapshotState}
 use Rattle.clsm_law.specs.declared.view.SnapshotState.TheVariants.{Open}
 use Rattle.clsm_law.specs.declared.merger.MergerView.{MergerView}
 use Rattle.clsm_law.specs.Memory.{cell_of, region_of, is_word}
-use Rattle.clsm_law.specs.Relation.{idle, or_zero, open_time, IsOpen, word_of}
+use Rattle.clsm_law.specs.Relation.{idle, or_zero, own_region, open_time, IsOpen, word_of}
 use Rattle.clsm_law.specs.Merging.{is_frozen}
 use Rattle.clsm_law.specs.Worlds.{view_at, outcome_at, past_of}
-use Rattle.clsm_law.specs.Law.{IsSnapshot, first_free}
+use Rattle.clsm_law.specs.Law.{IsMember, IsSnapshot, first_free}
 use Rattle.clsm_model.specs.Seats.{IsRightRecord, StandsAs, IsStandingRecord, HasWrite, IsRecordIn, IsRising}
 use Rattle.clsm_law.specs.SeatBounds.{IsSmall, IsSmallLook}
 use Rattle.clsm_law.specs.Machine.{WorldState}
 use Rattle.clsm_law.proofs.Histories.{end_of-past}
 use Rattle.clsm_law.proofs.Records.{all_map}
 use Rattle.clsm_law.proofs.SeatSmall.{step_small}
-use Rattle.clsm_law.proofs.Setting.{Setting, Opens as OpensIn, ground, past_below, x}
+use Rattle.clsm_law.proofs.Setting.{Setting, Opens as OpensIn, ground, past_below, v, x}
 use Rattle.clsm_law.proofs.Stepped.{seat_setting}
 use Rattle.clsm_law.proofs.Cases.{by_bool}
-use Rattle.clsm_law.proofs.Times.{region_of_epoch}
+use Rattle.clsm_law.proofs.Times.{cell_below, region_of_epoch}
+use Rattle.clsm_law.proofs.OrderFacts.{R, some_place, place_region, member_own}
 use Rattle.clsm_law.proofs.WordsThere.{word_there}
 use Rattle.clsm_words.specs.declared.known.Known.{Known}
-use Rattle.clsm_words.specs.Knowing.{row_of, IsReading, Agrees, Opens, Sound}
+use Rattle.clsm_law.specs.Layout.{memory}
+use Rattle.clsm_words.specs.Knowing.{row_of, HasSpot, IsHeldEpoch, IsReading, IsCellPlace, IsOwnPlace, Agrees, Opens, Sound}
 use Rattle.clsm_words.specs.Ruled.{world_of, IsSeated, Begins, Ruled}
 use Rattle.clsm_words.proofs.Beginnings.{begins_at}
 use Rattle.clsm_words.proofs.HeldRuns.{clock_near, snapshot_above, floor_below, floor_least, runs_held}
@@ -74,7 +76,7 @@ snapshot_reached : (floor clock past : ℕ) (pinned : Bool) (snapshot : Snapshot
 snapshot_reached floor clock past pinned (Open noted time) t h e = let same : time ≡ t = ap or_zero e in let below = h.2 in omega arith
 snapshot_reached floor clock past pinned snapshot t h e = absurd cc
 
-module _ (s : State ℕ Known) (k : Known) (r : Ruled k.layout s) (ok : IsSeated k.layout s.words r.merger r.slots r.lawful.chains r.views k) where
+module _ (s : State ℕ Known) (k : Known) (r : Ruled k.layout s) (ok : IsSeated k.layout s.words r.merger r.slots r.lawful.chains r.lawful.orders r.views k) where
   abbrev pub world : WorldState
   world = world_of k.layout s.words r.views r.merger r.slots
 
@@ -148,6 +150,28 @@ module _ (s : State ℕ Known) (k : Known) (r : Ruled k.layout s) (ok : IsSeated
       let before = pending.1 in
       same_region k.layout end.0 limit t (let a = k.layout.cells_in_range.0 in omega arith) (same ∙ is ∙ end.1) (omega arith) (omega arith)
 
+  -- a place that it knows of the ordered list is that of a cell of the drawn one's region
+  own_place_of : (p : ℕ) → k.view.drawn ≢ None → p ≢ 0 → (p ≡ k.view.met) ⊎ ((p ≡ k.view.low) ⊎ (p ≡ k.view.high)) → IsOwnPlace k p
+  own_place_of p drawn some known =
+      let there : (v setting).drawn ≢ None = λ e. drawn (sym (ap (λ (u : View). u.drawn) ok.view) ∙ e) in
+      let stands = member_own setting there p member in
+      let l = r.lawful.law.placed (R setting) p stands in
+      record {
+        inside = let at = l.place in let below = cell_below k.layout l.time (let a = k.layout.cells_in_range.0 in omega arith) in omega arith;
+        region = subst (λ (u : View). region_of k.layout (p - 1) ≡ own_region k.layout u) ok.view (place_region (ground setting) (R setting) p stands);
+      }
+    where
+      IsKnown : ℕ → Type 0
+      IsKnown q = IsMember k.layout (memory k.layout s.words Limit) r.lawful.orders (view_at k.layout r.views k.number).mode q
+
+      known_by : (of : View → ℕ) → (of (view_at k.layout r.views k.number) ≢ 0 → IsKnown (of (view_at k.layout r.views k.number))) → p ≡ of k.view → IsKnown p
+      known_by of is e = let same : of (view_at k.layout r.views k.number) ≡ p = ap of ok.view ∙ sym e in subst IsKnown same (is (λ none. some (sym same ∙ none)))
+
+      member : IsKnown p
+      member = ⊎_elim (λ (e : p ≡ k.view.met). known_by (λ v. v.met) (r.lawful.law.met k.number) e)
+          (λ (or : (p ≡ k.view.low) ⊎ (p ≡ k.view.high)). ⊎_elim (λ (e : p ≡ k.view.low). known_by (λ v. v.low) (r.lawful.law.lows k.number) e) (λ (e : p ≡ k.view.high). known_by (λ v. v.high) (r.lawful.law.highs k.number) e) or)
+          known
+
   -- what it may search while it holds the component c
   reads_of : (c : ℕ) → k.view.held ≡ Some c → IsReading k c
   reads_of c held =
@@ -163,6 +187,20 @@ module _ (s : State ℕ Known) (k : Known) (r : Ruled k.layout s) (ok : IsSeated
         runs = runs_held g k.number c k.floor (row_of k) k.past own_past number_inside there (ok.floor c held) (ok.row c held);
       }
 
+  -- a spot is the place of a cell, with the cell's key
+  cell_place : (p key : ℕ) → HasSpot k.spots p key → IsCellPlace k p
+  cell_place p key has =
+      let h = ok.spots p key has in
+      let g = ground setting in
+      let l = r.lawful.law.placed (h.epoch % 2) p h.stands in
+      record {
+        epoch = h.epoch;
+        walked = subst (λ (n : ℕ). IsHeldEpoch k.layout k.view.held n h.epoch) (sym past_long) h.walked;
+        some = some_place g (h.epoch % 2) p h.stands;
+        inside = let at = l.place in let below = cell_below k.layout l.time (let a = k.layout.cells_in_range.0 in omega arith) in omega arith;
+        region = place_region g (h.epoch % 2) p h.stands;
+      }
+
   pub sound_of : k.seated ≡ true → Sound k
   sound_of sits = record {
     seated = sits;
@@ -174,8 +212,11 @@ module _ (s : State ℕ Known) (k : Known) (r : Ruled k.layout s) (ok : IsSeated
     right = right_there;
     rows = ok.rows;
     own_region = region_is;
+    own_places = own_place_of;
     opened = opened_of;
     reads = reads_of;
+    spotted = cell_place;
+    keyed = λ p key other has has'. (ok.spots p key has).key_is ∙ sym (ok.spots p other has').key_is;
     rising = subst (λ (u : View). IsRising u.calls u.due (open_time u.snapshot)) ok.view (r.lawful.law.rising k.number);
     in_time = let below = due_bound in let bounded = r.lawful.law.bounded in let top = r.lawful.law.top in omega arith;
   }

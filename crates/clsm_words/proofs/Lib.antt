@@ -3,6 +3,7 @@ pub mod Beginnings
 pub mod Rows
 pub mod HeldRuns
 pub mod Trails
+pub mod Spots
 pub mod Owned
 pub mod MergerFacts
 pub mod MergerKnows
@@ -13,6 +14,8 @@ pub mod Telling
 pub mod PastGrowth
 pub mod Keeps
 pub mod Walking
+pub mod Links
+pub mod Neighbours
 pub mod Allowed
 pub mod Dealing
 pub mod May

@@ -9,7 +9,7 @@ use Rattle.clsm_levels.specs.Merge.{wanted}
 use Rattle.clsm_levels.specs.Place.{places, runs_at}
 use Rattle.clsm_law.specs.declared.layout.Layout.{Layout}
 use Rattle.clsm_law.specs.declared.word.Word.{Word}
-use Rattle.clsm_law.specs.declared.word.Word.TheVariants.{Clock, Head, State, Count, Entry as EntryWord}
+use Rattle.clsm_law.specs.declared.word.Word.TheVariants.{Clock, Head, Order, State, Count, Entry as EntryWord}
 use Rattle.clsm_law.specs.declared.step.Step.{Step}
 use Rattle.clsm_law.specs.declared.step.Step.TheVariants.{Pad, ClearState, Publish, ExtendClock}
 use Rattle.clsm_law.specs.declared.merger.Phase.{Phase}
@@ -17,7 +17,7 @@ use Rattle.clsm_law.specs.declared.merger.Phase.TheVariants.{Clean, Frozen, Reti
 use Rattle.clsm_law.specs.Memory.{Memory, cell_of, region_of}
 use Rattle.clsm_law.specs.Places.{number_of}
 use Rattle.clsm_law.specs.Merging.{Facts, is_clean, is_frozen, epoch_end, retired_region, target_of, IsOpenToMerger, merger_after}
-use Rattle.clsm_law.specs.Worlds.{settled, passes_from, is_padded, is_headless, is_last, runs_of, epoch_of, facts_of}
+use Rattle.clsm_law.specs.Worlds.{settled, passes_from, is_padded, is_headless, is_orderless, is_last, runs_of, epoch_of, facts_of}
 use Rattle.clsm_law.proofs.Setting.{Ground, facts, OpensTo}
 use Rattle.clsm_law.proofs.KeptRuns.{SamePlace, place_same, canonical_same}
 use Rattle.clsm_words.specs.Merging.{IsLetGo, IsOwn, known_end}
@@ -63,6 +63,9 @@ module _ (g : Ground) (row : Memory) (past : List Slot) (agree : (word : Word) �
   headless_known gone = passes_within (λ chain. g.memory (Head (retired_region g.merger) chain) == 0) (λ chain. row (Head (retired_region g.merger) chain) == 0) 0 g.z.chains
       (λ chain low high. ap (λ (n : ℕ). n == 0) (agree (Head (retired_region g.merger) chain) (gone, refl)))
 
+  orderless_known : IsLetGo g.merger → is_orderless row g.merger ≡ is_orderless g.memory g.merger
+  orderless_known gone = ap (λ (n : ℕ). n == 0) (agree (Order (retired_region g.merger)) (gone, refl))
+
   last_known : IsLetGo g.merger → (cell : ℕ) → is_last g.z row g.merger cell ≡ is_last g.z g.memory g.merger cell
   last_known gone cell = passes_within (λ other. other == cell || g.memory (State other) == 0) (λ other. other == cell || row (State other) == 0) (retired_region g.merger * g.z.cells) g.z.cells
       (λ other low high. ap (λ (n : ℕ). other == cell || n == 0) (agree (State other) (inr (gone, in_region g.z (retired_region g.merger) other (omega arith) low high))))
@@ -95,7 +98,7 @@ module _ (g : Ground) (row : Memory) (past : List Slot) (agree : (word : Word) �
   -- what is open by the facts that it knows is open
   pub open_known : (step : Step) → IsOpenToMerger g.z known g.merger step → OpensTo g step
   open_known (Pad t) o = let clock = agree Clock o.0 in let from = o.1 in (o.0, omega arith, o.2)
-  open_known (ClearState cell) o = (o.0, o.1, o.2, o.3, sym (headless_known (o.0, o.1)) ∙ o.4)
+  open_known (ClearState cell) o = (o.0, o.1, o.2, o.3, sym (headless_known (o.0, o.1)) ∙ o.4, sym (orderless_known (o.0, o.1)) ∙ o.5)
   open_known Publish o = let count = (same_places (target_of g.merger)).count in let room = o.1 in
       (o.0, omega arith, sym (place_same g.memory row (target_of g.merger) (same_places (target_of g.merger))) ∙ o.2 ∙ wanted_known o.0 (free_if_frozen o.0), sym (canonical_same g.memory row (target_of g.merger) (same_places (target_of g.merger))) ∙ o.3)
   open_known ExtendClock o = (o.0, sym (padded_known o.0) ∙ o.1, o.2)

@@ -60,7 +60,7 @@ module _ (s : State ℕ Known) (k : Known) (r : Ruled k.layout s) (ok : IsMergin
   mergeable : IsMergeable k.layout k.row r.merger
   mergeable = record {
     size = ok.sized;
-    small = (lawful_is_mergeable k.layout s.words r.views r.merger r.slots r.lawful.chains r.lawful.size r.lawful.law).small;
+    small = (lawful_is_mergeable k.layout s.words r.views r.merger r.slots r.lawful.chains r.lawful.orders r.lawful.size r.lawful.law).small;
     counts = runs_known.counts;
     falls = runs_known.content.falls;
     older = runs_known.content.older;

@@ -16,8 +16,8 @@ use Rattle.clsm_law.specs.declared.merger.Phase.{Phase}
 use Rattle.clsm_law.specs.declared.merger.Phase.TheVariants.{Clean, Frozen, Retired}
 use Rattle.clsm_law.specs.Memory.{Memory, is_word, put}
 use Rattle.clsm_law.specs.Layout.{index_of, memory}
-use Rattle.clsm_law.specs.Relation.{Chains}
-use Rattle.clsm_law.specs.Merging.{is_clean, is_frozen, is_retired, epoch_end, word_of_merger, changed_by_merger, merger_after, slots_after_merger, chains_after_merger}
+use Rattle.clsm_law.specs.Relation.{Chains, Orders}
+use Rattle.clsm_law.specs.Merging.{is_clean, is_frozen, is_retired, epoch_end, word_of_merger, changed_by_merger, merger_after, slots_after_merger, chains_after_merger, orders_after_merger}
 use Rattle.clsm_law.specs.Worlds.{outcome_at, settled, facts_of}
 use Rattle.clsm_law.specs.Law.{LawOf, each, held_of}
 use Rattle.clsm_law.specs.Machine.{IsLawful, memory_of}
@@ -32,10 +32,11 @@ use Rattle.clsm_law.proofs.Stepped.{lawful_ground}
 use Rattle.clsm_words.specs.declared.known.Known.{Known}
 use Rattle.clsm_words.specs.Knowing.{row_of, IsHeldEpoch, IsNamedWord}
 use Rattle.clsm_words.specs.Merging.{facts_known, OpensToMerger, known_end}
-use Rattle.clsm_words.specs.Ruled.{world_of, HasFloor, IsSeated, Begins, IsMerging, AreSeats, Ruled}
+use Rattle.clsm_words.specs.Ruled.{world_of, HasFloor, IsSpot, IsSeated, Begins, IsMerging, AreSeats, Ruled}
 use Rattle.clsm_words.proofs.Beginnings.{HaveGrown, begins_stay, begins_length, decided_stay}
 use Rattle.clsm_words.proofs.MergerFacts.{after_known}
 use Rattle.clsm_words.proofs.Trails.{walked_apart, ends_walked}
+use Rattle.clsm_words.proofs.Spots.{spot_merged}
 use Rattle.clsm_words.proofs.MergerKnows.{world, setting, open_by_row, open_there}
 
 -- in a lawful world each time up to the end that a merger knows is decided
@@ -148,12 +149,16 @@ module _ (s : State ℕ Known) (id : ℕ) (k : Known) (r : Ruled k.layout s) (at
   abbrev pub chains' : Chains
   chains' = chains_after_merger r.lawful.chains step
 
+  abbrev pub orders' : Orders
+  orders' = orders_after_merger r.lawful.orders step
+
   abbrev pub lawful' : IsLawful (world_of k.layout words' r.views view' slots')
   lawful' = record {
     sound = r.lawful.sound;
     size = length-set s.words (index_of k.layout word) made ∙ r.lawful.size;
     chains = chains';
-    law = subst (λ (y : Memory × MergerView × List (Option Slot)). LawOf k.layout y.0 r.views y.1 y.2 chains') (λ i. (sym there_memory i, sym there_view i, sym same_slots i)) (kept' before step opens);
+    orders = orders';
+    law = subst (λ (y : Memory × MergerView × List (Option Slot)). LawOf k.layout y.0 r.views y.1 y.2 chains' orders') (λ i. (sym there_memory i, sym there_view i, sym same_slots i)) (kept' before step opens);
   }
 
   abbrev pub ended : Ground
@@ -194,12 +199,14 @@ module _ (s : State ℕ Known) (id : ℕ) (k : Known) (r : Ruled k.layout s) (at
   longer_past = let e = past_long in omega arith
 
   -- what a caller knew stays
-  module _ (j : Known) (h : IsSeated k.layout s.words r.merger r.slots r.lawful.chains r.views j) where
+  module _ (j : Known) (h : IsSeated k.layout s.words r.merger r.slots r.lawful.chains r.lawful.orders r.views j) where
+    past_inside : j.view.past ≤ length r.slots
+    past_inside = subst (λ (u : View). u.past ≤ length r.slots) h.view (past_below before j.number)
+
     past_stays : j.past ≡ take j.view.past (settled slots')
     past_stays =
         let decided : (t : ℕ) → t < j.view.past → outcome_at r.slots t ≢ None = λ t lt. r.lawful.law.past j.number t (subst (λ (u : View). t < u.past) (sym h.view) lt) in
-        let bound : j.view.past ≤ length r.slots = subst (λ (u : View). u.past ≤ length r.slots) h.view (past_below before j.number) in
-        h.past ∙ decided_stay r.slots slots' j.view.past grown bound decided
+        h.past ∙ decided_stay r.slots slots' j.view.past grown past_inside decided
 
     held_there : (c : ℕ) → j.view.held ≡ Some c → each k.layout held_of r.views j.number ≡ Some c
     held_there c e = ap (λ (u : View). u.held) h.view ∙ e
@@ -216,10 +223,9 @@ module _ (s : State ℕ Known) (id : ℕ) (k : Known) (r : Ruled k.layout s) (at
       by : (held : Option ℕ) → j.view.held ≡ held → IsHeldEpoch k.layout held j.view.past (h.line walks).0 → j.region ≢ region
       by None is epoch = absurd epoch
       by (Some c) is epoch = λ q.
-          let bound : j.view.past ≤ length r.slots = subst (λ (u : View). u.past ≤ length r.slots) h.view (past_below before j.number) in
-          walked_apart before j.number c (h.line walks).0 j.view.past (held_there c is) bound epoch region chain clears (sym (h.line walks).2 ∙ q)
+          walked_apart before j.number c (h.line walks).0 j.view.past (held_there c is) past_inside epoch region chain clears (sym (h.line walks).2 ∙ q)
 
-    seated_stays : IsSeated k.layout words' view' slots' chains' r.views j
+    seated_stays : IsSeated k.layout words' view' slots' chains' orders' r.views j
     seated_stays = record {
       layout = h.layout;
       inside = h.inside;
@@ -230,6 +236,7 @@ module _ (s : State ℕ Known) (id : ℕ) (k : Known) (r : Ruled k.layout s) (at
       floor = floor_stays;
       ends = ends_walked before step opens j.region j.chain j.trail line_apart h.ends;
       line = h.line;
+      spots = λ p key has. subst (λ (m : Memory). IsSpot k.layout m orders' j.view.held j.view.past p key) (sym there_memory) (spot_merged before step opens j.number j.view.held j.view.past p key (ap (λ (u : View). u.held) h.view) past_inside (h.spots p key has));
     }
 
   back : (i : ℕ) (j : Known) → get_elem? after.views i ≡ some j → ((i ≡ id) × (next ≡ j)) ⊎ ((i ≢ id) × (get_elem? s.views i ≡ some j))
@@ -251,7 +258,7 @@ module _ (s : State ℕ Known) (id : ℕ) (k : Known) (r : Ruled k.layout s) (at
       (λ (t : (i ≡ id) × (next ≡ j)). subst (λ (y : ℕ × Known). Was y.0 y.1) (λ m. (sym t.0 m, t.1 m)) (record { old = k; stood = at; number = refl; seated = refl; merger = refl; dealt = refl; told = refl; heard = refl }))
       (λ (t : (i ≢ id) × (get_elem? s.views i ≡ some j)). record { old = j; stood = t.1; number = refl; seated = refl; merger = refl; dealt = refl; told = refl; heard = refl }) (back i j e)
 
-  pub seats' : AreSeats k.layout words' view' slots' chains' r.views after.views
+  pub seats' : AreSeats k.layout words' view' slots' chains' orders' r.views after.views
   seats' = record {
     seated = λ i j e sat. ⊎_elim
         (λ (t : (i ≡ id) × (next ≡ j)). let mine : k.seated ≡ true = ap (λ (y : Known). y.seated) t.1 ∙ sat in absurd (let f = me_merging.unseated in cc (f, mine)))

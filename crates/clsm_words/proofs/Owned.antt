@@ -1,12 +1,12 @@
 -- No open step of a caller changes a word of the merger's own.
-use Rattle.std.proofs.Common.{◌≡◌, ◌≢◌, ℕ, ◌%◌, ◌<◌, ◌≤◌, ⊎_elim, true, length, refl, ap, ◌∙◌, arith, Some, None}
+use Rattle.std.proofs.Common.{◌≡◌, ◌≢◌, ℕ, ◌+◌, ◌%◌, ◌<◌, ◌≤◌, ⊎_elim, true, length, refl, ap, ◌∙◌, arith, Some, None}
 use prog.Atomic.{either}
 use Rattle.clsm_law.specs.declared.word.Word.{Word}
-use Rattle.clsm_law.specs.declared.word.Word.TheVariants.{Clock, Head, State, Count, Entry}
+use Rattle.clsm_law.specs.declared.word.Word.TheVariants.{Clock, Head, Order, State, Count, Entry}
 use Rattle.clsm_law.specs.declared.step.Step.{Step}
-use Rattle.clsm_law.specs.declared.step.Step.TheVariants.{Draw, Link, Decide, Cancel, Look}
+use Rattle.clsm_law.specs.declared.step.Step.TheVariants.{Draw, Link, FillOrder, Insert, Decide, Cancel, Look}
 use Rattle.clsm_law.specs.declared.view.Mode.TheVariants.{Shared}
-use Rattle.clsm_law.specs.Memory.{cell_of, region_of, put}
+use Rattle.clsm_law.specs.Memory.{cell_of, region_of, link_at, put}
 use Rattle.clsm_law.specs.Relation.{is_shared, or_zero}
 use Rattle.clsm_law.specs.Merging.{retired_region}
 use Rattle.clsm_law.specs.Worlds.{outcome_at}
@@ -17,6 +17,7 @@ use Rattle.clsm_law.proofs.Setting.{Setting, v, M, x, own, own_drawn, Opens, gro
 use Rattle.clsm_law.proofs.Growth.{cancels_shown}
 use Rattle.clsm_law.proofs.KeptCells.{first_if_quiet, retired_end}
 use Rattle.clsm_law.proofs.KeptRuns.{seat_same}
+use Rattle.clsm_law.proofs.OrderFacts.{R, P, region_small, link_same}
 use Rattle.clsm_law.proofs.Times.{region_of_epoch}
 use Rattle.clsm_words.specs.Merging.{IsLetGo, IsOwn}
 
@@ -78,9 +79,21 @@ own_head s (Link head) o region chain is = put_other s.memory (Head (region_of s
 own_head s (Look word) o region chain is = λ k. put_same s.memory word k (Head region chain)
 own_head s step o region chain is = refl
 
+-- ---- the heads of the ordered lists
+own_order : (s : Setting) (step : Step) → Opens s step → (link : ℕ) → IsOwn s.z s.merger (Order link) → M s step (Order link) ≡ s.memory (Order link)
+own_order s (FillOrder w) o link is = put_other s.memory (Order (P s + 1)) (Order link) w (λ q. let same : P s + 1 ≡ link = cc in let head = is.1 in absurd (omega arith))
+own_order s (Insert p next) o link is = put_other s.memory (Order (link_at (R s) p)) (Order link) _ (λ q.
+    let same : link_at (R s) p ≡ link_at link 0 = cc in
+    let head = is.1 in
+    let one = link_same (R s) link p 0 (region_small s) (omega arith) same in
+    drawn_apart s is.0 s.me (own s) (own_drawn s o.0) (one.1 one.0 ∙ is.1))
+own_order s (Look word) o link is = λ k. put_same s.memory word k (Order link)
+own_order s step o link is = refl
+
 pub own_kept : (s : Setting) (step : Step) → Opens s step → (word : Word) → IsOwn s.z s.merger word → M s step word ≡ s.memory word
 own_kept s step o Clock is = own_clock s step o is
 own_kept s step o (Head region chain) is = own_head s step o region chain is
+own_kept s step o (Order link) is = own_order s step o link is
 own_kept s step o (State cell) is = own_state s step o cell is
 own_kept s step o (Count place) is = (seat_same s step o place).count
 own_kept s step o (Entry place entry part) is = (seat_same s step o place).words entry part

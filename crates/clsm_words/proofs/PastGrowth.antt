@@ -4,7 +4,7 @@ use mathlib.Core.List.{IsPrefix}
 use Rattle.clsm_model.specs.declared.slot.Slot.{Slot}
 use Rattle.clsm_law.specs.declared.layout.Layout.{Layout}
 use Rattle.clsm_law.specs.declared.word.Word.{Word}
-use Rattle.clsm_law.specs.declared.word.Word.TheVariants.{Lock, Clock, Limit, Front, Merged, Head, State as StateOf}
+use Rattle.clsm_law.specs.declared.word.Word.TheVariants.{Lock, Clock, Limit, Front, Merged, Head, Cell, Order, State as StateOf}
 use Rattle.clsm_law.specs.declared.word.Part.{Part}
 use Rattle.clsm_law.specs.declared.word.Part.TheVariants.{Key, Length, Value, Next}
 use Rattle.clsm_law.specs.declared.step.Step.{Step}
@@ -22,6 +22,8 @@ looked_past z v Front x = refl
 looked_past z v Merged x = refl
 looked_past z v (Head region chain) x = refl
 looked_past z v (StateOf cell) x = refl
+looked_past z v (Order link) x = refl
+looked_past z v (Cell cell part) x = refl
 looked_past z v word x = refl
 
 filled_past : (v : View) (part : Part) (w : ℕ) → (filled v part w).past ≡ v.past

@@ -1,5 +1,5 @@
 -- What the words and the seats are after an open step of a seat.
-use Rattle.std.proofs.Common.{◌≡◌, ◌≢◌, ℕ, ◌<◌, ◌≤◌, ◌*◌, ◌⊎◌, true, cond, List, length, take, get_or, set, sym, refl, ap, ◌∙◌, subst, arith, ⊎_elim, Option, None, get_or-set_same, get_or-set_other, length-set}
+use Rattle.std.proofs.Common.{◌≡◌, ◌≢◌, ℕ, ◌<◌, ◌≤◌, ◌*◌, ◌%◌, ◌⊎◌, true, cond, List, length, take, get_or, set, sym, refl, ap, ◌∙◌, subst, arith, ⊎_elim, Option, None, get_or-set_same, get_or-set_other, length-set}
 use mathlib.Core.Option.{some}
 use lib.ListN.{get_elem?}
 use Rattle.atomic_table.specs.Table.{State}
@@ -10,31 +10,34 @@ use Rattle.clsm_law.specs.declared.word.Word.TheVariants.{Clock, Count, Entry}
 use Rattle.clsm_law.specs.declared.step.Step.{Step}
 use Rattle.clsm_law.specs.declared.view.View.{View}
 use Rattle.clsm_law.specs.Layout.{index_of, memory}
-use Rattle.clsm_law.specs.Relation.{Chains, idle, word_of, changed, view_after, slots_after, chains_after}
+use Rattle.clsm_law.specs.Relation.{Chains, Orders, idle, word_of, changed, view_after, slots_after, chains_after, orders_after}
 use Rattle.clsm_law.specs.Worlds.{view_at, outcome_at, settled}
-use Rattle.clsm_law.specs.Memory.{Memory, is_word}
-use Rattle.clsm_law.specs.Law.{LawOf}
+use Rattle.clsm_law.specs.Memory.{Memory, key_at, is_word}
+use Rattle.clsm_law.specs.Law.{LawOf, In}
 use Rattle.clsm_law.specs.Merging.{is_frozen, epoch_end, IsRunWord}
 use Rattle.clsm_law.specs.Machine.{WorldState, IsLawful, memory_of}
 use Rattle.clsm_law.proofs.Growth.{slots_stay, longer}
 use Rattle.clsm_law.proofs.Cases.{by_bool}
 use Rattle.clsm_law.proofs.Layouts.{memory-at, memory-set}
 use Rattle.clsm_law.proofs.MachineSteps.{seat_word, seat_there, seat_writes}
-use Rattle.clsm_law.proofs.Setting.{Setting, v, x, M, S, ground, past_below, Opens as OpensIn}
+use Rattle.clsm_law.proofs.Setting.{Setting, v, x, M, S, O, ground, past_below, Opens as OpensIn}
+use Rattle.clsm_law.proofs.OrderFacts.{stays_ordered}
+use Rattle.clsm_law.proofs.KeptOrders.{keys_stay}
 use Rattle.clsm_law.proofs.Kept.{kept}
 use Rattle.clsm_law.proofs.KeptRuns.{seat_same}
 use Rattle.clsm_words.specs.declared.known.Known.{Known}
 use Rattle.clsm_words.specs.Knowing.{Opens}
 use Rattle.clsm_words.specs.Merging.{IsOwn, known_end}
-use Rattle.clsm_words.specs.Ruled.{world_of, IsSeated, Begins, IsMerging, AreSeats, Ruled}
+use Rattle.clsm_words.specs.Ruled.{world_of, IsSpot, IsSeated, Begins, IsMerging, AreSeats, Ruled}
 use Rattle.clsm_words.proofs.Beginnings.{HaveGrown, begins_stay, decided_stay}
 use Rattle.clsm_words.proofs.Owned.{own_kept}
 use Rattle.clsm_words.proofs.Trails.{trail_after, region_after, chain_after, floor_after, ends_stay, own_ends, own_line, own_floor}
+use Rattle.clsm_words.proofs.Spots.{spots_after, own_spots, spot_kept}
 use Rattle.clsm_words.proofs.Rows.{rows_stay}
 use Rattle.clsm_words.proofs.Knows.{world, number_inside, setting, open_there}
 
 module _ (s : State ℕ Known) (id : ℕ) (k : Known) (r : Ruled k.layout s) (at : get_elem? s.views id ≡ some k) (sits : k.seated ≡ true) (step : Step) (o : Opens k step) where
-  pub me_seated : IsSeated k.layout s.words r.merger r.slots r.lawful.chains r.views k
+  pub me_seated : IsSeated k.layout s.words r.merger r.slots r.lawful.chains r.lawful.orders r.views k
   me_seated = r.seats.seated id k at sits
 
   -- the word that the step is on, what it finds there, and what comes after
@@ -59,6 +62,9 @@ module _ (s : State ℕ Known) (id : ℕ) (k : Known) (r : Ruled k.layout s) (at
   abbrev pub chains' : Chains
   chains' = chains_after k.layout k.view r.lawful.chains step found
 
+  abbrev pub orders' : Orders
+  orders' = orders_after k.layout k.view r.lawful.orders step found
+
   abbrev pub next : Known
   next = record k {
     view = view';
@@ -67,6 +73,7 @@ module _ (s : State ℕ Known) (id : ℕ) (k : Known) (r : Ruled k.layout s) (at
     trail = trail_after k.layout k.view r.lawful.chains k.trail step;
     region = region_after k.region step;
     chain = chain_after k.chain step;
+    spots = spots_after k.layout k.view (memory k.layout s.words) r.lawful.orders k.spots step found;
     floor = floor_after k.view r.merger.merged_floor k.floor step;
   }
 
@@ -106,12 +113,21 @@ module _ (s : State ℕ Known) (id : ℕ) (k : Known) (r : Ruled k.layout s) (at
     sound = r.lawful.sound;
     size = length-set s.words (index_of k.layout word) (changed k.layout k.view step found) ∙ r.lawful.size;
     chains = chains';
-    law = subst (λ (y : Memory × View × ℕ). LawOf k.layout y.0 (set r.views k.number (view_after k.layout k.number y.1 step y.2)) r.merger (slots_after k.number r.slots step y.2) (chains_after k.layout y.1 r.lawful.chains step y.2))
+    orders = orders';
+    law = subst (λ (y : Memory × View × ℕ). LawOf k.layout y.0 (set r.views k.number (view_after k.layout k.number y.1 step y.2)) r.merger (slots_after k.number r.slots step y.2) (chains_after k.layout y.1 r.lawful.chains step y.2) (orders_after k.layout y.1 r.lawful.orders step y.2))
         (λ i. (sym same_memory i, sym finds.0 i, sym finds.2 i)) (kept before step opens);
   }
 
   same_slots : S before step ≡ slots'
   same_slots = ap (λ (n : ℕ). slots_after k.number r.slots step n) (sym finds.2)
+
+  same_orders : O before step ≡ orders'
+  same_orders = λ i. orders_after k.layout (sym finds.0 i) r.lawful.orders step (sym finds.2 i)
+
+  -- a spot of a seat's stays one
+  kept_spot : (held : Option ℕ) (past p key : ℕ) → IsSpot k.layout (memory k.layout s.words) r.lawful.orders held past p key → IsSpot k.layout (memory k.layout words') orders' held past p key
+  kept_spot held past p key = spot_kept k.layout (memory k.layout s.words) (memory k.layout words') r.lawful.orders orders' held past p key
+      (λ e epoch stands. (subst (λ (lists : Orders). In p (lists (e % 2))) same_orders (stays_ordered before step (e % 2) p stands), (λ i. key_at (same_memory i) p) ∙ keys_stay before step opens (e % 2) p stands))
 
   pub grown : HaveGrown r.slots slots'
   grown = subst (HaveGrown r.slots) same_slots record { longer = longer before step; stay = slots_stay before step opens }
@@ -120,7 +136,7 @@ module _ (s : State ℕ Known) (id : ℕ) (k : Known) (r : Ruled k.layout s) (at
   told_stays list b = begins_stay r.slots slots' list grown b
 
   -- what a seat knew of the history stays
-  pub past_stays : (j : Known) → IsSeated k.layout s.words r.merger r.slots r.lawful.chains r.views j → j.past ≡ take j.view.past (settled slots')
+  pub past_stays : (j : Known) → IsSeated k.layout s.words r.merger r.slots r.lawful.chains r.lawful.orders r.views j → j.past ≡ take j.view.past (settled slots')
   past_stays j h =
       let decided : (t : ℕ) → t < j.view.past → outcome_at r.slots t ≢ None = λ t lt. r.lawful.law.past j.number t (subst (λ (u : View). t < u.past) (sym h.view) lt) in
       let bound : j.view.past ≤ length r.slots = subst (λ (u : View). u.past ≤ length r.slots) h.view (past_below (ground before) j.number) in
@@ -141,7 +157,7 @@ module _ (s : State ℕ Known) (id : ℕ) (k : Known) (r : Ruled k.layout s) (at
   inside' : k.number < length r.views
   inside' = number_inside s k r me_seated
 
-  pub next_seated : IsSeated k.layout words' r.merger slots' chains' views' next
+  pub next_seated : IsSeated k.layout words' r.merger slots' chains' orders' views' next
   next_seated = record {
     layout = refl;
     inside = me_seated.inside;
@@ -152,6 +168,7 @@ module _ (s : State ℕ Known) (id : ℕ) (k : Known) (r : Ruled k.layout s) (at
     floor = own_floor k.layout k.number k.view r.merger (memory k.layout s.words) k.floor step found finds_word r.lawful.law.merged me_seated.floor;
     ends = ends_stay k.layout k.view r.lawful.chains step found (region_after k.region step) (chain_after k.chain step) next.trail (own_ends k.layout k.view r.lawful.chains k.trail k.region k.chain step me_seated.ends);
     line = own_line k.layout k.number k.view r.lawful.chains k.trail k.region k.chain step found word_there me_seated.line;
+    spots = λ p key has. kept_spot view'.held view'.past p key (own_spots k.layout k.number k.view (memory k.layout s.words) r.lawful.orders k.spots step found me_seated.spots p key has);
   }
 
   -- the words of runs stay
@@ -162,9 +179,9 @@ module _ (s : State ℕ Known) (id : ℕ) (k : Known) (r : Ruled k.layout s) (at
     stays (Entry place entry part) is = (seat_same before step opens place).words entry part
     stays w is = absurd is
 
-  seated' : (i : ℕ) (j : Known) → get_elem? after.views i ≡ some j → j.seated ≡ true → IsSeated k.layout words' r.merger slots' chains' views' j
+  seated' : (i : ℕ) (j : Known) → get_elem? after.views i ≡ some j → j.seated ≡ true → IsSeated k.layout words' r.merger slots' chains' orders' views' j
   seated' i j e sat = ⊎_elim
-      (λ (t : (i ≡ id) × (next ≡ j)). subst (IsSeated k.layout words' r.merger slots' chains' views') t.1 next_seated)
+      (λ (t : (i ≡ id) × (next ≡ j)). subst (IsSeated k.layout words' r.merger slots' chains' orders' views') t.1 next_seated)
       (λ (t : (i ≢ id) × (get_elem? s.views i ≡ some j)). let h = r.seats.seated i j t.1 sat in record {
         layout = h.layout;
         inside = h.inside;
@@ -175,6 +192,7 @@ module _ (s : State ℕ Known) (id : ℕ) (k : Known) (r : Ruled k.layout s) (at
         floor = h.floor;
         ends = ends_stay k.layout k.view r.lawful.chains step found j.region j.chain j.trail h.ends;
         line = h.line;
+        spots = λ p key has. kept_spot j.view.held j.view.past p key (h.spots p key has);
       }) (back i j e)
 
   -- what the merger knows of its own words stays
@@ -205,7 +223,7 @@ module _ (s : State ℕ Known) (id : ℕ) (k : Known) (r : Ruled k.layout s) (at
       (λ (t : (i ≡ id) × (next ≡ j)). let mine : k.merges ≡ true = ap (λ (y : Known). y.merges) t.1 ∙ p in absurd (let f = (r.seats.merging id k at mine).unseated in cc (f, sits)))
       (λ (t : (i ≢ id) × (get_elem? s.views i ≡ some j)). merging_stays j (r.seats.merging i j t.1 p)) (back i j e)
 
-  pub seats' : AreSeats k.layout words' r.merger slots' chains' views' after.views
+  pub seats' : AreSeats k.layout words' r.merger slots' chains' orders' views' after.views
   seats' = record {
     seated = seated';
     merging = merging';

@@ -3,7 +3,7 @@ use Rattle.std.proofs.Common.{◌≡◌, ℕ, ◌*◌, ◌==◌, Bool, true, fal
 use Rattle.std.proofs.lemmas.List.{length-replicate}
 use Rattle.clsm_law.specs.declared.layout.Layout.{Layout}
 use Rattle.clsm_law.specs.declared.word.Word.{Word}
-use Rattle.clsm_law.specs.declared.word.Word.TheVariants.{Lock, Clock, Limit, Front, Merged, Head, State}
+use Rattle.clsm_law.specs.declared.word.Word.TheVariants.{Lock, Clock, Limit, Front, Merged, Head, Cell, Order, State}
 use Rattle.clsm_law.specs.declared.word.Part.{Part}
 use Rattle.clsm_law.specs.declared.word.Part.TheVariants.{Key, Length, Value, Next}
 use Rattle.clsm_law.specs.declared.step.Step.{Step}
@@ -39,6 +39,8 @@ looked_rows z v Front x h = record { heads = h.heads; words = h.words }
 looked_rows z v Merged x h = record { heads = h.heads; words = h.words }
 looked_rows z v (Head region chain) x h = record { heads = either_long (holds_lock v) (set v.fresh_heads (line_of region chain) (Some x)) v.fresh_heads (2 * z.chains) (set_long v.fresh_heads (line_of region chain) (Some x) (2 * z.chains) h.heads) h.heads; words = h.words }
 looked_rows z v (State cell) x h = record { heads = h.heads; words = h.words }
+looked_rows z v (Order link) x h = record { heads = h.heads; words = h.words }
+looked_rows z v (Cell cell part) x h = record { heads = h.heads; words = h.words }
 looked_rows z v word x h = h
 
 -- they stay so long

@@ -2,10 +2,10 @@
 use Rattle.std.specs.Prelude.{◌≡◌, ◌≤◌}
 use mathlib.Core.List.{IsPrefix}
 use Rattle.clsm_words.specs.declared.known.Known.{Known}
-use Rattle.clsm_words.specs.Knowing.{KeepsRuns}
+use Rattle.clsm_words.specs.Knowing.{KeepsRuns, KeepsSpots}
 
 -- It is the seat that it was, with a past that goes on. While it holds a component, the runs that
--- it searches stay
+-- it searches stay, and its spots
 pub record KeepsSeat (old new : Known) : Type 0 where
   pub number : new.number ≡ old.number
   pub dealt : new.dealt ≡ old.dealt
@@ -14,6 +14,7 @@ pub record KeepsSeat (old new : Known) : Type 0 where
   pub heard : new.heard ≡ old.heard
   pub past : IsPrefix old.past new.past
   pub runs : KeepsRuns old new
+  pub spots : KeepsSpots old new
 
 -- It is the seat that it was, and learned of no time more
 pub record KeepsPast (old new : Known) : Type 0 where
@@ -30,11 +31,12 @@ pub record KeepsPlace (old new : Known) : Type 0 where
   pub past : new.past ≡ old.past
   pub trail : new.trail ≡ old.trail
 
--- It only read: its view is as it was, but for the heads that it looked at, what it reached, how
--- far its past goes, and how many times of others it cancelled; what it reached does not fall back
+-- It only read: its view is as it was, but for the heads that it looked at, the places of the
+-- ordered list that it met and found before and behind its drawn cell, what it reached, how far its
+-- past goes, and how many times of others it cancelled; what it reached does not fall back
 pub record OnlyReads (old new : Known) : Type 0 where
   pub seat : KeepsSeat old new
-  pub view : new.view ≡ record old.view { fresh_heads = new.view.fresh_heads; reached = new.view.reached; past = new.view.past; cancelled = new.view.cancelled }
+  pub view : new.view ≡ record old.view { fresh_heads = new.view.fresh_heads; met = new.view.met; low = new.view.low; high = new.view.high; reached = new.view.reached; past = new.view.past; cancelled = new.view.cancelled }
   pub reached : old.view.reached ≤ new.view.reached
 
 -- it read, and neither learned of a time more nor cancelled one

@@ -1,6 +1,6 @@
 -- What a seat at the words knows: how it begins, what a step makes of it, and what each step tells
 -- it.
-use Rattle.std.specs.Prelude.{max, min, true, false, ◌≡◌, ℕ, ◌+◌, ◌-◌, ◌*◌, ◌%◌, ◌<◌, ◌≤◌, ◌⊎◌, List, [], ◌∷◌, length, slice_index, slice_index_or, Option, Some, None}
+use Rattle.std.specs.Prelude.{max, min, true, false, ◌≡◌, ◌≢◌, ℕ, ◌+◌, ◌-◌, ◌*◌, ◌%◌, ◌<◌, ◌≤◌, ◌==◌, ◌&&◌, ◌||◌, ◌⊎◌, Bool, List, [], ◌∷◌, length, slice_index, slice_index_or, Option, Some, None}
 use Rattle.std.specs.List.{AllByRecursion}
 use Rattle.std.proofs.Common.{arith}
 use mathlib.Core.List.{IsPrefix}
@@ -12,25 +12,26 @@ use Rattle.clsm_levels.specs.Entry.{AreBelow}
 use Rattle.clsm_levels.specs.Run.{IsExact, IsRun, all_of}
 use Rattle.clsm_law.specs.declared.layout.Layout.{Layout}
 use Rattle.clsm_law.specs.declared.word.Word.{Word}
-use Rattle.clsm_law.specs.declared.word.Word.TheVariants.{Lock, Clock, Head, Cell, State, Count, Entry}
+use Rattle.clsm_law.specs.declared.word.Word.TheVariants.{Lock, Clock, Head, Cell, Order, State, Count, Entry}
 use Rattle.clsm_law.specs.declared.word.Part.{Part}
 use Rattle.clsm_law.specs.declared.word.Part.TheVariants.{Key, Length, Value, Next}
 use Rattle.clsm_law.specs.declared.step.Step.{Step}
 use Rattle.clsm_law.specs.declared.step.Step.TheVariants.{Pin, Unpin, Look}
 use Rattle.clsm_law.specs.declared.view.View.{View}
 use Rattle.clsm_law.specs.declared.view.Mode.TheVariants.{Shared}
-use Rattle.clsm_law.specs.Codes.{exclusive_hold, cancelled_cell, last_limit}
-use Rattle.clsm_law.specs.Memory.{Memory, cell_of, region_of, is_word, room_of}
+use Rattle.clsm_law.specs.Codes.{exclusive_hold, cancelled_cell, value_cell, removal_cell, last_limit}
+use Rattle.clsm_law.specs.Memory.{Memory, cell_of, region_of, link_at, is_word, room_of}
 use Rattle.clsm_law.specs.Layout.{memory}
 use Rattle.clsm_law.specs.Places.{is_named}
 use Rattle.clsm_law.specs.Worlds.{are_canonical, runs_of}
-use Rattle.clsm_law.specs.Law.{In, Distinct}
-use Rattle.clsm_law.specs.Relation.{IsShort, idle, length_of, words_of, state_of, open_time, HoldsFrom, IsOpen, word_of, view_after}
+use Rattle.clsm_law.specs.Law.{In, Distinct, place_of_time}
+use Rattle.clsm_law.specs.Relation.{IsShort, Before, own_region, idle, length_of, words_of, state_of, open_time, HoldsFrom, IsOpen, word_of, view_after}
 use Rattle.clsm_law.specs.Merging.{opening, IsRunWord, place_of}
 use Rattle.clsm_law.specs.Machine.{opened}
 use Rattle.clsm_model.specs.Seats.{IsRecordIn, IsRightRecord, HasWrite, IsRising}
 use Rattle.clsm_law.specs.SeatBounds.{IsSmall}
 use Rattle.clsm_words.specs.declared.known.Known.{Known}
+use Rattle.clsm_words.specs.declared.known.Spot.{Spot}
 
 -- ---- seats, and what carries a past
 
@@ -40,12 +41,12 @@ least_layout = record { cells = 4; seats = 1; chains = 1; run = 4; patience = 0;
 
 -- a caller's seat that has played nothing
 abbrev pub unplayed : Layout → ℕ → Known
-unplayed z number = record { seated = true; merges = false; number = number; dealt = 0; layout = z; view = idle z; merger = opening z; row = []; trail = []; region = 0; chain = 0; floor = 0; past = []; told = []; heard = 0 }
+unplayed z number = record { seated = true; merges = false; number = number; dealt = 0; layout = z; view = idle z; merger = opening z; row = []; trail = []; spots = []; region = 0; chain = 0; floor = 0; past = []; told = []; heard = 0 }
 
 -- the merger's, which is the first of all and deals the others: its number is the number of the
 -- callers' seats
 abbrev pub new_merger : Layout → Known
-new_merger z = record { seated = false; merges = true; number = z.seats; dealt = 0; layout = z; view = idle z; merger = opening z; row = (opened z).words; trail = []; region = 0; chain = 0; floor = 0; past = []; told = []; heard = 0 }
+new_merger z = record { seated = false; merges = true; number = z.seats; dealt = 0; layout = z; view = idle z; merger = opening z; row = (opened z).words; trail = []; spots = []; region = 0; chain = 0; floor = 0; past = []; told = []; heard = 0 }
 
 -- one seat more is dealt
 abbrev pub deals : Known → Known
@@ -53,7 +54,7 @@ deals k = record k { dealt = k.dealt + 1 }
 
 -- one that only carries a past and a due
 abbrev pub messenger : List Slot → ℕ → Known
-messenger told heard = record { seated = false; merges = false; number = 0; dealt = 0; layout = least_layout; view = idle least_layout; merger = opening least_layout; row = []; trail = []; region = 0; chain = 0; floor = 0; past = []; told = told; heard = heard }
+messenger told heard = record { seated = false; merges = false; number = 0; dealt = 0; layout = least_layout; view = idle least_layout; merger = opening least_layout; row = []; trail = []; spots = []; region = 0; chain = 0; floor = 0; past = []; told = told; heard = heard }
 
 -- a seat that takes in what another carries: its beginning of the history, and its due where that
 -- is greater
@@ -104,11 +105,39 @@ pub record IsReading (k : Known) (c : ℕ) : Type 0 where
   pub below_snapshot : (s : ℕ) → open_time k.view.snapshot ≡ Some s → k.floor ≤ s
   pub runs : AreReadable k.layout (row_of k) (plain k.past) c k.floor
 
+-- an epoch whose chains and list the seat may walk: that of the held component, and the next where
+-- the seat's past is within it
+abbrev pub IsHeldEpoch : Layout → Option ℕ → ℕ → ℕ → Type 0
+IsHeldEpoch z None past e = ⊥
+IsHeldEpoch z (Some m) past e = (e ≡ m) ⊎ ((e ≡ m + 1) × (e * z.cells < past))
+
+-- the place is a spot of these, whose cell has the key
+abbrev pub has_spot : List Spot → ℕ → ℕ → Bool
+has_spot [] p key = false
+has_spot (spot ∷ spots) p key = (spot.place == p && spot.key == key) || has_spot spots p key
+
+abbrev pub HasSpot : List Spot → ℕ → ℕ → Type 0
+HasSpot spots p key = has_spot spots p key ≡ true
+
+-- the place is that of a cell, in the region of an epoch that the seat may walk
+pub record IsCellPlace (k : Known) (p : ℕ) : Type 0 where
+  pub epoch : ℕ
+  pub walked : IsHeldEpoch k.layout k.view.held (length k.past) epoch
+  pub some : p ≢ 0
+  pub inside : p - 1 < 2 * k.layout.cells
+  pub region : region_of k.layout (p - 1) ≡ epoch % 2
+
+-- the place is that of a cell of the drawn one's region
+pub record IsOwnPlace (k : Known) (p : ℕ) : Type 0 where
+  pub inside : p - 1 < 2 * k.layout.cells
+  pub region : region_of k.layout (p - 1) ≡ own_region k.layout k.view
+
 -- what a seat knows of itself: the words of its open steps are there, the numbers that these make
 -- fit 64 bits, its records are right in its past and agree with it, and their times rise to its
 -- due, which is no time past the end; its drawn time is in the epoch of the limit that it looked at
--- in this hold of the lock, and the time of its open snapshot within its past; and what it may
--- search
+-- in this hold of the lock, and so is each place of the ordered list that it met, or found before or
+-- behind its drawn cell; the time of its open snapshot is within its past; what it may search; and
+-- that each spot is the place of a cell, with one key
 pub record Sound (k : Known) : Type 0 where
   pub seated : k.seated ≡ true
   pub inside : k.number < k.layout.seats
@@ -121,8 +150,11 @@ pub record Sound (k : Known) : Type 0 where
   pub rising : IsRising k.view.calls k.view.due (open_time k.view.snapshot)
   pub in_time : k.view.due ≤ last_limit
   pub own_region : (t limit : ℕ) → k.view.drawn ≡ Some t → k.view.hold_limit ≡ Some limit → region_of k.layout (cell_of k.layout (limit - 1)) ≡ region_of k.layout (cell_of k.layout t)
+  pub own_places : (p : ℕ) → k.view.drawn ≢ None → p ≢ 0 → (p ≡ k.view.met) ⊎ ((p ≡ k.view.low) ⊎ (p ≡ k.view.high)) → IsOwnPlace k p
   pub opened : (s : ℕ) → open_time k.view.snapshot ≡ Some s → s ≤ k.view.past
   pub reads : (c : ℕ) → k.view.held ≡ Some c → IsReading k c
+  pub spotted : (p key : ℕ) → HasSpot k.spots p key → IsCellPlace k p
+  pub keyed : (p key other : ℕ) → HasSpot k.spots p key → HasSpot k.spots p other → key ≡ other
 
 -- ---- what a step tells
 
@@ -164,12 +196,6 @@ Tells _ k x = Unit {0}
 
 -- ---- chains and runs
 
--- an epoch whose chains the seat may walk: that of the held component, and the next where the
--- seat's past is within it
-abbrev pub IsHeldEpoch : Layout → Option ℕ → ℕ → ℕ → Type 0
-IsHeldEpoch z None past e = ⊥
-IsHeldEpoch z (Some m) past e = (e ≡ m) ⊎ ((e ≡ m + 1) × (e * z.cells < past))
-
 -- the word leads to the first of the times
 abbrev pub LeadsTo : Layout → ℕ → List ℕ → Type 0
 LeadsTo z x [] = x ≡ 0
@@ -200,6 +226,62 @@ IsNamedWord c word = IsRunWord word × (is_named c (place_of word) ≡ true)
 abbrev pub KeepsRuns : Known → Known → Type 0
 KeepsRuns k k' = (c : ℕ) → k.view.held ≡ Some c → k'.view.held ≡ Some c → (k'.floor ≡ k.floor) × ((word : Word) → IsNamedWord c word → row_of k' word ≡ row_of k word)
 
+-- ---- ordered lists
+
+-- the place in the list of the epoch is the one before the first cell, or a spot of the seat's with
+-- this key, in the epoch's region
+abbrev pub IsReached : Known → ℕ → ℕ → ℕ → Type 0
+IsReached k e p key = (p ≡ 0) ⊎ (HasSpot k.spots p key × (region_of k.layout (p - 1) ≡ e % 2))
+
+-- the place q with the other key is behind the place p, where that is a cell's
+abbrev pub IsBehind : ℕ → ℕ → ℕ → ℕ → Type 0
+IsBehind p key q other = p ≢ 0 → Before key p other q
+
+-- what the link behind p led to is a spot of the seat's with the key next, of the epoch's region
+-- and behind p
+pub record IsSpotBehind (k : Known) (e p key x next : ℕ) : Type 0 where
+  pub spot : HasSpot k.spots x next
+  pub inside : x - 1 < 2 * k.layout.cells
+  pub region : region_of k.layout (x - 1) ≡ e % 2
+  pub behind : IsBehind p key x next
+
+-- between p and what the link behind it led to stands no write of the past's: each one of the epoch
+-- that is behind p is that one, or behind it; and where it led to none, there is none
+abbrev pub IsGapBehind : Known → ℕ → ℕ → ℕ → ℕ → ℕ → Type 0
+IsGapBehind k e p key x next = (t i other : ℕ) (written : Option (List ℕ)) → e * k.layout.cells ≤ t → t < (e + 1) * k.layout.cells → t < length k.past → slice_index_or k.past t Nothing ≡ Wrote i other written
+    → IsBehind p key (place_of_time k.layout t) other → (x ≢ 0) × (((x ≡ place_of_time k.layout t) × (next ≡ other)) ⊎ Before next x other (place_of_time k.layout t))
+
+-- the same two of a link that led to x, which is 0 at the list's end
+pub record IsNextOf (k : Known) (e p key x : ℕ) : Type 0 where
+  pub next : ℕ
+  pub spot : x ≢ 0 → IsSpotBehind k e p key x next
+  pub gap : IsGapBehind k e p key x next
+
+-- What a step that found x tells of the ordered lists of the epochs that the seat may walk. A look
+-- at the link behind a place that it reached tells what is next there; one at the state of a
+-- written cell, that it is a spot; and one at the key of a spot finds the spot's.
+abbrev pub TellsOrder : Step → Known → ℕ → Known → Type 0
+TellsOrder (Look (Order link)) k x k' = (e p key : ℕ) → IsHeldEpoch k.layout k.view.held (length k.past) e → link ≡ link_at (e % 2) p → IsReached k e p key → IsNextOf k' e p key x
+TellsOrder (Look (State cell)) k x k' = (e : ℕ) → IsHeldEpoch k.layout k.view.held (length k.past) e → cell < 2 * k.layout.cells → region_of k.layout cell ≡ e % 2 → (x ≡ value_cell) ⊎ (x ≡ removal_cell) → (key : ℕ) × HasSpot k'.spots (cell + 1) key
+TellsOrder (Look (Cell cell Key)) k x k' = (key : ℕ) → HasSpot k.spots (cell + 1) key → x ≡ key
+TellsOrder _ k x k' = Unit {0}
+
+-- looks at links and states may add spots, and a pin and an unpin clear them; all else leaves them
+abbrev pub LeavesSpots : Step → Known → Known → Type 0
+LeavesSpots (Look (Order link)) k k' = Unit {0}
+LeavesSpots (Look (State cell)) k k' = Unit {0}
+LeavesSpots Pin k k' = Unit {0}
+LeavesSpots (Unpin end) k k' = Unit {0}
+LeavesSpots _ k k' = k'.spots ≡ k.spots
+
+-- each spot of the first is one of the second
+pub record HasSpotsOf (k k' : Known) : Type 0 where
+  pub each : (p key : ℕ) → HasSpot k.spots p key → HasSpot k'.spots p key
+
+-- while it holds the component, its spots stay
+abbrev pub KeepsSpots : Known → Known → Type 0
+KeepsSpots k k' = (c : ℕ) → k.view.held ≡ Some c → k'.view.held ≡ Some c → HasSpotsOf k k'
+
 -- the seat after a step that found x: its view is the machine's, and its past only grows. What it
 -- was told and its past are beginnings of one history, with which its records agree
 pub record Follows (step : Step) (k : Known) (x : ℕ) (k' : Known) : Type 0 where
@@ -216,6 +298,9 @@ pub record Follows (step : Step) (k : Known) (x : ℕ) (k' : Known) : Type 0 whe
   pub tells : Tells step k' x
   pub walks : Walks step k x k'
   pub runs : KeepsRuns k k'
+  pub order : TellsOrder step k x k'
+  pub leaves : LeavesSpots step k k'
+  pub spots : KeepsSpots k k'
   pub sound : Sound k'
 
 -- the same, whatever it found

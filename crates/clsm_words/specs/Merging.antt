@@ -6,7 +6,7 @@ use Rattle.clsm_model.specs.declared.slot.Slot.TheVariants.{Nothing, Wrote}
 use Rattle.clsm_model.specs.History.{plain}
 use Rattle.clsm_law.specs.declared.layout.Layout.{Layout}
 use Rattle.clsm_law.specs.declared.word.Word.{Word}
-use Rattle.clsm_law.specs.declared.word.Word.TheVariants.{Clock, Head, Cell, State, Count, Entry}
+use Rattle.clsm_law.specs.declared.word.Word.TheVariants.{Clock, Head, Cell, Order, State, Count, Entry}
 use Rattle.clsm_law.specs.declared.step.Step.{Step}
 use Rattle.clsm_law.specs.declared.step.Step.TheVariants.{Look}
 use Rattle.clsm_law.specs.declared.merger.MergerView.{MergerView}
@@ -26,10 +26,11 @@ abbrev pub IsLetGo : MergerView → Type 0
 IsLetGo m = (is_retired m.phase ≡ true) × (is_all_quiet m.readers ≡ true)
 
 -- those of the runs; while the merger holds the lock the clock and the states; and while nobody
--- holds what is retired, the heads and states of the retired region
+-- holds what is retired, the heads and states of the retired region, and the head of its list
 abbrev pub IsOwn : Layout → MergerView → Word → Type 0
 IsOwn z m Clock = m.exclusive ≡ true
 IsOwn z m (Head region chain) = IsLetGo m × (region ≡ retired_region m)
+IsOwn z m (Order link) = IsLetGo m × (link ≡ retired_region m)
 IsOwn z m (State cell) = (m.exclusive ≡ true) ⊎ (IsLetGo m × (region_of z cell ≡ retired_region m))
 IsOwn z m (Count place) = Unit {0}
 IsOwn z m (Entry place entry part) = Unit {0}

@@ -10,12 +10,14 @@ use Rattle.clsm_law.specs.declared.view.View.{View}
 use Rattle.clsm_law.specs.declared.merger.MergerView.{MergerView}
 use Rattle.clsm_law.specs.declared.word.Word.{Word}
 use Rattle.clsm_law.specs.Layout.{memory, size_of}
-use Rattle.clsm_law.specs.Relation.{Chains, idle}
+use Rattle.clsm_law.specs.Memory.{Memory, key_at}
+use Rattle.clsm_law.specs.Relation.{Chains, Orders, idle}
+use Rattle.clsm_law.specs.Law.{In}
 use Rattle.clsm_law.specs.Merging.{is_retired}
 use Rattle.clsm_law.specs.Worlds.{view_at, outcome_at, settled}
 use Rattle.clsm_law.specs.Machine.{WorldState, IsLawful}
 use Rattle.clsm_words.specs.declared.known.Known.{Known}
-use Rattle.clsm_words.specs.Knowing.{HasRows, IsHeldEpoch, IsNamedWord}
+use Rattle.clsm_words.specs.Knowing.{HasRows, HasSpot, IsHeldEpoch, IsNamedWord}
 use Rattle.clsm_words.specs.Merging.{IsOwn, known_end}
 
 -- the world with these words
@@ -34,10 +36,18 @@ IsEndOf end list = (front : List ℕ) × (front ++ end ≡ list)
 abbrev pub IsHeldLine : Layout → Known → Type 0
 IsHeldLine z k = (e : ℕ) × IsHeldEpoch z k.view.held k.view.past e × (k.region ≡ e % 2) × (k.chain < z.chains)
 
+-- the spot stands in the ordered list of an epoch that a seat may walk, and has the key of its cell
+pub record IsSpot (z : Layout) (memory : Memory) (orders : Orders) (held : Option ℕ) (past p key : ℕ) : Type 0 where
+  pub epoch : ℕ
+  pub walked : IsHeldEpoch z held past epoch
+  pub stands : In p (orders (epoch % 2))
+  pub key_is : key ≡ key_at memory p
+
 -- what is so of a seat in the world: its view is the one of its number, and its past is what the
 -- times below the view's past came to; while it holds a component it knows the words of its runs,
--- and their floor; and its trail is an end of a chain that it may walk
-pub record IsSeated (z : Layout) (words : List ℕ) (m : MergerView) (slots : List (Option Slot)) (chains : Chains) (views : List View) (k : Known) : Type 0 where
+-- and their floor; its trail is an end of a chain that it may walk, and its spots stand in lists
+-- that it may walk
+pub record IsSeated (z : Layout) (words : List ℕ) (m : MergerView) (slots : List (Option Slot)) (chains : Chains) (orders : Orders) (views : List View) (k : Known) : Type 0 where
   pub layout : k.layout ≡ z
   pub inside : k.number < z.seats
   pub view : view_at z views k.number ≡ k.view
@@ -47,6 +57,7 @@ pub record IsSeated (z : Layout) (words : List ℕ) (m : MergerView) (slots : Li
   pub floor : (c : ℕ) → k.view.held ≡ Some c → HasFloor m c k.floor
   pub ends : IsEndOf k.trail (chains k.region k.chain)
   pub line : k.trail ≢ [] → IsHeldLine z k
+  pub spots : (p key : ℕ) → HasSpot k.spots p key → IsSpot z (memory z words) orders k.view.held k.view.past p key
 
 -- the list is what the times below some time came to, and all these are decided
 pub record Begins (slots : List (Option Slot)) (list : List Slot) : Type 0 where
@@ -76,8 +87,8 @@ pub record IsDealing (z : Layout) (views : List View) (seats : List Known) (deal
   pub idle_above : (number : ℕ) → dealt ≤ number → view_at z views number ≡ idle z
 
 -- the seats: no two callers have one number, and one seat merges and deals
-pub record AreSeats (z : Layout) (words : List ℕ) (m : MergerView) (slots : List (Option Slot)) (chains : Chains) (views : List View) (seats : List Known) : Type 0 where
-  pub seated : (i : ℕ) (k : Known) → get_elem? seats i ≡ some k → k.seated ≡ true → IsSeated z words m slots chains views k
+pub record AreSeats (z : Layout) (words : List ℕ) (m : MergerView) (slots : List (Option Slot)) (chains : Chains) (orders : Orders) (views : List View) (seats : List Known) : Type 0 where
+  pub seated : (i : ℕ) (k : Known) → get_elem? seats i ≡ some k → k.seated ≡ true → IsSeated z words m slots chains orders views k
   pub merging : (i : ℕ) (k : Known) → get_elem? seats i ≡ some k → k.merges ≡ true → IsMerging z words m slots k
   pub told : (i : ℕ) (k : Known) → get_elem? seats i ≡ some k → IsTold slots k.told k.heard
   pub apart : (i j : ℕ) (k k' : Known) → get_elem? seats i ≡ some k → get_elem? seats j ≡ some k' → k.seated ≡ true → k'.seated ≡ true → k.number ≡ k'.number → i ≡ j
@@ -90,4 +101,4 @@ pub record Ruled (z : Layout) (s : State ℕ Known) : Type 0 where
   pub merger : MergerView
   pub slots : List (Option Slot)
   pub lawful : IsLawful (world_of z s.words views merger slots)
-  pub seats : AreSeats z s.words merger slots lawful.chains views s.views
+  pub seats : AreSeats z s.words merger slots lawful.chains lawful.orders views s.views

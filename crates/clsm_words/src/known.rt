@@ -2,6 +2,13 @@ use clsm_law::{Layout, MergerView, View};
 use clsm_model::{Slot, Time};
 use std::collections::LinkedList;
 
+/// A place of an ordered list, a cell plus 1, with the key of its cell.
+#[derive(Clone, Copy, PartialEq, Eq, Debug)]
+pub struct Spot {
+    pub place: u64,
+    pub key: u64,
+}
+
 /// What a seat at the words knows. No value of it is made.
 pub struct Known {
     /// True for a caller's seat, and true for the merger's; neither for one that only carries what
@@ -21,6 +28,8 @@ pub struct Known {
     pub trail: LinkedList<Time>,
     pub region: u64,
     pub chain: u64,
+    /// The places of the ordered lists that it met while it holds its component.
+    pub spots: LinkedList<Spot>,
     /// The floor that the runs of the component that it holds were merged with.
     pub floor: Time,
     /// What each time below the view's past came to.

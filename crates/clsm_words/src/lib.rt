@@ -9,7 +9,7 @@ mod pace;
 mod rule;
 mod words;
 
-pub use known::Known;
+pub use known::{Known, Spot};
 pub use load::{Load, load_value};
 pub use pace::{Free, Kind, Pace};
 pub use words::{Message, RawMerger, RawSeat, WordTable, Words};

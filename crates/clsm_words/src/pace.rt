@@ -13,6 +13,9 @@ pub enum Kind {
     Draw,
     Fill,
     Link,
+    FillOrder,
+    Insert,
+    StoreHint,
     Decide,
     Cancel,
     // reads
@@ -27,6 +30,7 @@ pub enum Kind {
     Pad,
     WriteRun,
     ClearHead,
+    ClearOrder,
     ClearState,
     Publish,
     ExtendClock,

@@ -1,5 +1,4 @@
 //! Each kind of call, as it is recorded.
-use crate::tests::play::play_all;
 use crate::tests::row::Act::*;
 use crate::tests::row::Call::*;
 use crate::tests::row::Row::*;
@@ -17,7 +16,7 @@ const THREE: (u64, Words) = (3, THIRTY);
 
 const FIVE: (u64, Words) = (5, THIRTY);
 
-const SCHEDULES: &[Schedule] = &[
+pub(super) const SCHEDULES: &[Schedule] = &[
     Schedule {
         name: "read-modify-writes",
         config: SMALL,
@@ -29,6 +28,7 @@ const SCHEDULES: &[Schedule] = &[
             Draws(0, 0),
             Fills(0, 1, Some(TEN)),
             Links(0, 1, 0),
+            Inserts(0, 1, 0),
             Refused(0, Decide(0, ModifySet(1, Some(TEN), TEN))),
             Done(0, Decide(0, ModifySet(1, None, TEN))),
             Done(0, Unpin),
@@ -39,6 +39,7 @@ const SCHEDULES: &[Schedule] = &[
             Draws(0, 1),
             Fills(0, 1, Some(ELEVEN)),
             Links(0, 1, 1),
+            Inserts(0, 1, 1),
             Refused(0, Decide(1, ModifySet(1, None, ELEVEN))),
             Done(0, Decide(1, ModifySet(1, Some(TEN), ELEVEN))),
             Done(0, Unpin),
@@ -56,6 +57,7 @@ const SCHEDULES: &[Schedule] = &[
             Draws(0, 2),
             Fills(0, 1, None),
             Links(0, 1, 2),
+            Inserts(0, 1, 2),
             Refused(0, Decide(2, ModifyKeep(1, Some(ELEVEN)))),
             Done(0, Decide(2, ModifyRemove(1, Some(ELEVEN)))),
             Done(0, Unpin),
@@ -155,8 +157,3 @@ const SCHEDULES: &[Schedule] = &[
         ],
     },
 ];
-
-#[test]
-fn calls_are_recorded(rt: HostRuntime) {
-    play_all(&rt, rt.alloc(), SCHEDULES);
-}

@@ -1,5 +1,4 @@
 //! Freezes, merges and reclaims, with readers that hold the retired component.
-use crate::tests::play::play_all;
 use crate::tests::row::Act::*;
 use crate::tests::row::Call::*;
 use crate::tests::row::Row::*;
@@ -14,6 +13,8 @@ const CLEARINGS: &[Act] = &[
     ClearHead(1, 0),
     ClearState(0),
     ClearState(7),
+    ClearOrder(0),
+    ClearOrder(1),
 ];
 
 const FOUR_IN_A_RUN: Config = Config { run: 4, ..SMALL };
@@ -31,7 +32,7 @@ const FIFTH_ENTRY: Word = Word::Entry {
     part: 0,
 };
 
-const SCHEDULES: &[Schedule] = &[
+pub(super) const SCHEDULES: &[Schedule] = &[
     Schedule {
         name: "reader keeps the retired cells",
         config: SMALL,
@@ -91,6 +92,9 @@ const SCHEDULES: &[Schedule] = &[
             Refused(MERGER, ClearState(0)),
             Refused(MERGER, ClearHead(1, 0)),
             Done(MERGER, ClearHead(0, 0)),
+            Refused(MERGER, ClearState(0)),
+            Refused(MERGER, ClearOrder(1)),
+            Done(MERGER, ClearOrder(0)),
             Done(MERGER, ClearState(0)),
             Done(MERGER, ClearState(1)),
             Done(MERGER, ClearState(3)),
@@ -99,6 +103,7 @@ const SCHEDULES: &[Schedule] = &[
             Done(MERGER, ClearState(2)),
             Refused(MERGER, ClearState(2)),
             Refused(MERGER, ClearHead(0, 0)),
+            Refused(MERGER, ClearOrder(0)),
             Freezes(5),
             Puts(0, 8, Put(1, TWELVE)),
             Gets(1, 1, 1, Some(TWELVE), 9),
@@ -261,8 +266,3 @@ const SCHEDULES: &[Schedule] = &[
         ],
     },
 ];
-
-#[test]
-fn merges_and_reclaims(rt: HostRuntime) {
-    play_all(&rt, rt.alloc(), SCHEDULES);
-}

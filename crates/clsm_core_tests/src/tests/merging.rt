@@ -1,95 +1,92 @@
 //! The calls of the merger, as their steps.
-use crate::tests::play::Play;
+use crate::tests::play::{Play, Wrong};
 use crate::tests::row::{Act, Entry, Row};
+use crate::tests::same::{Kind, word_of};
+use crate::tests::writes::word_at;
 use clsm_core::Word;
 use clsm_model::Time;
-use std::process::Abort;
 
 impl Play {
-    pub(super) fn merger_call(&mut self, rt: &impl Abort, row: &Row) {
+    pub(super) fn merge(&mut self, row: &Row) -> Result<(), Wrong> {
         match row {
-            Row::Freezes(clock) => self.freezes(rt, *clock),
-            Row::LooksAtSnapshots => self.looks_at_snapshots(rt),
-            Row::WritesRun(place, entries) => self.writes_run(rt, *place, entries),
+            Row::Freezes(clock) => self.freezes(*clock),
+            Row::LooksAtSnapshots => self.looks_at_each(Kind::Snap),
+            Row::WritesRun(place, entries) => self.writes_run(*place, entries),
             Row::Merges(place, entries) => {
-                self.looks_at_snapshots(rt);
-                self.writes_run(rt, *place, entries);
-                self.merger_does(rt, &Act::Publish);
+                self.looks_at_each(Kind::Snap)?;
+                self.writes_run(*place, entries)?;
+                self.does(self.merger(), &Act::Publish)
             }
-            Row::LooksAtPins => self.looks_at_pins(rt),
-            Row::Clears(region) => self.clears(rt, *region),
+            Row::LooksAtPins => self.looks_at_each(Kind::Pin),
+            Row::Clears(region) => self.clears(*region),
             Row::Reclaims(region) => {
-                self.looks_at_pins(rt);
-                self.clears(rt, *region);
+                self.looks_at_each(Kind::Pin)?;
+                self.clears(*region)
             }
-            _ => panic!(rt; "a row that nobody plays"),
+            _ => Err(Wrong::NotPlayed),
         }
     }
 
-    fn merger_does(&mut self, rt: &impl Abort, act: &Act) {
-        self.does(rt, self.merger, act);
-    }
-
-    fn freezes(&mut self, rt: &impl Abort, clock: Time) {
-        self.merger_does(rt, &Act::EnterExclusive);
-        let limit = self.look(rt, self.merger, Word::Limit);
-        self.finds(rt, self.merger, Word::Clock, clock);
+    fn freezes(&mut self, clock: Time) -> Result<(), Wrong> {
+        let merger = self.merger();
+        self.does(merger, &Act::EnterExclusive)?;
+        let limit = self.look(merger, Word::Limit)?;
+        self.finds(merger, Word::Clock, clock)?;
         for time in clock..limit {
-            self.merger_does(rt, &Act::Pad(time));
+            self.does(merger, &Act::Pad(time))?;
         }
-        self.merger_does(rt, &Act::ExtendClock);
-        self.merger_does(rt, &Act::ExtendLimit);
-        self.merger_does(rt, &Act::LeaveExclusive);
+        self.does(merger, &Act::ExtendClock)?;
+        self.does(merger, &Act::ExtendLimit)?;
+        self.does(merger, &Act::LeaveExclusive)
     }
 
-    fn looks_at_snapshots(&mut self, rt: &impl Abort) {
+    /// Looks at the word of this kind of each seat.
+    fn looks_at_each(&mut self, kind: Kind) -> Result<(), Wrong> {
         for seat in 0..self.layout.seats {
-            self.look(rt, self.merger, Word::Snap(seat));
+            self.look(self.merger(), word_of(kind, seat, 0))?;
         }
+        Ok(())
     }
 
-    fn writes_part(&mut self, rt: &impl Abort, place: u64, entry: u64, part: u64, word: u64) {
-        let written = Word::Entry { place, entry, part };
-        self.merger_does(rt, &Act::WriteRun(written, word));
-    }
-
-    fn writes_entry(&mut self, rt: &impl Abort, place: u64, number: u64, entry: &Entry) {
-        let (key, time, reply) = *entry;
-        let removal = if reply.is_some() { 0 } else { 1 };
-        let words = reply.unwrap_or(&[]);
-        let stamp = time.saturating_mul(2).saturating_add(removal);
-        self.writes_part(rt, place, number, 0, key);
-        self.writes_part(rt, place, number, 1, stamp);
-        self.writes_part(rt, place, number, 2, words.len() as u64);
-        for part in 0..8 {
-            let word = words.get(part as usize).copied().unwrap_or(0);
-            self.writes_part(rt, place, number, part + 3, word);
-        }
-    }
-
-    fn writes_run(&mut self, rt: &impl Abort, place: u64, entries: &[Entry]) {
-        for (number, entry) in (0..).zip(entries) {
-            self.writes_entry(rt, place, number, entry);
+    fn writes_run(&mut self, place: u64, entries: &[Entry]) -> Result<(), Wrong> {
+        for (number, entry) in entries.iter().enumerate() {
+            self.writes_entry(place, number as u64, entry)?;
         }
         let count = entries.len() as u64;
-        self.merger_does(rt, &Act::WriteRun(Word::Count(place), count));
+        self.does(self.merger(), &Act::WriteRun(Word::Count(place), count))
     }
 
-    fn looks_at_pins(&mut self, rt: &impl Abort) {
-        for seat in 0..self.layout.seats {
-            self.look(rt, self.merger, Word::Pin(seat));
+    fn writes_entry(&mut self, place: u64, entry: u64, written: &Entry) -> Result<(), Wrong> {
+        let (key, time, reply) = *written;
+        let removal = if reply.is_some() { 0 } else { 1 };
+        let words = reply.unwrap_or(&[]);
+        for part in 0..11 {
+            let value = match part {
+                0 => key,
+                1 => time.saturating_mul(2).saturating_add(removal),
+                _ => word_at(words, part - 2),
+            };
+            let word = Word::Entry { place, entry, part };
+            self.does(self.merger(), &Act::WriteRun(word, value))?;
         }
+        Ok(())
     }
 
-    /// Clears the heads and then the states.
-    fn clears(&mut self, rt: &impl Abort, region: u64) {
+    /// Clears the heads, then the ordered list, and then the states.
+    fn clears(&mut self, region: u64) -> Result<(), Wrong> {
         for chain in 0..self.layout.chains {
-            self.merger_does(rt, &Act::ClearHead(region, chain));
+            self.does(self.merger(), &Act::ClearHead(region, chain))?;
         }
+        self.does(self.merger(), &Act::ClearOrder(region))?;
+        self.clears_states(region)
+    }
+
+    fn clears_states(&mut self, region: u64) -> Result<(), Wrong> {
         for cell in 0..2 * self.layout.cells {
             if cell / self.layout.cells == region {
-                self.merger_does(rt, &Act::ClearState(cell));
+                self.does(self.merger(), &Act::ClearState(cell))?;
             }
         }
+        Ok(())
     }
 }

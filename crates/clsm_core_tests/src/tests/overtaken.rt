@@ -1,5 +1,4 @@
 //! Exchanges that find another word than they want.
-use crate::tests::play::play_all;
 use crate::tests::row::Act::*;
 use crate::tests::row::Call::*;
 use crate::tests::row::Row::*;
@@ -7,7 +6,7 @@ use crate::tests::row::Schedule;
 use crate::tests::{HEAD, MERGER, SMALL, TEN};
 use clsm_core::{Part, Word};
 
-const SCHEDULES: &[Schedule] = &[
+pub(super) const SCHEDULES: &[Schedule] = &[
     Schedule {
         name: "overtaken writer draws again",
         config: SMALL,
@@ -34,6 +33,7 @@ const SCHEDULES: &[Schedule] = &[
             Found(0, HEAD, 0),
             Done(0, Fill(Part::Next, 0)),
             Done(0, Link(0)),
+            Inserts(0, 1, 0),
             Lost(0, Decide(0, Put(1, TEN))),
             Refused(0, Decide(0, Put(1, TEN))),
             Refused(0, Draw(1)),
@@ -43,6 +43,7 @@ const SCHEDULES: &[Schedule] = &[
             Found(0, HEAD, 1),
             Done(0, Fill(Part::Next, 1)),
             Done(0, Link(1)),
+            Inserts(0, 1, 1),
             Done(0, Decide(1, Put(1, TEN))),
             Done(0, LeaveShared),
             // the reader's next get finds the write that was made at a later time
@@ -136,6 +137,7 @@ const SCHEDULES: &[Schedule] = &[
             Draws(1, 1),
             Fills(1, 1, Some(TEN)),
             Links(1, 1, 1),
+            Inserts(1, 1, 1),
             Pins(0, 0),
             Found(0, Word::Clock, 2),
             Found(0, Word::State(1), 0),
@@ -155,8 +157,3 @@ const SCHEDULES: &[Schedule] = &[
         ],
     },
 ];
-
-#[test]
-fn exchanges_that_are_lost(rt: HostRuntime) {
-    play_all(&rt, rt.alloc(), SCHEDULES);
-}

@@ -1,5 +1,4 @@
 //! Steps of the merger that are refused to it, phase by phase.
-use crate::tests::play::play_all;
 use crate::tests::row::Act::*;
 use crate::tests::row::Call::*;
 use crate::tests::row::Row::*;
@@ -28,6 +27,8 @@ const RECLAIMING: &[Act] = &[
     ClearHead(1, 0),
     ClearState(0),
     ClearState(4),
+    ClearOrder(0),
+    ClearOrder(1),
 ];
 
 // words of the entries 0, 1 and 2 of the first place
@@ -73,7 +74,7 @@ const EIGHTH_WORD_2: Word = Word::Entry {
     part: 10,
 };
 
-const SCHEDULES: &[Schedule] = &[
+pub(super) const SCHEDULES: &[Schedule] = &[
     Schedule {
         name: "each phase refuses the steps of the others",
         config: SMALL,
@@ -298,7 +299,7 @@ const SCHEDULES: &[Schedule] = &[
         ],
     },
     Schedule {
-        name: "region is cleared heads first",
+        name: "region is cleared heads first, and then its list",
         config: SMALL,
         rows: &[
             Puts(0, 0, Put(1, TEN)),
@@ -313,6 +314,11 @@ const SCHEDULES: &[Schedule] = &[
             Refused(MERGER, ClearHead(2, 0)),
             Refused(MERGER, ClearState(0)),
             Done(MERGER, ClearHead(0, 0)),
+            Refused(MERGER, ClearState(0)),
+            Refused(MERGER, ClearOrder(1)),
+            Refused(MERGER, ClearOrder(2)),
+            Refused(MERGER, ClearOrder(GREATEST)),
+            Done(MERGER, ClearOrder(0)),
             Refused(MERGER, ClearState(4)),
             Refused(MERGER, ClearState(8)),
             Refused(MERGER, ClearState(GREATEST)),
@@ -322,8 +328,3 @@ const SCHEDULES: &[Schedule] = &[
         ],
     },
 ];
-
-#[test]
-fn refused_steps_of_the_merger(rt: HostRuntime) {
-    play_all(&rt, rt.alloc(), SCHEDULES);
-}

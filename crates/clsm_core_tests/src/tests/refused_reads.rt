@@ -1,5 +1,4 @@
 //! Steps of a reader that are refused to it, step by step.
-use crate::tests::play::play_all;
 use crate::tests::row::Act::*;
 use crate::tests::row::Call::*;
 use crate::tests::row::Row::*;
@@ -35,6 +34,10 @@ const NEXT_7: Word = Word::Cell {
     part: Part::Next,
 };
 
+const HINT_0: Word = Word::Hint { cell: 0, hint: 0 };
+
+const HINT_7: Word = Word::Hint { cell: 7, hint: 2 };
+
 const ENTRY: Word = Word::Entry {
     place: 3,
     entry: 0,
@@ -55,11 +58,17 @@ const GUARDED: &[Act] = &[
     Look(NEXT_7),
     Look(Word::State(0)),
     Look(Word::State(7)),
+    Look(Word::Order(0)),
+    Look(Word::Order(1)),
+    Look(Word::Order(2)),
+    Look(Word::Order(9)),
+    Look(HINT_0),
+    Look(HINT_7),
     Look(Word::Count(3)),
     Look(ENTRY),
 ];
 
-const SCHEDULES: &[Schedule] = &[
+pub(super) const SCHEDULES: &[Schedule] = &[
     Schedule {
         name: "cancel needs a time of the component below the clock",
         config: SMALL,
@@ -189,6 +198,10 @@ const SCHEDULES: &[Schedule] = &[
                         part: Part::Value(8),
                     }),
                     Look(Word::State(8)),
+                    Look(Word::Order(10)),
+                    Look(Word::Order(GREATEST)),
+                    Look(Word::Hint { cell: 8, hint: 0 }),
+                    Look(Word::Hint { cell: 0, hint: 3 }),
                     Look(Word::Count(5)),
                     Look(Word::Entry {
                         place: 3,
@@ -224,6 +237,12 @@ const SCHEDULES: &[Schedule] = &[
             Found(0, NEXT_7, 0),
             Found(0, Word::State(0), 0),
             Found(0, Word::State(7), 0),
+            Found(0, Word::Order(0), 0),
+            Found(0, Word::Order(1), 0),
+            Found(0, Word::Order(2), 0),
+            Found(0, Word::Order(9), 0),
+            Found(0, HINT_0, 0),
+            Found(0, HINT_7, 0),
             Found(0, Word::Count(3), 0),
             Found(0, ENTRY, 0),
             Refused(0, Look(Word::Count(0))),
@@ -236,9 +255,16 @@ const SCHEDULES: &[Schedule] = &[
             Found(0, HEAD, 0),
             Found(0, KEY_0, 0),
             Found(0, Word::State(0), 0),
+            Found(0, Word::Order(0), 0),
+            Found(0, Word::Order(2), 0),
+            Found(0, HINT_0, 0),
             Refused(0, Look(OTHER_HEAD)),
             Refused(0, Look(NEXT_7)),
             Refused(0, Look(Word::State(7))),
+            Refused(0, Look(Word::Order(1))),
+            Refused(0, Look(Word::Order(6))),
+            Refused(0, Look(Word::Order(9))),
+            Refused(0, Look(HINT_7)),
             Refused(0, Look(Word::Count(3))),
             Refused(0, Look(ENTRY)),
             Done(0, LeaveShared),
@@ -315,8 +341,3 @@ const SCHEDULES: &[Schedule] = &[
         ],
     },
 ];
-
-#[test]
-fn refused_steps_of_a_reader(rt: HostRuntime) {
-    play_all(&rt, rt.alloc(), SCHEDULES);
-}

@@ -1,5 +1,4 @@
 //! Steps of a writer that are refused to it, step by step.
-use crate::tests::play::play_all;
 use crate::tests::row::Act::*;
 use crate::tests::row::Call::*;
 use crate::tests::row::Row::*;
@@ -15,7 +14,7 @@ const ODD_HEAD: Word = Word::Head {
     chain: 1,
 };
 
-const SCHEDULES: &[Schedule] = &[
+pub(super) const SCHEDULES: &[Schedule] = &[
     Schedule {
         name: "entry needs a fresh look at the lock",
         config: SMALL,
@@ -129,6 +128,8 @@ const SCHEDULES: &[Schedule] = &[
             Refused(0, Fill(Part::Length, 1)),
             Refused(0, Fill(Part::Value(0), 1)),
             Refused(0, Fill(Part::Next, 1)),
+            Inserts(0, 1, 0),
+            Refused(0, Fill(Part::Key, 1)),
             Done(0, Decide(0, Put(1, TEN))),
             Refused(0, Fill(Part::Key, 1)),
             IsRun,
@@ -166,7 +167,7 @@ const SCHEDULES: &[Schedule] = &[
         ],
     },
     Schedule {
-        name: "decide needs the linked write",
+        name: "decide needs the write in its chain and in the list",
         config: SMALL,
         rows: &[
             Refused(0, Decide(0, Put(1, TEN))),
@@ -176,6 +177,8 @@ const SCHEDULES: &[Schedule] = &[
             Fills(0, 1, Some(TEN)),
             Refused(0, Decide(0, Put(1, TEN))),
             Links(0, 1, 0),
+            Refused(0, Decide(0, Put(1, TEN))),
+            Inserts(0, 1, 0),
             // the parts say a put of 10 at key 1
             Refused(0, Decide(1, Put(1, TEN))),
             Refused(1, Decide(0, Put(1, TEN))),
@@ -202,6 +205,7 @@ const SCHEDULES: &[Schedule] = &[
             Fills(0, 1, Some(TEN)),
             Done(0, Fill(Part::Value(1), 7)),
             Links(0, 1, 0),
+            Inserts(0, 1, 0),
             Refused(0, Decide(0, Remove(1))),
             Done(0, Decide(0, Put(1, TEN))),
             Gets(1, 0, 1, Some(TEN), 1),
@@ -216,6 +220,7 @@ const SCHEDULES: &[Schedule] = &[
             Fills(0, 1, None),
             Done(0, Fill(Part::Value(0), 7)),
             Links(0, 1, 0),
+            Inserts(0, 1, 0),
             Refused(0, Decide(0, Put(1, TEN))),
             Done(0, Decide(0, Remove(1))),
             Gets(1, 0, 1, None, 1),
@@ -234,6 +239,7 @@ const SCHEDULES: &[Schedule] = &[
             Draws(0, 1),
             Fills(0, 1, Some(ELEVEN)),
             Links(0, 1, 1),
+            Inserts(0, 1, 1),
             Refused(0, Decide(1, ModifySet(1, None, ELEVEN))),
             Refused(0, Decide(1, ModifySet(1, Some(TEN), ELEVEN))),
             Found(0, Word::State(0), 2),
@@ -246,8 +252,3 @@ const SCHEDULES: &[Schedule] = &[
         ],
     },
 ];
-
-#[test]
-fn refused_steps_of_a_writer(rt: HostRuntime) {
-    play_all(&rt, rt.alloc(), SCHEDULES);
-}

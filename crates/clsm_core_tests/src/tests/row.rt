@@ -12,6 +12,9 @@ pub(super) type Reply = Option<Words>;
 /// An entry of a run: its key, its time, and its value; None for a removal.
 pub(super) type Entry = (u64, Time, Reply);
 
+/// A cell of an ordered list: its place, which is the cell plus 1, its key and its state.
+pub(super) type Met = (u64, u64, u64);
+
 /// What a call did.
 #[derive(Clone, Copy)]
 pub(super) enum Call {
@@ -41,6 +44,11 @@ pub(super) enum Act {
     Draw(Time),
     Fill(Part, u64),
     Link(u64),
+    FillOrder(u64),
+    /// The place before the drawn cell in the ordered list, and the one behind it.
+    Insert(u64, u64),
+    /// The cell, the number of the hint, and what is stored there.
+    StoreHint(u64, u64, u64),
     Decide(Time, Call),
     Cancel(Time),
     Pin,
@@ -57,6 +65,8 @@ pub(super) enum Act {
     /// The region and the chain.
     ClearHead(u64, u64),
     ClearState(u64),
+    /// The region.
+    ClearOrder(u64),
     Publish,
     ExtendClock,
     ExtendLimit,
@@ -85,9 +95,13 @@ pub(super) enum Row {
     Draws(u32, Time),
     /// Fills the parts of the drawn cell with a key and a value, NEXT apart.
     Fills(u32, u64, Reply),
+    /// Fills all parts of the drawn cell but this one, NEXT with 0.
+    FillsBut(u32, u64, Reply, Part),
     /// Links the write of a key at a time.
     Links(u32, u64, Time),
-    /// Fills, links and decides what the call writes at the drawn time.
+    /// Inserts the write of a key at a time into the ordered list.
+    Inserts(u32, u64, Time),
+    /// Fills, links, inserts and decides what the call writes at the drawn time.
     Writes(u32, Time, Call),
     /// A put or a removal from its beginning to its end.
     Puts(u32, Time, Call),
@@ -97,6 +111,9 @@ pub(super) enum Row {
     Pins(u32, u64),
     /// Under the component looks at the clock, which is the time, and decides each time below it.
     Settles(u32, u64, Time),
+    /// From its first cell on the ordered list of the region has the cells of these keys and
+    /// states, by their places, and no more.
+    Walks(u32, u64, &'static [Met]),
     /// A search in the component for a key finds this below the time.
     Searches(u32, u64, u64, Reply, Time),
     /// A get from its beginning to its end: the component, the key, the reply and the time.
@@ -117,14 +134,14 @@ pub(super) enum Row {
     Merges(u64, &'static [Entry]),
     /// Looks at each pin word in the order of the seats.
     LooksAtPins,
-    /// Clears the heads and the states of the region.
+    /// Clears the heads, the ordered list and the states of the region.
     Clears(u64),
     /// A reclaim of the region from its beginning to its end, where no seat holds it.
     Reclaims(u64),
 
     // what the world tells
     Has(Word, u64),
-    HasNone(&'static [Word]),
+    HasNone(Word),
     /// The time was not drawn, or is not decided yet.
     Undecided(Time),
     /// The time was cancelled, or passed over.
@@ -137,6 +154,16 @@ pub(super) enum Row {
     IsRun,
     /// Without the event of this number a run of the events so far is refused at this place.
     RefusedWithout(usize, usize),
+
+    // two worlds, both as they are opened at the beginning of a schedule
+    /// The second world is now a copy of the first, and is the same word by word.
+    Copies,
+    /// The first world is now the second, and the second the first.
+    Swaps,
+    /// The worlds are the same word by word.
+    Same,
+    /// Whether `==` says that they are equal. Equal ones have one hash.
+    Equal(bool),
 }
 
 pub(super) struct Schedule {

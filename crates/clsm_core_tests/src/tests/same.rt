@@ -1,85 +1,139 @@
 //! Whether two worlds of one layout are the same, as far as worlds tell: word by word, slot by
 //! slot, call by call.
+use crate::tests::play::Wrong;
 use clsm_core::{Layout, Part, Word, World};
-use std::process::Abort;
 
 /// As many seats as there may be, the merger, and one that is never there.
-const SEATS: u32 = 66;
+const SEATS: u64 = 66;
 
-pub(super) fn assert_same(rt: &impl Abort, layout: &Layout, world: &World, other: &World) {
-    assert!(rt; world == other);
-    assert_same_single_words(rt, layout, world, other);
-    assert_same_cells(rt, layout, world, other);
-    assert_same_heads(rt, layout, world, other);
-    assert_same_runs(rt, layout, world, other);
-    assert_same_slots(rt, layout, world, other);
-    assert_same_calls(rt, world, other);
+/// Words that two numbers tell from one another.
+#[derive(Clone, Copy)]
+pub(super) enum Kind {
+    Single(Word),
+    Pin,
+    Snap,
+    /// The region and the chain.
+    Head,
+    State,
+    /// The cell, and the place in it: the length, the words, and then the key and the link.
+    Cell,
+    Order,
+    Hint,
+    Count,
+    /// Of this place: the entry and its part.
+    Entry(u64),
 }
 
-fn assert_same_word(rt: &impl Abort, world: &World, other: &World, word: Word) {
-    assert!(rt; world.word(word).is_some(), "no {word:?}");
-    assert_eq!(rt; world.word(word), other.word(word), "at {word:?}");
+/// The part of a cell at this place.
+pub(super) fn part_at(place: u64) -> Part {
+    match place {
+        0 => Part::Length,
+        1..=8 => Part::Value(place - 1),
+        9 => Part::Key,
+        _ => Part::Next,
+    }
 }
 
-fn assert_same_single_words(rt: &impl Abort, layout: &Layout, world: &World, other: &World) {
-    for word in [
-        Word::Lock,
-        Word::Clock,
-        Word::Limit,
-        Word::Front,
-        Word::Merged,
+/// The word of this kind at these two numbers.
+pub(super) fn word_of(kind: Kind, first: u64, second: u64) -> Word {
+    match kind {
+        Kind::Single(word) => word,
+        Kind::Pin => Word::Pin(first),
+        Kind::Snap => Word::Snap(first),
+        Kind::Head => Word::Head {
+            region: first,
+            chain: second,
+        },
+        Kind::State => Word::State(first),
+        Kind::Cell => Word::Cell {
+            cell: first,
+            part: part_at(second),
+        },
+        Kind::Order => Word::Order(first),
+        Kind::Hint => Word::Hint {
+            cell: first,
+            hint: second,
+        },
+        Kind::Count => Word::Count(first),
+        Kind::Entry(place) => Word::Entry {
+            place,
+            entry: first,
+            part: second,
+        },
+    }
+}
+
+pub(super) fn is_same(layout: &Layout, world: &World, other: &World) -> Result<(), Wrong> {
+    let cells = 2 * layout.cells;
+    for (kind, firsts, seconds) in [
+        (Kind::Single(Word::Lock), 1, 1),
+        (Kind::Single(Word::Clock), 1, 1),
+        (Kind::Single(Word::Limit), 1, 1),
+        (Kind::Single(Word::Front), 1, 1),
+        (Kind::Single(Word::Merged), 1, 1),
+        (Kind::Pin, layout.seats, 1),
+        (Kind::Snap, layout.seats, 1),
+        (Kind::Head, 2, layout.chains),
+        (Kind::State, cells, 1),
+        (Kind::Cell, cells, 11),
+        (Kind::Order, 2 + cells, 1),
+        (Kind::Hint, cells, 3),
+        (Kind::Count, 5, 1),
+        (Kind::Entry(0), layout.cells, 11),
+        (Kind::Entry(1), layout.cells, 11),
+        (Kind::Entry(2), layout.cells, 11),
+        (Kind::Entry(3), layout.run, 11),
+        (Kind::Entry(4), layout.run, 11),
     ] {
-        assert_same_word(rt, world, other, word);
+        has_same_words(world, other, kind, firsts, seconds)?;
     }
-    for seat in 0..layout.seats {
-        assert_same_word(rt, world, other, Word::Pin(seat));
-        assert_same_word(rt, world, other, Word::Snap(seat));
-    }
+    tells_the_same(layout, world, other)
 }
 
-fn assert_same_cells(rt: &impl Abort, layout: &Layout, world: &World, other: &World) {
-    for cell in 0..2 * layout.cells {
-        assert_same_word(rt, world, other, Word::State(cell));
-        for part in [Part::Key, Part::Length, Part::Next] {
-            assert_same_word(rt, world, other, Word::Cell { cell, part });
-        }
-        for place in 0..8 {
-            let part = Part::Value(place);
-            assert_same_word(rt, world, other, Word::Cell { cell, part });
-        }
+fn has_same_words(
+    world: &World,
+    other: &World,
+    kind: Kind,
+    firsts: u64,
+    seconds: u64,
+) -> Result<(), Wrong> {
+    for first in 0..firsts {
+        has_same_row(world, other, kind, first, seconds)?;
     }
+    Ok(())
 }
 
-fn assert_same_heads(rt: &impl Abort, layout: &Layout, world: &World, other: &World) {
-    for region in 0..2 {
-        for chain in 0..layout.chains {
-            assert_same_word(rt, world, other, Word::Head { region, chain });
-        }
-    }
-}
-
-fn assert_same_runs(rt: &impl Abort, layout: &Layout, world: &World, other: &World) {
-    for place in 0..5 {
-        assert_same_word(rt, world, other, Word::Count(place));
-        let room = if place < 3 { layout.cells } else { layout.run };
-        for entry in 0..room {
-            for part in 0..11 {
-                assert_same_word(rt, world, other, Word::Entry { place, entry, part });
-            }
+fn has_same_row(
+    world: &World,
+    other: &World,
+    kind: Kind,
+    first: u64,
+    seconds: u64,
+) -> Result<(), Wrong> {
+    for second in 0..seconds {
+        let word = word_of(kind, first, second);
+        let value = world.word(word);
+        if value.is_none() || value != other.word(word) {
+            return Err(Wrong::OtherWord);
         }
     }
+    Ok(())
 }
 
-/// The drawn times, and those of two epochs that are not drawn yet.
-fn assert_same_slots(rt: &impl Abort, layout: &Layout, world: &World, other: &World) {
-    let clock = world.word(Word::Clock).expect(rt, "a clock");
-    for time in 0..clock.saturating_add(2 * layout.cells) {
-        assert_eq!(rt; world.slot(time), other.slot(time), "at {time}");
+/// The worlds are equal, and tell the same of the drawn times, of those of two epochs that are not
+/// drawn yet, and of the seats.
+fn tells_the_same(layout: &Layout, world: &World, other: &World) -> Result<(), Wrong> {
+    let clock = world.word(Word::Clock).unwrap_or(0);
+    let times = clock.saturating_add(2 * layout.cells);
+    for number in 0..times.max(SEATS) {
+        let seat = (number % SEATS) as u32;
+        if world.slot(number) != other.slot(number) || world.calls(seat) != other.calls(seat) {
+            return Err(Wrong::Other);
+        }
     }
-}
-
-fn assert_same_calls(rt: &impl Abort, world: &World, other: &World) {
-    for seat in 0..SEATS {
-        assert_eq!(rt; world.calls(seat), other.calls(seat), "of {seat}");
+    if world == other {
+        Ok(())
+    } else {
+        Err(Wrong::Other)
     }
 }

@@ -1,5 +1,4 @@
 //! Snapshots that are opened while an epoch is merged, and what stays of what they read.
-use crate::tests::play::play_all;
 use crate::tests::row::Act::*;
 use crate::tests::row::Call::*;
 use crate::tests::row::Row::*;
@@ -10,7 +9,7 @@ use clsm_model::Config;
 
 const THREE_CALLERS: Config = Config { seats: 3, ..SMALL };
 
-const SCHEDULES: &[Schedule] = &[
+pub(super) const SCHEDULES: &[Schedule] = &[
     Schedule {
         name: "snapshots outlast merges",
         config: THREE_CALLERS,
@@ -129,8 +128,3 @@ const SCHEDULES: &[Schedule] = &[
         ],
     },
 ];
-
-#[test]
-fn snapshots_across_merges(rt: HostRuntime) {
-    play_all(&rt, rt.alloc(), SCHEDULES);
-}

@@ -1,5 +1,4 @@
 //! A writer that stalls, another that goes on, a reader, and a scan.
-use crate::tests::play::play_all;
 use crate::tests::row::Act::*;
 use crate::tests::row::Call::*;
 use crate::tests::row::Row::*;
@@ -28,7 +27,7 @@ const ODD_HEAD: Word = Word::Head {
     chain: 1,
 };
 
-const SCHEDULES: &[Schedule] = &[Schedule {
+pub(super) const SCHEDULES: &[Schedule] = &[Schedule {
     name: "stalled writer never writes below a read",
     config: EIGHT_CELLS,
     rows: &[
@@ -73,6 +72,7 @@ const SCHEDULES: &[Schedule] = &[Schedule {
         Found(0, ODD_HEAD, 5),
         Done(0, Fill(Part::Next, 5)),
         Done(0, Link(5)),
+        Inserts(0, 1, 5),
         Lost(0, Decide(5, Put(1, ELEVEN))),
         Found(0, Word::Clock, 7),
         Done(0, Draw(7)),
@@ -103,8 +103,3 @@ const SCHEDULES: &[Schedule] = &[Schedule {
         ),
     ],
 }];
-
-#[test]
-fn stalled_writer_never_writes_below_a_read(rt: HostRuntime) {
-    play_all(&rt, rt.alloc(), SCHEDULES);
-}

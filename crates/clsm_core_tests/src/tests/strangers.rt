@@ -1,6 +1,5 @@
 //! Steps of callers are never open to the merger, nor its steps to callers, nor any step to a seat
 //! that is not there.
-use crate::tests::play::play_all;
 use crate::tests::row::Act::*;
 use crate::tests::row::Call::*;
 use crate::tests::row::Row::*;
@@ -19,6 +18,9 @@ const MERGERS_ARE_REFUSED: Row = AllRefused(
         Draw(1),
         Fill(Part::Key, 1),
         Link(0),
+        FillOrder(0),
+        Insert(0, 0),
+        StoreHint(0, 0, 0),
         Decide(0, Put(1, TEN)),
         Cancel(0),
         Pin,
@@ -43,6 +45,7 @@ const CALLERS_ARE_REFUSED: Row = AllRefused(
         WriteRun(Word::Count(0), 0),
         ClearHead(0, 0),
         ClearState(0),
+        ClearOrder(0),
         Publish,
         ExtendClock,
         ExtendLimit,
@@ -52,7 +55,7 @@ const CALLERS_ARE_REFUSED: Row = AllRefused(
 /// Seats that are not there look at nothing.
 const NOBODY_LOOKS: Row = AllRefused(&[3, u32::MAX], &[Look(Word::Lock)]);
 
-const SCHEDULES: &[Schedule] = &[
+pub(super) const SCHEDULES: &[Schedule] = &[
     // Each step of a put, a get and a snapshot is refused to strangers in the world in which it is
     // made.
     Schedule {
@@ -78,6 +81,10 @@ const SCHEDULES: &[Schedule] = &[
             NOBODY_LOOKS,
             Fills(0, 1, Some(TEN)),
             Links(0, 1, 0),
+            MERGERS_ARE_REFUSED,
+            CALLERS_ARE_REFUSED,
+            NOBODY_LOOKS,
+            Inserts(0, 1, 0),
             MERGERS_ARE_REFUSED,
             CALLERS_ARE_REFUSED,
             NOBODY_LOOKS,
@@ -141,12 +148,11 @@ const SCHEDULES: &[Schedule] = &[
             MERGERS_ARE_REFUSED,
             CALLERS_ARE_REFUSED,
             NOBODY_LOOKS,
+            Done(MERGER, ClearOrder(0)),
+            MERGERS_ARE_REFUSED,
+            CALLERS_ARE_REFUSED,
+            NOBODY_LOOKS,
             IsRun,
         ],
     },
 ];
-
-#[test]
-fn strangers_are_refused(rt: HostRuntime) {
-    play_all(&rt, rt.alloc(), SCHEDULES);
-}

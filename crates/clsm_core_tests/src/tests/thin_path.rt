@@ -1,5 +1,4 @@
 //! One put, step by step, with steps that are refused before and between.
-use crate::tests::play::play_all;
 use crate::tests::row::Act::*;
 use crate::tests::row::Call::*;
 use crate::tests::row::Row::*;
@@ -9,7 +8,7 @@ use clsm_core::{Part, Word};
 
 /// Its events are numbered from 0 on, the refused ones left out. Without one of them the run of the
 /// others ends at the place where it is missed.
-const PUT: Schedule = Schedule {
+pub(super) const SCHEDULES: &[Schedule] = &[Schedule {
     name: "put",
     config: SMALL,
     rows: &[
@@ -28,12 +27,18 @@ const PUT: Schedule = Schedule {
         Found(0, HEAD, 0),
         Done(0, Fill(Part::Next, 0)),
         Done(0, Link(0)),
+        Refused(0, Decide(0, Put(1, TEN))),
+        Found(0, Word::Order(0), 0),
+        Done(0, FillOrder(0)),
+        Done(0, Insert(0, 0)),
         Done(0, Decide(0, Put(1, TEN))),
         Done(0, LeaveShared),
         Has(Word::Lock, 0),
         Has(Word::Clock, 1),
         Has(Word::Limit, 4),
         Has(HEAD, 1),
+        Has(Word::Order(0), 1),
+        Has(Word::Order(2), 0),
         Has(Word::State(0), 2),
         Wrote(0, 0, 1, Some(TEN)),
         Undecided(1),
@@ -50,12 +55,9 @@ const PUT: Schedule = Schedule {
         RefusedWithout(7, 9),
         RefusedWithout(8, 9),
         RefusedWithout(9, 9),
-        RefusedWithout(10, 10),
-        RefusedWithout(11, 11),
+        RefusedWithout(10, 12),
+        RefusedWithout(12, 12),
+        RefusedWithout(13, 13),
+        RefusedWithout(14, 14),
     ],
-};
-
-#[test]
-fn put_is_made_step_by_step(rt: HostRuntime) {
-    play_all(&rt, rt.alloc(), &[PUT]);
-}
+}];

@@ -1,12 +1,10 @@
-//! What a world tells of words, times and seats, also of those that it has not; and the sizes that
-//! a layout takes.
-use crate::tests::play::play_all;
+//! What a world tells of words, times and seats, also of those that it has not.
 use crate::tests::row::Call::*;
 use crate::tests::row::Row::*;
 use crate::tests::row::Schedule;
 use crate::tests::{GREATEST, SMALL};
-use clsm_core::{Layout, Part, Word};
-use clsm_model::{Config, OpenError};
+use clsm_core::{Part, Word};
+use clsm_model::Config;
 
 /// The least sizes.
 const LEAST: Config = Config {
@@ -17,7 +15,7 @@ const LEAST: Config = Config {
     patience: 0,
 };
 
-const SCHEDULES: &[Schedule] = &[
+pub(super) const SCHEDULES: &[Schedule] = &[
     Schedule {
         name: "world has the words of its layout",
         config: SMALL,
@@ -56,6 +54,9 @@ const SCHEDULES: &[Schedule] = &[
                 0,
             ),
             Has(Word::State(7), 0),
+            Has(Word::Order(0), 0),
+            Has(Word::Order(9), 0),
+            Has(Word::Hint { cell: 7, hint: 2 }, 0),
             Has(Word::Count(4), 0),
             Has(
                 Word::Entry {
@@ -78,74 +79,82 @@ const SCHEDULES: &[Schedule] = &[
     Schedule {
         name: "world has no other word",
         config: SMALL,
-        rows: &[HasNone(&[
-            Word::Pin(2),
-            Word::Pin(GREATEST),
-            Word::Snap(2),
-            Word::Snap(GREATEST),
-            Word::Head {
+        rows: &[
+            HasNone(Word::Pin(2)),
+            HasNone(Word::Pin(GREATEST)),
+            HasNone(Word::Snap(2)),
+            HasNone(Word::Snap(GREATEST)),
+            HasNone(Word::Head {
                 region: 2,
                 chain: 0,
-            },
-            Word::Head {
+            }),
+            HasNone(Word::Head {
                 region: 0,
                 chain: 1,
-            },
-            Word::Head {
+            }),
+            HasNone(Word::Head {
                 region: GREATEST,
                 chain: GREATEST,
-            },
-            Word::Cell {
+            }),
+            HasNone(Word::Cell {
                 cell: 8,
                 part: Part::Key,
-            },
-            Word::Cell {
+            }),
+            HasNone(Word::Cell {
                 cell: GREATEST,
                 part: Part::Length,
-            },
-            Word::Cell {
+            }),
+            HasNone(Word::Cell {
                 cell: 0,
                 part: Part::Value(8),
-            },
-            Word::Cell {
+            }),
+            HasNone(Word::Cell {
                 cell: 0,
                 part: Part::Value(GREATEST),
-            },
-            Word::State(8),
-            Word::State(GREATEST),
-            Word::Count(5),
-            Word::Count(GREATEST),
-            Word::Entry {
+            }),
+            HasNone(Word::State(8)),
+            HasNone(Word::State(GREATEST)),
+            HasNone(Word::Order(10)),
+            HasNone(Word::Order(GREATEST)),
+            HasNone(Word::Hint { cell: 8, hint: 0 }),
+            HasNone(Word::Hint { cell: 0, hint: 3 }),
+            HasNone(Word::Hint {
+                cell: GREATEST,
+                hint: GREATEST,
+            }),
+            HasNone(Word::Count(5)),
+            HasNone(Word::Count(GREATEST)),
+            HasNone(Word::Entry {
                 place: 5,
                 entry: 0,
                 part: 0,
-            },
-            Word::Entry {
+            }),
+            HasNone(Word::Entry {
                 place: 2,
                 entry: 4,
                 part: 0,
-            },
-            Word::Entry {
+            }),
+            HasNone(Word::Entry {
                 place: 3,
                 entry: 8,
                 part: 0,
-            },
-            Word::Entry {
+            }),
+            HasNone(Word::Entry {
                 place: 4,
                 entry: GREATEST,
                 part: 0,
-            },
-            Word::Entry {
+            }),
+            HasNone(Word::Entry {
                 place: 0,
                 entry: 0,
                 part: 11,
-            },
-            Word::Entry {
+            }),
+            HasNone(Word::Entry {
                 place: GREATEST,
                 entry: 0,
                 part: GREATEST,
-            },
-        ])],
+            }),
+        ],
     },
     Schedule {
         name: "times and seats that are not there tell nothing",
@@ -176,49 +185,3 @@ const SCHEDULES: &[Schedule] = &[
         rows: &[IsRun],
     },
 ];
-
-#[test]
-fn worlds_tell_what_they_have(rt: HostRuntime) {
-    play_all(&rt, rt.alloc(), SCHEDULES);
-}
-
-/// Sizes that are asked for, and the cells, seats, chains and runs that a layout then has, or the
-/// first size that is out of its range.
-const SIZES: &[([usize; 5], Result<[u64; 4], OpenError>)] = &[
-    ([3, 65, 0, 3, 65], Err(OpenError::Cells)),
-    ([65_537, 65, 0, 3, 65], Err(OpenError::Cells)),
-    ([65_536, 65, 0, 3, 65], Err(OpenError::Seats)),
-    ([65_536, 0, 0, 3, 65], Err(OpenError::Seats)),
-    ([65_536, 64, 0, 3, 65], Err(OpenError::Shards)),
-    ([65_536, 64, 1_025, 3, 65], Err(OpenError::Shards)),
-    ([65_536, 64, 1_024, 3, 65], Err(OpenError::Run)),
-    ([65_536, 64, 1_024, 4_194_305, 65], Err(OpenError::Run)),
-    ([65_536, 64, 1_024, 4_194_304, 65], Err(OpenError::Patience)),
-    (
-        [65_536, 64, 1_024, 4_194_304, 64],
-        Ok([65_536, 64, 16_384, 4_194_304]),
-    ),
-    ([4, 1, 1, 4, 0], Ok([4, 1, 1, 4])),
-    // a chain for four cells, and as many as the user asked for at least
-    ([4, 2, 2, 8, 0], Ok([4, 2, 2, 8])),
-    ([7, 2, 1, 8, 0], Ok([7, 2, 1, 8])),
-    ([64, 2, 2, 8, 0], Ok([64, 2, 16, 8])),
-    ([64, 2, 32, 8, 0], Ok([64, 2, 32, 8])),
-];
-
-#[test]
-fn layout_takes_sizes_in_their_ranges(rt: HostRuntime) {
-    for (sizes, expected) in SIZES {
-        let [cells, seats, shards, run, patience] = *sizes;
-        let config = Config {
-            cells,
-            seats,
-            shards,
-            run,
-            patience,
-        };
-        let layout = Layout::new(config);
-        let found = layout.map(|layout| [layout.cells, layout.seats, layout.chains, layout.run]);
-        assert_eq!(rt; found, *expected, "of {config:?}");
-    }
-}

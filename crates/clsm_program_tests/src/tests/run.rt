@@ -1,39 +1,32 @@
-//! Runs as the tests make them.
-use clsm_model::Config;
-use clsm_run::{Load, Ran, Shows, Workload, run, run_on};
+//! Runs of several workers beside a merger: what differs from one to the next, their records, and
+//! their workloads.
+use super::device::{NEVER, SOUND, Screen, play};
+use clsm_audit::{AuditError, FaultKind, audit};
+use clsm_model::{CallRecord, Config, Deed, Value};
+use clsm_planner::Deal;
+use clsm_run::{Load, Ran, Shows, Workload, run_on};
 use std::alloc::Global;
-use std::io::{self, ErrorKind, Write};
 use std::process::Abort;
 use std::rt::Clock;
 use std::sync::Wait;
+use std::test::Fail;
 use std::thread::Threads;
 
-mod ending;
 mod overlap;
-mod running;
 mod settling;
-mod workloads;
 
-const NEVER: u32 = u32::MAX;
+const TWO_SEATS: Config = Config {
+    cells: 1_024,
+    seats: 2,
+    shards: 64,
+    run: 65_536,
+    patience: 16,
+};
 
-fn config(seats: usize) -> Config {
-    Config {
-        cells: 1_024,
-        seats,
-        shards: 64,
-        run: 65_536,
-        patience: 16,
-    }
-}
-
-/// So many calls of each worker, of 64 keys, drawn by 7.
-fn load(ops: u32) -> Load {
-    Load {
-        ops,
-        keys: 64,
-        seed: 7,
-    }
-}
+const FOUR_SEATS: Config = Config {
+    seats: 4,
+    ..TWO_SEATS
+};
 
 const PLAIN: Shows = Shows {
     stats: false,
@@ -41,79 +34,93 @@ const PLAIN: Shows = Shows {
     records: false,
 };
 
-/// A writer that fails once after so many calls.
-#[derive(Drop)]
-struct Screen {
-    shown: Vec<u8>,
-    fails_after: u32,
+/// Calls of 64 keys, drawn by 7.
+const LOAD: Load = Load {
+    ops: 1_000,
+    keys: 64,
+    seed: 7,
+};
+
+const SHOWING: &[&str] = &[
+    "clsm",
+    "run",
+    "--threads",
+    "2",
+    "--ops",
+    "100",
+    "--stats",
+    "--progress",
+];
+
+const RECORDING: &[&str] = &[
+    "clsm",
+    "run",
+    "--threads",
+    "2",
+    "--ops",
+    "50",
+    "--seed",
+    "7",
+    "--records",
+];
+
+const AUDITING: &[&str] = &["clsm", "audit", "--seats", "2", "--cells", "1024"];
+
+/// What is shown beside changes no output, and records pass the audit of lines.
+#[test]
+fn runs_are_shown(rt: HostRuntime) -> Result<(), Fail> {
+    let alloc = rt.alloc();
+    let none: &[u8] = b"";
+    let shown = play(&rt, alloc, SHOWING, none, &SOUND)?;
+    let faults = shown.faults.as_str();
+    shown.expect(&rt, "calls 200\naudit ok\n", faults, 0);
+    assert!(rt; faults.starts_with("\rcalls "));
+    assert!(rt; faults.contains("\nput answered "));
+    assert!(rt; faults.contains("\nrefused full 0\nmerges "));
+    let records = play(&rt, alloc, RECORDING, none, &SOUND)?;
+    let lines = records.output.as_str();
+    assert_eq!(rt; lines.lines().count(), 100);
+    records.expect(&rt, lines, "", 0);
+    let audited = play(&rt, alloc, AUDITING, lines.as_bytes(), &SOUND)?;
+    audited.expect(&rt, "audit ok\n", "", 0);
+    Ok(())
 }
 
-impl Screen {
-    fn new(alloc: Global, fails_after: u32) -> Screen {
-        Screen {
-            shown: Vec::new(alloc),
-            fails_after,
+/// A workload beside one that was drawn by hand, with the reference generator of PCG.
+#[test]
+fn the_calls_are_those_drawn_by_hand(rt: HostRuntime) -> Result<(), Fail> {
+    let three = [3_392_709_922, 3_392_709_923, 3_392_709_924];
+    let four = [2_127_995_579, 2_127_995_580, 2_127_995_581, 2_127_995_582];
+    let calls = [
+        Deal::Remove { key: 28 },
+        Deal::Get { key: 24 },
+        Deal::Get { key: 24 },
+        Deal::Scan { lo: 0, hi: 63 },
+        Deal::Snap,
+        Deal::Scan { lo: 40, hi: 55 },
+        Deal::Put {
+            key: 43,
+            value: Value::new(&three).expect(&rt, "three words"),
+        },
+        Deal::Add { key: 54, by: 1 },
+        Deal::GetAt { key: 23 },
+        Deal::Scan { lo: 31, hi: 46 },
+        Deal::Claim {
+            key: 15,
+            value: Value::new(&four).expect(&rt, "four words"),
+        },
+        Deal::Close,
+        Deal::Add { key: 42, by: 1 },
+    ];
+    let mut workload = Workload::new(14_301, 1, 64);
+    let mut has_snapshot = false;
+    for call in calls {
+        assert_eq!(rt; workload.next(has_snapshot), call);
+        match call {
+            Deal::Snap => has_snapshot = true,
+            Deal::Close => has_snapshot = false,
+            _ => (),
         }
     }
-
-    fn text(&self) -> &str {
-        std::str::from_utf8(&self.shown).unwrap_or("not UTF-8")
-    }
-
-    fn count_call(&mut self) -> io::Result<()> {
-        if self.fails_after == 0 {
-            self.fails_after = NEVER;
-            return Err(io::Error::from(ErrorKind::Other));
-        }
-        self.fails_after -= 1;
-        Ok(())
-    }
-}
-
-impl Write for Screen {
-    fn write(&mut self, buf: &[u8]) -> io::Result<usize> {
-        self.count_call()?;
-        self.shown.extend_from_slice(buf)?;
-        Ok(buf.len())
-    }
-
-    fn flush(&mut self) -> io::Result<()> {
-        self.count_call()
-    }
-}
-
-/// What a run printed, and its status.
-#[derive(Drop)]
-struct Screens {
-    output: Screen,
-    faults: Screen,
-    status: u8,
-}
-
-/// A run whose output fails after so many calls of it, and its faults after so many.
-fn printed<R: Threads + Sync + Clock + Wait>(
-    rt: &R,
-    alloc: Global,
-    config: Config,
-    load: Load,
-    shows: Shows,
-    fails_after: (u32, u32),
-) -> Screens {
-    let (of_output, of_faults) = fails_after;
-    let mut output = Screen::new(alloc, of_output);
-    let mut faults = Screen::new(alloc, of_faults);
-    let status = run(rt, alloc, config, load, shows, &mut output, &mut faults);
-    Screens {
-        output,
-        faults,
-        status,
-    }
-}
-
-impl Screens {
-    fn expect(&self, rt: &impl Abort, output: &str, faults: &str, status: u8) {
-        assert_eq!(rt; self.output.text(), output);
-        assert_eq!(rt; self.faults.text(), faults);
-        assert_eq!(rt; self.status, status);
-    }
+    Ok(())
 }

@@ -1,4 +1,5 @@
-//! A gate holds a seat at a step of its call until another thread lets it go.
+//! A gate holds a seat at a step of its call until another thread lets it go, or counts its steps.
+use super::act::{Answer, Turn};
 use clsm_words::{Kind, Pace};
 use std::sync::atomic::AtomicU64;
 use std::sync::atomic::Ordering::SeqCst;
@@ -7,12 +8,32 @@ use std::thread;
 /// How often a thread looks for its turn before it goes on without it.
 const TURNS: u64 = 10_000_000;
 
-/// Holds a seat, once, when it is about to make a step of this kind, or of any. So many such steps
-/// it lets pass first, counted since it is watched.
+/// Where a gate holds a seat, once: when it is about to make a step of this kind, or of any. So
+/// many such steps it lets pass first, counted since it is watched.
+#[derive(Drop)]
+pub(super) struct Hold {
+    pub(super) seat: u64,
+    pub(super) kind: Option<Kind>,
+    pub(super) passed: u64,
+    /// The turn at first.
+    pub(super) turn: u64,
+}
+
+/// Holds nobody.
+pub(super) const NOWHERE: Hold = Hold {
+    seat: 0,
+    kind: None,
+    passed: 0,
+    turn: OPEN,
+};
+
+/// A gate that lets so many steps pass only counts them.
+pub(super) const ALL: u64 = u64::MAX;
+
 #[derive(Drop)]
 pub(super) struct Gate {
     seat: u64,
-    at: Option<Kind>,
+    kind: Option<Kind>,
     passed: u64,
     taken: AtomicU64,
     turn: AtomicU64,
@@ -24,27 +45,27 @@ pub(super) const OPEN: u64 = 0;
 
 pub(super) const NOBODY: u64 = 1;
 
-pub(super) const HELD: u64 = 2;
+const HELD: u64 = 2;
 
-pub(super) const LET_GO: u64 = 3;
+const LET_GO: u64 = 3;
 
-pub(super) const ANSWERED: u64 = 4;
+const ANSWERED: u64 = 4;
 
 const TOO_LONG: u64 = 5;
 
 impl Gate {
-    pub(super) fn new(seat: u64, at: Option<Kind>, passed: u64, turn: u64) -> Gate {
+    pub(super) fn new(hold: &Hold) -> Gate {
         Gate {
-            seat,
-            at,
-            passed,
+            seat: hold.seat,
+            kind: hold.kind,
+            passed: hold.passed,
             taken: AtomicU64::new(0),
-            turn: AtomicU64::new(turn),
+            turn: AtomicU64::new(hold.turn),
         }
     }
 
     /// Waits while this is the turn, but not for ever. Answers whether the seat is held then.
-    pub(super) fn wait_while(&self, turn: u64) -> bool {
+    fn wait_while(&self, turn: u64) -> bool {
         for _ in 0..TURNS {
             if self.turn.load(SeqCst) != turn {
                 break;
@@ -55,16 +76,39 @@ impl Gate {
     }
 
     /// Takes the turn from one to the other. Answers whether it was the first.
-    pub(super) fn pass(&self, from: u64, to: u64) -> bool {
+    fn pass(&self, from: u64, to: u64) -> bool {
         self.turn.compare_exchange(from, to, SeqCst, SeqCst).is_ok()
     }
 
+    /// Takes a turn at the gate.
+    pub(super) fn take_turn(&self, turn: &Turn) -> Answer {
+        match turn {
+            Turn::Watch => {
+                self.pass(OPEN, NOBODY);
+                Answer::Done
+            }
+            Turn::Wait => {
+                self.wait_while(OPEN);
+                Answer::Held(self.wait_while(NOBODY))
+            }
+            Turn::LetGo => Answer::Held(self.pass(HELD, LET_GO)),
+            Turn::LetEnd => {
+                let held = self.pass(HELD, LET_GO);
+                self.wait_while(LET_GO);
+                Answer::Held(held)
+            }
+            Turn::End => {
+                self.pass(LET_GO, ANSWERED);
+                self.pass(NOBODY, ANSWERED);
+                Answer::Done
+            }
+            Turn::Steps => Answer::Count(self.taken.swap(0, SeqCst)),
+        }
+    }
+
     fn step(&self, seat: u64, kind: Kind) {
-        let is_here = match self.at {
-            Some(at) => at == kind,
-            None => true,
-        };
-        if seat != self.seat || !is_here || self.turn.load(SeqCst) != NOBODY {
+        let is_here = seat == self.seat && self.kind.unwrap_or(kind) == kind;
+        if !is_here || self.turn.load(SeqCst) != NOBODY {
             return;
         }
         if self.taken.fetch_add(1, SeqCst) == self.passed && self.pass(NOBODY, HELD) {

@@ -1,8 +1,9 @@
 //! A seat is held at a step of its call while others make theirs.
-use super::acting::{Act, Answer, check};
-use super::gate::{Gate, NOBODY, OPEN};
-use super::*;
+use super::act::{Act, Answer, Step, Turn};
+use super::case::{Case, FOUR_CELLS, NONE, Phase, check};
+use super::gate::{Hold, NOBODY, NOWHERE, OPEN};
 use clsm_law::Word;
+use clsm_store::{Config, TryPutError};
 use clsm_words::Kind;
 use std::test::*;
 
@@ -11,221 +12,453 @@ const KEY: u64 = 7;
 /// The merger's number, behind those of three callers.
 const MERGER: u64 = 3;
 
-/// Holds a seat at its first step of this kind.
-fn at(seat: u64, kind: Kind, turn: u64) -> Gate {
-    Gate::new(seat, Some(kind), 0, turn)
+const PUT: Act = Act::Put(KEY, 1);
+
+const PUT_TOO: Act = Act::Put(KEY, 2);
+
+const TRY: Act = Act::TryPut(KEY, 1);
+
+const GET: Act = Act::Get(KEY);
+
+const LOOK: Kind = Kind::Look(Word::Clock);
+
+const OVERTAKEN: Answer = Answer::Refused(TryPutError::Overtaken);
+
+const RACED: Answer = Answer::Refused(TryPutError::Raced);
+
+const BUSY: Answer = Answer::Refused(TryPutError::Busy);
+
+const WAIT: Step = (Act::First(Turn::Wait), Answer::Held(true));
+
+const LET_GO: Step = (Act::First(Turn::LetGo), Answer::Held(true));
+
+const LET_END: Step = (Act::First(Turn::LetEnd), Answer::Held(true));
+
+const END: Step = (Act::First(Turn::End), Answer::Done);
+
+const IMPATIENT: Config = Config {
+    patience: 0,
+    ..FOUR_CELLS
+};
+
+/// Seat 1 is held before its first step of this kind in its call until the call of seat 2 is
+/// answered; then it gets.
+struct Row {
+    config: Config,
+    before: &'static [Step],
+    kind: Kind,
+    slow: &'static [Step],
+    quick: &'static [Step],
 }
 
-/// Seat 1 is held before its first step of this kind until seat 2's call is answered; then it gets.
+const OLD: &[Step] = &[(Act::Put(KEY, 10), Answer::At(0))];
+
+const ROWS: &[Row] = &[
+    // writers overlap, and one that is held holds up no other
+    Row {
+        config: FOUR_CELLS,
+        before: &[],
+        kind: Kind::Decide,
+        slow: &[(PUT, Answer::At(0)), (GET, Answer::Got(2, 2))],
+        quick: &[WAIT, (PUT_TOO, Answer::At(1)), LET_GO],
+    },
+    Row {
+        config: FOUR_CELLS,
+        before: &[],
+        kind: Kind::Decide,
+        slow: &[(PUT, Answer::At(0)), (GET, Answer::Got(2, 2))],
+        quick: &[WAIT, (Act::TryPut(KEY, 2), Answer::At(1)), LET_GO],
+    },
+    Row {
+        config: FOUR_CELLS,
+        before: &[],
+        kind: Kind::Decide,
+        slow: &[(TRY, Answer::At(0)), (GET, Answer::Got(2, 2))],
+        quick: &[WAIT, (PUT_TOO, Answer::At(1)), LET_GO],
+    },
+    // a reader overtakes it
+    Row {
+        config: FOUR_CELLS,
+        before: &[],
+        kind: Kind::Decide,
+        slow: &[(PUT, Answer::At(1)), (GET, Answer::Got(2, 1))],
+        quick: &[WAIT, (GET, Answer::None(1)), LET_GO],
+    },
+    Row {
+        config: FOUR_CELLS,
+        before: &[],
+        kind: Kind::Decide,
+        slow: &[(TRY, OVERTAKEN), (GET, Answer::None(1))],
+        quick: &[WAIT, (GET, Answer::None(1)), LET_GO],
+    },
+    // another seat is faster
+    Row {
+        config: FOUR_CELLS,
+        before: &[],
+        kind: Kind::Draw,
+        slow: &[(PUT, Answer::At(1)), (GET, Answer::Got(2, 1))],
+        quick: &[WAIT, (PUT_TOO, Answer::At(0)), LET_GO],
+    },
+    Row {
+        config: FOUR_CELLS,
+        before: &[],
+        kind: Kind::Link,
+        slow: &[(PUT, Answer::At(0)), (GET, Answer::Got(2, 2))],
+        quick: &[WAIT, (PUT_TOO, Answer::At(1)), LET_GO],
+    },
+    Row {
+        config: FOUR_CELLS,
+        before: &[],
+        kind: Kind::Insert,
+        slow: &[(PUT, Answer::At(0)), (GET, Answer::Got(2, 2))],
+        quick: &[WAIT, (PUT_TOO, Answer::At(1)), LET_GO],
+    },
+    Row {
+        config: FOUR_CELLS,
+        before: &[],
+        kind: Kind::Draw,
+        slow: &[(TRY, RACED), (GET, Answer::Got(1, 2))],
+        quick: &[WAIT, (PUT_TOO, Answer::At(0)), LET_GO],
+    },
+    Row {
+        config: FOUR_CELLS,
+        before: &[],
+        kind: Kind::Link,
+        slow: &[(TRY, RACED), (GET, Answer::Got(2, 2))],
+        quick: &[WAIT, (PUT_TOO, Answer::At(1)), LET_GO],
+    },
+    Row {
+        config: FOUR_CELLS,
+        before: &[],
+        kind: Kind::Insert,
+        slow: &[(TRY, RACED), (GET, Answer::Got(2, 2))],
+        quick: &[WAIT, (PUT_TOO, Answer::At(1)), LET_GO],
+    },
+    // a read is at the clock that it found
+    Row {
+        config: FOUR_CELLS,
+        before: &[],
+        kind: LOOK,
+        slow: &[(GET, Answer::Got(1, 2)), (GET, Answer::Got(1, 2))],
+        quick: &[WAIT, (PUT_TOO, Answer::At(0)), LET_GO],
+    },
+    Row {
+        config: FOUR_CELLS,
+        before: &[],
+        kind: Kind::RaiseFront,
+        slow: &[(GET, Answer::None(0)), (GET, Answer::Got(1, 2))],
+        quick: &[WAIT, (PUT_TOO, Answer::At(0)), LET_GO],
+    },
+    Row {
+        config: FOUR_CELLS,
+        before: &[],
+        kind: Kind::Unpin,
+        slow: &[(GET, Answer::None(0)), (GET, Answer::Got(1, 2))],
+        quick: &[WAIT, (PUT_TOO, Answer::At(0)), LET_GO],
+    },
+    // the key has a value, and a writer is held before each kind of its steps
+    Row {
+        config: IMPATIENT,
+        before: OLD,
+        kind: Kind::EnterShared,
+        slow: &[(PUT, Answer::At(1)), (GET, Answer::Got(2, 1))],
+        quick: &[WAIT, (GET, Answer::Got(1, 10)), LET_GO],
+    },
+    Row {
+        config: IMPATIENT,
+        before: OLD,
+        kind: Kind::Draw,
+        slow: &[(PUT, Answer::At(1)), (GET, Answer::Got(2, 1))],
+        quick: &[WAIT, (GET, Answer::Got(1, 10)), LET_GO],
+    },
+    Row {
+        config: IMPATIENT,
+        before: OLD,
+        kind: Kind::Fill,
+        slow: &[(PUT, Answer::At(2)), (GET, Answer::Got(3, 1))],
+        quick: &[WAIT, (GET, Answer::Got(2, 10)), LET_GO],
+    },
+    Row {
+        config: IMPATIENT,
+        before: OLD,
+        kind: Kind::Link,
+        slow: &[(PUT, Answer::At(2)), (GET, Answer::Got(3, 1))],
+        quick: &[WAIT, (GET, Answer::Got(2, 10)), LET_GO],
+    },
+    Row {
+        config: IMPATIENT,
+        before: OLD,
+        kind: Kind::FillOrder,
+        slow: &[(PUT, Answer::At(2)), (GET, Answer::Got(3, 1))],
+        quick: &[WAIT, (GET, Answer::Got(2, 10)), LET_GO],
+    },
+    Row {
+        config: IMPATIENT,
+        before: OLD,
+        kind: Kind::Insert,
+        slow: &[(PUT, Answer::At(2)), (GET, Answer::Got(3, 1))],
+        quick: &[WAIT, (GET, Answer::Got(2, 10)), LET_GO],
+    },
+    Row {
+        config: IMPATIENT,
+        before: OLD,
+        kind: Kind::Decide,
+        slow: &[(PUT, Answer::At(2)), (GET, Answer::Got(3, 1))],
+        quick: &[WAIT, (GET, Answer::Got(2, 10)), LET_GO],
+    },
+    Row {
+        config: IMPATIENT,
+        before: OLD,
+        kind: Kind::LeaveShared,
+        slow: &[(PUT, Answer::At(1)), (GET, Answer::Got(2, 1))],
+        quick: &[WAIT, (GET, Answer::Got(2, 1)), LET_GO],
+    },
+];
+
 #[test]
 fn a_seat_is_held_while_another_calls(rt: HostRuntime) -> Result<(), Fail> {
-    let (put, put_too) = (Act::Put(KEY, 1), Act::Put(KEY, 2));
-    let (try_put, try_too) = (Act::TryPut(KEY, 1), Act::TryPut(KEY, 2));
-    let (get, clock) = (Act::Get(KEY), Kind::Look(Word::Clock));
-    let overtaken = Answer::Refused(TryPutError::Overtaken);
-    let raced = Answer::Refused(TryPutError::Raced);
-    let (zero, one) = (Answer::At(0), Answer::At(1));
-    let (old, none) = (Answer::None(0), Answer::None(1));
-    let (first, second) = (Answer::Got(2, 1), Answer::Got(2, 2));
-    let early = Answer::Got(1, 2);
-    for (kind, slow, quick, after) in [
-        // writers overlap, and one that is held holds up no other
-        (Kind::Decide, (put, zero), (put_too, one), second),
-        (Kind::Decide, (put, zero), (try_too, one), second),
-        (Kind::Decide, (try_put, zero), (put_too, one), second),
-        // a reader overtakes it
-        (Kind::Decide, (put, one), (get, none), first),
-        (Kind::Decide, (try_put, overtaken), (get, none), none),
-        // another seat is faster
-        (Kind::Draw, (put, one), (put_too, zero), first),
-        (Kind::Link, (put, zero), (put_too, one), second),
-        (Kind::Draw, (try_put, raced), (put_too, zero), early),
-        (Kind::Link, (try_put, raced), (put_too, one), second),
-        // a read is at the clock that it found
-        (clock, (get, early), (put_too, zero), early),
-        (Kind::RaiseFront, (get, old), (put_too, zero), early),
-        (Kind::Unpin, (get, old), (put_too, zero), early),
-    ] {
-        let gates = (at(1, kind, NOBODY), at(2, kind, OPEN));
-        let slow = [slow, (get, after)];
-        let quick = [
-            (Act::Wait(0), Answer::Held(true)),
-            quick,
-            (Act::LetGo(0), Answer::Held(true)),
-        ];
-        check(&rt, rt.alloc(), 8, gates, &[], [&[], &slow, &quick]);
+    for row in ROWS {
+        let before: Phase = [row.before, NONE, NONE, NONE, NONE];
+        let beside: Phase = [NONE, row.slow, row.quick, NONE, NONE];
+        let hold = Hold {
+            seat: 1,
+            kind: Some(row.kind),
+            passed: 0,
+            turn: NOBODY,
+        };
+        let case = Case {
+            name: "a seat is held while another calls",
+            config: row.config,
+            gates: [hold, NOWHERE],
+            phases: &[before, beside],
+            rounds: 0,
+            round: &[],
+        };
+        check(&rt, rt.alloc(), &case);
     }
     Ok(())
 }
 
-/// The key has a value, and seat 1 is held before its first step of this kind in a put, while
-/// seat 2 gets; then seat 1 gets.
-#[test]
-fn a_writer_is_held_before_each_kind_of_its_steps(rt: HostRuntime) -> Result<(), Fail> {
-    let (one, two) = (Answer::At(1), Answer::At(2));
-    let (old, late) = (Answer::Got(1, 10), Answer::Got(2, 10));
-    let (new, newer) = (Answer::Got(2, 1), Answer::Got(3, 1));
-    for (kind, during, time, after) in [
-        (Kind::EnterShared, old, one, new),
-        (Kind::Draw, old, one, new),
-        (Kind::Fill, late, two, newer),
-        (Kind::Link, late, two, newer),
-        (Kind::Decide, late, two, newer),
-        (Kind::LeaveShared, new, one, new),
-    ] {
-        let gates = (at(1, kind, NOBODY), at(2, kind, OPEN));
-        let before = [(Act::Put(KEY, 10), Answer::At(0))];
-        let slow = [(Act::Put(KEY, 1), time), (Act::Get(KEY), after)];
-        let quick = [
-            (Act::Wait(0), Answer::Held(true)),
-            (Act::Get(KEY), during),
-            (Act::LetGo(0), Answer::Held(true)),
-        ];
-        check(&rt, rt.alloc(), 0, gates, &before, [&[], &slow, &quick]);
-    }
-    Ok(())
-}
+/// The merger's acts beside a reader that keeps its component until its call is answered.
+const KEPT: &[Step] = &[
+    WAIT,
+    (Act::Freeze, Answer::Frozen(0)),
+    (Act::Merge, Answer::Merged(1)),
+    (Act::Reclaim, Answer::Pinned(1)),
+    LET_END,
+    (Act::Reclaim, Answer::Clean),
+];
 
-/// A writer is held between its draw and its first fill, while the epoch before is merged and given
-/// up.
-#[test]
-fn a_held_writer_holds_up_no_merge(rt: HostRuntime) -> Result<(), Fail> {
-    let gates = (at(1, Kind::Fill, NOBODY), at(2, Kind::Fill, OPEN));
-    let before = [
-        (Act::Put(KEY, 10), Answer::At(0)),
-        (Act::Freeze, Answer::Frozen(0)),
-    ];
-    let merger = [
-        (Act::Wait(0), Answer::Held(true)),
-        (Act::Merge, Answer::Merged(1)),
-        (Act::Reclaim, Answer::Clean),
-        (Act::Get(KEY), Answer::Got(5, 10)),
-        (Act::LetGo(0), Answer::Held(true)),
-    ];
-    let writer = [
-        (Act::Put(KEY, 11), Answer::At(5)),
-        (Act::Get(KEY), Answer::Got(6, 11)),
-    ];
-    check(&rt, rt.alloc(), 0, gates, &before, [&merger, &writer, &[]]);
-    Ok(())
-}
+const AT_CLOCK: Hold = Hold {
+    seat: 1,
+    kind: Some(LOOK),
+    passed: 0,
+    turn: NOBODY,
+};
 
-/// A reader is held in its call while the component that it holds is merged and retired.
-#[test]
-fn a_held_reader_keeps_its_component(rt: HostRuntime) -> Result<(), Fail> {
-    let clock = Kind::Look(Word::Clock);
-    for (call, answer) in [
-        (Act::Get(KEY), Answer::Got(4, 10)),
-        (Act::Scan, Answer::Row(4, KEY, 10)),
-    ] {
-        let gates = (at(1, clock, NOBODY), at(2, clock, OPEN));
-        let before = [(Act::Put(KEY, 10), Answer::At(0))];
-        let merger = [
-            (Act::Wait(0), Answer::Held(true)),
-            (Act::Freeze, Answer::Frozen(0)),
-            (Act::Merge, Answer::Merged(1)),
-            (Act::Reclaim, Answer::Pinned(1)),
-            (Act::LetEnd(0), Answer::Held(true)),
-            (Act::Reclaim, Answer::Clean),
-        ];
-        let reader = [(call, answer), (Act::End(0), Answer::Done)];
-        check(&rt, rt.alloc(), 8, gates, &before, [&merger, &reader, &[]]);
-    }
-    Ok(())
-}
-
-#[test]
-fn two_held_readers_are_named_one_after_the_other(rt: HostRuntime) -> Result<(), Fail> {
-    let clock = Kind::Look(Word::Clock);
-    let gates = (at(1, clock, NOBODY), at(2, clock, NOBODY));
-    let before = [(Act::Put(KEY, 10), Answer::At(0))];
-    let merger = [
-        (Act::Wait(0), Answer::Held(true)),
-        (Act::Wait(1), Answer::Held(true)),
-        (Act::Freeze, Answer::Frozen(0)),
-        (Act::Merge, Answer::Merged(1)),
-        (Act::Reclaim, Answer::Pinned(1)),
-        (Act::LetEnd(0), Answer::Held(true)),
-        (Act::Reclaim, Answer::Pinned(2)),
-        (Act::LetEnd(1), Answer::Held(true)),
-        (Act::Reclaim, Answer::Clean),
-    ];
-    let get = (Act::Get(KEY), Answer::Got(4, 10));
-    let first = [get, (Act::End(0), Answer::Done)];
-    let second = [get, (Act::End(1), Answer::Done)];
-    check(
-        &rt,
-        rt.alloc(),
-        8,
-        gates,
-        &before,
-        [&merger, &first, &second],
-    );
-    Ok(())
-}
-
-/// The reader is held in a second get, under its new pin.
-#[test]
-fn a_reader_that_began_anew_keeps_nothing_retired(rt: HostRuntime) -> Result<(), Fail> {
-    let clock = Kind::Look(Word::Clock);
-    let gates = (at(1, clock, NOBODY), at(1, clock, OPEN));
-    let before = [(Act::Put(KEY, 10), Answer::At(0))];
-    let merger = [
-        (Act::Wait(0), Answer::Held(true)),
-        (Act::Freeze, Answer::Frozen(0)),
-        (Act::Merge, Answer::Merged(1)),
-        (Act::Reclaim, Answer::Pinned(1)),
-        (Act::LetEnd(0), Answer::Held(true)),
-        (Act::Wait(1), Answer::Held(true)),
-        (Act::Reclaim, Answer::Clean),
-        (Act::LetEnd(1), Answer::Held(true)),
-    ];
-    let get = (Act::Get(KEY), Answer::Got(4, 10));
-    let reader = [
-        get,
-        (Act::End(0), Answer::Done),
-        (Act::Watch(1), Answer::Done),
-        get,
-        (Act::End(1), Answer::Done),
-    ];
-    check(&rt, rt.alloc(), 8, gates, &before, [&merger, &reader, &[]]);
-    Ok(())
-}
-
-/// Seat 1 is held between its look at the lock and its exchange, until seat 2 is about to draw in
-/// its own hold; there seat 2 is held until seat 1's try is answered.
-#[test]
-fn a_try_is_busy_where_another_enters_first(rt: HostRuntime) -> Result<(), Fail> {
-    let gates = (at(1, Kind::EnterShared, NOBODY), at(2, Kind::Draw, NOBODY));
-    let between = [
-        (Act::Wait(1), Answer::Held(true)),
-        (Act::LetEnd(0), Answer::Held(true)),
-        (Act::LetGo(1), Answer::Held(true)),
-    ];
-    let first = [
-        (Act::TryPut(KEY, 1), Answer::Refused(TryPutError::Busy)),
-        (Act::End(0), Answer::Done),
-    ];
-    let second = [
-        (Act::Wait(0), Answer::Held(true)),
-        (Act::Put(KEY, 2), Answer::At(0)),
-    ];
-    check(&rt, rt.alloc(), 8, gates, &[], [&between, &first, &second]);
-    Ok(())
-}
-
-#[test]
-fn a_try_is_busy_while_an_epoch_is_frozen(rt: HostRuntime) -> Result<(), Fail> {
-    let gates = (
-        at(MERGER, Kind::ExtendLimit, NOBODY),
-        at(MERGER, Kind::Pad, OPEN),
-    );
-    let merger = [(Act::Freeze, Answer::Frozen(0))];
-    let caller = [
-        (Act::Wait(0), Answer::Held(true)),
-        (Act::TryPut(KEY, 1), Answer::Refused(TryPutError::Busy)),
-        (Act::LetGo(0), Answer::Held(true)),
-    ];
-    check(&rt, rt.alloc(), 8, gates, &[], [&merger, &caller, &[]]);
-    Ok(())
-}
+pub(super) const CASES: &[Case] = &[
+    Case {
+        name: "a writer that is held before its first fill holds up no merge",
+        config: IMPATIENT,
+        gates: [
+            Hold {
+                seat: 1,
+                kind: Some(Kind::Fill),
+                passed: 0,
+                turn: NOBODY,
+            },
+            NOWHERE,
+        ],
+        phases: &[
+            [
+                &[
+                    (Act::Put(KEY, 10), Answer::At(0)),
+                    (Act::Freeze, Answer::Frozen(0)),
+                ],
+                NONE,
+                NONE,
+                NONE,
+                NONE,
+            ],
+            [
+                &[
+                    WAIT,
+                    (Act::Merge, Answer::Merged(1)),
+                    (Act::Reclaim, Answer::Clean),
+                    (GET, Answer::Got(5, 10)),
+                    LET_GO,
+                ],
+                &[
+                    (Act::Put(KEY, 11), Answer::At(5)),
+                    (GET, Answer::Got(6, 11)),
+                ],
+                NONE,
+                NONE,
+                NONE,
+            ],
+        ],
+        rounds: 0,
+        round: &[],
+    },
+    Case {
+        name: "a reader that is held in a get keeps its component",
+        config: FOUR_CELLS,
+        gates: [AT_CLOCK, NOWHERE],
+        phases: &[
+            [OLD, NONE, NONE, NONE, NONE],
+            [KEPT, &[(GET, Answer::Got(4, 10)), END], NONE, NONE, NONE],
+        ],
+        rounds: 0,
+        round: &[],
+    },
+    Case {
+        name: "a reader that is held in a scan keeps its component",
+        config: FOUR_CELLS,
+        gates: [AT_CLOCK, NOWHERE],
+        phases: &[
+            [OLD, NONE, NONE, NONE, NONE],
+            [
+                KEPT,
+                &[(Act::Scan(0), Answer::Rows(4, 1)), END],
+                NONE,
+                NONE,
+                NONE,
+            ],
+        ],
+        rounds: 0,
+        round: &[],
+    },
+    Case {
+        name: "two held readers are named one after the other",
+        config: FOUR_CELLS,
+        gates: [
+            AT_CLOCK,
+            Hold {
+                seat: 2,
+                kind: Some(LOOK),
+                passed: 0,
+                turn: NOBODY,
+            },
+        ],
+        phases: &[
+            [OLD, NONE, NONE, NONE, NONE],
+            [
+                &[
+                    WAIT,
+                    (Act::Second(Turn::Wait), Answer::Held(true)),
+                    (Act::Freeze, Answer::Frozen(0)),
+                    (Act::Merge, Answer::Merged(1)),
+                    (Act::Reclaim, Answer::Pinned(1)),
+                    LET_END,
+                    (Act::Reclaim, Answer::Pinned(2)),
+                    (Act::Second(Turn::LetEnd), Answer::Held(true)),
+                    (Act::Reclaim, Answer::Clean),
+                ],
+                &[(GET, Answer::Got(4, 10)), END],
+                &[
+                    (GET, Answer::Got(4, 10)),
+                    (Act::Second(Turn::End), Answer::Done),
+                ],
+                NONE,
+                NONE,
+            ],
+        ],
+        rounds: 0,
+        round: &[],
+    },
+    Case {
+        name: "a reader that is held in a second get, under its new pin, keeps nothing retired",
+        config: FOUR_CELLS,
+        gates: [
+            AT_CLOCK,
+            Hold {
+                seat: 1,
+                kind: Some(LOOK),
+                passed: 0,
+                turn: OPEN,
+            },
+        ],
+        phases: &[
+            [OLD, NONE, NONE, NONE, NONE],
+            [
+                &[
+                    WAIT,
+                    (Act::Freeze, Answer::Frozen(0)),
+                    (Act::Merge, Answer::Merged(1)),
+                    (Act::Reclaim, Answer::Pinned(1)),
+                    LET_END,
+                    (Act::Second(Turn::Wait), Answer::Held(true)),
+                    (Act::Reclaim, Answer::Clean),
+                    (Act::Second(Turn::LetEnd), Answer::Held(true)),
+                ],
+                &[
+                    (GET, Answer::Got(4, 10)),
+                    END,
+                    (Act::Second(Turn::Watch), Answer::Done),
+                    (GET, Answer::Got(4, 10)),
+                    (Act::Second(Turn::End), Answer::Done),
+                ],
+                NONE,
+                NONE,
+                NONE,
+            ],
+        ],
+        rounds: 0,
+        round: &[],
+    },
+    // Seat 1 is held between its look at the lock and its exchange, until seat 2 is about to draw
+    // in its own hold; there seat 2 is held until the try of seat 1 is answered.
+    Case {
+        name: "a try is busy where another seat enters first",
+        config: FOUR_CELLS,
+        gates: [
+            Hold {
+                seat: 1,
+                kind: Some(Kind::EnterShared),
+                passed: 0,
+                turn: NOBODY,
+            },
+            Hold {
+                seat: 2,
+                kind: Some(Kind::Draw),
+                passed: 0,
+                turn: NOBODY,
+            },
+        ],
+        phases: &[[
+            &[
+                (Act::Second(Turn::Wait), Answer::Held(true)),
+                LET_END,
+                (Act::Second(Turn::LetGo), Answer::Held(true)),
+            ],
+            &[(TRY, BUSY), END],
+            &[WAIT, (PUT_TOO, Answer::At(0))],
+            NONE,
+            NONE,
+        ]],
+        rounds: 0,
+        round: &[],
+    },
+    Case {
+        name: "a try is busy while an epoch is frozen",
+        config: FOUR_CELLS,
+        gates: [
+            Hold {
+                seat: MERGER,
+                kind: Some(Kind::ExtendLimit),
+                passed: 0,
+                turn: NOBODY,
+            },
+            NOWHERE,
+        ],
+        phases: &[[
+            &[(Act::Freeze, Answer::Frozen(0))],
+            &[WAIT, (TRY, BUSY), LET_GO],
+            NONE,
+            NONE,
+            NONE,
+        ]],
+        rounds: 0,
+        round: &[],
+    },
+];

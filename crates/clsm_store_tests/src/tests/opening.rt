@@ -1,10 +1,12 @@
 //! Sizes that are taken and refused.
-use super::*;
+use clsm_store::{Config, OpenError, Opened, open};
+use std::alloc::Global;
+use std::process::Abort;
 use std::test::*;
 
+/// The sizes in the order of `Config`, and the first of them that is out of its range.
 #[test]
 fn open_names_the_first_size_out_of_range(rt: HostRuntime) -> Result<(), Fail> {
-    let good = FOUR_CELLS;
     for (cells, seats, shards, run, patience, refusal) in [
         (3, 65, 0, 3, 65, OpenError::Cells),
         (4, 65, 0, 3, 65, OpenError::Seats),
@@ -34,15 +36,16 @@ fn open_names_the_first_size_out_of_range(rt: HostRuntime) -> Result<(), Fail> {
     Ok(())
 }
 
-/// The number of each seat is its place.
-fn are_numbered(rt: &impl Abort, seats: &[Seat]) {
+/// A store of these sizes is opened, and the number of each seat is its place.
+fn are_taken(rt: &impl Abort, alloc: Global, config: Config) {
+    let Opened { seats, .. } = open(alloc, config).expect(rt, "sizes in their ranges");
+    assert_eq!(rt; seats.len(), config.seats);
     for (place, seat) in seats.iter().enumerate() {
         assert_eq!(rt; seat.number() as usize, place);
-        assert_eq!(rt; seat.snapshot_time(), None);
-        seat.show_records();
     }
 }
 
+/// The greatest sizes are taken but for the greatest runs.
 #[test]
 fn open_takes_the_least_and_great_sizes(rt: HostRuntime) -> Result<(), Fail> {
     let least = Config {
@@ -52,7 +55,6 @@ fn open_takes_the_least_and_great_sizes(rt: HostRuntime) -> Result<(), Fail> {
         run: 4,
         patience: 0,
     };
-    // the greatest, but for its runs
     let great = Config {
         cells: 65_536,
         seats: 64,
@@ -60,10 +62,7 @@ fn open_takes_the_least_and_great_sizes(rt: HostRuntime) -> Result<(), Fail> {
         run: 65_536,
         patience: 64,
     };
-    for config in [least, great] {
-        let Opened { seats, .. } = opened(&rt, rt.alloc(), config);
-        assert_eq!(rt; seats.len(), config.seats);
-        are_numbered(&rt, &seats);
-    }
+    are_taken(&rt, rt.alloc(), least);
+    are_taken(&rt, rt.alloc(), great);
     Ok(())
 }

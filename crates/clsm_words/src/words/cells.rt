@@ -1,7 +1,8 @@
 //! The cells and chains of times and keys, the states that deeds leave, and answers.
-ghost use Rattle.std.specs.Prelude.{◌≡◌, ◌%◌};
+ghost use Rattle.std.specs.Prelude.{◌≡◌, ◌^◌, ◌%◌, ◌+◌, ◌<◌};
 ghost use Rattle.clsm_model.specs.Right.{write_by};
-ghost use Rattle.clsm_law.specs.Memory.{cell_of, head_of};
+ghost use Rattle.clsm_law.specs.declared.word.Word.TheVariants.{Order};
+ghost use Rattle.clsm_law.specs.Memory.{cell_of, region_of, head_of, link_at};
 ghost use Rattle.clsm_law.specs.Relation.{state_by, won_if};
 
 use super::{WordTable, Words};
@@ -26,6 +27,19 @@ impl WordTable {
         Word::Head {
             region: self.layout.region_of(self.cell_of(time)),
             chain: self.divisors.chains.rest(key),
+        }
+    }
+
+    /// The link behind the place in the ordered list of the time's region.
+    #[inline(always)]
+    pub(super) fn link_behind(&self, time: Time, place: u64) -> Word
+        requires { place + 1 < 2 ^ 64 }
+        ensures { result ≡ Order (link_at (region_of self.now.layout (cell_of self.now.layout time)) place) }
+    {
+        if place == 0 {
+            Word::Order(self.layout.region_of(self.cell_of(time)))
+        } else {
+            Word::Order(place + 1)
         }
     }
 }

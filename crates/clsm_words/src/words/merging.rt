@@ -2,7 +2,7 @@
 //! reclaim.
 ghost use Rattle.std.specs.Prelude.{◌≡◌};
 ghost use Rattle.clsm_law.specs.Merging.{epoch_end};
-ghost use Rattle.clsm_law.specs.declared.step.Step.TheVariants.{EnterExclusive, LeaveExclusive, Look, Pad, WriteRun, ClearHead, ClearState, Publish, ExtendClock, ExtendLimit};
+ghost use Rattle.clsm_law.specs.declared.step.Step.TheVariants.{EnterExclusive, LeaveExclusive, Look, Pad, WriteRun, ClearHead, ClearOrder, ClearState, Publish, ExtendClock, ExtendLimit};
 ghost use Rattle.clsm_words.specs.Plays.{MayMerge, Merged, PlaysAsMerger, MergerAnswers};
 
 use super::cells::won_if;
@@ -102,6 +102,17 @@ impl<P: Pace> Words<P> {
         let step = Step::ClearHead { region, chain };
         self.words
             .merger_store(seat, &step, Word::Head { region, chain }, 0);
+    }
+
+    /// Empties the ordered list of the retired region.
+    #[inline(always)]
+    pub fn clear_order(&self, seat: &mut RawMerger, region: u64)
+        requires { MayMerge self.now seat.old (ClearOrder region) }
+        ensures { PlaysAsMerger self.now seat.old (ClearOrder region) seat.new }
+    {
+        self.pace_merger(Kind::ClearOrder);
+        self.words
+            .merger_store(seat, &Step::ClearOrder(region), Word::Order(region), 0);
     }
 
     /// Empties a cell of the retired region.

@@ -25,3 +25,6 @@ returns-in_ok-note_end-in-Unpin c = rw c.in-Unpin.is (c.in_ok-note_end-in-Unpin.
 
 pub returns-in_ok-note_close-in-CloseSnapshot : goal.returns-in_ok-note_close-in-CloseSnapshot
 returns-in_ok-note_close-in-CloseSnapshot c = rw c.in-CloseSnapshot.is (c.in_ok-note_close-in-CloseSnapshot.ensures c.args.layout.now c.args.found)
+
+pub returns-in-Insert : goal.returns-in-Insert
+returns-in-Insert c = rw c.in-Insert.is (c.note_insert.ensures c.args.layout.now c.args.seat)

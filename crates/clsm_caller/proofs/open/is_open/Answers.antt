@@ -22,3 +22,6 @@ returns-in-Cancel c = rw c.in-Cancel.is (c.may_cancel.ensures (past_of c.args.sl
 
 pub returns-in-Note : goal.returns-in-Note
 returns-in-Note c = rw c.in-Note.is (c.may_note.ensures c.args.layout.now (past_of c.args.slots.now c.args.view.now.past))
+
+pub returns-in-Insert : goal.returns-in-Insert
+returns-in-Insert c = rw c.in-Insert.is (c.may_insert.ensures c.args.layout.now (past_of c.args.slots.now c.args.view.now.past))

@@ -120,7 +120,10 @@ impl Played {
         let from = lo;
         let max = draw_key(&mut self.draws);
         let count = all.len().min(max as usize);
-        let more = all.get(count).map(|row| row.0);
+        let more = match all.get(count) {
+            Some((next, _)) => Some(*next),
+            None => None,
+        };
         let rows = Rows::new(all[..count].to_vec(alloc)?);
         let deed = Deed::Page {
             from,

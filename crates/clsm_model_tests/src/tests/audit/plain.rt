@@ -1,6 +1,6 @@
 //! A second check of records, quadratic and straight from the words of the audit's four passes.
 use super::{END, KEYS};
-use clsm_audit::{AuditError, FaultKind};
+use clsm_audit::FaultKind;
 use clsm_model::{CallRecord, Change, Deed, Time, Value};
 
 /// What the call writes at the key, if it does.
@@ -30,14 +30,13 @@ fn is_write(call: &CallRecord) -> bool {
     }
 }
 
-/// Whether the call is a scan or a page.
-fn is_ranged(call: &CallRecord) -> bool {
-    matches!(&call.deed, Deed::Scan { .. } | Deed::Page { .. })
-}
-
-/// Whether the call is a close or a read at the open snapshot.
-fn is_at_open(call: &CallRecord) -> bool {
-    matches!(&call.deed, Deed::Close | Deed::GetAt { .. })
+/// Whether the call stands at the present of its seat, of which this snapshot is open.
+fn is_at_present(call: &CallRecord, open: Option<Time>) -> bool {
+    match &call.deed {
+        Deed::Close | Deed::GetAt { .. } => false,
+        Deed::Scan { .. } | Deed::Page { .. } => open.is_none(),
+        _ => true,
+    }
 }
 
 /// The open snapshot of the seat after the first `count` records.
@@ -57,8 +56,7 @@ fn open_before(records: &[CallRecord], count: usize, seat: u32) -> Option<Time> 
 fn due_before(records: &[CallRecord], count: usize, seat: u32) -> Time {
     let mut due = 0;
     for (index, call) in records.iter().enumerate().take(count) {
-        let is_old = is_ranged(call) && open_before(records, index, seat).is_some();
-        if call.seat == seat && !is_old && !is_at_open(call) {
+        if call.seat == seat && is_at_present(call, open_before(records, index, seat)) {
             due = call.time.wrapping_add(u64::from(is_write(call)));
         }
     }
@@ -76,14 +74,19 @@ fn is_unknown(seats: u32, records: &[CallRecord], index: usize, call: &CallRecor
     call.seat >= seats || call.time > END || (is_write(call) && call.time == END) || !suits
 }
 
+/// Whether a call before this one wrote at the same time.
 fn is_second(records: &[CallRecord], index: usize, call: &CallRecord) -> bool {
-    let mut earlier = records.iter().take(index);
-    is_write(call) && earlier.any(|other| is_write(other) && other.time == call.time)
+    for other in records.iter().take(index) {
+        if is_write(other) && other.time == call.time {
+            return is_write(call);
+        }
+    }
+    false
 }
 
 fn ran_back(records: &[CallRecord], index: usize, call: &CallRecord) -> bool {
-    let is_old = is_ranged(call) && open_before(records, index, call.seat).is_some();
-    !is_old && !is_at_open(call) && call.time < due_before(records, index, call.seat)
+    let open = open_before(records, index, call.seat);
+    is_at_present(call, open) && call.time < due_before(records, index, call.seat)
 }
 
 /// The value that the newest write of the key below the time left.
@@ -167,19 +170,20 @@ fn has_fault(
     }
 }
 
-/// What the audit is to answer.
-pub fn second_check(seats: u32, records: &[CallRecord]) -> Result<(), AuditError> {
-    for kind in [
-        FaultKind::Unknown,
-        FaultKind::TwoAtOneTime,
-        FaultKind::TimeRanBack,
-        FaultKind::WrongReply,
-    ] {
-        for (index, call) in records.iter().enumerate() {
-            if has_fault(kind, seats, records, index, call) {
-                return Err(AuditError::Fault { kind, index });
-            }
+/// The first record that has a fault of the kind.
+fn first_fault(kind: FaultKind, seats: u32, records: &[CallRecord]) -> Option<(FaultKind, usize)> {
+    for (index, call) in records.iter().enumerate() {
+        if has_fault(kind, seats, records, index, call) {
+            return Some((kind, index));
         }
     }
-    Ok(())
+    None
+}
+
+/// The fault that the audit is to find, or None.
+pub fn second_check(seats: u32, records: &[CallRecord]) -> Option<(FaultKind, usize)> {
+    first_fault(FaultKind::Unknown, seats, records)
+        .or(first_fault(FaultKind::TwoAtOneTime, seats, records))
+        .or(first_fault(FaultKind::TimeRanBack, seats, records))
+        .or(first_fault(FaultKind::WrongReply, seats, records))
 }

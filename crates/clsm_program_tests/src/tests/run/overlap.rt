@@ -1,10 +1,10 @@
-//! Two workers of a run overlap: each is held until the other has gone on.
+//! Two workers of a run overlap: each is held until the other has gone on. An altered answer of
+//! theirs is found.
 use super::*;
 use clsm_store::{Pace, open_paced};
 use clsm_words::Kind as StepKind;
 use std::sync::atomic::AtomicU64;
 use std::sync::atomic::Ordering::SeqCst;
-use std::test::*;
 use std::thread;
 
 /// How often a held worker looks before it goes on without the other.
@@ -56,6 +56,21 @@ impl Pace for Turns<'_> {
     }
 }
 
+/// Answers another value to the first get, which is none that any call wrote. Answers its index.
+fn alter_first_get(rt: &impl Abort, records: &mut [CallRecord]) -> usize {
+    let other = Value::new(&[1 << 40; 8]).expect(rt, "eight words");
+    let found = records
+        .iter()
+        .position(|record| matches!(&record.deed, Deed::Get { .. }));
+    let index = found.expect(rt, "a get");
+    if let Some(record) = records.get_mut(index)
+        && let Deed::Get { reply, .. } = &mut record.deed
+    {
+        *reply = Some(other);
+    }
+    index
+}
+
 #[test]
 fn workers_overlap(rt: HostRuntime) -> Result<(), Fail> {
     let alloc = rt.alloc();
@@ -64,22 +79,26 @@ fn workers_overlap(rt: HostRuntime) -> Result<(), Fail> {
         second: AtomicU64::new(0),
         alone: AtomicU64::new(0),
     };
-    let config = config(2);
+    let config = TWO_SEATS;
     let opened = open_paced(alloc, config, Turns(&steps)).expect(&rt, "memory");
-    let mut faults = Screen::new(alloc, NEVER);
-    let ran = run_on(
-        &rt,
-        alloc,
-        &config,
-        opened,
-        &load(1_000),
-        &PLAIN,
-        &mut faults,
-    );
-    let ran = ran.expect(&rt, "memory and a clock");
+    let mut faults = Screen {
+        shown: Vec::new(alloc),
+        step: 256,
+        fails_after: NEVER,
+    };
+    let ran = run_on(&rt, alloc, &config, opened, &LOAD, &PLAIN, &mut faults);
+    let Ran {
+        mut records,
+        verdict,
+        ..
+    } = ran.expect(&rt, "memory and a clock");
     assert_eq!(rt; steps.alone.load(SeqCst), 0);
     assert!(rt; steps.first.load(SeqCst) >= STEPS);
     assert!(rt; steps.second.load(SeqCst) >= STEPS);
-    assert_eq!(rt; ran.verdict, Ok(()));
+    assert_eq!(rt; verdict, Ok(()));
+    let index = alter_first_get(&rt, &mut records);
+    let kind = FaultKind::WrongReply;
+    let fault = AuditError::Fault { kind, index };
+    assert_eq!(rt; audit(alloc, &config, &records), Err(fault));
     Ok(())
 }

@@ -2,10 +2,8 @@
 ghost use Rattle.clsm_calls.specs.Seats.{AreNew, IsNewMerger};
 
 use super::*;
-use clsm_audit::{AuditError, audit};
 use clsm_run::{Board, Gathered, gather, work_merging};
 use clsm_store::{Free, Opened, open};
-use std::test::*;
 
 /// Lets the seats make the calls of the load beside the merger, and settles them. Answers how many
 /// calls there are, and what the audit says of them.
@@ -25,7 +23,11 @@ fn settle<R: Abort + Threads + Sync + Clock + Wait>(
         merger,
     } = opened;
     let board = Board::new();
-    let mut faults = Screen::new(alloc, NEVER);
+    let mut faults = Screen {
+        shown: Vec::new(alloc),
+        step: 256,
+        fails_after: NEVER,
+    };
     let (worked, _) = work_merging(
         rt,
         alloc,
@@ -48,9 +50,14 @@ fn settle<R: Abort + Threads + Sync + Clock + Wait>(
 #[test]
 fn settled_seats_are_audited(rt: HostRuntime) -> Result<(), Fail> {
     let alloc = rt.alloc();
-    let config = config(4);
+    let config = FOUR_SEATS;
     let opened = open(alloc, config).expect(&rt, "memory");
-    let (calls, verdict) = settle(&rt, alloc, &config, opened, &load(250_000));
+    let load = Load {
+        ops: 250_000,
+        keys: 64,
+        seed: 7,
+    };
+    let (calls, verdict) = settle(&rt, alloc, &config, opened, &load);
     assert!(rt; calls <= 1_000_000);
     assert_eq!(rt; verdict, Ok(()));
     Ok(())

@@ -1,7 +1,7 @@
 use Rattle.std.proofs.Common.{sym, ◌∙◌}
 use Rattle.clsm_levels.specs.Yields.{behind}
 use Rattle.clsm_scan.specs.Ahead.{first_found}
-use Rattle.clsm_scan.specs.MergedLaws.{ahead_stays, next_same}
+use Rattle.clsm_scan.specs.MergedLaws.{ahead_stays, first_same, next_same}
 use Rattle.clsm_scan.proofs.Turns.{ahead_behind, later_behind}
 use Rattle.clsm_scan.proofs.merged.MergedCursor.next.Goals as goal
 
@@ -13,6 +13,18 @@ read_ahead-requires-2-clause-ahead g c =
     let looks = c.read_ahead.ensures.looks in
     ahead_stays (g.B.Cursor.found k m.older) (g.B.Cursor.found k' m.older) (g.B.Cursor.stands k m.older) (g.B.Cursor.stands k' m.older) c.args.from m.older_head
     (g.met.B.Cursor.found_stays k k' m.older looks c.requires.over.1) (λ i. g.met.B.Cursor.stands_stays k k' m.older i looks c.requires.over.1) c.requires.stands.1
+
+pub returns-clause-same : goal.returns-clause-same
+returns-clause-same g c =
+    let k = c.args.seat.now.knows in
+    let k' = c.read_ahead.new.seat.knows in
+    let k'' = c.read_ahead-2.new.seat.knows in
+    let m = c.args.self.now in
+    let one = c.read_ahead.new.cursor in
+    let other = c.read_ahead-2.new.cursor in
+    λ key. first_same (g.A.Cursor.found k m.newer) (g.A.Cursor.found k'' one) (g.B.Cursor.found k m.older) (g.B.Cursor.found k'' other) key
+    (g.met.A.Cursor.found_stays k' k'' one c.read_ahead-2.ensures.looks c.read_ahead.ensures.over key ∙ c.read_ahead.ensures.same key)
+    (c.read_ahead-2.ensures.same key ∙ g.met.B.Cursor.found_stays k k' m.older c.read_ahead.ensures.looks c.requires.over.1 key)
 
 pub returns-clause-next : goal.returns-clause-next
 returns-clause-next g c =

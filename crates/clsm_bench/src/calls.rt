@@ -1,0 +1,144 @@
+//! The calls of threads, that were all answered, and their time.
+ghost use Rattle.std.specs.Prelude.{◌≡◌, IfOk};
+
+use crate::draws::{Call, Draws, FILLER, Series, key_of};
+use crate::failure::Failure;
+use crate::target::Target;
+use rand_pcg::Pcg32;
+use std::alloc::Global;
+use std::rt::Clock;
+use std::sync::Wait;
+use std::sync::atomic::AtomicU64;
+use std::sync::atomic::Ordering::SeqCst;
+use std::thread::{self, Threads};
+use std::time::Instant;
+
+/// How often a put is tried while there is no time for it, before the thread gives up.
+const MOST_TRIES: u32 = 1 << 24;
+
+/// How often a thread looks whether the others have come, before it goes on without them.
+const MOST_LOOKS: u32 = 1 << 20;
+
+/// Calls that were answered, and when they were made.
+#[derive(Clone, Copy)]
+pub struct Lap {
+    /// The calls of each thread.
+    pub calls: u32,
+    pub start: Instant,
+    pub end: Instant,
+}
+
+/// Makes the call, a put again while there is no time for it. Answers whether it was answered as it
+/// should be.
+#[inline]
+fn make<R: Wait>(rt: &R, alloc: Global, target: &mut Target, call: &Call) -> bool {
+    for _ in 0..MOST_TRIES {
+        if target.make(rt, alloc, call) {
+            return true;
+        }
+        if !matches!(call, Call::Put { .. }) {
+            return false;
+        }
+        thread::yield_now();
+    }
+    false
+}
+
+/// Puts at the filled keys of these indices, again from the first one on behind the last of so
+/// many.
+pub fn put_filled<R: Wait>(
+    rt: &R,
+    alloc: Global,
+    target: &mut Target,
+    first: u32,
+    end: u32,
+    keys: u32,
+) -> Result<(), Failure> {
+    for index in first..end {
+        let index = index % keys.max(1);
+        let (key, word) = (key_of(FILLER, index), u64::from(index));
+        if !make(rt, alloc, target, &Call::Put { key, word }) {
+            return Err(Failure::Unanswered);
+        }
+    }
+    Ok(())
+}
+
+/// Makes so many calls of the series as the thread of the target, and counts those that are
+/// answered as they should be. Refused where one is not.
+fn work<R: Wait + Clock>(
+    rt: &R,
+    alloc: Global,
+    target: &mut Target,
+    series: &Series,
+    calls: u32,
+) -> Result<Lap, Failure>
+    ensures { IfOk result (λ lap. lap.calls ≡ calls) }
+{
+    let number = target.number;
+    let words = Pcg32::new(u64::from(number), 1);
+    let mut draws = Draws {
+        words,
+        series,
+        number,
+    };
+    let mut answered = 0;
+    let start = Instant::now(rt)?;
+    for index in 0..calls {
+        if !make(rt, alloc, target, &draws.call(index)) {
+            return Err(Failure::Unanswered);
+        }
+        answered += 1;
+    }
+    let end = Instant::now(rt)?;
+    Ok(Lap {
+        calls: answered,
+        start,
+        end,
+    })
+}
+
+/// Counts a thread that has come, and looks for the others: a bounded number of times, as the
+/// threads may run one after another.
+fn meet(come: &AtomicU64, threads: u64) {
+    come.fetch_add(1, SeqCst);
+    for _ in 0..MOST_LOOKS {
+        if come.load(SeqCst) >= threads {
+            return;
+        }
+        thread::yield_now();
+    }
+}
+
+/// Lets a thread at each target make so many calls of the series, all from the same moment on: the
+/// time is from when the first began to when the last ended. Refused where one is not answered.
+pub fn work_all<R: Threads + Sync + Clock + Wait>(
+    rt: &R,
+    alloc: Global,
+    targets: Vec<Target>,
+    series: &Series,
+    calls: u32,
+) -> Result<Lap, Failure> {
+    let mut end = Instant::now(rt)?;
+    let mut start = None;
+    let threads = targets.len() as u64;
+    let come = AtomicU64::new(0);
+    let laps = thread::map_vec(
+        rt,
+        targets,
+        &|target: Target| -> Result<Lap, Failure>
+            ensures { IfOk result (λ lap. lap.calls ≡ calls) }
+        {
+            let mut target = target;
+            meet(&come, threads);
+            work(rt, alloc, &mut target, series, calls)
+        },
+    )?;
+    for lap in laps {
+        let lap = lap?;
+        start = Some(start.unwrap_or(lap.start).min(lap.start));
+        end = end.max(lap.end);
+    }
+    let start = start.unwrap_or(end);
+    Ok(Lap { calls, start, end })
+}

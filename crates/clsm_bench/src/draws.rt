@@ -1,0 +1,126 @@
+//! Which keys are called.
+use crate::kinds::{Draw, Kind, Order, Role};
+use rand_core::utils::NextWord;
+use rand_pcg::Pcg32;
+use std::alloc::{AllocError, Global};
+
+/// The number that stands for a thread in the keys that are filled: no thread has it.
+pub const FILLER: u32 = 64;
+
+/// The number that stands for a thread in keys that nothing is put at.
+const NOBODY: u32 = 65;
+
+/// The new keys of one thread, which it puts at again and again.
+pub const NEW_KEYS: u32 = 65_536;
+
+/// The keys at one of which nine in ten calls of a hot draw are.
+const HOT: u32 = 16;
+
+/// A call, and what is to be answered.
+#[derive(Drop)]
+pub enum Call {
+    Put { key: u64, word: u64 },
+    Get { key: u64, word: Option<u64> },
+    Scan { lo: u64, hi: u64, rows: usize },
+    Page { from: u64, rows: usize },
+}
+
+/// What all threads of a measurement call: so many keys are filled, which are there by rising size
+/// too where they are scanned.
+#[derive(Drop)]
+pub struct Series<'a> {
+    pub kind: &'a Kind,
+    pub keys: u32,
+    pub sorted: Vec<u64>,
+}
+
+/// The draws of one thread.
+#[derive(Drop)]
+pub struct Draws<'a> {
+    pub words: Pcg32,
+    pub series: &'a Series<'a>,
+    pub number: u32,
+}
+
+/// The key of a thread's write of this index: no other number or index has it, and near indices
+/// have keys that are far apart.
+#[inline]
+pub fn key_of(number: u32, index: u32) -> u64 {
+    let number = (u64::from(number) << 32) | u64::from(index);
+    number.wrapping_mul(0x9e37_79b9_7f4a_7c15).rotate_right(32)
+}
+
+/// A number below the bound, each about as often; 0 if there is none.
+#[inline]
+fn below(bound: u32, word: u32) -> u32 {
+    let wide = u64::from(word).wrapping_mul(u64::from(bound)) >> 32;
+    u32::try_from(wide).unwrap_or(0)
+}
+
+impl<'a> Series<'a> {
+    pub fn new(alloc: Global, kind: &'a Kind, keys: u32) -> Result<Series<'a>, AllocError> {
+        let mut sorted = Vec::new(alloc);
+        if let Role::Scans(_) | Role::Pages(_) = kind.0 {
+            for index in 0..keys {
+                sorted.push(key_of(FILLER, index))?;
+            }
+            sorted.sort()?;
+        }
+        Ok(Series { kind, keys, sorted })
+    }
+}
+
+impl Draws<'_> {
+    /// A scan or page of so many filled keys, all of them at most, from one of them on.
+    fn range(&self, word: u32, rows: u32, is_page: bool) -> Call {
+        let rows = self.series.sorted.len().min(rows as usize);
+        let starts = (self.series.sorted.len() - rows).saturating_add(1);
+        let first = below(u32::try_from(starts).unwrap_or(0), word) as usize;
+        let part = self.series.sorted.get(first..).unwrap_or(&[]);
+        let lo = *part.first().unwrap_or(&0);
+        let hi = *part.get(rows.saturating_sub(1)).unwrap_or(&0);
+        match is_page {
+            true => Call::Page { from: lo, rows },
+            false => Call::Scan { lo, hi, rows },
+        }
+    }
+
+    /// The thread's call of this index.
+    #[inline]
+    pub fn call(&mut self, index: u32) -> Call {
+        let word = self.words.next_word();
+        let drawn = match self.series.kind.0 {
+            Role::Gets(Draw::Hot) | Role::Mixed(Draw::Hot) if word % 10 != 0 => {
+                below(HOT.min(self.series.keys), word)
+            }
+            _ => below(self.series.keys, word),
+        };
+        let (key, old) = (key_of(FILLER, drawn), u64::from(drawn));
+        let new = u64::from(index);
+        match self.series.kind.0 {
+            Role::Gets(Draw::Absent) => Call::Get {
+                key: key_of(NOBODY, drawn),
+                word: None,
+            },
+            Role::Puts(Order::Rising) => Call::Put {
+                key: (u64::from(self.number) << 32) | new,
+                word: new,
+            },
+            Role::OnePuts if self.number > 0 => Call::Get {
+                key,
+                word: Some(old),
+            },
+            Role::Puts(Order::Scattered) | Role::OnePuts => Call::Put {
+                key: key_of(self.number, index % NEW_KEYS),
+                word: new,
+            },
+            Role::Mixed(_) if self.words.next_word() % 10 == 0 => Call::Put { key, word: old },
+            Role::Gets(_) | Role::Mixed(_) => Call::Get {
+                key,
+                word: Some(old),
+            },
+            Role::Scans(rows) => self.range(word, rows, false),
+            Role::Pages(rows) => self.range(word, rows, true),
+        }
+    }
+}

@@ -1,0 +1,161 @@
+//! Calls of a store beside those of a map, and beside a merger or scans.
+ghost use Rattle.std.specs.Prelude.{◌≡◌, All};
+
+use crate::calls::{Lap, put_filled, work_all};
+use crate::draws::{Call, Series};
+use crate::failure::Failure;
+use crate::kinds::{Beside, Filling, Kind};
+use crate::options::Options;
+use crate::target::{Place, Target};
+use clsm_store::{Caller, Merger, Opened, Seat, Store, open};
+use clsm_words::Free;
+use std::alloc::Global;
+use std::collections::BTreeMap;
+use std::rt::Clock;
+use std::sync::atomic::AtomicBool;
+use std::sync::atomic::Ordering::SeqCst;
+use std::sync::{RwLock, Wait};
+use std::thread::{Threads, join};
+
+/// The targets by these seats, numbered from 0.
+fn targets(alloc: Global, store: &Store<Free>, seats: Vec<Seat>) -> Result<Vec<Target<'_>>, Failure>
+    requires { All (λ seat. seat.store ≡ store.now) seats.items }
+{
+    let mut targets = Vec::with_capacity(alloc, seats.len())?;
+    for seat in seats {
+        targets.push(Target {
+            number: seat.number(),
+            place: Place::Store(Caller::new(store, seat)),
+        })?;
+    }
+    Ok(targets)
+}
+
+/// Puts at the filled keys, where they are to be found: for a run of level 1 epoch after epoch, of
+/// which each is merged, as many as end with a merge into level 1, which is each fourth.
+fn fill<'a, R: Wait>(
+    rt: &R,
+    alloc: Global,
+    target: &mut Target,
+    merger: Merger<'a, Free>,
+    filling: &Filling,
+    keys: u32,
+    cells: u32,
+) -> Result<Merger<'a, Free>, Failure> {
+    let merges = keys.div_ceil(cells.max(1)).div_ceil(4).saturating_mul(4);
+    let (merges, frozen, last) = match filling {
+        Filling::Epoch => (0, 0, keys),
+        Filling::Runs => (merges, 0, 0),
+        Filling::HalfEpoch => (merges, 0, cells / 2),
+        Filling::BothEpochs => (merges, cells, cells / 2),
+    };
+    let mut merger = merger;
+    let mut first = 0_u32;
+    for _ in 0..merges {
+        let end = first.saturating_add(cells).min(keys);
+        put_filled(rt, alloc, target, first, end, keys)?;
+        first = end;
+        let (next, swept) = merger.sweep(rt);
+        merger = next;
+        if swept.is_err() {
+            return Err(Failure::Unanswered);
+        }
+    }
+    if frozen > 0 {
+        put_filled(rt, alloc, target, 0, frozen, keys)?;
+        merger = merger.freeze(rt).0;
+    }
+    put_filled(rt, alloc, target, 0, last, keys)?;
+    Ok(merger)
+}
+
+/// Does what is to go on beside the calls, until it is told to stop.
+fn disturb<R: Wait>(
+    rt: &R,
+    alloc: Global,
+    beside: &Beside,
+    mut target: Target,
+    mut merger: Merger<'_, Free>,
+    keys: u32,
+    stop: &AtomicBool,
+) -> Result<(), Failure> {
+    let all = Call::Scan {
+        lo: 0,
+        hi: u64::MAX,
+        rows: keys as usize,
+    };
+    for _ in 0..u32::MAX {
+        if stop.load(SeqCst) {
+            return Ok(());
+        }
+        match beside {
+            Beside::Nothing => return Ok(()),
+            Beside::Merger => merger = merger.sweep(rt).0,
+            Beside::Scanner => {
+                let _ = target.make(rt, alloc, &all);
+            }
+        }
+    }
+    Err(Failure::Unanswered)
+}
+
+/// The calls of each of so many threads on a store that is opened and filled for them, beside what
+/// is to go on at one more seat, which fills it.
+pub fn store_lap<R: Threads + Sync + Clock + Wait>(
+    rt: &R,
+    alloc: Global,
+    kind: &Kind,
+    beside: &Beside,
+    options: &Options,
+    threads: u32,
+) -> Result<Lap, Failure> {
+    let series = Series::new(alloc, kind, kind.filled(options))?;
+    let calls = kind.calls(beside, options, threads);
+    let Ok(opened) = open(alloc, kind.sizes(beside, options, threads)) else {
+        return Err(Failure::Refused);
+    };
+    let Opened {
+        store,
+        seats,
+        merger,
+    } = opened;
+    let mut targets = targets(alloc, &store, seats)?;
+    let mut extra = targets.pop().ok_or(Failure::Unanswered)?;
+    let merger = Merger::new(&store, merger);
+    let (keys, cells) = (series.keys, options.cells);
+    let merger = fill(rt, alloc, &mut extra, merger, &kind.1, keys, cells)?;
+    let stop = AtomicBool::new(false);
+    let (disturbed, lap) = join(
+        rt,
+        || -> Result<(), Failure> { disturb(rt, alloc, beside, extra, merger, keys, &stop) },
+        || -> Result<Lap, Failure> {
+            let lap = work_all(rt, alloc, targets, &series, calls);
+            stop.store(true, SeqCst);
+            lap
+        },
+    );
+    disturbed?;
+    lap
+}
+
+/// The same calls of a map that is made and filled for them.
+pub fn map_lap<R: Threads + Sync + Clock + Wait>(
+    rt: &R,
+    alloc: Global,
+    kind: &Kind,
+    options: &Options,
+    threads: u32,
+) -> Result<Lap, Failure> {
+    let series = Series::new(alloc, kind, kind.filled(options))?;
+    let calls = kind.calls(&Beside::Nothing, options, threads);
+    let map = RwLock::new(BTreeMap::new(alloc));
+    let mut targets = Vec::new(alloc);
+    for number in 0..threads {
+        let place = Place::Map(&map);
+        targets.push(Target { number, place })?;
+    }
+    if let Some(target) = targets.first_mut() {
+        put_filled(rt, alloc, target, 0, series.keys, series.keys)?;
+    }
+    work_all(rt, alloc, targets, &series, calls)
+}

@@ -1,0 +1,105 @@
+-- What a draw makes of a seat, and the looks before it.
+use Rattle.std.proofs.Common.{◌≡◌, ◌≢◌, ℕ, ◌<◌, ◌≤◌, ◌==◌, not, Bool, true, false, cond, refl, sym, ap, ◌∙◌, subst, arith, Option, Some, None}
+use Rattle.clsm_law.specs.declared.layout.Layout.{Layout}
+use Rattle.clsm_law.specs.declared.word.Word.TheVariants.{Clock, Limit}
+use Rattle.clsm_law.specs.declared.step.Step.TheVariants.{Draw, Look}
+use Rattle.clsm_law.specs.declared.view.View.{View}
+use Rattle.clsm_law.specs.declared.view.Mode.{Mode}
+use Rattle.clsm_law.specs.declared.view.Mode.TheVariants.{Shared}
+use Rattle.clsm_law.specs.declared.view.SnapshotState.{SnapshotState}
+use Rattle.clsm_law.specs.declared.view.SnapshotState.TheVariants.{Absent, Noted, Timed, Open}
+use Rattle.clsm_law.specs.Relation.{IsBelow, blank, is_free, looked, next_word, one_more_if, timed_by}
+use Rattle.clsm_words.specs.declared.known.Known.{Known}
+use Rattle.clsm_words.specs.Knowing.{IsNearHeld, Sound, Follows}
+use Rattle.clsm_words.specs.Keeping.{KeepsPlace}
+use Rattle.clsm_words.proofs.Keeps.{place_by, place_trans}
+use Rattle.clsm_memtable.specs.Writing.{IsUnnoted, Draws, FindsLimit, LosesDraw}
+
+-- ---- the looks
+
+unnoted_same : (s : SnapshotState) (x : ℕ) → IsUnnoted s → timed_by s x ≡ s
+unnoted_same Absent x h = refl
+unnoted_same (Noted noted) x h = absurd h
+unnoted_same (Timed noted time) x h = refl
+unnoted_same (Open noted time) x h = refl
+
+-- the view after a look at the limit, in a hold of the lock
+abbrev with_limit : View → ℕ → View
+with_limit v limit = record v { hold_limit = Some limit }
+
+-- and after one at the clock
+abbrev with_clock : View → ℕ → View
+with_clock v time = record v { fresh_clock = Some time; hold_clock = Some time; clock = Some time; pin_clock = cond v.pinned (Some time) v.pin_clock }
+
+limit_seen : (z : Layout) (v : View) (x : ℕ) → v.mode ≡ Shared → looked z v Limit x ≡ with_limit v x
+limit_seen z v x holds = ap (λ (m : Mode). record v { hold_limit = cond (not (is_free m)) (Some x) v.hold_limit }) holds
+
+clock_seen : (z : Layout) (v : View) (x : ℕ) → v.mode ≡ Shared → IsUnnoted v.snapshot → looked z v Clock x ≡ with_clock v x
+clock_seen z v x holds unnoted =
+    ap (λ (m : Mode). record (with_clock v x) { hold_clock = cond (not (is_free m)) (Some x) v.hold_clock; snapshot = timed_by v.snapshot x }) holds
+    ∙ ap (λ (s : SnapshotState). record (with_clock v x) { snapshot = s }) (unnoted_same v.snapshot x unnoted)
+
+module _ (k k1 k2 : Known) (limit time : ℕ) (sound : Sound k) (holds : k.view.mode ≡ Shared) (unnoted : IsUnnoted k.view.snapshot) (a : Follows (Look Limit) k limit k1) (b : Follows (Look Clock) k1 time k2) where
+  both_seen : k2.view ≡ with_clock (with_limit k.view limit) time
+  both_seen = b.view
+      ∙ ap (λ (v : View). looked k1.layout v Clock time) (a.view ∙ limit_seen k.layout k.view limit holds)
+      ∙ clock_seen k1.layout (with_limit k.view limit) time holds unnoted
+
+  both_place : KeepsPlace k k2
+  both_place = place_trans k k1 k2 (place_by (Look Limit) k k1 limit sound a refl a.walks) (place_by (Look Clock) k1 k2 time a.sound b refl b.walks) (λ m held held'. ap (λ (v : View). v.held) a.view ∙ held)
+
+  at_limit : limit ≤ time → limit ≡ time
+  at_limit le = let high = b.tells.4 limit (ap (λ (v : View). v.mode) both_seen ∙ holds) (ap (λ (v : View). v.hold_limit) both_seen) in omega arith
+
+  pub finds_limit : limit ≤ time → FindsLimit k k2 time
+  finds_limit le = let is = both_seen ∙ ap (λ (n : ℕ). with_clock (with_limit k.view n) time) (at_limit le) in record {
+    place = both_place;
+    view = subst (λ (v : View). v ≡ record k.view { fresh_clock = Some time; hold_limit = Some time; hold_clock = Some time; clock = Some time; pin_clock = v.pin_clock }) (sym is) refl;
+  }
+
+  -- ---- the exchange
+
+  -- the view after the exchange, by whether it is won
+  abbrev exchanged : View → Bool → View
+  exchanged v won = record v {
+    drawn = cond won (Some time) v.drawn;
+    key = cond won None v.key;
+    length = cond won None v.length;
+    words = cond won (blank 8) v.words;
+    next = cond won None v.next;
+    linked = cond won false v.linked;
+    order_next = cond won None v.order_next;
+    inserted = cond won false v.inserted;
+    low = cond won 0 v.low;
+    high = cond won 0 v.high;
+    fresh_clock = None;
+    raced = one_more_if (not won) v.raced;
+  }
+
+  module _ (k3 : Known) (x : ℕ) (c : Follows (Draw time) k2 x k3) where
+    after : (b : Bool) → (x == time) ≡ b → k3.view ≡ exchanged (with_clock (with_limit k.view limit) time) b
+    after b is = c.view ∙ ap (exchanged k2.view) is ∙ ap (λ (v : View). exchanged v b) both_seen
+
+    place : KeepsPlace k k3
+    place = place_trans k k2 k3 both_place (place_by (Draw time) k2 k3 x b.sound c refl c.walks) (λ m held held'. ap (λ (v : View). v.held) both_seen ∙ held)
+
+    there : (b : Bool) → (x == time) ≡ b → k3.view.hold_limit ≢ None
+    there b is none = let some = ap (λ (v : View). v.hold_limit) (after b is) in absurd cc
+
+    pub draws : time < limit → (x == time) ≡ true → Draws k k3 time
+    draws lt won = record {
+      place = place;
+      view = subst (λ (v : View). v ≡ record k.view { drawn = Some time; key = None; length = None; words = blank 8; next = None; linked = false; order_next = None; inserted = false; low = 0; high = 0; fresh_clock = None; hold_limit = v.hold_limit; hold_clock = Some time; clock = Some time; pin_clock = v.pin_clock }) (sym (after true won)) refl;
+      looked = there true won;
+      below = subst (IsBelow time) (sym (ap (λ (v : View). v.hold_limit) (after true won))) lt;
+      due = let due = b.tells.0 in let e = ap (λ (v : View). v.due) both_seen in omega arith;
+      near = subst (λ (z : Layout). IsNearHeld z k.view.held time) both_place.seat.layout (subst (λ (o : Option ℕ). IsNearHeld k2.layout o time) (ap (λ (v : View). v.held) both_seen) b.tells.3);
+      passed = let past = b.tells.5 in let e = ap (λ (v : View). v.past) both_seen in omega arith;
+    }
+
+    pub loses_draw : (x == time) ≡ false → LosesDraw k k3
+    loses_draw lost = record {
+      place = place;
+      view = subst (λ (v : View). v ≡ record k.view { fresh_clock = None; hold_limit = v.hold_limit; hold_clock = v.hold_clock; clock = v.clock; pin_clock = v.pin_clock; raced = next_word k.view.raced }) (sym (after false lost)) refl;
+      looked = there false lost;
+    }

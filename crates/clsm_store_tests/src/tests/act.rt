@@ -1,0 +1,89 @@
+//! What an actor does, and how it is answered.
+use super::drawn::Load;
+use clsm_store::{Time, TryPutError, Value};
+
+/// A call of the actor's seat, a command of the merger, or a turn at a gate. A value has one word,
+/// where nothing else is said.
+#[derive(Drop)]
+pub(super) enum Act {
+    Put(u64, u64),
+    /// A value of eight words.
+    PutEight(u64),
+    TryPut(u64, u64),
+    Remove(u64),
+    /// A read-modify-write, which makes of the value what `drawn::next` says.
+    Change(u64),
+    Get(u64),
+    GetAt(u64),
+    /// All keys from this one on.
+    Scan(u64),
+    /// So many keys from this one on.
+    Page(u64, usize),
+    Snapshot,
+    Close,
+    Freeze,
+    Merge,
+    Reclaim,
+    Sweep,
+    /// Calls by chance.
+    Calls(&'static Load),
+    /// A get of each key of a scan, and a scan.
+    ReadAll,
+    /// So many sweeps, each behind a pause.
+    Sweeps(u64),
+    /// A turn at the first gate, or at the second.
+    First(Turn),
+    Second(Turn),
+}
+
+/// A turn at a gate.
+#[derive(Drop)]
+pub(super) enum Turn {
+    /// From now on the gate holds its seat, or counts its steps.
+    Watch,
+    /// Waits until the seat is held there.
+    Wait,
+    LetGo,
+    /// Lets it go, and waits until its call is answered.
+    LetEnd,
+    /// The call that was held there is answered.
+    End,
+    /// The steps that the gate counted since this was asked last.
+    Steps,
+}
+
+#[derive(PartialEq, Eq, Drop)]
+pub(super) enum Answer {
+    At(Time),
+    Full(Time),
+    Refused(TryPutError),
+    Got(Time, u64),
+    None(Time),
+    /// So many rows of a scan.
+    Rows(Time, usize),
+    /// So many rows of a page, and the key of the next one.
+    Page(Time, usize, Option<u64>),
+    NoMemory,
+    Frozen(u64),
+    Merged(u64),
+    RunFull,
+    Clean,
+    Pinned(u32),
+    /// Whether the seat is held at the gate.
+    Held(bool),
+    Count(u64),
+    Done,
+    /// No act is answered so.
+    Other,
+}
+
+/// An act, and how it has to be answered.
+pub(super) type Step = (Act, Answer);
+
+/// The answer of a read: a value of more words by its first one.
+pub(super) fn read_as(time: Time, value: &Option<Value>) -> Answer {
+    match value {
+        Some(value) => Answer::Got(time, value.words()[0]),
+        None => Answer::None(time),
+    }
+}

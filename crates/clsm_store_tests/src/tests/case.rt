@@ -1,0 +1,123 @@
+//! Cases: what actors play on a store of their own.
+ghost use Rattle.std.specs.Prelude.{◌≡◌, All};
+ghost use Rattle.clsm_calls.specs.Seats.{IsNewMerger};
+
+use super::act::Step;
+use super::actor::Actor;
+use super::gate::{Gate, Gates, Hold};
+use clsm_audit::audit;
+use clsm_store::{Caller, Clean, Config, Merger, Opened, Seat, Store, open_paced};
+use std::alloc::Global;
+use std::process::Abort;
+use std::sync::Wait;
+use std::thread;
+use std::thread::Threads;
+
+/// What actors play beside one another: the first one's acts, the second one's, and so on.
+pub(super) type Phase = [&'static [Step]; 5];
+
+/// The acts of an actor that rests.
+pub(super) const NONE: &[Step] = &[];
+
+/// A store of these sizes whose gates hold so; what is played on it, phase after phase, and then
+/// round after round. The merger is the first actor's. The audit holds all calls against a plain
+/// map.
+#[derive(Drop)]
+pub(super) struct Case<'a> {
+    pub(super) name: &'static str,
+    pub(super) config: Config,
+    pub(super) gates: [Hold; 2],
+    pub(super) phases: &'a [Phase],
+    pub(super) rounds: u64,
+    pub(super) round: &'a [Phase],
+}
+
+pub(super) const FOUR_CELLS: Config = Config {
+    cells: 4,
+    seats: 3,
+    shards: 2,
+    run: 64,
+    patience: 8,
+};
+
+/// The actors of these seats, which did nothing yet.
+fn seat_all<'a>(
+    rt: &impl Abort,
+    alloc: Global,
+    store: &'a Store<Gates>,
+    seats: Vec<Seat>,
+    merger: Clean,
+) -> Vec<Actor<'a>>
+    requires seats { All (λ seat. seat.store ≡ store.now) seats.items }
+    requires merger { merger.store ≡ store.now }
+{
+    let mut merger = Some(Merger::new(store, merger));
+    let mut actors = Vec::with_capacity(alloc, seats.len()).expect(rt, "memory");
+    for seat in seats {
+        let actor = Actor {
+            caller: Caller::new(store, seat),
+            merger: merger.take(),
+            records: Vec::new(alloc),
+            word: 0,
+            refused: false,
+        };
+        actors.push(actor).expect(rt, "memory");
+    }
+    actors
+}
+
+/// Plays the phases, each actor in a thread of its own.
+fn play_all<R: Abort + Threads + Wait + Sync>(
+    rt: &R,
+    alloc: Global,
+    case: &str,
+    actors: &mut [Actor],
+    phases: &[Phase],
+) {
+    for phase in phases {
+        thread::for_each_mut(
+            rt,
+            actors,
+            8,
+            &|place, actor| match phase.get(place) {
+                Some(steps) => actor.play(rt, alloc, case, steps),
+                None => (),
+            },
+        );
+    }
+}
+
+/// Plays the case.
+pub(super) fn check<R: Abort + Threads + Wait + Sync>(rt: &R, alloc: Global, case: &Case) {
+    let [first, second] = &case.gates;
+    let gates = Gates {
+        first: Gate::new(first),
+        second: Gate::new(second),
+    };
+    let Opened {
+        store,
+        seats,
+        merger,
+    } = open_paced(alloc, case.config, gates).expect(rt, "memory");
+    let mut actors = seat_all(rt, alloc, &store, seats, merger);
+    play_all(rt, alloc, case.name, &mut actors, case.phases);
+    for _ in 0..case.rounds {
+        play_all(rt, alloc, case.name, &mut actors, case.round);
+    }
+    audit_all(rt, alloc, case, actors);
+}
+
+/// All calls are answered as one plain map would.
+fn audit_all(rt: &impl Abort, alloc: Global, case: &Case, actors: Vec<Actor>) {
+    let mut records = Vec::new(alloc);
+    for actor in actors {
+        let mut more = actor.records;
+        records.append(&mut more).expect(rt, "memory");
+    }
+    assert_eq!(rt;
+        audit(alloc, &case.config, &records),
+        Ok(()),
+        "{}",
+        case.name
+    );
+}

@@ -1,0 +1,129 @@
+//! Hints may hold anything: searches that follow them answer right.
+
+use super::drawn::after;
+use clsm_calls::{Asked, Got, read, scan_at, write};
+use clsm_law::Layout;
+use clsm_model::{Config, Deed, PlainMap, Slot, Value};
+use clsm_words::{Free, RawSeat, Words};
+use std::alloc::Global;
+use std::marker::Model;
+use std::process::Abort;
+use std::sync::Wait;
+use std::test::*;
+
+/// One seat at words whose epoch has room for so many writes.
+const CELLS: usize = 64;
+
+/// The one seat of its words, between two calls.
+#[derive(Drop)]
+struct Alone {
+    words: Words<Free>,
+    seat: RawSeat,
+    /// Its pin word.
+    pin: u64,
+}
+
+impl Model for Alone {
+    ghost use Rattle.std.specs.Prelude.{◌≡◌, None};
+    ghost use Rattle.clsm_law.specs.Relation.{open_time};
+    ghost use Rattle.clsm_words.specs.declared.words.WordTable.{WordTable};
+    ghost use Rattle.clsm_words.specs.Plays.{IsSeatOf};
+    ghost use Rattle.clsm_calls.specs.Resting.{IsAtRest};
+
+    ghost Value = { WordTable };
+
+    ghost view = { λ a. a.words };
+
+    ghost invariant = { λ a. IsSeatOf a.words a.seat × IsAtRest a.seat.knows × (a.pin ≡ a.seat.knows.view.pin) × (open_time a.seat.knows.view.snapshot ≡ None) };
+}
+
+fn opened(rt: &impl Abort, alloc: Global) -> Alone {
+    let config = Config {
+        cells: CELLS,
+        seats: 1,
+        shards: 1,
+        run: 4,
+        patience: 0,
+    };
+    let layout = Layout::new(config).expect(rt, "sizes in their ranges");
+    let (words, mut seats, _merger) = Words::new(alloc, &layout, Free).expect(rt, "memory");
+    let seat = seats.pop().expect(rt, "a seat");
+    Alone {
+        words,
+        seat,
+        pin: 0,
+    }
+}
+
+impl Alone {
+    /// Stores the word in the hint with this number, if there is one: each cell has three.
+    fn store_hint(&mut self, number: u64, word: u64) {
+        let cell = number / 3;
+        if cell < 2 * self.words.cells() {
+            self.words
+                .store_hint(&mut self.seat, cell, number % 3, word);
+        }
+    }
+
+    /// Stores rubbish in each hint of the epoch's cells: the cell itself, one of the other region,
+    /// any number, none, or any cell of the epoch, written or not, before a target or behind it.
+    fn store_hints(&mut self, first: u64) {
+        let mut word = first;
+        for number in 0..192 {
+            word = after(word);
+            let rubbish = match word >> 61 {
+                0 => number / 3 + 1,
+                1 => 65 + (word >> 32) % 64,
+                2 => word,
+                3 => 0,
+                _ => 1 + (word >> 32) % 64,
+            };
+            self.store_hint(number, rubbish);
+        }
+    }
+
+    /// Puts the word at the key, and in the map.
+    fn put<R: Abort + Wait>(&mut self, rt: &R, map: &mut PlainMap, key: u64, word: u64) {
+        let value = Value::new(&[word]).expect(rt, "one word");
+        let written = write(rt, &self.words, &mut self.seat, key, &Some(value));
+        assert!(rt; written.is_ok());
+        let slot = Slot::Wrote {
+            seat: 0,
+            key,
+            value: Some(value),
+        };
+        map.apply(&slot).expect(rt, "memory");
+    }
+
+    /// The key's value, and all pairs from the key on, are those of the map.
+    fn compare(&mut self, rt: &impl Abort, alloc: Global, map: &PlainMap, key: u64) {
+        let Got { value, .. } = read(&self.words, &mut self.seat, self.pin, 0, key);
+        self.pin = self.pin.wrapping_add(2);
+        assert_eq!(rt; value, map.get(key));
+        let asked = Asked::All(key, u64::MAX);
+        let scanned = scan_at(&self.words, &mut self.seat, alloc, self.pin, 0, asked);
+        self.pin = self.pin.wrapping_add(2);
+        let (_, deed) = scanned.expect(rt, "memory");
+        let expected = map.range(key, u64::MAX).expect(rt, "memory");
+        match deed {
+            Deed::Scan { rows, .. } => assert!(rt; rows.as_slice() == expected.as_slice()),
+            _ => panic!(rt; "no scan"),
+        }
+    }
+}
+
+#[test]
+fn hints_may_hold_anything(rt: HostRuntime) -> Result<(), Fail> {
+    let mut alone = opened(&rt, rt.alloc());
+    let mut map = PlainMap::new(rt.alloc());
+    let mut word = 0;
+    for _ in 0..CELLS {
+        word = after(word);
+        alone.store_hints(word);
+        alone.put(&rt, &mut map, (word >> 32) % 40, word);
+        alone.store_hints(word.wrapping_add(1));
+        alone.compare(&rt, rt.alloc(), &map, (word >> 40) % 40);
+        alone.compare(&rt, rt.alloc(), &map, 0);
+    }
+    Ok(())
+}

@@ -1,0 +1,499 @@
+//! Tables of cases, one for each thing that is looked at.
+use super::act::{Act, Answer, Step, Turn};
+use super::case::{Case, FOUR_CELLS, NONE, Phase, check};
+use super::drawn::{Load, Mix};
+use super::gate::{ALL, Hold, NOBODY, NOWHERE, OPEN};
+use super::held;
+use clsm_law::Word;
+use clsm_store::Config;
+use clsm_words::Kind;
+use std::test::*;
+
+/// Counts all steps of seat 0.
+const ALL_STEPS: Hold = Hold {
+    seat: 0,
+    kind: None,
+    passed: ALL,
+    turn: NOBODY,
+};
+
+/// A write of one word makes 13 steps without its search, one of eight words 20, and a removal 12.
+/// Each looks at the two hints that say how keys are parted. The first one finds nothing by hints:
+/// it looks at one on each of five levels and at the list's head, fills a link, exchanges one, and
+/// leaves three hints. The others look at the hint of their bucket, at the state and the key of the
+/// cell that it names and at the link behind it, fill and exchange one, and leave a hint.
+const STEPS: &[Step] = &[
+    (Act::Put(7, 70), Answer::At(0)),
+    (Act::First(Turn::Steps), Answer::Count(26)),
+    (Act::PutEight(7), Answer::At(1)),
+    (Act::First(Turn::Steps), Answer::Count(29)),
+    (Act::Remove(7), Answer::At(2)),
+    (Act::First(Turn::Steps), Answer::Count(21)),
+];
+
+/// A read-modify-write removes an even value, and keeps one that can be divided by five.
+const CHANGES: &[Step] = &[
+    (Act::Put(7, 72), Answer::At(0)),
+    (Act::Change(7), Answer::At(1)),
+    (Act::Get(7), Answer::None(2)),
+    (Act::Put(7, 75), Answer::At(2)),
+    (Act::Change(7), Answer::Got(3, 75)),
+    (Act::Get(7), Answer::Got(3, 75)),
+];
+
+/// Level 1 has room for four entries, and five keys have a value: the fourth merge is refused, and
+/// again where it is tried again.
+const MERGES: &[Step] = &[
+    (Act::Put(0, 10), Answer::At(0)),
+    (Act::Put(1, 11), Answer::At(1)),
+    (Act::Put(2, 12), Answer::At(2)),
+    (Act::Put(3, 13), Answer::At(3)),
+    (Act::Put(4, 14), Answer::Full(4)),
+    (Act::Freeze, Answer::Frozen(0)),
+    (Act::Merge, Answer::Merged(1)),
+    (Act::Reclaim, Answer::Clean),
+    (Act::Put(4, 14), Answer::At(4)),
+    (Act::Freeze, Answer::Frozen(1)),
+    (Act::Merge, Answer::Merged(2)),
+    (Act::Reclaim, Answer::Clean),
+    (Act::Freeze, Answer::Frozen(2)),
+    (Act::Merge, Answer::Merged(3)),
+    (Act::Reclaim, Answer::Clean),
+    (Act::Freeze, Answer::Frozen(3)),
+    (Act::Merge, Answer::RunFull),
+    (Act::Merge, Answer::RunFull),
+];
+
+/// A scan and a page leave their seat at rest, also where they are refused memory, which happens
+/// under `rt try --test --fail-alloc N`: a sweep is stopped by nobody.
+const SCANS: &[Step] = &[
+    (Act::Put(7, 70), Answer::At(0)),
+    (Act::Sweep, Answer::Clean),
+    (Act::Put(8, 80), Answer::At(4)),
+    (Act::Scan(0), Answer::Rows(5, 2)),
+    (Act::Sweep, Answer::Clean),
+    (Act::Scan(0), Answer::Rows(8, 2)),
+    (Act::Page(0, 1), Answer::Page(8, 1, Some(8))),
+    (Act::Sweep, Answer::Clean),
+    (Act::Page(0, 1), Answer::Page(12, 1, Some(8))),
+];
+
+const SMALL_RUN: Config = Config {
+    run: 4,
+    ..FOUR_CELLS
+};
+
+const ALONE: &[Case] = &[
+    Case {
+        name: "each write makes its steps",
+        config: FOUR_CELLS,
+        gates: [ALL_STEPS, NOWHERE],
+        phases: &[[STEPS, NONE, NONE, NONE, NONE]],
+        rounds: 0,
+        round: &[],
+    },
+    Case {
+        name: "read-modify-writes remove and keep",
+        config: FOUR_CELLS,
+        gates: [NOWHERE, NOWHERE],
+        phases: &[[CHANGES, NONE, NONE, NONE, NONE]],
+        rounds: 0,
+        round: &[],
+    },
+    Case {
+        name: "merges are counted, until a run is full",
+        config: SMALL_RUN,
+        gates: [NOWHERE, NOWHERE],
+        phases: &[[MERGES, NONE, NONE, NONE, NONE]],
+        rounds: 0,
+        round: &[],
+    },
+    Case {
+        name: "a scan and a page leave their seat at rest",
+        config: FOUR_CELLS,
+        gates: [NOWHERE, NOWHERE],
+        phases: &[[SCANS, NONE, NONE, NONE, NONE]],
+        rounds: 0,
+        round: &[],
+    },
+];
+
+/// Seat 1 is held before its decide.
+const UNDECIDED: Hold = Hold {
+    seat: 1,
+    kind: Some(Kind::Decide),
+    passed: 0,
+    turn: NOBODY,
+};
+
+/// The looks of seat 2 at the state of the first time are counted.
+const LOOKED_AT: Hold = Hold {
+    seat: 2,
+    kind: Some(Kind::Look(Word::State(0))),
+    passed: ALL,
+    turn: NOBODY,
+};
+
+const OVERTAKEN: &[Step] = &[(Act::Put(7, 70), Answer::At(1))];
+
+/// A reader looks once at an undecided time, and as often again as its patience says. Then it
+/// cancels the time, and looks at it no more.
+const LOOKS: &[Case] = &[
+    Case {
+        name: "a reader with no patience looks once",
+        config: Config {
+            patience: 0,
+            ..FOUR_CELLS
+        },
+        gates: [UNDECIDED, LOOKED_AT],
+        phases: &[[
+            &[],
+            OVERTAKEN,
+            &[
+                (Act::First(Turn::Wait), Answer::Held(true)),
+                (Act::Get(8), Answer::None(1)),
+                (Act::Second(Turn::Steps), Answer::Count(1)),
+                (Act::Get(8), Answer::None(1)),
+                (Act::Second(Turn::Steps), Answer::Count(0)),
+                (Act::First(Turn::LetGo), Answer::Held(true)),
+            ],
+            NONE,
+            NONE,
+        ]],
+        rounds: 0,
+        round: &[],
+    },
+    Case {
+        name: "a reader with a patience of eight looks nine times",
+        config: FOUR_CELLS,
+        gates: [UNDECIDED, LOOKED_AT],
+        phases: &[[
+            &[],
+            OVERTAKEN,
+            &[
+                (Act::First(Turn::Wait), Answer::Held(true)),
+                (Act::Get(8), Answer::None(1)),
+                (Act::Second(Turn::Steps), Answer::Count(9)),
+                (Act::Get(8), Answer::None(1)),
+                (Act::Second(Turn::Steps), Answer::Count(0)),
+                (Act::First(Turn::LetGo), Answer::Held(true)),
+            ],
+            NONE,
+            NONE,
+        ]],
+        rounds: 0,
+        round: &[],
+    },
+    Case {
+        name: "a reader with all patience looks 65 times",
+        config: Config {
+            patience: 64,
+            ..FOUR_CELLS
+        },
+        gates: [UNDECIDED, LOOKED_AT],
+        phases: &[[
+            &[],
+            OVERTAKEN,
+            &[
+                (Act::First(Turn::Wait), Answer::Held(true)),
+                (Act::Get(8), Answer::None(1)),
+                (Act::Second(Turn::Steps), Answer::Count(65)),
+                (Act::Get(8), Answer::None(1)),
+                (Act::Second(Turn::Steps), Answer::Count(0)),
+                (Act::First(Turn::LetGo), Answer::Held(true)),
+            ],
+            NONE,
+            NONE,
+        ]],
+        rounds: 0,
+        round: &[],
+    },
+    Case {
+        name: "a reader looks once at a decided time",
+        config: FOUR_CELLS,
+        gates: [NOWHERE, LOOKED_AT],
+        phases: &[
+            [&[(Act::Put(7, 70), Answer::At(0))], NONE, NONE, NONE, NONE],
+            [
+                &[],
+                &[],
+                &[
+                    (Act::Get(8), Answer::None(1)),
+                    (Act::Second(Turn::Steps), Answer::Count(1)),
+                ],
+                NONE,
+                NONE,
+            ],
+        ],
+        rounds: 0,
+        round: &[],
+    },
+];
+
+const GREAT: Config = Config {
+    cells: 65_536,
+    seats: 4,
+    shards: 4,
+    run: 64,
+    patience: 64,
+};
+
+const UNCHANGING: Step = (
+    Act::Calls(&Load {
+        mix: Mix::Unchanging,
+        keys: 8,
+        answers: 1_000,
+    }),
+    Answer::Done,
+);
+
+const CHANGING: Step = (
+    Act::Calls(&Load {
+        mix: Mix::Changing,
+        keys: 8,
+        answers: 1_000,
+    }),
+    Answer::Done,
+);
+
+const READS: &[Step] = &[(Act::ReadAll, Answer::Done)];
+
+const THREADS: &[Case] = &[
+    // A read cancels at most three times, so all calls need fewer times than there are cells.
+    Case {
+        name: "four threads write and read, and no call is refused",
+        config: Config {
+            patience: 2,
+            ..GREAT
+        },
+        gates: [NOWHERE, NOWHERE],
+        phases: &[
+            [
+                &[UNCHANGING],
+                &[UNCHANGING],
+                &[UNCHANGING],
+                &[UNCHANGING],
+                NONE,
+            ],
+            [READS, NONE, NONE, NONE, NONE],
+        ],
+        rounds: 0,
+        round: &[],
+    },
+    Case {
+        name: "four threads make calls of all kinds",
+        config: GREAT,
+        gates: [NOWHERE, NOWHERE],
+        phases: &[
+            [&[CHANGING], &[CHANGING], &[CHANGING], &[CHANGING], NONE],
+            [READS, NONE, NONE, NONE, NONE],
+        ],
+        rounds: 0,
+        round: &[],
+    },
+    // An open snapshot keeps every later version, so runs have room for all writes. Level 1 is
+    // written by each fourth merge, so each of its places by each eighth.
+    Case {
+        name: "four threads make calls of all kinds beside merges",
+        config: Config {
+            cells: 64,
+            seats: 5,
+            shards: 2,
+            run: 8_192,
+            patience: 64,
+        },
+        gates: [NOWHERE, NOWHERE],
+        phases: &[
+            [
+                &[(Act::Sweeps(104), Answer::Count(104))],
+                &[CHANGING],
+                &[CHANGING],
+                &[CHANGING],
+                &[CHANGING],
+            ],
+            [READS, NONE, NONE, NONE, NONE],
+        ],
+        rounds: 0,
+        round: &[],
+    },
+];
+
+const LARGE: Config = Config {
+    cells: 2_048,
+    seats: 4,
+    shards: 4,
+    run: 8_192,
+    patience: 64,
+};
+
+const AT_FEW_KEYS: Step = (
+    Act::Calls(&Load {
+        mix: Mix::Puts,
+        keys: 64,
+        answers: 500,
+    }),
+    Answer::Done,
+);
+
+const AT_MANY_KEYS: Step = (
+    Act::Calls(&Load {
+        mix: Mix::Puts,
+        keys: 1_000_000,
+        answers: 500,
+    }),
+    Answer::Done,
+);
+
+const SWEPT: &[Step] = &[(Act::ReadAll, Answer::Done), (Act::Sweep, Answer::Clean)];
+
+/// What four threads put at once is found by the chains, which gets walk, and by the ordered lists,
+/// which scans walk.
+const ORDERED: &[Case] = &[
+    Case {
+        name: "few keys stand in chains and lists alike",
+        config: LARGE,
+        gates: [NOWHERE, NOWHERE],
+        phases: &[],
+        rounds: 2,
+        round: &[
+            [
+                &[AT_FEW_KEYS],
+                &[AT_FEW_KEYS],
+                &[AT_FEW_KEYS],
+                &[AT_FEW_KEYS],
+                NONE,
+            ],
+            [SWEPT, NONE, NONE, NONE, NONE],
+        ],
+    },
+    // The third epoch takes the cells of the first, whose hints are still there.
+    Case {
+        name: "many keys stand in chains and lists alike",
+        config: LARGE,
+        gates: [NOWHERE, NOWHERE],
+        phases: &[],
+        rounds: 3,
+        round: &[
+            [
+                &[AT_MANY_KEYS],
+                &[AT_MANY_KEYS],
+                &[AT_MANY_KEYS],
+                &[AT_MANY_KEYS],
+                NONE,
+            ],
+            [SWEPT, NONE, NONE, NONE, NONE],
+        ],
+    },
+];
+
+#[test]
+fn cases_are_answered(rt: HostRuntime) -> Result<(), Fail> {
+    for cases in [ALONE, held::CASES, LOOKS, THREADS, ORDERED] {
+        for case in cases {
+            check(&rt, rt.alloc(), case);
+        }
+    }
+    Ok(())
+}
+
+/// The number of the merger, behind those of three callers.
+const MERGER: u64 = 3;
+
+/// The steps of a merge of four cells that are all written.
+const MERGE_STEPS: u64 = 52;
+
+const SNAPSHOT_PHASES: &[Phase] = &[
+    [
+        &[
+            (Act::Put(0, 10), Answer::At(0)),
+            (Act::Put(1, 11), Answer::At(1)),
+            (Act::Put(2, 12), Answer::At(2)),
+            (Act::Remove(2), Answer::At(3)),
+            (Act::Freeze, Answer::Frozen(0)),
+            (Act::Put(0, 20), Answer::At(4)),
+            (Act::First(Turn::Watch), Answer::Done),
+            (Act::Second(Turn::Watch), Answer::Done),
+        ],
+        NONE,
+        NONE,
+        NONE,
+        NONE,
+    ],
+    [
+        &[
+            (Act::Merge, Answer::Merged(1)),
+            (Act::Second(Turn::Steps), Answer::Count(MERGE_STEPS)),
+        ],
+        &[
+            (Act::First(Turn::Wait), Answer::Held(true)),
+            (Act::Snapshot, Answer::At(5)),
+            (Act::First(Turn::LetGo), Answer::Held(true)),
+        ],
+        NONE,
+        NONE,
+        NONE,
+    ],
+];
+
+/// A removal and a sweep; then key 0 reads as its second value, key 1 as its first, key 2 was
+/// removed, and key 3 was not put.
+const SNAPSHOT_ROUND: &[Phase] = &[
+    [
+        &[
+            (Act::Sweep, Answer::Clean),
+            (Act::Calls(&ONE_PUT), Answer::Done),
+        ],
+        NONE,
+        NONE,
+        NONE,
+        NONE,
+    ],
+    [
+        &[],
+        &[
+            (Act::GetAt(0), Answer::Got(5, 20)),
+            (Act::GetAt(1), Answer::Got(5, 11)),
+            (Act::GetAt(2), Answer::None(5)),
+            (Act::GetAt(3), Answer::None(5)),
+        ],
+        NONE,
+        NONE,
+        NONE,
+    ],
+];
+
+const ONE_PUT: Load = Load {
+    mix: Mix::Puts,
+    keys: 4,
+    answers: 1,
+};
+
+/// A snapshot that is opened before each step of a running merge reads the same through 20 later
+/// ones; five of them are into level 1.
+#[test]
+fn a_snapshot_opened_before_each_step_of_a_merge(rt: HostRuntime) -> Result<(), Fail> {
+    for place in 0..MERGE_STEPS {
+        let before_step = Hold {
+            seat: MERGER,
+            kind: None,
+            passed: place,
+            turn: OPEN,
+        };
+        let counted = Hold {
+            seat: MERGER,
+            kind: None,
+            passed: ALL,
+            turn: OPEN,
+        };
+        let case = Case {
+            name: "a snapshot is opened before a step of a merge",
+            config: FOUR_CELLS,
+            gates: [before_step, counted],
+            phases: SNAPSHOT_PHASES,
+            rounds: 21,
+            round: SNAPSHOT_ROUND,
+        };
+        check(&rt, rt.alloc(), &case);
+    }
+    Ok(())
+}
