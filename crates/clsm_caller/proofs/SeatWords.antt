@@ -3,7 +3,7 @@ use Rattle.std.proofs.Common.{◌≡◌, ◌↔◌, ℕ, ◌<◌, ◌≤◌, ◌
 use Rattle.std.specs.List.{list_all}
 use Rattle.std.specs.Option.{is_some}
 use Rattle.std.proofs.lemmas.List.{ext_get_or, get_or-map, length-map, length-take-le}
-use Rattle.clsm_law.specs.Relation.{is_all_some}
+use Rattle.clsm_law.specs.Views.{is_all_some}
 
 said-at : (written : List ℕ) (i : ℕ) → i < length written → get_or (map (λ w. Some w) written) i None ≡ Some (get_or written i 0)
 said-at written i lt = get_or-map (λ (w : ℕ). Some w) written i 0 None lt

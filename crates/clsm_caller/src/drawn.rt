@@ -1,5 +1,5 @@
 ghost use Rattle.std.specs.Prelude.{◌≡◌, ◌↔◌, ◌≤◌, EachIndex, IsTrue, length, map, take, slice_index, slice_index_or};
-ghost use Rattle.clsm_law.specs.Relation.{IsShort, SaysWrite, is_all_some, length_of, own_line, words_of};
+ghost use Rattle.clsm_law.specs.Views.{IsShort, SaysWrite, is_all_some, length_of, own_line, words_of};
 
 use crate::words::own_line;
 use clsm_law::{Layout, View};

@@ -2,7 +2,8 @@ ghost use Rattle.std.specs.Prelude.{◌≡◌, ◌≢◌, ◌↔◌, IsTrue, fal
 ghost use Rattle.clsm_model.specs.History.{History};
 ghost use Rattle.clsm_law.specs.declared.layout.Layout.{Layout};
 ghost use Rattle.clsm_law.specs.declared.step.Step.{Step};
-ghost use Rattle.clsm_law.specs.Relation.{IsOpen, is_all_some, or_zero};
+ghost use Rattle.clsm_law.specs.Views.{is_all_some, or_zero};
+ghost use Rattle.clsm_law.specs.Relation.{IsOpen};
 ghost use Rattle.clsm_law.specs.Worlds.{past_of};
 
 use crate::drawn::{fresh_head, is_all_some, says_write};

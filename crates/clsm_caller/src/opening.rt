@@ -1,5 +1,5 @@
 ghost use Rattle.std.specs.Prelude.{◌≡◌, IfOk};
-ghost use Rattle.clsm_law.specs.Relation.{idle};
+ghost use Rattle.clsm_law.specs.Views.{idle};
 
 use clsm_law::{Items, Layout, Mode, SnapshotState, View};
 use std::alloc::{AllocError, Global};

@@ -1,5 +1,6 @@
 ghost use Rattle.std.specs.Prelude.{◌≡◌, ◌↔◌, ◌+◌, ◌<◌, ◌^◌, IsTrue};
-ghost use Rattle.clsm_law.specs.Relation.{IsBelow, is_below, is_seen, reached_after, reached_by_state};
+ghost use Rattle.clsm_law.specs.Views.{IsBelow, is_below};
+ghost use Rattle.clsm_law.specs.Relation.{is_seen, reached_after, reached_by_state};
 
 use clsm_law::{Layout, View};
 use clsm_model::Time;

@@ -2,7 +2,8 @@ ghost use Rattle.std.specs.Prelude.{◌≡◌, ◌+◌, ◌<◌, ◌^◌, IsTrue
 ghost use Rattle.clsm_model.specs.Right.{write_by};
 ghost use Rattle.clsm_law.specs.Memory.{head_of, is_word, link_at};
 ghost use Rattle.clsm_law.specs.SeatBounds.{IsSmall};
-ghost use Rattle.clsm_law.specs.Relation.{changed, or_zero, own_time, own_line, own_place, own_region, state_by, next_word, word_of};
+ghost use Rattle.clsm_law.specs.Views.{or_zero, own_time, own_line, own_place, own_region, next_word};
+ghost use Rattle.clsm_law.specs.Relation.{changed, state_by, word_of};
 
 use clsm_law::{
     CANCELLED_CELL, Layout, REMOVAL_CELL, Step, UNDECIDED_CELL, VALUE_CELL, View, Word,

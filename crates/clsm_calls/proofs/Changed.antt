@@ -10,7 +10,8 @@ use Rattle.clsm_law.specs.declared.view.View.{View}
 use Rattle.clsm_law.specs.declared.view.SnapshotState.{SnapshotState}
 use Rattle.clsm_law.specs.declared.view.SnapshotState.TheVariants.{Absent, Noted, Timed, Open}
 use Rattle.clsm_law.specs.declared.step.End.TheVariants.{Neither}
-use Rattle.clsm_law.specs.Relation.{call_of, ended_snapshot, or_zero}
+use Rattle.clsm_law.specs.Views.{or_zero}
+use Rattle.clsm_law.specs.Relation.{call_of, ended_snapshot}
 use Rattle.clsm_words.specs.declared.known.Known.{Known}
 use Rattle.clsm_words.proofs.Keeps.{prefix_trans}
 use Rattle.clsm_lock.specs.Keeping.{Enters, Leaves}

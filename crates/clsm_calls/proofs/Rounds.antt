@@ -6,7 +6,7 @@ use Rattle.clsm_law.specs.declared.layout.Layout.{Layout}
 use Rattle.clsm_law.specs.declared.merger.MergerView.{MergerView}
 use Rattle.clsm_law.specs.declared.merger.Round.{Round}
 use Rattle.clsm_law.specs.declared.word.Word.TheVariants.{Snap}
-use Rattle.clsm_law.specs.Relation.{next_word}
+use Rattle.clsm_law.specs.Views.{next_word}
 use Rattle.clsm_law.specs.Merging.{epoch_end, floor_by, is_frozen, least, least_or, merger_looked, noted_time, round_by, round_end, round_on, rounds_by}
 use Rattle.clsm_calls.specs.Flooring.{floor_at, round_at, rounds_at}
 

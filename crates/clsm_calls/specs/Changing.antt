@@ -8,7 +8,8 @@ use Rattle.clsm_model.specs.declared.record.Deed.{Deed}
 use Rattle.clsm_model.specs.declared.record.Deed.TheVariants.{Rmw}
 use Rattle.clsm_law.specs.declared.step.End.{End}
 use Rattle.clsm_law.specs.declared.step.End.TheVariants.{Neither, Recorded}
-use Rattle.clsm_law.specs.Relation.{call_of, next_word}
+use Rattle.clsm_law.specs.Views.{next_word}
+use Rattle.clsm_law.specs.Relation.{call_of}
 use Rattle.clsm_model.specs.Seats.{due_by}
 use Rattle.clsm_law.specs.declared.view.Mode.TheVariants.{Shared}
 use Rattle.clsm_words.specs.declared.known.Known.{Known}

@@ -2,7 +2,7 @@
 use Rattle.std.specs.Prelude.{◌≡◌, ℕ, ◌+◌, ◌*◌, ◌<◌, ◌≤◌, List, length, map, Some, vec_capacity, true}
 use Rattle.clsm_levels.specs.declared.entry.Entry.{Entry}
 use Rattle.clsm_levels.specs.Merge.{is_to_level_one, wanted}
-use Rattle.clsm_law.specs.Relation.{next_word}
+use Rattle.clsm_law.specs.Views.{next_word}
 use Rattle.clsm_law.specs.Worlds.{epoch_of, runs_of}
 use Rattle.clsm_words.specs.declared.known.Known.{Known}
 use Rattle.clsm_words.specs.Knowing.{row_of}

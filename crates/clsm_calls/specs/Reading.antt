@@ -3,7 +3,8 @@ use Rattle.std.specs.Prelude.{◌≡◌, ℕ, ◌+◌, ◌*◌, ◌≤◌, ◌�
 use mathlib.Core.List.{IsPrefix}
 use Rattle.clsm_model.specs.declared.record.Deed.{Deed}
 use Rattle.clsm_law.specs.declared.view.Mode.TheVariants.{Free}
-use Rattle.clsm_law.specs.Relation.{call_of, next_word, open_time}
+use Rattle.clsm_law.specs.Views.{next_word}
+use Rattle.clsm_law.specs.Relation.{call_of, open_time}
 use Rattle.clsm_words.specs.declared.known.Known.{Known}
 use Rattle.clsm_calls.specs.Tally.{TakesNoLock, tally_of}
 

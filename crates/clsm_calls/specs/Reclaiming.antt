@@ -2,7 +2,7 @@
 use Rattle.std.specs.Prelude.{◌≡◌, ◌≢◌, ℕ, ◌+◌, ◌*◌, ◌<◌, ◌≤◌, true, false, List, length}
 use Rattle.clsm_law.specs.declared.merger.Reader.{Reader}
 use Rattle.clsm_law.specs.declared.word.Word.TheVariants.{State}
-use Rattle.clsm_law.specs.Relation.{next_word}
+use Rattle.clsm_law.specs.Views.{next_word}
 use Rattle.clsm_law.specs.Merging.{is_retired, retired_region, reader_at}
 use Rattle.clsm_words.specs.declared.known.Known.{Known}
 use Rattle.clsm_words.specs.Knowing.{row_of}

@@ -13,7 +13,8 @@ use Rattle.clsm_levels.specs.declared.entry.Entry.{Entry}
 use Rattle.clsm_law.specs.declared.layout.Layout.{Layout}
 use Rattle.clsm_law.specs.declared.merger.Reader.{Reader}
 use Rattle.clsm_law.specs.Layout.{HasSizesOf}
-use Rattle.clsm_law.specs.Relation.{call_of, next_word}
+use Rattle.clsm_law.specs.Views.{next_word}
+use Rattle.clsm_law.specs.Relation.{call_of}
 use Rattle.clsm_model.specs.Seats.{IsNext, IsRightRecord, IsRising, due_after, open_after}
 use Rattle.clsm_words.specs.Knowing.{Agrees}
 use Rattle.clsm_calls.specs.Tally.{Tally}

@@ -1,7 +1,7 @@
 //! The floor of a merge: the time below which it may forget all but the newest version of each key.
 ghost use Rattle.std.specs.Prelude.{◌≡◌, ◌≤◌, true};
 ghost use Rattle.clsm_law.specs.Merging.{epoch_end, is_frozen, least, noted_time};
-ghost use Rattle.clsm_law.specs.Relation.{next_word};
+ghost use Rattle.clsm_law.specs.Views.{next_word};
 ghost use Rattle.clsm_words.specs.Plays.{IsSeatOf};
 ghost use Rattle.clsm_calls.specs.Flooring.{KeepsFrozen};
 

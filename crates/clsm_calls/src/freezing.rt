@@ -1,7 +1,7 @@
 //! The freeze of an epoch.
 ghost use Rattle.std.specs.Prelude.{◌≡◌, ◌+◌, ◌*◌, ◌^◌, ◌≤◌, true};
 ghost use Rattle.clsm_law.specs.Merging.{epoch_end};
-ghost use Rattle.clsm_law.specs.Relation.{next_word};
+ghost use Rattle.clsm_law.specs.Views.{next_word};
 ghost use Rattle.clsm_words.specs.Merging.{facts_known};
 ghost use Rattle.clsm_words.specs.Plays.{IsSeatOf};
 ghost use Rattle.clsm_calls.specs.Freezing.{HoldsOn, IsClean, IsFrozen};

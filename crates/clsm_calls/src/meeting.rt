@@ -1,6 +1,6 @@
 //! Meetings at the words.
 ghost use Rattle.std.specs.Prelude.{◌≡◌};
-ghost use Rattle.clsm_law.specs.Relation.{next_word};
+ghost use Rattle.clsm_law.specs.Views.{next_word};
 ghost use Rattle.clsm_words.specs.Plays.{IsSeatOf};
 ghost use Rattle.clsm_calls.specs.Meeting.{Confirms, MeetsAt};
 ghost use Rattle.clsm_calls.specs.Resting.{IsAtRest};

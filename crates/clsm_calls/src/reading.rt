@@ -4,7 +4,7 @@ ghost use Rattle.std.specs.Prelude.{◌≡◌, ◌*◌, ◌+◌, ◌≤◌, None
 ghost use Rattle.clsm_model.specs.History.{plain, value};
 ghost use Rattle.clsm_model.specs.declared.record.Deed.TheVariants.{Get};
 ghost use Rattle.clsm_law.specs.declared.step.End.TheVariants.{Recorded};
-ghost use Rattle.clsm_law.specs.Relation.{next_word};
+ghost use Rattle.clsm_law.specs.Views.{next_word};
 ghost use Rattle.clsm_words.specs.Keeping.{Looks, OnlyReads};
 ghost use Rattle.clsm_words.specs.Plays.{IsSeatOf};
 ghost use Rattle.clsm_calls.specs.Resting.{IsAtRest};

@@ -2,7 +2,8 @@
 ghost use Rattle.std.specs.Prelude.{◌≡◌, None, Some};
 ghost use Rattle.clsm_model.specs.declared.record.Deed.TheVariants.{GetAt};
 ghost use Rattle.clsm_law.specs.declared.step.End.TheVariants.{Recorded};
-ghost use Rattle.clsm_law.specs.Relation.{next_word, open_time};
+ghost use Rattle.clsm_law.specs.Views.{next_word};
+ghost use Rattle.clsm_law.specs.Relation.{open_time};
 ghost use Rattle.clsm_words.specs.Plays.{IsSeatOf};
 ghost use Rattle.clsm_calls.specs.Resting.{IsAtRest};
 ghost use Rattle.clsm_calls.specs.Snapshots.{OpensAt, ReadsUnder};

@@ -1,6 +1,6 @@
 //! Writes at the words: draw, fill, link, decide, again where that was lost.
 ghost use Rattle.std.specs.Prelude.{◌≡◌, Some, None, IfOk, IfErr};
-ghost use Rattle.clsm_law.specs.Relation.{next_word};
+ghost use Rattle.clsm_law.specs.Views.{next_word};
 ghost use Rattle.clsm_words.specs.Plays.{IsSeatOf};
 ghost use Rattle.clsm_calls.specs.Tally.{CancelsNone, tally_of};
 ghost use Rattle.clsm_calls.specs.Resting.{IsAtRest, IsInHold, FindsFull, Records, Tries, deed_of};

@@ -7,7 +7,7 @@ use Rattle.clsm_law.specs.declared.layout.Layout.{Layout}
 use Rattle.clsm_law.specs.declared.word.Word.{Word}
 use Rattle.clsm_law.specs.declared.view.View.{View}
 use Rattle.clsm_law.specs.Memory.{Memory, is_same, put}
-use Rattle.clsm_law.specs.Relation.{idle}
+use Rattle.clsm_law.specs.Views.{idle}
 use Rattle.clsm_law.specs.Worlds.{view_at, outcome_at}
 use Rattle.clsm_law.specs.Law.{each}
 use Rattle.clsm_law.proofs.LayoutWords.{same_word, is_same-refl}

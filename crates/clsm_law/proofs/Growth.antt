@@ -8,7 +8,8 @@ use Rattle.clsm_law.specs.declared.step.Step.{Step}
 use Rattle.clsm_law.specs.declared.step.Step.TheVariants.{Draw, Decide, Cancel}
 use Rattle.clsm_law.specs.declared.word.Word.TheVariants.{State}
 use Rattle.clsm_law.specs.Memory.{cell_of}
-use Rattle.clsm_law.specs.Relation.{HoldsFrom, IsBelow}
+use Rattle.clsm_law.specs.Views.{IsBelow}
+use Rattle.clsm_law.specs.Relation.{HoldsFrom}
 use Rattle.clsm_law.specs.Worlds.{outcome_at}
 use Rattle.clsm_law.specs.Law.{first_shown}
 use Rattle.clsm_law.proofs.Cases.{by_test}

@@ -13,7 +13,7 @@ use Rattle.clsm_model.specs.declared.record.CallRecord.{CallRecord}
 use Rattle.clsm_model.specs.History.{History, plain, IsInside, end_of, write_of, or_else, left_by, newest, value, slot_at as slot_of}
 use Rattle.clsm_model.specs.Map.{IsRange}
 use Rattle.clsm_model.specs.Right.{IsRight, Reads}
-use Rattle.clsm_law.specs.Relation.{IsShort, length_of}
+use Rattle.clsm_law.specs.Views.{IsShort, length_of}
 use Rattle.clsm_model.specs.Seats.{IsRightDeed, IsRightRecord}
 use Rattle.clsm_law.specs.Worlds.{outcome_at, settled, past_of, history_of}
 

@@ -22,7 +22,8 @@ use Rattle.clsm_law.specs.declared.merger.Phase.{Phase}
 use Rattle.clsm_law.specs.declared.merger.Phase.TheVariants.{Clean, Frozen, Retired}
 use Rattle.clsm_law.specs.declared.merger.Reader.{Reader}
 use Rattle.clsm_law.specs.Memory.{Memory, cell_of, region_of, put}
-use Rattle.clsm_law.specs.Relation.{IsBelow, is_shared, SaysWrite, length_of, words_of, state_by}
+use Rattle.clsm_law.specs.Views.{IsBelow, is_shared, SaysWrite, length_of, words_of}
+use Rattle.clsm_law.specs.Relation.{state_by}
 use Rattle.clsm_law.specs.Merging.{is_clean, is_frozen, is_retired, is_all_quiet, retired_region, reader_at, reader_by, unseen, epoch_end}
 use Rattle.clsm_law.specs.Worlds.{outcome_at, passes_from, is_last}
 use Rattle.clsm_law.specs.Law.{Shows, AreShown, AreEmpty, first_shown, first_live}

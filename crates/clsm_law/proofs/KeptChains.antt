@@ -16,7 +16,8 @@ use Rattle.clsm_law.specs.declared.step.Step.{Step}
 use Rattle.clsm_law.specs.declared.step.Step.TheVariants.{Draw, Fill, Link, Decide, Cancel, Look}
 use Rattle.clsm_law.specs.declared.view.View.{View}
 use Rattle.clsm_law.specs.Memory.{Memory, cell_of, region_of, put}
-use Rattle.clsm_law.specs.Relation.{Chains, pushed, or_zero, looked, filled, given_up, SaysWrite}
+use Rattle.clsm_law.specs.Views.{or_zero, SaysWrite}
+use Rattle.clsm_law.specs.Relation.{Chains, pushed, looked, filled, given_up}
 use Rattle.clsm_law.specs.Worlds.{outcome_at}
 use Rattle.clsm_law.specs.Law.{each, drawn_of, key_of, linked_of, In, Distinct, IsChain, AreChained, AreIn, AreOnce, IsLinkedAt, AreStanding, AreLinked, AreLoose, first_live, first_shown}
 use Rattle.clsm_law.proofs.Cases.{by_test}

@@ -10,7 +10,7 @@ use Rattle.clsm_law.specs.declared.merger.MergerView.{MergerView}
 use Rattle.clsm_law.specs.declared.merger.Phase.{Phase}
 use Rattle.clsm_law.specs.declared.merger.Phase.TheVariants.{Clean, Frozen, Retired}
 use Rattle.clsm_law.specs.Memory.{Memory}
-use Rattle.clsm_law.specs.Relation.{IsBelow}
+use Rattle.clsm_law.specs.Views.{IsBelow}
 use Rattle.clsm_law.specs.Merging.{is_frozen, is_retired, epoch_end, merger_looked}
 use Rattle.clsm_law.specs.Law.{first_free}
 use Rattle.clsm_law.proofs.Cases.{by_test, by_bool}

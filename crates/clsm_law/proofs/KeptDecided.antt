@@ -18,7 +18,8 @@ use Rattle.clsm_law.specs.declared.step.Step.TheVariants.{Fill, Decide, Cancel, 
 use Rattle.clsm_law.specs.declared.view.View.{View}
 use Rattle.clsm_law.specs.declared.merger.MergerView.{MergerView}
 use Rattle.clsm_law.specs.Memory.{Memory, cell_of, put}
-use Rattle.clsm_law.specs.Relation.{SaysWrite, is_below, is_seen, is_seen_of, takes_hold, looked, filled, reached_after, reached_by_state}
+use Rattle.clsm_law.specs.Views.{SaysWrite, is_below}
+use Rattle.clsm_law.specs.Relation.{is_seen, is_seen_of, takes_hold, looked, filled, reached_after, reached_by_state}
 use Rattle.clsm_law.specs.Merging.{is_frozen, IsRunWord, merger_looked}
 use Rattle.clsm_law.specs.Worlds.{outcome_at}
 use Rattle.clsm_law.specs.Law.{each, past_time_of, reached_of, IsDecidedBelow, AreDecidedBelow, first_shown}

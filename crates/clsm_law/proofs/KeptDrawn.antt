@@ -18,7 +18,8 @@ use Rattle.clsm_law.specs.declared.step.Step.TheVariants.{EnterShared, LeaveShar
 use Rattle.clsm_law.specs.declared.view.View.{View}
 use Rattle.clsm_law.specs.declared.view.Mode.TheVariants.{Shared}
 use Rattle.clsm_law.specs.Memory.{Memory, cell_of, put}
-use Rattle.clsm_law.specs.Relation.{blank, next_word, one_more_if, given_up, looked, filled}
+use Rattle.clsm_law.specs.Views.{blank, next_word}
+use Rattle.clsm_law.specs.Relation.{one_more_if, given_up, looked, filled}
 use Rattle.clsm_law.specs.Merging.{epoch_end}
 use Rattle.clsm_law.specs.Worlds.{view_at, outcome_at}
 use Rattle.clsm_law.specs.Law.{each, mode_of, drawn_of, part_of, AreHolding, ArePending, AreOwned, AreAlone, AreFilled}

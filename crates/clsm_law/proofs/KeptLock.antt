@@ -20,7 +20,8 @@ use Rattle.clsm_law.specs.declared.merger.MergerView.{MergerView}
 use Rattle.clsm_law.specs.declared.merger.Phase.{Phase}
 use Rattle.clsm_law.specs.declared.merger.Phase.TheVariants.{Clean, Frozen, Retired}
 use Rattle.clsm_law.specs.Memory.{Memory}
-use Rattle.clsm_law.specs.Relation.{idle, is_shared, looked, filled}
+use Rattle.clsm_law.specs.Views.{idle, is_shared}
+use Rattle.clsm_law.specs.Relation.{looked, filled}
 use Rattle.clsm_law.specs.Merging.{is_clean, is_frozen, is_retired, merger_looked, unseen, reader_at, reader_by}
 use Rattle.clsm_law.specs.Law.{each, mode_of, holders, IsLockedOut, AreCallers, IsMerger}
 use Rattle.clsm_law.proofs.Cases.{by_test, by_bool}

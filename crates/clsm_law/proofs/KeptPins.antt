@@ -15,7 +15,8 @@ use Rattle.clsm_law.specs.declared.view.SnapshotState.TheVariants.{Absent, Noted
 use Rattle.clsm_law.specs.declared.merger.MergerView.{MergerView}
 use Rattle.clsm_law.specs.declared.merger.Reader.{Reader}
 use Rattle.clsm_law.specs.Memory.{Memory, put}
-use Rattle.clsm_law.specs.Relation.{next_word, takes_hold, ended_snapshot, timed_by}
+use Rattle.clsm_law.specs.Views.{next_word}
+use Rattle.clsm_law.specs.Relation.{takes_hold, ended_snapshot, timed_by}
 use Rattle.clsm_law.specs.Merging.{is_retired, is_all_quiet, unseen, reader_at, reader_by, differs, first_noted}
 use Rattle.clsm_law.specs.Law.{each, pin_of, pinned_of, held_of, snapshot_of, ArePins, AreOdd, IsFirst, IsRetiredFor, AreHeld, AreNotes, note_of}
 use Rattle.clsm_law.proofs.Frames.{at_each, keep1, keep2, put_here, put_other, puts_each, same_each}

@@ -16,7 +16,8 @@ use Rattle.clsm_law.specs.declared.word.Word.TheVariants.{Clock}
 use Rattle.clsm_law.specs.declared.word.Part.TheVariants.{Key}
 use Rattle.clsm_law.specs.declared.view.SnapshotState.{SnapshotState}
 use Rattle.clsm_law.specs.declared.view.SnapshotState.TheVariants.{Absent, Open}
-use Rattle.clsm_law.specs.Relation.{or_zero, open_time, IsOpenSnapshot, ended_calls, call_of, given_up}
+use Rattle.clsm_law.specs.Views.{or_zero}
+use Rattle.clsm_law.specs.Relation.{open_time, IsOpenSnapshot, ended_calls, call_of, given_up}
 use Rattle.clsm_law.specs.Merging.{epoch_end}
 use Rattle.clsm_law.specs.Worlds.{outcome_at, past_of}
 use Rattle.clsm_model.specs.Seats.{IsRightRecord, IsStandingRecord, HasWrite}

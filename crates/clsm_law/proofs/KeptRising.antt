@@ -18,7 +18,8 @@ use Rattle.clsm_law.specs.declared.word.Part.TheVariants.{Key}
 use Rattle.clsm_law.specs.declared.view.View.{View}
 use Rattle.clsm_law.specs.declared.view.SnapshotState.{SnapshotState}
 use Rattle.clsm_law.specs.declared.view.SnapshotState.TheVariants.{Absent, Noted, Timed, Open}
-use Rattle.clsm_law.specs.Relation.{or_zero, SaysWrite, open_time, timed, timed_by, time_of_read, is_old, IsRightAt, IsMetAt, IsEndingWith, IsOpenSnapshot, ended_calls, ended_due, ended_snapshot, call_of}
+use Rattle.clsm_law.specs.Views.{or_zero, SaysWrite}
+use Rattle.clsm_law.specs.Relation.{open_time, timed, timed_by, time_of_read, is_old, IsRightAt, IsMetAt, IsEndingWith, IsOpenSnapshot, ended_calls, ended_due, ended_snapshot, call_of}
 use Rattle.clsm_law.specs.Worlds.{past_of}
 use Rattle.clsm_model.specs.Seats.{open_after, due_after, IsNext, IsNextRead, Rises, last_due, last_open, IsRising}
 use Rattle.clsm_law.specs.Law.{each, due_of, calls_of, snapshot_of, AreRising}

@@ -10,7 +10,7 @@ use Rattle.clsm_model.specs.Right.{write_by}
 use Rattle.clsm_law.specs.declared.step.Step.{Step}
 use Rattle.clsm_law.specs.declared.step.Step.TheVariants.{Draw, Decide, Cancel, ExtendClock}
 use Rattle.clsm_law.specs.declared.view.View.{View}
-use Rattle.clsm_law.specs.Relation.{IsShort, SaysWrite}
+use Rattle.clsm_law.specs.Views.{IsShort, SaysWrite}
 use Rattle.clsm_law.specs.Merging.{epoch_end}
 use Rattle.clsm_law.specs.Worlds.{outcome_at}
 use Rattle.clsm_law.specs.Law.{AreShort}

@@ -9,7 +9,8 @@ use Rattle.clsm_law.specs.declared.word.Word.TheVariants.{Limit}
 use Rattle.clsm_law.specs.declared.view.View.{View}
 use Rattle.clsm_law.specs.Memory.{Memory, put}
 use Rattle.clsm_law.specs.Layout.{IsLayout, index_of, size_of}
-use Rattle.clsm_law.specs.Relation.{idle, open_time}
+use Rattle.clsm_law.specs.Views.{idle}
+use Rattle.clsm_law.specs.Relation.{open_time}
 use Rattle.clsm_law.specs.Merging.{opening, unseen}
 use Rattle.clsm_law.specs.Worlds.{view_at, outcome_at, past_of, history_of, runs_of}
 use Rattle.clsm_law.specs.Law.{LawOf, IsSnapshot, note_of, each, mode_of, drawn_of, holders, met_of, low_of, high_of, hold_limit_of, fresh_clock_of, hold_clock_of, clock_of, pin_clock_of, past_time_of, reached_of, pin_of, held_of}

@@ -14,7 +14,8 @@ use Rattle.clsm_law.specs.declared.layout.Layout.{Layout}
 use Rattle.clsm_law.specs.declared.view.SnapshotState.{SnapshotState}
 use Rattle.clsm_law.specs.declared.view.SnapshotState.TheVariants.{Absent, Noted, Timed, Open}
 use Rattle.clsm_law.specs.Memory.{Memory, cell_of, region_of, link_of, key_at}
-use Rattle.clsm_law.specs.Relation.{idle, or_zero, open_time}
+use Rattle.clsm_law.specs.Views.{idle, or_zero}
+use Rattle.clsm_law.specs.Relation.{open_time}
 use Rattle.clsm_law.specs.Merging.{is_retired, is_all_quiet}
 use Rattle.clsm_law.specs.Worlds.{outcome_at, history_of, runs_of}
 use Rattle.clsm_law.specs.Law.{In, Leads, Rising, Shows, AreRuns, IsSnapshot, IsRetiredFor, each, pin_of, held_of, snapshot_of, past_time_of, place_of_time, is_held_back, first_shown}

@@ -12,7 +12,7 @@ use Rattle.clsm_law.specs.declared.layout.Layout.{Layout}
 use Rattle.clsm_law.specs.declared.word.Word.TheVariants.{Cell, State}
 use Rattle.clsm_law.specs.declared.word.Part.TheVariants.{Key, Length, Value}
 use Rattle.clsm_law.specs.Memory.{Memory, cell_of}
-use Rattle.clsm_law.specs.Relation.{IsShort, length_of, state_of}
+use Rattle.clsm_law.specs.Views.{IsShort, length_of, state_of}
 use Rattle.clsm_law.specs.Law.{In, Shows}
 use Rattle.clsm_law.specs.Reading.{cell_value_words, cell_value, is_written, write_at, later, newest_among}
 use Rattle.clsm_law.proofs.Histories.{settle, at_most_eight}

@@ -16,7 +16,8 @@ use Rattle.clsm_law.specs.declared.step.End.TheVariants.{Neither, Meeting, Recor
 use Rattle.clsm_law.specs.declared.view.View.{View}
 use Rattle.clsm_law.specs.declared.view.SnapshotState.{SnapshotState}
 use Rattle.clsm_law.specs.declared.view.SnapshotState.TheVariants.{Noted, Timed}
-use Rattle.clsm_law.specs.Relation.{idle, or_zero, SaysWrite, IsReadBelow, timed, time_of_read, is_old, IsRightAt, IsMetAt, IsEndingWith, ended_calls, ended_due}
+use Rattle.clsm_law.specs.Views.{idle, or_zero, SaysWrite}
+use Rattle.clsm_law.specs.Relation.{IsReadBelow, timed, time_of_read, is_old, IsRightAt, IsMetAt, IsEndingWith, ended_calls, ended_due}
 use Rattle.clsm_law.specs.Worlds.{view_at}
 use Rattle.clsm_model.specs.Seats.{IsRightDeed, IsRightRecord, StandsAs, IsStandingRecord, HasWrite}
 use Rattle.clsm_law.proofs.Frames.{at_each}

@@ -15,7 +15,8 @@ use Rattle.clsm_law.specs.declared.merger.Phase.{Phase}
 use Rattle.clsm_law.specs.declared.merger.Phase.TheVariants.{Clean, Frozen, Retired}
 use Rattle.clsm_law.specs.Memory.{Memory, cell_of, put}
 use Rattle.clsm_law.specs.Layout.{IsLayout}
-use Rattle.clsm_law.specs.Relation.{Chains, Orders, is_shared, or_zero, IsOpen, own_time, word_of, changed, view_after, slots_after, chains_after, orders_after}
+use Rattle.clsm_law.specs.Views.{is_shared, or_zero, own_time}
+use Rattle.clsm_law.specs.Relation.{Chains, Orders, IsOpen, word_of, changed, view_after, slots_after, chains_after, orders_after}
 use Rattle.clsm_law.specs.Merging.{is_clean, Facts, IsOpenToMerger, word_of_merger, changed_by_merger, merger_after, slots_after_merger, chains_after_merger, orders_after_merger, is_retired, is_frozen, is_all_quiet, reader_at}
 use Rattle.clsm_law.specs.Worlds.{view_at, outcome_at, past_of, facts_of}
 use Rattle.clsm_law.specs.Law.{LawOf, Shows, each, mode_of, drawn_of, held_of, pin_of, past_time_of, IsRetiredFor, first_shown, first_live, is_held_back}

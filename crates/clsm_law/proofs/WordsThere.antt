@@ -5,7 +5,8 @@ use Rattle.std.proofs.lemmas.Nat.{mod_below}
 use Rattle.clsm_law.specs.declared.step.Step.{Step}
 use Rattle.clsm_law.specs.declared.step.Step.TheVariants.{Fill, Link, Insert, StoreHint, FillOrder, Decide, Cancel, Pin, Unpin, Look, Note, CloseSnapshot, Pad, WriteRun, ClearHead, ClearState, ClearOrder}
 use Rattle.clsm_law.specs.Memory.{cell_of, link_at, is_word, is_part}
-use Rattle.clsm_law.specs.Relation.{word_of, own_time, own_region, or_zero}
+use Rattle.clsm_law.specs.Views.{own_time, own_region, or_zero}
+use Rattle.clsm_law.specs.Relation.{word_of}
 use Rattle.clsm_law.specs.Merging.{word_of_merger}
 use Rattle.clsm_law.proofs.Cases.{by_test}
 use Rattle.clsm_law.proofs.Times.{cell_below, region_below}

@@ -22,7 +22,8 @@ use Rattle.clsm_law.specs.declared.merger.Round.{Round}
 use Rattle.clsm_law.specs.Codes.{exclusive_hold, last_limit}
 use Rattle.clsm_law.specs.Memory.{Memory, cell_of, region_of, link_of, key_at, room_of}
 use Rattle.clsm_law.specs.Places.{is_named, held_at}
-use Rattle.clsm_law.specs.Relation.{IsShort, Chains, Orders, Before, is_shared, length_of, words_of, state_of, open_time}
+use Rattle.clsm_law.specs.Views.{IsShort, is_shared, length_of, words_of, state_of}
+use Rattle.clsm_law.specs.Relation.{Chains, Orders, Before, open_time}
 use Rattle.clsm_law.specs.Merging.{is_clean, is_frozen, is_retired, is_all_quiet, reader_at, epoch_end}
 use Rattle.clsm_model.specs.Seats.{IsRightRecord, IsStandingRecord, HasWrite, IsRising}
 use Rattle.clsm_law.specs.Worlds.{view_at, outcome_at, past_of, history_of, runs_of, are_canonical}

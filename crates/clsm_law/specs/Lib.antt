@@ -2,6 +2,7 @@ pub mod Codes
 pub mod Memory
 pub mod Layout
 pub mod Places
+pub mod Views
 pub mod Relation
 pub mod Merging
 pub mod Worlds

@@ -20,7 +20,8 @@ use Rattle.clsm_law.specs.declared.merger.Reader.{Reader}
 use Rattle.clsm_law.specs.Codes.{exclusive_hold, last_limit, cancelled_cell}
 use Rattle.clsm_law.specs.Memory.{cell_of, region_of, room_of, is_word}
 use Rattle.clsm_law.specs.Places.{number_of, is_named}
-use Rattle.clsm_law.specs.Relation.{Chains, Orders, next_word, one_more_if}
+use Rattle.clsm_law.specs.Views.{next_word}
+use Rattle.clsm_law.specs.Relation.{Chains, Orders, one_more_if}
 
 -- what the merger knows of the world
 pub record Facts : Type 0 where

@@ -5,7 +5,7 @@ use Rattle.clsm_law.specs.declared.word.Word.{Word}
 use Rattle.clsm_law.specs.declared.word.Word.TheVariants.{Merged, Head, Cell, State}
 use Rattle.clsm_law.specs.declared.step.Step.{Step}
 use Rattle.clsm_law.specs.declared.step.Step.TheVariants.{EnterShared, Draw, Decide, Look, Note}
-use Rattle.clsm_law.specs.Relation.{line_of}
+use Rattle.clsm_law.specs.Views.{line_of}
 
 -- of a look: the place of a head among the fresh heads, the first time of the component found, and
 -- the place of a cell in the ordered list

@@ -13,7 +13,7 @@ use Rattle.clsm_law.specs.declared.view.View.{View}
 use Rattle.clsm_law.specs.declared.merger.MergerView.{MergerView}
 use Rattle.clsm_law.specs.Memory.{Memory, cell_of}
 use Rattle.clsm_law.specs.Places.{held_at, entries_in}
-use Rattle.clsm_law.specs.Relation.{idle}
+use Rattle.clsm_law.specs.Views.{idle}
 use Rattle.clsm_law.specs.Merging.{Facts, retired_region, epoch_end, target_of}
 
 -- ---- the history of a world's slots

@@ -4,7 +4,7 @@ use mathlib.Core.List.{IsPrefix}
 use Rattle.clsm_law.specs.declared.word.Word.{Word}
 use Rattle.clsm_law.specs.declared.word.Word.TheVariants.{Clock}
 use Rattle.clsm_law.specs.declared.view.Mode.TheVariants.{Free, Shared}
-use Rattle.clsm_law.specs.Relation.{blank, next_word}
+use Rattle.clsm_law.specs.Views.{blank, next_word}
 use Rattle.clsm_words.specs.declared.known.Known.{Known}
 use Rattle.clsm_words.specs.Knowing.{row_of}
 use Rattle.clsm_words.specs.Keeping.{KeepsPlace}

@@ -1,7 +1,7 @@
 //! Shared holds.
 ghost use Rattle.std.specs.Prelude.{◌≡◌, None, OnOk, OnErr};
 ghost use Rattle.clsm_law.specs.declared.view.Mode.TheVariants.{Free, Shared};
-ghost use Rattle.clsm_law.specs.Relation.{next_word};
+ghost use Rattle.clsm_law.specs.Views.{next_word};
 ghost use Rattle.clsm_words.specs.Plays.{IsSeatOf};
 ghost use Rattle.clsm_lock.specs.Keeping.{Enters, StaysOut, Leaves};
 

@@ -8,7 +8,8 @@ use Rattle.clsm_law.specs.declared.view.Mode.{Mode}
 use Rattle.clsm_law.specs.declared.view.Mode.TheVariants.{Shared}
 use Rattle.clsm_law.specs.declared.view.SnapshotState.{SnapshotState}
 use Rattle.clsm_law.specs.declared.view.SnapshotState.TheVariants.{Absent, Noted, Timed, Open}
-use Rattle.clsm_law.specs.Relation.{IsBelow, blank, is_free, looked, next_word, one_more_if, timed_by}
+use Rattle.clsm_law.specs.Views.{IsBelow, blank, is_free, next_word}
+use Rattle.clsm_law.specs.Relation.{looked, one_more_if, timed_by}
 use Rattle.clsm_words.specs.declared.known.Known.{Known}
 use Rattle.clsm_words.specs.Knowing.{IsNearHeld, Sound, Follows}
 use Rattle.clsm_words.specs.Keeping.{KeepsPlace}

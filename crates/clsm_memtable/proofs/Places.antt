@@ -1,7 +1,7 @@
 -- Places that are filled one after another.
 use Rattle.std.proofs.Common.{◌≡◌, ℕ, ◌+◌, ◌<◌, List, [], ◌∷◌, ◌++◌, length, map, take, set, get_or, refl, ap, sym, ◌∙◌, true, Option, Some}
 use Rattle.std.proofs.lemmas.List.{take_more_set, map_more}
-use Rattle.clsm_law.specs.Relation.{is_all_some}
+use Rattle.clsm_law.specs.Views.{is_all_some}
 
 -- one place more is filled
 pub fill_more : (xs : List (Option ℕ)) (ws : List ℕ) (i : ℕ) → i < length xs → i < length ws → take i xs ≡ map (λ w. Some w) (take i ws) → take (i + 1) (set xs i (Some (get_or ws i 0))) ≡ map (λ w. Some w) (take (i + 1) ws)

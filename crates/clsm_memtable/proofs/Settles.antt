@@ -6,7 +6,8 @@ use Rattle.clsm_law.specs.declared.word.Word.TheVariants.{Front, State}
 use Rattle.clsm_law.specs.declared.step.Step.TheVariants.{Cancel, Look, RaiseFront}
 use Rattle.clsm_law.specs.declared.view.View.{View}
 use Rattle.clsm_law.specs.Memory.{cell_of}
-use Rattle.clsm_law.specs.Relation.{is_met_by_state, IsBelow, counted_cancel, is_below, is_seen, is_seen_of, is_own, given_up, one_more_if, view_after, reached_after, reached_by_state, HoldsFrom}
+use Rattle.clsm_law.specs.Views.{IsBelow, is_below}
+use Rattle.clsm_law.specs.Relation.{is_met_by_state, counted_cancel, is_seen, is_seen_of, is_own, given_up, one_more_if, view_after, reached_after, reached_by_state, HoldsFrom}
 use Rattle.clsm_law.proofs.Cases.{by_bool}
 use Rattle.clsm_law.proofs.Times.{cell_below}
 use Rattle.clsm_words.specs.declared.known.Known.{Known}

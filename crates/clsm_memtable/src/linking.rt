@@ -1,7 +1,7 @@
 //! The link of a drawn cell into its chain.
 ghost use Rattle.std.specs.Prelude.{◌≡◌, ◌≢◌, None, OnOk, OnErr};
 ghost use Rattle.clsm_law.specs.declared.view.Mode.TheVariants.{Shared};
-ghost use Rattle.clsm_law.specs.Relation.{next_word};
+ghost use Rattle.clsm_law.specs.Views.{next_word};
 ghost use Rattle.clsm_words.specs.Plays.{IsSeatOf, IsFilled};
 ghost use Rattle.clsm_memtable.specs.Filling.{Links, StaysUnlinked};
 

@@ -8,7 +8,8 @@ use Rattle.clsm_law.specs.declared.view.Mode.{Mode}
 use Rattle.clsm_law.specs.declared.view.Mode.TheVariants.{Free}
 use Rattle.clsm_law.specs.declared.view.SnapshotState.TheVariants.{Absent, Noted, Timed, Open}
 use Rattle.clsm_law.specs.declared.view.SnapshotState.{SnapshotState}
-use Rattle.clsm_law.specs.Relation.{IsOpenSnapshot, call_of, is_free, looked, open_time, or_zero, timed}
+use Rattle.clsm_law.specs.Views.{is_free, or_zero}
+use Rattle.clsm_law.specs.Relation.{IsOpenSnapshot, call_of, looked, open_time, timed}
 use Rattle.clsm_model.specs.declared.record.Deed.TheVariants.{Close}
 use Rattle.clsm_words.specs.declared.known.Known.{Known}
 use Rattle.clsm_words.specs.Knowing.{Sound, Follows, IsNearHeld}

@@ -4,7 +4,8 @@ use Rattle.clsm_law.specs.declared.word.Word.TheVariants.{Merged}
 use Rattle.clsm_law.specs.declared.step.Step.TheVariants.{Pin, Unpin, Look}
 use Rattle.clsm_law.specs.declared.step.End.{End}
 use Rattle.clsm_law.specs.declared.view.View.{View}
-use Rattle.clsm_law.specs.Relation.{looked, next_word, view_after}
+use Rattle.clsm_law.specs.Views.{next_word}
+use Rattle.clsm_law.specs.Relation.{looked, view_after}
 use Rattle.clsm_words.specs.declared.known.Known.{Known}
 use Rattle.clsm_words.specs.Knowing.{Sound, Follows}
 use Rattle.clsm_words.proofs.Keeps.{past_by, past_trans}

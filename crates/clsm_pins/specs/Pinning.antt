@@ -2,7 +2,8 @@
 use Rattle.std.specs.Prelude.{◌≡◌, ℕ, ◌*◌, ◌≤◌, ◌++◌, true, false, length, Some, None}
 use mathlib.Core.List.{IsPrefix}
 use Rattle.clsm_law.specs.declared.step.End.{End}
-use Rattle.clsm_law.specs.Relation.{next_word, ended_calls, ended_due, ended_snapshot}
+use Rattle.clsm_law.specs.Views.{next_word}
+use Rattle.clsm_law.specs.Relation.{ended_calls, ended_due, ended_snapshot}
 use Rattle.clsm_words.specs.declared.known.Known.{Known}
 use Rattle.clsm_words.specs.Keeping.{KeepsPast}
 

@@ -1,7 +1,7 @@
 //! Whether a seat holds anything retired.
 ghost use Rattle.std.specs.Prelude.{◌≡◌, ◌<◌, ℕ, true, false};
 ghost use Rattle.clsm_law.specs.Merging.{is_retired, reader_at, reader_by};
-ghost use Rattle.clsm_law.specs.Relation.{next_word};
+ghost use Rattle.clsm_law.specs.Views.{next_word};
 ghost use Rattle.clsm_words.specs.Plays.{IsSeatOf};
 ghost use Rattle.clsm_pins.specs.Quieting.{HoldsNothingRetired, IsNotedOdd, LooksAtPin};
 

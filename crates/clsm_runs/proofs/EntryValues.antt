@@ -6,7 +6,7 @@ use Rattle.std.proofs.lemmas.List.{get_or-take, length-take}
 use Rattle.clsm_law.specs.declared.word.Word.TheVariants.{Count, Entry as EntryWord}
 use Rattle.clsm_law.specs.Memory.{Memory}
 use Rattle.clsm_law.specs.Places.{value_words, entry_in}
-use Rattle.clsm_law.specs.Relation.{IsShort, length_of, words_of}
+use Rattle.clsm_law.specs.Views.{IsShort, length_of, words_of}
 use Rattle.clsm_law.specs.Worlds.{is_length, is_ended, is_canonical, are_canonical}
 use Rattle.clsm_law.proofs.Passes.{passes_at}
 

@@ -15,7 +15,7 @@ use Rattle.clsm_law.specs.Memory.{Memory}
 use Rattle.clsm_law.specs.Merging.{epoch_end, is_frozen}
 use Rattle.clsm_law.specs.Places.{is_named, entry_in, entries_from, entries_in, held_at}
 use Rattle.clsm_law.specs.Worlds.{runs_of, are_canonical}
-use Rattle.clsm_law.specs.Relation.{IsShort}
+use Rattle.clsm_law.specs.Views.{IsShort}
 use Rattle.clsm_words.specs.declared.known.Known.{Known}
 use Rattle.clsm_words.specs.Knowing.{Sound, row_of}
 use Rattle.clsm_words.specs.Merging.{IsSoundMerger}

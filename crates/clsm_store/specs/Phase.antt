@@ -1,6 +1,6 @@
 -- What the merger's commands make of its token, and what they answer.
 use Rattle.std.specs.Prelude.{◌≡◌, ℕ, ◌+◌, ◌*◌, ◌^◌, ◌<◌, ⊤, Result, Ok, Err}
-use Rattle.clsm_law.specs.Relation.{next_word}
+use Rattle.clsm_law.specs.Views.{next_word}
 use Rattle.clsm_calls.specs.Seats.{MergerState}
 use Rattle.clsm_calls.specs.Merging.{IsRunFull, TakesFloor}
 use Rattle.clsm_calls.specs.Reclaiming.{IsLowestLoud}

@@ -10,7 +10,8 @@ use Rattle.clsm_law.specs.declared.word.Word.{Word}
 use Rattle.clsm_law.specs.declared.view.View.{View}
 use Rattle.clsm_law.specs.declared.merger.MergerView.{MergerView}
 use Rattle.clsm_law.specs.Layout.{size_of, memory}
-use Rattle.clsm_law.specs.Relation.{Chains, Orders, idle}
+use Rattle.clsm_law.specs.Views.{idle}
+use Rattle.clsm_law.specs.Relation.{Chains, Orders}
 use Rattle.clsm_law.specs.Merging.{opening as opening_merger}
 use Rattle.clsm_law.specs.Worlds.{view_at, settled}
 use Rattle.clsm_law.specs.Machine.{IsLawful, opened}

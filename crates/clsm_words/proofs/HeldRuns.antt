@@ -9,7 +9,8 @@ use Rattle.clsm_law.specs.declared.view.SnapshotState.{SnapshotState}
 use Rattle.clsm_law.specs.declared.view.SnapshotState.TheVariants.{Open}
 use Rattle.clsm_law.specs.Memory.{Memory}
 use Rattle.clsm_law.specs.Places.{is_named}
-use Rattle.clsm_law.specs.Relation.{IsShort, or_zero, open_time}
+use Rattle.clsm_law.specs.Views.{IsShort, or_zero}
+use Rattle.clsm_law.specs.Relation.{open_time}
 use Rattle.clsm_law.specs.Merging.{is_retired}
 use Rattle.clsm_levels.specs.declared.entry.Entry.{Entry as RunEntry}
 use Rattle.clsm_levels.specs.Entry.{IsWriteOf}

@@ -18,7 +18,8 @@ use Rattle.clsm_law.specs.declared.view.SnapshotState.{SnapshotState}
 use Rattle.clsm_law.specs.declared.view.SnapshotState.TheVariants.{Open}
 use Rattle.clsm_law.specs.declared.merger.MergerView.{MergerView}
 use Rattle.clsm_law.specs.Memory.{cell_of, region_of, is_word}
-use Rattle.clsm_law.specs.Relation.{idle, or_zero, own_region, open_time, IsOpen, word_of}
+use Rattle.clsm_law.specs.Views.{idle, or_zero, own_region}
+use Rattle.clsm_law.specs.Relation.{open_time, IsOpen, word_of}
 use Rattle.clsm_law.specs.Merging.{is_frozen}
 use Rattle.clsm_law.specs.Worlds.{view_at, outcome_at, past_of}
 use Rattle.clsm_law.specs.Law.{IsMember, IsSnapshot, first_free}

@@ -7,7 +7,7 @@ use Rattle.clsm_law.specs.declared.step.Step.{Step}
 use Rattle.clsm_law.specs.declared.step.Step.TheVariants.{Draw, Link, FillOrder, Insert, Decide, Cancel, Look}
 use Rattle.clsm_law.specs.declared.view.Mode.TheVariants.{Shared}
 use Rattle.clsm_law.specs.Memory.{cell_of, region_of, link_at, put}
-use Rattle.clsm_law.specs.Relation.{is_shared, or_zero}
+use Rattle.clsm_law.specs.Views.{is_shared, or_zero}
 use Rattle.clsm_law.specs.Merging.{retired_region}
 use Rattle.clsm_law.specs.Worlds.{outcome_at}
 use Rattle.clsm_law.specs.Law.{first_shown, each, drawn_of}

@@ -10,7 +10,8 @@ use Rattle.clsm_law.specs.declared.word.Word.TheVariants.{Clock, Count, Entry}
 use Rattle.clsm_law.specs.declared.step.Step.{Step}
 use Rattle.clsm_law.specs.declared.view.View.{View}
 use Rattle.clsm_law.specs.Layout.{index_of, memory}
-use Rattle.clsm_law.specs.Relation.{Chains, Orders, idle, word_of, changed, view_after, slots_after, chains_after, orders_after}
+use Rattle.clsm_law.specs.Views.{idle}
+use Rattle.clsm_law.specs.Relation.{Chains, Orders, word_of, changed, view_after, slots_after, chains_after, orders_after}
 use Rattle.clsm_law.specs.Worlds.{view_at, outcome_at, settled}
 use Rattle.clsm_law.specs.Memory.{Memory, key_at, is_word}
 use Rattle.clsm_law.specs.Law.{LawOf, In}

@@ -9,7 +9,8 @@ use Rattle.clsm_law.specs.declared.word.Part.TheVariants.{Key, Length, Value, Ne
 use Rattle.clsm_law.specs.declared.step.Step.{Step}
 use Rattle.clsm_law.specs.declared.step.Step.TheVariants.{EnterShared, LeaveShared, Draw, Fill, Link, Look}
 use Rattle.clsm_law.specs.declared.view.View.{View}
-use Rattle.clsm_law.specs.Relation.{blank, idle, line_of, own_line, holds_lock, looked, filled, view_after}
+use Rattle.clsm_law.specs.Views.{blank, idle, line_of, own_line}
+use Rattle.clsm_law.specs.Relation.{holds_lock, looked, filled, view_after}
 use Rattle.clsm_words.specs.Knowing.{HasRows}
 
 blank_long : (n : ℕ) → length (blank n) ≡ n

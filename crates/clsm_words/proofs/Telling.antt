@@ -15,7 +15,8 @@ use Rattle.clsm_law.specs.declared.step.Step.{Step}
 use Rattle.clsm_law.specs.declared.step.Step.TheVariants.{Look}
 use Rattle.clsm_law.specs.declared.view.View.{View}
 use Rattle.clsm_law.specs.Memory.{Memory, cell_of, is_part, put}
-use Rattle.clsm_law.specs.Relation.{is_shared, HoldsFrom, word_of, changed}
+use Rattle.clsm_law.specs.Views.{is_shared}
+use Rattle.clsm_law.specs.Relation.{HoldsFrom, word_of, changed}
 use Rattle.clsm_law.specs.Layout.{memory}
 use Rattle.clsm_law.specs.Worlds.{view_at, settled}
 use Rattle.clsm_law.specs.Law.{Shows, first_shown, holders}

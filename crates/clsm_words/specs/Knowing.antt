@@ -25,7 +25,8 @@ use Rattle.clsm_law.specs.Layout.{memory}
 use Rattle.clsm_law.specs.Places.{is_named}
 use Rattle.clsm_law.specs.Worlds.{are_canonical, runs_of}
 use Rattle.clsm_law.specs.Law.{In, Distinct, place_of_time}
-use Rattle.clsm_law.specs.Relation.{IsShort, Before, own_region, idle, length_of, words_of, state_of, open_time, HoldsFrom, IsOpen, word_of, view_after}
+use Rattle.clsm_law.specs.Views.{IsShort, own_region, idle, length_of, words_of, state_of}
+use Rattle.clsm_law.specs.Relation.{Before, open_time, HoldsFrom, IsOpen, word_of, view_after}
 use Rattle.clsm_law.specs.Merging.{opening, IsRunWord, place_of}
 use Rattle.clsm_law.specs.Machine.{opened}
 use Rattle.clsm_model.specs.Seats.{IsRecordIn, IsRightRecord, HasWrite, IsRising}

@@ -12,7 +12,7 @@ use Rattle.clsm_law.specs.declared.step.Step.TheVariants.{Look}
 use Rattle.clsm_law.specs.declared.merger.MergerView.{MergerView}
 use Rattle.clsm_law.specs.Memory.{cell_of, region_of, is_word, put}
 use Rattle.clsm_law.specs.Merging.{Facts, is_frozen, is_retired, is_all_quiet, epoch_end, retired_region, IsOpenToMerger, word_of_merger, changed_by_merger, merger_after}
-use Rattle.clsm_law.specs.Relation.{IsShort}
+use Rattle.clsm_law.specs.Views.{IsShort}
 use Rattle.clsm_law.specs.Worlds.{facts_of}
 use Rattle.clsm_law.specs.Law.{AreRuns}
 use Rattle.clsm_law.specs.Deciding.{IsMergeable}

@@ -4,7 +4,8 @@ use Rattle.clsm_law.specs.declared.word.Word.{Word}
 use Rattle.clsm_law.specs.declared.step.Step.{Step}
 use Rattle.clsm_law.specs.declared.step.Answer.{Answer}
 use Rattle.clsm_law.specs.declared.view.View.{View}
-use Rattle.clsm_law.specs.Relation.{idle, is_all_some, or_zero, word_of, answer_of}
+use Rattle.clsm_law.specs.Views.{idle, is_all_some, or_zero}
+use Rattle.clsm_law.specs.Relation.{word_of, answer_of}
 use Rattle.clsm_law.specs.Merging.{opening, word_of_merger}
 use Rattle.clsm_words.specs.declared.known.Known.{Known}
 use Rattle.clsm_words.specs.declared.words.WordTable.{WordTable}

@@ -11,7 +11,8 @@ use Rattle.clsm_law.specs.declared.merger.MergerView.{MergerView}
 use Rattle.clsm_law.specs.declared.word.Word.{Word}
 use Rattle.clsm_law.specs.Layout.{memory, size_of}
 use Rattle.clsm_law.specs.Memory.{Memory, key_at}
-use Rattle.clsm_law.specs.Relation.{Chains, Orders, idle}
+use Rattle.clsm_law.specs.Views.{idle}
+use Rattle.clsm_law.specs.Relation.{Chains, Orders}
 use Rattle.clsm_law.specs.Law.{In}
 use Rattle.clsm_law.specs.Merging.{is_retired}
 use Rattle.clsm_law.specs.Worlds.{view_at, outcome_at, settled}

@@ -1,6 +1,6 @@
 //! Values that stand in words, read word by word.
 ghost use Rattle.std.specs.Prelude.{◌≡◌, ℕ, ◌<◌, ◌≤◌, List, Option, Some, slice_index};
-ghost use Rattle.clsm_law.specs.Relation.{length_of, words_of};
+ghost use Rattle.clsm_law.specs.Views.{length_of, words_of};
 ghost use Rattle.clsm_words.specs.declared.words.WordTable.{WordTable};
 
 use crate::pace::Pace;

@@ -1,6 +1,6 @@
 //! The merger's tokens, one for each phase, and what it does in each.
 ghost use Rattle.std.specs.Prelude.{◌≡◌, ◌+◌, ◌*◌, ◌^◌, ◌<◌, IfOk, IfErr};
-ghost use Rattle.clsm_law.specs.Relation.{next_word};
+ghost use Rattle.clsm_law.specs.Views.{next_word};
 ghost use Rattle.clsm_calls.specs.Merging.{IsRunFull, TakesFloor};
 
 use crate::store::Store;

@@ -1,5 +1,5 @@
 use Rattle.std.proofs.Common.{◌∙◌, ap, sym, subst, ◌≡◌, take, map, length, List, ℕ, Option, Some, option_copied}
-use Rattle.clsm_law.specs.Relation.{is_all_some, or_zero}
+use Rattle.clsm_law.specs.Views.{is_all_some, or_zero}
 use Rattle.clsm_memtable.specs.Filling.{Fills}
 use Rattle.clsm_memtable.proofs.Places.{all_there}
 use Rattle.clsm_memtable.proofs.filling.fill.Goals as goal

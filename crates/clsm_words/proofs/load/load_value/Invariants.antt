@@ -1,5 +1,5 @@
 use Rattle.std.proofs.Common.{◌≡◌, length, take}
-use Rattle.clsm_law.specs.Relation.{words_of}
+use Rattle.clsm_law.specs.Views.{words_of}
 use Rattle.clsm_words.proofs.load.load_value.Given as goal
 
 abbrev pub invariant-loop-index : goal.invariant-loop-index

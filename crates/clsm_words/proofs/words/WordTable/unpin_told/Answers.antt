@@ -1,7 +1,7 @@
 use Rattle.std.proofs.Common.{ℕ, sym, ◌∙◌, ap}
 use Rattle.clsm_law.specs.declared.word.Word.TheVariants.{Pin}
 use Rattle.clsm_law.specs.declared.step.Step.TheVariants.{Unpin}
-use Rattle.clsm_law.specs.Relation.{next_word}
+use Rattle.clsm_law.specs.Views.{next_word}
 use Rattle.clsm_words.proofs.May.{may_store}
 use Rattle.clsm_words.proofs.words.WordTable.unpin_told.Goals as goal
 
