@@ -6,6 +6,7 @@ mod codes;
 mod items;
 mod layout;
 mod merger;
+mod places;
 mod step;
 mod view;
 mod word;
@@ -16,6 +17,7 @@ pub use codes::{
 pub use items::Items;
 pub use layout::Layout;
 pub use merger::{MergerView, Phase, Reader, Round};
+pub use places::{LEVEL_ONE, is_named, level_one_place, target_place};
 pub use step::{Answer, End, Event, Step, StepError};
 pub use view::{Mode, SnapshotState, View};
 pub use word::{Part, Word};

@@ -16,4 +16,4 @@ pub use epoch::entries_of;
 pub use merge::{judge, wanted};
 pub use place::Place;
 pub use sort::sort_writes;
-pub use table::{places, target};
+pub use table::{is_to_level_one, level_one_run, level_zero_runs, places, target};

@@ -5,6 +5,7 @@ ghost use Rattle.clsm_levels.specs.Rule.{sources, KeepsByRule, MakesNext};
 ghost use Rattle.clsm_levels.specs.Pass.{RisesByKey, kept_after};
 
 use crate::entry::Entry;
+use crate::table::is_to_level_one;
 use std::alloc::{AllocError, Global};
 
 /// Whether a merge keeps the next entry by rising key, where entries of one key come the newest
@@ -60,7 +61,7 @@ fn sources(
     ensures { IfOk result (λ all. all.items ≡ sources merges epoch.now (map (λ r. r.items) runs.now)) }
 {
     let mut all = epoch.to_vec(alloc)?;
-    if merges % 4 == 3 {
+    if is_to_level_one(merges) {
         for run in runs {
             all.extend_from_slice(run)?;
         }
@@ -97,5 +98,5 @@ pub fn wanted(
         (λ run. MakesNext merges floor epoch.now (map (λ r. r.items) runs.now) run.items) }
 {
     let entries = merged(sources(alloc, merges, epoch, runs)?)?;
-    kept(alloc, floor, merges % 4 == 3, &entries)
+    kept(alloc, floor, is_to_level_one(merges), &entries)
 }

@@ -16,7 +16,7 @@ pub returns-clause-run : goal.returns-clause-run
 returns-clause-run c =
     let runs = map (λ (run : Vec Entry Global). run.items) c.args.runs.now in
     let sorted : c.deref.result.now ≡ merged (sources c.args.merges c.args.epoch.now runs) = c.deref.ensures.value ∙ c.in_ok-entries.ensures ∙ ap merged c.in_ok-sources.ensures in
-    IfOk-weaker c.kept.result (λ (run : Vec Entry Global). run.items ≡ kept c.args.floor (is_to_level_one c.args.merges) c.deref.result.now) (λ (run : Vec Entry Global). run.items ≡ wanted c.args.merges c.args.floor c.args.epoch.now runs) (λ run is. wanted_from_sources c.args.merges c.args.floor c.args.epoch.now runs c.deref.result.now run.items sorted is) c.kept.ensures
+    IfOk-weaker c.kept.result (λ (run : Vec Entry Global). run.items ≡ kept c.args.floor (is_to_level_one c.args.merges) c.deref.result.now) (λ (run : Vec Entry Global). run.items ≡ wanted c.args.merges c.args.floor c.args.epoch.now runs) (λ run is. wanted_from_sources c.args.merges c.args.floor c.args.epoch.now runs c.deref.result.now run.items sorted is) (rw c.is_to_level_one.ensures at c.kept.ensures)
 
 pub returns-clause-rule : goal.returns-clause-rule
 returns-clause-rule c =
