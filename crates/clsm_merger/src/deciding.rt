@@ -10,6 +10,7 @@ use crate::entries::{PlainEntry, entry_in};
 use crate::sources::{source_at, source_count};
 use crate::words::{target_of, word_at};
 use clsm_law::{Layout, MergerView, Word};
+use clsm_levels::is_to_level_one;
 use clsm_model::Slot;
 
 /// Whether this is the source with the number.
@@ -101,7 +102,7 @@ fn is_staying(
     if entry.time() >= merger.floor {
         return true;
     }
-    let is_needed = merger.merged % 4 != 3 || !entry.is_removal();
+    let is_needed = !is_to_level_one(merger.merged) || !entry.is_removal();
     is_needed && is_newest(layout, words, merger, slots, entry)
 }
 

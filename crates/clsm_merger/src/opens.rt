@@ -10,8 +10,8 @@ ghost use Rattle.clsm_law.specs.Deciding.{IsMergeable, IsMergerSmall, wanted_of,
 use crate::deciding::is_wanted_written;
 use crate::facts::{is_headless, is_orderless, is_padded, is_target_canonical};
 use crate::phases::{is_clean, is_frozen, is_retired};
-use crate::words::{epoch_end, is_named, retired_region, target_of, word_at};
-use clsm_law::{Items, LAST_LIMIT, Layout, MergerView, Reader, Step, Word};
+use crate::words::{epoch_end, retired_region, target_of, word_at};
+use clsm_law::{Items, LAST_LIMIT, Layout, MergerView, Reader, Step, Word, is_named};
 use clsm_model::{Slot, Time};
 
 fn is_all_quiet(readers: &Items<Reader>) -> bool

@@ -3,12 +3,13 @@ ghost use Rattle.clsm_law.specs.Layout.{memory};
 ghost use Rattle.clsm_law.specs.Deciding.{IsMergeable, search_order, searched_count, searched_entry, searched_total, source_at, source_count};
 
 use crate::entries::{PlainEntry, entry_in, entry_of_slot};
-use crate::words::{is_named, word_at};
-use clsm_law::{Layout, MergerView, Word};
+use crate::words::word_at;
+use clsm_law::{LEVEL_ONE, Layout, MergerView, Word, is_named};
+use clsm_levels::is_to_level_one;
 use clsm_model::Slot;
 
 /// All places, in the order in which those that are named are searched.
-const SEARCH_ORDER: [u64; 5] = [2, 1, 0, 3, 4];
+const SEARCH_ORDER: [u64; 5] = [2, 1, 0, LEVEL_ONE, LEVEL_ONE + 1];
 
 /// How many entries of the place are merged where all runs are.
 fn searched_count(layout: &Layout, words: &[u64], merger: &MergerView, place: u64) -> u64
@@ -63,7 +64,7 @@ pub(crate) fn source_count(layout: &Layout, words: &[u64], merger: &MergerView) 
     requires { IsMergeable layout.now words.now merger.now }
     ensures { result ≡ source_count layout.now words.now merger.now }
 {
-    let searched = if merger.merged % 4 == 3 {
+    let searched = if is_to_level_one(merger.merged) {
         searched_total(layout, words, merger)
     } else {
         0

@@ -1,11 +1,9 @@
 ghost use Rattle.std.specs.Prelude.{◌≡◌, ◌≤◌, ◌*◌, ◌+◌, ◌^◌, length};
 ghost use Rattle.clsm_law.specs.Layout.{memory, size_of};
-ghost use Rattle.clsm_law.specs.Places.{is_named};
 ghost use Rattle.clsm_law.specs.Merging.{epoch_end, retired_region, target_of};
 ghost use Rattle.clsm_law.specs.Deciding.{IsMergerSmall};
 
-use clsm_law::{Layout, MergerView, Word};
-use clsm_levels::Place;
+use clsm_law::{Layout, MergerView, Word, target_place};
 use clsm_model::Time;
 
 /// What stands in the word; 0 for a word that the machine has not.
@@ -20,25 +18,11 @@ pub fn word_at(layout: &Layout, words: &[u64], word: Word) -> u64
     }
 }
 
-/// Whether the readers of the component search the place.
-pub(crate) fn is_named(component: u64, place: u64) -> bool
-    ensures { result ≡ is_named component place }
-{
-    if place < 3 {
-        place < component % 4
-    } else {
-        place == 3 + component / 4 % 2
-    }
-}
-
 /// The number of the place that the next merge writes.
 pub(crate) fn target_of(merger: &MergerView) -> u64
     ensures { result ≡ target_of merger.now }
 {
-    match clsm_levels::target(merger.merged) {
-        Place::LevelZero(number) => number,
-        Place::LevelOne(number) => 3 + number,
-    }
+    target_place(merger.merged)
 }
 
 /// The region of the component that was retired.
