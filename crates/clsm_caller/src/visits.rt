@@ -1,9 +1,8 @@
 ghost use Rattle.std.specs.Prelude.{◌≡◌, ◌↔◌, IsTrue};
 ghost use Rattle.clsm_law.specs.Memory.{region_of_link};
-ghost use Rattle.clsm_law.specs.Places.{is_named};
 ghost use Rattle.clsm_law.specs.Relation.{HoldsFrom, IsCurrentRegion, IsLookable, IsNamedBy, MayVisit};
 
-use clsm_law::{Layout, Mode, View, Word};
+use clsm_law::{Layout, Mode, View, Word, is_named};
 use clsm_model::Time;
 
 /// Whether the component held reaches down to the time.
@@ -34,17 +33,6 @@ fn may_visit(layout: &Layout, view: &View, region: u64) -> bool
 {
     view.held.is_some()
         || view.mode != Mode::Free && is_current_region(layout, view.hold_limit, region)
-}
-
-/// Whether the readers of the component search the place.
-fn is_named(component: u64, place: u64) -> bool
-    ensures { result ≡ is_named component place }
-{
-    if place < 3 {
-        place < component % 4
-    } else {
-        place == 3 + component / 4 % 2
-    }
 }
 
 fn is_named_by(held: Option<u64>, place: u64) -> bool
