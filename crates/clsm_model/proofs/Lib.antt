@@ -5,4 +5,5 @@ pub mod Texts
 pub mod Equals
 pub mod EqualRecords
 pub mod Pages
+pub mod Rising
 pub mod Written

@@ -30,10 +30,22 @@ EachKey P pairs = AllByRecursion (λ pair. P pair.0) pairs
 abbrev passing : (ℕ → Bool) → List Pair → List Pair
 passing p pairs = filter (λ pair. p pair.0) pairs
 
+-- the pair of the key, and those behind it
+pub value_at-here : (x : Pair) (xs : List Pair) → value_at (x ∷ xs) x.0 ≡ Some x.1
+value_at-here x xs = ap (λ (b : Bool). cond b (Some x.1) (value_at xs x.0)) (eq-eqb x.0 x.0 refl)
+
+pub value_at-behind : (x : Pair) (xs : List Pair) (k : ℕ) → k ≢ x.0 → value_at (x ∷ xs) k ≡ value_at xs k
+value_at-behind x xs k ne = ap (λ (b : Bool). cond b (Some x.1) (value_at xs k)) (ne_eqb k x.0 ne)
+
 pub value_at-append : (xs ys : List Pair) (k : ℕ) → value_at (xs ++ ys) k ≡ or_else (value_at xs k) (value_at ys k)
 value_at-append [] ys k = refl
 value_at-append (x ∷ xs) ys k =
     elim (k == x.0) as (λ (b : Bool). cond b (Some x.1) (value_at (xs ++ ys) k) ≡ or_else (cond b (Some x.1) (value_at xs k)) (value_at ys k)) [ true ↦ refl | false ↦ value_at-append xs ys k ]
+
+-- with none behind it the first is what there is
+pub or_none : {A : Type 0} (o : Option A) → or_else o None ≡ o
+or_none None = refl
+or_none (Some x) = refl
 
 value_at-passing : (p : ℕ → Bool) (pairs : List Pair) (k : ℕ) → value_at (passing p pairs) k ≡ cond (p k) (value_at pairs k) None
 value_at-passing p pairs k =
@@ -146,15 +158,11 @@ is_range_of h s lo hi = IsRange-between h s lo hi (map_of h s) (is_map_of h s)
 
 -- ---- pages
 
-or_none : (o : Option (List ℕ)) → or_else o None ≡ o
-or_none None = refl
-or_none (Some words) = refl
-
 -- a key of the pairs has a value there
 pub each_below : (m : ℕ) (pairs : List Pair) → ((k : ℕ) → m ≤ k → value_at pairs k ≡ None) → EachKey (λ k. k < m) pairs
 each_below m [] none = tt
 each_below m (x ∷ xs) none = (
-  ⊎_elim (λ (lt : x.0 < m). lt) (λ (le : m ≤ x.0). let some : Some x.1 ≡ None = sym (ap (λ (b : Bool). cond b (Some x.1) (value_at xs x.0)) (eq-eqb x.0 x.0 refl)) ∙ none x.0 le in absurd (cc some)) (cases_lt x.0 m),
+  ⊎_elim (λ (lt : x.0 < m). lt) (λ (le : m ≤ x.0). let some : Some x.1 ≡ None = sym (value_at-here x xs) ∙ none x.0 le in absurd (cc some)) (cases_lt x.0 m),
   each_below m xs (λ k le. none_behind k le),
 )
   where
@@ -164,13 +172,6 @@ each_below m (x ∷ xs) none = (
 each_between : (lo hi : ℕ) (pairs : List Pair) → EachKey (λ k. lo ≤ k) (between lo hi pairs)
 each_between lo hi pairs = each-passing (λ k. nat_le lo k && nat_le k hi) (λ k. lo ≤ k) (λ k t. leb-true lo k (and_parts (nat_le lo k) (nat_le k hi) t).0) pairs
 
--- the pair of the key, and those behind it
-value_at-here : (key : ℕ) (words : List ℕ) (pairs : List Pair) → value_at ((key, words) ∷ pairs) key ≡ Some words
-value_at-here key words pairs = ap (λ (b : Bool). cond b (Some words) (value_at pairs key)) (eq-eqb key key refl)
-
-value_at-behind : (key k : ℕ) (words : List ℕ) (pairs : List Pair) → k ≢ key → value_at ((key, words) ∷ pairs) k ≡ value_at pairs k
-value_at-behind key k words pairs ne = ap (λ (b : Bool). cond b (Some words) (value_at pairs k)) (ne_eqb k key ne)
-
 -- the range from a key with a value on is that key, and the range behind it
 range_from : (h : History) (s more hi : ℕ) (words : List ℕ) → more ≤ hi → value h more s ≡ Some words → IsRange h s more hi ((more, words) ∷ between (suc more) hi (map_of h s))
 range_from h s more hi words high is =
@@ -179,11 +180,11 @@ range_from h s more hi words high is =
     record {
       rise = rise-cons (more, words) rest (each_weaker (λ k. suc more ≤ k) (λ k. more < k) (λ k lt. omega arith) rest (each_between (suc more) hi (map_of h s))) later.rise;
       inside = λ k from until. ⊎_elim
-          (λ (e : k ≡ more). ap (value_at ((more, words) ∷ rest)) e ∙ value_at-here more words rest ∙ sym is ∙ ap (λ (n : ℕ). value h n s) (sym e))
-          (λ (ne : k ≢ more). value_at-behind more k words rest ne ∙ later.inside k (omega arith) until)
+          (λ (e : k ≡ more). ap (value_at ((more, words) ∷ rest)) e ∙ value_at-here (more, words) rest ∙ sym is ∙ ap (λ (n : ℕ). value h n s) (sym e))
+          (λ (ne : k ≢ more). value_at-behind (more, words) rest k ne ∙ later.inside k (omega arith) until)
           (cases_eq k more);
-      below = λ k lt. value_at-behind more k words rest (λ e. omega arith) ∙ later.below k (omega arith);
-      above = λ k lt. value_at-behind more k words rest (λ e. omega arith) ∙ later.above k lt;
+      below = λ k lt. value_at-behind (more, words) rest k (λ e. omega arith) ∙ later.below k (omega arith);
+      above = λ k lt. value_at-behind (more, words) rest k (λ e. omega arith) ∙ later.above k lt;
     }
 
 -- rows up to a key that they leave out, and the range from that key on

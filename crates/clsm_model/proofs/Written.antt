@@ -9,24 +9,9 @@ use Rattle.clsm_model.specs.declared.record.Deed.TheVariants.{Put, Remove, Rmw, 
 use Rattle.clsm_model.specs.declared.record.CallRecord.{CallRecord}
 use Rattle.clsm_model.specs.Right.{write_by}
 use Rattle.clsm_model.specs.Seats.{HasWrite, IsNext, IsNextRead, Rises, due_after, open_after, writes_at}
+use Rattle.clsm_model.proofs.Rising.{due_grows}
 
 -- ---- one call
-
--- no call lowers the due
-due_grows : (due t : ℕ) (snapshot : Option ℕ) (deed : Deed) → IsNext due snapshot t deed → due ≤ due_after due snapshot t deed
-due_grows due t snapshot (Put key written) next = omega arith
-due_grows due t snapshot (Remove key) next = omega arith
-due_grows due t snapshot (Rmw key old Keep) next = next
-due_grows due t snapshot (Rmw key old (Set written)) next = omega arith
-due_grows due t snapshot (Rmw key old Erase) next = omega arith
-due_grows due t snapshot (Get key reply) next = next
-due_grows due t snapshot Snapshot next = next.1
-due_grows due t snapshot Close next = omega arith
-due_grows due t snapshot (GetAt key reply) next = omega arith
-due_grows due t None (Scan lo hi rows) next = next
-due_grows due t (Some s) (Scan lo hi rows) next = omega arith
-due_grows due t None (Page from hi max rows more) next = next
-due_grows due t (Some s) (Page from hi max rows more) next = omega arith
 
 -- a write stands at or above the due, and moves it past its time
 write_at : (i due t : ℕ) (snapshot : Option ℕ) (deed : Deed) → IsNext due snapshot t deed → is_some (write_by i deed) ≡ true → (due ≤ t) × (due_after due snapshot t deed ≡ t + 1)
