@@ -5,19 +5,10 @@ use Rattle.std.proofs.lemmas.List.{append-nil}
 use Rattle.std.proofs.lemmas.List.Elements.{filter-append}
 use Rattle.clsm_model.specs.declared.record.CallRecord.{CallRecord}
 use Rattle.clsm_model.specs.Seats.{due_after, last_due, last_open, open_after}
+use Rattle.clsm_model.proofs.Rising.{last_due-append, last_open-append}
 use Rattle.clsm_audit.specs.declared.seat.SeatState.{SeatState}
 use Rattle.clsm_audit.specs.Lawful.{calls_of}
 use Rattle.clsm_audit.specs.States.{AreStates, state_of}
-
--- ---- what a seat's calls leave, with one call more
-
-pub last_due-append : (due : ℕ) (snapshot : Option ℕ) (calls : List CallRecord) (r : CallRecord) → last_due due snapshot (calls ++ r ∷ []) ≡ due_after (last_due due snapshot calls) (last_open snapshot calls) r.time r.deed
-last_due-append due snapshot [] r = refl
-last_due-append due snapshot (c ∷ cs) r = last_due-append (due_after due snapshot c.time c.deed) (open_after snapshot c.time c.deed) cs r
-
-pub last_open-append : (snapshot : Option ℕ) (calls : List CallRecord) (r : CallRecord) → last_open snapshot (calls ++ r ∷ []) ≡ open_after (last_open snapshot calls) r.time r.deed
-last_open-append snapshot [] r = refl
-last_open-append snapshot (c ∷ cs) r = last_open-append (open_after snapshot c.time c.deed) cs r
 
 -- ---- the calls of each seat, with one record more
 

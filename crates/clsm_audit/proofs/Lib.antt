@@ -7,7 +7,6 @@ pub mod Passing
 pub mod Played
 pub mod Ranges
 pub mod Readings
-pub mod Same
 pub mod Seconds
 pub mod Slots
 pub mod Turns

@@ -8,6 +8,7 @@ use Rattle.clsm_model.specs.declared.record.Deed.TheVariants.{Put, Remove, Rmw, 
 use Rattle.clsm_model.specs.declared.slot.Change.TheVariants.{Keep, Set, Remove as Erase}
 use Rattle.clsm_model.specs.Right.{write_by}
 use Rattle.clsm_model.specs.Seats.{IsNext, Rises, due_after, last_due, last_open, open_after}
+use Rattle.clsm_model.proofs.Rising.{due_grows, last_grows}
 use Rattle.clsm_audit.specs.Lawful.{IsAtSnapshot, IsFromDue, calls_of, due_of, open_of}
 use Rattle.clsm_audit.specs.Written.{write_of}
 use Rattle.clsm_audit.proofs.Indices.{nobody}
@@ -83,22 +84,6 @@ open_later : (due due' : ℕ) (snapshot : Option ℕ) → due ≤ due' → IsOpe
 open_later due due' None le below = tt
 open_later due due' (Some s) le below = omega arith
 
--- no call lowers the due
-due_grows : (due t : ℕ) (snapshot : Option ℕ) (deed : Deed) → IsNext due snapshot t deed → due ≤ due_after due snapshot t deed
-due_grows due t snapshot (Put key written) next = omega arith
-due_grows due t snapshot (Remove key) next = omega arith
-due_grows due t snapshot (Rmw key old Keep) next = next
-due_grows due t snapshot (Rmw key old (Set written)) next = omega arith
-due_grows due t snapshot (Rmw key old Erase) next = omega arith
-due_grows due t snapshot (Get key reply) next = next
-due_grows due t snapshot Snapshot next = next.1
-due_grows due t snapshot Close next = omega arith
-due_grows due t snapshot (GetAt key reply) next = omega arith
-due_grows due t None (Scan lo hi rows) next = next
-due_grows due t (Some s) (Scan lo hi rows) next = omega arith
-due_grows due t None (Page from hi max rows more) next = next
-due_grows due t (Some s) (Page from hi max rows more) next = omega arith
-
 -- the snapshot that a call leaves open is not past the due that it leaves
 open_grows : (due t : ℕ) (snapshot : Option ℕ) (deed : Deed) → IsOpenBelow due snapshot → IsNext due snapshot t deed → IsOpenBelow (due_after due snapshot t deed) (open_after snapshot t deed)
 open_grows due t snapshot Snapshot below next = omega arith
@@ -125,13 +110,6 @@ time_below due t seat (Some s) (Page from hi max rows more) below next = omega a
 bound_later : (writes : Bool) (t bound bound' : ℕ) → bound ≤ bound' → MatchBool writes (t < bound) (t ≤ bound) → MatchBool writes (t < bound') (t ≤ bound')
 bound_later true t bound bound' le below = omega arith
 bound_later false t bound bound' le below = omega arith
-
-last_grows : (due : ℕ) (snapshot : Option ℕ) (calls : List CallRecord) → Rises due snapshot calls → due ≤ last_due due snapshot calls
-last_grows due snapshot [] rises = omega arith
-last_grows due snapshot (r ∷ rs) rises =
-    let next = due_grows due r.time snapshot r.deed rises.0 in
-    let rest = last_grows (due_after due snapshot r.time r.deed) (open_after snapshot r.time r.deed) rs rises.1 in
-    omega arith
 
 middle_below : (due bound : ℕ) (snapshot : Option ℕ) (before rest : List CallRecord) (r : CallRecord) → IsOpenBelow due snapshot → Rises due snapshot (before ++ r ∷ rest) → last_due due snapshot (before ++ r ∷ rest) ≤ bound → IsTimeBelow bound r
 middle_below due bound snapshot [] rest r below rises le =

@@ -1,33 +1,21 @@
 -- A range is told by its history: pairs that rise and have the same values are the same.
-use Rattle.std.proofs.Common.{◌≡◌, ◌≢◌, ℕ, ◌<◌, ◌≤◌, Bool, cond, Less, List, [], ◌∷◌, Some, None, refl, sym, ap, ◌∙◌, ⊎_elim, arith}
-use Rattle.std.proofs.lemmas.Bool.{cases_eq, cases_lt, eq-eqb, ne_eqb}
-use Rattle.std.proofs.lemmas.Bool.Decides.{nat_tests}
-use Rattle.std.proofs.lemmas.Map.Keys.{sorted_head, sorted_tail}
-use Rattle.std.specs.List.{AllByRecursion}
+use Rattle.std.proofs.Common.{◌≡◌, ◌≢◌, ℕ, ◌<◌, ◌≤◌, List, [], ◌∷◌, Some, None, refl, sym, ap, ◌∙◌, ⊎_elim, arith}
+use Rattle.std.proofs.lemmas.Bool.{cases_eq, cases_lt}
+use Rattle.std.proofs.lemmas.Map.Keys.{sorted_tail}
 use Rattle.std.specs.Map.{keys_of}
 use Rattle.std.specs.Ordering.{nat_cmp}
 use Rattle.clsm_model.specs.History.{History}
 use Rattle.clsm_model.specs.Map.{IsRange, KeysRise, Pair, value_at}
-
-less : (m n : ℕ) → nat_cmp m n ≡ Less → m < n
-less m n e = grind (arith, nat_tests)
+use Rattle.clsm_model.proofs.Pages.{EachKey, rise_first, value_at-behind, value_at-here}
 
 -- a key that is not above m has no value among keys above m
-none_above : (m k : ℕ) (pairs : List Pair) → k ≤ m → AllByRecursion (λ q. nat_cmp m q ≡ Less) (keys_of pairs) → value_at pairs k ≡ None
+none_above : (m k : ℕ) (pairs : List Pair) → k ≤ m → EachKey (λ q. m < q) pairs → value_at pairs k ≡ None
 none_above m k [] le above = refl
-none_above m k (x ∷ xs) le above =
-    let lt : m < x.0 = less m x.0 above.0 in
-    ap (λ (b : Bool). cond b (Some x.1) (value_at xs k)) (ne_eqb k x.0 (λ e. omega arith)) ∙ none_above m k xs le above.1
-
-value_at-here : (x : Pair) (xs : List Pair) → value_at (x ∷ xs) x.0 ≡ Some x.1
-value_at-here x xs = ap (λ (b : Bool). cond b (Some x.1) (value_at xs x.0)) (eq-eqb x.0 x.0 refl)
-
-value_at-behind : (x : Pair) (xs : List Pair) (k : ℕ) → k ≢ x.0 → value_at (x ∷ xs) k ≡ value_at xs k
-value_at-behind x xs k ne = ap (λ (b : Bool). cond b (Some x.1) (value_at xs k)) (ne_eqb k x.0 ne)
+none_above m k (x ∷ xs) le above = let lt = above.0 in value_at-behind x xs k (λ e. omega arith) ∙ none_above m k xs le above.1
 
 -- a key below the first has no value
 none_before : (x : Pair) (xs : List Pair) (k : ℕ) → KeysRise (x ∷ xs) → k < x.0 → value_at (x ∷ xs) k ≡ None
-none_before x xs k rise lt = value_at-behind x xs k (λ e. omega arith) ∙ none_above x.0 k xs (omega arith) (sorted_head nat_cmp x.0 (keys_of xs) rise)
+none_before x xs k rise lt = value_at-behind x xs k (λ e. omega arith) ∙ none_above x.0 k xs (omega arith) (rise_first x xs rise)
 
 -- the first of some rising pairs is not below the first of others with the same values
 first_not_below : {Q : Type 0} (x y : Pair) (xs ys : List Pair) → KeysRise (y ∷ ys) → value_at (x ∷ xs) x.0 ≡ value_at (y ∷ ys) x.0 → x.0 < y.0 → Q
@@ -37,7 +25,7 @@ first_not_below x y xs ys rise same lt = let clash : Some x.1 ≡ None = sym (va
 same_behind : (x y : Pair) (xs ys : List Pair) → KeysRise (x ∷ xs) → KeysRise (y ∷ ys) → ((k : ℕ) → value_at (x ∷ xs) k ≡ value_at (y ∷ ys) k) → x.0 ≡ y.0 → (k : ℕ) → value_at xs k ≡ value_at ys k
 same_behind x y xs ys rise rise' same e k =
     ⊎_elim
-    (λ (here : k ≡ x.0). none_above x.0 k xs (omega arith) (sorted_head nat_cmp x.0 (keys_of xs) rise) ∙ sym (none_above y.0 k ys (omega arith) (sorted_head nat_cmp y.0 (keys_of ys) rise')))
+    (λ (here : k ≡ x.0). none_above x.0 k xs (omega arith) (rise_first x xs rise) ∙ sym (none_above y.0 k ys (omega arith) (rise_first y ys rise')))
     (λ (ne : k ≢ x.0). sym (value_at-behind x xs k ne) ∙ same k ∙ value_at-behind y ys k (λ h. ne (h ∙ sym e)))
     (cases_eq k x.0)
 

@@ -14,6 +14,7 @@ use Rattle.clsm_model.specs.declared.slot.Slot.TheVariants.{Nothing, Wrote}
 use Rattle.clsm_model.specs.History.{plain, slot_at}
 use Rattle.clsm_model.specs.Right.{Reads, write_by}
 use Rattle.clsm_model.specs.Seats.{AreCallsIn, IsNext, IsRecordIn, IsRightRecord, StandsAs, writes_at}
+use Rattle.clsm_model.proofs.Histories.{IsRightDeed-reads, Reads-same}
 use Rattle.clsm_audit.specs.Faults.{HasNone, IsLawful, IsSecondAt}
 use Rattle.clsm_audit.specs.Lawful.{IsFromDue, IsFromDueAt, IsKnown, IsKnownAt, IsRightAt, calls_of, due_of, open_of}
 use Rattle.clsm_audit.specs.Whole.{HasHistory, IsInRange, IsPartOf}
@@ -21,7 +22,6 @@ use Rattle.clsm_audit.specs.Written.{IsWrittenBefore, WritesAt, history_of, writ
 use Rattle.clsm_audit.proofs.Indices.{here_if, if_here, itself, nobody, past_end}
 use Rattle.clsm_audit.proofs.Parts.{IsTimeBelow, at_snapshot, comes_next, from_due, is_below, of_each_call}
 use Rattle.clsm_audit.proofs.Passing.{found_in, two_in}
-use Rattle.clsm_audit.proofs.Same.{reads_same}
 use Rattle.clsm_audit.proofs.Seconds.{here_some, here_second, some_within}
 use Rattle.clsm_audit.proofs.Slots.{slot_at-none, slot_written}
 
@@ -152,8 +152,8 @@ module _ (config : Config) (records : List CallRecord) (has : HasHistory config 
 
   pub right : (i : ℕ) → IsRightAt records i
   right i = each_at (λ q. Reads (history_of records) q.time q.deed) i (λ within.
-      reads_same (plain has.history) (history_of records) same_slot (at i).time (at i).deed
-      (of_each_call (IsRightRecord (plain has.history)) records i (at i).seat within refl (part (at i).seat).right))
+      Reads-same (plain has.history) (history_of records) (at i).time (at i).deed (λ t lt. same_slot t)
+      (IsRightDeed-reads (plain has.history) (at i).time (at i).deed (of_each_call (IsRightRecord (plain has.history)) records i (at i).seat within refl (part (at i).seat).right)))
 
   -- ---- all of it
 

@@ -7,7 +7,7 @@ use Rattle.clsm_model.specs.declared.slot.Slot.{Slot}
 use Rattle.clsm_model.specs.declared.slot.Slot.TheVariants.{Nothing, Wrote}
 use Rattle.clsm_model.specs.History.{History, Write, left_by, newest, or_else, plain, slot_at, value, write_of}
 use mathlib.Core.List.{IsPrefix}
-use Rattle.clsm_law.proofs.Histories.{value-same}
+use Rattle.clsm_model.proofs.Histories.{value-same}
 use Rattle.clsm_words.specs.declared.known.Known.{Known}
 use Rattle.clsm_words.specs.Keeping.{Looks}
 use Rattle.clsm_memtable.specs.declared.found.Found.{Found}

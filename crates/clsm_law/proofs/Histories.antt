@@ -1,5 +1,4 @@
--- What a history says below a time depends on its slots below that time; so what is right in a past
--- stays right in each past that goes on from it.
+-- What is right in a past stays right in each past that goes on from it.
 use Rattle.std.proofs.Common.{◌≡◌, ◌≢◌, ℕ, zero, suc, ◌<◌, ◌≤◌, min, List, [], ◌∷◌, length, take, sym, refl, ap, ◌∙◌, subst, arith, add-one, Option, Some, None}
 use Rattle.std.specs.List.{AllByRecursion}
 use Rattle.std.specs.Option.{unwrap_or}
@@ -8,11 +7,11 @@ use Rattle.std.proofs.lemmas.List.{get_or-take, length-map, length-take, take_mo
 use Rattle.clsm_model.specs.declared.slot.Slot.{Slot}
 use Rattle.clsm_model.specs.declared.slot.Slot.TheVariants.{Nothing}
 use Rattle.clsm_model.specs.declared.record.Deed.{Deed}
-use Rattle.clsm_model.specs.declared.record.Deed.TheVariants.{Put, Remove, Rmw, Get, Snapshot, Close, GetAt, Scan, Page}
+use Rattle.clsm_model.specs.declared.record.Deed.TheVariants.{Put, Remove}
 use Rattle.clsm_model.specs.declared.record.CallRecord.{CallRecord}
-use Rattle.clsm_model.specs.History.{History, plain, IsInside, end_of, write_of, or_else, left_by, newest, value, slot_at as slot_of}
-use Rattle.clsm_model.specs.Map.{IsRange}
-use Rattle.clsm_model.specs.Right.{IsRight, Reads}
+use Rattle.clsm_model.specs.History.{History, plain, IsInside, end_of, slot_at as slot_of}
+use Rattle.clsm_model.specs.Right.{IsRight}
+use Rattle.clsm_model.proofs.Histories.{AreSameBelow, Reads-same}
 use Rattle.clsm_law.specs.Views.{IsShort, length_of}
 use Rattle.clsm_model.specs.Seats.{IsRightDeed, IsRightRecord}
 use Rattle.clsm_law.specs.Worlds.{outcome_at, settled, past_of, history_of}
@@ -23,38 +22,6 @@ use Rattle.clsm_law.specs.Worlds.{outcome_at, settled, past_of, history_of}
 pub at_most_eight : (written : Option (List ℕ)) → IsShort written → length_of written ≤ 8
 at_most_eight None is = omega arith
 at_most_eight (Some words) is = is.1
-
--- ---- a history below a time
-
--- the histories have the same slots below the time
-abbrev pub AreSameBelow : History → History → ℕ → Type 0
-AreSameBelow h h' s = (t : ℕ) → t < s → slot_of h' t ≡ slot_of h t
-
--- the newest write of a key below a time depends on the slots below it
-pub newest-same : (h h' : History) (k s : ℕ) → AreSameBelow h h' s → newest h' k s ≡ newest h k s
-newest-same h h' k zero same = refl
-newest-same h h' k (suc t) same = let now = same t (omega arith) in let before = newest-same h h' k t (λ u lt. same u (omega arith)) in
-    ap (λ a. or_else (write_of k t a) (newest h' k t)) now ∙ ap (or_else (write_of k t (slot_of h t))) before
-
--- and so does the value
-pub value-same : (h h' : History) (k s : ℕ) → AreSameBelow h h' s → value h' k s ≡ value h k s
-value-same h h' k s same = ap left_by (newest-same h h' k s same)
-
--- and the rows of a range
-pub IsRange-same : (h h' : History) (s lo hi : ℕ) (rows : List (ℕ × List ℕ)) → AreSameBelow h h' s → IsRange h s lo hi rows → IsRange h' s lo hi rows
-IsRange-same h h' s lo hi rows same r = record { rise = r.rise; inside = λ k a b. r.inside k a b ∙ sym (value-same h h' k s same); below = r.below; above = r.above }
-
--- so what a deed read below a time is the same in both
-pub Reads-same : (h h' : History) (s : ℕ) (deed : Deed) → AreSameBelow h h' s → Reads h s deed → Reads h' s deed
-Reads-same h h' s (Rmw key old change) same r = r ∙ sym (value-same h h' key s same)
-Reads-same h h' s (Get key reply) same r = r ∙ sym (value-same h h' key s same)
-Reads-same h h' s (GetAt key reply) same r = r ∙ sym (value-same h h' key s same)
-Reads-same h h' s (Scan lo hi rows) same r = IsRange-same h h' s lo hi rows same r
-Reads-same h h' s (Page from hi max rows more) same r = (r.0, IsRange-same h h' s from hi r.0 same r.1, r.2)
-Reads-same h h' s (Put key written) same r = tt
-Reads-same h h' s (Remove key) same r = tt
-Reads-same h h' s Snapshot same r = tt
-Reads-same h h' s Close same r = tt
 
 -- ---- a history that goes on
 

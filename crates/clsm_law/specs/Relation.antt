@@ -1,7 +1,7 @@
 -- The steps of a caller's seat, by cases in the order of the step's members: where each is open,
 -- its word, what it makes of the word, the view after it, the slots and chains after it, and its
 -- answer. `x` is the word that the step finds.
-use Rattle.std.specs.Prelude.{◌≡◌, ◌≢◌, ℕ, ◌+◌, ◌-◌, ◌*◌, ◌%◌, ◌^◌, ◌<◌, ◌≤◌, ◌==◌, ◌&&◌, ◌||◌, ◌⊎◌, Bool, true, false, not, cond, nat_lt, nat_le, max, List, [], ◌∷◌, ◌++◌, length, take, slice_index_or, slice_set, Option, Some, None, is_some}
+use Rattle.std.specs.Prelude.{◌≡◌, ◌≢◌, ℕ, ◌+◌, ◌-◌, ◌*◌, ◌%◌, ◌^◌, ◌<◌, ◌≤◌, ◌==◌, ◌&&◌, ◌||◌, ◌⊎◌, Bool, true, false, not, cond, nat_lt, nat_le, max, List, [], ◌∷◌, ◌++◌, take, slice_index_or, slice_set, Option, Some, None, is_some}
 use prog.Atomic.{either}
 use Rattle.clsm_model.specs.declared.slot.Slot.{Slot}
 use Rattle.clsm_model.specs.declared.slot.Slot.TheVariants.{Nothing, Wrote}

@@ -80,7 +80,7 @@ rise-cons x xs h r = sorted_from_strictly_increasing (keys_of (x ∷ xs)) (λ k 
   up (y ∷ ys) zero g i lt = g.0
   up (y ∷ ys) (suc k) g i lt = let next : suc k + 1 ≡ suc (k + 1) = omega arith in rw next (i k (omega arith))
 
-rise_first : (x : Pair) (xs : List Pair) → KeysRise (x ∷ xs) → EachKey (λ k. x.0 < k) xs
+pub rise_first : (x : Pair) (xs : List Pair) → KeysRise (x ∷ xs) → EachKey (λ k. x.0 < k) xs
 rise_first x xs r = above xs (sorted_head nat_cmp x.0 (keys_of xs) r) where
   less : (m n : ℕ) → nat_cmp m n ≡ Less → m < n
   less m n e = grind (arith, nat_tests)
