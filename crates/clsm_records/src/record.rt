@@ -1,5 +1,5 @@
-ghost use Rattle.std.specs.Prelude.{◌≡◌, IfOk};
-ghost use Rattle.clsm_text.specs.Line.{texts_of, words_of};
+ghost use Rattle.std.specs.Prelude.{IfOk};
+ghost use Rattle.clsm_text.specs.Line.{texts_of};
 ghost use Rattle.clsm_records.specs.Found.{Finds};
 ghost use Rattle.clsm_records.specs.Lines.{Reads};
 ghost use Rattle.clsm_records.specs.Record.{Say};
@@ -7,7 +7,7 @@ ghost use Rattle.clsm_records.specs.Record.{Say};
 use crate::deed::parse_deed;
 use crate::words::parse_seat;
 use clsm_model::CallRecord;
-use clsm_text::{LineError, parse_number};
+use clsm_text::{LineError, line_words, parse_number};
 use std::alloc::{AllocError, Global};
 
 /// What a line says, given without its line feed: a record, or `None` where it has no words or is
@@ -17,13 +17,9 @@ use std::alloc::{AllocError, Global};
 pub fn parse_record(alloc: Global, line: &[u8]) -> Result<Option<CallRecord>, LineError>
     ensures { Reads line.now result }
 {
-    let Ok(text) = std::str::from_utf8(line) else {
-        return Err(LineError::Bad);
-    };
-    let words = split_words(alloc, text)?;
-    if words.first().is_none_or(|word| word.starts_with('#')) {
+    let Some(words) = line_words(alloc, line)? else {
         return Ok(None);
-    }
+    };
     match parse_words(alloc, &words)? {
         Some(record) => Ok(Some(record)),
         None => Err(LineError::Bad),
@@ -44,13 +40,4 @@ fn parse_words(alloc: Global, words: &[&str]) -> Result<Option<CallRecord>, Allo
         return Ok(None);
     };
     Ok(Some(CallRecord { seat, time, deed }))
-}
-
-/// The words of a line, which one or more spaces part. Refused for want of memory.
-fn split_words(alloc: Global, line: &str) -> Result<Vec<&str>, AllocError>
-    ensures { IfOk result (λ words. texts_of words.items ≡ words_of line.now) }
-{
-    line.split(' ')
-        .filter(|word| !word.is_empty())
-        .collect(alloc)
 }

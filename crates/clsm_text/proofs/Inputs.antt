@@ -1,7 +1,7 @@
 -- An input is read line by line.
 use Rattle.std.proofs.Common.{◌≡◌, ◌≢◌, ◌↔◌, ℕ, ◌+◌, ◌-◌, ◌<◌, ◌≤◌, List, [], ◌∷◌, length, min}
 use Rattle.std.proofs.Common.{take, drop, get_or, Bool, false, true, IsTrue, Option, Some, None}
-use Rattle.std.proofs.Common.{Err, IfSome, All, ap, sym, subst, ◌∙◌, refl, inl, inr}
+use Rattle.std.proofs.Common.{IfSome, All, ap, sym, subst, ◌∙◌, refl, inl, inr}
 use Rattle.std.proofs.Common.{drop_of_length-le, arith}
 use Rattle.std.proofs.lemmas.Bool.Decides.{leb_tells}
 use Rattle.std.proofs.lemmas.List.{drop_more, length-drop, length-take, take-append-drop, take_all}
@@ -12,7 +12,7 @@ use Rattle.std.proofs.lemmas.Str.{IsUtf8-nil}
 use Rattle.std.specs.List.{position_or_len, after_first}
 use Rattle.clsm_text.specs.Failure.{failure_at, StopsReading}
 use Rattle.clsm_text.specs.Input.{is_line_feed, first_line, TakesLine}
-use Rattle.clsm_text.specs.Line.{lines_of, words_of, IsGood, IsBad, AllGood, IsFirstBad}
+use Rattle.clsm_text.specs.Line.{lines_of, IsGood, IsBad, AllGood, IsFirstBad}
 use Rattle.clsm_text.specs.declared.line.LineError.{LineError}
 use Rattle.clsm_text.specs.declared.line.LineError.TheVariants.{Bad, Memory}
 

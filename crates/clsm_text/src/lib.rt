@@ -10,6 +10,6 @@ mod shown;
 
 pub use failure::Failure;
 pub use input::read_line;
-pub use line::{LONGEST_LINE, LineError, plain_words};
+pub use line::{LONGEST_LINE, LineError, line_words, plain_words, split_words};
 pub use number::{parse_number, parse_value};
 pub use shown::{Shown, ShownRows};

@@ -1,4 +1,5 @@
 ghost use Rattle.std.specs.Prelude.{◌≡◌, Err, IfOk, OnOk, MatchOption};
+ghost use Rattle.std.specs.Str.{IsUtf8};
 ghost use Rattle.clsm_text.specs.Line.{texts_of, words_of, IsComment, IsText};
 ghost use Rattle.clsm_text.specs.declared.line.LineError.TheVariants.{Bad};
 
@@ -40,9 +41,9 @@ impl From<AllocError> for LineError {
     }
 }
 
-/// The words of a line that is given without its line feed, which one or more spaces part; `None`
-/// where it has no words or is a comment, which begins with `#`. It is refused as bad where it is
-/// longer than 4,096 bytes or is not UTF-8, and else only for want of memory.
+/// The words of a line that is given without its line feed; `None` where it has no words or is a
+/// comment, which begins with `#`. It is refused as bad where it is longer than 4,096 bytes or is
+/// not UTF-8, and else only for want of memory.
 pub fn plain_words(alloc: Global, line: &[u8]) -> Result<Option<Vec<&str>>, LineError>
     ensures text { OnOk result (IsText line.now) }
     ensures words { IfOk result (λ said. MatchOption said
@@ -53,6 +54,17 @@ pub fn plain_words(alloc: Global, line: &[u8]) -> Result<Option<Vec<&str>>, Line
     if line.len() > LONGEST_LINE {
         return Err(LineError::Bad);
     }
+    line_words(alloc, line)
+}
+
+/// The same of a line of any length, which is refused as bad only where it is not UTF-8.
+pub fn line_words(alloc: Global, line: &[u8]) -> Result<Option<Vec<&str>>, LineError>
+    ensures text { OnOk result (IsUtf8 line.now) }
+    ensures words { IfOk result (λ said. MatchOption said
+        (IsComment (words_of line.now))
+        (λ words. (¬ IsComment (words_of line.now)) × (texts_of words.items ≡ words_of line.now))) }
+    ensures bad { result ≡ Err Bad → ¬ IsUtf8 line.now }
+{
     let Ok(text) = std::str::from_utf8(line) else {
         return Err(LineError::Bad);
     };
@@ -63,8 +75,8 @@ pub fn plain_words(alloc: Global, line: &[u8]) -> Result<Option<Vec<&str>>, Line
     Ok(Some(words))
 }
 
-/// The words of a line, which one or more spaces part.
-fn split_words(alloc: Global, line: &str) -> Result<Vec<&str>, AllocError>
+/// The words of a line, which one or more spaces part. Refused for want of memory.
+pub fn split_words(alloc: Global, line: &str) -> Result<Vec<&str>, AllocError>
     ensures { IfOk result (λ words. texts_of words.items ≡ words_of line.now) }
 {
     line.split(' ')
