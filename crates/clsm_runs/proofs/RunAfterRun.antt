@@ -1,16 +1,13 @@
 -- A search of the runs of a component, one after the other.
 use Rattle.std.proofs.Common.{◌≡◌, ℕ, zero, suc, ◌+◌, ◌-◌, ◌/◌, ◌%◌, ◌<◌, List, refl, sym, ap, ◌∙◌, arith, Option, Some, None}
 use Rattle.clsm_model.specs.History.{or_else}
+use Rattle.clsm_model.proofs.Pages.{or_none}
 use Rattle.clsm_levels.specs.declared.entry.Entry.{Entry}
 use Rattle.clsm_levels.specs.Entry.{first_below}
 use Rattle.clsm_levels.specs.Run.{first_in_runs}
 use Rattle.clsm_law.specs.Memory.{Memory}
 use Rattle.clsm_law.specs.Places.{entries_in}
 use Rattle.clsm_runs.specs.Searching.{runs_below}
-
-or_none : (o : Option Entry) → or_else o None ≡ o
-or_none None = refl
-or_none (Some e) = refl
 
 -- the newest run of level 0 is searched first
 newest_first : (memory : Memory) (m key until j : ℕ) → 0 < j → first_in_runs (runs_below memory m j) key until ≡ or_else (first_below (entries_in memory (j - 1)) key until) (first_in_runs (runs_below memory m (j - 1)) key until)

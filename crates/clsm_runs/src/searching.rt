@@ -7,12 +7,10 @@ ghost use Rattle.clsm_words.specs.Keeping.{LooksAside};
 ghost use Rattle.clsm_words.specs.Plays.{IsSeatOf};
 
 use crate::finding::find;
-use clsm_levels::Entry;
+use clsm_law::level_one_place;
+use clsm_levels::{Entry, level_zero_runs};
 use clsm_model::Time;
 use clsm_words::{Pace, RawSeat, Words};
-
-/// The number of the first place of level 1.
-const LEVEL_ONE: u64 = 3;
 
 /// The newest entry of the key with a time below `until` in the runs of the held component: through
 /// the runs of level 0, the newest first, and then that of level 1, up to the first that has one.
@@ -31,11 +29,11 @@ pub fn search<P: Pace>(
     ensures looks { LooksAside seat.old.knows seat.new.knows }
     ensures found { result ≡ first_in_runs (runs_of (row_of seat.old.knows) component) key until }
 {
-    for place in (0..component % 4).rev() {
+    for place in (0..level_zero_runs(component)).rev() {
         if let Some(entry) = find(words, seat, component, place, key, until) {
             return Some(entry);
         }
     }
-    let place = LEVEL_ONE + component / 4 % 2;
+    let place = level_one_place(component);
     find(words, seat, component, place, key, until)
 }

@@ -3,6 +3,7 @@ use Rattle.std.proofs.Common.{◌≡◌, ℕ, zero, suc, ◌+◌, ◌/◌, ◌%�
 use Rattle.std.proofs.lemmas.Bool.{ltb-true}
 use Rattle.clsm_model.specs.History.{or_else}
 use Rattle.clsm_model.specs.Map.{Pair}
+use Rattle.clsm_model.proofs.Pages.{or_none}
 use Rattle.clsm_levels.specs.declared.entry.Entry.{Entry}
 use Rattle.clsm_levels.specs.Entry.{first_below}
 use Rattle.clsm_levels.specs.Run.{first_in_runs}
@@ -39,18 +40,14 @@ module _ (k : Known) (component until : ℕ) where
   zero_found : (place key : ℕ) → found_in (run_found k) (level_zero_cursor component place until) key ≡ zero_finds (component % 4) place key
   zero_found place key = elim (nat_lt place (component % 4)) as (λ (b : Bool). found_in (run_found k) (cond b (Some (record { component = component; place = place; until = until; position = 0 })) None) key ≡ cond b (first_below (run_at k place) key until) None) [ true ↦ refl | false ↦ refl ]
 
-  last_alone : (o : Option Entry) → or_else o None ≡ o
-  last_alone None = refl
-  last_alone (Some e) = refl
-
   abbrev one_finds : ℕ → Option Entry
   one_finds key = first_below (run_at k (3 + component / 4 % 2)) key until
 
   all_found : (j key : ℕ) → j < 4 → or_else (zero_finds j 2 key) (or_else (zero_finds j 1 key) (or_else (zero_finds j 0 key) (one_finds key))) ≡ first_in_runs (runs_below (row_of k) component j) key until
-  all_found zero key lt = sym (last_alone (one_finds key))
-  all_found (suc zero) key lt = ap (or_else (zero_finds 1 0 key)) (sym (last_alone (one_finds key)))
-  all_found (suc (suc zero)) key lt = ap (λ (o : Option Entry). or_else (zero_finds 2 1 key) (or_else (zero_finds 2 0 key) o)) (sym (last_alone (one_finds key)))
-  all_found (suc (suc (suc zero))) key lt = ap (λ (o : Option Entry). or_else (zero_finds 3 2 key) (or_else (zero_finds 3 1 key) (or_else (zero_finds 3 0 key) o))) (sym (last_alone (one_finds key)))
+  all_found zero key lt = sym (or_none (one_finds key))
+  all_found (suc zero) key lt = ap (or_else (zero_finds 1 0 key)) (sym (or_none (one_finds key)))
+  all_found (suc (suc zero)) key lt = ap (λ (o : Option Entry). or_else (zero_finds 2 1 key) (or_else (zero_finds 2 0 key) o)) (sym (or_none (one_finds key)))
+  all_found (suc (suc (suc zero))) key lt = ap (λ (o : Option Entry). or_else (zero_finds 3 2 key) (or_else (zero_finds 3 1 key) (or_else (zero_finds 3 0 key) o))) (sym (or_none (one_finds key)))
   all_found (suc (suc (suc (suc j)))) key lt = absurd (omega arith)
 
   pub runs_found : (key : ℕ) → or_else (found_in (run_found k) (level_zero_cursor component 2 until) key) (or_else (found_in (run_found k) (level_zero_cursor component 1 until) key) (or_else (found_in (run_found k) (level_zero_cursor component 0 until) key) (run_found k (level_one_cursor component until) key))) ≡ first_in_runs (runs_of (row_of k) component) key until

@@ -4,7 +4,7 @@ use Rattle.std.proofs.lemmas.Bool.{cases_lt}
 use Rattle.std.proofs.lemmas.Bool.Decides.{nat_tests}
 use Rattle.std.specs.Option.{option_eq}
 use Rattle.clsm_model.specs.History.{or_else}
-use Rattle.clsm_model.proofs.Pages.{EachKey, each-append, each_weaker, rise-append, rise-cons, rise-nil, value_at-append}
+use Rattle.clsm_model.proofs.Pages.{EachKey, each-append, each_weaker, or_none, rise-append, rise-cons, rise-nil, value_at-append}
 use Rattle.clsm_model.specs.Map.{KeysRise, Pair, value_at}
 use Rattle.clsm_levels.specs.declared.entry.Entry.{Entry}
 use Rattle.clsm_levels.specs.Entry.{value_of}
@@ -18,10 +18,6 @@ ArePassed value from to = (k : ℕ) → from ≤ k → k < to → value k ≡ No
 -- nothing is found from one key on and below another
 abbrev AreEmpty : (ℕ → Option Entry) → ℕ → ℕ → Type 0
 AreEmpty found from to = (k : ℕ) → from ≤ k → k < to → found k ≡ None
-
-or_else_none : {A : Type 0} (o : Option A) → or_else o None ≡ o
-or_else_none None = refl
-or_else_none (Some x) = refl
 
 absurd_order : {A : Type 0} {lo : ℕ} (k : ℕ) → lo ≤ k → k < lo → A
 absurd_order k le lt = absurd (omega arith)
@@ -65,7 +61,7 @@ module _ (found found' : ℕ → Option Entry) (from sought : ℕ) (same : (k : 
 value_pushed_other : (rows : List Pair) (row : Pair) (k : ℕ) → (k == row.0) ≡ false → value_at (rows ++ row ∷ []) k ≡ value_at rows k
 value_pushed_other rows row k other =
     let alone : value_at (row ∷ []) k ≡ None = rw other refl in
-    value_at-append rows (row ∷ []) k ∙ ap (or_else (value_at rows k)) alone ∙ or_else_none (value_at rows k)
+    value_at-append rows (row ∷ []) k ∙ ap (or_else (value_at rows k)) alone ∙ or_none (value_at rows k)
 
 value_pushed_here : (rows : List Pair) (row : Pair) → value_at rows row.0 ≡ None → value_at (rows ++ row ∷ []) row.0 ≡ Some row.1
 value_pushed_here rows row none =

@@ -11,6 +11,8 @@ use crate::cursor::Cursor;
 use crate::epoch_cursor::EpochCursor;
 use crate::merged::Merged;
 use crate::run_cursor::RunCursor;
+use clsm_law::level_one_place;
+use clsm_levels::level_zero_runs;
 use clsm_memtable::Epoch;
 use clsm_model::{Memory, Time};
 use clsm_words::{Pace, RawSeat, Words};
@@ -26,9 +28,6 @@ type Runs = Merged<
 /// Cursors over all of a component, the newest first: its later epoch and the one before, as far as
 /// they begin below the time of the scan, and its runs.
 type Sources = Merged<Option<EpochCursor>, Merged<Option<EpochCursor>, Runs>>;
-
-/// The number of the first place of level 1.
-const LEVEL_ONE: u64 = 3;
 
 /// The cursor over the epoch's writes below the time, if it begins below that.
 fn epoch_below(
@@ -56,7 +55,7 @@ fn epoch_below(
 fn level_zero(component: u64, place: u64, until: Time) -> Option<RunCursor>
     ensures { result ≡ level_zero_cursor component place until }
 {
-    if place < component % 4 {
+    if place < level_zero_runs(component) {
         Some(RunCursor::new(component, place, until))
     } else {
         None
@@ -72,10 +71,9 @@ fn sources<P: Pace>(words: &Words<P>, component: u64, until: Time) -> Sources
     let first = component.saturating_mul(cells);
     let second = first.saturating_add(cells);
     let later = component.saturating_add(1);
-    let level_one = LEVEL_ONE + component / 4 % 2;
     let oldest = Merged::new(
         level_zero(component, 0, until),
-        RunCursor::new(component, level_one, until),
+        RunCursor::new(component, level_one_place(component), until),
     );
     let older = Merged::new(level_zero(component, 1, until), oldest);
     let runs = Merged::new(level_zero(component, 2, until), older);

@@ -34,5 +34,5 @@ returns-clause-found g c =
     let k = c.args.seat.now.knows in
     let place = 3 + c.args.component / 4 % 2 in
     let run : IsSearchable k c.args.component place = record { held = c.requires.held; named = names_one c.args.component } in
-    let found = found_stays k c.loop-place.seat.knows c.args.component place c.args.key c.args.until c.find-2.result c.loop-place.invariant.looks.looks run c.find-2.ensures.found in
+    let found = found_stays k c.loop-place.seat.knows c.args.component place c.args.key c.args.until c.find-2.result c.loop-place.invariant.looks.looks run (rw c.level_one_place-place.ensures at c.find-2.ensures.found) in
     found_last (row_of k) c.args.component c.args.key c.args.until c.loop-place.place (runs_of (row_of k) c.args.component) c.loop-place.invariant.searched c.find-2.result (omega arith) found
