@@ -6,7 +6,7 @@ use Rattle.clsm_law.specs.declared.word.Word.{Word}
 use Rattle.clsm_law.specs.declared.word.Word.TheVariants.{Count, Entry as EntryWord}
 use Rattle.clsm_law.specs.declared.step.Step.TheVariants.{Look, WriteRun}
 use Rattle.clsm_law.specs.Memory.{is_same}
-use Rattle.clsm_law.specs.Merging.{IsRunWord, merger_after}
+use Rattle.clsm_law.specs.Merging.{is_frozen, IsRunWord, merger_after}
 use Rattle.clsm_law.proofs.Cases.{by_bool}
 use Rattle.clsm_law.proofs.Frames.{put_other}
 use Rattle.clsm_law.proofs.LayoutWords.{same_word}
@@ -17,18 +17,19 @@ use Rattle.clsm_words.specs.Merging.{FollowsMerger, IsOwn, facts_known}
 use Rattle.clsm_words.proofs.Keeps.{prefix_trans}
 
 pub changes_none : (Those : Word → Type 0) (k : Known) → Changes Those k k
-changes_none Those k = record { layout = refl; view = refl; past = ([], append-nil k.past); stays = λ word run not. refl }
+changes_none Those k = record { layout = refl; view = refl; trail = λ _. refl; past = ([], append-nil k.past); stays = λ word run not. refl }
 
 pub changes_trans : (Those : Word → Type 0) (a b c : Known) → Changes Those a b → Changes Those b c → Changes Those a c
 changes_trans Those a b c h k = record {
   layout = k.layout ∙ h.layout;
   view = k.view ∙ h.view;
+  trail = λ frozen. k.trail (ap (λ (m : MergerView). is_frozen m.phase) h.view ∙ frozen) ∙ h.trail frozen;
   past = prefix_trans a.past b.past c.past h.past k.past;
   stays = λ word run not. k.stays word run not ∙ h.stays word run not;
 }
 
 pub changes_more : (Those These : Word → Type 0) (a b : Known) → ((word : Word) → Those word → These word) → Changes Those a b → Changes These a b
-changes_more Those These a b more h = record { layout = h.layout; view = h.view; past = h.past; stays = λ word run not. h.stays word run (λ those. not (more word those)) }
+changes_more Those These a b more h = record { layout = h.layout; view = h.view; trail = h.trail; past = h.past; stays = λ word run not. h.stays word run (λ those. not (more word those)) }
 
 -- ---- steps
 
@@ -52,6 +53,7 @@ pub looks_only : (k k' : Known) (word : Word) (x : ℕ) → FollowsMerger (Look 
 looks_only k k' word x follows view = record {
   layout = follows.layout;
   view = follows.view ∙ view;
+  trail = λ frozen. follows.trail frozen (ap (λ (m : MergerView). is_frozen m.phase) (follows.view ∙ view) ∙ frozen);
   past = follows.longer;
   stays = λ other run not. look_leaves k k' word x follows other run;
 }
@@ -61,6 +63,7 @@ pub writes_only : (k k' : Known) (word : Word) (w x : ℕ) → FollowsMerger (Wr
 writes_only k k' word w x follows = record {
   layout = follows.layout;
   view = follows.view;
+  trail = λ frozen. follows.trail frozen (ap (λ (m : MergerView). is_frozen m.phase) follows.view ∙ frozen);
   past = follows.longer;
   stays = λ other here not. follows.stays other (run_is_own k.layout k.merger other here) ∙ put_other (row_of k) word other w not;
 }

@@ -54,8 +54,8 @@ newcomer_seated z words m slots chains orders views number lt is = record {
 }
 
 -- the merger's seat at the opening
-new_merging : (z : Layout) → IsMerging z (opened z).words (opening_merger z) [] (new_merger z)
-new_merging z = record {
+new_merging : (z : Layout) (orders : Orders) → IsMerging z (opened z).words (opening_merger z) [] orders (new_merger z)
+new_merging z orders = record {
   layout = refl;
   unseated = refl;
   view = refl;
@@ -63,17 +63,21 @@ new_merging z = record {
   reaches = omega arith;
   sized = (opened_lawful z (is_layout z)).size;
   row = λ word own. refl;
+  trail = λ frozen. absurd cc;
 }
+
+abbrev opening_lawful : (z : Layout) (words : List ℕ) → words ≡ (opened z).words → IsLawful (world_of z words (replicate z.seats (idle z)) (opening_merger z) [])
+opening_lawful z words e = subst (λ (ws : List ℕ). IsLawful (world_of z ws (replicate z.seats (idle z)) (opening_merger z) [])) (sym e) (opened_lawful z (is_layout z))
 
 pub opens : (z : Layout) (words : List ℕ) → words ≡ (opened z).words → Ruled z (opening words [] (new_merger z))
 opens z words e = record {
   views = replicate z.seats (idle z);
   merger = opening_merger z;
   slots = [];
-  lawful = subst (λ (ws : List ℕ). IsLawful (world_of z ws (replicate z.seats (idle z)) (opening_merger z) [])) (sym e) (opened_lawful z (is_layout z));
+  lawful = opening_lawful z words e;
   seats = record {
     seated = λ i k e' sat. absurd (let m : false ≡ k.seated = ap (λ (k : Known). k.seated) (only i k e').1 in cc (m, sat));
-    merging = λ i k e' _. subst (λ (y : List ℕ × Known). IsMerging z y.0 (opening_merger z) [] y.1) (λ m. (sym e m, (only i k e').1 m)) (new_merging z);
+    merging = λ i k e' _. subst (λ (y : List ℕ × Known). IsMerging z y.0 (opening_merger z) [] (opening_lawful z words e).orders y.1) (λ m. (sym e m, (only i k e').1 m)) (new_merging z (opening_lawful z words e).orders);
     told = λ i k e'. subst (λ (k : Known). IsTold [] k.told k.heard) (only i k e').1 (untold []);
     apart = λ i j k k' e' f' _ _ _. (only i k e').0 ∙ sym (only j k' f').0;
     dealer = λ i k e' _. subst (λ (k : Known). IsDealing z (replicate z.seats (idle z)) (new_merger z ∷ []) k.dealt) (only i k e').1 record {
@@ -96,7 +100,7 @@ fresh_sound z number lt = let r = opens z (opened z).words refl in sound_of (ope
 
 pub new_sound : (z : Layout) → IsSoundMerger (new_merger z)
 unfolding opens
-new_sound z = sound_merger (opening (opened z).words [] (new_merger z)) (new_merger z) (opens z (opened z).words refl) (new_merging z) refl
+new_sound z = sound_merger (opening (opened z).words [] (new_merger z)) (new_merger z) (opens z (opened z).words refl) (new_merging z (opens z (opened z).words refl).lawful.orders) refl
 
 pub learns_sound : (k m : Known) → Sound k → Sound (learns k m)
 learns_sound k m s = record { seated = s.seated; inside = s.inside; there = s.there; small = s.small; rows = s.rows; length_is = s.length_is; agrees = s.agrees; right = s.right; rising = s.rising; in_time = s.in_time; own_region = s.own_region; own_places = λ p drawn some known. let h = s.own_places p drawn some known in record { inside = h.inside; region = h.region }; opened = s.opened; reads = λ c held. let h = s.reads c held in record { near = h.near; below_merged = h.below_merged; below_snapshot = h.below_snapshot; runs = h.runs }; keyed = s.keyed; spotted = λ p key has. let h = s.spotted p key has in record { epoch = h.epoch; walked = h.walked; some = h.some; inside = h.inside; region = h.region } }
@@ -136,8 +140,8 @@ like_seated z words m slots chains orders views o j l h = record {
   spots = subst (λ (y : View × List Spot). (p key : ℕ) → HasSpot y.1 p key → IsSpot z (memory z words) orders y.0.held y.0.past p key) (λ i. (l.view i, l.spots i)) h.spots;
 }
 
-like_merging : (z : Layout) (words : List ℕ) (m : MergerView) (slots : List (Option Slot)) (o j : Known) → Like o j → IsMerging z words m slots o → IsMerging z words m slots j
-like_merging z words m slots o j l h = record {
+like_merging : (z : Layout) (words : List ℕ) (m : MergerView) (slots : List (Option Slot)) (orders : Orders) (o j : Known) → Like o j → IsMerging z words m slots orders o → IsMerging z words m slots orders j
+like_merging z words m slots orders o j l h = record {
   layout = sym l.layout ∙ h.layout;
   unseated = sym l.seated ∙ h.unseated;
   view = sym l.merger ∙ h.view;
@@ -145,6 +149,7 @@ like_merging z words m slots o j l h = record {
   reaches = subst (λ (past : List Slot). known_end z m (length slots) ≤ length past) l.past h.reaches;
   sized = subst (λ (row : List ℕ). length row ≡ size_of z) l.row h.sized;
   row = subst (λ (row : List ℕ). (word : Word) → IsOwn z m word → memory z row word ≡ memory z words word) l.row h.row;
+  trail = λ frozen. sym l.trail ∙ h.trail frozen;
 }
 
 -- the merger's seat deals the callers' seats, one after another
@@ -195,7 +200,7 @@ module _ (id : ℕ) (k : Known) (merges : k.merges ≡ true) (room : k.dealt < k
         (λ (h : (i ≡ length mid) × (right ≡ j)). subst (IsSeated k.layout s.words r.merger r.slots r.lawful.chains r.lawful.orders r.views) h.1 right_seated)
         (split i j e);
     merging = λ i j e p. ⊎_elim
-        (λ (o : Old i j). like_merging k.layout s.words r.merger r.slots o.0 j o.2 (r.seats.merging i o.0 o.1 (o.2.merges ∙ p)))
+        (λ (o : Old i j). like_merging k.layout s.words r.merger r.slots r.lawful.orders o.0 j o.2 (r.seats.merging i o.0 o.1 (o.2.merges ∙ p)))
         (λ (h : (i ≡ length mid) × (right ≡ j)). absurd (merges_not j h.1 p))
         (split i j e);
     told = λ i j e. ⊎_elim
@@ -251,7 +256,7 @@ module _ (z : Layout) (words : List ℕ) (m : MergerView) (slots : List (Option 
     regroup : AreSeats z words m slots chains orders views b
     regroup = record {
       seated = λ i j e sat. let w = sat_was i j e sat in like_seated z words m slots chains orders views w.0 j w.2 (q.seated i w.0 w.1 (w.2.seated ∙ sat));
-      merging = λ i j e p. let w = merged_was i j e p in like_merging z words m slots w.0 j w.2 (q.merging i w.0 w.1 (w.2.merges ∙ p));
+      merging = λ i j e p. let w = merged_was i j e p in like_merging z words m slots orders w.0 j w.2 (q.merging i w.0 w.1 (w.2.merges ∙ p));
       told = λ i j e. ⊎_elim (λ (m : IsMessenger slots j). m.2) (λ (w : Was i j). w.4) (back i j e);
       apart = λ i i' j j' e e' sat sat' same. let w = sat_was i j e sat in let w' = sat_was i' j' e' sat' in q.apart i i' w.0 w'.0 w.1 w'.1 (w.2.seated ∙ sat) (w'.2.seated ∙ sat') (w.2.number ∙ same ∙ sym w'.2.number);
       dealer = λ i j e p. let w = merged_was i j e p in let d = q.dealer i w.0 w.1 (w.2.merges ∙ p) in record {

@@ -5,6 +5,7 @@ pub mod HeldRuns
 pub mod Trails
 pub mod Spots
 pub mod Owned
+pub mod Listed
 pub mod MergerFacts
 pub mod MergerKnows
 pub mod MergerPlayed

@@ -16,7 +16,7 @@ use Rattle.clsm_words.specs.Merging.{IsOwn, OpensToMerger, FollowsMerger}
 use Rattle.clsm_words.specs.Ruled.{Ruled}
 use Rattle.clsm_words.proofs.Beginnings.{begins_prefix}
 use Rattle.clsm_words.proofs.MergerKnows.{sound_merger}
-use Rattle.clsm_words.proofs.MergerPlayed.{me_merging, finds_word, found, made, word, next, slots', after, told_stays, next_past, longer_past, next_merging, same_memory, ruled'}
+use Rattle.clsm_words.proofs.MergerPlayed.{me_merging, finds_word, found, made, word, next, slots', after, told_stays, next_past, longer_past, next_merging, trail_stays, same_memory, ruled'}
 use Rattle.clsm_words.proofs.MergerTelling.{tells_merger}
 
 module _ (s : State ℕ Known) (id : ℕ) (k : Known) (r : Ruled k.layout s) (at : get_elem? s.views id ≡ some k) (merges : k.merges ≡ true) (step : Step) (o : OpensToMerger k step) where
@@ -40,6 +40,7 @@ module _ (s : State ℕ Known) (id : ℕ) (k : Known) (r : Ruled k.layout s) (at
     made = (λ i. same_memory s id k r at merges step o i (word s id k r at merges step o)) ∙ put_here (memory k.layout s.words) (word s id k r at merges step o) (made s id k r at merges step o);
     stays = stays_known;
     longer = begins_prefix (slots' s id k r at merges step o) k.past (next s id k r at merges step o).past (told_stays s id k r at merges step o k.past (me_merging s id k r at merges step o).past) (next_past s id k r at merges step o) (longer_past s id k r at merges step o);
+    trail = trail_stays s id k r at merges step o;
     tells = tells_merger s id k r at merges step o;
     sound = sound_merger (after s id k r at merges step o) (next s id k r at merges step o) (ruled' s id k r at merges step o) (next_merging s id k r at merges step o) merges;
   }

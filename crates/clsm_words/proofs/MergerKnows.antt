@@ -1,7 +1,8 @@
 -- What the rule says of the merger's seat, the seat knows.
-use Rattle.std.proofs.Common.{◌≡◌, ℕ, ◌+◌, ◌*◌, ◌≤◌, true, false, Bool, cond, length, map, refl, sym, ap, ◌∙◌, subst, arith, Some}
+use Rattle.std.proofs.Common.{◌≡◌, ℕ, ◌+◌, ◌*◌, ◌<◌, ◌≤◌, true, false, Bool, cond, List, length, get_or, map, refl, sym, ap, ◌∙◌, subst, arith, Some}
 use Rattle.atomic_table.specs.Table.{State}
 use Rattle.clsm_model.specs.declared.slot.Slot.{Slot}
+use Rattle.clsm_model.specs.declared.slot.Slot.TheVariants.{Nothing}
 use Rattle.clsm_model.specs.History.{plain}
 use Rattle.clsm_levels.specs.Content.{AgreeBelow}
 use Rattle.clsm_law.specs.declared.word.Word.TheVariants.{Clock}
@@ -10,7 +11,7 @@ use Rattle.clsm_law.specs.declared.merger.MergerView.{MergerView}
 use Rattle.clsm_law.specs.Memory.{is_word}
 use Rattle.clsm_law.specs.Layout.{memory}
 use Rattle.clsm_law.specs.Merging.{is_frozen, epoch_end, IsOpenToMerger, word_of_merger}
-use Rattle.clsm_law.specs.Worlds.{history_of, facts_of}
+use Rattle.clsm_law.specs.Worlds.{history_of, outcome_at, facts_of}
 use Rattle.clsm_law.specs.Law.{AreRuns}
 use Rattle.clsm_law.specs.Deciding.{IsMergeable}
 use Rattle.clsm_law.specs.Machine.{WorldState}
@@ -22,10 +23,11 @@ use Rattle.clsm_law.proofs.Stepped.{lawful_ground}
 use Rattle.clsm_law.proofs.WordsThere.{word_there'}
 use Rattle.clsm_words.specs.declared.known.Known.{Known}
 use Rattle.clsm_words.specs.Knowing.{row_of}
-use Rattle.clsm_words.specs.Merging.{OpensToMerger, known_end, IsSoundMerger}
-use Rattle.clsm_words.specs.Ruled.{world_of, IsMerging, Ruled}
+use Rattle.clsm_words.specs.Merging.{OpensToMerger, known_end, IsSoundMerger, IsListed}
+use Rattle.clsm_words.specs.Ruled.{world_of, IsMerging, Ruled, frozen_times}
 use Rattle.clsm_words.proofs.Beginnings.{begins_at, begins_bound, begins_settled}
-use Rattle.clsm_words.proofs.MergerFacts.{same_places, open_known}
+use Rattle.clsm_words.proofs.Listed.{times_few, times_inside, times_standing, times_rise}
+use Rattle.clsm_words.proofs.MergerFacts.{same_places, open_known, free_if_frozen}
 
 -- all merged epochs are known
 merged_known : (exclusive frozen : Bool) (merged n clock past : ℕ) → merged * n ≤ clock → cond exclusive clock (cond frozen ((merged + 1) * n) (merged * n)) ≤ past → merged * n ≤ past
@@ -33,7 +35,7 @@ merged_known true frozen merged n clock past begun reaches = omega arith
 merged_known false true merged n clock past begun reaches = omega arith
 merged_known false false merged n clock past begun reaches = reaches
 
-module _ (s : State ℕ Known) (k : Known) (r : Ruled k.layout s) (ok : IsMerging k.layout s.words r.merger r.slots k) where
+module _ (s : State ℕ Known) (k : Known) (r : Ruled k.layout s) (ok : IsMerging k.layout s.words r.merger r.slots r.lawful.orders k) where
   abbrev pub world : WorldState
   world = world_of k.layout s.words r.views r.merger r.slots
 
@@ -81,6 +83,25 @@ module _ (s : State ℕ Known) (k : Known) (r : Ruled k.layout s) (ok : IsMergin
       let all : length r.slots ≤ length k.past = subst (λ (b : Bool). cond b (length r.slots) (cond (is_frozen r.merger.phase) (epoch_end k.layout r.merger) (r.merger.merged * k.layout.cells)) ≤ length k.past) e ok.reaches in
       let bound = begins_bound r.slots k.past ok.past in omega arith
 
+  -- while an epoch is frozen its times are known, and the trail is its list
+  end_known : is_frozen r.merger.phase ≡ true → epoch_end k.layout r.merger ≤ length k.past
+  end_known frozen = let free = free_if_frozen setting (row_of k) k.past ok.row ok.past ok.reaches frozen in subst (λ (n : ℕ). n ≤ length k.past) (rw (free, frozen) refl) ok.reaches
+
+  listed_there : is_frozen r.merger.phase ≡ true → IsListed (record k { merger = r.merger; trail = frozen_times k.layout r.merger r.lawful.orders })
+  listed_there frozen =
+      let end = end_known frozen in
+      let bound = begins_bound r.slots k.past ok.past in
+      let known : (t : ℕ) → t < epoch_end k.layout r.merger → outcome_at r.slots t ≡ Some (get_or k.past t Nothing) = λ t lt. begins_at r.slots k.past ok.past t (omega arith) in
+      record {
+        few = times_few setting frozen;
+        inside = times_inside setting frozen;
+        standing = λ t i key written from until is. times_standing setting frozen t i key written from until (known t until ∙ ap (λ (a : Slot). Some a) is);
+        rise = times_rise setting frozen k.past known (omega arith);
+      }
+
+  listed_of : is_frozen r.merger.phase ≡ true → IsListed k
+  listed_of frozen = subst (λ (y : MergerView × List ℕ). IsListed (record k { merger = y.0; trail = y.1 })) (λ i. (sym ok.view i, sym (ok.trail frozen) i)) (listed_there frozen)
+
   pub sound_merger : k.merges ≡ true → IsSoundMerger k
   sound_merger merges = record {
     merges = merges;
@@ -91,4 +112,5 @@ module _ (s : State ℕ Known) (k : Known) (r : Ruled k.layout s) (ok : IsMergin
     mergeable = subst (IsMergeable k.layout k.row) (sym ok.view) mergeable;
     runs = subst (λ (m : MergerView). AreRuns k.layout (row_of k) (plain k.past) m.merged m.merged_floor) (sym ok.view) runs_known;
     short = λ t i key written lt e. r.lawful.law.short t i key written (begins_at r.slots k.past ok.past t lt ∙ ap (λ (a : Slot). Some a) e);
+    listed = λ frozen. listed_of (ap (λ (m : MergerView). is_frozen m.phase) (sym ok.view) ∙ frozen);
   }

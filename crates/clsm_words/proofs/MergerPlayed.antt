@@ -32,8 +32,9 @@ use Rattle.clsm_law.proofs.Stepped.{lawful_ground}
 use Rattle.clsm_words.specs.declared.known.Known.{Known}
 use Rattle.clsm_words.specs.Knowing.{row_of, IsHeldEpoch, IsNamedWord}
 use Rattle.clsm_words.specs.Merging.{facts_known, OpensToMerger, known_end}
-use Rattle.clsm_words.specs.Ruled.{world_of, HasFloor, IsSpot, IsSeated, Begins, IsMerging, AreSeats, Ruled}
+use Rattle.clsm_words.specs.Ruled.{world_of, HasFloor, IsSpot, IsSeated, Begins, IsMerging, AreSeats, Ruled, frozen_times}
 use Rattle.clsm_words.proofs.Beginnings.{HaveGrown, begins_stay, begins_length, decided_stay}
+use Rattle.clsm_words.proofs.Listed.{trail_merged}
 use Rattle.clsm_words.proofs.MergerFacts.{after_known}
 use Rattle.clsm_words.proofs.Trails.{walked_apart, ends_walked}
 use Rattle.clsm_words.proofs.Spots.{spot_merged}
@@ -80,7 +81,7 @@ named_stays g step o i c held (Entry place entry part) named = (places_stay g st
 named_stays g step o i c held w named = absurd named.0
 
 module _ (s : State ℕ Known) (id : ℕ) (k : Known) (r : Ruled k.layout s) (at : get_elem? s.views id ≡ some k) (merges : k.merges ≡ true) (step : Step) (o : OpensToMerger k step) where
-  pub me_merging : IsMerging k.layout s.words r.merger r.slots k
+  pub me_merging : IsMerging k.layout s.words r.merger r.slots r.lawful.orders k
   me_merging = r.seats.merging id k at merges
 
   abbrev pub before : Ground
@@ -108,12 +109,15 @@ module _ (s : State ℕ Known) (id : ℕ) (k : Known) (r : Ruled k.layout s) (at
   abbrev pub words' : List ℕ
   words' = set s.words (index_of k.layout word) made
 
+  abbrev pub orders' : Orders
+  orders' = orders_after_merger r.lawful.orders step
+
   -- the past goes on to where the merger knows the times
   abbrev pub until' : ℕ
   until' = max (length k.past) (known_end k.layout view' (length slots'))
 
   abbrev pub next : Known
-  next = record k { merger = view'; row = words'; past = take until' (settled slots') }
+  next = record k { merger = view'; row = words'; trail = frozen_times k.layout view' orders'; past = take until' (settled slots') }
 
   abbrev pub after : State ℕ Known
   after = record { words = words'; homes = s.homes; views = set s.views id next }
@@ -149,9 +153,6 @@ module _ (s : State ℕ Known) (id : ℕ) (k : Known) (r : Ruled k.layout s) (at
   abbrev pub chains' : Chains
   chains' = chains_after_merger r.lawful.chains step
 
-  abbrev pub orders' : Orders
-  orders' = orders_after_merger r.lawful.orders step
-
   abbrev pub lawful' : IsLawful (world_of k.layout words' r.views view' slots')
   lawful' = record {
     sound = r.lawful.sound;
@@ -184,7 +185,7 @@ module _ (s : State ℕ Known) (id : ℕ) (k : Known) (r : Ruled k.layout s) (at
   unfolding next_past
   past_long = begins_length slots' next.past next_past
 
-  pub next_merging : IsMerging k.layout words' view' slots' next
+  pub next_merging : IsMerging k.layout words' view' slots' orders' next
   next_merging = record {
     layout = refl;
     unseated = me_merging.unseated;
@@ -193,7 +194,16 @@ module _ (s : State ℕ Known) (id : ℕ) (k : Known) (r : Ruled k.layout s) (at
     reaches = let e = past_long in omega arith;
     sized = lawful'.size;
     row = λ w own. refl;
+    trail = λ frozen. refl;
   }
+
+  -- its trail stays while an epoch is frozen
+  pub trail_stays : is_frozen k.merger.phase ≡ true → is_frozen view'.phase ≡ true → next.trail ≡ k.trail
+  trail_stays frozen still =
+      let was : is_frozen r.merger.phase ≡ true = ap (λ (m : MergerView). is_frozen m.phase) (sym me_merging.view) ∙ frozen in
+      ap (λ (m : MergerView). frozen_times k.layout m orders') there_view
+      ∙ trail_merged before step opens was (ap (λ (m : MergerView). is_frozen m.phase) (sym there_view) ∙ still)
+      ∙ sym (me_merging.trail was)
 
   pub longer_past : length k.past ≤ length next.past
   longer_past = let e = past_long in omega arith
@@ -264,7 +274,7 @@ module _ (s : State ℕ Known) (id : ℕ) (k : Known) (r : Ruled k.layout s) (at
         (λ (t : (i ≡ id) × (next ≡ j)). let mine : k.seated ≡ true = ap (λ (y : Known). y.seated) t.1 ∙ sat in absurd (let f = me_merging.unseated in cc (f, mine)))
         (λ (t : (i ≢ id) × (get_elem? s.views i ≡ some j)). seated_stays j (r.seats.seated i j t.1 sat)) (back i j e);
     merging = λ i j e p. ⊎_elim
-        (λ (t : (i ≡ id) × (next ≡ j)). subst (IsMerging k.layout words' view' slots') t.1 next_merging)
+        (λ (t : (i ≡ id) × (next ≡ j)). subst (IsMerging k.layout words' view' slots' orders') t.1 next_merging)
         (λ (t : (i ≢ id) × (get_elem? s.views i ≡ some j)). absurd (t.0 (r.seats.one i id j k t.1 at p merges))) (back i j e);
     told = λ i j e. let w = was i j e in let h = r.seats.told i w.old w.stood in record { begins = subst (Begins slots') w.told (told_stays w.old.told h.begins); below = let a = h.below in let e = w.heard in let g = grown.longer in omega arith };
     apart = λ i i' j j' e e' a a' q. let w = was i j e in let w' = was i' j' e' in r.seats.apart i i' w.old w'.old w.stood w'.stood (w.seated ∙ a) (w'.seated ∙ a') (w.number ∙ q ∙ sym w'.number);

@@ -1,31 +1,34 @@
 -- What a look of the merger's finds, by what the law says of the word.
-use Rattle.std.proofs.Common.{◌≡◌, ℕ, ◌*◌, ◌<◌, ◌≤◌, true, nat_lt, List, length, get_or, refl, sym, ap, ◌∙◌, subst, arith, Option, Some}
+use Rattle.std.proofs.Common.{◌≡◌, ℕ, ◌-◌, ◌*◌, ◌%◌, ◌<◌, ◌≤◌, true, nat_lt, List, length, get_or, refl, sym, ap, ◌∙◌, subst, arith, Option, Some}
 use Rattle.std.proofs.lemmas.Bool.{and_parts}
+use Rattle.std.proofs.lemmas.Nat.{mod_below}
 use mathlib.Core.Option.{some}
 use lib.ListN.{get_elem?}
 use Rattle.atomic_table.specs.Table.{State}
 use Rattle.clsm_model.specs.declared.slot.Slot.{Slot}
 use Rattle.clsm_model.specs.declared.slot.Slot.TheVariants.{Nothing}
-use Rattle.clsm_law.specs.declared.word.Word.TheVariants.{Cell, State as StateOf}
+use Rattle.clsm_law.specs.declared.word.Word.TheVariants.{Cell, Order, State as StateOf}
 use Rattle.clsm_law.specs.declared.step.Step.{Step}
 use Rattle.clsm_law.specs.declared.step.Step.TheVariants.{Look}
 use Rattle.clsm_law.specs.declared.merger.MergerView.{MergerView}
-use Rattle.clsm_law.specs.Memory.{cell_of, is_part}
+use Rattle.clsm_law.specs.Memory.{cell_of, link_at, link_of, is_part}
 use Rattle.clsm_law.specs.Layout.{memory}
 use Rattle.clsm_law.specs.Merging.{is_frozen, epoch_end}
 use Rattle.clsm_law.specs.Worlds.{outcome_at}
 use Rattle.clsm_law.specs.Law.{Shows}
+use Rattle.clsm_law.specs.Reading.{time_in}
 use Rattle.clsm_law.proofs.Frames.{slot_below}
 use Rattle.clsm_law.proofs.KeptDecided.{frozen_decided}
 use Rattle.clsm_law.proofs.Setting.{shown_below_merged}
 use Rattle.clsm_words.specs.declared.known.Known.{Known}
-use Rattle.clsm_words.specs.Knowing.{row_of, IsPartOf}
-use Rattle.clsm_words.specs.Merging.{OpensToMerger, IsFrozenIn, TellsMerger}
-use Rattle.clsm_words.specs.Ruled.{Ruled}
+use Rattle.clsm_words.specs.Knowing.{row_of, IsPartOf, LeadsTo}
+use Rattle.clsm_words.specs.Merging.{OpensToMerger, IsFrozenIn, IsRestFrom, TellsMerger}
+use Rattle.clsm_words.specs.Ruled.{Ruled, frozen_times}
 use Rattle.clsm_words.proofs.Beginnings.{begins_at}
+use Rattle.clsm_words.proofs.Listed.{links_lead, own_place}
 use Rattle.clsm_words.proofs.MergerFacts.{free_if_frozen}
 use Rattle.clsm_words.proofs.Telling.{shown_state, shown_part}
-use Rattle.clsm_words.proofs.MergerPlayed.{me_merging, before, found, slots', next, next_past, longer_past, finds_word}
+use Rattle.clsm_words.proofs.MergerPlayed.{me_merging, there_view, before, found, slots', next, next_past, longer_past, finds_word}
 
 module _ (s : State ℕ Known) (id : ℕ) (k : Known) (r : Ruled k.layout s) (at : get_elem? s.views id ≡ some k) (merges : k.merges ≡ true) where
   -- the merger knows the times of the frozen epoch
@@ -63,4 +66,15 @@ module _ (s : State ℕ Known) (id : ℕ) (k : Known) (r : Ruled k.layout s) (at
       subst (IsPartOf slot part) (sym (finds_word s id k r at merges (Look (Cell cell part)) o))
       (shown_part (memory k.layout s.words) cell slot part (and_parts (nat_lt cell (2 * k.layout.cells)) (is_part part) o).1
       (frozen_shown (Look (Cell cell part)) o cell t refl known))
+  tells_merger (Look (Order link)) o = λ p rest frozen is behind.
+      let me = me_merging s id k r at merges (Look (Order link)) o in
+      let g = before s id k r at merges (Look (Order link)) o in
+      let view = there_view s id k r at merges (Look (Order link)) o in
+      let frozen' : is_frozen r.merger.phase ≡ true = ap (λ (m : MergerView). is_frozen m.phase) (sym view) ∙ frozen in
+      let region = r.merger.merged % 2 in
+      let leads = links_lead k.layout (link_of (memory k.layout s.words) region) (λ q. time_in k.layout r.merger.merged (q - 1)) 0 (r.lawful.orders region)
+          (r.lawful.law.ordered region (mod_below r.merger.merged 2 (omega arith))) (own_place g frozen') p rest
+          (subst (λ (m : MergerView). IsRestFrom k.layout 0 (frozen_times k.layout m r.lawful.orders) p rest) view behind) in
+      subst (λ (x : ℕ). LeadsTo k.layout x rest)
+      (ap (λ (m : MergerView). memory k.layout s.words (Order (link_at (m.merged % 2) p))) (sym view) ∙ ap (λ (n : ℕ). memory k.layout s.words (Order n)) (sym is) ∙ sym (finds_word s id k r at merges (Look (Order link)) o)) leads
   tells_merger step o = tt

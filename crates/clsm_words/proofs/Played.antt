@@ -1,5 +1,5 @@
 -- What the words and the seats are after an open step of a seat.
-use Rattle.std.proofs.Common.{◌≡◌, ◌≢◌, ℕ, ◌<◌, ◌≤◌, ◌*◌, ◌%◌, ◌⊎◌, true, cond, List, length, take, get_or, set, sym, refl, ap, ◌∙◌, subst, arith, ⊎_elim, Option, None, get_or-set_same, get_or-set_other, length-set}
+use Rattle.std.proofs.Common.{◌≡◌, ◌≢◌, ℕ, ◌-◌, ◌<◌, ◌≤◌, ◌*◌, ◌%◌, ◌⊎◌, true, cond, List, length, map, take, get_or, set, sym, refl, ap, ◌∙◌, subst, arith, ⊎_elim, Option, None, get_or-set_same, get_or-set_other, length-set}
 use mathlib.Core.Option.{some}
 use lib.ListN.{get_elem?}
 use Rattle.atomic_table.specs.Table.{State}
@@ -15,6 +15,7 @@ use Rattle.clsm_law.specs.Relation.{Chains, Orders, word_of, changed, view_after
 use Rattle.clsm_law.specs.Worlds.{view_at, outcome_at, settled}
 use Rattle.clsm_law.specs.Memory.{Memory, key_at, is_word}
 use Rattle.clsm_law.specs.Law.{LawOf, In}
+use Rattle.clsm_law.specs.Reading.{time_in}
 use Rattle.clsm_law.specs.Merging.{is_frozen, epoch_end, IsRunWord}
 use Rattle.clsm_law.specs.Machine.{WorldState, IsLawful, memory_of}
 use Rattle.clsm_law.proofs.Growth.{slots_stay, longer}
@@ -29,8 +30,9 @@ use Rattle.clsm_law.proofs.KeptRuns.{seat_same}
 use Rattle.clsm_words.specs.declared.known.Known.{Known}
 use Rattle.clsm_words.specs.Knowing.{Opens}
 use Rattle.clsm_words.specs.Merging.{IsOwn, known_end}
-use Rattle.clsm_words.specs.Ruled.{world_of, IsSpot, IsSeated, Begins, IsMerging, AreSeats, Ruled}
+use Rattle.clsm_words.specs.Ruled.{world_of, IsSpot, IsSeated, Begins, IsMerging, AreSeats, Ruled, frozen_times}
 use Rattle.clsm_words.proofs.Beginnings.{HaveGrown, begins_stay, decided_stay}
+use Rattle.clsm_words.proofs.Listed.{list_kept}
 use Rattle.clsm_words.proofs.Owned.{own_kept}
 use Rattle.clsm_words.proofs.Trails.{trail_after, region_after, chain_after, floor_after, ends_stay, own_ends, own_line, own_floor}
 use Rattle.clsm_words.proofs.Spots.{spots_after, own_spots, spot_kept}
@@ -197,7 +199,7 @@ module _ (s : State ℕ Known) (id : ℕ) (k : Known) (r : Ruled k.layout s) (at
       }) (back i j e)
 
   -- what the merger knows of its own words stays
-  merging_row : (j : Known) → IsMerging k.layout s.words r.merger r.slots j → (w : Word) → IsOwn k.layout r.merger w → memory k.layout j.row w ≡ memory k.layout words' w
+  merging_row : (j : Known) → IsMerging k.layout s.words r.merger r.slots r.lawful.orders j → (w : Word) → IsOwn k.layout r.merger w → memory k.layout j.row w ≡ memory k.layout words' w
   merging_row j h w is = h.row w is ∙ sym (own_kept before step opens w is) ∙ sym (λ i. same_memory i w)
 
   -- and the clock, while it holds the lock
@@ -208,7 +210,11 @@ module _ (s : State ℕ Known) (id : ℕ) (k : Known) (r : Ruled k.layout s) (at
   known_stays = by_bool (λ b. cond b (length slots') (cond (is_frozen r.merger.phase) (epoch_end k.layout r.merger) (r.merger.merged * k.layout.cells)) ≡ cond b (length r.slots) (cond (is_frozen r.merger.phase) (epoch_end k.layout r.merger) (r.merger.merged * k.layout.cells))) r.merger.exclusive
       clock_stays (λ _. refl)
 
-  merging_stays : (j : Known) → IsMerging k.layout s.words r.merger r.slots j → IsMerging k.layout words' r.merger slots' j
+  -- and the list of a frozen epoch
+  list_stays : is_frozen r.merger.phase ≡ true → frozen_times k.layout r.merger orders' ≡ frozen_times k.layout r.merger r.lawful.orders
+  list_stays frozen = ap (map (λ p. time_in k.layout r.merger.merged (p - 1))) (sym (λ i. same_orders i (r.merger.merged % 2)) ∙ list_kept before step opens frozen)
+
+  merging_stays : (j : Known) → IsMerging k.layout s.words r.merger r.slots r.lawful.orders j → IsMerging k.layout words' r.merger slots' orders' j
   merging_stays j h = record {
     layout = h.layout;
     unseated = h.unseated;
@@ -217,9 +223,10 @@ module _ (s : State ℕ Known) (id : ℕ) (k : Known) (r : Ruled k.layout s) (at
     reaches = let e = known_stays in let a = h.reaches in omega arith;
     sized = h.sized;
     row = merging_row j h;
+    trail = λ frozen. h.trail frozen ∙ sym (list_stays frozen);
   }
 
-  merging' : (i : ℕ) (j : Known) → get_elem? after.views i ≡ some j → j.merges ≡ true → IsMerging k.layout words' r.merger slots' j
+  merging' : (i : ℕ) (j : Known) → get_elem? after.views i ≡ some j → j.merges ≡ true → IsMerging k.layout words' r.merger slots' orders' j
   merging' i j e p = ⊎_elim
       (λ (t : (i ≡ id) × (next ≡ j)). let mine : k.merges ≡ true = ap (λ (y : Known). y.merges) t.1 ∙ p in absurd (let f = (r.seats.merging id k at mine).unseated in cc (f, sits)))
       (λ (t : (i ≢ id) × (get_elem? s.views i ≡ some j)). merging_stays j (r.seats.merging i j t.1 p)) (back i j e)

@@ -1,6 +1,6 @@
 -- The rule of the words: there is a lawful world that has them, and each seat at them has the view
 -- of its number there.
-use Rattle.std.specs.Prelude.{true, false, ◌≡◌, ◌≢◌, ℕ, ◌+◌, ◌%◌, ◌<◌, ◌≤◌, ◌⊎◌, List, [], ◌++◌, length, take, Option, Some, None}
+use Rattle.std.specs.Prelude.{true, false, ◌≡◌, ◌≢◌, ℕ, ◌+◌, ◌-◌, ◌%◌, ◌<◌, ◌≤◌, ◌⊎◌, List, [], ◌++◌, length, map, take, Option, Some, None}
 use mathlib.Core.Option.{some}
 use lib.ListN.{get_elem?}
 use Rattle.atomic_table.specs.Table.{State}
@@ -14,7 +14,8 @@ use Rattle.clsm_law.specs.Memory.{Memory, key_at}
 use Rattle.clsm_law.specs.Views.{idle}
 use Rattle.clsm_law.specs.Relation.{Chains, Orders}
 use Rattle.clsm_law.specs.Law.{In}
-use Rattle.clsm_law.specs.Merging.{is_retired}
+use Rattle.clsm_law.specs.Reading.{time_in}
+use Rattle.clsm_law.specs.Merging.{is_frozen, is_retired}
 use Rattle.clsm_law.specs.Worlds.{view_at, outcome_at, settled}
 use Rattle.clsm_law.specs.Machine.{WorldState, IsLawful}
 use Rattle.clsm_words.specs.declared.known.Known.{Known}
@@ -71,9 +72,14 @@ pub record IsTold (slots : List (Option Slot)) (told : List Slot) (heard : ℕ) 
   pub begins : Begins slots told
   pub below : heard ≤ length slots
 
+-- the times of the list of the epoch that is merged next
+abbrev pub frozen_times : Layout → MergerView → Orders → List ℕ
+frozen_times z m orders = map (λ p. time_in z m.merged (p - 1)) (orders (m.merged % 2))
+
 -- what is so of the merger's seat in the world: its view is the merger's there, it knows what times
--- came to as far as it says, and it knows what stands in the words that only it changes
-pub record IsMerging (z : Layout) (words : List ℕ) (m : MergerView) (slots : List (Option Slot)) (k : Known) : Type 0 where
+-- came to as far as it says, and it knows what stands in the words that only it changes; while an
+-- epoch is frozen its trail is that of the epoch's list
+pub record IsMerging (z : Layout) (words : List ℕ) (m : MergerView) (slots : List (Option Slot)) (orders : Orders) (k : Known) : Type 0 where
   pub layout : k.layout ≡ z
   pub unseated : k.seated ≡ false
   pub view : k.merger ≡ m
@@ -81,6 +87,7 @@ pub record IsMerging (z : Layout) (words : List ℕ) (m : MergerView) (slots : L
   pub reaches : known_end z m (length slots) ≤ length k.past
   pub sized : length k.row ≡ size_of z
   pub row : (word : Word) → IsOwn z m word → memory z k.row word ≡ memory z words word
+  pub trail : is_frozen m.phase ≡ true → k.trail ≡ frozen_times z m orders
 
 -- the callers' seats from this number on are not dealt, and idle
 pub record IsDealing (z : Layout) (views : List View) (seats : List Known) (dealt : ℕ) : Type 0 where
@@ -90,7 +97,7 @@ pub record IsDealing (z : Layout) (views : List View) (seats : List Known) (deal
 -- the seats: no two callers have one number, and one seat merges and deals
 pub record AreSeats (z : Layout) (words : List ℕ) (m : MergerView) (slots : List (Option Slot)) (chains : Chains) (orders : Orders) (views : List View) (seats : List Known) : Type 0 where
   pub seated : (i : ℕ) (k : Known) → get_elem? seats i ≡ some k → k.seated ≡ true → IsSeated z words m slots chains orders views k
-  pub merging : (i : ℕ) (k : Known) → get_elem? seats i ≡ some k → k.merges ≡ true → IsMerging z words m slots k
+  pub merging : (i : ℕ) (k : Known) → get_elem? seats i ≡ some k → k.merges ≡ true → IsMerging z words m slots orders k
   pub told : (i : ℕ) (k : Known) → get_elem? seats i ≡ some k → IsTold slots k.told k.heard
   pub apart : (i j : ℕ) (k k' : Known) → get_elem? seats i ≡ some k → get_elem? seats j ≡ some k' → k.seated ≡ true → k'.seated ≡ true → k.number ≡ k'.number → i ≡ j
   pub dealer : (i : ℕ) (k : Known) → get_elem? seats i ≡ some k → k.merges ≡ true → IsDealing z views seats k.dealt
