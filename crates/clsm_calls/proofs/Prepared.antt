@@ -5,13 +5,8 @@ use Rattle.std.proofs.lemmas.List.{get_or_append_left}
 use Rattle.clsm_model.specs.declared.slot.Slot.{Slot}
 use Rattle.clsm_model.specs.declared.slot.Slot.TheVariants.{Nothing}
 use Rattle.clsm_levels.specs.declared.entry.Entry.{Entry}
-use Rattle.clsm_levels.specs.Entry.{AreBelow, entries_of}
+use Rattle.clsm_levels.specs.Entry.{entries_of}
 use Rattle.clsm_levels.specs.Merge.{merged}
-use Rattle.clsm_levels.specs.Run.{IsRun}
-use Rattle.clsm_levels.proofs.Every.{every_weaker}
-use Rattle.clsm_levels.proofs.Histories.{entries_below, entries_fall, length-entries_of}
-use Rattle.clsm_levels.proofs.Merges.{every-merged, length-merged}
-use Rattle.clsm_levels.proofs.Orders.{run-merged, times_fall-of_key}
 use Rattle.clsm_law.specs.declared.layout.Layout.{Layout}
 use Rattle.clsm_law.specs.declared.merger.MergerView.{MergerView}
 use Rattle.clsm_law.specs.declared.word.Word.{Word}
@@ -23,6 +18,7 @@ use Rattle.clsm_words.specs.declared.known.Known.{Known}
 use Rattle.clsm_words.specs.Knowing.{row_of}
 use Rattle.clsm_words.specs.Merging.{IsSoundMerger}
 use Rattle.clsm_words.proofs.MergerFacts.{entries_below as entries_agree, settled_known}
+use Rattle.clsm_memtable.specs.Frozen.{epoch_row}
 use Rattle.clsm_memtable.proofs.FrozenTimes.{frozen_known}
 use Rattle.clsm_calls.specs.declared.merger_seat.MergerSeat.{MergerSeat}
 use Rattle.clsm_calls.specs.Freezing.{IsFrozen}
@@ -51,31 +47,9 @@ module _ (k k' : Known) (sound : IsSoundMerger k) (frozen : is_frozen k.merger.p
 pub runs_stay : (k k' : Known) → k'.merger.merged ≡ k.merger.merged → ((word : Word) → IsRunWord word → row_of k' word ≡ row_of k word) → runs_known k' ≡ runs_known k
 runs_stay k k' merged same = ap (runs_of (row_of k')) merged ∙ runs_same (row_of k) (row_of k') k.merger.merged (λ p named. record { count = same (Count p) tt; words = λ e i. same (EntryWord p e i) tt })
 
--- ---- the epoch's writes, sorted
-
-module _ (k : Known) (sound : IsSoundMerger k) where
-  abbrev first : ℕ
-  first = k.merger.merged * k.layout.cells
-
-  abbrev end : ℕ
-  end = epoch_end k.layout k.merger
-
-  sorted_is : merged (epoch_known k) ≡ merged (entries_of k.past first end)
-  sorted_is = ap (λ (l : List Entry). merged l) (epoch_is k)
-
-  pub sorted_run : IsRun (merged (epoch_known k))
-  sorted_run = subst IsRun (sym sorted_is) (run-merged (entries_of k.past first end) (times_fall-of_key (entries_of k.past first end) (entries_fall k.past first end)))
-
-  pub sorted_early : AreBelow (2 ^ 62) (merged (epoch_known k))
-  sorted_early = subst (AreBelow (2 ^ 62)) (sym sorted_is) (every-merged (λ (e : Entry). e.time < 2 ^ 62) (entries_of k.past first end)
-      (every_weaker (λ (e : Entry). e.time < end) (λ e. e.time < 2 ^ 62) (λ e lt. let small = sound.mergeable.small.merged in omega arith) (entries_of k.past first end) (entries_below k.past first end)))
-
-  pub sorted_few : length (merged (epoch_known k)) ≤ k.layout.cells
-  sorted_few =
-      let same = ap (λ (l : List Entry). length l) sorted_is in
-      let long = length-merged (entries_of k.past first end) in
-      let few = length-entries_of k.past first end in
-      omega arith
+-- what the merge reads of the epoch are its writes by rising key
+pub row_is : (k : Known) → epoch_row k ≡ merged (epoch_known k)
+row_is k = ap (λ (es : List Entry). merged es) (sym (epoch_is k))
 
 -- ---- the whole
 

@@ -34,12 +34,12 @@ frozen_of m = record { merger = merger_of m; floor = m.floor; rounds = m.raw.kno
 abbrev pub retired_of : MergerSeat → RetiredState
 retired_of m = record { merger = merger_of m; floor = m.floor; rounds = m.raw.knows.merger.rounds; readers = m.seen.items }
 
--- it knows its floor, which is not past the end of the epoch of the next merge, and has room for a
--- merge
+-- it knows its floor, which is not past the end of the epoch of the next merge, and its walk has
+-- room for an epoch
 pub record IsReady (m : MergerSeat) : Type 0 where
   pub floor : m.floor ≡ m.raw.knows.merger.floor
   pub early : m.floor ≤ (m.merges + 1) * m.raw.knows.layout.cells
-  pub room : m.raw.knows.layout.cells ≤ vec_capacity m.row
+  pub room : m.raw.knows.layout.cells ≤ vec_capacity m.walk.group
   pub seats : length m.seen.items ≡ m.raw.knows.layout.seats
 
 -- an epoch stays frozen, though the merger may have taken another floor

@@ -2,7 +2,7 @@
 ghost use Rattle.std.specs.Prelude.{◌≡◌};
 
 use clsm_law::Reader;
-use clsm_levels::Entry;
+use clsm_memtable::FrozenWalk;
 use clsm_model::Time;
 use clsm_words::RawMerger;
 
@@ -14,9 +14,8 @@ pub struct MergerSeat {
     pub merges: u64,
     /// The floor that the last merge took.
     pub floor: Time,
-    /// The row in which a merge sorts the writes of an epoch: empty between merges, with room for
-    /// an epoch.
-    pub row: Vec<Entry>,
+    /// The walk along the list of a frozen epoch, with room for the times of an epoch.
+    pub walk: FrozenWalk,
     /// What was noted of each seat since the last merge.
     pub seen: Vec<Reader>,
 }

@@ -17,3 +17,5 @@ pub mod Walks
 pub mod Shown
 pub mod Turns
 pub mod EpochWrites
+pub mod FrozenLists
+pub mod FrozenWalks

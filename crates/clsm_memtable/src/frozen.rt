@@ -1,15 +1,13 @@
-//! The writes of a frozen epoch, as the merger reads them.
-ghost use Rattle.std.specs.Prelude.{◌≡◌, ◌*◌, ◌+◌, ◌≤◌, true, false, [], vec_capacity};
+//! The cells of a frozen epoch, as the merger reads them.
+ghost use Rattle.std.specs.Prelude.{◌≡◌, true};
 ghost use Rattle.std.proofs.Common.{ap, ◌∙◌};
-ghost use Rattle.clsm_levels.specs.Entry.{entries_of};
 ghost use Rattle.clsm_law.specs.Memory.{is_part};
-ghost use Rattle.clsm_law.specs.Merging.{epoch_end, is_frozen};
 ghost use Rattle.clsm_words.specs.Changing.{Changes, NoWord};
 ghost use Rattle.clsm_words.specs.Knowing.{IsPartOf, code_of};
 ghost use Rattle.clsm_words.specs.Plays.{IsSeatOf};
 ghost use Rattle.clsm_words.proofs.Changing.{changes_trans};
 ghost use Rattle.clsm_memtable.specs.Searching.{slot_in, value_in};
-ghost use Rattle.clsm_memtable.specs.Frozen.{IsEntryOf, IsOfFrozen, IsFrozenTime};
+ghost use Rattle.clsm_memtable.specs.Frozen.{IsEntryOf, IsFrozenTime, IsKeyOf, IsOfFrozen};
 ghost use Rattle.clsm_memtable.specs.Staying.{frozen_stays, slot_on};
 
 use clsm_law::{Part, Word};
@@ -71,9 +69,9 @@ impl Load<RawMerger> for FrozenCell {
         part(words, merger, self.time, self.cell, wanted)
     }
 
-    ghost stands_on = { λ words a b at is looks. (looks.0, frozen_stays a.knows b.knows at.time at.cell looks.1 is.1, ap code_of (slot_on a.knows b.knows at.time looks.1 is.1.known) ∙ is.2) };
+    ghost stands_on = { λ words a b at is looks. (looks.0, frozen_stays NoWord a.knows b.knows at.time at.cell looks.1 is.1, ap code_of (slot_on NoWord a.knows b.knows at.time looks.1 is.1.known) ∙ is.2) };
 
-    ghost value_stays = { λ words a b at is looks. ap value_in (slot_on a.knows b.knows at.time looks.1 is.1.known) };
+    ghost value_stays = { λ words a b at is looks. ap value_in (slot_on NoWord a.knows b.knows at.time looks.1 is.1.known) };
 
     ghost looks_on = { λ words a b c first then. (then.0, changes_trans NoWord a.knows b.knows c.knows first.1 then.1) };
 }
@@ -100,8 +98,24 @@ fn value_by<P: Pace>(
     }
 }
 
+/// The key of the time's write, if it is one.
+pub(crate) fn key_at<P: Pace>(words: &Words<P>, merger: &mut RawMerger, time: Time) -> Option<u64>
+    requires of { IsSeatOf words.now merger.old }
+    requires frozen { IsOfFrozen merger.old.knows time }
+    ensures of { IsSeatOf words.now merger.new }
+    ensures looks { Changes NoWord merger.old.knows merger.new.knows }
+    ensures key { IsKeyOf (slot_in merger.old.knows time) result }
+{
+    merger.show_invariant();
+    let cell = words.cell_of(time);
+    if state(words, merger, time, cell) < 2 {
+        return None;
+    }
+    Some(part(words, merger, time, cell, Part::Key))
+}
+
 /// The write of the time, if it is one.
-fn entry_at<P: Pace>(words: &Words<P>, merger: &mut RawMerger, time: Time) -> Option<Entry>
+pub(crate) fn entry_at<P: Pace>(words: &Words<P>, merger: &mut RawMerger, time: Time) -> Option<Entry>
     requires of { IsSeatOf words.now merger.old }
     requires frozen { IsOfFrozen merger.old.knows time }
     ensures of { IsSeatOf words.now merger.new }
@@ -117,34 +131,4 @@ fn entry_at<P: Pace>(words: &Words<P>, merger: &mut RawMerger, time: Time) -> Op
     let key = part(words, merger, time, cell, Part::Key);
     let value = value_by(words, merger, time, cell, code);
     Some(Entry { key, time, value })
-}
-
-/// Gathers the writes of the frozen epoch, from its first time to before its end, behind one
-/// another, the newest first. It never waits, and takes no memory where the row has room for them
-/// all.
-pub fn gather<P: Pace>(
-    words: &Words<P>,
-    merger: &mut RawMerger,
-    first: Time,
-    end: Time,
-    row: &mut Vec<Entry>,
-)
-    requires of { IsSeatOf words.now merger.old }
-    requires frozen { is_frozen merger.old.knows.merger.phase ≡ true }
-    requires free { merger.old.knows.merger.exclusive ≡ false }
-    requires first { first ≡ merger.old.knows.merger.merged * merger.old.knows.layout.cells }
-    requires end { end ≡ epoch_end merger.old.knows.layout merger.old.knows.merger }
-    requires room { end ≤ first + vec_capacity row.old }
-    requires empty { row.old.items ≡ [] }
-    ensures of { IsSeatOf words.now merger.new }
-    ensures looks { Changes NoWord merger.old.knows merger.new.knows }
-    ensures room { end ≤ first + vec_capacity row.new }
-    ensures gathered { row.new.items ≡ entries_of merger.new.knows.past first end }
-{
-    merger.show_invariant();
-    for time in (first..end).rev() {
-        if let Some(entry) = entry_at(words, merger, time) {
-            row.push(entry).unwrap();
-        }
-    }
 }

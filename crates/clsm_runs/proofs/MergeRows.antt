@@ -13,15 +13,17 @@ use Rattle.clsm_law.specs.declared.merger.MergerView.{MergerView}
 use Rattle.clsm_law.specs.declared.word.Word.{Word}
 use Rattle.clsm_law.specs.declared.word.Word.TheVariants.{Count, Entry as EntryWord}
 use Rattle.clsm_law.specs.Memory.{Memory}
-use Rattle.clsm_law.specs.Merging.{is_frozen, place_of, target_of}
+use Rattle.clsm_law.specs.Merging.{place_of, target_of}
 use Rattle.clsm_law.specs.Places.{entry_in, entries_from, entries_in, held_at, is_named, number_of}
 use Rattle.clsm_law.specs.Worlds.{runs_of}
 use Rattle.clsm_law.proofs.KeptRuns.{SamePlace, runs_same}
 use Rattle.clsm_words.specs.declared.known.Known.{Known}
 use Rattle.clsm_words.specs.Knowing.{row_of}
 use Rattle.clsm_words.specs.Changing.{Changes, NoWord}
+use Rattle.clsm_words.specs.Merging.{IsSoundMerger}
+use Rattle.clsm_memtable.specs.Frozen.{IsFrozenBehind, epoch_row}
+use Rattle.clsm_memtable.proofs.FrozenWalks.{epoch_row_stays}
 use Rattle.clsm_runs.specs.Placing.{IsOfPlace, rows_of}
-use Rattle.clsm_runs.specs.Outputs.{IsFrozenBehind}
 
 -- ---- the entry at a position
 
@@ -45,35 +47,35 @@ first_past memory p i (suc n) (suc j) le = first_past memory p (i + 1) n j (omeg
 -- ---- the rows
 
 -- where level 1 is written, the runs of level 0 follow from the newest on, and then that of level 1
-module _ (k : Known) (epoch : List Entry) (one : k.merger.merged % 4 ≡ 3) where
-  pub rows_are : rows_of k epoch ≡ epoch ∷ entries_in (row_of k) 2 ∷ entries_in (row_of k) 1 ∷ entries_in (row_of k) 0 ∷ entries_in (row_of k) (3 + k.merger.merged / 4 % 2) ∷ []
+module _ (k : Known) (one : k.merger.merged % 4 ≡ 3) where
+  pub rows_are : rows_of k ≡ epoch_row k ∷ entries_in (row_of k) 2 ∷ entries_in (row_of k) 1 ∷ entries_in (row_of k) 0 ∷ entries_in (row_of k) (3 + k.merger.merged / 4 % 2) ∷ []
   rows_are =
-      ap (λ (b : Bool). epoch ∷ cond b (runs_of (row_of k) k.merger.merged) []) (eq-eqb (k.merger.merged % 4) 3 one)
-      ∙ ap (λ (n : ℕ). epoch ∷ runs_at (held_at (row_of k)) (level_zero_places n ++ LevelOne (k.merger.merged / 4 % 2) ∷ [])) one
+      ap (λ (b : Bool). epoch_row k ∷ cond b (runs_of (row_of k) k.merger.merged) []) (eq-eqb (k.merger.merged % 4) 3 one)
+      ∙ ap (λ (n : ℕ). epoch_row k ∷ runs_at (held_at (row_of k)) (level_zero_places n ++ LevelOne (k.merger.merged / 4 % 2) ∷ [])) one
 
-  pub row_zero : (row : ℕ) → 0 < row → row < 4 → row_at (rows_of k epoch) row ≡ entries_in (row_of k) (3 - row)
+  pub row_zero : (row : ℕ) → 0 < row → row < 4 → row_at (rows_of k) row ≡ entries_in (row_of k) (3 - row)
   row_zero zero some few = absurd (omega arith)
   row_zero (suc zero) some few = ap (λ (rows : List (List Entry)). row_at rows 1) rows_are
   row_zero (suc (suc zero)) some few = ap (λ (rows : List (List Entry)). row_at rows 2) rows_are
   row_zero (suc (suc (suc zero))) some few = ap (λ (rows : List (List Entry)). row_at rows 3) rows_are
   row_zero (suc (suc (suc (suc row)))) some few = absurd (omega arith)
 
-  pub row_one : row_at (rows_of k epoch) 4 ≡ entries_in (row_of k) (3 + k.merger.merged / 4 % 2)
+  pub row_one : row_at (rows_of k) 4 ≡ entries_in (row_of k) (3 + k.merger.merged / 4 % 2)
   row_one = ap (λ (rows : List (List Entry)). row_at rows 4) rows_are
 
 -- where level 0 is written there is none but the epoch's
-pub no_more_rows : (k : Known) (epoch : List Entry) (row : ℕ) → (k.merger.merged % 4 ≡ 3 → ⊥) → 0 < row → row_at (rows_of k epoch) row ≡ []
-no_more_rows k epoch zero zero_level some = absurd (omega arith)
-no_more_rows k epoch (suc row) zero_level some = ap (λ (b : Bool). row_at (epoch ∷ cond b (runs_of (row_of k) k.merger.merged) []) (suc row)) (ne_eqb (k.merger.merged % 4) 3 zero_level) ∙ at_none row where
+pub no_more_rows : (k : Known) (row : ℕ) → (k.merger.merged % 4 ≡ 3 → ⊥) → 0 < row → row_at (rows_of k) row ≡ []
+no_more_rows k zero zero_level some = absurd (omega arith)
+no_more_rows k (suc row) zero_level some = ap (λ (b : Bool). row_at (epoch_row k ∷ cond b (runs_of (row_of k) k.merger.merged) []) (suc row)) (ne_eqb (k.merger.merged % 4) 3 zero_level) ∙ at_none row where
   at_none : (row : ℕ) → row_at [] row ≡ []
   at_none zero = refl
   at_none (suc row) = refl
 
 -- there are at most five
-pub few_rows : (k : Known) (epoch : List Entry) → length (rows_of k epoch) ≤ 5
-few_rows k epoch = elim (cases_eq (k.merger.merged % 4) 3) [
-  | inl one ↦ let five = ap (λ (rows : List (List Entry)). length rows) (rows_are k epoch one) in omega arith
-  | inr zero_level ↦ let one = ap (λ (b : Bool). length (epoch ∷ cond b (runs_of (row_of k) k.merger.merged) [])) (ne_eqb (k.merger.merged % 4) 3 zero_level) in omega arith
+pub few_rows : (k : Known) → length (rows_of k) ≤ 5
+few_rows k = elim (cases_eq (k.merger.merged % 4) 3) [
+  | inl one ↦ let five = ap (λ (rows : List (List Entry)). length rows) (rows_are k one) in omega arith
+  | inr zero_level ↦ let one = ap (λ (b : Bool). length (epoch_row k ∷ cond b (runs_of (row_of k) k.merger.merged) [])) (ne_eqb (k.merger.merged % 4) 3 zero_level) in omega arith
 ]
 
 -- what holds of each row holds of the row with this number, if it holds of none
@@ -103,13 +105,14 @@ runs_kept : (Those : Word → Type 0) (k k' : Known) → Changes Those k k' → 
 runs_kept Those k k' changes not = runs_same (row_of k) (row_of k') k.merger.merged (λ p named. place_stays Those k k' p changes (not (Count p) named) (λ e i. not (EntryWord p e i) named))
 
 -- and so the rows
-rows_kept : (k k' : Known) (epoch : List Entry) → k'.merger ≡ k.merger → runs_of (row_of k') k.merger.merged ≡ runs_of (row_of k) k.merger.merged → rows_of k' epoch ≡ rows_of k epoch
+rows_kept : (k k' : Known) → epoch_row k' ≡ epoch_row k → k'.merger ≡ k.merger → runs_of (row_of k') k.merger.merged ≡ runs_of (row_of k) k.merger.merged → rows_of k' ≡ rows_of k
 rows_kept k k' epoch view runs =
-    ap (λ (m : MergerView). epoch ∷ cond (is_to_level_one m.merged) (runs_of (row_of k') m.merged) []) view
-    ∙ ap (λ (runs : List (List Entry)). epoch ∷ cond (is_to_level_one k.merger.merged) runs []) runs
+    ap (λ (es : List Entry). es ∷ cond (is_to_level_one k'.merger.merged) (runs_of (row_of k') k'.merger.merged) []) epoch
+    ∙ ap (λ (m : MergerView). epoch_row k ∷ cond (is_to_level_one m.merged) (runs_of (row_of k') m.merged) []) view
+    ∙ ap (λ (runs : List (List Entry)). epoch_row k ∷ cond (is_to_level_one k.merger.merged) runs []) runs
 
-pub rows_looked : (k k' : Known) (epoch : List Entry) → Changes NoWord k k' → rows_of k' epoch ≡ rows_of k epoch
-rows_looked k k' epoch looks = rows_kept k k' epoch looks.view (runs_kept NoWord k k' looks (λ word named no. no))
+pub rows_looked : (k k' : Known) (merges : ℕ) → IsSoundMerger k → IsFrozenBehind k merges → Changes NoWord k k' → rows_of k' ≡ rows_of k
+rows_looked k k' merges sound behind looks = rows_kept k k' (epoch_row_stays NoWord k k' looks merges behind sound) looks.view (runs_kept NoWord k k' looks (λ word named no. no))
 
 -- the place of the next merge is none of the runs'
 pub target_unnamed : (m : MergerView) → is_named m.merged (target_of m) ≡ false
@@ -122,12 +125,5 @@ target_unnamed m = elim (cases_eq (m.merged % 4) 3) [
 pub runs_stay : (k k' : Known) → Changes (IsOfPlace (target_of k.merger)) k k' → runs_of (row_of k') k.merger.merged ≡ runs_of (row_of k) k.merger.merged
 runs_stay k k' changes = runs_kept (IsOfPlace (target_of k.merger)) k k' changes (λ word named is. let both : true ≡ false = sym named ∙ ap (is_named k.merger.merged) is ∙ target_unnamed k.merger in absurd (cc both))
 
-pub rows_stay : (k k' : Known) (epoch : List Entry) → Changes (IsOfPlace (target_of k.merger)) k k' → rows_of k' epoch ≡ rows_of k epoch
-rows_stay k k' epoch changes = rows_kept k k' epoch changes.view (runs_stay k k' changes)
-
-pub merging_stays : (Those : Word → Type 0) (k k' : Known) (merges : ℕ) → Changes Those k k' → IsFrozenBehind k merges → IsFrozenBehind k' merges
-merging_stays Those k k' merges changes m = record {
-  frozen = ap (λ (v : MergerView). is_frozen v.phase) changes.view ∙ m.frozen;
-  free = ap (λ (v : MergerView). v.exclusive) changes.view ∙ m.free;
-  merged = ap (λ (v : MergerView). v.merged) changes.view ∙ m.merged;
-}
+pub rows_stay : (k k' : Known) (merges : ℕ) → IsSoundMerger k → IsFrozenBehind k merges → Changes (IsOfPlace (target_of k.merger)) k k' → rows_of k' ≡ rows_of k
+rows_stay k k' merges sound behind changes = rows_kept k k' (epoch_row_stays (IsOfPlace (target_of k.merger)) k k' changes merges behind sound) changes.view (runs_stay k k' changes)

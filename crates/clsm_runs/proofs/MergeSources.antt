@@ -20,6 +20,8 @@ use Rattle.clsm_law.proofs.KeptRuns.{all_named}
 use Rattle.clsm_words.specs.declared.known.Known.{Known}
 use Rattle.clsm_words.specs.Knowing.{row_of}
 use Rattle.clsm_words.specs.Merging.{IsSoundMerger}
+use Rattle.clsm_memtable.specs.Frozen.{epoch_row}
+use Rattle.clsm_memtable.proofs.FrozenTimes.{row_early, row_few, row_run}
 use Rattle.clsm_runs.specs.Placing.{rows_of}
 use Rattle.clsm_runs.specs.Outputs.{AreSources}
 use Rattle.clsm_runs.proofs.NamedRuns.{each_run}
@@ -50,9 +52,9 @@ module _ (k : Known) (sound : IsSoundMerger k) where
       (λ place named. let p = number_of place in let count = sound.mergeable.counts p named in let small = small_room k.layout p in let long = length-entries (row_of k) p 0 (row_of k (Count p)) in omega arith)
       (places k.merger.merged) (all_named k.merger.merged))
 
-  pub are_sources : (epoch : List Entry) → IsRun epoch → AreBelow (2 ^ 62) epoch → length epoch < 2 ^ 62 → AreSources (rows_of k epoch)
-  are_sources epoch order early few = record {
-    rise = (keys_rise-run epoch order, every-cond RisesByKey (is_to_level_one k.merger.merged) runs [] (λ one. runs_rise) (λ zero_level. tt));
-    early = (early, every-cond (AreBelow (2 ^ 62)) (is_to_level_one k.merger.merged) runs [] (λ one. runs_early) (λ zero_level. tt));
-    few = (few, every-cond (λ (run : List Entry). length run < 2 ^ 62) (is_to_level_one k.merger.merged) runs [] (λ one. runs_few) (λ zero_level. tt));
+  pub are_sources : AreSources (rows_of k)
+  are_sources = record {
+    rise = (keys_rise-run (epoch_row k) (row_run k), every-cond RisesByKey (is_to_level_one k.merger.merged) runs [] (λ one. runs_rise) (λ zero_level. tt));
+    early = (row_early k sound, every-cond (AreBelow (2 ^ 62)) (is_to_level_one k.merger.merged) runs [] (λ one. runs_early) (λ zero_level. tt));
+    few = (let few = row_few k in let small = k.layout.cells_in_range.1 in omega arith, every-cond (λ (run : List Entry). length run < 2 ^ 62) (is_to_level_one k.merger.merged) runs [] (λ one. runs_few) (λ zero_level. tt));
   }

@@ -1,9 +1,9 @@
 -- A merge: its sources are read by cursors, and what is kept of them is written behind one another.
-use Rattle.std.specs.Prelude.{◌≡◌, ℕ, ◌^◌, ◌<◌, ◌≤◌, true, false, List, [], ◌∷◌, ◌++◌, length, Option, Some, None}
+use Rattle.std.specs.Prelude.{◌≡◌, ℕ, ◌+◌, ◌^◌, ◌<◌, ◌≤◌, true, false, List, [], ◌∷◌, ◌++◌, drop, length, Option, Some, None}
 use Rattle.std.specs.List.{AllByRecursion}
 use Rattle.clsm_levels.specs.declared.entry.Entry.{Entry}
 use Rattle.clsm_levels.specs.declared.cursor.Cursor.{Cursor}
-use Rattle.clsm_levels.specs.Cursors.{AllRise, rests}
+use Rattle.clsm_levels.specs.Cursors.{AllRise, cursor_at, rests}
 use Rattle.clsm_levels.specs.Entry.{AreBelow}
 use Rattle.clsm_levels.specs.Merge.{is_to_level_one, kept, merged}
 use Rattle.clsm_levels.specs.Pass.{kept_after}
@@ -15,14 +15,10 @@ use Rattle.clsm_law.specs.Places.{entries_from, entries_in, is_named}
 use Rattle.clsm_law.specs.Worlds.{are_canonical, is_canonical, passes_from}
 use Rattle.clsm_words.specs.declared.known.Known.{Known}
 use Rattle.clsm_words.specs.Knowing.{row_of}
+use Rattle.clsm_memtable.specs.declared.frozen_walk.FrozenWalk.{FrozenWalk}
+use Rattle.clsm_memtable.specs.Frozen.{IsAhead, epoch_row}
 use Rattle.clsm_runs.specs.declared.output.Output.{Output}
 use Rattle.clsm_runs.specs.Placing.{rows_of}
-
--- an epoch is frozen behind so many merges
-pub record IsFrozenBehind (k : Known) (merges : ℕ) : Type 0 where
-  pub frozen : is_frozen k.merger.phase ≡ true
-  pub free : k.merger.exclusive ≡ false
-  pub merged : k.merger.merged ≡ merges
 
 -- ---- what is read
 
@@ -37,6 +33,14 @@ pub record AreSources (rows : List (List Entry)) : Type 0 where
 abbrev pub IsNextOf : List (List Entry) → List Cursor → List Cursor → Option Entry → Type 0
 IsNextOf rows before after None = rests rows before ≡ []
 IsNextOf rows before after (Some e) = (merged (rests rows before) ≡ e ∷ merged (rests rows after)) × (e.time < 2 ^ 62)
+
+-- the walk has yielded so many of the epoch's writes
+abbrev pub IsWalkedTo : Known → FrozenWalk → ℕ → Type 0
+IsWalkedTo k walk count = IsAhead k walk (drop count (epoch_row k))
+
+-- it is one ahead of the first cursor, which has the next of them
+abbrev pub IsOneAhead : Known → FrozenWalk → List Cursor → Type 0
+IsOneAhead k walk cursors = IsWalkedTo k walk ((cursor_at cursors 0).position + 1)
 
 -- ---- what is written
 
@@ -63,10 +67,9 @@ pub record LeavesOff (k : Known) (o : Output) (rest all : List Entry) : Type 0 w
 
 -- ---- the whole
 
--- what a merge with this floor keeps of the epoch's sorted writes, and of the runs where it writes
--- level 1
-abbrev pub kept_of : Known → ℕ → List Entry → List Entry
-kept_of k floor epoch = kept floor (is_to_level_one k.merger.merged) (merged (all_of (rows_of k epoch)))
+-- what a merge with this floor keeps of the epoch's writes, and of the runs where it writes level 1
+abbrev pub kept_of : Known → ℕ → List Entry
+kept_of k floor = kept floor (is_to_level_one k.merger.merged) (merged (all_of (rows_of k)))
 
 -- the place of the next merge holds these entries, and has room for them, and no word of it says
 -- more

@@ -11,6 +11,7 @@ use Rattle.clsm_law.specs.Places.{is_named}
 use Rattle.clsm_law.specs.Worlds.{runs_of}
 use Rattle.clsm_words.specs.declared.known.Known.{Known}
 use Rattle.clsm_words.specs.Knowing.{row_of}
+use Rattle.clsm_memtable.specs.Frozen.{epoch_row}
 use Rattle.clsm_runs.specs.Searching.{count_of}
 
 -- ---- the words that change
@@ -38,8 +39,8 @@ pub record IsMergedEntry (k : Known) (place entry : ℕ) : Type 0 where
   pub inside : entry < count_of k place
 
 -- the sources of a merge: the epoch's writes, and behind them the runs, where it writes level 1
-abbrev pub rows_of : Known → List Entry → List (List Entry)
-rows_of k epoch = epoch ∷ cond (is_to_level_one k.merger.merged) (runs_of (row_of k) k.merger.merged) []
+abbrev pub rows_of : Known → List (List Entry)
+rows_of k = epoch_row k ∷ cond (is_to_level_one k.merger.merged) (runs_of (row_of k) k.merger.merged) []
 
 -- ---- what is written
 

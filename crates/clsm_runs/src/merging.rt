@@ -1,22 +1,21 @@
 //! The merge of an epoch's writes, with the runs where it writes level 1.
-ghost use Rattle.std.specs.Prelude.{◌≡◌, ◌%◌, ◌==◌, ◌<◌, ◌^◌, ◌∷◌, List, None, IfErr, OnOk, length};
-ghost use Rattle.std.specs.List.{AllByRecursion};
+ghost use Rattle.std.specs.Prelude.{◌≡◌, ◌<◌, ◌≤◌, ◌^◌, ◌∷◌, List, None, IfErr, OnOk, length, vec_capacity};
 ghost use Rattle.clsm_law.specs.Memory.{room_of};
 ghost use Rattle.clsm_law.specs.Merging.{target_of};
 ghost use Rattle.clsm_levels.specs.declared.entry.Entry.{Entry};
-ghost use Rattle.clsm_levels.specs.Entry.{AreBelow};
 ghost use Rattle.clsm_levels.specs.Merge.{is_to_level_one};
-ghost use Rattle.clsm_levels.specs.Run.{IsRun};
+ghost use Rattle.clsm_memtable.specs.Frozen.{IsAhead, IsFrozenBehind, epoch_row};
 ghost use Rattle.clsm_words.specs.Plays.{IsSeatOf};
-ghost use Rattle.clsm_runs.specs.Outputs.{HasWritten, IsFrozenBehind, IsOutput, IsSameOutput, LeavesOff, kept_of};
+ghost use Rattle.clsm_runs.specs.Outputs.{HasWritten, IsOutput, IsSameOutput, LeavesOff, kept_of};
 ghost use Rattle.clsm_words.specs.Changing.{Changes};
 ghost use Rattle.clsm_runs.specs.Placing.{IsOfPlace};
 
 use crate::output::Output;
 use crate::rows::{next, open_cursors};
 use crate::writing::write_entry;
-use clsm_law::Word;
-use clsm_levels::{Entry, judge};
+use clsm_law::{Word, target_place};
+use clsm_levels::{Entry, is_to_level_one, judge};
+use clsm_memtable::FrozenWalk;
 use clsm_model::Time;
 use clsm_words::{Pace, RawMerger, Words};
 use thiserror::Error;
@@ -36,12 +35,8 @@ fn open_output<P: Pace>(words: &Words<P>, merger: &RawMerger, merges: u64, floor
     ensures begins { (result.count ≡ 0) × (result.settled ≡ None) }
     ensures rule { (result.floor ≡ floor) × (result.to_level_one ≡ is_to_level_one merges) }
 {
-    let to_level_one = merges % 4 == 3;
-    let place = if to_level_one {
-        3 + (merges / 4 + 1) % 2
-    } else {
-        merges % 4
-    };
+    let to_level_one = is_to_level_one(merges);
+    let place = target_place(merges);
     Output {
         place,
         room: words.room_of(place),
@@ -84,30 +79,29 @@ fn take<P: Pace>(
 }
 
 /// Writes what the next merge keeps by this floor at its place, behind one another by rising key:
-/// of the frozen epoch's writes, which are given sorted, where it writes level 0, and of these and
-/// all runs where it writes level 1. It takes no memory and never waits. Refused, with what is
-/// written there unseen by any reader, where that is more than the place has room for.
+/// of the frozen epoch's writes, which the walk yields from the first on, where it writes level 0,
+/// and of these and all runs where it writes level 1. It takes no memory and never waits. Refused,
+/// with what is written there unseen by any reader, where that is more than the place has room for.
 pub fn merge<P: Pace>(
     words: &Words<P>,
     merger: &mut RawMerger,
     merges: u64,
     floor: Time,
-    epoch: &[Entry],
+    walk: &mut FrozenWalk,
 ) -> Result<(), RunFull>
     requires of { IsSeatOf words.now merger.old }
     requires merging { IsFrozenBehind merger.old.knows merges }
-    requires sorted { IsRun epoch.now }
-    requires early { AreBelow (2 ^ 62) epoch.now }
-    requires few { length epoch.now < 2 ^ 62 }
+    requires ahead { IsAhead merger.old.knows walk.old (epoch_row merger.old.knows) }
     ensures of { IsSeatOf words.now merger.new }
     ensures changes { Changes (IsOfPlace (target_of merger.old.knows.merger)) merger.old.knows merger.new.knows }
-    ensures written { OnOk result (HasWritten merger.new.knows (kept_of merger.old.knows floor epoch.now)) }
-    ensures full { IfErr result (λ refusal. room_of merger.old.knows.layout (target_of merger.old.knows.merger) < length (kept_of merger.old.knows floor epoch.now)) }
+    ensures written { OnOk result (HasWritten merger.new.knows (kept_of merger.old.knows floor)) }
+    ensures full { IfErr result (λ refusal. room_of merger.old.knows.layout (target_of merger.old.knows.merger) < length (kept_of merger.old.knows floor)) }
+    ensures room { merger.new.knows.layout.cells ≤ vec_capacity walk.new.group }
 {
     merger.show_invariant();
     let mut output = open_output(words, merger, merges, floor);
-    let mut cursors = open_cursors(words, merger, merges, epoch);
-    while let Some(entry) = next(words, merger, merges, epoch, &mut cursors) {
+    let mut cursors = open_cursors(words, merger, merges, walk);
+    while let Some(entry) = next(words, merger, merges, walk, &mut cursors) {
         take(words, merger, &mut output, entry)?;
     }
     words.write_run(merger, Word::Count(output.place), output.count);

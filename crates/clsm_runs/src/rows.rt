@@ -1,16 +1,18 @@
 //! The sources of a merge, read by cursors.
-ghost use Rattle.std.specs.Prelude.{◌≡◌, ℕ, ◌/◌, ◌%◌, ◌<◌, ◌+◌, ◌-◌, true, drop, length, cond, nat_lt};
+ghost use Rattle.std.specs.Prelude.{◌≡◌, ◌≢◌, ℕ, ◌<◌, ◌+◌, true, drop, length};
 ghost use Rattle.clsm_law.specs.Places.{is_named};
 ghost use Rattle.clsm_levels.specs.Cursors.{HeadsOf, cursor_at, first_of, row_at};
 ghost use Rattle.clsm_words.specs.Plays.{IsSeatOf};
-ghost use Rattle.clsm_runs.specs.Outputs.{AreSources, IsFrozenBehind, IsNextOf};
+ghost use Rattle.clsm_memtable.specs.Frozen.{IsFrozenBehind, IsGoing, epoch_row};
+ghost use Rattle.clsm_runs.specs.Outputs.{AreSources, IsNextOf, IsOneAhead, IsWalkedTo};
 ghost use Rattle.clsm_words.specs.Changing.{Changes, NoWord};
 ghost use Rattle.clsm_runs.specs.Placing.{rows_of};
 ghost use Rattle.clsm_runs.specs.Searching.{run_at};
 
 use crate::sources::entry;
-use clsm_law::Word;
-use clsm_levels::{Cursor, Entry, least};
+use clsm_law::{Word, level_one_place};
+use clsm_levels::{Cursor, Entry, is_to_level_one, least};
+use clsm_memtable::{FrozenWalk, next_write};
 use clsm_words::{Pace, RawMerger, Words};
 
 /// A merge reads at most so many rows: the epoch's writes, three runs of level 0 and that of level
@@ -42,55 +44,71 @@ fn entry_at<P: Pace>(
     }
 }
 
-/// The entry of the row at the position, if it has so many. The first row is the epoch's writes;
-/// the runs follow in the order in which they are searched, where the merge writes level 1.
-fn head<P: Pace>(
+/// The entry at the position of a row behind the first, if it has so many: the runs stand in the
+/// order in which they are searched, where the merge writes level 1.
+fn run_head<P: Pace>(
     words: &Words<P>,
     merger: &mut RawMerger,
     merges: u64,
-    epoch: &[Entry],
     row: usize,
     position: u64,
 ) -> Option<Entry>
     requires of { IsSeatOf words.now merger.old }
     requires merging { IsFrozenBehind merger.old.knows merges }
-    requires inside { row < 5 }
+    requires inside { (0 < row) × (row < 5) }
     ensures of { IsSeatOf words.now merger.new }
     ensures looks { Changes NoWord merger.old.knows merger.new.knows }
-    ensures head { result ≡ first_of (drop position (row_at (rows_of merger.old.knows epoch.now) row)) }
+    ensures head { result ≡ first_of (drop position (row_at (rows_of merger.old.knows) row)) }
 {
-    if row == 0 {
-        return epoch.get(position as usize).copied();
-    }
-    if merges % 4 != 3 {
+    if !is_to_level_one(merges) {
         return None;
     }
     let place = if row < 4 {
         3 - row as u64
     } else {
-        3 + merges / 4 % 2
+        level_one_place(merges)
     };
     entry_at(words, merger, merges, place, position)
 }
 
-/// A cursor at the position of the row.
-fn cursor_to<P: Pace>(
+/// A cursor at the position of a row behind the first.
+fn run_cursor<P: Pace>(
     words: &Words<P>,
     merger: &mut RawMerger,
     merges: u64,
-    epoch: &[Entry],
     row: usize,
     position: u64,
 ) -> Cursor
     requires of { IsSeatOf words.now merger.old }
     requires merging { IsFrozenBehind merger.old.knows merges }
-    requires inside { row < 5 }
+    requires inside { (0 < row) × (row < 5) }
     ensures of { IsSeatOf words.now merger.new }
     ensures looks { Changes NoWord merger.old.knows merger.new.knows }
     ensures position { result.position ≡ position }
-    ensures head { result.head ≡ first_of (drop position (row_at (rows_of merger.old.knows epoch.now) row)) }
+    ensures head { result.head ≡ first_of (drop position (row_at (rows_of merger.old.knows) row)) }
 {
-    let head = head(words, merger, merges, epoch, row, position);
+    let head = run_head(words, merger, merges, row, position);
+    Cursor { position, head }
+}
+
+/// A cursor at the position of the first row, which is the epoch's writes: the walk has yielded
+/// those before it.
+fn epoch_cursor<P: Pace>(
+    words: &Words<P>,
+    merger: &mut RawMerger,
+    walk: &mut FrozenWalk,
+    position: u64,
+) -> Cursor
+    requires of { IsSeatOf words.now merger.old }
+    requires walked { IsWalkedTo merger.old.knows walk.old position }
+    ensures of { IsSeatOf words.now merger.new }
+    ensures looks { Changes NoWord merger.old.knows merger.new.knows }
+    ensures position { result.position ≡ position }
+    ensures head { result.head ≡ first_of (drop position (epoch_row merger.old.knows)) }
+    ensures walked { IsWalkedTo merger.new.knows walk.new (position + 1) }
+{
+    merger.show_invariant();
+    let head = next_write(words, merger, walk);
     Cursor { position, head }
 }
 
@@ -99,24 +117,55 @@ pub(crate) fn open_cursors<P: Pace>(
     words: &Words<P>,
     merger: &mut RawMerger,
     merges: u64,
-    epoch: &[Entry],
+    walk: &mut FrozenWalk,
 ) -> [Cursor; 5]
     requires of { IsSeatOf words.now merger.old }
     requires merging { IsFrozenBehind merger.old.knows merges }
+    requires walked { IsWalkedTo merger.old.knows walk.old 0 }
     ensures of { IsSeatOf words.now merger.new }
     ensures looks { Changes NoWord merger.old.knows merger.new.knows }
     ensures long { length result ≡ 5 }
-    ensures heads { HeadsOf (rows_of merger.old.knows epoch.now) result }
+    ensures heads { HeadsOf (rows_of merger.old.knows) result }
     ensures begins { (i : ℕ) → i < length result → (cursor_at result i).position ≡ 0 }
+    ensures ahead { IsOneAhead merger.new.knows walk.new result }
 {
-    let mut cursors = [Cursor {
-        position: 0,
-        head: None,
-    }; ROWS];
-    for row in 0..ROWS {
-        cursors[row] = cursor_to(words, merger, merges, epoch, row, 0);
+    merger.show_invariant();
+    let first = epoch_cursor(words, merger, walk, 0);
+    let mut cursors = [first; ROWS];
+    for row in 1..ROWS {
+        merger.show_invariant();
+        cursors[row] = run_cursor(words, merger, merges, row, 0);
     }
     cursors
+}
+
+/// A cursor at the position of the row: the walk has yielded the epoch's writes before it, where
+/// that is the first row.
+fn cursor_to<P: Pace>(
+    words: &Words<P>,
+    merger: &mut RawMerger,
+    merges: u64,
+    walk: &mut FrozenWalk,
+    row: usize,
+    position: u64,
+) -> Cursor
+    requires of { IsSeatOf words.now merger.old }
+    requires merging { IsFrozenBehind merger.old.knows merges }
+    requires inside { row < 5 }
+    requires going { IsGoing merger.old.knows walk.old }
+    requires walked { row ≡ 0 → IsWalkedTo merger.old.knows walk.old position }
+    ensures of { IsSeatOf words.now merger.new }
+    ensures looks { Changes NoWord merger.old.knows merger.new.knows }
+    ensures position { result.position ≡ position }
+    ensures head { result.head ≡ first_of (drop position (row_at (rows_of merger.old.knows) row)) }
+    ensures walked { row ≡ 0 → IsWalkedTo merger.new.knows walk.new (position + 1) }
+    ensures stays { row ≢ 0 → walk.new ≡ walk.old }
+{
+    if row == 0 {
+        epoch_cursor(words, merger, walk, position)
+    } else {
+        run_cursor(words, merger, merges, row, position)
+    }
 }
 
 /// Takes the next entry of the rows by rising key: of equal keys that of the first row.
@@ -124,25 +173,27 @@ pub(crate) fn next<P: Pace>(
     words: &Words<P>,
     merger: &mut RawMerger,
     merges: u64,
-    epoch: &[Entry],
+    walk: &mut FrozenWalk,
     cursors: &mut [Cursor],
 ) -> Option<Entry>
     requires of { IsSeatOf words.now merger.old }
     requires merging { IsFrozenBehind merger.old.knows merges }
-    requires sources { AreSources (rows_of merger.old.knows epoch.now) }
+    requires sources { AreSources (rows_of merger.old.knows) }
     requires long { length cursors.old ≡ 5 }
-    requires heads { HeadsOf (rows_of merger.old.knows epoch.now) cursors.old }
+    requires heads { HeadsOf (rows_of merger.old.knows) cursors.old }
+    requires ahead { IsOneAhead merger.old.knows walk.old cursors.old }
     ensures of { IsSeatOf words.now merger.new }
     ensures looks { Changes NoWord merger.old.knows merger.new.knows }
     ensures long { length cursors.new ≡ 5 }
-    ensures heads { HeadsOf (rows_of merger.old.knows epoch.now) cursors.new }
-    ensures next { IsNextOf (rows_of merger.old.knows epoch.now) cursors.old cursors.new result }
+    ensures heads { HeadsOf (rows_of merger.old.knows) cursors.new }
+    ensures next { IsNextOf (rows_of merger.old.knows) cursors.old cursors.new result }
+    ensures ahead { IsOneAhead merger.new.knows walk.new cursors.new }
 {
     merger.show_invariant();
     let Some((row, entry)) = least(cursors) else {
         return None;
     };
     let position = cursors[row].position + 1;
-    cursors[row] = cursor_to(words, merger, merges, epoch, row, position);
+    cursors[row] = cursor_to(words, merger, merges, walk, row, position);
     Some(entry)
 }

@@ -12,6 +12,7 @@ use crate::merger::Clean;
 use crate::seat::Seat;
 use crate::store::Store;
 use clsm_calls::MergerSeat;
+use clsm_memtable::FrozenWalk;
 use clsm_law::{Layout, Reader};
 use clsm_model::{Config, OpenError};
 use clsm_words::{Free, Pace, RawMerger, RawSeat, Words};
@@ -109,7 +110,7 @@ fn seat_merger(alloc: Global, layout: &Layout, raw: RawMerger) -> Result<MergerS
         raw,
         merges: 0,
         floor: 0,
-        row: Vec::with_capacity(alloc, layout.cells as usize)?,
+        walk: FrozenWalk::new(alloc, layout.cells)?,
         seen: unseen(alloc, layout.seats as usize)?,
     })
 }

@@ -28,7 +28,7 @@ loop-entry-init g c =
     let k = c.args.merger.now.knows in
     let k' = c.open_cursors-cursors.new.merger.knows in
     let looks = c.open_cursors-cursors.ensures.looks in
-    let rows = rows_of k c.args.epoch.now in
+    let rows = rows_of k in
     let first = left_at_first k' c.open_output-output.result rows c.open_cursors-cursors.result c.args.floor c.args.merges c.open_output-output.ensures.begins c.open_output-output.ensures.rule c.open_cursors-cursors.ensures.begins in
     record {
       of = c.open_cursors-cursors.ensures.of;
@@ -44,21 +44,21 @@ pub next-requires-clause-sources : goal.next-requires-clause-sources
 next-requires-clause-sources g c =
     let k = c.args.merger.now.knows in
     let inv = c.loop-entry.invariant in
-    subst AreSources (sym (rows_stay k c.loop-entry.merger.knows c.args.epoch.now inv.changes)) (are_sources k c.show_invariant.ensures c.args.epoch.now c.requires.sorted c.requires.early c.requires.few)
+    subst AreSources (sym (rows_stay k c.loop-entry.merger.knows c.args.merges c.show_invariant.ensures c.requires.merging inv.changes)) (are_sources k c.show_invariant.ensures)
 
 pub next-requires-clause-heads : goal.next-requires-clause-heads
 next-requires-clause-heads g c =
     let k = c.args.merger.now.knows in
     let inv = c.loop-entry.invariant in
-    subst (λ (rows : List (List Entry)). HeadsOf rows c.loop-entry.cursors) (sym (rows_stay k c.loop-entry.merger.knows c.args.epoch.now inv.changes)) inv.heads
+    subst (λ (rows : List (List Entry)). HeadsOf rows c.loop-entry.cursors) (sym (rows_stay k c.loop-entry.merger.knows c.args.merges c.show_invariant.ensures c.requires.merging inv.changes)) inv.heads
 
 pub loop-entry-smaller : goal.loop-entry-smaller
 loop-entry-smaller g c =
     let k = c.args.merger.now.knows in
     let inv = c.loop-entry.invariant in
-    let rows = rows_of k c.args.epoch.now in
+    let rows = rows_of k in
     let picked : merged (rests rows c.loop-entry.cursors) ≡ c.in-Some.entry ∷ merged (rests rows c.next.new.cursors) = subst (λ (rows : List (List Entry)). merged (rests rows c.loop-entry.cursors) ≡ c.in-Some.entry ∷ merged (rests rows c.next.new.cursors))
-    (rows_stay k c.loop-entry.merger.knows c.args.epoch.now inv.changes) c.in-Some.ensures.next.0 in
+    (rows_stay k c.loop-entry.merger.knows c.args.merges c.show_invariant.ensures c.requires.merging inv.changes) c.in-Some.ensures.next.0 in
     let less : length (merged (rests rows c.next.new.cursors)) < length (merged (rests rows c.loop-entry.cursors)) = omega (arith, ap (λ (l : List Entry). length l) picked) in
     less
 
@@ -68,10 +68,10 @@ loop-entry-preserved g c =
     let now = c.loop-entry.merger.knows in
     let then = c.next.new.merger.knows in
     let inv = c.loop-entry.invariant in
-    let rows = rows_of k c.args.epoch.now in
-    let same = rows_stay k now c.args.epoch.now inv.changes in
+    let rows = rows_of k in
+    let same = rows_stay k now c.args.merges c.show_invariant.ensures c.requires.merging inv.changes in
     let picked : merged (rests rows c.loop-entry.cursors) ≡ c.in-Some.entry ∷ merged (rests rows c.next.new.cursors) = subst (λ (rows : List (List Entry)). merged (rests rows c.loop-entry.cursors) ≡ c.in-Some.entry ∷ merged (rests rows c.next.new.cursors)) same c.in-Some.ensures.next.0 in
-    let all = kept_of k c.args.floor c.args.epoch.now in
+    let all = kept_of k c.args.floor in
     let looks = c.in-Some.ensures.looks in
     let taken = c.in_ok-take.ensures in
     let before : LeavesOff then c.loop-entry.output (c.in-Some.entry ∷ merged (rests rows c.next.new.cursors)) all = subst (λ (l : List Entry). LeavesOff then c.loop-entry.output l all) picked (left_looked now then c.loop-entry.output (merged (rests rows c.loop-entry.cursors)) all looks inv.left) in
@@ -94,9 +94,9 @@ returns-in_err-take-clause-full g c =
     let then = c.next.new.merger.knows in
     let inv = c.loop-entry.invariant in
     let o = c.loop-entry.output in
-    let rows = rows_of k c.args.epoch.now in
-    let all = kept_of k c.args.floor c.args.epoch.now in
-    let picked : merged (rests rows c.loop-entry.cursors) ≡ c.in-Some.entry ∷ merged (rests rows c.next.new.cursors) = subst (λ (rows : List (List Entry)). merged (rests rows c.loop-entry.cursors) ≡ c.in-Some.entry ∷ merged (rests rows c.next.new.cursors)) (rows_stay k now c.args.epoch.now inv.changes) c.in-Some.ensures.next.0 in
+    let rows = rows_of k in
+    let all = kept_of k c.args.floor in
+    let picked : merged (rests rows c.loop-entry.cursors) ≡ c.in-Some.entry ∷ merged (rests rows c.next.new.cursors) = subst (λ (rows : List (List Entry)). merged (rests rows c.loop-entry.cursors) ≡ c.in-Some.entry ∷ merged (rests rows c.next.new.cursors)) (rows_stay k now c.args.merges c.show_invariant.ensures c.requires.merging inv.changes) c.in-Some.ensures.next.0 in
     let before : LeavesOff then o (c.in-Some.entry ∷ merged (rests rows c.next.new.cursors)) all = subst (λ (l : List Entry). LeavesOff then o l all) picked (left_looked now then o (merged (rests rows c.loop-entry.cursors)) all c.in-Some.ensures.looks inv.left) in
     let full = c.in_err-take.ensures.full (merged (rests rows c.next.new.cursors)) all before in
     let room : o.room ≡ room_of k.layout (target_of k.merger) = inv.output.room ∙ ap (room_of now.layout) inv.place ∙ ap (λ (z : Layout). room_of z (target_of k.merger)) inv.changes.layout in
@@ -109,9 +109,9 @@ returns-clause-written g c =
     let then = c.next.new.merger.knows in
     let inv = c.loop-entry.invariant in
     let o = c.loop-entry.output in
-    let rows = rows_of k c.args.epoch.now in
-    let all = kept_of k c.args.floor c.args.epoch.now in
-    let none : rests rows c.loop-entry.cursors ≡ [] = subst (λ (rows : List (List Entry)). rests rows c.loop-entry.cursors ≡ []) (rows_stay k now c.args.epoch.now inv.changes) c.in_default.ensures.next in
+    let rows = rows_of k in
+    let all = kept_of k c.args.floor in
+    let none : rests rows c.loop-entry.cursors ≡ [] = subst (λ (rows : List (List Entry)). rests rows c.loop-entry.cursors ≡ []) (rows_stay k now c.args.merges c.show_invariant.ensures c.requires.merging inv.changes) c.in_default.ensures.next in
     let looks = c.in_default.ensures.looks in
     let left : LeavesOff then o [] all = subst (λ (l : List Entry). LeavesOff then o (merged l) all) none (left_looked now then o (merged (rests rows c.loop-entry.cursors)) all looks inv.left) in
     has_written then c.write_run.new.seat.knows o all c.write_run.ensures.0 left (output_stays NoWord now then o looks inv.output)

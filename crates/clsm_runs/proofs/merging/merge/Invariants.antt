@@ -3,7 +3,7 @@ use Rattle.clsm_levels.specs.Cursors.{HeadsOf, rests}
 use Rattle.clsm_levels.specs.Merge.{merged}
 use Rattle.clsm_law.specs.Merging.{target_of}
 use Rattle.clsm_words.specs.Plays.{IsSeatOf}
-use Rattle.clsm_runs.specs.Outputs.{IsOutput, LeavesOff, kept_of}
+use Rattle.clsm_runs.specs.Outputs.{IsOneAhead, IsOutput, LeavesOff, kept_of}
 use Rattle.clsm_words.specs.Changing.{Changes}
 use Rattle.clsm_runs.specs.Placing.{IsOfPlace, rows_of}
 use Rattle.clsm_runs.proofs.merging.merge.Given as goal
@@ -15,9 +15,10 @@ invariant-loop-entry g l = record {
   output : IsOutput l.merger.knows l.output;
   place : l.output.place ≡ target_of l.fn.merger.knows.merger;
   long : length l.cursors ≡ 5;
-  heads : HeadsOf (rows_of l.fn.merger.knows l.epoch) l.cursors;
-  left : LeavesOff l.merger.knows l.output (merged (rests (rows_of l.fn.merger.knows l.epoch) l.cursors)) (kept_of l.fn.merger.knows l.floor l.epoch);
+  heads : HeadsOf (rows_of l.fn.merger.knows) l.cursors;
+  ahead : IsOneAhead l.merger.knows l.walk l.cursors;
+  left : LeavesOff l.merger.knows l.output (merged (rests (rows_of l.fn.merger.knows) l.cursors)) (kept_of l.fn.merger.knows l.floor);
 }
 
 abbrev pub decreases-loop-entry : goal.decreases-loop-entry
-decreases-loop-entry g l = length (merged (rests (rows_of l.fn.merger.knows l.epoch) l.cursors))
+decreases-loop-entry g l = length (merged (rests (rows_of l.fn.merger.knows) l.cursors))

@@ -11,12 +11,12 @@ use Rattle.clsm_runs.proofs.rows.next.Goals as goal
 
 pub returns-clause-next : goal.returns-clause-next
 returns-clause-next g c =
-    let rows = rows_of c.args.merger.now.knows c.args.epoch.now in
+    let rows = rows_of c.args.merger.now.knows in
     let cursors = c.args.cursors.now in
     let row = c.in-Some.row in
     let e = c.in-Some.entry in
     let least = c.in-Some.ensures in
-    let few = few_rows c.args.merger.now.knows c.args.epoch.now in
+    let few = few_rows c.args.merger.now.knows in
     let at = (cursor_at cursors row).position in
     let here : first_of (drop at (row_at rows row)) ≡ Some e = sym (c.requires.heads row least.0) ∙ least.1 in (
       picks rows cursors row e c.cursor_to.result (let long = c.requires.long in omega arith) c.requires.sources.rise c.requires.heads least (c.cursor_to.ensures.position ∙ ap (λ (x : Cursor). x.position + 1) (get_or_default cursors row c.index-cursors-row.result no_cursor least.0)),
@@ -25,5 +25,5 @@ returns-clause-next g c =
 
 pub returns-in_default-clause-next : goal.returns-in_default-clause-next
 returns-in_default-clause-next g c =
-    let few = few_rows c.args.merger.now.knows c.args.epoch.now in
-    nothing_left (rows_of c.args.merger.now.knows c.args.epoch.now) c.args.cursors.now (let long = c.requires.long in omega arith) c.requires.heads c.in_default.ensures
+    let few = few_rows c.args.merger.now.knows in
+    nothing_left (rows_of c.args.merger.now.knows) c.args.cursors.now (let long = c.requires.long in omega arith) c.requires.heads c.in_default.ensures

@@ -13,14 +13,14 @@ pub loop-row-preserved : goal.loop-row-preserved
 loop-row-preserved g c =
     let k = c.args.merger.now.knows in
     let k' = c.loop-row.merger.knows in
-    let rows = rows_of k c.args.epoch.now in
+    let rows = rows_of k in
     let i = c.loop-row.row in
-    let new = c.cursor_to.result in
+    let new = c.run_cursor.result in
     record {
-      of = c.cursor_to.ensures.of;
-      looks = changes_trans NoWord k k' c.cursor_to.new.merger.knows c.loop-row.invariant.looks c.cursor_to.ensures.looks;
+      of = c.run_cursor.ensures.of;
+      looks = changes_trans NoWord k k' c.run_cursor.new.merger.knows c.loop-row.invariant.looks c.run_cursor.ensures.looks;
       long = length-set c.loop-row.cursors i new ∙ c.loop-row.invariant.long;
       opened = at_set (λ (j : ℕ) (x : Cursor). j < i + 1 → (x.head ≡ first_of (drop x.position (row_at rows j))) × (x.position ≡ 0)) c.loop-row.cursors i new (let long = c.loop-row.invariant.long in omega arith)
-          (λ _. (c.cursor_to.ensures.head ∙ ap (λ (l : List (List Entry)). first_of (row_at l i)) (rows_looked k k' c.args.epoch.now c.loop-row.invariant.looks) ∙ ap (λ (n : ℕ). first_of (drop n (row_at rows i))) (sym c.cursor_to.ensures.position), c.cursor_to.ensures.position))
+          (λ _. (c.run_cursor.ensures.head ∙ ap (λ (l : List (List Entry)). first_of (row_at l i)) (rows_looked k k' c.args.epoch.now c.loop-row.invariant.looks) ∙ ap (λ (n : ℕ). first_of (drop n (row_at rows i))) (sym c.run_cursor.ensures.position), c.run_cursor.ensures.position))
           (λ j ne lt. c.loop-row.invariant.opened j (omega arith));
     }
