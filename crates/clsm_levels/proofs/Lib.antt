@@ -13,6 +13,5 @@ pub mod Rules
 pub mod Passes
 pub mod Sorts
 pub mod SameRuns
-pub mod SortedRuns
 pub mod Picks
 pub mod Presorted

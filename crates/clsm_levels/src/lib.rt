@@ -7,7 +7,6 @@ mod entry;
 mod epoch;
 mod merge;
 mod place;
-mod sort;
 mod table;
 
 pub use cursor::{Cursor, least};
@@ -15,5 +14,4 @@ pub use entry::Entry;
 pub use epoch::entries_of;
 pub use merge::{judge, wanted};
 pub use place::Place;
-pub use sort::sort_writes;
 pub use table::{is_to_level_one, level_one_run, level_zero_runs, places, target};

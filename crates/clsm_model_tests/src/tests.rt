@@ -18,7 +18,6 @@ enum Wrong {
     Places(usize),
     Merges(usize),
     Slots(usize),
-    Sorts(usize),
     Least(usize),
     Judged(usize),
     Lists(usize),
@@ -53,7 +52,6 @@ fn tables(alloc: Global) -> Result<(), Wrong> {
     levels::table_of_places(alloc)?;
     levels::merges(alloc)?;
     levels::entries_of_slots(alloc)?;
-    levels::sorts()?;
     levels::least_of_cursors()?;
     levels::judge_by_the_floor()?;
     audit::lists(alloc)?;

@@ -11,3 +11,4 @@ pub mod Finishing
 pub mod Halving
 pub mod RunAfterRun
 pub mod Standing
+pub mod EpochWalks

@@ -102,6 +102,7 @@ pub fn merge<P: Pace>(
     let mut output = open_output(words, merger, merges, floor);
     let mut cursors = open_cursors(words, merger, merges, walk);
     while let Some(entry) = next(words, merger, merges, walk, &mut cursors) {
+        merger.show_invariant();
         take(words, merger, &mut output, entry)?;
     }
     words.write_run(merger, Word::Count(output.place), output.count);

@@ -8,6 +8,7 @@ use Rattle.clsm_law.specs.Worlds.{runs_of}
 use Rattle.clsm_words.specs.declared.known.Known.{Known}
 use Rattle.clsm_words.specs.Knowing.{row_of}
 use Rattle.clsm_scan.specs.declared.epoch_cursor.EpochCursor.{EpochCursor}
+use Rattle.clsm_scan.specs.declared.merged.Head.TheVariants.{Unread}
 use Rattle.clsm_scan.specs.declared.merged.Merged.{Merged}
 use Rattle.clsm_scan.specs.declared.run_cursor.RunCursor.{RunCursor}
 use Rattle.clsm_scan.specs.Ahead.{first_found}
@@ -24,7 +25,7 @@ AllSources = Merged (Option EpochCursor) (Merged (Option EpochCursor) AllRuns)
 
 -- two cursors, of which nothing was read ahead
 abbrev pub both : {A B : Type 0} → A → B → Merged A B
-both newer older = record { newer = newer; older = older; newer_head = None; older_head = None }
+both newer older = record { newer = newer; older = older; newer_head = Unread; older_head = Unread }
 
 -- all of them, where the epochs have these numbers and first times
 abbrev pub all_at : ℕ → ℕ → ℕ → ℕ → ℕ → ℕ → AllSources

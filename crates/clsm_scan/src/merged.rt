@@ -1,15 +1,24 @@
 //! Two cursors as one.
-ghost use Rattle.std.specs.Prelude.{◌≡◌, ℕ, ◌≤◌, Option, None, Some};
+ghost use Rattle.std.specs.Prelude.{◌≡◌, ℕ, ◌≤◌, Option};
 ghost use Rattle.clsm_model.specs.History.{or_else};
 ghost use Rattle.clsm_levels.specs.Yields.{IsNextFrom, behind};
 ghost use Rattle.clsm_words.specs.Keeping.{LooksAside};
 ghost use Rattle.clsm_words.specs.Plays.{IsSeatOf};
-ghost use Rattle.clsm_scan.specs.Ahead.{IsAhead, first_found};
+ghost use Rattle.clsm_scan.specs.Ahead.{IsAhead, entry_of, first_found, is_read};
+ghost use Rattle.clsm_scan.specs.declared.merged.Head.TheVariants.{Read, Unread};
 ghost use Rattle.clsm_scan.specs.MergedLaws.{ahead_later, ahead_stays, first_same};
 
 use crate::cursor::Cursor;
 use clsm_levels::Entry;
 use clsm_words::{Pace, RawSeat, Words};
+
+/// What a cursor yields next, as far as it was read ahead.
+#[derive(Clone, Copy)]
+pub enum Head {
+    Unread,
+    /// The entry, or none where there is no further one.
+    Read(Option<Entry>),
+}
 
 /// Two cursors as one, whose writes of a key are those of the newer cursor, if it has any.
 #[derive(Drop)]
@@ -17,21 +26,32 @@ pub struct Merged<A, B> {
     newer: A,
     older: B,
     /// What was read ahead of each.
-    newer_head: Option<Entry>,
-    older_head: Option<Entry>,
+    newer_head: Head,
+    older_head: Head,
 }
 
 impl<A: Cursor, B: Cursor> Merged<A, B> {
     /// The cursor over what both are over.
     pub fn new(newer: A, older: B) -> Merged<A, B>
-        ensures { result ≡ record { newer = newer; older = older; newer_head = None; older_head = None } }
+        ensures { result ≡ record { newer = newer; older = older; newer_head = Unread; older_head = Unread } }
     {
         Merged {
             newer,
             older,
-            newer_head: None,
-            older_head: None,
+            newer_head: Head::Unread,
+            older_head: Head::Unread,
         }
+    }
+}
+
+/// Whether the head is the next entry from the key on, or says that there is none.
+fn is_read(head: &Head, from: u64) -> bool
+    ensures { result ≡ is_read head.now from }
+{
+    match head {
+        Head::Unread => false,
+        Head::Read(None) => true,
+        Head::Read(Some(entry)) => from <= entry.key,
     }
 }
 
@@ -40,7 +60,7 @@ fn read_ahead<C: Cursor, P: Pace>(
     words: &Words<P>,
     seat: &mut RawSeat,
     cursor: &mut C,
-    head: &mut Option<Entry>,
+    head: &mut Head,
     from: u64,
 )
     requires of { IsSeatOf words.now seat.old }
@@ -50,26 +70,25 @@ fn read_ahead<C: Cursor, P: Pace>(
     ensures looks { LooksAside seat.old.knows seat.new.knows }
     ensures over { C.is_over seat.new.knows cursor.new }
     ensures same { (k : ℕ) → C.found seat.new.knows cursor.new k ≡ C.found seat.old.knows cursor.old k }
-    ensures next { IsNextFrom (C.found seat.old.knows cursor.old) from head.new }
-    ensures stands { C.stands seat.new.knows cursor.new (behind from head.new) }
+    ensures read { head.new ≡ Read (entry_of head.new) }
+    ensures next { IsNextFrom (C.found seat.old.knows cursor.old) from (entry_of head.new) }
+    ensures stands { C.stands seat.new.knows cursor.new (behind from (entry_of head.new)) }
 {
-    if let Some(entry) = *head
-        && from <= entry.key
-    {
+    if is_read(head, from) {
         return;
     }
-    *head = cursor.next(words, seat, from);
+    *head = Head::Read(cursor.next(words, seat, from));
 }
 
 /// Of two entries the one of the lesser key, or the newer one of one key.
-fn lesser(newer: Option<Entry>, older: Option<Entry>) -> Option<Entry>
-    ensures { (found found' : ℕ → Option Entry) (from : ℕ) → IsNextFrom found from newer → IsNextFrom found' from older → IsNextFrom (λ k. or_else (found k) (found' k)) from result }
+fn lesser(newer: &Head, older: &Head) -> Option<Entry>
+    ensures { (found found' : ℕ → Option Entry) (from : ℕ) → IsNextFrom found from (entry_of newer.now) → IsNextFrom found' from (entry_of older.now) → IsNextFrom (λ k. or_else (found k) (found' k)) from result }
 {
     match (newer, older) {
-        (None, _) => older,
-        (Some(_), None) => newer,
-        (Some(one), Some(other)) if other.key < one.key => older,
-        _ => newer,
+        (Head::Read(Some(one)), Head::Read(Some(other))) if other.key < one.key => Some(*other),
+        (Head::Read(Some(one)), _) => Some(*one),
+        (_, Head::Read(Some(other))) => Some(*other),
+        _ => None,
     }
 }
 
@@ -83,14 +102,14 @@ impl<A: Cursor, B: Cursor> Cursor for Merged<A, B> {
     fn seek<P: Pace>(&mut self, words: &Words<P>, seat: &mut RawSeat, key: u64) {
         self.newer.seek(words, seat, key);
         self.older.seek(words, seat, key);
-        self.newer_head = None;
-        self.older_head = None;
+        self.newer_head = Head::Unread;
+        self.older_head = Head::Unread;
     }
 
     fn next<P: Pace>(&mut self, words: &Words<P>, seat: &mut RawSeat, from: u64) -> Option<Entry> {
         read_ahead(words, seat, &mut self.newer, &mut self.newer_head, from);
         read_ahead(words, seat, &mut self.older, &mut self.older_head, from);
-        lesser(self.newer_head, self.older_head)
+        lesser(&self.newer_head, &self.older_head)
     }
 
     ghost over_stays = { λ k k' m looks over. (A.over_stays k k' m.newer looks over.0, B.over_stays k k' m.older looks over.1) };

@@ -3,7 +3,7 @@ ghost use Rattle.std.specs.Prelude.{◌≡◌};
 
 use crate::tests::{Wrong, optional_value, same};
 use clsm_levels::{
-    Cursor, Entry, Place, entries_of, judge, least, places, sort_writes, target, wanted,
+    Cursor, Entry, Place, entries_of, judge, least, places, target, wanted,
 };
 use clsm_model::Slot;
 use std::alloc::Global;
@@ -195,42 +195,6 @@ pub(super) fn entries_of_slots(alloc: Global) -> Result<(), Wrong> {
         same(is_same, Wrong::Slots(row))?;
     }
     Ok(())
-}
-
-pub(super) fn sorts() -> Result<(), Wrong> {
-    let mut several = [
-        entry(7, 9, Some(79)),
-        entry(5, 8, Some(58)),
-        entry(7, 6, None),
-        entry(0, 5, Some(5)),
-        entry(5, 3, None),
-        entry(7, 2, Some(72)),
-    ];
-    sort_writes(&mut several);
-    let by_key = [
-        entry(0, 5, Some(5)),
-        entry(5, 8, Some(58)),
-        entry(5, 3, None),
-        entry(7, 9, Some(79)),
-        entry(7, 6, None),
-        entry(7, 2, Some(72)),
-    ];
-    same(several[..] == by_key[..], Wrong::Sorts(0))?;
-    let mut one_key = [
-        entry(1, 3, Some(13)),
-        entry(1, 2, None),
-        entry(1, 0, Some(10)),
-    ];
-    sort_writes(&mut one_key);
-    let newest_first = [
-        entry(1, 3, Some(13)),
-        entry(1, 2, None),
-        entry(1, 0, Some(10)),
-    ];
-    same(one_key[..] == newest_first[..], Wrong::Sorts(1))?;
-    let mut nothing: [Entry; 0] = [];
-    sort_writes(&mut nothing);
-    same(nothing.is_empty(), Wrong::Sorts(2))
 }
 
 const NO_HEAD: Cursor = Cursor {

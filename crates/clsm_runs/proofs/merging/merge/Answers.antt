@@ -1,18 +1,21 @@
-use Rattle.std.proofs.Common.{◌≡◌, ℕ, ◌<◌, ◌∷◌, [], List, Ok, Err, IfErr, length, arith, sym, ◌∙◌, ap, subst}
+use Rattle.std.proofs.Common.{◌≡◌, ℕ, ◌+◌, ◌<◌, ◌∷◌, [], List, Ok, Err, IfErr, length, arith, sym, ◌∙◌, ap, subst}
 use Rattle.std.specs.declared.result.Result.{Result}
 use Rattle.clsm_levels.specs.declared.entry.Entry.{Entry}
-use Rattle.clsm_levels.specs.Cursors.{HeadsOf, rests}
+use Rattle.clsm_levels.specs.Cursors.{HeadsOf, cursor_at, rests}
 use Rattle.clsm_levels.specs.Merge.{is_to_level_one, kept, merged}
 use Rattle.clsm_levels.specs.Run.{all_of}
 use Rattle.clsm_law.specs.declared.layout.Layout.{Layout}
 use Rattle.clsm_law.specs.declared.merger.MergerView.{MergerView}
 use Rattle.clsm_law.specs.Memory.{room_of}
-use Rattle.clsm_law.specs.Merging.{target_of}
+use Rattle.clsm_law.specs.declared.word.Word.{Word}
+use Rattle.clsm_law.specs.declared.word.Word.TheVariants.{Count}
+use Rattle.clsm_law.specs.Merging.{place_of, target_of}
 use Rattle.clsm_runs.specs.declared.merging.RunFull.{RunFull}
 use Rattle.clsm_words.specs.Changing.{Changes, NoWord}
 use Rattle.clsm_runs.specs.Placing.{IsOfPlace, rows_of}
 use Rattle.clsm_runs.specs.Outputs.{AreSources, LeavesOff, kept_of}
-use Rattle.clsm_words.proofs.Changing.{changes_more, changes_trans}
+use Rattle.clsm_words.proofs.Changing.{changes_more, changes_trans, writes_only}
+use Rattle.clsm_runs.proofs.EpochWalks.{walked_on}
 use Rattle.clsm_runs.proofs.Remaining.{output_stays}
 use Rattle.clsm_runs.proofs.Finishing.{has_written, left_at_first, left_looked}
 use Rattle.clsm_runs.proofs.MergeRows.{rows_stay}
@@ -37,6 +40,7 @@ loop-entry-init g c =
       place = c.open_output-output.ensures.place;
       long = c.open_cursors-cursors.ensures.long;
       heads = c.open_cursors-cursors.ensures.heads;
+      ahead = c.open_cursors-cursors.ensures.ahead;
       left = subst (λ (m : ℕ). LeavesOff k' c.open_output-output.result (merged (rests rows c.open_cursors-cursors.result)) (kept c.args.floor (is_to_level_one m) (merged (all_of rows)))) (sym c.requires.merging.merged) first;
     }
 
@@ -84,6 +88,7 @@ loop-entry-preserved g c =
       place = taken.same.place ∙ inv.place;
       long = c.in-Some.ensures.long;
       heads = subst (λ (rows : List (List Entry)). HeadsOf rows c.next.new.cursors) same c.in-Some.ensures.heads;
+      ahead = walked_on (IsOfPlace c.loop-entry.output.place) then c.take.new.merger.knows c.next.new.walk ((cursor_at c.next.new.cursors 0).position + 1) taken.changes c.show_invariant-in-Some.ensures c.in-Some.ensures.ahead;
       left = taken.goes_on (merged (rests rows c.next.new.cursors)) all before;
     }
 
@@ -116,3 +121,27 @@ returns-clause-written g c =
     let left : LeavesOff then o [] all = subst (λ (l : List Entry). LeavesOff then o (merged l) all) none (left_looked now then o (merged (rests rows c.loop-entry.cursors)) all looks inv.left) in
     has_written then c.write_run.new.seat.knows o all c.write_run.ensures.0 left (output_stays NoWord now then o looks inv.output)
     (inv.place ∙ ap (λ (m : MergerView). target_of m) (sym inv.changes.view) ∙ ap (λ (m : MergerView). target_of m) (sym looks.view)) c.write_run.ensures.1.1
+
+pub returns-in_err-take-clause-changes : goal.returns-in_err-take-clause-changes
+returns-in_err-take-clause-changes g c =
+    let k = c.args.merger.now.knows in
+    let now = c.loop-entry.merger.knows in
+    let then = c.next.new.merger.knows in
+    let inv = c.loop-entry.invariant in
+    let target = target_of k.merger in
+    let first = changes_trans (IsOfPlace target) k now then inv.changes (changes_more NoWord (IsOfPlace target) now then (λ word no. absurd no) c.in-Some.ensures.looks) in
+    changes_trans (IsOfPlace target) k then c.take.new.merger.knows first (subst (λ (p : ℕ). Changes (IsOfPlace p) then c.take.new.merger.knows) inv.place c.in_err-take.ensures.changes)
+
+pub returns-clause-changes : goal.returns-clause-changes
+returns-clause-changes g c =
+    let k = c.args.merger.now.knows in
+    let now = c.loop-entry.merger.knows in
+    let then = c.next.new.merger.knows in
+    let inv = c.loop-entry.invariant in
+    let target = target_of k.merger in
+    let count = c.write_run.ensures in
+    let last = c.write_run.new.seat.knows in
+    let first = changes_trans (IsOfPlace target) k now then inv.changes (changes_more NoWord (IsOfPlace target) now then (λ word no. absurd no) c.in_default.ensures.looks) in
+    changes_trans (IsOfPlace target) k then last first
+    (changes_more (λ (other : Word). other ≡ Count c.loop-entry.output.place) (IsOfPlace target) then last (λ word is. ap place_of is ∙ inv.place)
+    (writes_only then last (Count c.loop-entry.output.place) c.loop-entry.output.count count.0 count.1.1))

@@ -1,11 +1,15 @@
-use Rattle.std.proofs.Common.{◌≡◌, ◌+◌, ◌<◌, ◌^◌, sym, ◌∙◌, ap, arith, drop, Some}
+use Rattle.std.proofs.Common.{◌≡◌, ◌≢◌, ℕ, refl, subst, ◌+◌, ◌<◌, ◌^◌, sym, ◌∙◌, ap, arith, drop, Some}
 use Rattle.std.proofs.lemmas.List.{get_or_default}
 use Rattle.clsm_levels.specs.declared.entry.Entry.{Entry}
 use Rattle.clsm_levels.specs.declared.cursor.Cursor.{Cursor}
 use Rattle.clsm_levels.specs.Cursors.{cursor_at, first_of, no_cursor, row_at}
 use Rattle.clsm_levels.specs.Entry.{AreBelow}
-use Rattle.clsm_levels.proofs.Picks.{nothing_left, picks}
+use Rattle.clsm_levels.proofs.Picks.{at_set, nothing_left, picks}
+use Rattle.clsm_words.specs.Changing.{NoWord}
+use Rattle.clsm_memtable.specs.declared.frozen_walk.FrozenWalk.{FrozenWalk}
+use Rattle.clsm_runs.specs.Outputs.{IsWalkedTo}
 use Rattle.clsm_runs.specs.Placing.{rows_of}
+use Rattle.clsm_runs.proofs.EpochWalks.{walked_on}
 use Rattle.clsm_runs.proofs.MergeRows.{every_first, every_row, few_rows}
 use Rattle.clsm_runs.proofs.rows.next.Goals as goal
 
@@ -27,3 +31,17 @@ pub returns-in_default-clause-next : goal.returns-in_default-clause-next
 returns-in_default-clause-next g c =
     let few = few_rows c.args.merger.now.knows in
     nothing_left (rows_of c.args.merger.now.knows) c.args.cursors.now (let long = c.requires.long in omega arith) c.requires.heads c.in_default.ensures
+
+pub returns-clause-ahead : goal.returns-clause-ahead
+returns-clause-ahead g c =
+    let k = c.args.merger.now.knows in
+    let k' = c.cursor_to.new.merger.knows in
+    let cursors = c.args.cursors.now in
+    let row = c.in-Some.row in
+    let new = c.cursor_to.result in
+    at_set (λ (j : ℕ) (x : Cursor). j ≡ 0 → IsWalkedTo k' c.cursor_to.new.walk (x.position + 1)) cursors row new c.in-Some.ensures.0
+    (λ first. subst (λ (n : ℕ). IsWalkedTo k' c.cursor_to.new.walk (n + 1)) (sym c.cursor_to.ensures.position) (c.cursor_to.ensures.walked first))
+    (λ j ne first.
+    let other : row ≢ 0 = λ e. ne (first ∙ sym e) in
+    subst (λ (y : FrozenWalk × ℕ). IsWalkedTo k' y.0 ((cursor_at cursors y.1).position + 1)) (λ i. (sym (c.cursor_to.ensures.stays other) i, sym first i))
+    (walked_on NoWord k k' c.args.walk.now ((cursor_at cursors 0).position + 1) c.cursor_to.ensures.looks c.show_invariant.ensures c.requires.ahead)) 0 refl

@@ -6,6 +6,7 @@ use Rattle.clsm_levels.proofs.Picks.{at_set}
 use Rattle.clsm_words.specs.Changing.{NoWord}
 use Rattle.clsm_runs.specs.Placing.{rows_of}
 use Rattle.clsm_words.proofs.Changing.{changes_trans}
+use Rattle.clsm_runs.proofs.EpochWalks.{walked_on}
 use Rattle.clsm_runs.proofs.MergeRows.{rows_looked}
 use Rattle.clsm_runs.proofs.rows.open_cursors.Goals as goal
 
@@ -19,8 +20,10 @@ loop-row-preserved g c =
     record {
       of = c.run_cursor.ensures.of;
       looks = changes_trans NoWord k k' c.run_cursor.new.merger.knows c.loop-row.invariant.looks c.run_cursor.ensures.looks;
+      some = omega arith;
+      walked = walked_on NoWord k' c.run_cursor.new.merger.knows c.epoch_cursor-first.new.walk 1 c.run_cursor.ensures.looks c.show_invariant-in-loop-row.ensures c.loop-row.invariant.walked;
       long = length-set c.loop-row.cursors i new ∙ c.loop-row.invariant.long;
       opened = at_set (λ (j : ℕ) (x : Cursor). j < i + 1 → (x.head ≡ first_of (drop x.position (row_at rows j))) × (x.position ≡ 0)) c.loop-row.cursors i new (let long = c.loop-row.invariant.long in omega arith)
-          (λ _. (c.run_cursor.ensures.head ∙ ap (λ (l : List (List Entry)). first_of (row_at l i)) (rows_looked k k' c.args.epoch.now c.loop-row.invariant.looks) ∙ ap (λ (n : ℕ). first_of (drop n (row_at rows i))) (sym c.run_cursor.ensures.position), c.run_cursor.ensures.position))
+          (λ _. (c.run_cursor.ensures.head ∙ ap (λ (l : List (List Entry)). first_of (row_at l i)) (rows_looked k k' c.args.merges c.show_invariant.ensures c.requires.merging c.loop-row.invariant.looks) ∙ ap (λ (n : ℕ). first_of (drop n (row_at rows i))) (sym c.run_cursor.ensures.position), c.run_cursor.ensures.position))
           (λ j ne lt. c.loop-row.invariant.opened j (omega arith));
     }
