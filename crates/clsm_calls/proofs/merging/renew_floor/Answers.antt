@@ -2,29 +2,24 @@ use Rattle.std.proofs.Common.{◌≡◌, ℕ, ◌+◌, ◌*◌, ◌≤◌, arith
 use Rattle.clsm_law.specs.declared.layout.Layout.{Layout}
 use Rattle.clsm_law.specs.declared.merger.MergerView.{MergerView}
 use Rattle.clsm_calls.proofs.Prepared.{epoch_stays, runs_stay, same_frozen, still_frozen}
-use Rattle.clsm_calls.proofs.merging.renew_floor.Given.{Over}
 use Rattle.clsm_calls.proofs.merging.renew_floor.Goals as goal
-
--- the floor is not past the end of the epoch, as it was not before
-floor_early : (g : Over) (c : goal.After-take_floor g) → c.take_floor-merger.result ≤ (c.args.merger.now.merges + 1) * c.args.words.now.layout.cells
-floor_early g c =
-    let z = c.args.words.now.layout in
-    let merges = c.args.merger.now.merges in
-    let before = subst (λ (y : Layout). c.args.merger.now.floor ≤ (merges + 1) * y.cells) c.requires.of.1 c.requires.ready.early in
-    let end : (merges + 1) * c.cells.result ≡ (merges + 1) * z.cells = ap (λ (n : ℕ). (merges + 1) * n) c.cells.ensures in
-    let after = c.take_floor-merger.ensures.early (omega arith) in
-    omega arith
 
 pub returns-clause-stays : goal.returns-clause-stays
 returns-clause-stays g c =
     let k = c.args.merger.now.raw.knows in
     let floored = c.take_floor-merger.new.merger.knows in
     let keeps = c.take_floor-merger.ensures.keeps in
+    let z = c.args.words.now.layout in
+    let merges = c.args.merger.now.merges in
+    let before = subst (λ (y : Layout). c.args.merger.now.floor ≤ (merges + 1) * y.cells) c.requires.of.1 c.requires.ready.early in
+    let end : (merges + 1) * c.cells.result ≡ (merges + 1) * z.cells = ap (λ (n : ℕ). (merges + 1) * n) c.cells.ensures in
+    let after = c.take_floor-merger.ensures.early (omega arith) in
+    let early : c.take_floor-merger.result ≤ (merges + 1) * z.cells = omega arith in
     record {
       frozen = still_frozen k floored c.args.merger.now.merges keeps.view c.requires.frozen;
       ready = record {
         floor = c.take_floor-merger.ensures.floor;
-        early = subst (λ (z : Layout). c.take_floor-merger.result ≤ (c.args.merger.now.merges + 1) * z.cells) (sym c.take_floor-merger.ensures.of.1) (floor_early g c);
+        early = subst (λ (z : Layout). c.take_floor-merger.result ≤ (c.args.merger.now.merges + 1) * z.cells) (sym c.take_floor-merger.ensures.of.1) early;
         room = subst (λ (z : Layout). z.cells ≤ vec_capacity c.args.merger.now.walk.group) (sym keeps.layout) c.requires.ready.room;
         seats = c.requires.ready.seats ∙ ap (λ (z : Layout). z.seats) (sym keeps.layout);
       };
