@@ -1,10 +1,10 @@
 -- The calls of a seat, with one record more.
-use Rattle.std.proofs.Common.{◌≡◌, ◌≢◌, ℕ, ◌==◌, ◌<◌, Bool, true, false, cond, List, [], ◌∷◌, ◌++◌, length, get_or, set, Option, None, refl, sym, ap, ◌∙◌, ⊎_elim, get_or-set_other, get_or-set_same, length-set, arith}
+use Rattle.std.proofs.Common.{◌≡◌, ◌≢◌, ℕ, ◌==◌, ◌<◌, Bool, true, false, cond, List, [], ◌∷◌, ◌++◌, length, get_or, set, None, refl, sym, ap, ◌∙◌, ⊎_elim, get_or-set_other, get_or-set_same, length-set, arith}
 use Rattle.std.proofs.lemmas.Bool.{cases_eq, eq-eqb, ne_eqb}
 use Rattle.std.proofs.lemmas.List.{append-nil}
 use Rattle.std.proofs.lemmas.List.Elements.{filter-append}
 use Rattle.clsm_model.specs.declared.record.CallRecord.{CallRecord}
-use Rattle.clsm_model.specs.Seats.{due_after, last_due, last_open, open_after}
+use Rattle.clsm_model.specs.Seats.{due_after, open_after}
 use Rattle.clsm_model.proofs.Rising.{last_due-append, last_open-append}
 use Rattle.clsm_audit.specs.declared.seat.SeatState.{SeatState}
 use Rattle.clsm_audit.specs.Lawful.{calls_of}

@@ -15,7 +15,8 @@ use Rattle.clsm_model.specs.declared.slot.Slot.{Slot}
 use Rattle.clsm_model.specs.declared.slot.Slot.TheVariants.{Wrote}
 use Rattle.clsm_model.specs.History.{History, IsReadable, slot_at}
 use Rattle.clsm_model.specs.Right.{Reads, write_by}
-use Rattle.clsm_model.specs.Seats.{AreCallsIn, HasEachWrite, IsNext, IsRecordIn, IsRightDeed, IsRightRecord, Rises, StandsAs, due_after, last_due, last_open, open_after}
+use Rattle.clsm_model.specs.Seats.{AreCallsIn, HasEachWrite, IsNext, IsRecordIn, IsRightDeed, IsRightRecord, Rises, StandsAs, due_after, last_due, open_after}
+use Rattle.clsm_model.proofs.Rising.{rises_append}
 use Rattle.clsm_audit.specs.Faults.{HasNone, IsSecondAt}
 use Rattle.clsm_audit.specs.Lawful.{IsAtSnapshot, IsFromDue, IsFromDueAt, IsKnown, IsKnownAt, IsRightAt, calls_of, due_of, open_of}
 use Rattle.clsm_audit.specs.Whole.{HasHistory, IsInRange}
@@ -203,10 +204,6 @@ is_next due None t (Scan lo hi rows) at from = from
 is_next due (Some s) t (Scan lo hi rows) at from = at
 is_next due None t (Page lo hi max rows more) at from = from
 is_next due (Some s) t (Page lo hi max rows more) at from = at
-
-rises_append : (due : ℕ) (snapshot : Option ℕ) (calls : List CallRecord) (r : CallRecord) → Rises due snapshot calls → IsNext (last_due due snapshot calls) (last_open snapshot calls) r.time r.deed → Rises due snapshot (calls ++ r ∷ [])
-rises_append due snapshot [] r rises next = (next, tt)
-rises_append due snapshot (c ∷ cs) r rises next = (rises.0, rises_append (due_after due snapshot c.time c.deed) (open_after snapshot c.time c.deed) cs r rises.1 next)
 
 -- with one record more, which may come next after the calls of its own seat
 rises_more : (before : List CallRecord) (r : CallRecord) (seat : ℕ) → IsNext (due_of before r.seat) (open_of before r.seat) r.time r.deed → Rises 0 None (calls_of before seat) → Rises 0 None (calls_of (before ++ r ∷ []) seat)

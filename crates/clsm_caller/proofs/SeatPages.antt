@@ -12,7 +12,7 @@ use Rattle.clsm_model.specs.Right.{first_key}
 use Rattle.clsm_model.proofs.Pages.{or_none, page_of, page_of_all, rise-nil, value_at-append, value_at-here}
 use Rattle.clsm_law.specs.SeatReads.{IsNextKey, IsPageOf, IsRangeBelow}
 use Rattle.clsm_caller.proofs.SeatRanges.{KeysRise-next, next-KeysRise, key_at}
-use Rattle.clsm_caller.proofs.SeatRows.{value_at-row, value_at-some}
+use Rattle.clsm_caller.proofs.SeatRows.{some_is_not_none, value_at-row, value_at-some}
 
 -- ---- rows one behind the other
 
@@ -22,9 +22,6 @@ value_at-absent P rows k all other = at (value_at rows k) refl where
   at : (o : Option (List ℕ)) → value_at rows k ≡ o → value_at rows k ≡ None
   at None e = e
   at (Some v) e = let row = value_at-row P rows k v all e in absurd (other row.0 row.2 row.1)
-
-some_is_not_none : {A : Type 0} {a : A} → Some a ≡ None → ⊥
-some_is_not_none e = cc
 
 rises : (rows : List Pair) → KeysRise rows → (i j : ℕ) → i < j → j < length rows → (get_or rows i (0, [])).0 < (get_or rows j (0, [])).0
 rises rows rise i j lt in_rows =

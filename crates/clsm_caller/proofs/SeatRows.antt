@@ -46,7 +46,7 @@ value_at-row P (row ∷ rows) k v all e =
     (λ same is. (row, sym same, all zero row (omega arith)))
     (λ ne is. value_at-row P rows k v (λ i d lt. all (suc i) d (omega arith)) is) e
 
-some_is_not_none : {A : Type 0} {a : A} → Some a ≡ None → ⊥
+pub some_is_not_none : {A : Type 0} {a : A} → Some a ≡ None → ⊥
 some_is_not_none e = cc
 
 -- and each row's key has one

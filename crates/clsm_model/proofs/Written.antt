@@ -1,5 +1,5 @@
 -- Each write of a seat is the write of exactly one of its records, since their times rise.
-use Rattle.std.proofs.Common.{◌≡◌, ℕ, ◌+◌, ◌<◌, ◌≤◌, ◌==◌, ◌&&◌, ◌⊎◌, inl, inr, Bool, true, false, true≢false, cond, filter, List, [], ◌∷◌, Option, Some, None, refl, sym, ap, ◌∙◌, subst, arith, ⊎_elim}
+use Rattle.std.proofs.Common.{◌≡◌, ℕ, ◌+◌, ◌<◌, ◌≤◌, ◌==◌, ◌&&◌, inl, inr, Bool, true, false, true≢false, cond, List, [], ◌∷◌, Option, Some, refl, sym, ap, ◌∙◌, arith, ⊎_elim}
 use Rattle.std.specs.Prelude.{is_some}
 use Rattle.std.proofs.lemmas.Bool.{cases_Bool, eq-eqb, eqb-true}
 use Rattle.clsm_model.specs.declared.slot.Slot.{Slot}
@@ -8,7 +8,7 @@ use Rattle.clsm_model.specs.declared.record.Deed.{Deed}
 use Rattle.clsm_model.specs.declared.record.Deed.TheVariants.{Put, Remove, Rmw, Get, Snapshot, Close, GetAt, Scan, Page}
 use Rattle.clsm_model.specs.declared.record.CallRecord.{CallRecord}
 use Rattle.clsm_model.specs.Right.{write_by}
-use Rattle.clsm_model.specs.Seats.{HasWrite, IsNext, IsNextRead, Rises, due_after, open_after, writes_at}
+use Rattle.clsm_model.specs.Seats.{HasWrite, IsNext, Rises, due_after, open_after, writes_at}
 use Rattle.clsm_model.proofs.Rising.{due_grows}
 
 -- ---- one call
