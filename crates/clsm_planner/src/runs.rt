@@ -1,8 +1,8 @@
 //! Looks at the runs of a component, in the order of their entries: what stands there does not
 //! change while it is held.
 use crate::made::{Made, Stop};
-use clsm_law::Word;
-use clsm_levels::Entry;
+use clsm_law::{Word, level_one_place};
+use clsm_levels::{Entry, level_zero_runs};
 use clsm_model::{Time, Value};
 
 /// The parts of an entry: its key, twice its time and 1 more for a removal, the number of its
@@ -14,9 +14,6 @@ const TIME: u64 = 1;
 const LENGTH: u64 = 2;
 
 const VALUE: u64 = 3;
-
-/// The first place of level 1.
-const LEVEL_ONE: u64 = 3;
 
 fn part_of(made: &mut Made, place: u64, entry: u64, part: u64) -> Result<u64, Stop> {
     made.look(Word::Entry { place, entry, part })
@@ -78,8 +75,8 @@ pub(crate) fn search(
     hi: u64,
     until: Time,
 ) -> Result<Option<Entry>, Stop> {
-    let mut least = first_of(made, LEVEL_ONE + component / 4 % 2, lo, hi, until)?;
-    for place in 0..component % 4 {
+    let mut least = first_of(made, level_one_place(component), lo, hi, until)?;
+    for place in 0..level_zero_runs(component) {
         let last = match &least {
             Some(entry) => entry.key,
             None => hi,
