@@ -1,5 +1,5 @@
 -- What the merger knows of a frozen epoch and of the runs stays while it makes the merge ready.
-use Rattle.std.proofs.Common.{◌≡◌, ℕ, ◌+◌, ◌*◌, ◌<◌, ◌≤◌, ◌^◌, true, false, List, subst, length, get_or, ap, sym, ◌∙◌, arith}
+use Rattle.std.proofs.Common.{◌≡◌, ℕ, ◌+◌, ◌*◌, ◌<◌, true, false, List, get_or, ap, sym, ◌∙◌}
 use mathlib.Core.List.{IsPrefix}
 use Rattle.std.proofs.lemmas.List.{get_or_append_left}
 use Rattle.clsm_model.specs.declared.slot.Slot.{Slot}

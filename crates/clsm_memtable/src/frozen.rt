@@ -115,7 +115,11 @@ pub(crate) fn key_at<P: Pace>(words: &Words<P>, merger: &mut RawMerger, time: Ti
 }
 
 /// The write of the time, if it is one.
-pub(crate) fn entry_at<P: Pace>(words: &Words<P>, merger: &mut RawMerger, time: Time) -> Option<Entry>
+pub(crate) fn entry_at<P: Pace>(
+    words: &Words<P>,
+    merger: &mut RawMerger,
+    time: Time,
+) -> Option<Entry>
     requires of { IsSeatOf words.now merger.old }
     requires frozen { IsOfFrozen merger.old.knows time }
     ensures of { IsSeatOf words.now merger.new }

@@ -1,8 +1,7 @@
 -- The first row of a merge: the epoch's writes, as the walk yields them.
-use Rattle.std.proofs.Common.{◌≡◌, ◌≢◌, ℕ, zero, suc, ◌+◌, List, [], ◌∷◌, drop, refl, sym, ap, ◌∙◌, subst, arith, Option, Some, None}
+use Rattle.std.proofs.Common.{◌≡◌, ℕ, zero, suc, ◌+◌, List, [], ◌∷◌, drop, refl, sym, ap, ◌∙◌, subst, arith, Option, Some, None}
 use Rattle.clsm_levels.specs.declared.entry.Entry.{Entry}
-use Rattle.clsm_levels.specs.declared.cursor.Cursor.{Cursor}
-use Rattle.clsm_levels.specs.Cursors.{cursor_at, first_of}
+use Rattle.clsm_levels.specs.Cursors.{first_of}
 use Rattle.clsm_law.specs.declared.word.Word.{Word}
 use Rattle.clsm_words.specs.declared.known.Known.{Known}
 use Rattle.clsm_words.specs.Changing.{Changes}

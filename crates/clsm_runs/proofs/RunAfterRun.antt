@@ -1,5 +1,5 @@
 -- A search of the runs of a component, one after the other.
-use Rattle.std.proofs.Common.{◌≡◌, ℕ, zero, suc, ◌+◌, ◌-◌, ◌/◌, ◌%◌, ◌<◌, List, refl, sym, ap, ◌∙◌, arith, Option, Some, None}
+use Rattle.std.proofs.Common.{◌≡◌, ℕ, zero, suc, ◌+◌, ◌-◌, ◌/◌, ◌%◌, ◌<◌, List, sym, ap, ◌∙◌, arith, Option, Some, None}
 use Rattle.clsm_model.specs.History.{or_else}
 use Rattle.clsm_model.proofs.Pages.{or_none}
 use Rattle.clsm_levels.specs.declared.entry.Entry.{Entry}

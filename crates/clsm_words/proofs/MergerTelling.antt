@@ -73,8 +73,8 @@ module _ (s : State ℕ Known) (id : ℕ) (k : Known) (r : Ruled k.layout s) (at
       let frozen' : is_frozen r.merger.phase ≡ true = ap (λ (m : MergerView). is_frozen m.phase) (sym view) ∙ frozen in
       let region = r.merger.merged % 2 in
       let leads = links_lead k.layout (link_of (memory k.layout s.words) region) (λ q. time_in k.layout r.merger.merged (q - 1)) 0 (r.lawful.orders region)
-          (r.lawful.law.ordered region (mod_below r.merger.merged 2 (omega arith))) (own_place g frozen') p rest
-          (subst (λ (m : MergerView). IsRestFrom k.layout 0 (frozen_times k.layout m r.lawful.orders) p rest) view behind) in
+      (r.lawful.law.ordered region (mod_below r.merger.merged 2 (omega arith))) (own_place g frozen') p rest
+      (subst (λ (m : MergerView). IsRestFrom k.layout 0 (frozen_times k.layout m r.lawful.orders) p rest) view behind) in
       subst (λ (x : ℕ). LeadsTo k.layout x rest)
       (ap (λ (m : MergerView). memory k.layout s.words (Order (link_at (m.merged % 2) p))) (sym view) ∙ ap (λ (n : ℕ). memory k.layout s.words (Order n)) (sym is) ∙ sym (finds_word s id k r at merges (Look (Order link)) o)) leads
   tells_merger step o = tt

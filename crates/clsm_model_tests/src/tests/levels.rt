@@ -2,9 +2,7 @@
 ghost use Rattle.std.specs.Prelude.{◌≡◌};
 
 use crate::tests::{Wrong, optional_value, same};
-use clsm_levels::{
-    Cursor, Entry, Place, entries_of, judge, least, places, target, wanted,
-};
+use clsm_levels::{Cursor, Entry, Place, entries_of, judge, least, places, target, wanted};
 use clsm_model::Slot;
 use std::alloc::Global;
 

@@ -1,4 +1,4 @@
-use Rattle.std.proofs.Common.{◌≡◌, drop}
+use Rattle.std.proofs.Common.{drop}
 use Rattle.clsm_words.specs.Changing.{NoWord}
 use Rattle.clsm_memtable.specs.Frozen.{epoch_row}
 use Rattle.clsm_memtable.proofs.FrozenWalks.{epoch_row_stays}
