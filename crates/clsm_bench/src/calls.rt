@@ -1,7 +1,7 @@
 //! The calls of threads, that were all answered, and their time.
 ghost use Rattle.std.specs.Prelude.{◌≡◌, IfOk};
 
-use crate::draws::{Call, Draws, FILLER, Series, key_of};
+use crate::draws::{Call, FILLER, Series, key_of};
 use crate::failure::Failure;
 use crate::target::Target;
 use rand_pcg::Pcg32;
@@ -13,35 +13,16 @@ use std::sync::atomic::Ordering::SeqCst;
 use std::thread::{self, Threads};
 use std::time::Instant;
 
-/// How often a put is tried while there is no time for it, before the thread gives up.
-const MOST_TRIES: u32 = 1 << 24;
-
 /// How often a thread looks whether the others have come, before it goes on without them.
 const MOST_LOOKS: u32 = 1 << 20;
 
 /// Calls that were answered, and when they were made.
-#[derive(Clone, Copy)]
+#[derive(Drop)]
 pub struct Lap {
     /// The calls of each thread.
     pub calls: u32,
     pub start: Instant,
     pub end: Instant,
-}
-
-/// Makes the call, a put again while there is no time for it. Answers whether it was answered as it
-/// should be.
-#[inline]
-fn make<R: Wait>(rt: &R, alloc: Global, target: &mut Target, call: &Call) -> bool {
-    for _ in 0..MOST_TRIES {
-        if target.make(rt, alloc, call) {
-            return true;
-        }
-        if !matches!(call, Call::Put { .. }) {
-            return false;
-        }
-        thread::yield_now();
-    }
-    false
 }
 
 /// Puts at the filled keys of these indices, again from the first one on behind the last of so
@@ -57,7 +38,7 @@ pub fn put_filled<R: Wait>(
     for index in first..end {
         let index = index % keys.max(1);
         let (key, word) = (key_of(FILLER, index), u64::from(index));
-        if !make(rt, alloc, target, &Call::Put { key, word }) {
+        if !target.make(rt, alloc, &Call::Put { key, word }) {
             return Err(Failure::Unanswered);
         }
     }
@@ -75,17 +56,13 @@ fn work<R: Wait + Clock>(
 ) -> Result<Lap, Failure>
     ensures { IfOk result (λ lap. lap.calls ≡ calls) }
 {
-    let number = target.number;
-    let words = Pcg32::new(u64::from(number), 1);
-    let mut draws = Draws {
-        words,
-        series,
-        number,
-    };
+    let (Target::Store(number, _) | Target::Map(number, _)) = target;
+    let number = *number;
+    let mut words = Pcg32::new(u64::from(number), 1);
     let mut answered = 0;
     let start = Instant::now(rt)?;
     for index in 0..calls {
-        if !make(rt, alloc, target, &draws.call(index)) {
+        if !target.make(rt, alloc, &series.call(&mut words, number, index)) {
             return Err(Failure::Unanswered);
         }
         answered += 1;

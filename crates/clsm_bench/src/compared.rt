@@ -2,22 +2,14 @@
 use crate::audits::audit_lap;
 use crate::calls::Lap;
 use crate::failure::Failure;
-use crate::kinds::Beside;
-use crate::lines::{LINES, Line, Work};
-use crate::merges::{Step, merge_lap};
+use crate::lines::{Beside, Line, Role};
+use crate::merges::merge_lap;
 use crate::options::Options;
 use crate::series::{map_lap, store_lap};
 use std::alloc::{AllocError, Global};
 use std::rt::Clock;
 use std::sync::Wait;
 use std::thread::Threads;
-
-/// Which of two ways.
-#[derive(Drop)]
-enum Way {
-    First,
-    Second,
-}
 
 /// The picoseconds that a call of so many threads together took.
 fn picoseconds(lap: &Lap, threads: u32) -> u64 {
@@ -36,33 +28,23 @@ fn spread(alloc: Global, mut numbers: Vec<u64>) -> Result<String, AllocError> {
     format!(in alloc; "{median} [{least} {greatest}]")
 }
 
-/// Does the work once, in one of its ways.
+/// Does the work once: in the first of its ways, or in the second.
 fn lap<R: Threads + Sync + Clock + Wait>(
     rt: &R,
     alloc: Global,
-    work: &Work,
+    line: &Line,
     options: &Options,
     threads: u32,
-    way: Way,
+    is_second: bool,
 ) -> Result<Lap, Failure> {
-    let nothing = &Beside::Nothing;
-    match (work, way) {
-        (Work::Calls(kind), Way::First) => store_lap(rt, alloc, kind, nothing, options, threads),
-        (Work::Calls(kind), Way::Second) => map_lap(rt, alloc, kind, options, threads),
-        (Work::Beside(kind, beside), Way::First) => {
-            store_lap(rt, alloc, kind, beside, options, threads)
-        }
-        (Work::Beside(kind, _), Way::Second) => {
-            store_lap(rt, alloc, kind, nothing, options, threads)
-        }
-        (Work::Merges(merges), way) => {
-            let is_open = matches!(way, Way::Second);
-            merge_lap(rt, alloc, options, *merges, &Step::Merge, is_open)
-        }
-        (Work::Freeze, Way::First) => merge_lap(rt, alloc, options, 1, &Step::Freeze, false),
-        (Work::Freeze, Way::Second) => merge_lap(rt, alloc, options, 1, &Step::Reclaim, false),
-        (Work::Audit, Way::First) => audit_lap(rt, alloc, options.calls),
-        (Work::Audit, Way::Second) => audit_lap(rt, alloc, options.calls / 10),
+    let Line(_, _, _, _, role, _, beside) = line;
+    match (role, beside) {
+        (Role::Merges(_) | Role::Freeze, _) => merge_lap(rt, alloc, role, options, is_second),
+        (Role::Audit, _) if is_second => audit_lap(rt, alloc, options.calls / 10),
+        (Role::Audit, _) => audit_lap(rt, alloc, options.calls),
+        (_, Beside::Nothing) if is_second => map_lap(rt, alloc, line, options, threads),
+        _ if is_second => store_lap(rt, alloc, line, &Beside::Nothing, options, threads),
+        _ => store_lap(rt, alloc, line, beside, options, threads),
     }
 }
 
@@ -70,16 +52,16 @@ fn lap<R: Threads + Sync + Clock + Wait>(
 /// once more before, to warm up. Prints the line: the picoseconds of a call of all threads
 /// together, in the first way and in the second, and how many hundredths of the first the second
 /// is. Of no round that is kept it prints the calls alone.
-fn compare<R: Threads + Sync + Clock + Wait + Print + AllocGlobal>(
+pub fn compare<R: Threads + Sync + Clock + Wait + Print + AllocGlobal>(
     rt: &R,
     line: &Line,
     options: &Options,
     threads: u32,
 ) -> Result<(), Failure> {
-    let Line(_, name, _, work) = line;
     let alloc = rt.alloc();
-    let first = lap(rt, alloc, work, options, threads, Way::First)?.calls;
-    let second = lap(rt, alloc, work, options, threads, Way::Second)?.calls;
+    let name = line.1;
+    let first = lap(rt, alloc, line, options, threads, false)?.calls;
+    let second = lap(rt, alloc, line, options, threads, true)?.calls;
     print!(rt; "{name} threads {threads} ")?;
     if options.repeat == 0 {
         println!(rt; "calls {first} and {second}")?;
@@ -88,9 +70,8 @@ fn compare<R: Threads + Sync + Clock + Wait + Print + AllocGlobal>(
     let (mut firsts, mut seconds) = (Vec::new(alloc), Vec::new(alloc));
     let mut percents = Vec::new(alloc);
     for _ in 0..options.repeat {
-        let first = lap(rt, alloc, work, options, threads, Way::First)?;
-        let second = lap(rt, alloc, work, options, threads, Way::Second)?;
-        let (first, second) = (picoseconds(&first, threads), picoseconds(&second, threads));
+        let first = picoseconds(&lap(rt, alloc, line, options, threads, false)?, threads);
+        let second = picoseconds(&lap(rt, alloc, line, options, threads, true)?, threads);
         firsts.push(first)?;
         seconds.push(second)?;
         percents.push(second.saturating_mul(100) / first.max(1))?;
@@ -99,35 +80,4 @@ fn compare<R: Threads + Sync + Clock + Wait + Print + AllocGlobal>(
     let percent = spread(alloc, percents)?;
     println!(rt; "ps {first} ps {second} percent {percent}")?;
     Ok(())
-}
-
-/// Prints the line for each of its numbers of threads; for the last alone where little is measured.
-fn compare_all<R: Threads + Sync + Clock + Wait + Print + AllocGlobal>(
-    rt: &R,
-    line: &Line,
-    options: &Options,
-) -> Result<(), Failure> {
-    let Line(_, _, numbers, _) = line;
-    for threads in *numbers {
-        if options.repeat > 0 || numbers.last() == Some(threads) {
-            compare(rt, line, options, *threads)?;
-        }
-    }
-    Ok(())
-}
-
-/// Prints the lines of the command, or all. Refused where the command is none.
-pub fn measure<R: Threads + Sync + Clock + Wait + Print + AllocGlobal>(
-    rt: &R,
-    command: Option<&str>,
-    options: &Options,
-) -> Result<(), Failure> {
-    let mut ended = Err(Failure::Usage);
-    for line in &LINES {
-        if command.unwrap_or(line.0) == line.0 {
-            compare_all(rt, line, options)?;
-            ended = Ok(());
-        }
-    }
-    ended
 }

@@ -1,5 +1,6 @@
 //! Which keys are called.
-use crate::kinds::{Draw, Kind, Order, Role};
+use crate::lines::{Line, Role};
+use crate::options::Options;
 use rand_core::utils::NextWord;
 use rand_pcg::Pcg32;
 use std::alloc::{AllocError, Global};
@@ -29,17 +30,9 @@ pub enum Call {
 /// too where they are scanned.
 #[derive(Drop)]
 pub struct Series<'a> {
-    pub kind: &'a Kind,
+    line: &'a Line,
     pub keys: u32,
-    pub sorted: Vec<u64>,
-}
-
-/// The draws of one thread.
-#[derive(Drop)]
-pub struct Draws<'a> {
-    pub words: Pcg32,
-    pub series: &'a Series<'a>,
-    pub number: u32,
+    sorted: Vec<u64>,
 }
 
 /// The key of a thread's write of this index: no other number or index has it, and near indices
@@ -58,25 +51,24 @@ fn below(bound: u32, word: u32) -> u32 {
 }
 
 impl<'a> Series<'a> {
-    pub fn new(alloc: Global, kind: &'a Kind, keys: u32) -> Result<Series<'a>, AllocError> {
+    pub fn new(alloc: Global, line: &'a Line, options: &Options) -> Result<Series<'a>, AllocError> {
+        let keys = line.filled(options);
         let mut sorted = Vec::new(alloc);
-        if let Role::Scans(_) | Role::Pages(_) = kind.0 {
+        if let Role::Scans(_) | Role::Pages(_) = line.4 {
             for index in 0..keys {
                 sorted.push(key_of(FILLER, index))?;
             }
             sorted.sort()?;
         }
-        Ok(Series { kind, keys, sorted })
+        Ok(Series { line, keys, sorted })
     }
-}
 
-impl Draws<'_> {
     /// A scan or page of so many filled keys, all of them at most, from one of them on.
     fn range(&self, word: u32, rows: u32, is_page: bool) -> Call {
-        let rows = self.series.sorted.len().min(rows as usize);
-        let starts = (self.series.sorted.len() - rows).saturating_add(1);
+        let rows = self.sorted.len().min(rows as usize);
+        let starts = (self.sorted.len() - rows).saturating_add(1);
         let first = below(u32::try_from(starts).unwrap_or(0), word) as usize;
-        let part = self.series.sorted.get(first..).unwrap_or(&[]);
+        let part = self.sorted.get(first..).unwrap_or(&[]);
         let lo = *part.first().unwrap_or(&0);
         let hi = *part.get(rows.saturating_sub(1)).unwrap_or(&0);
         match is_page {
@@ -85,42 +77,41 @@ impl Draws<'_> {
         }
     }
 
-    /// The thread's call of this index.
+    /// The call of this index of the thread with this number, which draws these words.
     #[inline]
-    pub fn call(&mut self, index: u32) -> Call {
-        let word = self.words.next_word();
-        let drawn = match self.series.kind.0 {
-            Role::Gets(Draw::Hot) | Role::Mixed(Draw::Hot) if word % 10 != 0 => {
-                below(HOT.min(self.series.keys), word)
-            }
-            _ => below(self.series.keys, word),
+    pub fn call(&self, words: &mut Pcg32, number: u32, index: u32) -> Call {
+        let word = words.next_word();
+        let drawn = match self.line.4 {
+            Role::HotGets | Role::HotMixed if word % 10 != 0 => below(HOT.min(self.keys), word),
+            _ => below(self.keys, word),
         };
-        let (key, old) = (key_of(FILLER, drawn), u64::from(drawn));
-        let new = u64::from(index);
-        match self.series.kind.0 {
-            Role::Gets(Draw::Absent) => Call::Get {
+        let (key, old, new) = (key_of(FILLER, drawn), u64::from(drawn), u64::from(index));
+        match self.line.4 {
+            Role::AbsentGets => Call::Get {
                 key: key_of(NOBODY, drawn),
                 word: None,
             },
-            Role::Puts(Order::Rising) => Call::Put {
-                key: (u64::from(self.number) << 32) | new,
+            Role::RisingPuts => Call::Put {
+                key: (u64::from(number) << 32) | new,
                 word: new,
             },
-            Role::OnePuts if self.number > 0 => Call::Get {
+            Role::OnePuts if number > 0 => Call::Get {
                 key,
                 word: Some(old),
             },
-            Role::Puts(Order::Scattered) | Role::OnePuts => Call::Put {
-                key: key_of(self.number, index % NEW_KEYS),
+            Role::Puts | Role::OnePuts => Call::Put {
+                key: key_of(number, index % NEW_KEYS),
                 word: new,
             },
-            Role::Mixed(_) if self.words.next_word() % 10 == 0 => Call::Put { key, word: old },
-            Role::Gets(_) | Role::Mixed(_) => Call::Get {
-                key,
-                word: Some(old),
-            },
+            Role::Mixed | Role::HotMixed if words.next_word() % 10 == 0 => {
+                Call::Put { key, word: old }
+            }
             Role::Scans(rows) => self.range(word, rows, false),
             Role::Pages(rows) => self.range(word, rows, true),
+            _ => Call::Get {
+                key,
+                word: Some(old),
+            },
         }
     }
 }

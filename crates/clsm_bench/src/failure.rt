@@ -3,7 +3,7 @@ use std::alloc::{AllocError, AllocFailed};
 use std::io;
 
 /// Why a measurement does not end well.
-#[derive(Clone, Copy)]
+#[derive(Drop)]
 pub enum Failure {
     /// The words on the command line are none of the program's.
     Usage,

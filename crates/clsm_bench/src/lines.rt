@@ -1,16 +1,32 @@
-//! The lines that are printed, by their commands.
-use crate::kinds::Draw::{Absent, Hot, Present};
-use crate::kinds::Filling::{BothEpochs, Epoch, HalfEpoch, Runs};
-use crate::kinds::Order::{Rising, Scattered};
-use crate::kinds::Role::{Gets, Mixed, OnePuts, Pages, Puts, Scans};
-use crate::kinds::{Beside, Kind};
+//! The lines that are printed, by their commands, and what is measured for each.
+use crate::draws::NEW_KEYS;
+use crate::lines::Beside::{Merger, Nothing, Scanner};
+use crate::lines::Filling::{BothEpochs, Epoch, HalfEpoch, Runs};
+use crate::lines::Role::*;
+use crate::options::Options;
+use clsm_store::Config;
 
 /// What is measured.
-pub enum Work {
-    /// Calls of threads on a store, beside those on a map under a lock.
-    Calls(Kind),
-    /// Calls of threads on a store with something beside them, beside the same calls alone.
-    Beside(Kind, Beside),
+pub enum Role {
+    /// Gets of the filled keys, each as often.
+    Gets,
+    /// The same, nine times in ten of one of a few.
+    HotGets,
+    /// Gets of keys that nothing was put at.
+    AbsentGets,
+    /// Puts at keys that had no value, each far from the one before.
+    Puts,
+    /// The same, each the next one above the one before.
+    RisingPuts,
+    /// The first thread puts at keys that had no value, the others get.
+    OnePuts,
+    /// Nine calls in ten are gets, the others puts at filled keys.
+    Mixed,
+    HotMixed,
+    /// Scans of a range that has so many keys, or of all keys if they are fewer.
+    Scans(u32),
+    /// Pages of so many rows, or of all keys if they are fewer. A page of one row is a seek.
+    Pages(u32),
     /// The last of so many merges under no snapshot, beside one under an old one. The first merge
     /// is into level 0, the fourth into level 1.
     Merges(u32),
@@ -20,258 +36,307 @@ pub enum Work {
     Audit,
 }
 
-/// A line: its command, its name, the numbers of threads that are measured, and the work.
+/// Where the filled keys are.
+pub enum Filling {
+    /// In the epoch, and nothing was merged.
+    Epoch,
+    /// In a run of level 1.
+    Runs,
+    /// In a run of level 1, and half an epoch of writes at the same keys.
+    HalfEpoch,
+    /// In a run of level 1, and a frozen epoch and half a new one of writes at the same keys.
+    BothEpochs,
+}
+
+/// What goes on beside the calls.
+pub enum Beside {
+    Nothing,
+    /// The merger sweeps again and again.
+    Merger,
+    /// A seat scans all keys again and again.
+    Scanner,
+}
+
+/// A line: its command, its name, the fewest and the most threads that are measured, what they do,
+/// where the filled keys are, and what goes on beside the threads.
 pub struct Line(
     pub &'static str,
     pub &'static str,
-    pub &'static [u32],
-    pub Work,
+    pub u32,
+    pub u32,
+    pub Role,
+    pub Filling,
+    pub Beside,
 );
 
-/// All records or all filled keys.
+/// All filled keys.
 const ALL: u32 = u32::MAX;
 
-const ONE: &[u32] = &[1];
+/// The most entries that a run has room for.
+const MOST_ENTRIES: u32 = 4_194_304;
 
-const UP_TO_FOUR: &[u32] = &[1, 2, 4];
+/// The rows that a thread scans or pages through at most in one round, but for those of a single
+/// call.
+const MOST_ROWS: u32 = 200_000;
 
-const TWO_AND_FOUR: &[u32] = &[2, 4];
+impl Line {
+    /// The keys that are written before the time is taken.
+    pub fn filled(&self, options: &Options) -> u32 {
+        let Line(_, _, _, _, role, filling, _) = self;
+        match (role, filling) {
+            (Puts | RisingPuts, Epoch) => 0,
+            (Mixed | HotMixed | OnePuts, Epoch) => options.keys.min(options.cells / 2),
+            (_, Epoch) => options.keys.min(options.cells),
+            _ => options.keys,
+        }
+    }
+
+    /// The calls for which each of so many threads has room, as many as the options say at most:
+    /// in one epoch, but for reads and beside a merger. Where others get or what is put has a
+    /// value, half of the times that are left are for puts: a reader may cancel one, and the put
+    /// then takes another.
+    pub fn calls(&self, is_merged: bool, options: &Options, threads: u32) -> u32 {
+        let room = match &self.4 {
+            _ if is_merged => options.calls,
+            Scans(rows) | Pages(rows) => {
+                let rows = options.keys.min(*rows);
+                (MOST_ROWS / rows.max(1)).max(1)
+            }
+            OnePuts => options.cells / 4,
+            Puts | RisingPuts => options.cells / threads.max(1),
+            Mixed | HotMixed => options.cells / 4 / threads.max(1),
+            _ => options.calls,
+        };
+        options.calls.min(room)
+    }
+
+    /// The sizes of a store for so many threads, with one more seat. A run has room for the filled
+    /// keys, and beside a merger also for the new keys of the threads, and four epochs.
+    pub fn sizes(&self, is_merged: bool, options: &Options, threads: u32) -> Config {
+        let mut run = self.filled(options);
+        if is_merged {
+            let new = threads.saturating_mul(options.calls.min(NEW_KEYS));
+            let epochs = options.cells.saturating_mul(4);
+            run = run.saturating_add(new).saturating_add(epochs);
+        }
+        Config {
+            cells: options.cells as usize,
+            seats: threads.saturating_add(1) as usize,
+            shards: 1,
+            run: run.clamp(4, MOST_ENTRIES) as usize,
+            patience: 16,
+        }
+    }
+}
 
 pub const LINES: [Line; 41] = [
-    Line(
-        "calls",
-        "gets present epoch",
-        UP_TO_FOUR,
-        Work::Calls(Kind(Gets(Present), Epoch)),
-    ),
-    Line(
-        "calls",
-        "gets hot epoch",
-        UP_TO_FOUR,
-        Work::Calls(Kind(Gets(Hot), Epoch)),
-    ),
+    Line("calls", "gets present epoch", 1, 4, Gets, Epoch, Nothing),
+    Line("calls", "gets hot epoch", 1, 4, HotGets, Epoch, Nothing),
     Line(
         "calls",
         "gets absent epoch",
-        UP_TO_FOUR,
-        Work::Calls(Kind(Gets(Absent), Epoch)),
+        1,
+        4,
+        AbsentGets,
+        Epoch,
+        Nothing,
     ),
-    Line(
-        "calls",
-        "gets present runs",
-        UP_TO_FOUR,
-        Work::Calls(Kind(Gets(Present), Runs)),
-    ),
-    Line(
-        "calls",
-        "gets hot runs",
-        UP_TO_FOUR,
-        Work::Calls(Kind(Gets(Hot), Runs)),
-    ),
-    Line(
-        "calls",
-        "gets absent runs",
-        UP_TO_FOUR,
-        Work::Calls(Kind(Gets(Absent), Runs)),
-    ),
-    Line(
-        "calls",
-        "puts scattered",
-        UP_TO_FOUR,
-        Work::Calls(Kind(Puts(Scattered), Epoch)),
-    ),
-    Line(
-        "calls",
-        "puts rising",
-        UP_TO_FOUR,
-        Work::Calls(Kind(Puts(Rising), Epoch)),
-    ),
-    Line(
-        "calls",
-        "one puts epoch",
-        TWO_AND_FOUR,
-        Work::Calls(Kind(OnePuts, Epoch)),
-    ),
-    Line(
-        "calls",
-        "one puts runs",
-        TWO_AND_FOUR,
-        Work::Calls(Kind(OnePuts, Runs)),
-    ),
-    Line(
-        "calls",
-        "mixed epoch",
-        UP_TO_FOUR,
-        Work::Calls(Kind(Mixed(Present), Epoch)),
-    ),
-    Line(
-        "calls",
-        "mixed hot epoch",
-        UP_TO_FOUR,
-        Work::Calls(Kind(Mixed(Hot), Epoch)),
-    ),
-    Line(
-        "beside",
-        "gets runs, merger",
-        UP_TO_FOUR,
-        Work::Beside(Kind(Gets(Present), Runs), Beside::Merger),
-    ),
-    Line(
-        "beside",
-        "puts, merger",
-        UP_TO_FOUR,
-        Work::Beside(Kind(Puts(Scattered), Epoch), Beside::Merger),
-    ),
+    Line("calls", "gets present runs", 1, 4, Gets, Runs, Nothing),
+    Line("calls", "gets hot runs", 1, 4, HotGets, Runs, Nothing),
+    Line("calls", "gets absent runs", 1, 4, AbsentGets, Runs, Nothing),
+    Line("calls", "puts scattered", 1, 4, Puts, Epoch, Nothing),
+    Line("calls", "puts rising", 1, 4, RisingPuts, Epoch, Nothing),
+    Line("calls", "one puts epoch", 2, 4, OnePuts, Epoch, Nothing),
+    Line("calls", "one puts runs", 2, 4, OnePuts, Runs, Nothing),
+    Line("calls", "mixed epoch", 1, 4, Mixed, Epoch, Nothing),
+    Line("calls", "mixed hot epoch", 1, 4, HotMixed, Epoch, Nothing),
+    Line("beside", "gets runs, merger", 1, 4, Gets, Runs, Merger),
+    Line("beside", "puts, merger", 1, 4, Puts, Epoch, Merger),
     Line(
         "beside",
         "one puts runs, merger",
-        TWO_AND_FOUR,
-        Work::Beside(Kind(OnePuts, Runs), Beside::Merger),
+        2,
+        4,
+        OnePuts,
+        Runs,
+        Merger,
     ),
-    Line(
-        "beside",
-        "gets runs, scans",
-        UP_TO_FOUR,
-        Work::Beside(Kind(Gets(Present), Runs), Beside::Scanner),
-    ),
-    Line(
-        "beside",
-        "puts runs, scans",
-        UP_TO_FOUR,
-        Work::Beside(Kind(Puts(Scattered), Runs), Beside::Scanner),
-    ),
+    Line("beside", "gets runs, scans", 1, 4, Gets, Runs, Scanner),
+    Line("beside", "puts runs, scans", 1, 4, Puts, Runs, Scanner),
     Line(
         "merges",
         "merge into level 0, under a snapshot",
-        ONE,
-        Work::Merges(1),
+        1,
+        1,
+        Merges(1),
+        Epoch,
+        Nothing,
     ),
     Line(
         "merges",
         "merge into level 1, under a snapshot",
-        ONE,
-        Work::Merges(4),
+        1,
+        1,
+        Merges(4),
+        Epoch,
+        Nothing,
     ),
-    Line("merges", "freeze, reclaim", ONE, Work::Freeze),
-    Line(
-        "scans",
-        "page of 1, epoch",
-        UP_TO_FOUR,
-        Work::Calls(Kind(Pages(1), Epoch)),
-    ),
+    Line("merges", "freeze, reclaim", 1, 1, Freeze, Epoch, Nothing),
+    Line("scans", "page of 1, epoch", 1, 4, Pages(1), Epoch, Nothing),
     Line(
         "scans",
         "scan of 16, epoch",
-        UP_TO_FOUR,
-        Work::Calls(Kind(Scans(16), Epoch)),
+        1,
+        4,
+        Scans(16),
+        Epoch,
+        Nothing,
     ),
     Line(
         "scans",
         "page of 16, epoch",
-        UP_TO_FOUR,
-        Work::Calls(Kind(Pages(16), Epoch)),
+        1,
+        4,
+        Pages(16),
+        Epoch,
+        Nothing,
     ),
     Line(
         "scans",
         "scan of 1,000, epoch",
-        ONE,
-        Work::Calls(Kind(Scans(1_000), Epoch)),
+        1,
+        1,
+        Scans(1_000),
+        Epoch,
+        Nothing,
     ),
     Line(
         "scans",
         "scan of all, epoch",
-        ONE,
-        Work::Calls(Kind(Scans(ALL), Epoch)),
+        1,
+        1,
+        Scans(ALL),
+        Epoch,
+        Nothing,
     ),
-    Line(
-        "scans",
-        "page of 1, runs",
-        ONE,
-        Work::Calls(Kind(Pages(1), Runs)),
-    ),
-    Line(
-        "scans",
-        "scan of 16, runs",
-        ONE,
-        Work::Calls(Kind(Scans(16), Runs)),
-    ),
-    Line(
-        "scans",
-        "page of 16, runs",
-        ONE,
-        Work::Calls(Kind(Pages(16), Runs)),
-    ),
+    Line("scans", "page of 1, runs", 1, 1, Pages(1), Runs, Nothing),
+    Line("scans", "scan of 16, runs", 1, 1, Scans(16), Runs, Nothing),
+    Line("scans", "page of 16, runs", 1, 1, Pages(16), Runs, Nothing),
     Line(
         "scans",
         "scan of 1,000, runs",
-        ONE,
-        Work::Calls(Kind(Scans(1_000), Runs)),
+        1,
+        1,
+        Scans(1_000),
+        Runs,
+        Nothing,
     ),
     Line(
         "scans",
         "scan of all, runs",
-        ONE,
-        Work::Calls(Kind(Scans(ALL), Runs)),
+        1,
+        1,
+        Scans(ALL),
+        Runs,
+        Nothing,
     ),
     Line(
         "scans",
         "page of 1, half an epoch",
-        ONE,
-        Work::Calls(Kind(Pages(1), HalfEpoch)),
+        1,
+        1,
+        Pages(1),
+        HalfEpoch,
+        Nothing,
     ),
     Line(
         "scans",
         "scan of 16, half an epoch",
-        ONE,
-        Work::Calls(Kind(Scans(16), HalfEpoch)),
+        1,
+        1,
+        Scans(16),
+        HalfEpoch,
+        Nothing,
     ),
     Line(
         "scans",
         "page of 16, half an epoch",
-        ONE,
-        Work::Calls(Kind(Pages(16), HalfEpoch)),
+        1,
+        1,
+        Pages(16),
+        HalfEpoch,
+        Nothing,
     ),
     Line(
         "scans",
         "scan of 1,000, half an epoch",
-        ONE,
-        Work::Calls(Kind(Scans(1_000), HalfEpoch)),
+        1,
+        1,
+        Scans(1_000),
+        HalfEpoch,
+        Nothing,
     ),
     Line(
         "scans",
         "scan of all, half an epoch",
-        ONE,
-        Work::Calls(Kind(Scans(ALL), HalfEpoch)),
+        1,
+        1,
+        Scans(ALL),
+        HalfEpoch,
+        Nothing,
     ),
     Line(
         "scans",
         "page of 1, both epochs",
-        ONE,
-        Work::Calls(Kind(Pages(1), BothEpochs)),
+        1,
+        1,
+        Pages(1),
+        BothEpochs,
+        Nothing,
     ),
     Line(
         "scans",
         "scan of 16, both epochs",
-        ONE,
-        Work::Calls(Kind(Scans(16), BothEpochs)),
+        1,
+        1,
+        Scans(16),
+        BothEpochs,
+        Nothing,
     ),
     Line(
         "scans",
         "page of 16, both epochs",
-        ONE,
-        Work::Calls(Kind(Pages(16), BothEpochs)),
+        1,
+        1,
+        Pages(16),
+        BothEpochs,
+        Nothing,
     ),
     Line(
         "scans",
         "scan of 1,000, both epochs",
-        ONE,
-        Work::Calls(Kind(Scans(1_000), BothEpochs)),
+        1,
+        1,
+        Scans(1_000),
+        BothEpochs,
+        Nothing,
     ),
     Line(
         "scans",
         "scan of all, both epochs",
-        ONE,
-        Work::Calls(Kind(Scans(ALL), BothEpochs)),
+        1,
+        1,
+        Scans(ALL),
+        BothEpochs,
+        Nothing,
     ),
-    Line("audit", "audit of all and of a tenth", ONE, Work::Audit),
+    Line(
+        "audit",
+        "audit of all and of a tenth",
+        1,
+        1,
+        Audit,
+        Epoch,
+        Nothing,
+    ),
 ];

@@ -8,27 +8,49 @@ mod calls;
 mod compared;
 mod draws;
 mod failure;
-mod kinds;
 mod lines;
 mod merges;
 mod options;
 mod series;
 mod target;
 
-use crate::compared::measure;
+use crate::compared::compare;
 use crate::failure::Failure;
+use crate::lines::{LINES, Line};
 use crate::options::Options;
 use std::process::ExitCode;
 use std::rt::{Clock, Env};
 use std::sync::Wait;
 use std::thread::Threads;
 
+/// Prints the lines of the command, or all: each for its numbers of threads, or for the last alone
+/// where little is measured. Refused where the command is none.
+fn measure<R: Threads + Sync + Clock + Wait + Print + AllocGlobal>(
+    rt: &R,
+    command: Option<&str>,
+    options: &Options,
+) -> Result<(), Failure> {
+    let mut ended = Err(Failure::Usage);
+    for line in &LINES {
+        let Line(name, _, fewest, most, ..) = line;
+        if command.unwrap_or(name) != *name {
+            continue;
+        }
+        for threads in [1, 2, 4] {
+            if threads == *most || (options.repeat > 0 && *fewest <= threads && threads < *most) {
+                compare(rt, line, options, threads)?;
+            }
+        }
+        ended = Ok(());
+    }
+    ended
+}
+
 /// Does the work that the words on the command line ask for, or a little of each.
 fn bench<R: Threads + Sync + Clock + Wait + Env + Print + AllocGlobal>(
     rt: &R,
 ) -> Result<(), Failure> {
-    let alloc = rt.alloc();
-    let words: Vec<String> = std::env::args(rt)?.skip(1).collect(alloc)?;
+    let words: Vec<String> = std::env::args(rt)?.skip(1).collect(rt.alloc())?;
     let Some((command, pairs)) = words.split_first() else {
         return measure(rt, None, &Options::FEW);
     };

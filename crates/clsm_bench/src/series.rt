@@ -4,9 +4,9 @@ ghost use Rattle.std.specs.Prelude.{◌≡◌, All};
 use crate::calls::{Lap, put_filled, work_all};
 use crate::draws::{Call, Series};
 use crate::failure::Failure;
-use crate::kinds::{Beside, Filling, Kind};
+use crate::lines::{Beside, Filling, Line};
 use crate::options::Options;
-use crate::target::{Place, Target};
+use crate::target::Target;
 use clsm_store::{Caller, Merger, Opened, Seat, Store, open};
 use clsm_words::Free;
 use std::alloc::Global;
@@ -23,10 +23,7 @@ fn targets(alloc: Global, store: &Store<Free>, seats: Vec<Seat>) -> Result<Vec<T
 {
     let mut targets = Vec::with_capacity(alloc, seats.len())?;
     for seat in seats {
-        targets.push(Target {
-            number: seat.number(),
-            place: Place::Store(Caller::new(store, seat)),
-        })?;
+        targets.push(Target::Store(seat.number(), Caller::new(store, seat)))?;
     }
     Ok(targets)
 }
@@ -104,14 +101,15 @@ fn disturb<R: Wait>(
 pub fn store_lap<R: Threads + Sync + Clock + Wait>(
     rt: &R,
     alloc: Global,
-    kind: &Kind,
+    line: &Line,
     beside: &Beside,
     options: &Options,
     threads: u32,
 ) -> Result<Lap, Failure> {
-    let series = Series::new(alloc, kind, kind.filled(options))?;
-    let calls = kind.calls(beside, options, threads);
-    let Ok(opened) = open(alloc, kind.sizes(beside, options, threads)) else {
+    let series = Series::new(alloc, line, options)?;
+    let is_merged = matches!(beside, Beside::Merger);
+    let calls = line.calls(is_merged, options, threads);
+    let Ok(opened) = open(alloc, line.sizes(is_merged, options, threads)) else {
         return Err(Failure::Refused);
     };
     let Opened {
@@ -123,7 +121,7 @@ pub fn store_lap<R: Threads + Sync + Clock + Wait>(
     let mut extra = targets.pop().ok_or(Failure::Unanswered)?;
     let merger = Merger::new(&store, merger);
     let (keys, cells) = (series.keys, options.cells);
-    let merger = fill(rt, alloc, &mut extra, merger, &kind.1, keys, cells)?;
+    let merger = fill(rt, alloc, &mut extra, merger, &line.5, keys, cells)?;
     let stop = AtomicBool::new(false);
     let (disturbed, lap) = join(
         rt,
@@ -142,17 +140,16 @@ pub fn store_lap<R: Threads + Sync + Clock + Wait>(
 pub fn map_lap<R: Threads + Sync + Clock + Wait>(
     rt: &R,
     alloc: Global,
-    kind: &Kind,
+    line: &Line,
     options: &Options,
     threads: u32,
 ) -> Result<Lap, Failure> {
-    let series = Series::new(alloc, kind, kind.filled(options))?;
-    let calls = kind.calls(&Beside::Nothing, options, threads);
+    let series = Series::new(alloc, line, options)?;
+    let calls = line.calls(false, options, threads);
     let map = RwLock::new(BTreeMap::new(alloc));
     let mut targets = Vec::new(alloc);
     for number in 0..threads {
-        let place = Place::Map(&map);
-        targets.push(Target { number, place })?;
+        targets.push(Target::Map(number, &map))?;
     }
     if let Some(target) = targets.first_mut() {
         put_filled(rt, alloc, target, 0, series.keys, series.keys)?;

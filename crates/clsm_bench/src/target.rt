@@ -6,49 +6,56 @@ use clsm_words::Free;
 use std::alloc::Global;
 use std::collections::BTreeMap;
 use std::sync::{RwLock, Wait};
+use std::thread;
 
-/// A thread's place at what is measured.
-#[derive(Drop)]
-pub enum Place<'a> {
-    Store(Caller<'a, Free>),
-    Map(&'a RwLock<BTreeMap<u64, Value>>),
-}
+/// How often a put is tried while there is no time for it, before the thread gives up.
+const MOST_TRIES: u32 = 1 << 24;
 
-/// A thread, by its number, and its place.
+/// A thread, by its number, and its place at what is measured.
 #[derive(Drop)]
-pub struct Target<'a> {
-    pub number: u32,
-    pub place: Place<'a>,
+pub enum Target<'a> {
+    Store(u32, Caller<'a, Free>),
+    Map(u32, &'a RwLock<BTreeMap<u64, Value>>),
 }
 
 impl Target<'_> {
-    /// Makes the call, and answers whether it was answered as it should be.
+    /// Makes the call, a put again while there is no time for it. Answers whether it was answered
+    /// as it should be.
     #[inline]
     pub fn make<R: Wait>(&mut self, rt: &R, alloc: Global, call: &Call) -> bool {
-        match (&mut self.place, call) {
-            (Place::Store(caller), Call::Put { key, word }) => {
-                let value = Value::new(&[*word]).unwrap();
-                caller.put(rt, *key, value).is_ok()
-            }
-            (Place::Map(map), Call::Put { key, word }) => {
-                let value = Value::new(&[*word]).unwrap();
-                map.write(rt).insert(*key, value).is_ok()
-            }
-            (Place::Store(caller), Call::Get { key, word }) => match caller.get(*key).value {
-                Some(value) => Some(value.words()[0]) == *word,
-                None => word.is_none(),
+        match call {
+            Call::Put { key, word } => self.put(rt, *key, *word),
+            Call::Get { key, word } => match self {
+                Target::Store(_, caller) => match caller.get(*key).value {
+                    Some(value) => Some(value.words()[0]) == *word,
+                    None => word.is_none(),
+                },
+                Target::Map(_, map) => match map.read(rt).get(key) {
+                    Some(value) => Some(value.words()[0]) == *word,
+                    None => word.is_none(),
+                },
             },
-            (Place::Map(map), Call::Get { key, word }) => match map.read(rt).get(key) {
-                Some(value) => Some(value.words()[0]) == *word,
-                None => word.is_none(),
-            },
-            (_, Call::Scan { lo, hi, rows }) => {
-                self.rows(rt, alloc, *lo, *hi, None) == Some(*rows)
-            }
-            (_, Call::Page { from, rows }) => {
+            Call::Scan { lo, hi, rows } => self.rows(rt, alloc, *lo, *hi, None) == Some(*rows),
+            Call::Page { from, rows } => {
                 self.rows(rt, alloc, *from, u64::MAX, Some(*rows)) == Some(*rows)
             }
         }
+    }
+
+    #[inline]
+    fn put<R: Wait>(&mut self, rt: &R, key: u64, word: u64) -> bool {
+        let value = Value::new(&[word]).unwrap();
+        for _ in 0..MOST_TRIES {
+            let is_put = match self {
+                Target::Store(_, caller) => caller.put(rt, key, value).is_ok(),
+                Target::Map(_, map) => map.write(rt).insert(key, value).is_ok(),
+            };
+            if is_put {
+                return true;
+            }
+            thread::yield_now();
+        }
+        false
     }
 
     /// How many rows it reads of the range, or of its first so many.
@@ -60,16 +67,16 @@ impl Target<'_> {
         hi: u64,
         most: Option<usize>,
     ) -> Option<usize> {
-        let map = match (&mut self.place, most) {
-            (Place::Store(caller), Some(most)) => {
+        let map = match (self, most) {
+            (Target::Store(_, caller), Some(most)) => {
                 let page = caller.page(alloc, lo, hi, most).ok()?;
                 return Some(page.rows.as_slice().len());
             }
-            (Place::Store(caller), None) => {
+            (Target::Store(_, caller), None) => {
                 let scan = caller.scan(alloc, lo, hi).ok()?;
                 return Some(scan.rows.as_slice().len());
             }
-            (Place::Map(map), _) => map.read(rt),
+            (Target::Map(_, map), _) => map.read(rt),
         };
         let mut rows = Vec::new(alloc);
         if lo <= hi {
