@@ -3,6 +3,8 @@ use crate::line::{Line, record};
 use crate::play::{Play, Wrong};
 use crate::writes::{part_at, word_at, words_of};
 use clsm_core::{End, Part, Step, Word};
+use clsm_law::level_one_place;
+use clsm_levels::level_zero_runs;
 use clsm_model::{CallRecord, Deed, Time, Value};
 
 impl Play {
@@ -86,11 +88,11 @@ impl Play {
                 return self.spells(seat, None, cell, value);
             }
         }
-        let level_one = 3 + component / 4 % 2;
-        for number in 0..=component % 4 {
-            let place = match (component % 4).checked_sub(number + 1) {
+        let runs = level_zero_runs(component);
+        for number in 0..=runs {
+            let place = match runs.checked_sub(number + 1) {
                 Some(place) => place,
-                None => level_one,
+                None => level_one_place(component),
             };
             if let Some((entry, stamp)) = self.in_place(seat, place, key, time)? {
                 if (stamp % 2 == 1) != value.is_none() {
