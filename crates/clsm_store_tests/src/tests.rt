@@ -6,5 +6,4 @@ mod drawn;
 mod gate;
 mod held;
 mod hints;
-mod opening;
 mod tables;

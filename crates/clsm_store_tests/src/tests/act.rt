@@ -52,7 +52,7 @@ pub(super) enum Turn {
     Steps,
 }
 
-#[derive(PartialEq, Eq, Drop)]
+#[derive(PartialEq, Drop)]
 pub(super) enum Answer {
     At(Time),
     Full(Time),

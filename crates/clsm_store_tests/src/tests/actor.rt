@@ -199,7 +199,7 @@ impl<'a> Actor<'a> {
             let reads_snapshot = self.caller.snapshot_time().is_some();
             let call = draw(load, self.word, own, reads_snapshot);
             if let Answer::Full(_) = self.call(rt, alloc, &call) {
-                assert!(rt; load.mix == Mix::Changing);
+                assert!(rt; matches!(load.mix, Mix::Changing));
                 thread::yield_now();
             }
         }

@@ -3,7 +3,7 @@ use super::act::Act;
 use clsm_store::{Change, Value};
 
 /// What kinds of calls are drawn.
-#[derive(Clone, Copy, PartialEq, Eq)]
+#[derive(Clone, Copy)]
 pub(super) enum Mix {
     Puts,
     /// Calls of all kinds but read-modify-writes.
@@ -37,7 +37,7 @@ pub(super) fn draw(load: &Load, word: u64, own: u64, reads_snapshot: bool) -> Ac
     };
     let value = word >> 40;
     match word >> 60 {
-        _ if load.mix == Mix::Puts => Act::Put(key, word),
+        _ if matches!(load.mix, Mix::Puts) => Act::Put(key, word),
         0 => Act::Scan(key),
         1 => Act::Page(key, 3),
         2 if reads_snapshot => Act::Close,
@@ -47,7 +47,7 @@ pub(super) fn draw(load: &Load, word: u64, own: u64, reads_snapshot: bool) -> Ac
         5 => Act::Get(own),
         6..=9 => Act::Put(key, value),
         10 => Act::Remove(key),
-        11 | 12 if load.mix == Mix::Changing => Act::Change(key),
+        11 | 12 if matches!(load.mix, Mix::Changing) => Act::Change(key),
         13 if reads_snapshot => Act::GetAt(key),
         _ => Act::Get(key),
     }
