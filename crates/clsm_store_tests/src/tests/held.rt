@@ -301,6 +301,46 @@ pub(super) const CASES: &[Case] = &[
         round: &[],
     },
     Case {
+        name: "a merge passes a cell whose time was cancelled",
+        config: IMPATIENT,
+        gates: [
+            Hold {
+                seat: 1,
+                kind: Some(Kind::Decide),
+                passed: 0,
+                turn: NOBODY,
+            },
+            NOWHERE,
+        ],
+        phases: &[
+            [
+                NONE,
+                &[(PUT, Answer::At(1))],
+                &[WAIT, (GET, Answer::None(1)), LET_GO],
+                NONE,
+                NONE,
+            ],
+            [
+                &[
+                    (PUT_TOO, Answer::At(2)),
+                    (Act::Put(3, 30), Answer::At(3)),
+                    (Act::Freeze, Answer::Frozen(0)),
+                    (Act::Merge, Answer::Merged(1)),
+                    (Act::Reclaim, Answer::Clean),
+                    (GET, Answer::Got(4, 2)),
+                    (Act::Get(3), Answer::Got(4, 30)),
+                    (Act::Scan(0), Answer::Rows(4, 2)),
+                ],
+                NONE,
+                NONE,
+                NONE,
+                NONE,
+            ],
+        ],
+        rounds: 0,
+        round: &[],
+    },
+    Case {
         name: "a reader that is held in a get keeps its component",
         config: FOUR_CELLS,
         gates: [AT_CLOCK, NOWHERE],

@@ -400,7 +400,7 @@ fn cases_are_answered(rt: HostRuntime) -> Result<(), Fail> {
 const MERGER: u64 = 3;
 
 /// The steps of a merge of four cells that are all written.
-const MERGE_STEPS: u64 = 52;
+const MERGE_STEPS: u64 = 72;
 
 const SNAPSHOT_PHASES: &[Phase] = &[
     [
