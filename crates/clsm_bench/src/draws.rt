@@ -1,5 +1,5 @@
 //! Which keys are called.
-use crate::lines::{Line, Role};
+use crate::lines::{Filling, Line, Role};
 use crate::options::Options;
 use rand_core::utils::NextWord;
 use rand_pcg::Pcg32;
@@ -61,6 +61,19 @@ impl<'a> Series<'a> {
             sorted.sort()?;
         }
         Ok(Series { line, keys, sorted })
+    }
+
+    /// How many epochs are merged for the filling, how many keys are put at then before a freeze, and
+    /// how many behind it.
+    pub fn puts(&self, cells: u32) -> (u32, u32, u32) {
+        let merges = self.keys.div_ceil(cells.max(1));
+        let merges = merges.div_ceil(4).saturating_mul(4);
+        match self.line.5 {
+            Filling::Epoch => (0, 0, self.keys),
+            Filling::Runs => (merges, 0, 0),
+            Filling::HalfEpoch => (merges, 0, cells / 2),
+            Filling::BothEpochs => (merges, cells, cells / 2),
+        }
     }
 
     /// A scan or page of so many filled keys, all of them at most, from one of them on.

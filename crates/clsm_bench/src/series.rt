@@ -4,7 +4,7 @@ ghost use Rattle.std.specs.Prelude.{◌≡◌, All};
 use crate::calls::{Lap, put_filled, work_all};
 use crate::draws::{Call, Series};
 use crate::failure::Failure;
-use crate::lines::{Beside, Filling, Line};
+use crate::lines::{Beside, Line};
 use crate::options::Options;
 use crate::target::Target;
 use clsm_store::{Caller, Merger, Opened, Seat, Store, open};
@@ -34,19 +34,12 @@ fn fill<'a, R: Wait>(
     rt: &R,
     alloc: Global,
     target: &mut Target,
-    merger: Merger<'a, Free>,
-    filling: &Filling,
-    keys: u32,
+    mut merger: Merger<'a, Free>,
+    series: &Series,
     cells: u32,
 ) -> Result<Merger<'a, Free>, Failure> {
-    let merges = keys.div_ceil(cells.max(1)).div_ceil(4).saturating_mul(4);
-    let (merges, frozen, last) = match filling {
-        Filling::Epoch => (0, 0, keys),
-        Filling::Runs => (merges, 0, 0),
-        Filling::HalfEpoch => (merges, 0, cells / 2),
-        Filling::BothEpochs => (merges, cells, cells / 2),
-    };
-    let mut merger = merger;
+    let (merges, frozen, last) = series.puts(cells);
+    let keys = series.keys;
     let mut first = 0_u32;
     for _ in 0..merges {
         let end = first.saturating_add(cells).min(keys);
@@ -96,6 +89,33 @@ fn disturb<R: Wait>(
     Err(Failure::Unanswered)
 }
 
+/// The calls of the targets but the last one, which fills the store first and is then beside them.
+fn work_beside<R: Threads + Sync + Clock + Wait>(
+    rt: &R,
+    alloc: Global,
+    beside: &Beside,
+    mut targets: Vec<Target>,
+    mut merger: Merger<'_, Free>,
+    series: &Series,
+    cells: u32,
+    calls: u32,
+) -> Result<Lap, Failure> {
+    let mut extra = targets.pop().ok_or(Failure::Unanswered)?;
+    merger = fill(rt, alloc, &mut extra, merger, series, cells)?;
+    let stop = AtomicBool::new(false);
+    let (disturbed, lap) = join(
+        rt,
+        || -> Result<(), Failure> { disturb(rt, alloc, beside, extra, merger, series.keys, &stop) },
+        || -> Result<Lap, Failure> {
+            let lap = work_all(rt, alloc, targets, series, calls);
+            stop.store(true, SeqCst);
+            lap
+        },
+    );
+    disturbed?;
+    lap
+}
+
 /// The calls of each of so many threads on a store that is opened and filled for them, beside what
 /// is to go on at one more seat, which fills it.
 pub fn store_lap<R: Threads + Sync + Clock + Wait>(
@@ -117,23 +137,10 @@ pub fn store_lap<R: Threads + Sync + Clock + Wait>(
         seats,
         merger,
     } = opened;
-    let mut targets = targets(alloc, &store, seats)?;
-    let mut extra = targets.pop().ok_or(Failure::Unanswered)?;
+    let targets = targets(alloc, &store, seats)?;
     let merger = Merger::new(&store, merger);
-    let (keys, cells) = (series.keys, options.cells);
-    let merger = fill(rt, alloc, &mut extra, merger, &line.5, keys, cells)?;
-    let stop = AtomicBool::new(false);
-    let (disturbed, lap) = join(
-        rt,
-        || -> Result<(), Failure> { disturb(rt, alloc, beside, extra, merger, keys, &stop) },
-        || -> Result<Lap, Failure> {
-            let lap = work_all(rt, alloc, targets, &series, calls);
-            stop.store(true, SeqCst);
-            lap
-        },
-    );
-    disturbed?;
-    lap
+    let cells = options.cells;
+    work_beside(rt, alloc, beside, targets, merger, &series, cells, calls)
 }
 
 /// The same calls of a map that is made and filled for them.
