@@ -20,7 +20,6 @@ enum Wrong {
     Slots(usize),
     Least(usize),
     Judged(usize),
-    Lists(usize),
     Faults(usize),
     DrawnLists(usize),
     /// The drawn lists do not vary enough.
@@ -54,7 +53,6 @@ fn tables(alloc: Global) -> Result<(), Wrong> {
     levels::entries_of_slots(alloc)?;
     levels::least_of_cursors()?;
     levels::judge_by_the_floor()?;
-    audit::lists(alloc)?;
     audit::names(alloc)?;
     audit::drawn_lists(alloc)
 }

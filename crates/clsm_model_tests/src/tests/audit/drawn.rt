@@ -42,14 +42,6 @@ fn write_of(is_rmw: bool, key: u64, old: Option<Value>, left: Option<Value>) -> 
 }
 
 impl Played {
-    fn new(alloc: Global, seed: u64) -> Played {
-        Played {
-            draws: Pcg32::new(seed, 1),
-            slots: Vec::new(alloc),
-            open: [None; 3],
-        }
-    }
-
     /// The time of the next call that is not at an open snapshot.
     fn clock(&self) -> Time {
         self.slots.len() as u64
@@ -148,28 +140,23 @@ impl Played {
     }
 }
 
-/// The deed with a part of it altered.
-fn alter_deed(draws: &mut Pcg32, deed: &mut Deed) {
-    let drawn = draw_value(draws);
-    let drawn_key = draw_key(draws);
-    match deed {
-        Deed::Put { key, .. } | Deed::Remove { key } => *key = drawn_key,
-        Deed::Rmw { old, .. } => *old = drawn,
-        Deed::Get { reply, .. } | Deed::GetAt { reply, .. } => *reply = drawn,
-        Deed::Scan { hi, .. } => *hi = drawn_key,
-        Deed::Page { more, .. } => *more = Some(drawn_key),
-        Deed::Snapshot => *deed = Deed::Close,
-        Deed::Close => *deed = Deed::Snapshot,
-    }
-}
-
 /// Alters one field of the record.
 fn alter(draws: &mut Pcg32, call: &mut CallRecord) {
+    let drawn = draw_value(draws);
+    let drawn_key = draw_key(draws);
     match draws.next_word() % 8 {
         0 => call.seat = draws.next_word() % 4,
         1 => call.time = END - 1 + u64::from(draws.next_word() % 3),
         2 | 3 | 4 => call.time = u64::from(draws.next_word() % 8),
-        _ => alter_deed(draws, &mut call.deed),
+        _ => match &mut call.deed {
+            Deed::Put { key, .. } | Deed::Remove { key } => *key = drawn_key,
+            Deed::Rmw { old, .. } => *old = drawn,
+            Deed::Get { reply, .. } | Deed::GetAt { reply, .. } => *reply = drawn,
+            Deed::Scan { hi, .. } => *hi = drawn_key,
+            Deed::Page { more, .. } => *more = Some(drawn_key),
+            Deed::Snapshot => call.deed = Deed::Close,
+            Deed::Close => call.deed = Deed::Snapshot,
+        },
     }
 }
 
@@ -184,7 +171,11 @@ fn mix(draws: &mut Pcg32, records: &mut [CallRecord]) {
 
 /// The list of this number: lawful where the number is even, else with a field altered.
 pub fn draw(alloc: Global, number: u64) -> Result<Vec<CallRecord>, Memory> {
-    let mut played = Played::new(alloc, number);
+    let mut played = Played {
+        draws: Pcg32::new(number, 1),
+        slots: Vec::new(alloc),
+        open: [None; 3],
+    };
     let mut records = Vec::new(alloc);
     let calls = 2 + played.draws.next_word() % MORE_CALLS;
     for _ in 0..calls {

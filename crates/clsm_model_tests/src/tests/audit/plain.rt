@@ -154,36 +154,26 @@ fn is_wrong(records: &[CallRecord], call: &CallRecord) -> bool {
     }
 }
 
-/// Whether the record at the index has a fault of the kind.
-fn has_fault(
-    kind: FaultKind,
-    seats: u32,
-    records: &[CallRecord],
-    index: usize,
-    call: &CallRecord,
-) -> bool {
-    match kind {
-        FaultKind::Unknown => is_unknown(seats, records, index, call),
-        FaultKind::TwoAtOneTime => is_second(records, index, call),
-        FaultKind::TimeRanBack => ran_back(records, index, call),
-        FaultKind::WrongReply => is_wrong(records, call),
-    }
-}
-
-/// The first record that has a fault of the kind.
-fn first_fault(kind: FaultKind, seats: u32, records: &[CallRecord]) -> Option<(FaultKind, usize)> {
-    for (index, call) in records.iter().enumerate() {
-        if has_fault(kind, seats, records, index, call) {
-            return Some((kind, index));
+/// The fault that the audit is to find, or None: the first record that has a fault of the first kind
+/// of which there is one.
+pub fn second_check(seats: u32, records: &[CallRecord]) -> Option<(FaultKind, usize)> {
+    for kind in [
+        FaultKind::Unknown,
+        FaultKind::TwoAtOneTime,
+        FaultKind::TimeRanBack,
+        FaultKind::WrongReply,
+    ] {
+        for (index, call) in records.iter().enumerate() {
+            let has_fault = match kind {
+                FaultKind::Unknown => is_unknown(seats, records, index, call),
+                FaultKind::TwoAtOneTime => is_second(records, index, call),
+                FaultKind::TimeRanBack => ran_back(records, index, call),
+                FaultKind::WrongReply => is_wrong(records, call),
+            };
+            if has_fault {
+                return Some((kind, index));
+            }
         }
     }
     None
-}
-
-/// The fault that the audit is to find, or None.
-pub fn second_check(seats: u32, records: &[CallRecord]) -> Option<(FaultKind, usize)> {
-    first_fault(FaultKind::Unknown, seats, records)
-        .or(first_fault(FaultKind::TwoAtOneTime, seats, records))
-        .or(first_fault(FaultKind::TimeRanBack, seats, records))
-        .or(first_fault(FaultKind::WrongReply, seats, records))
 }
