@@ -11,6 +11,37 @@ use std::rt::Clock;
 use std::sync::Wait;
 use std::time::Instant;
 
+/// Puts so often at so many of the filled keys, and takes a turn of the merger behind it. Answers
+/// the time of the last turn; of a merge in the second way under a snapshot that was opened before.
+fn merge_often<R: Clock + Wait>(
+    rt: &R,
+    alloc: Global,
+    mut holder: Caller<'_, Free>,
+    mut target: Target,
+    mut merger: Merger<'_, Free>,
+    role: &Role,
+    (puts, keys): (u32, u32),
+    is_second: bool,
+) -> Result<Lap, Failure> {
+    let (merges, is_merge) = match role {
+        Role::Merges(merges) => (*merges, true),
+        _ => (1, false),
+    };
+    if is_merge && is_second && holder.snapshot().is_err() {
+        return Err(Failure::Unanswered);
+    }
+    let mut lap = Err(Failure::Unanswered);
+    for number in 0..merges {
+        let first = number.saturating_mul(puts);
+        let end = first.saturating_add(puts);
+        put_filled(rt, alloc, &mut target, first, end, keys)?;
+        let (next, last) = turn(rt, merger, is_merge, is_second)?;
+        merger = next;
+        lap = Ok(last);
+    }
+    lap
+}
+
 /// Puts the calls of the options at the filled keys of an empty store, freezes the epoch, merges it
 /// and gives up what that retired, and so often. Answers the time of the last merge, in the second
 /// way under a snapshot that was opened before; or of the freeze, in the second way of the reclaim.
@@ -22,10 +53,6 @@ pub fn merge_lap<R: Clock + Wait>(
     options: &Options,
     is_second: bool,
 ) -> Result<Lap, Failure> {
-    let (merges, is_merge) = match role {
-        Role::Merges(merges) => (*merges, true),
-        _ => (1, false),
-    };
     let puts = options.calls.min(options.cells);
     let config = Config {
         cells: options.cells as usize,
@@ -45,22 +72,11 @@ pub fn merge_lap<R: Clock + Wait>(
     let (Some(holder), Some(writer)) = (seats.pop(), seats.pop()) else {
         return Err(Failure::Unanswered);
     };
-    let mut holder = Caller::new(&store, holder);
-    if is_merge && is_second && holder.snapshot().is_err() {
-        return Err(Failure::Unanswered);
-    }
-    let mut target = Target::Store(0, Caller::new(&store, writer));
-    let mut merger = Merger::new(&store, merger);
-    let mut lap = Err(Failure::Unanswered);
-    for number in 0..merges {
-        let first = number.saturating_mul(puts);
-        let end = first.saturating_add(puts);
-        put_filled(rt, alloc, &mut target, first, end, options.keys)?;
-        let (next, last) = turn(rt, merger, is_merge, is_second)?;
-        merger = next;
-        lap = Ok(last);
-    }
-    lap
+    let holder = Caller::new(&store, holder);
+    let target = Target::Store(0, Caller::new(&store, writer));
+    let merger = Merger::new(&store, merger);
+    let sizes = (puts, options.keys);
+    merge_often(rt, alloc, holder, target, merger, role, sizes, is_second)
 }
 
 /// Freezes the epoch, merges it and gives up what that retired. Answers the time of the merge, or
