@@ -63,8 +63,8 @@ impl<'a> Series<'a> {
         Ok(Series { line, keys, sorted })
     }
 
-    /// How many epochs are merged for the filling, how many keys are put at then before a freeze, and
-    /// how many behind it.
+    /// How many epochs are merged for the filling, how many keys are put at then before a freeze,
+    /// and how many behind it.
     pub fn puts(&self, cells: u32) -> (u32, u32, u32) {
         let merges = self.keys.div_ceil(cells.max(1));
         let merges = merges.div_ceil(4).saturating_mul(4);

@@ -17,13 +17,13 @@
 //!
 //! What the world tells:
 //! - `has NUMBER WORD`, `has-none WORD`.
-//! - `undecided TIME`: it was not drawn, or is not decided yet. `nothing TIME`: it was cancelled, or
-//!   passed over. `wrote TIME SEAT KEY VALUE`: the seat wrote this there.
-//! - `calls SEAT COUNT`: it has so many records. `call INDEX SEAT TIME DEED`: the one of this index.
-//! - `is-run`: the events so far make the same world from the opening on. `refused-without N PLACE`:
-//!   without the event of this number they are refused at the place.
-//! - `layout` and five sizes that are asked for, and the cells, seats, chains and entries that there
-//!   then are. `no-layout` and five sizes, and the number of their refusal.
+//! - `undecided TIME`: it was not drawn, or is not decided yet. `nothing TIME`: it was cancelled,
+//!   or passed over. `wrote TIME SEAT KEY VALUE`: the seat wrote this there.
+//! - `calls SEAT COUNT`: it has so many records. `call INDEX SEAT TIME DEED`: that of this index.
+//! - `is-run`: the events so far make the same world from the opening on. `refused-without N
+//!   PLACE`: without the event of this number they are refused at the place.
+//! - `layout` and five sizes that are asked for, and the cells, seats, chains and entries that
+//!   there then are. `no-layout` and five sizes, and the number of their refusal.
 //!
 //! A second world, which is opened with the first: `copies` makes it a copy of the first, `swaps`
 //! takes the one for the other, and `equal` and `differ` compare them, by `==` and by hash.

@@ -12,8 +12,8 @@ impl Play {
     /// - `writes-run PLACE` and entries, each its key, its time and its value: writes them into the
     ///   place, and their number. `merges PLACE` and entries is a merge from its beginning to its
     ///   end.
-    /// - `clears REGION`: clears the heads, the ordered list and the states. `reclaims REGION` looks
-    ///   at the pins first.
+    /// - `clears REGION`: clears the heads, the ordered list and the states. `reclaims REGION`
+    ///   looks at the pins first.
     pub(crate) fn merge(&mut self, name: &str, mut line: Line) -> Result<(), Wrong> {
         match name {
             "freezes" => self.freezes(line.number()?),

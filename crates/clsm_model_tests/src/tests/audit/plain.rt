@@ -154,8 +154,8 @@ fn is_wrong(records: &[CallRecord], call: &CallRecord) -> bool {
     }
 }
 
-/// The fault that the audit is to find, or None: the first record that has a fault of the first kind
-/// of which there is one.
+/// The fault that the audit is to find, or None: the first record that has a fault of the first
+/// kind of which there is one.
 pub fn second_check(seats: u32, records: &[CallRecord]) -> Option<(FaultKind, usize)> {
     for kind in [
         FaultKind::Unknown,
