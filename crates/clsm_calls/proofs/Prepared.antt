@@ -1,6 +1,7 @@
 -- What the merger knows of a frozen epoch and of the runs stays while it makes the merge ready.
-use Rattle.std.proofs.Common.{◌≡◌, ℕ, ◌+◌, ◌*◌, ◌<◌, true, false, List, get_or, ap, sym, ◌∙◌}
+use Rattle.std.proofs.Common.{◌≡◌, ℕ, ◌+◌, ◌*◌, ◌<◌, ◌≤◌, true, false, List, length, get_or, ap, sym, subst, ◌∙◌, arith, lt_of_not-le}
 use mathlib.Core.List.{IsPrefix}
+use native.Mathlib.Decide.{dec_le}
 use Rattle.std.proofs.lemmas.List.{get_or_append_left}
 use Rattle.clsm_model.specs.declared.slot.Slot.{Slot}
 use Rattle.clsm_model.specs.declared.slot.Slot.TheVariants.{Nothing}
@@ -22,7 +23,7 @@ use Rattle.clsm_memtable.specs.Frozen.{epoch_row}
 use Rattle.clsm_memtable.proofs.FrozenTimes.{frozen_known}
 use Rattle.clsm_calls.specs.declared.merger_seat.MergerSeat.{MergerSeat}
 use Rattle.clsm_calls.specs.Freezing.{IsFrozen}
-use Rattle.clsm_calls.specs.Merging.{epoch_known, frozen_of, runs_known}
+use Rattle.clsm_calls.specs.Merging.{IsOfHistory, IsReady, epoch_known, frozen_of, merger_of, runs_known}
 
 -- the epoch's writes are those of the past
 pub epoch_is : (k : Known) → epoch_known k ≡ entries_of k.past (k.merger.merged * k.layout.cells) (epoch_end k.layout k.merger)
@@ -46,6 +47,28 @@ module _ (k k' : Known) (sound : IsSoundMerger k) (frozen : is_frozen k.merger.p
 -- so do the runs, where the words of their places are as they were
 pub runs_stay : (k k' : Known) → k'.merger.merged ≡ k.merger.merged → ((word : Word) → IsRunWord word → row_of k' word ≡ row_of k word) → runs_known k' ≡ runs_known k
 runs_stay k k' merged same = ap (runs_of (row_of k')) merged ∙ runs_same (row_of k) (row_of k') k.merger.merged (λ p named. record { count = same (Count p) tt; words = λ e i. same (EntryWord p e i) tt })
+
+-- while an epoch is frozen, what its token carries is of the history that the merger's seat knows
+module _ (m : MergerSeat) (sound : IsSoundMerger m.raw.knows) (frozen : IsFrozen m.raw.knows m.merges) (ready : IsReady m) where
+  abbrev k : Known
+  k = m.raw.knows
+
+  reached : epoch_end k.layout k.merger ≤ length k.past
+  reached = elim (dec_le (epoch_end k.layout k.merger) (length k.past)) [
+    | yes le ↦ le
+    | no nle ↦ absurd (let lt = lt_of_not-le nle in let below = frozen_known k (length k.past) sound frozen.out.free frozen.frozen lt in omega arith)
+  ]
+
+  of_known : IsOfHistory k.past (record (frozen_of m) { merger = record (merger_of m) { merges = k.merger.merged } })
+  of_known = record {
+    reaches = reached;
+    epoch = epoch_is k;
+    writes = sound.runs.content.writes;
+    exact = λ key time from to. let floor = ready.floor in let floors = sound.floors in sound.runs.content.exact key time (omega arith) to;
+  }
+
+  pub of_history : IsOfHistory k.past (frozen_of m)
+  of_history = subst (λ (n : ℕ). IsOfHistory k.past (record (frozen_of m) { merger = record (merger_of m) { merges = n } })) frozen.out.merged of_known
 
 -- what the merge reads of the epoch are its writes by rising key
 pub row_is : (k : Known) → epoch_row k ≡ merged (epoch_known k)

@@ -1,7 +1,12 @@
 -- What the merger's tokens carry, and what a merge makes of them.
 use Rattle.std.specs.Prelude.{◌≡◌, ℕ, ◌+◌, ◌*◌, ◌<◌, ◌≤◌, List, length, map, Some, vec_capacity, true}
+use Rattle.std.specs.List.{AllByRecursion}
+use Rattle.clsm_model.specs.declared.slot.Slot.{Slot}
+use Rattle.clsm_model.specs.History.{plain}
 use Rattle.clsm_levels.specs.declared.entry.Entry.{Entry}
+use Rattle.clsm_levels.specs.Entry.{IsWriteOf, entries_of}
 use Rattle.clsm_levels.specs.Merge.{is_to_level_one, wanted}
+use Rattle.clsm_levels.specs.Run.{IsExact, all_of}
 use Rattle.clsm_law.specs.Views.{next_word}
 use Rattle.clsm_law.specs.Worlds.{epoch_of, runs_of}
 use Rattle.clsm_words.specs.declared.known.Known.{Known}
@@ -33,6 +38,16 @@ frozen_of m = record { merger = merger_of m; floor = m.floor; rounds = m.raw.kno
 -- and while a component is retired: with what was noted of each seat
 abbrev pub retired_of : MergerSeat → RetiredState
 retired_of m = record { merger = merger_of m; floor = m.floor; rounds = m.raw.knows.merger.rounds; readers = m.seen.items }
+
+-- What the token of a frozen epoch carries is of the history h, whose times are known to the epoch's
+-- end. The epoch's writes are those of h at the epoch's times, the newest first. Each entry of the
+-- runs is a write of h, and from the floor on they answer as a plain map of h, at each time up to the
+-- epoch's first
+pub record IsOfHistory (h : List Slot) (s : FrozenState) : Type 0 where
+  pub reaches : (s.merger.merges + 1) * s.merger.store.layout.cells ≤ length h
+  pub epoch : s.epoch ≡ entries_of h (s.merger.merges * s.merger.store.layout.cells) ((s.merger.merges + 1) * s.merger.store.layout.cells)
+  pub writes : AllByRecursion (IsWriteOf (plain h)) (all_of s.runs)
+  pub exact : IsExact s.runs (plain h) s.floor (s.merger.merges * s.merger.store.layout.cells)
 
 -- it knows its floor, which is not past the end of the epoch of the next merge, and its walk has
 -- room for an epoch

@@ -21,8 +21,8 @@ pub record StaysOut (old new : Known) : Type 0 where
   pub place : KeepsPlace old new
   pub view : new.view ≡ record old.view { fresh_lock = new.view.fresh_lock; busy = new.view.busy }
 
--- it left: it does not hold the lock, what it looked at is no longer fresh, and it knows no place of
--- the ordered list
+-- it left: it does not hold the lock, what it looked at is no longer fresh, and it knows no place
+-- of the ordered list
 pub record Leaves (old new : Known) : Type 0 where
   pub place : KeepsPlace old new
   pub view : new.view ≡ record old.view { mode = Free; fresh_lock = None; fresh_clock = None; fresh_heads = blank (2 * old.layout.chains); met = 0; low = 0; high = 0 }

@@ -16,8 +16,8 @@ abbrev pub found_in_component : Known → ℕ → ℕ → ℕ → Option Entry
 found_in_component k component until key =
     or_else (first_below (entries_of k.past (component * k.layout.cells) until) key until) (first_in_runs (runs_of (row_of k) component) key until)
 
--- the seat holds the component, and knows what each of its times below `until` came to, which is not
--- past its later epoch
+-- the seat holds the component, and knows what each of its times below `until` came to, which is
+-- not past its later epoch
 pub record MayScan (k : Known) (component until : ℕ) : Type 0 where
   pub held : k.view.held ≡ Some component
   pub within : until ≤ (component + 2) * k.layout.cells

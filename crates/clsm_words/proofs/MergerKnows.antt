@@ -111,6 +111,7 @@ module _ (s : State ℕ Known) (k : Known) (r : Ruled k.layout s) (ok : IsMergin
     clock = λ e. all_known (sym (ap (λ (m : MergerView). m.exclusive) ok.view) ∙ e);
     mergeable = subst (IsMergeable k.layout k.row) (sym ok.view) mergeable;
     runs = subst (λ (m : MergerView). AreRuns k.layout (row_of k) (plain k.past) m.merged m.merged_floor) (sym ok.view) runs_known;
+    floors = subst (λ (m : MergerView). m.merged_floor ≤ m.floor) (sym ok.view) r.lawful.law.floors.merged;
     short = λ t i key written lt e. r.lawful.law.short t i key written (begins_at r.slots k.past ok.past t lt ∙ ap (λ (a : Slot). Some a) e);
     listed = λ frozen. listed_of (ap (λ (m : MergerView). is_frozen m.phase) (sym ok.view) ∙ frozen);
   }

@@ -136,9 +136,9 @@ pub record IsOwnPlace (k : Known) (p : ℕ) : Type 0 where
 -- what a seat knows of itself: the words of its open steps are there, the numbers that these make
 -- fit 64 bits, its records are right in its past and agree with it, and their times rise to its
 -- due, which is no time past the end; its drawn time is in the epoch of the limit that it looked at
--- in this hold of the lock, and so is each place of the ordered list that it met, or found before or
--- behind its drawn cell; the time of its open snapshot is within its past; what it may search; and
--- that each spot is the place of a cell, with one key
+-- in this hold of the lock, and so is each place of the ordered list that it met, or found before
+-- or behind its drawn cell; the time of its open snapshot is within its past; what it may search;
+-- and that each spot is the place of a cell, with one key
 pub record Sound (k : Known) : Type 0 where
   pub seated : k.seated ≡ true
   pub inside : k.number < k.layout.seats

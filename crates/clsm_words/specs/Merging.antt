@@ -95,8 +95,9 @@ IsRestBehind k p rest = IsRestFrom k.layout 0 k.trail p rest
 
 -- what the merger's seat knows of itself: the words of its open steps are there; the next merge can
 -- be decided by the words that it knows, and what its runs hold is what its past says; in its hold
--- of the lock its past ends at the clock; a write of its past is a removal or has one to eight
--- words; while an epoch is frozen its trail is the epoch's list
+-- of the lock its past ends at the clock; its floor is not below that of the last merge; a write of
+-- its past is a removal or has one to eight words; while an epoch is frozen its trail is the epoch's
+-- list
 pub record IsSoundMerger (k : Known) : Type 0 where
   pub merges : k.merges ≡ true
   pub there : (step : Step) → OpensToMerger k step → is_word k.layout (word_of_merger k.layout k.merger step) ≡ true
@@ -105,6 +106,7 @@ pub record IsSoundMerger (k : Known) : Type 0 where
   pub clock : k.merger.exclusive ≡ true → length k.past ≡ row_of k Clock
   pub mergeable : IsMergeable k.layout k.row k.merger
   pub runs : AreRuns k.layout (row_of k) (plain k.past) k.merger.merged k.merger.merged_floor
+  pub floors : k.merger.merged_floor ≤ k.merger.floor
   pub short : (t i key : ℕ) (written : Option (List ℕ)) → t < length k.past → slice_index_or k.past t Nothing ≡ Wrote i key written → IsShort written
   pub listed : is_frozen k.merger.phase ≡ true → IsListed k
 

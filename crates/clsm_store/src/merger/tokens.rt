@@ -105,12 +105,26 @@ impl Clean {
 }
 
 impl Frozen {
+    ghost use Rattle.std.specs.Prelude.{List};
+    ghost use Rattle.clsm_model.specs.declared.slot.Slot.{Slot};
+    ghost use Rattle.clsm_calls.specs.Merging.{IsOfHistory};
+
     /// The number of merges so far, which is the number of the frozen epoch.
     #[inline]
     pub fn merges(&self) -> u64
         ensures { result ≡ self.now.merger.merges }
     {
         self.merger.merges()
+    }
+
+    /// Shows what holds while an epoch is frozen: there is a history whose writes in the epoch are
+    /// those that the token carries, and which the runs answer for exactly from the floor on. It
+    /// does nothing when it runs.
+    #[inline]
+    pub fn show_history(&self)
+        ensures { (history : List Slot) × IsOfHistory history self.now }
+    {
+        self.merger.raw.show_invariant();
     }
 
     /// Merges the frozen epoch into a sorted run: of three merges each writes the epoch's run into
