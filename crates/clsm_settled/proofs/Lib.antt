@@ -1,3 +1,6 @@
 pub mod Joined
 pub mod Places
 pub mod Whole
+pub mod Checked
+pub mod Popped
+pub mod Raced

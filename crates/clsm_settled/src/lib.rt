@@ -16,8 +16,9 @@ use clsm_store::{Seat, Store};
 use clsm_words::Pace;
 use std::alloc::Global;
 
-#[cfg(test)]
-mod tests;
+mod race;
+
+pub use race::race_agrees;
 
 /// What holds of seats: none has a due past the end of time. It does nothing when it runs.
 fn are_in_time(seats: &[Seat])

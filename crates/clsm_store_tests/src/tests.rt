@@ -1,4 +1,5 @@
-//! Tests of the store: cases, each a table of acts that actors play on a store of its own.
+//! Tests of the store: cases, each a table of acts that actors play on a store of its own. And of
+//! what needs no store: tables of the model, of runs and of the audit.
 mod act;
 mod actor;
 mod case;
@@ -6,4 +7,6 @@ mod drawn;
 mod gate;
 mod held;
 mod hints;
+mod model;
+mod settled;
 mod tables;
