@@ -1,5 +1,8 @@
+pub mod Applied
+pub mod Batches
 pub mod Calls
 pub mod Indices
+pub mod Members
 pub mod OneHistory
 pub mod Orders
 pub mod Parts
@@ -9,6 +12,7 @@ pub mod Ranges
 pub mod Readings
 pub mod Seconds
 pub mod Slots
+pub mod Times
 pub mod Turns
 pub mod Walks
 pub mod WholeHistory

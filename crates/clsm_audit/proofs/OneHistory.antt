@@ -1,30 +1,30 @@
 -- Records with no fault are, seat by seat, the calls of the one history that they write.
-use Rattle.std.proofs.Common.{◌≡◌, ◌≢◌, ℕ, ◌+◌, ◌<◌, ◌≤◌, ◌==◌, ◌&&◌, zero, suc, Bool, true, false, cond, max, List, [], ◌∷◌, ◌++◌, length, filter, get_or, take, Option, Some, None, IfSome, IsSome, is_some, unwrap_or, refl, sym, ap, ◌∙◌, subst, arith, ⊎_elim, add-one}
-use Rattle.std.proofs.lemmas.Bool.{and_parts, cases_eq, cases_lt, eq-eqb, eqb-true}
+use Rattle.std.proofs.Common.{◌≡◌, ◌≢◌, ℕ, ◌+◌, ◌<◌, ◌≤◌, ◌==◌, zero, suc, Bool, true, false, cond, max, List, [], ◌∷◌, ◌++◌, length, filter, get_or, take, Option, Some, None, IfSome, is_some, unwrap_or, refl, sym, ap, ◌∙◌, subst, arith, ⊎_elim, add-one}
+use Rattle.std.proofs.lemmas.Bool.{cases_eq, cases_lt, eq-eqb, eqb-true}
 use Rattle.std.proofs.lemmas.List.{take_all}
-use Rattle.std.proofs.lemmas.List.FromFn.{length-map-range_with_len}
-use Rattle.std.proofs.lemmas.Option.{slice_get-get_or}
-use Rattle.std.specs.List.{AllByRecursion, slice_get}
+use Rattle.std.specs.List.{AllByRecursion, AllPairs, slice_get}
 use Rattle.std.specs.Option.{IsSomeAnd}
 use Rattle.clsm_model.specs.declared.config.Config.{Config}
 use Rattle.clsm_model.specs.declared.record.CallRecord.{CallRecord}
 use Rattle.clsm_model.specs.declared.record.Deed.{Deed}
-use Rattle.clsm_model.specs.declared.record.Deed.TheVariants.{Put, Remove, Rmw, Get, Snapshot, Close, GetAt, Scan, Page}
+use Rattle.clsm_model.specs.declared.record.Deed.TheVariants.{Put, Remove, Rmw, Get, Snapshot, Close, GetAt, Scan, Page, Batch as Group}
 use Rattle.clsm_model.specs.declared.slot.Change.TheVariants.{Keep, Set, Remove as Erase}
 use Rattle.clsm_model.specs.declared.slot.Slot.{Slot}
 use Rattle.clsm_model.specs.declared.slot.Slot.TheVariants.{Wrote}
-use Rattle.clsm_model.specs.History.{History, IsReadable, slot_at}
-use Rattle.clsm_model.specs.Right.{Reads, write_by}
-use Rattle.clsm_model.specs.Seats.{AreCallsIn, HasEachWrite, IsNext, IsRecordIn, IsRightDeed, IsRightRecord, Rises, StandsAs, due_after, last_due, open_after}
+use Rattle.clsm_model.specs.History.{end_of, slot_at}
+use Rattle.clsm_model.specs.Right.{write_at}
+use Rattle.clsm_model.specs.Seats.{AreCallsIn, HasEachWrite, IsListedRecord, IsNext, IsRecordIn, IsRightRecord, Rises, StandsAs, due_after, last_due, open_after}
 use Rattle.clsm_model.proofs.Rising.{rises_append}
 use Rattle.clsm_audit.specs.Faults.{HasNone, IsSecondAt}
-use Rattle.clsm_audit.specs.Lawful.{IsAtSnapshot, IsFromDue, IsFromDueAt, IsKnown, IsKnownAt, IsRightAt, calls_of, due_of, open_of}
-use Rattle.clsm_audit.specs.Whole.{HasHistory, IsInRange}
-use Rattle.clsm_audit.specs.Written.{end_by, history_of, slot_by, write_of}
+use Rattle.clsm_audit.specs.Lawful.{IsAtSnapshot, IsFromDue, IsFromDueAt, IsInRange, IsKnown, IsKnownAt, IsRightAt, calls_of, due_of, open_of}
+use Rattle.clsm_audit.specs.Whole.{HasHistory}
+use Rattle.clsm_audit.specs.Written.{AreApart, WritesAt, batches_of, end_by, history_of, slot_by, span_of, time_past, write_of}
+use Rattle.clsm_audit.proofs.Batches.{batches_apart as apart_from, listed_at}
 use Rattle.clsm_audit.proofs.Calls.{calls_of-other, calls_of-own}
 use Rattle.clsm_audit.proofs.Indices.{here_if, if_here, itself, nobody, past_end, taken_more}
-use Rattle.clsm_audit.proofs.Seconds.{some_within, two_writes}
-use Rattle.clsm_audit.proofs.Slots.{slot_at-history_of, slot_written}
+use Rattle.clsm_audit.proofs.Seconds.{here_some, some_within, two_writes}
+use Rattle.clsm_audit.proofs.Slots.{length-history_of, slot_at-history_of, slot_written}
+use Rattle.clsm_audit.proofs.Times.{is_by_seat}
 
 -- ---- a seat's calls, one by one
 
@@ -45,12 +45,13 @@ each_record P records each i =
 
 -- ---- the dues lie within the history
 
-due_after-le : (due : ℕ) (snapshot : Option ℕ) (t : ℕ) (deed : Deed) → due_after due snapshot t deed ≤ max due (t + 1)
+due_after-le : (due : ℕ) (snapshot : Option ℕ) (t : ℕ) (deed : Deed) → due_after due snapshot t deed ≤ max due (t + span_of deed)
 due_after-le due snapshot t (Put key written) = omega arith
 due_after-le due snapshot t (Remove key) = omega arith
 due_after-le due snapshot t (Rmw key old Keep) = omega arith
 due_after-le due snapshot t (Rmw key old (Set written)) = omega arith
 due_after-le due snapshot t (Rmw key old Erase) = omega arith
+due_after-le due snapshot t (Group members) = omega arith
 due_after-le due snapshot t (Get key reply) = omega arith
 due_after-le due snapshot t Snapshot = omega arith
 due_after-le due snapshot t Close = omega arith
@@ -63,7 +64,7 @@ due_after-le due (Some s) t (Page from hi max rows more) = omega arith
 last_due-le : (due : ℕ) (snapshot : Option ℕ) (calls : List CallRecord) → last_due due snapshot calls ≤ max due (end_by calls)
 last_due-le due snapshot [] = omega arith
 last_due-le due snapshot (r ∷ rs) =
-    let next = due_after-le due snapshot r.time r.deed in
+    let next : due_after due snapshot r.time r.deed ≤ max due (time_past r) = due_after-le due snapshot r.time r.deed in
     let rest = last_due-le (due_after due snapshot r.time r.deed) (open_after snapshot r.time r.deed) rs in
     omega arith
 
@@ -71,55 +72,34 @@ end_by-calls : (records : List CallRecord) (seat : ℕ) → end_by (calls_of rec
 end_by-calls [] seat = omega arith
 end_by-calls (r ∷ rs) seat =
     let rest = end_by-calls rs seat in
-    elim (r.seat == seat) as (λ (b : Bool). end_by (cond b (r ∷ calls_of rs seat) (calls_of rs seat)) ≤ max (r.time + 1) (end_by rs)) [ true ↦ omega arith | false ↦ omega arith ]
+    elim (r.seat == seat) as (λ (b : Bool). end_by (cond b (r ∷ calls_of rs seat) (calls_of rs seat)) ≤ max (time_past r) (end_by rs)) [ true ↦ omega arith | false ↦ omega arith ]
 
-length-history_of : (records : List CallRecord) → length (history_of records).slots ≡ end_by records
-length-history_of records = length-map-range_with_len (slot_by records) 0 (end_by records)
-
-due_within : (records : List CallRecord) (seat : ℕ) → due_of records seat ≤ length (history_of records).slots
+due_within : (records : List CallRecord) (seat : ℕ) → due_of records seat ≤ end_of (history_of records)
 due_within records seat =
     let a = last_due-le 0 None (calls_of records seat) in
     let b = end_by-calls records seat in
     let l = length-history_of records in
     omega arith
 
-time_within : (records : List CallRecord) (i : ℕ) → i < length records → (get_or records i nobody).time < end_by records
-time_within [] i lt = absurd (omega arith)
-time_within (r ∷ rs) zero lt = omega arith
-time_within (r ∷ rs) (suc i) lt = let rest = time_within rs i (omega arith) in omega arith
-
 -- ---- each write stands in the history, and each of the history is one of them
 
 stands : (records : List CallRecord) → HasNone (IsSecondAt records) → (seat i : ℕ) → i < length records → (get_or records i nobody).seat ≡ seat → IsRecordIn (history_of records).slots seat (get_or records i nobody)
-stands records alone seat i within own = (own, λ inside. by (write_by seat (get_or records i nobody).deed) refl) where
-  by : (o : Option Slot) → write_by seat (get_or records i nobody).deed ≡ o → StandsAs o (Some (slot_at (history_of records) (get_or records i nobody).time))
-  by None reads = tt
-  by (Some w) writes = ap Some (slot_written records alone i w within (ap (λ (n : ℕ). write_by n (get_or records i nobody).deed) own ∙ writes))
+stands records alone seat i within own = (own, λ t inside. by t (write_at seat (get_or records i nobody).time (get_or records i nobody).deed t) refl) where
+  by : (t : ℕ) (o : Option Slot) → write_at seat (get_or records i nobody).time (get_or records i nobody).deed t ≡ o → StandsAs o (Some (slot_at (history_of records) t))
+  by t None reads = tt
+  by t (Some w) writes = ap Some (slot_written records alone i t w within (ap (λ (n : ℕ). write_at n (get_or records i nobody).time (get_or records i nobody).deed t) own ∙ writes))
 
 -- a write bears the number of its seat
-seat_of_write : (number seat key : ℕ) (written : Option (List ℕ)) (deed : Deed) → write_by number deed ≡ Some (Wrote seat key written) → number ≡ seat
-seat_of_write number seat key written (Put k v) e = cc e
-seat_of_write number seat key written (Remove k) e = cc e
-seat_of_write number seat key written (Rmw k old Keep) e = cc e
-seat_of_write number seat key written (Rmw k old (Set v)) e = cc e
-seat_of_write number seat key written (Rmw k old Erase) e = cc e
-seat_of_write number seat key written (Get k reply) e = cc e
-seat_of_write number seat key written Snapshot e = cc e
-seat_of_write number seat key written Close e = cc e
-seat_of_write number seat key written (GetAt k reply) e = cc e
-seat_of_write number seat key written (Scan lo hi rows) e = cc e
-seat_of_write number seat key written (Page from hi max rows more) e = cc e
+own_seat : (r : CallRecord) (t seat key : ℕ) (written : Option (List ℕ)) → write_of r t ≡ Some (Wrote seat key written) → r.seat ≡ seat
+own_seat r t seat key written writes = let by = is_by_seat r t (Wrote seat key written) writes in let same = by.2 in cc same
 
 -- what a time came to, where it is a write, is the write of a record
-written_by : (records : List CallRecord) (t : ℕ) (seat key : ℕ) (written : Option (List ℕ)) → slot_by records t ≡ Wrote seat key written → (j : ℕ) × IsSomeAnd (slice_get records j) (λ r. (r.time ≡ t) × (write_of r ≡ Some (Wrote seat key written)))
+written_by : (records : List CallRecord) (t : ℕ) (seat key : ℕ) (written : Option (List ℕ)) → slot_by records t ≡ Wrote seat key written → (j : ℕ) × IsSomeAnd (slice_get records j) (λ r. write_of r t ≡ Some (Wrote seat key written))
 written_by [] t seat key written e = cc e
 written_by (r ∷ rs) t seat key written e =
-    elim (r.time == t) as (λ (here : Bool). (r.time == t) ≡ here → unwrap_or (cond here (write_of r) None) (slot_by rs t) ≡ Wrote seat key written → (j : ℕ) × IsSomeAnd (slice_get (r ∷ rs) j) (λ q. (q.time ≡ t) × (write_of q ≡ Some (Wrote seat key written)))) [
-      | true ↦ λ same is. elim (write_of r) as (λ (o : Option Slot). write_of r ≡ o → unwrap_or o (slot_by rs t) ≡ Wrote seat key written → (j : ℕ) × IsSomeAnd (slice_get (r ∷ rs) j) (λ q. (q.time ≡ t) × (write_of q ≡ Some (Wrote seat key written)))) [
-        | Some w ↦ λ writes is'. (zero, (eqb-true r.time t same, writes ∙ ap Some is'))
-        | None ↦ λ reads is'. let rest = written_by rs t seat key written is' in (suc rest.0, rest.1)
-      ] refl is
-      | false ↦ λ other is. let rest = written_by rs t seat key written is in (suc rest.0, rest.1)
+    elim (write_of r t) as (λ (o : Option Slot). write_of r t ≡ o → unwrap_or o (slot_by rs t) ≡ Wrote seat key written → (j : ℕ) × IsSomeAnd (slice_get (r ∷ rs) j) (λ q. write_of q t ≡ Some (Wrote seat key written))) [
+      | Some w ↦ λ writes is. (zero, writes ∙ ap Some is)
+      | None ↦ λ reads is. let rest = written_by rs t seat key written is in (suc rest.0, rest.1)
     ] refl e
 
 -- ---- filters that one record passes
@@ -144,11 +124,11 @@ one_passes p q (x ∷ xs) (suc j) within e f others = skip p q x xs (others zero
 
 module _ (records : List CallRecord) (alone : HasNone (IsSecondAt records)) where
   -- two records that write at one time are the same one
-  writes_once : (j k : ℕ) → j < length records → k < length records → k ≢ j → IsSome (write_of (get_or records j nobody)) → IsSome (write_of (get_or records k nobody)) → (get_or records j nobody).time ≡ (get_or records k nobody).time → ⊥
-  writes_once j k within within' ne writes writes' same =
+  writes_once : (j k t : ℕ) → j < length records → k < length records → k ≢ j → WritesAt t (get_or records j nobody) → WritesAt t (get_or records k nobody) → ⊥
+  writes_once j k t within within' ne writes writes' =
       ⊎_elim
-      (λ (lt : j < k). two_writes records alone j k (get_or records j nobody) (get_or records k nobody) lt within within' (itself records j within) (itself records k within') writes writes' same)
-      (λ (le : k ≤ j). two_writes records alone k j (get_or records k nobody) (get_or records j nobody) (omega arith) within' within (itself records k within') (itself records j within) writes' writes (sym same))
+      (λ (lt : j < k). two_writes records alone j k t (get_or records j nobody) (get_or records k nobody) lt within within' (itself records j within) (itself records k within') writes writes')
+      (λ (le : k ≤ j). two_writes records alone k j t (get_or records k nobody) (get_or records j nobody) (omega arith) within' within (itself records k within') (itself records j within) writes' writes)
       (cases_lt j k)
 
   has_each : (seat : ℕ) → HasEachWrite (history_of records).slots seat (calls_of records seat)
@@ -156,39 +136,17 @@ module _ (records : List CallRecord) (alone : HasNone (IsSecondAt records)) wher
       let found = written_by records t seat key written (sym (slot_at-history_of records t) ∙ is) in
       let j = found.0 in
       let r = get_or records j nobody in
-      let within : j < length records = some_within (λ q. (q.time ≡ t) × (write_of q ≡ Some (Wrote seat key written))) records j found.1 in
-      let here : (r.time ≡ t) × (write_of r ≡ Some (Wrote seat key written)) = subst (λ (o : Option CallRecord). IsSomeAnd o (λ q. (q.time ≡ t) × (write_of q ≡ Some (Wrote seat key written)))) (slice_get-get_or records j nobody within) found.1 in
-      let own : r.seat ≡ seat = seat_of_write r.seat seat key written r.deed here.1 in
-      let write : write_by seat r.deed ≡ Some (Wrote seat key written) = ap (λ (n : ℕ). write_by n r.deed) (sym own) ∙ here.1 in (
+      let within : j < length records = some_within (λ q. write_of q t ≡ Some (Wrote seat key written)) records j found.1 in
+      let here : write_of r t ≡ Some (Wrote seat key written) = here_some (λ q. write_of q t ≡ Some (Wrote seat key written)) records j r within (itself records j within) found.1 in
+      let own : r.seat ≡ seat = own_seat r t seat key written here in
+      let write : write_at seat r.time r.deed t ≡ Some (Wrote seat key written) = ap (λ (n : ℕ). write_at n r.time r.deed t) (sym own) ∙ here in (
         r,
-        one_passes (λ q. q.seat == seat) (λ q. q.time == t && is_some (write_by seat q.deed)) records j within (eq-eqb r.seat seat own)
-            (ap (λ (b : Bool). b && is_some (write_by seat r.deed)) (eq-eqb r.time t here.0) ∙ ap is_some write)
+        one_passes (λ q. q.seat == seat) (λ q. is_some (write_at seat q.time q.deed t)) records j within (eq-eqb r.seat seat own) (ap is_some write)
             (λ k lt ne mine writes.
-            let parts = and_parts ((get_or records k nobody).time == t) (is_some (write_by seat (get_or records k nobody).deed)) writes in
-            let owned = eqb-true (get_or records k nobody).seat seat mine in
-            writes_once j k within lt ne (ap is_some here.1) (ap (λ (n : ℕ). is_some (write_by n (get_or records k nobody).deed)) owned ∙ parts.1) (here.0 ∙ sym (eqb-true (get_or records k nobody).time t parts.0))),
+            let q = get_or records k nobody in
+            writes_once j k t within lt ne (ap is_some here) (ap (λ (n : ℕ). is_some (write_at n q.time q.deed t)) (eqb-true q.seat seat mine) ∙ writes)),
         write,
       )
-
--- ---- each reading is right
-
-right_deed : (h : History) (t : ℕ) (deed : Deed) → IsReadable h t → Reads h t deed → IsRightDeed h t deed
-right_deed h t (Put key written) readable reads = tt
-right_deed h t (Remove key) readable reads = tt
-right_deed h t (Rmw key old change) readable reads = record { readable = readable; reads = reads }
-right_deed h t (Get key reply) readable reads = record { readable = readable; reads = reads }
-right_deed h t Snapshot readable reads = record { readable = readable; reads = reads }
-right_deed h t Close readable reads = record { readable = readable; reads = reads }
-right_deed h t (GetAt key reply) readable reads = record { readable = readable; reads = reads }
-right_deed h t (Scan lo hi rows) readable reads = record { readable = readable; reads = reads }
-right_deed h t (Page from hi max rows more) readable reads = record { readable = readable; reads = reads }
-
-right_record : (records : List CallRecord) (i : ℕ) → i < length records → IsRightAt records i → IsRightRecord (history_of records) (get_or records i nobody)
-right_record records i within right =
-    let r = get_or records i nobody in
-    let reached : r.time ≤ length (history_of records).slots = let a = time_within records i within in let l = length-history_of records in omega arith in
-    right_deed (history_of records) r.time r.deed (record { reached = reached; uncut = tt })
-    (here_if (λ q. Reads (history_of records) q.time q.deed) records i r within (itself records i within) right)
 
 -- ---- each seat's times rise
 
@@ -196,6 +154,7 @@ is_next : (due : ℕ) (snapshot : Option ℕ) (t : ℕ) (deed : Deed) → IsAtSn
 is_next due snapshot t (Put key written) at from = from
 is_next due snapshot t (Remove key) at from = from
 is_next due snapshot t (Rmw key old change) at from = from
+is_next due snapshot t (Group members) at from = from
 is_next due snapshot t (Get key reply) at from = from
 is_next due snapshot t Snapshot at from = (at, from)
 is_next due snapshot t Close at from = at
@@ -224,32 +183,44 @@ rises_to records seat (suc n) next le =
 
 -- ---- all of it
 
-pub calls_in : (config : _) (records : List CallRecord) → ((i : ℕ) → IsKnownAt config records i) → HasNone (IsSecondAt records) → ((i : ℕ) → IsFromDueAt records i) → ((i : ℕ) → IsRightAt records i) → (seat : ℕ)
-    → AreCallsIn (history_of records).slots seat (calls_of records seat) (due_of records seat) (open_of records seat)
-calls_in config records known alone from_due right seat = record {
-  reached = due_within records seat;
-  stand = each_call (IsRecordIn (history_of records).slots seat) records seat (each_record (λ r. r.seat ≡ seat → IsRecordIn (history_of records).slots seat r) records (λ i within own. stands records alone seat i within own));
-  each = has_each records alone seat;
-  right = each_call (IsRightRecord (history_of records)) records seat (each_record (λ r. r.seat ≡ seat → IsRightRecord (history_of records) r) records (λ i within own. right_record records i within (right i)));
-  rising = record {
-    rises = subst (λ (rs : List CallRecord). Rises 0 None (calls_of rs seat)) (take_all (length records) records (omega arith))
-        (rises_to records seat (length records) (λ i within.
-        let r = get_or records i nobody in
-        let at = itself records i within in
-        is_next (due_of (take i records) r.seat) (open_of (take i records) r.seat) r.time r.deed
-        (here_if (λ q. IsKnown config (open_of (take i records) q.seat) q) records i r within at (known i)).snapshot_use
-        (here_if (λ q. IsFromDue (due_of (take i records) q.seat) (open_of (take i records) q.seat) q.time q.deed) records i r within at (from_due i))) (omega arith));
-    due_is = omega arith;
-    open_is = refl;
-  };
-}
+module _ (config : Config) (records : List CallRecord) (known : (i : ℕ) → IsKnownAt config records i) (alone : HasNone (IsSecondAt records)) (from_due : (i : ℕ) → IsFromDueAt records i) (right : (i : ℕ) → IsRightAt records i) where
+  known_here : (i : ℕ) → i < length records → IsKnown config (open_of (take i records) (get_or records i nobody).seat) (get_or records i nobody)
+  known_here i within = here_if (λ q. IsKnown config (open_of (take i records) q.seat) q) records i (get_or records i nobody) within (itself records i within) (known i)
 
--- so they have a history
-pub has_history : (config : Config) (records : List CallRecord) → ((i : ℕ) → IsKnownAt config records i) → HasNone (IsSecondAt records) → ((i : ℕ) → IsFromDueAt records i) → ((i : ℕ) → IsRightAt records i) → HasHistory config records
-has_history config records known alone from_due right = record {
-  in_range = each_record (IsInRange config) records (λ i within.
-      let is = here_if (λ q. IsKnown config (open_of (take i records) q.seat) q) records i (get_or records i nobody) within (itself records i within) (known i) in
-      record { seat = is.seat; time = is.time });
-  history = (history_of records).slots;
-  parts = λ seat. record { due = due_of records seat; snapshot = open_of records seat; calls_in = calls_in config records known alone from_due right seat };
-}
+  next_here : (i : ℕ) → i < length records → let r = get_or records i nobody in IsNext (due_of (take i records) r.seat) (open_of (take i records) r.seat) r.time r.deed
+  next_here i within =
+      let r = get_or records i nobody in
+      is_next (due_of (take i records) r.seat) (open_of (take i records) r.seat) r.time r.deed (known_here i within).snapshot_use
+      (here_if (λ q. IsFromDue (due_of (take i records) q.seat) (open_of (take i records) q.seat) q.time q.deed) records i r within (itself records i within) (from_due i))
+
+  -- what holds of each record of the seat holds of each of its calls
+  each_of : (P : CallRecord → Type 0) (seat : ℕ) → ((i : ℕ) → i < length records → (get_or records i nobody).seat ≡ seat → P (get_or records i nobody)) → AllByRecursion P (calls_of records seat)
+  each_of P seat holds = each_call P records seat (each_record (λ r. r.seat ≡ seat → P r) records holds)
+
+  pub calls_in : (seat : ℕ) → AreCallsIn (history_of records) seat (calls_of records seat) (due_of records seat) (open_of records seat)
+  calls_in seat = record {
+    reached = due_within records seat;
+    stand = each_of (IsRecordIn (history_of records).slots seat) seat (λ i within own. stands records alone seat i within own);
+    each = has_each records alone seat;
+    listed = each_of (IsListedRecord (history_of records).batches) seat (λ i within own. listed_at records i within);
+    right = each_of (IsRightRecord (history_of records)) seat (λ i within own.
+        here_if (IsRightRecord (history_of records)) records i (get_or records i nobody) within (itself records i within) (right i));
+    rising = record {
+      rises = subst (λ (rs : List CallRecord). Rises 0 None (calls_of rs seat)) (take_all (length records) records (omega arith)) (rises_to records seat (length records) next_here (omega arith));
+      due_is = omega arith;
+      open_is = refl;
+    };
+  }
+
+  -- the batches do not overlap
+  pub batches_apart : AllPairs AreApart (batches_of records)
+  batches_apart = apart_from records (λ i within. (known_here i within).in_range.times.writes) (λ i j t lt within writes writes'.
+      two_writes records alone i j t (get_or records i nobody) (get_or records j nobody) lt (omega arith) within (itself records i (omega arith)) (itself records j within) writes writes')
+
+  -- so they have a history
+  pub has_history : HasHistory config records
+  has_history = record {
+    in_range = each_record (IsInRange config) records (λ i within. (known_here i within).in_range);
+    history = history_of records;
+    parts = λ seat. record { due = due_of records seat; snapshot = open_of records seat; calls_in = calls_in seat };
+  }

@@ -1,16 +1,15 @@
 -- What a seat's part of a history says of each of its records.
-use Rattle.std.proofs.Common.{◌≡◌, ℕ, ◌<◌, ◌≤◌, ◌==◌, zero, suc, Bool, true, false, cond, List, [], ◌∷◌, ◌++◌, length, get_or, take, Option, Some, None, IfSome, MatchBool, is_some, ap, subst, arith}
+use Rattle.std.proofs.Common.{◌≡◌, ℕ, ◌+◌, ◌<◌, ◌≤◌, ◌==◌, zero, suc, Bool, true, false, cond, List, [], ◌∷◌, ◌++◌, length, get_or, take, Option, Some, None, IfSome, MatchBool, ap, subst, arith}
 use Rattle.std.proofs.lemmas.Bool.{eq-eqb}
 use Rattle.std.specs.List.{AllByRecursion}
 use Rattle.clsm_model.specs.declared.record.CallRecord.{CallRecord}
 use Rattle.clsm_model.specs.declared.record.Deed.{Deed}
-use Rattle.clsm_model.specs.declared.record.Deed.TheVariants.{Put, Remove, Rmw, Get, Snapshot, Close, GetAt, Scan, Page}
+use Rattle.clsm_model.specs.declared.record.Deed.TheVariants.{Put, Remove, Rmw, Get, Snapshot, Close, GetAt, Scan, Page, Batch as Group}
 use Rattle.clsm_model.specs.declared.slot.Change.TheVariants.{Keep, Set, Remove as Erase}
-use Rattle.clsm_model.specs.Right.{write_by}
 use Rattle.clsm_model.specs.Seats.{IsNext, Rises, due_after, last_due, last_open, open_after}
 use Rattle.clsm_model.proofs.Rising.{due_grows, last_grows}
 use Rattle.clsm_audit.specs.Lawful.{IsAtSnapshot, IsFromDue, calls_of, due_of, open_of}
-use Rattle.clsm_audit.specs.Written.{write_of}
+use Rattle.clsm_audit.specs.Written.{is_write, span_of, time_past}
 use Rattle.clsm_audit.proofs.Indices.{nobody}
 
 -- ---- the place of a record among the calls of its seat
@@ -48,6 +47,7 @@ pub at_snapshot : (due : ℕ) (snapshot : Option ℕ) (t : ℕ) (deed : Deed) �
 at_snapshot due snapshot t (Put key written) next = tt
 at_snapshot due snapshot t (Remove key) next = tt
 at_snapshot due snapshot t (Rmw key old change) next = tt
+at_snapshot due snapshot t (Group members) next = tt
 at_snapshot due snapshot t (Get key reply) next = tt
 at_snapshot due snapshot t Snapshot next = next.0
 at_snapshot due snapshot t Close next = next
@@ -61,6 +61,7 @@ pub from_due : (due : ℕ) (snapshot : Option ℕ) (t : ℕ) (deed : Deed) → I
 from_due due snapshot t (Put key written) next = next
 from_due due snapshot t (Remove key) next = next
 from_due due snapshot t (Rmw key old change) next = next
+from_due due snapshot t (Group members) next = next
 from_due due snapshot t (Get key reply) next = next
 from_due due snapshot t Snapshot next = next.1
 from_due due snapshot t Close next = tt
@@ -72,9 +73,9 @@ from_due due (Some s) t (Page from hi max rows more) next = tt
 
 -- ---- no time is past the due that the calls leave
 
--- a write is below the bound, and any other call at or below it
+-- all times of a write are below the bound, and any other call is at or below it
 abbrev pub IsTimeBelow : ℕ → CallRecord → Type 0
-IsTimeBelow bound r = MatchBool (is_some (write_of r)) (r.time < bound) (r.time ≤ bound)
+IsTimeBelow bound r = MatchBool (is_write r.deed) (time_past r ≤ bound) (r.time ≤ bound)
 
 -- the open snapshot is not past the due
 abbrev IsOpenBelow : ℕ → Option ℕ → Type 0
@@ -91,30 +92,31 @@ open_grows due t snapshot Close below next = tt
 open_grows due t snapshot deed below next = open_later due (due_after due snapshot t deed) snapshot (due_grows due t snapshot deed next) below
 
 -- nor is the time of the call
-time_below : (due t seat : ℕ) (snapshot : Option ℕ) (deed : Deed) → IsOpenBelow due snapshot → IsNext due snapshot t deed
-    → MatchBool (is_some (write_by seat deed)) (t < due_after due snapshot t deed) (t ≤ due_after due snapshot t deed)
-time_below due t seat snapshot (Put key written) below next = omega arith
-time_below due t seat snapshot (Remove key) below next = omega arith
-time_below due t seat snapshot (Rmw key old Keep) below next = omega arith
-time_below due t seat snapshot (Rmw key old (Set written)) below next = omega arith
-time_below due t seat snapshot (Rmw key old Erase) below next = omega arith
-time_below due t seat snapshot (Get key reply) below next = omega arith
-time_below due t seat snapshot Snapshot below next = omega arith
-time_below due t seat snapshot Close below next = subst (IsOpenBelow due) next below
-time_below due t seat snapshot (GetAt key reply) below next = subst (IsOpenBelow due) next below
-time_below due t seat None (Scan lo hi rows) below next = omega arith
-time_below due t seat (Some s) (Scan lo hi rows) below next = omega arith
-time_below due t seat None (Page from hi max rows more) below next = omega arith
-time_below due t seat (Some s) (Page from hi max rows more) below next = omega arith
+time_below : (due t : ℕ) (snapshot : Option ℕ) (deed : Deed) → IsOpenBelow due snapshot → IsNext due snapshot t deed
+    → MatchBool (is_write deed) (t + span_of deed ≤ due_after due snapshot t deed) (t ≤ due_after due snapshot t deed)
+time_below due t snapshot (Put key written) below next = omega arith
+time_below due t snapshot (Remove key) below next = omega arith
+time_below due t snapshot (Rmw key old Keep) below next = omega arith
+time_below due t snapshot (Rmw key old (Set written)) below next = omega arith
+time_below due t snapshot (Rmw key old Erase) below next = omega arith
+time_below due t snapshot (Group members) below next = omega arith
+time_below due t snapshot (Get key reply) below next = omega arith
+time_below due t snapshot Snapshot below next = omega arith
+time_below due t snapshot Close below next = subst (IsOpenBelow due) next below
+time_below due t snapshot (GetAt key reply) below next = subst (IsOpenBelow due) next below
+time_below due t None (Scan lo hi rows) below next = omega arith
+time_below due t (Some s) (Scan lo hi rows) below next = omega arith
+time_below due t None (Page from hi max rows more) below next = omega arith
+time_below due t (Some s) (Page from hi max rows more) below next = omega arith
 
-bound_later : (writes : Bool) (t bound bound' : ℕ) → bound ≤ bound' → MatchBool writes (t < bound) (t ≤ bound) → MatchBool writes (t < bound') (t ≤ bound')
-bound_later true t bound bound' le below = omega arith
-bound_later false t bound bound' le below = omega arith
+bound_later : (writes : Bool) (t past bound bound' : ℕ) → bound ≤ bound' → MatchBool writes (past ≤ bound) (t ≤ bound) → MatchBool writes (past ≤ bound') (t ≤ bound')
+bound_later true t past bound bound' le below = omega arith
+bound_later false t past bound bound' le below = omega arith
 
 middle_below : (due bound : ℕ) (snapshot : Option ℕ) (before rest : List CallRecord) (r : CallRecord) → IsOpenBelow due snapshot → Rises due snapshot (before ++ r ∷ rest) → last_due due snapshot (before ++ r ∷ rest) ≤ bound → IsTimeBelow bound r
 middle_below due bound snapshot [] rest r below rises le =
     let after = last_grows (due_after due snapshot r.time r.deed) (open_after snapshot r.time r.deed) rest rises.1 in
-    bound_later (is_some (write_of r)) r.time (due_after due snapshot r.time r.deed) bound (omega arith) (time_below due r.time r.seat snapshot r.deed below rises.0)
+    bound_later (is_write r.deed) r.time (time_past r) (due_after due snapshot r.time r.deed) bound (omega arith) (time_below due r.time snapshot r.deed below rises.0)
 middle_below due bound snapshot (c ∷ cs) rest r below rises le =
     middle_below (due_after due snapshot c.time c.deed) bound (open_after snapshot c.time c.deed) cs rest r (open_grows due c.time snapshot c.deed below rises.0) rises.1 le
 

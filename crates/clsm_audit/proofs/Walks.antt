@@ -1,12 +1,14 @@
 -- A walk over the records with the states of their seats: one record more.
-use Rattle.std.proofs.Common.{◌≡◌, ℕ, ◌+◌, ◌^◌, ◌<◌, ◌≤◌, Bool, true, false, MatchBool, List, [], ◌∷◌, ◌++◌, length, get_or, take, drop, is_some, sym, ◌∙◌, subst, arith}
+use Rattle.std.proofs.Common.{◌≡◌, ℕ, ◌+◌, ◌^◌, ◌<◌, List, [], ◌∷◌, ◌++◌, length, get_or, take, drop, Option, Some, None, IfSome, sym, ◌∙◌, subst}
+use Rattle.std.specs.List.{slice_get}
 use Rattle.clsm_model.specs.declared.config.Config.{Config}
 use Rattle.clsm_model.specs.declared.record.CallRecord.{CallRecord}
 use Rattle.clsm_audit.specs.declared.seat.SeatState.{SeatState}
-use Rattle.clsm_audit.specs.Lawful.{IsFromDue, IsFromDueAt, IsKnown, IsKnownAt, due_of, open_of}
+use Rattle.clsm_audit.specs.Lawful.{HasTimes, HaveTimes, IsFromDue, IsFromDueAt, IsKnown, IsKnownAt, due_of, open_of}
 use Rattle.clsm_audit.specs.States.{AreStates}
-use Rattle.clsm_audit.specs.Written.{write_of}
+use Rattle.clsm_audit.specs.Written.{time_past}
 use Rattle.clsm_audit.proofs.Indices.{here_if, if_here, taken_more, written_whole}
+use Rattle.clsm_audit.proofs.Times.{past_within}
 
 -- `now` is the list that is lent to the call, `new` what the call leaves, and n the length of both
 pub AreStates-next : (records : List CallRecord) (i n : ℕ) (r : CallRecord) (states now new : List SeatState) → i < length records → r ≡ get_or records i r → now ≡ states → length states ≡ n → length new ≡ n
@@ -23,14 +25,17 @@ known_record : (config : Config) (records : List CallRecord) (i : ℕ) (r : Call
 known_record config records i r within is known = here_if (λ q. IsKnown config (open_of (take i records) q.seat) q) records i r within is known
 
 pub known_seat : (config : Config) (records : List CallRecord) (i : ℕ) (r : CallRecord) → i < length records → r ≡ get_or records i r → IsKnownAt config records i → r.seat < config.seats
-known_seat config records i r within is known = (known_record config records i r within is known).seat
+known_seat config records i r within is known = (known_record config records i r within is known).in_range.seat
 
-time_within : (is_write : Bool) (t : ℕ) → MatchBool is_write (t < 2 ^ 62) (t ≤ 2 ^ 62) → t ≤ 2 ^ 62
-time_within true t h = omega arith
-time_within false t h = h
+pub known_past : (config : Config) (records : List CallRecord) (i : ℕ) (r : CallRecord) → i < length records → r ≡ get_or records i r → IsKnownAt config records i → time_past r < 2 ^ 64
+known_past config records i r within is known = past_within r (known_record config records i r within is known).in_range.times
 
-pub known_time : (config : Config) (records : List CallRecord) (i : ℕ) (r : CallRecord) → i < length records → r ≡ get_or records i r → IsKnownAt config records i → r.time ≤ 2 ^ 62
-known_time config records i r within is known = time_within (is_some (write_of r)) r.time (known_record config records i r within is known).time
+-- records that are known have their times
+pub known_times : (config : Config) (records : List CallRecord) → ((i : ℕ) → IsKnownAt config records i) → HaveTimes records
+known_times config records known i = each (slice_get records i) (known i) where
+  each : (o : Option CallRecord) → IfSome o (λ r. IsKnown config (open_of (take i records) r.seat) r) → IfSome o HasTimes
+  each None all = tt
+  each (Some r) all = all.in_range.times
 
 -- what a test of the seat's state says of the record at the index
 pub known_here : (config : Config) (records : List CallRecord) (i : ℕ) (r : CallRecord) (states : List SeatState) (state : SeatState) → i < length records → r ≡ get_or records i r → AreStates (take i records) states → r.seat < length states → state ≡ get_or states r.seat state

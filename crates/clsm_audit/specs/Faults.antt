@@ -1,5 +1,5 @@
 -- What is wrong with records: the faults of each kind, and which one is answered.
-use Rattle.std.specs.Prelude.{ℕ, ◌<◌, IfSome, IsSome, IsSomeAnd, List, Option, None, Some, slice_get}
+use Rattle.std.specs.Prelude.{ℕ, ◌<◌, IfSome, IsSomeAnd, List, Option, None, Some, slice_get}
 use Rattle.clsm_model.specs.declared.config.Config.{Config}
 use Rattle.clsm_model.specs.declared.record.CallRecord.{CallRecord}
 use Rattle.clsm_model.specs.Seats.{AreCallsIn}
@@ -8,24 +8,24 @@ use Rattle.clsm_audit.specs.declared.fault.AuditError.TheVariants.{Fault, Memory
 use Rattle.clsm_audit.specs.declared.fault.FaultKind.{FaultKind}
 use Rattle.clsm_audit.specs.declared.fault.FaultKind.TheVariants.{Unknown, TwoAtOneTime, TimeRanBack, WrongReply}
 use Rattle.clsm_audit.specs.Lawful.{IsFromDueAt, IsKnownAt, IsRightAt, calls_of, due_of, open_of}
-use Rattle.clsm_audit.specs.Written.{IsWrittenBefore, history_of, write_of}
+use Rattle.clsm_audit.specs.Written.{IsWrittenBefore, WritesAt, history_of}
 
 -- ---- the faults, in the order of the passes
 
--- a seat or a time out of its range, or a snapshot used as it may not be
+-- a seat, a time or a batch out of its range, or a snapshot used as it may not be
 abbrev pub IsUnknownAt : Config → List CallRecord → ℕ → Type 0
 IsUnknownAt config records i = ¬ IsKnownAt config records i
 
--- a write at the time of an earlier one
+-- a write at a time at which an earlier record writes
 abbrev pub IsSecondAt : List CallRecord → ℕ → Type 0
 IsSecondAt records i =
-    IsSomeAnd (slice_get records i) (λ r. IsSome (write_of r) × IsWrittenBefore records i r.time)
+    IsSomeAnd (slice_get records i) (λ r. (t : ℕ) × WritesAt t r × IsWrittenBefore records i t)
 
 -- a time below the due of its seat
 abbrev pub RanBackAt : List CallRecord → ℕ → Type 0
 RanBackAt records i = ¬ IsFromDueAt records i
 
--- a reading that is not what the writes below its time give
+-- a reading that is not what the writes below its time give, or stands inside a batch
 abbrev pub IsWrongAt : List CallRecord → ℕ → Type 0
 IsWrongAt records i = ¬ IsRightAt records i
 
@@ -74,7 +74,7 @@ pub record IsLawful (config : Config) (records : List CallRecord) : Type 0 where
   pub right : HasNone (IsWrongAt records)
 
 -- each seat's calls are its part of the history of all writes: each write stands at its time,
--- nothing else is in the history, each reading is right, and the times rise
+-- nothing else is in the history, each reading is right and inside no batch, and the times rise
 abbrev pub IsOneHistory : List CallRecord → Type 0
 IsOneHistory records =
-    (seat : ℕ) → AreCallsIn (history_of records).slots seat (calls_of records seat) (due_of records seat) (open_of records seat)
+    (seat : ℕ) → AreCallsIn (history_of records) seat (calls_of records seat) (due_of records seat) (open_of records seat)

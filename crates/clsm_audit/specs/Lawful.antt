@@ -1,12 +1,12 @@
 -- What is asked of each record: of its place, of its time, and of its reading.
-use Rattle.std.specs.Prelude.{◌≡◌, ℕ, ◌<◌, ◌≤◌, ◌==◌, ◌^◌, filter, List, take, Option, None, Some, is_some, IfNone, IfSome, MatchBool, slice_get}
+use Rattle.std.specs.Prelude.{◌≡◌, ℕ, ◌<◌, ◌≤◌, ◌==◌, ◌^◌, filter, length, List, take, Option, None, Some, IfNone, IfSome, MatchBool, slice_get}
 use Rattle.clsm_model.specs.declared.config.Config.{Config}
 use Rattle.clsm_model.specs.declared.record.Deed.{Deed}
-use Rattle.clsm_model.specs.declared.record.Deed.TheVariants.{Snapshot, Close, GetAt, Scan, Page}
+use Rattle.clsm_model.specs.declared.record.Deed.TheVariants.{Snapshot, Close, GetAt, Scan, Page, Batch as Group}
 use Rattle.clsm_model.specs.declared.record.CallRecord.{CallRecord}
-use Rattle.clsm_model.specs.Right.{Reads}
-use Rattle.clsm_model.specs.Seats.{last_due, last_open}
-use Rattle.clsm_audit.specs.Written.{history_of, write_of}
+use Rattle.clsm_model.specs.Right.{AreWrites}
+use Rattle.clsm_model.specs.Seats.{IsRightRecord, last_due, last_open}
+use Rattle.clsm_audit.specs.Written.{history_of, is_write, time_past}
 
 -- the calls of the seat, in its own order
 abbrev pub calls_of : List CallRecord → ℕ → List CallRecord
@@ -20,11 +20,34 @@ due_of records seat = last_due 0 None (calls_of records seat)
 abbrev pub open_of : List CallRecord → ℕ → Option ℕ
 open_of records seat = last_open None (calls_of records seat)
 
--- ---- what is asked of a record, after the calls of its seat that stand before it
+-- ---- what is asked of a record by itself
 
--- a write stands below 2^62, and any other call at or below it
+-- all times of a write stand below 2^62, and any other call at or below it
 abbrev pub IsTime : CallRecord → Type 0
-IsTime r = MatchBool (is_some (write_of r)) (r.time < 2 ^ 62) (r.time ≤ 2 ^ 62)
+IsTime r = MatchBool (is_write r.deed) (time_past r ≤ 2 ^ 62) (r.time ≤ 2 ^ 62)
+
+-- a batch has a member, and each of its members is a write
+abbrev pub HasWrites : Deed → Type 0
+HasWrites (Group members) = (1 ≤ length members) × AreWrites members
+HasWrites deed = Unit {0}
+
+-- a batch has no more members than a region has cells
+abbrev pub FitsRegion : Config → Deed → Type 0
+FitsRegion config (Group members) = length members ≤ config.cells
+FitsRegion config deed = Unit {0}
+
+-- the times are in their range, and a batch writes at each of its times
+pub record HasTimes (r : CallRecord) : Type 0 where
+  pub time : IsTime r
+  pub writes : HasWrites r.deed
+
+-- the seat, the size of a batch and the times are in their ranges
+pub record IsInRange (config : Config) (r : CallRecord) : Type 0 where
+  pub seat : r.seat < config.seats
+  pub size : FitsRegion config r.deed
+  pub times : HasTimes r
+
+-- ---- what is asked of a record, after the calls of its seat that stand before it
 
 -- a snapshot is opened where none is open, closed and read at its time, and a scan or a page under
 -- it is at its time too
@@ -36,10 +59,9 @@ IsAtSnapshot snapshot t (Scan lo hi rows) = IfSome snapshot (λ s. t ≡ s)
 IsAtSnapshot snapshot t (Page from hi max rows more) = IfSome snapshot (λ s. t ≡ s)
 IsAtSnapshot snapshot t _ = Unit {0}
 
--- the seat and the time are in their ranges, and the snapshot is used as it may be
+-- what the record says is in its ranges, and the snapshot is used as it may be
 pub record IsKnown (config : Config) (snapshot : Option ℕ) (r : CallRecord) : Type 0 where
-  pub seat : r.seat < config.seats
-  pub time : IsTime r
+  pub in_range : IsInRange config r
   pub snapshot_use : IsAtSnapshot snapshot r.time r.deed
 
 -- the time is not below the due, but for a close and the reads under an open snapshot
@@ -63,6 +85,13 @@ IsFromDueAt records i =
     IfSome (slice_get records i) (λ r.
     IsFromDue (due_of (take i records) r.seat) (open_of (take i records) r.seat) r.time r.deed)
 
--- what the record at the index read is what the writes below its time give
+-- what the record at the index read is what the writes below its time give, and it read at no time
+-- strictly inside a batch
 abbrev pub IsRightAt : List CallRecord → ℕ → Type 0
-IsRightAt records i = IfSome (slice_get records i) (λ r. Reads (history_of records) r.time r.deed)
+IsRightAt records i = IfSome (slice_get records i) (IsRightRecord (history_of records))
+
+-- ---- the same of all records
+
+-- the times of each are in their range, and each batch writes at all of its times
+abbrev pub HaveTimes : List CallRecord → Type 0
+HaveTimes records = (i : ℕ) → IfSome (slice_get records i) HasTimes

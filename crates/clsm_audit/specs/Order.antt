@@ -1,14 +1,14 @@
 -- Records in the order of time: at each time the reads come before the write.
-use Rattle.std.specs.Prelude.{ℕ, ◌==◌, ◌&&◌, ◌||◌, nat_lt, not, Bool, List, map, is_some}
+use Rattle.std.specs.Prelude.{ℕ, ◌==◌, ◌&&◌, ◌||◌, nat_lt, not, Bool, List, map}
 use Rattle.std.specs.List.{enumerate_from}
 use Rattle.std.specs.List.Sorted.{IsPermutation, IsSortedBy}
 use Rattle.clsm_model.specs.declared.record.CallRecord.{CallRecord}
 use Rattle.clsm_audit.specs.declared.stamp.Stamp.{Stamp}
-use Rattle.clsm_audit.specs.Written.{write_of}
+use Rattle.clsm_audit.specs.Written.{is_write}
 
 -- the stamp of the record at the index
 abbrev pub stamp_of : ℕ → CallRecord → Stamp
-stamp_of index r = record { time = r.time; is_write = is_some (write_of r); index = index }
+stamp_of index r = record { time = r.time; is_write = is_write r.deed; index = index }
 
 -- the stamps of all records
 abbrev pub stamps_of : List CallRecord → List Stamp

@@ -7,16 +7,17 @@ use thiserror::Error;
 /// What is wrong with a record. The passes look for the kinds in this order.
 #[derive(Clone, Copy, PartialEq, Eq, Debug, Error)]
 pub enum FaultKind {
-    /// A seat or a time out of its range, or a snapshot used where it is not open at this time.
+    /// A seat, a time or a batch out of its range, or a snapshot used where it is not open at this
+    /// time.
     #[error("Unknown")]
     Unknown,
-    /// A write at the time of a write with a lower index.
+    /// A write at a time at which a record with a lower index writes.
     #[error("TwoAtOneTime")]
     TwoAtOneTime,
     /// A time below the due of its seat.
     #[error("TimeRanBack")]
     TimeRanBack,
-    /// A reading that is not what the writes below its time give.
+    /// A reading that is not what the writes below its time give, or stands inside a batch.
     #[error("WrongReply")]
     WrongReply,
 }

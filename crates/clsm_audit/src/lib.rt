@@ -3,6 +3,8 @@
 
 mod fault;
 mod passes;
+mod range;
+mod replay;
 mod replies;
 mod seat;
 mod stamp;

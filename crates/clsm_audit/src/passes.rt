@@ -1,16 +1,17 @@
-ghost use Rattle.std.specs.Prelude.{◌≡◌, ◌↔◌, ◌⊎◌, ℕ, IfErr, IfOk, IsSome, IsTrue, OnOk};
+ghost use Rattle.std.specs.Prelude.{◌≡◌, ◌↔◌, ◌⊎◌, ℕ, AllPairs, IfErr, IfOk, IsTrue, MatchOption, OnOk, Ok, false, min};
 ghost use Rattle.std.specs.BTreeSet.{contains};
 ghost use Rattle.std.specs.Ordering.{nat_cmp};
-ghost use Rattle.clsm_audit.specs.Faults.{IsFirstNot, IsFirstOf, IsLawful, IsOneHistory, IsRefusal, IsSecondAt};
-ghost use Rattle.clsm_audit.specs.Lawful.{IsFromDueAt, IsKnownAt};
+ghost use Rattle.clsm_audit.specs.Faults.{HasNone, IsFirstNot, IsFirstOf, IsLawful, IsOneHistory, IsRefusal, IsSecondAt};
+ghost use Rattle.clsm_audit.specs.Lawful.{HasTimes, HaveTimes, IsFromDueAt, IsKnownAt, IsRightAt};
+ghost use Rattle.clsm_audit.specs.Order.{IsInTimeOrder};
 ghost use Rattle.clsm_audit.specs.Whole.{HasHistory};
-ghost use Rattle.clsm_audit.specs.Written.{WritesAt, write_of};
+ghost use Rattle.clsm_audit.specs.Written.{AreApart, WritesAt, batches_of};
 
 use crate::fault::{AuditError, FaultKind};
-use crate::replies::first_wrong;
+use crate::replay::Replay;
 use crate::seat::{advance, new_states};
-use crate::stamp::in_time_order;
-use crate::write::write_of;
+use crate::stamp::{Stamp, in_time_order};
+use crate::write::{is_write, span_of};
 use clsm_model::{CallRecord, Config, Memory, Time};
 use std::alloc::{AllocError, Global};
 use std::collections::BTreeSet;
@@ -34,23 +35,31 @@ fn first_unknown(
     Ok(None)
 }
 
-/// Whether the call writes at one of these times. Its own time is taken in, if it writes.
-/// Refused for want of memory.
+/// Whether the call writes at one of these times. If it does not, the times at which it writes are
+/// taken in. Refused for want of memory.
 fn is_second(times: &mut BTreeSet<Time>, call: &CallRecord) -> Result<bool, Memory>
-    ensures second { IfOk result (λ second.
-        IsTrue second ↔ (IsSome (write_of call.now) × IsTrue (contains nat_cmp times.old call.now.time))) }
-    ensures times { OnOk result ((t : ℕ) →
-        IsTrue (contains nat_cmp times.new t) ↔ (IsTrue (contains nat_cmp times.old t) ⊎ WritesAt t call.now)) }
+    requires { HasTimes call.now }
+    ensures second { IfOk result (λ second. IsTrue second ↔
+        ((t : ℕ) × WritesAt t call.now × IsTrue (contains nat_cmp times.old t))) }
+    ensures times { result ≡ Ok false → (t : ℕ) →
+        IsTrue (contains nat_cmp times.new t) ↔ (IsTrue (contains nat_cmp times.old t) ⊎ WritesAt t call.now) }
 {
-    if write_of(call).is_none() {
+    if !is_write(&call.deed) {
         return Ok(false);
     }
-    let is_new = times.insert(call.time).map_err(AllocError::from)?;
-    Ok(!is_new)
+    for time in call.time..call.time + span_of(&call.deed) {
+        let is_new = times.insert(time).map_err(AllocError::from)?;
+        if !is_new {
+            return Ok(true);
+        }
+    }
+    Ok(false)
 }
 
-/// The lowest index of a write at the time of an earlier one. Refused for want of memory.
+/// The lowest index of a write at a time at which an earlier record writes. Refused for want of
+/// memory.
 fn first_second(alloc: Global, records: &[CallRecord]) -> Result<Option<usize>, Memory>
+    requires { HaveTimes records.now }
     ensures { IfOk result (IsFirstOf (IsSecondAt records.now)) }
 {
     let mut times = BTreeSet::new(alloc);
@@ -82,26 +91,60 @@ fn first_back(
     Ok(None)
 }
 
+/// The lower one of the index and what was found before.
+fn lowest(found: Option<usize>, index: usize) -> usize
+    ensures { MatchOption found (result ≡ index) (λ lowest. result ≡ min lowest index) }
+{
+    found.map_or(index, |lowest| lowest.min(index))
+}
+
+/// The lowest index of a record whose reading is not what the writes below its time give, or stands
+/// inside a batch. Refused for want of memory.
+fn first_wrong(
+    alloc: Global,
+    records: &[CallRecord],
+    stamps: &[Stamp],
+) -> Result<Option<usize>, Memory>
+    requires order { IsInTimeOrder records.now stamps.now }
+    requires times { HaveTimes records.now }
+    requires alone { HasNone (IsSecondAt records.now) }
+    ensures { IfOk result (IsFirstNot (IsRightAt records.now)) }
+{
+    let mut replay = Replay::new(alloc);
+    let mut found = None;
+    for stamp in stamps {
+        if !replay.play(&records[stamp.index])? {
+            found = Some(lowest(found, stamp.index));
+        }
+    }
+    Ok(found)
+}
+
 /// Audits the records of answered calls: whether they are the calls of one lawful history, in which
 /// each write stands at its own time and nothing else does. Records of one seat stand in its own
 /// order; between seats any order is right. Any records are accepted. Four passes look for faults,
 /// and the answer is the lowest index in the first pass that finds one:
 ///
 /// 1. `Unknown`: the seat is not below `config.seats`; the time is not below 2^62, or for a record
-///    that is no write above 2^62; a snapshot is opened where one is open; a close or a read at the
-///    snapshot where none is open; one of these, a scan or a page at another time than the open
-///    snapshot's.
-/// 2. `TwoAtOneTime`: a write at the time of a write with a lower index.
+///    that is no write above 2^62; a batch has no member, more than `config.cells`, one that keeps
+///    its key, or its last time is not below 2^62; a snapshot is opened where one is open; a close
+///    or a read at the snapshot where none is open; one of these, a scan or a page at another time
+///    than the open snapshot's.
+/// 2. `TwoAtOneTime`: a write at a time at which a record with a lower index writes. A batch writes
+///    at its time and those behind it, one for each member.
 /// 3. `TimeRanBack`: a record below the due of its seat, which is the time of a read, and one more
-///    than that of a write. Closes and reads under an open snapshot are not held against it.
-/// 4. `WrongReply`: what was read is not what the writes below the record's time give.
+///    than the last time of a write. Closes and reads under an open snapshot are not held against
+///    it.
+/// 4. `WrongReply`: what was read is not what the writes below the record's time give; or the record
+///    read, or opened or closed a snapshot, at a time strictly inside a batch.
 ///
-/// Refused with `Memory` for want of memory, in place of any of these answers. Records whose seats
-/// and times are in their ranges, and that are the calls of a history, are refused for nothing
-/// else.
+/// Refused with `Memory` for want of memory, in place of any of these answers. Records whose seats,
+/// batches and times are in their ranges, and that are the calls of a history, are refused for
+/// nothing else. Beside the reading of ranges it costs as much as a sort of all records and members.
 pub fn audit(alloc: Global, config: &Config, records: &[CallRecord]) -> Result<(), AuditError>
     ensures ok { OnOk result (IsLawful config.now records.now) }
     ensures history { OnOk result (IsOneHistory records.now) }
+    ensures apart { OnOk result (AllPairs AreApart (batches_of records.now)) }
     ensures has { OnOk result (HasHistory config.now records.now) }
     ensures fault { IfErr result (IsRefusal config.now records.now) }
     ensures whole { HasHistory config.now records.now → IfErr result (λ error. error ≡ AuditError.Memory) }

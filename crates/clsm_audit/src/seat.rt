@@ -1,15 +1,13 @@
 ghost use Rattle.std.specs.Prelude.{◌≡◌, ℕ, ◌+◌, ◌<◌, ◌≤◌, ◌^◌, ◌↔◌, List, ◌++◌, ◌∷◌, [], IfOk, IsTrue, length, Option, None, slice_index_or, vec_len};
 ghost use Rattle.clsm_model.specs.declared.record.CallRecord.{CallRecord};
 ghost use Rattle.clsm_model.specs.Seats.{due_after, open_after};
-ghost use Rattle.clsm_audit.specs.Lawful.{IsAtSnapshot, IsFromDue, IsKnown, IsTime};
+ghost use Rattle.clsm_audit.specs.Lawful.{IsAtSnapshot, IsFromDue, IsKnown};
 ghost use Rattle.clsm_audit.specs.States.{AreStates};
+ghost use Rattle.clsm_audit.specs.Written.{span_of, time_past};
 
-use crate::write::write_of;
+use crate::range::is_in_range;
 use clsm_model::{CallRecord, Change, Config, Deed, Memory, Time};
 use std::alloc::Global;
-
-/// The end of time: writes stand below it, and reads up to it.
-const TIME_END: Time = 1 << 62;
 
 /// How far the calls of a seat have come: its due, and the snapshot that is open.
 #[derive(Clone, Copy)]
@@ -31,7 +29,7 @@ impl SeatState {
 
     /// The due after a call at this time.
     fn due_after(&self, time: Time, deed: &Deed) -> Time
-        requires { time ≤ 2 ^ 62 }
+        requires { time + span_of deed.now < 2 ^ 64 }
         ensures { result ≡ due_after self.now.due self.now.snapshot time deed.now }
     {
         match deed {
@@ -40,6 +38,7 @@ impl SeatState {
                 Change::Keep => time,
                 _ => time + 1,
             },
+            Deed::Batch { members } => time + members.as_slice().len() as u64,
             Deed::Get { .. } | Deed::Snapshot => time,
             Deed::Close | Deed::GetAt { .. } => self.due,
             Deed::Scan { .. } | Deed::Page { .. } if self.snapshot.is_some() => self.due,
@@ -60,7 +59,7 @@ impl SeatState {
 
     /// The state after this call.
     fn after(&self, call: &CallRecord) -> SeatState
-        requires { call.now.time ≤ 2 ^ 62 }
+        requires { time_past call.now < 2 ^ 64 }
         ensures { result ≡ record {
           due = due_after self.now.due self.now.snapshot call.now.time call.now.deed;
           snapshot = open_after self.now.snapshot call.now.time call.now.deed;
@@ -88,14 +87,12 @@ impl SeatState {
         }
     }
 
-    /// Whether a call of a seat in this state is known: its seat and its time are in their ranges,
-    /// and it suits the snapshot.
+    /// Whether a call of a seat in this state is known: its seat, its batch and its times are in
+    /// their ranges, and it suits the snapshot.
     pub fn is_known(&self, config: &Config, call: &CallRecord) -> bool
         ensures { IsTrue result ↔ IsKnown config.now self.now.snapshot call.now }
     {
-        (call.seat as usize) < config.seats
-            && is_time(call)
-            && self.is_at_snapshot(call.time, &call.deed)
+        is_in_range(config, call) && self.is_at_snapshot(call.time, &call.deed)
     }
 
     /// Whether a call at this time is not below the due, where it is held against it.
@@ -110,17 +107,6 @@ impl SeatState {
     }
 }
 
-/// Whether the time of the call is one that it may have.
-fn is_time(call: &CallRecord) -> bool
-    ensures { IsTrue result ↔ IsTime call.now }
-{
-    if write_of(call).is_some() {
-        call.time < TIME_END
-    } else {
-        call.time <= TIME_END
-    }
-}
-
 /// The states of so many seats before any call. Refused for want of memory.
 pub fn new_states(alloc: Global, seats: usize) -> Result<Vec<SeatState>, Memory>
     ensures len { IfOk result (λ states. vec_len states ≡ seats) }
@@ -132,7 +118,7 @@ pub fn new_states(alloc: Global, seats: usize) -> Result<Vec<SeatState>, Memory>
 /// Takes the call into the state of its seat.
 pub fn advance(states: &mut [SeatState], call: &CallRecord)
     requires seat { call.now.seat < length states.old }
-    requires time { call.now.time ≤ 2 ^ 62 }
+    requires time { time_past call.now < 2 ^ 64 }
     ensures { (records : List CallRecord) →
         AreStates records states.old → AreStates (records ++ call.now ∷ []) states.new }
 {

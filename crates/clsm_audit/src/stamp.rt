@@ -1,14 +1,14 @@
-ghost use Rattle.std.specs.Prelude.{◌≡◌, IfOk, is_some};
+ghost use Rattle.std.specs.Prelude.{◌≡◌, IfOk};
 ghost use Rattle.std.specs.Ordering.{is_lt};
-ghost use Rattle.clsm_model.specs.Right.{write_by};
 ghost use Rattle.clsm_audit.specs.Order.{IsInTimeOrder, comes_before, stamp_of, stamps_of};
 
-use crate::write::write_of;
+use crate::write::is_write;
 use clsm_model::{CallRecord, Memory, Time};
 use std::alloc::{AllocError, Global};
 use std::cmp::Ordering;
 
-/// The place of a record in time: at each time the reads come before the write.
+/// The place of a record in time, a batch's at its first one: at each time the reads come before
+/// the write.
 #[derive(Clone, Copy)]
 pub struct Stamp {
     pub time: Time,
@@ -29,7 +29,7 @@ fn stamp_at(index: usize, call: &CallRecord) -> Stamp
 {
     Stamp {
         time: call.time,
-        is_write: write_of(call).is_some(),
+        is_write: is_write(&call.deed),
         index,
     }
 }

@@ -1,10 +1,11 @@
 ghost use Rattle.std.specs.Prelude.{◌≡◌};
 ghost use Rattle.clsm_model.specs.Right.{change_by, write_by};
+ghost use Rattle.clsm_audit.specs.Written.{is_write, span_of};
 
 use clsm_model::{CallRecord, Change, Deed, Slot};
 
 /// The write that a change of the key is, where the seat makes it.
-fn change_of(seat: u32, key: u64, change: &Change) -> Option<Slot>
+pub fn change_by(seat: u32, key: u64, change: &Change) -> Option<Slot>
     ensures { result ≡ change_by seat key change.now }
 {
     let value = match change {
@@ -15,8 +16,8 @@ fn change_of(seat: u32, key: u64, change: &Change) -> Option<Slot>
     Some(Slot::Wrote { seat, key, value })
 }
 
-/// The write that the call is, if it is one.
-pub fn write_of(call: &CallRecord) -> Option<Slot>
+/// The write that the call is, if it is one. A batch is several.
+pub fn write_by(call: &CallRecord) -> Option<Slot>
     ensures { result ≡ write_by call.now.seat call.now.deed }
 {
     let seat = call.seat;
@@ -31,7 +32,28 @@ pub fn write_of(call: &CallRecord) -> Option<Slot>
             key: *key,
             value: None,
         }),
-        Deed::Rmw { key, change, .. } => change_of(seat, *key, change),
+        Deed::Rmw { key, change, .. } => change_by(seat, *key, change),
         _ => None,
+    }
+}
+
+/// Whether the deed is a write.
+pub fn is_write(deed: &Deed) -> bool
+    ensures { result ≡ is_write deed.now }
+{
+    match deed {
+        Deed::Put { .. } | Deed::Remove { .. } | Deed::Batch { .. } => true,
+        Deed::Rmw { change, .. } => !matches!(change, Change::Keep),
+        _ => false,
+    }
+}
+
+/// How many times the deed takes: a batch one for each member, any other deed one.
+pub fn span_of(deed: &Deed) -> u64
+    ensures { result ≡ span_of deed.now }
+{
+    match deed {
+        Deed::Batch { members } => members.as_slice().len() as u64,
+        _ => 1,
     }
 }

@@ -1,6 +1,7 @@
 //! The calls of threads, that were all answered, and their time.
 ghost use Rattle.std.specs.Prelude.{◌≡◌, IfOk};
 
+use crate::batches::work_batches;
 use crate::draws::{Call, FILLER, Series, key_of};
 use crate::failure::Failure;
 use crate::target::Target;
@@ -87,7 +88,8 @@ fn meet(come: &AtomicU64, threads: u64) {
     }
 }
 
-/// Lets a thread at each target make so many calls of the series, all from the same moment on: the
+/// Lets a thread at each target make so many calls of the series, by batches where it has members,
+/// all from the same moment on: the
 /// time is from when the first began to when the last ended. Refused where one is not answered.
 pub fn work_all<R: Threads + Sync + Clock + Wait>(
     rt: &R,
@@ -108,7 +110,10 @@ pub fn work_all<R: Threads + Sync + Clock + Wait>(
         {
             let mut target = target;
             meet(&come, threads);
-            work(rt, alloc, &mut target, series, calls)
+            match series.members {
+                Some(members) => work_batches(rt, alloc, &mut target, series, members, calls),
+                None => work(rt, alloc, &mut target, series, calls),
+            }
         },
     )?;
     for lap in laps {

@@ -1,5 +1,6 @@
 //! Times of the same work done in two ways, round after round.
 use crate::audits::audit_lap;
+use crate::batches::batch_lap;
 use crate::calls::Lap;
 use crate::failure::Failure;
 use crate::lines::{Beside, Line, Role};
@@ -42,6 +43,9 @@ fn lap<R: Threads + Sync + Clock + Wait>(
         (Role::Merges(_) | Role::Freeze, _) => merge_lap(rt, alloc, role, options, is_second),
         (Role::Audit, _) if is_second => audit_lap(rt, alloc, options.calls / 10),
         (Role::Audit, _) => audit_lap(rt, alloc, options.calls),
+        (Role::Batches(_) | Role::HotBatches(_), _) => {
+            batch_lap(rt, alloc, line, options, threads, is_second)
+        }
         (_, Beside::Nothing) if is_second => map_lap(rt, alloc, line, options, threads),
         _ if is_second => store_lap(rt, alloc, line, &Beside::Nothing, options, threads),
         _ => store_lap(rt, alloc, line, beside, options, threads),

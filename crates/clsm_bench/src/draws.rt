@@ -27,12 +27,13 @@ pub enum Call {
 }
 
 /// What all threads of a measurement call: so many keys are filled, which are there by rising size
-/// too where they are scanned.
+/// too where they are scanned. With members, the puts are made so many at once, as a batch.
 #[derive(Drop)]
 pub struct Series<'a> {
     line: &'a Line,
     pub keys: u32,
     sorted: Vec<u64>,
+    pub members: Option<u32>,
 }
 
 /// The key of a thread's write of this index: no other number or index has it, and near indices
@@ -60,7 +61,13 @@ impl<'a> Series<'a> {
             }
             sorted.sort()?;
         }
-        Ok(Series { line, keys, sorted })
+        let members = None;
+        Ok(Series {
+            line,
+            keys,
+            sorted,
+            members,
+        })
     }
 
     /// How many epochs are merged for the filling, how many keys are put at then before a freeze,
@@ -112,7 +119,11 @@ impl<'a> Series<'a> {
                 key,
                 word: Some(old),
             },
-            Role::Puts | Role::OnePuts => Call::Put {
+            Role::HotBatches(_) => Call::Put {
+                key: key_of(FILLER, below(HOT, word)),
+                word: new,
+            },
+            Role::Puts | Role::OnePuts | Role::Batches(_) => Call::Put {
                 key: key_of(number, index % NEW_KEYS),
                 word: new,
             },

@@ -1,6 +1,6 @@
 //! The lines that are printed, by their commands, and what is measured for each.
 use crate::draws::NEW_KEYS;
-use crate::lines::Beside::{Merger, Nothing, Scanner};
+use crate::lines::Beside::{Batcher, Merger, Nothing, Scanner};
 use crate::lines::Filling::{BothEpochs, Epoch, HalfEpoch, Runs};
 use crate::lines::Role::*;
 use crate::options::Options;
@@ -20,6 +20,10 @@ pub enum Role {
     RisingPuts,
     /// The first thread puts at keys that had no value, the others get.
     OnePuts,
+    /// Batches of so many writes beside as many puts: at keys that had no value, or each at one of a
+    /// few.
+    Batches(u32),
+    HotBatches(u32),
     /// Nine calls in ten are gets, the others puts at filled keys.
     Mixed,
     HotMixed,
@@ -55,6 +59,9 @@ pub enum Beside {
     Merger,
     /// A seat scans all keys again and again.
     Scanner,
+    /// A seat writes batches of 16 at a few of the filled keys again and again, and merges where
+    /// there is no time for one.
+    Batcher,
 }
 
 /// A line: its command, its name, the fewest and the most threads that are measured, what they do,
@@ -84,11 +91,30 @@ impl Line {
     pub fn filled(&self, options: &Options) -> u32 {
         let Line(_, _, _, _, role, filling, _) = self;
         match (role, filling) {
-            (Puts | RisingPuts, Epoch) => 0,
+            (Puts | RisingPuts | Batches(_) | HotBatches(_), Epoch) => 0,
             (Mixed | HotMixed | OnePuts, Epoch) => options.keys.min(options.cells / 2),
             (_, Epoch) => options.keys.min(options.cells),
             _ => options.keys,
         }
+    }
+
+    /// How many members a batch of each of so many threads has: as many as the line says, where the
+    /// thread's part of an epoch has room for them.
+    pub fn members(&self, options: &Options, threads: u32) -> u32 {
+        let room = options.cells / threads.max(1);
+        match &self.4 {
+            Batches(size) | HotBatches(size) => room.min(*size).max(1),
+            _ => 1,
+        }
+    }
+
+    /// The writes of the batches of each of so many threads: as many as the options say at most,
+    /// but for those of a single batch.
+    fn writes(&self, options: &Options, threads: u32) -> u32 {
+        let room = options.cells / threads.max(1);
+        let members = self.members(options, threads).max(1);
+        let batches = options.calls.min(room) / members;
+        batches.max(1).saturating_mul(members)
     }
 
     /// The calls for which each of so many threads has room, as many as the options say at most:
@@ -98,6 +124,7 @@ impl Line {
     pub fn calls(&self, is_merged: bool, options: &Options, threads: u32) -> u32 {
         let room = match &self.4 {
             _ if is_merged => options.calls,
+            Batches(_) | HotBatches(_) => return self.writes(options, threads),
             Scans(rows) | Pages(rows) => {
                 let rows = options.keys.min(*rows);
                 (MOST_ROWS / rows.max(1)).max(1)
@@ -129,7 +156,7 @@ impl Line {
     }
 }
 
-pub const LINES: [Line; 41] = [
+pub const LINES: [Line; 53] = [
     Line("calls", "gets present epoch", 1, 4, Gets, Epoch, Nothing),
     Line("calls", "gets hot epoch", 1, 4, HotGets, Epoch, Nothing),
     Line(
@@ -163,6 +190,106 @@ pub const LINES: [Line; 41] = [
     ),
     Line("beside", "gets runs, scans", 1, 4, Gets, Runs, Scanner),
     Line("beside", "puts runs, scans", 1, 4, Puts, Runs, Scanner),
+    Line(
+        "batches",
+        "batches of 1, new keys",
+        1,
+        4,
+        Batches(1),
+        Epoch,
+        Nothing,
+    ),
+    Line(
+        "batches",
+        "batches of 1, hot keys",
+        1,
+        4,
+        HotBatches(1),
+        Epoch,
+        Nothing,
+    ),
+    Line(
+        "batches",
+        "batches of 4, new keys",
+        1,
+        4,
+        Batches(4),
+        Epoch,
+        Nothing,
+    ),
+    Line(
+        "batches",
+        "batches of 4, hot keys",
+        1,
+        4,
+        HotBatches(4),
+        Epoch,
+        Nothing,
+    ),
+    Line(
+        "batches",
+        "batches of 16, new keys",
+        1,
+        4,
+        Batches(16),
+        Epoch,
+        Nothing,
+    ),
+    Line(
+        "batches",
+        "batches of 16, hot keys",
+        1,
+        4,
+        HotBatches(16),
+        Epoch,
+        Nothing,
+    ),
+    Line(
+        "batches",
+        "batches of 256, new keys",
+        1,
+        4,
+        Batches(256),
+        Epoch,
+        Nothing,
+    ),
+    Line(
+        "batches",
+        "batches of 256, hot keys",
+        1,
+        4,
+        HotBatches(256),
+        Epoch,
+        Nothing,
+    ),
+    Line(
+        "batches",
+        "batches of 65,536, new keys",
+        1,
+        4,
+        Batches(65_536),
+        Epoch,
+        Nothing,
+    ),
+    Line(
+        "batches",
+        "batches of 65,536, hot keys",
+        1,
+        4,
+        HotBatches(65_536),
+        Epoch,
+        Nothing,
+    ),
+    Line("batches", "gets runs, batches", 1, 4, Gets, Runs, Batcher),
+    Line(
+        "batches",
+        "gets hot runs, batches",
+        1,
+        4,
+        HotGets,
+        Runs,
+        Batcher,
+    ),
     Line(
         "merges",
         "merge into level 0, under a snapshot",

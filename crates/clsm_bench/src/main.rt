@@ -4,6 +4,7 @@
 #![tactic(auto)]
 
 mod audits;
+mod batches;
 mod calls;
 mod compared;
 mod draws;
@@ -61,7 +62,7 @@ fn bench<R: Threads + Sync + Clock + Wait + Env + Print + AllocGlobal>(
 fn main(rt: HostRuntime) -> ExitCode {
     let text = match bench(&rt) {
         Ok(()) => return ExitCode::SUCCESS,
-        Err(Failure::Usage) => "usage: clsm_bench calls, beside, merges, scans or audit",
+        Err(Failure::Usage) => "usage: clsm_bench calls, beside, batches, merges, scans or audit",
         Err(Failure::Device) => "device",
         Err(Failure::Refused) => "refused",
         Err(Failure::Unanswered) => "unanswered",

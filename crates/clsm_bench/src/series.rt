@@ -1,6 +1,7 @@
 //! Calls of a store beside those of a map, and beside a merger or scans.
 ghost use Rattle.std.specs.Prelude.{◌≡◌, All};
 
+use crate::batches::filled_members;
 use crate::calls::{Lap, put_filled, work_all};
 use crate::draws::{Call, Series};
 use crate::failure::Failure;
@@ -18,7 +19,11 @@ use std::sync::{RwLock, Wait};
 use std::thread::{Threads, join};
 
 /// The targets by these seats, numbered from 0.
-fn targets(alloc: Global, store: &Store<Free>, seats: Vec<Seat>) -> Result<Vec<Target<'_>>, Failure>
+pub fn targets(
+    alloc: Global,
+    store: &Store<Free>,
+    seats: Vec<Seat>,
+) -> Result<Vec<Target<'_>>, Failure>
     requires { All (λ seat. seat.store ≡ store.now) seats.items }
 {
     let mut targets = Vec::with_capacity(alloc, seats.len())?;
@@ -74,6 +79,7 @@ fn disturb<R: Wait>(
         hi: u64::MAX,
         rows: keys as usize,
     };
+    let members = filled_members(alloc, keys)?;
     for _ in 0..u32::MAX {
         if stop.load(SeqCst) {
             return Ok(());
@@ -81,6 +87,11 @@ fn disturb<R: Wait>(
         match beside {
             Beside::Nothing => return Ok(()),
             Beside::Merger => merger = merger.sweep(rt).0,
+            Beside::Batcher => {
+                if !target.batch(rt, &members) {
+                    merger = merger.sweep(rt).0;
+                }
+            }
             Beside::Scanner => {
                 let _ = target.make(rt, alloc, &all);
             }
@@ -127,7 +138,7 @@ pub fn store_lap<R: Threads + Sync + Clock + Wait>(
     threads: u32,
 ) -> Result<Lap, Failure> {
     let series = Series::new(alloc, line, options)?;
-    let is_merged = matches!(beside, Beside::Merger);
+    let is_merged = matches!(beside, Beside::Merger | Beside::Batcher);
     let calls = line.calls(is_merged, options, threads);
     let Ok(opened) = open(alloc, line.sizes(is_merged, options, threads)) else {
         return Err(Failure::Refused);

@@ -1,6 +1,6 @@
 //! What calls are made on: a seat of a store, or a map under a lock.
 use crate::draws::Call;
-use clsm_model::Value;
+use clsm_model::{Change, Value};
 use clsm_store::Caller;
 use clsm_words::Free;
 use std::alloc::Global;
@@ -39,6 +39,15 @@ impl Target<'_> {
             Call::Page { from, rows } => {
                 self.rows(rt, alloc, *from, u64::MAX, Some(*rows)) == Some(*rows)
             }
+        }
+    }
+
+    /// Makes the writes of a batch of a store, once. Answers whether they were made.
+    #[inline]
+    pub fn batch<R: Wait>(&mut self, rt: &R, members: &[(u64, Change)]) -> bool {
+        match self {
+            Target::Store(_, caller) => caller.batch(rt, members).is_ok(),
+            Target::Map(..) => false,
         }
     }
 

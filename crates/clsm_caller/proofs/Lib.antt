@@ -3,3 +3,4 @@ pub mod SeatRanges
 pub mod SeatPages
 pub mod SeatRights
 pub mod SeatWords
+pub mod Uncut

@@ -1,29 +1,42 @@
 ghost use Rattle.std.specs.Prelude.{◌↔◌, ◌≤◌, IsTrue};
 ghost use Rattle.clsm_law.specs.Relation.{IsEndingWith, IsMetAt, IsReadBelow, IsRightAt, time_of_read};
-ghost use Rattle.clsm_law.specs.Worlds.{past_of};
+ghost use Rattle.clsm_law.specs.Worlds.{open_past};
 ghost use Rattle.clsm_model.specs.Right.{IsRight};
 
 use crate::reads::{is_old, time_of_read};
 use crate::rights::is_right;
 use clsm_law::{End, SnapshotState, View};
-use clsm_model::{Deed, Slot, Time};
+use clsm_model::{Batch, Deed, Slot, Time};
 
 /// Whether a read-modify-write has read what stands below its time.
-pub(crate) fn is_read_below(slots: &[Option<Slot>], view: &View, time: Time, deed: &Deed) -> bool
-    ensures { IsTrue result ↔ IsReadBelow (past_of slots.now view.now.past) view.now time deed.now }
+pub(crate) fn is_read_below(
+    slots: &[Option<Slot>],
+    batches: &[Batch],
+    view: &View,
+    time: Time,
+    deed: &Deed,
+) -> bool
+    ensures { IsTrue result ↔ IsReadBelow (open_past slots.now batches.now view.now.past) view.now time deed.now }
 {
     match deed {
-        Deed::Rmw { .. } => time <= view.past && is_right(slots, view.past, time, deed),
+        Deed::Rmw { .. } => time <= view.past && is_right(slots, batches, view.past, time, deed),
         _ => true,
     }
 }
 
-fn is_right_at(slots: &[Option<Slot>], view: &View, deed: &Deed, time: Option<Time>) -> bool
-    ensures { IsTrue result ↔ IsRightAt (past_of slots.now view.now.past) view.now deed.now time }
+fn is_right_at(
+    slots: &[Option<Slot>],
+    batches: &[Batch],
+    view: &View,
+    deed: &Deed,
+    time: Option<Time>,
+) -> bool
+    ensures { IsTrue result ↔ IsRightAt (open_past slots.now batches.now view.now.past) view.now deed.now time }
 {
     match time {
         Some(time) => {
-            (is_old(view, deed) || view.due <= time) && is_right(slots, view.past, time, deed)
+            (is_old(view, deed) || view.due <= time)
+                && is_right(slots, batches, view.past, time, deed)
         }
         None => false,
     }
@@ -39,32 +52,32 @@ fn is_met_at(view: &View, time: Option<Time>) -> bool
 }
 
 /// Whether a read that noted no snapshot may end so.
-fn is_ending_read(slots: &[Option<Slot>], view: &View, end: &End) -> bool
-    ensures { IsTrue result ↔ IsEndingWith (past_of slots.now view.now.past) view.now SnapshotState.Absent end.now }
+fn is_ending_read(slots: &[Option<Slot>], batches: &[Batch], view: &View, end: &End) -> bool
+    ensures { IsTrue result ↔ IsEndingWith (open_past slots.now batches.now view.now.past) view.now SnapshotState.Absent end.now }
 {
     match end {
         End::Neither => true,
         End::Meeting => is_met_at(view, view.pin_clock),
-        End::Recorded(deed) => is_right_at(slots, view, deed, time_of_read(view, deed)),
+        End::Recorded(deed) => is_right_at(slots, batches, view, deed, time_of_read(view, deed)),
     }
 }
 
 /// Whether the snapshot that this pin timed may be opened at its time.
-fn is_opening(slots: &[Option<Slot>], view: &View, time: Time) -> bool
-    ensures { IsTrue result ↔ ((view.now.due ≤ time) × IsRight (past_of slots.now view.now.past) time Deed.Snapshot) }
+fn is_opening(slots: &[Option<Slot>], batches: &[Batch], view: &View, time: Time) -> bool
+    ensures { IsTrue result ↔ ((view.now.due ≤ time) × IsRight (open_past slots.now batches.now view.now.past) time Deed.Snapshot) }
 {
-    view.due <= time && is_right(slots, view.past, time, &Deed::Snapshot)
+    view.due <= time && is_right(slots, batches, view.past, time, &Deed::Snapshot)
 }
 
 /// Whether the read of this pin may end so.
-pub(crate) fn is_ending(slots: &[Option<Slot>], view: &View, end: &End) -> bool
-    ensures { IsTrue result ↔ IsEndingWith (past_of slots.now view.now.past) view.now view.now.snapshot end.now }
+pub(crate) fn is_ending(slots: &[Option<Slot>], batches: &[Batch], view: &View, end: &End) -> bool
+    ensures { IsTrue result ↔ IsEndingWith (open_past slots.now batches.now view.now.past) view.now view.now.snapshot end.now }
 {
     match view.snapshot {
         SnapshotState::Noted(_) => false,
         SnapshotState::Timed { time, .. } => {
-            matches!(end, End::Recorded(Deed::Snapshot)) && is_opening(slots, view, time)
+            matches!(end, End::Recorded(Deed::Snapshot)) && is_opening(slots, batches, view, time)
         }
-        _ => is_ending_read(slots, view, end),
+        _ => is_ending_read(slots, batches, view, end),
     }
 }

@@ -3,6 +3,7 @@
 #![tactic(auto)]
 
 mod answers;
+mod batches;
 mod drawn;
 mod ends;
 mod looks;
@@ -20,6 +21,7 @@ mod words;
 mod writes;
 
 pub use answers::answer;
+pub use batches::{batch_by, list};
 pub use notes::note;
 pub use open::is_open;
 pub use opening::idle;

@@ -1,6 +1,6 @@
 ghost use Rattle.std.specs.Prelude.{◌≡◌, ℕ, MatchResult};
 ghost use Rattle.clsm_law.specs.Relation.{view_after};
-ghost use Rattle.clsm_law.specs.SeatBounds.{IsSmall};
+ghost use Rattle.clsm_law.specs.SeatBounds.{IsSmall, IsSmallFor};
 ghost use Rattle.clsm_law.specs.declared.layout.Layout.{Layout};
 ghost use Rattle.clsm_law.specs.declared.step.Step.{Step};
 
@@ -8,8 +8,8 @@ use crate::looks::note_look;
 use crate::reads::{ended_due, ended_snapshot, ended_time, open_time};
 use crate::words::or_zero;
 use crate::writes::{
-    note_cancel, note_decision, note_draw, note_entry, note_filling, note_insert, note_leaving,
-    note_link,
+    note_cancel, note_commit, note_decision, note_draw, note_entry, note_filling, note_insert,
+    note_leaving, note_link, note_stage, note_taking,
 };
 use clsm_law::{End, Layout, SnapshotState, Step, View};
 use clsm_model::{CallRecord, Deed};
@@ -65,7 +65,8 @@ pub fn note(
     step: Step,
     found: u64,
 ) -> Result<(), AllocError>
-    requires { IsSmall layout.now step found }
+    requires small { IsSmall layout.now step found }
+    requires fits { IsSmallFor view.old step }
     ensures { MatchResult result
         (λ _. view.new ≡ view_after layout.now seat view.old step found)
         (λ _. view.new ≡ view.old) }
@@ -73,6 +74,10 @@ pub fn note(
     match step {
         Step::EnterShared(holders) => note_entry(layout, view, holders, found)?,
         Step::LeaveShared => note_leaving(layout, view)?,
+        Step::LeaveExclusive => note_leaving(layout, view)?,
+        Step::EnterExclusive => note_taking(layout, view, found)?,
+        Step::Stage(time, key) => note_stage(view, time, key)?,
+        Step::Commit(members) => note_commit(seat, view, members)?,
         Step::Draw(time) => note_draw(view, time, found)?,
         Step::Fill(part, word) => note_filling(view, part, word),
         Step::Link(head) => note_link(layout, view, head, found),

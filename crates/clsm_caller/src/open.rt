@@ -1,18 +1,19 @@
-ghost use Rattle.std.specs.Prelude.{◌≡◌, ◌≢◌, ◌↔◌, IsTrue, false, ℕ, take};
+ghost use Rattle.std.specs.Prelude.{◌≡◌, ◌≢◌, ◌↔◌, IsTrue, false, [], ℕ, take};
 ghost use Rattle.clsm_model.specs.History.{History};
 ghost use Rattle.clsm_law.specs.declared.layout.Layout.{Layout};
 ghost use Rattle.clsm_law.specs.declared.step.Step.{Step};
 ghost use Rattle.clsm_law.specs.Views.{is_all_some, or_zero};
-ghost use Rattle.clsm_law.specs.Relation.{IsOpen};
-ghost use Rattle.clsm_law.specs.Worlds.{past_of};
+ghost use Rattle.clsm_law.specs.Relation.{IsNextMember, IsOpen};
+ghost use Rattle.clsm_law.specs.Worlds.{open_past};
 
+use crate::batches::is_uncut;
 use crate::drawn::{fresh_head, is_all_some, says_write};
 use crate::ends::{is_ending, is_read_below};
 use crate::reaches::is_below;
 use crate::visits::{holds_from, is_lookable};
 use crate::words::{or_zero, write_by};
 use clsm_law::{EXCLUSIVE_HOLD, Layout, Mode, Part, SnapshotState, Step, View, Word};
-use clsm_model::{Deed, Slot, Time};
+use clsm_model::{Batch, Deed, Members, Slot, Time};
 
 fn may_enter(view: &View, holders: u64) -> bool
     ensures { (z : Layout) (h : History) → IsTrue result ↔ IsOpen z h view.now (Step.EnterShared holders) }
@@ -72,20 +73,27 @@ fn may_insert(view: &View, pred: u64, next: u64) -> bool
         && (next == 0 || next == view.high)
 }
 
-fn may_decide(slots: &[Option<Slot>], view: &View, time: Time, deed: &Deed) -> bool
-    ensures { (z : Layout) → IsTrue result ↔ IsOpen z (past_of slots.now view.now.past) view.now (Step.Decide time deed.now) }
+fn may_decide(
+    slots: &[Option<Slot>],
+    batches: &[Batch],
+    view: &View,
+    time: Time,
+    deed: &Deed,
+) -> bool
+    ensures { (z : Layout) → IsTrue result ↔ IsOpen z (open_past slots.now batches.now view.now.past) view.now (Step.Decide time deed.now) }
 {
     view.drawn == Some(time)
         && view.linked
         && says_write(view, write_by(0, deed))
-        && is_read_below(slots, view, time, deed)
+        && is_read_below(slots, batches, view, time, deed)
         && view.inserted
 }
 
 fn may_cancel(layout: &Layout, view: &View, time: Time) -> bool
     ensures { (h : History) → IsTrue result ↔ IsOpen layout.now h view.now (Step.Cancel time) }
 {
-    view.drawn == Some(time) || holds_from(layout, view.held, time) && is_below(time, view.clock)
+    view.drawn == Some(time) && view.mode == Mode::Shared
+        || holds_from(layout, view.held, time) && is_below(time, view.clock)
 }
 
 fn may_note(view: &View, time: Time) -> bool
@@ -94,9 +102,57 @@ fn may_note(view: &View, time: Time) -> bool
     view.snapshot == SnapshotState::Absent && view.pinned && view.pin_clock == Some(time)
 }
 
-/// Whether the seat with this view may make the step, in a world of these slots.
-pub fn is_open(layout: &Layout, slots: &[Option<Slot>], view: &View, step: &Step) -> bool
-    ensures { IsTrue result ↔ IsOpen layout.now (past_of slots.now view.now.past) view.now step.now }
+/// Whether the seat holds the lock exclusively and writes no cell.
+fn is_between(view: &View) -> bool
+    ensures { IsTrue result ↔ ((view.now.mode ≡ Mode.Exclusive) × (view.now.drawn ≡ None)) }
+{
+    view.mode == Mode::Exclusive && view.drawn.is_none()
+}
+
+/// Whether the time is that of the next member of the seat's batch.
+fn is_next_member(view: &View, time: Time) -> bool
+    ensures { IsTrue result ↔ IsNextMember view.now view.now.hold_clock time }
+{
+    match view.hold_clock {
+        Some(clock) => { clock <= time && time - clock == view.staged.as_slice().len() as u64 }
+        None => false,
+    }
+}
+
+fn may_stage(view: &View, time: Time) -> bool
+    ensures { (z : Layout) (h : History) (key : ℕ) → IsTrue result ↔ IsOpen z h view.now (Step.Stage time key) }
+{
+    is_between(view)
+        && !view.committed
+        && is_next_member(view, time)
+        && is_below(time, view.hold_limit)
+}
+
+fn is_staged(view: &View, members: &Members) -> bool
+    ensures { IsTrue result ↔ (view.now.staged ≡ members.now) }
+{
+    view.staged == *members
+}
+
+fn may_commit(view: &View, members: &Members) -> bool
+    ensures { (z : Layout) (h : History) → IsTrue result ↔ IsOpen z h view.now (Step.Commit members.now) }
+{
+    is_between(view)
+        && !view.committed
+        && view.hold_clock.is_some()
+        && is_staged(view, members)
+        && !members.as_slice().is_empty()
+}
+
+/// Whether the seat with this view may make the step, in a world of these slots and batches.
+pub fn is_open(
+    layout: &Layout,
+    slots: &[Option<Slot>],
+    batches: &[Batch],
+    view: &View,
+    step: &Step,
+) -> bool
+    ensures { IsTrue result ↔ IsOpen layout.now (open_past slots.now batches.now view.now.past) view.now step.now }
 {
     match step {
         Step::EnterShared(holders) => may_enter(view, *holders),
@@ -110,12 +166,16 @@ pub fn is_open(layout: &Layout, slots: &[Option<Slot>], view: &View, step: &Step
             cell: *cell,
             hint: *hint,
         }),
-        Step::Decide(time, deed) => may_decide(slots, view, *time, deed),
+        Step::Decide(time, deed) => may_decide(slots, batches, view, *time, deed),
         Step::Cancel(time) => may_cancel(layout, view, *time),
+        Step::EnterExclusive => view.mode == Mode::Free,
+        Step::LeaveExclusive => is_between(view) && view.staged.as_slice().is_empty(),
+        Step::Stage(time, _) => may_stage(view, *time),
+        Step::Commit(members) => may_commit(view, members),
         Step::Pin => !view.pinned,
-        Step::Unpin(end) => view.pinned && is_ending(slots, view, end),
+        Step::Unpin(end) => view.pinned && is_ending(slots, batches, view, end),
         Step::Look(word) => layout.is_word(*word) && is_lookable(layout, view, *word),
-        Step::RaiseFront(time) => *time <= view.reached,
+        Step::RaiseFront(time) => *time <= view.reached && is_uncut(batches, *time),
         Step::Note(time) => may_note(view, *time),
         Step::CloseSnapshot => matches!(view.snapshot, SnapshotState::Open { .. }),
         _ => false,

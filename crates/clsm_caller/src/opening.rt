@@ -2,6 +2,7 @@ ghost use Rattle.std.specs.Prelude.{◌≡◌, IfOk};
 ghost use Rattle.clsm_law.specs.Views.{idle};
 
 use clsm_law::{Items, Layout, Mode, SnapshotState, View};
+use clsm_model::Members;
 use std::alloc::{AllocError, Global};
 
 /// The view of a seat that has done nothing yet. Refused for want of memory.
@@ -30,6 +31,8 @@ pub fn idle(alloc: Global, layout: &Layout) -> Result<View, AllocError>
         met: 0,
         low: 0,
         high: 0,
+        staged: Members::new(Vec::new(alloc)),
+        committed: false,
         pin: 0,
         pinned: false,
         held: None,

@@ -1,10 +1,11 @@
 ghost use Rattle.std.specs.Prelude.{◌↔◌, IsTrue, length};
 ghost use Rattle.clsm_model.specs.Right.{IsRight, Reads};
-ghost use Rattle.clsm_law.specs.Worlds.{history_of, past_of};
+ghost use Rattle.clsm_law.specs.Worlds.{history_of, open_past};
 
+use crate::batches::is_uncut;
 use crate::pages::is_page;
 use crate::ranges::{is_range, is_value};
-use clsm_model::{Deed, Slot, Time};
+use clsm_model::{Batch, Deed, Slot, Time};
 
 /// Whether what the deed read, if it read, is what the slots give.
 fn reads(seen: &[Option<Slot>], deed: &Deed) -> bool
@@ -27,12 +28,18 @@ fn reads(seen: &[Option<Slot>], deed: &Deed) -> bool
 }
 
 /// Whether the deed stands at a time of the past, and what it read is what the slots below that
-/// time give.
-pub(crate) fn is_right(slots: &[Option<Slot>], past: Time, time: Time, deed: &Deed) -> bool
-    ensures { IsTrue result ↔ IsRight (past_of slots.now past) time deed.now }
+/// time give; and the time is inside no batch.
+pub(crate) fn is_right(
+    slots: &[Option<Slot>],
+    batches: &[Batch],
+    past: Time,
+    time: Time,
+    deed: &Deed,
+) -> bool
+    ensures { IsTrue result ↔ IsRight (open_past slots.now batches.now past) time deed.now }
 {
     if time > past || time > slots.len() as u64 {
         return false;
     }
-    reads(&slots[..time as usize], deed)
+    is_uncut(batches, time) && reads(&slots[..time as usize], deed)
 }

@@ -29,6 +29,7 @@ pub fn settling_by(seat: u32, step: &Step, found: u64) -> Settling
             Some(slot) => Settling::Decided { time: *time, slot },
             None => Settling::Undecided(*time),
         },
+        Step::Stage(..) => Settling::Drawn,
         Step::Cancel(time) if found == 0 => Settling::Decided {
             time: *time,
             slot: Slot::Nothing,

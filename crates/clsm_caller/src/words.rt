@@ -1,12 +1,13 @@
 ghost use Rattle.std.specs.Prelude.{◌≡◌, ◌+◌, ◌<◌, ◌^◌, IsTrue};
 ghost use Rattle.clsm_model.specs.Right.{write_by};
 ghost use Rattle.clsm_law.specs.Memory.{head_of, is_word, link_at};
-ghost use Rattle.clsm_law.specs.SeatBounds.{IsSmall};
+ghost use Rattle.clsm_law.specs.SeatBounds.{IsSmall, IsSmallFor};
 ghost use Rattle.clsm_law.specs.Views.{or_zero, own_time, own_line, own_place, own_region, next_word};
 ghost use Rattle.clsm_law.specs.Relation.{changed, state_by, word_of};
 
 use clsm_law::{
-    CANCELLED_CELL, Layout, REMOVAL_CELL, Step, UNDECIDED_CELL, VALUE_CELL, View, Word,
+    CANCELLED_CELL, EXCLUSIVE_HOLD, Layout, Part, REMOVAL_CELL, Step, UNDECIDED_CELL, VALUE_CELL,
+    View, Word,
 };
 use clsm_model::{Change, Deed, Slot, Time};
 
@@ -76,6 +77,11 @@ pub fn word_of(layout: &Layout, seat: u32, view: &View, step: &Step) -> Word
         },
         Step::Decide(time, _) => Word::State(layout.cell_of(*time)),
         Step::Cancel(time) => Word::State(layout.cell_of(*time)),
+        Step::Stage(time, _) => Word::Cell {
+            cell: layout.cell_of(*time),
+            part: Part::Key,
+        },
+        Step::Commit(_) => Word::Clock,
         Step::Pin | Step::Unpin(_) => Word::Pin(u64::from(seat)),
         Step::Look(word) => *word,
         Step::RaiseFront(_) => Word::Front,
@@ -119,7 +125,8 @@ fn state_by(write: Option<Slot>) -> u64
 
 /// What the step makes of the word that it finds.
 pub fn changed(layout: &Layout, view: &View, step: &Step, found: u64) -> u64
-    requires { IsSmall layout.now step.now found }
+    requires small { IsSmall layout.now step.now found }
+    requires fits { IsSmallFor view.now step.now }
     ensures { result ≡ changed layout.now view.now step.now found }
 {
     match step {
@@ -133,6 +140,10 @@ pub fn changed(layout: &Layout, view: &View, step: &Step, found: u64) -> u64
         Step::StoreHint { word, .. } => *word,
         Step::Decide(_, deed) if found == UNDECIDED_CELL => state_by(write_by(0, deed)),
         Step::Cancel(_) if found == UNDECIDED_CELL => CANCELLED_CELL,
+        Step::EnterExclusive if found == 0 => EXCLUSIVE_HOLD,
+        Step::LeaveExclusive => found.wrapping_sub(EXCLUSIVE_HOLD),
+        Step::Stage(_, key) => *key,
+        Step::Commit(members) => or_zero(view.hold_clock) + members.as_slice().len() as u64,
         Step::Pin | Step::Unpin(_) => view.pin.wrapping_add(1),
         Step::RaiseFront(time) => found.max(*time),
         Step::Note(time) => *time + 1,

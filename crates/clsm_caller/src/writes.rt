@@ -1,12 +1,14 @@
-ghost use Rattle.std.specs.Prelude.{◌≡◌, ◌+◌, ◌<◌, ◌^◌, ℕ, MatchResult};
-ghost use Rattle.clsm_law.specs.Relation.{counted_cancel, filled, given_up, is_own, view_after};
+ghost use Rattle.std.specs.Prelude.{◌≡◌, ◌+◌, ◌<◌, ◌^◌, ◌++◌, ℕ, length, MatchResult};
+ghost use Rattle.clsm_law.specs.Views.{or_zero};
+ghost use Rattle.clsm_caller.specs.Settling.{listed};
+ghost use Rattle.clsm_law.specs.Relation.{counted_cancel, filled, given_up, is_own, member_of, view_after};
 ghost use Rattle.clsm_law.specs.declared.layout.Layout.{Layout};
 ghost use Rattle.clsm_law.specs.declared.step.Step.{Step};
 
 use crate::reaches::reached_after;
-use crate::words::own_line;
+use crate::words::{or_zero, own_line};
 use clsm_law::{Layout, Mode, Part, UNDECIDED_CELL, View};
-use clsm_model::{CallRecord, Deed, Time};
+use clsm_model::{CallRecord, Change, Deed, Members, Time};
 use std::alloc::AllocError;
 
 /// Notes an exchange on LOCK for one holder more than these.
@@ -74,6 +76,63 @@ pub(crate) fn note_draw(view: &mut View, time: Time, found: u64) -> Result<(), A
     Ok(())
 }
 
+/// Notes an exchange on LOCK for an exclusive hold.
+pub(crate) fn note_taking(layout: &Layout, view: &mut View, found: u64) -> Result<(), AllocError>
+    ensures { MatchResult result
+        (λ _. (i : ℕ) → view.new ≡ view_after layout.now i view.old Step.EnterExclusive found)
+        (λ _. view.new ≡ view.old) }
+{
+    if found == 0 {
+        view.fresh_heads.blank(2 * layout.chains as usize)?;
+        view.mode = Mode::Exclusive;
+        view.fresh_clock = None;
+        view.hold_limit = None;
+        view.hold_clock = None;
+        view.committed = false;
+        view.entries = view.entries.wrapping_add(1);
+    }
+    view.fresh_lock = None;
+    Ok(())
+}
+
+/// Notes that the next member of a batch takes this time, and its key.
+pub(crate) fn note_stage(view: &mut View, time: Time, key: u64) -> Result<(), AllocError>
+    ensures { MatchResult result
+        (λ _. (z : Layout) (i x : ℕ) → view.new ≡ view_after z i view.old (Step.Stage time key) x)
+        (λ _. view.new ≡ view.old) }
+{
+    view.words.blank(8)?;
+    view.drawn = Some(time);
+    view.key = Some(key);
+    view.length = None;
+    view.next = None;
+    view.linked = false;
+    view.order_next = None;
+    view.inserted = false;
+    view.low = 0;
+    view.high = 0;
+    view.fresh_clock = None;
+    Ok(())
+}
+
+/// Notes that the batch is committed.
+pub(crate) fn note_commit(seat: u32, view: &mut View, members: Members) -> Result<(), AllocError>
+    requires { or_zero view.old.hold_clock + length members < 2 ^ 64 }
+    ensures { MatchResult result
+        (λ _. (z : Layout) (x : ℕ) → view.new ≡ view_after z seat view.old (Step.Commit members) x)
+        (λ _. view.new ≡ view.old) }
+{
+    let time = or_zero(view.hold_clock);
+    let due = time + members.as_slice().len() as u64;
+    let deed = Deed::Batch { members };
+    view.calls.push(CallRecord { seat, time, deed })?;
+    view.staged.clear();
+    view.committed = true;
+    view.fresh_clock = None;
+    view.due = due;
+    Ok(())
+}
+
 /// Notes a part of the drawn cell that is filled.
 pub(crate) fn note_filling(view: &mut View, part: Part, word: u64)
     ensures { view.new ≡ filled view.old part word }
@@ -114,6 +173,29 @@ pub(crate) fn note_insert(view: &mut View, pred: u64, next: u64, found: u64)
     }
 }
 
+/// Puts the write that the deed is, if it is one, behind the members of the seat's batch.
+fn stage(view: &mut View, deed: &Deed) -> Result<(), AllocError>
+    ensures { MatchResult result
+        (λ _. view.new ≡ record view.old { staged = view.old.staged ++ member_of deed.now })
+        (λ _. view.new ≡ view.old) }
+{
+    if let Some(member) = member_of(deed) {
+        view.staged.push(member)?;
+    }
+    Ok(())
+}
+
+fn member_of(deed: &Deed) -> Option<(u64, Change)>
+    ensures { listed result ≡ member_of deed.now }
+{
+    match deed {
+        Deed::Put { key, value } => Some((*key, Change::Set(*value))),
+        Deed::Remove { key } => Some((*key, Change::Remove)),
+        Deed::Rmw { key, change, .. } => Some((*key, *change)),
+        _ => None,
+    }
+}
+
 /// Notes an exchange on the state of the drawn time, with what the write does.
 pub(crate) fn note_decision(
     layout: &Layout,
@@ -129,11 +211,13 @@ pub(crate) fn note_decision(
         (λ _. view.new ≡ view.old) }
 {
     let reached = reached_after(layout, view, time);
-    if found == 0 {
+    if found != 0 {
+        view.overtaken = view.overtaken.wrapping_add(1);
+    } else if view.mode == Mode::Exclusive {
+        stage(view, &deed)?;
+    } else {
         view.calls.push(CallRecord { seat, time, deed })?;
         view.due = time + 1;
-    } else {
-        view.overtaken = view.overtaken.wrapping_add(1);
     }
     view.drawn = None;
     view.reached = reached;

@@ -1,33 +1,26 @@
 -- A whole read-modify-write from its parts.
 use Rattle.std.proofs.Common.{◌≡◌, ℕ, ◌+◌, ◌++◌, ◌∷◌, [], List, refl, ap, ◌∙◌, arith, append-nil, Option, Ok, Err, Result, IfOk}
-use mathlib.Core.List.{IsPrefix}
 use Rattle.clsm_model.specs.declared.slot.Change.{Change}
 use Rattle.clsm_model.specs.declared.slot.Change.TheVariants.{Keep, Set, Remove}
+use Rattle.clsm_model.specs.History.{IsBeginning}
 use Rattle.clsm_model.specs.Seats.{due_by}
 use Rattle.clsm_model.specs.declared.record.Deed.TheVariants.{Rmw}
 use Rattle.clsm_model.specs.declared.record.CallRecord.{CallRecord}
 use Rattle.clsm_law.specs.declared.view.View.{View}
-use Rattle.clsm_law.specs.declared.view.SnapshotState.{SnapshotState}
-use Rattle.clsm_law.specs.declared.view.SnapshotState.TheVariants.{Absent, Noted, Timed, Open}
 use Rattle.clsm_law.specs.declared.step.End.TheVariants.{Neither}
 use Rattle.clsm_law.specs.Views.{or_zero}
 use Rattle.clsm_law.specs.Relation.{call_of, ended_snapshot}
 use Rattle.clsm_words.specs.declared.known.Known.{Known}
-use Rattle.clsm_words.proofs.Keeps.{prefix_trans}
+use Rattle.clsm_words.specs.Knowing.{known_of}
+use Rattle.clsm_model.proofs.Batches.{begins_trans}
+use Rattle.clsm_words.specs.Keeping.{KeepsPast}
 use Rattle.clsm_lock.specs.Keeping.{Enters, Leaves}
 use Rattle.clsm_pins.specs.Pinning.{Pins, Unpins}
 use Rattle.clsm_calls.specs.declared.got.Rmw.{Rmw as Answered}
 use Rattle.clsm_calls.specs.declared.refusal.Full.{Full as Refusal}
-use Rattle.clsm_calls.specs.Resting.{IsAtRest, IsSettled, Keeps, Records}
+use Rattle.clsm_calls.specs.Resting.{IsAtRest, Keeps, Records}
 use Rattle.clsm_calls.specs.Changing.{ChangesAt, Does, read_end}
-use Rattle.clsm_calls.proofs.Rest.{same_past}
-
--- where no snapshot waits for its time, the end of a read leaves it
-stays_open : (s : SnapshotState) → IsSettled s → ended_snapshot s ≡ s
-stays_open Absent is = refl
-stays_open (Noted noted) is = absurd is
-stays_open (Timed noted time) is = absurd is
-stays_open (Open noted time) is = refl
+use Rattle.clsm_calls.proofs.Rest.{same_past, stays_open}
 
 module _ (a b c d e f : Known) (component key : ℕ) (rests : IsAtRest a) (enters : Enters a b) (pins : Pins b c component) (leaves : Leaves e f) where
   number : c.number ≡ a.number
@@ -36,8 +29,12 @@ module _ (a b c d e f : Known) (component key : ℕ) (rests : IsAtRest a) (enter
   layout : c.layout ≡ a.layout
   layout = pins.keeps.layout ∙ enters.place.seat.layout
 
-  past : IsPrefix a.past c.past
-  past = same_past a.past c.past (pins.keeps.past ∙ enters.place.past)
+  past : IsBeginning (known_of a) (known_of c)
+  past = same_past a c (pins.keeps.past ∙ enters.place.past) (pins.keeps.batches ∙ enters.place.batches)
+
+  ended : Keeps c d → KeepsPast d e → IsBeginning (known_of a) (known_of f)
+  ended keeps unpinned = begins_trans (known_of a) (known_of d) (known_of f) (begins_trans (known_of a) (known_of c) (known_of d) past keeps.past)
+      (same_past d f (leaves.place.past ∙ unpinned.past) (leaves.place.batches ∙ unpinned.batches))
 
   calls : c.view.calls ≡ a.view.calls
   calls = ap (λ (v : View). v.calls) pins.view ∙ ap (λ (v : View). v.calls) enters.view
@@ -62,7 +59,7 @@ module _ (a b c d e f : Known) (component key : ℕ) (rests : IsAtRest a) (enter
   written change t o records unpins same = let both = wrote change t o records unpins in record {
     number = leaves.place.seat.number ∙ unpins.keeps.number ∙ records.keeps.number ∙ number;
     layout = leaves.place.seat.layout ∙ unpins.keeps.layout ∙ records.keeps.layout ∙ layout;
-    past = prefix_trans a.past d.past f.past (prefix_trans a.past c.past d.past past records.keeps.past) (same_past d.past f.past (leaves.place.past ∙ unpins.keeps.past));
+    past = ended records.keeps unpins.keeps;
     snapshot = ap (λ (v : View). v.snapshot) leaves.view ∙ ap (λ (v : View). v.snapshot) unpins.view ∙ snapshot records.keeps;
     calls = both.0;
     due = both.1 ∙ same;
@@ -74,7 +71,7 @@ module _ (a b c d e f : Known) (component key : ℕ) (rests : IsAtRest a) (enter
   changed Keep t o (still, reads) unpins = record {
     number = leaves.place.seat.number ∙ unpins.keeps.number ∙ still.keeps.number ∙ number;
     layout = leaves.place.seat.layout ∙ unpins.keeps.layout ∙ still.keeps.layout ∙ layout;
-    past = prefix_trans a.past d.past f.past (prefix_trans a.past c.past d.past past still.keeps.past) (same_past d.past f.past (leaves.place.past ∙ unpins.keeps.past));
+    past = ended still.keeps unpins.keeps;
     snapshot = ap (λ (v : View). v.snapshot) leaves.view ∙ ap (λ (v : View). v.snapshot) unpins.view ∙ snapshot still.keeps;
     calls = ap (λ (v : View). v.calls) leaves.view ∙ ap (λ (v : View). v.calls) unpins.view
         ∙ ap (λ (clock : Option ℕ). d.view.calls ++ call_of d.number (or_zero clock) (Rmw key o Keep) ∷ []) reads.pin_clock

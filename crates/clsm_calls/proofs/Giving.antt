@@ -76,11 +76,11 @@ gives_trans a b c key longer le (inl h) (inr is) = inr (written_later c.past c.p
 longer : (b c : Known) (component key : ℕ) (attempt : ChangeAttempt) → TriesChange b c component key attempt → IsPrefix b.past c.past
 longer b c component key (Finished rmw) tries = done rmw.change tries where
   done : (change : Change) → Does change b c component key rmw.time rmw.old → IsPrefix b.past c.past
-  done Keep does = does.0.keeps.past
-  done (Set words) does = does.keeps.past
-  done Remove does = does.keeps.past
-longer b c component key (Full t) tries = tries.still.keeps.past
-longer b c component key Lost tries = tries.keeps.past
+  done Keep does = does.0.keeps.past.slots
+  done (Set words) does = does.keeps.past.slots
+  done Remove does = does.keeps.past.slots
+longer b c component key (Full t) tries = tries.still.keeps.past.slots
+longer b c component key Lost tries = tries.still.keeps.past.slots
 
 -- after those before it
 pub gives_tried : (a b c : Known) (component key : ℕ) (attempt : ChangeAttempt) → Still a b → TriesChange b c component key attempt → GivesUpFor a b key → GivesUpFor b c key → GivesUpFor a c key

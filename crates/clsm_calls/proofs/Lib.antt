@@ -2,6 +2,8 @@ pub mod Rest
 pub mod Found
 pub mod Unchanged
 pub mod Giving
+pub mod DrawsAgain
+pub mod Attempts
 pub mod Changed
 pub mod LastTimes
 pub mod Quiet
@@ -10,3 +12,5 @@ pub mod Rounds
 pub mod Prepared
 pub mod Publishing
 pub mod Asking
+pub mod ReadParts
+pub mod Staged

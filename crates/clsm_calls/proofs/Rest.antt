@@ -1,25 +1,26 @@
 -- Parts of calls one after another.
-use Rattle.std.proofs.Common.{◌≡◌, ℕ, ◌≤◌, ◌++◌, ◌∷◌, [], List, refl, sym, ap, ◌∙◌, arith, append-nil, Option}
-use mathlib.Core.List.{IsPrefix}
-use Rattle.clsm_model.specs.declared.slot.Slot.{Slot}
+use Rattle.std.proofs.Common.{◌≡◌, ℕ, ◌≤◌, ◌++◌, ◌∷◌, [], List, refl, sym, ap, ◌∙◌, subst, arith, Option}
+use Rattle.clsm_model.specs.History.{IsBeginning}
 use Rattle.clsm_model.specs.declared.record.Deed.{Deed}
 use Rattle.clsm_model.specs.declared.record.CallRecord.{CallRecord}
-use Rattle.clsm_law.specs.Relation.{call_of}
+use Rattle.clsm_law.specs.Relation.{call_of, ended_snapshot}
 use Rattle.clsm_law.specs.declared.view.View.{View}
 use Rattle.clsm_law.specs.declared.view.SnapshotState.{SnapshotState}
+use Rattle.clsm_law.specs.declared.view.SnapshotState.TheVariants.{Absent, Noted, Timed, Open}
 use Rattle.clsm_words.specs.declared.known.Known.{Known}
+use Rattle.clsm_words.specs.Knowing.{known_of}
 use Rattle.clsm_words.specs.Keeping.{KeepsPlace, OnlyReads}
-use Rattle.clsm_words.proofs.Keeps.{prefix_trans}
+use Rattle.clsm_model.proofs.Batches.{begins_self, begins_trans}
 use Rattle.clsm_memtable.specs.Writing.{Draws, FindsLimit, GivesUp, LosesDraw, LosesTime, Records as Decides}
 use Rattle.clsm_memtable.specs.Filling.{Fills}
 use Rattle.clsm_memtable.specs.Inserting.{Enters}
-use Rattle.clsm_calls.specs.Resting.{Keeps, Still, Records, FindsFull}
+use Rattle.clsm_calls.specs.Resting.{IsSettled, Keeps, Still, Records, FindsFull}
 
 pub keeps_trans : (a b c : Known) → Keeps a b → Keeps b c → Keeps a c
 keeps_trans a b c h k = record {
   number = k.number ∙ h.number;
   layout = k.layout ∙ h.layout;
-  past = prefix_trans a.past b.past c.past h.past k.past;
+  past = begins_trans (known_of a) (known_of b) (known_of c) h.past k.past;
   pin = k.pin ∙ h.pin;
   snapshot = k.snapshot ∙ h.snapshot;
 }
@@ -28,7 +29,7 @@ pub still_trans : (a b c : Known) → Still a b → Still b c → Still a c
 still_trans a b c h k = record { keeps = keeps_trans a b c h.keeps k.keeps; calls = k.calls ∙ h.calls; due = k.due ∙ h.due }
 
 pub still_none : (k : Known) → Still k k
-still_none k = record { keeps = record { number = refl; layout = refl; past = ([], append-nil k.past); pin = refl; snapshot = refl }; calls = refl; due = refl }
+still_none k = record { keeps = record { number = refl; layout = refl; past = begins_self (known_of k); pin = refl; snapshot = refl }; calls = refl; due = refl }
 
 -- where nothing was called before, or after
 pub records_later : (a b c : Known) (t : ℕ) (deed : Deed) → Still a b → Records b c t deed → Records a c t deed
@@ -47,17 +48,17 @@ full_later a b c t h k = record { still = still_trans a b c h k.still; limit = k
 
 -- ---- from the memory component's calls
 
-pub same_past : (a b : List Slot) → b ≡ a → IsPrefix a b
-same_past a b e = ([], append-nil a ∙ sym e)
+pub same_past : (a b : Known) → b.past ≡ a.past → b.batches ≡ a.batches → IsBeginning (known_of a) (known_of b)
+same_past a b past batches = subst (IsBeginning (known_of a)) (λ i. record { slots = sym past i; batches = sym batches i }) (begins_self (known_of a))
 
 -- what the store asks of a view that was left as it was
-abbrev left : View → ℕ × SnapshotState × List CallRecord × ℕ
+abbrev pub left : View → ℕ × SnapshotState × List CallRecord × ℕ
 left v = (v.pin, v.snapshot, v.calls, v.due)
 
 pub keeps_by : (a b : Known) → KeepsPlace a b → b.view.pin ≡ a.view.pin → b.view.snapshot ≡ a.view.snapshot → Keeps a b
-keeps_by a b place pin snapshot = record { number = place.seat.number; layout = place.seat.layout; past = same_past a.past b.past place.past; pin = pin; snapshot = snapshot }
+keeps_by a b place pin snapshot = record { number = place.seat.number; layout = place.seat.layout; past = same_past a b place.past place.batches; pin = pin; snapshot = snapshot }
 
-still_by : (a b : Known) → KeepsPlace a b → left b.view ≡ left a.view → Still a b
+pub still_by : (a b : Known) → KeepsPlace a b → left b.view ≡ left a.view → Still a b
 still_by a b place e = record {
   keeps = keeps_by a b place (ap (λ (x : ℕ × SnapshotState × List CallRecord × ℕ). x.0) e) (ap (λ (x : ℕ × SnapshotState × List CallRecord × ℕ). x.1) e);
   calls = ap (λ (x : ℕ × SnapshotState × List CallRecord × ℕ). x.2) e;
@@ -101,3 +102,10 @@ still_reads a b h = record {
   calls = ap (λ (v : View). v.calls) h.view;
   due = ap (λ (v : View). v.due) h.view;
 }
+
+-- where no snapshot waits for its time, the end of a read leaves it
+pub stays_open : (s : SnapshotState) → IsSettled s → ended_snapshot s ≡ s
+stays_open Absent is = refl
+stays_open (Noted noted) is = absurd is
+stays_open (Timed noted time) is = absurd is
+stays_open (Open noted time) is = refl

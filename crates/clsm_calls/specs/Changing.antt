@@ -1,18 +1,19 @@
 -- A read-modify-write at the words.
-use Rattle.std.specs.Prelude.{◌≡◌, ℕ, ◌*◌, ◌≤◌, ◌⊎◌, ◌++◌, ◌∷◌, [], Bool, List, true, false, cond, length, Option, Some, None, Result, Ok, Err}
-use mathlib.Core.List.{IsPrefix}
-use Rattle.clsm_model.specs.History.{plain, value}
+use Rattle.std.specs.Prelude.{◌≡◌, ◌≢◌, ℕ, ◌*◌, ◌≤◌, ◌⊎◌, ◌++◌, ◌∷◌, [], Bool, List, true, false, cond, length, Option, Some, None, Result, Ok, Err}
+use Rattle.clsm_model.specs.History.{IsBeginning, plain, value}
 use Rattle.clsm_model.specs.declared.slot.Change.{Change}
 use Rattle.clsm_model.specs.declared.slot.Change.TheVariants.{Keep, Set, Remove}
 use Rattle.clsm_model.specs.declared.record.Deed.{Deed}
 use Rattle.clsm_model.specs.declared.record.Deed.TheVariants.{Rmw}
 use Rattle.clsm_law.specs.declared.step.End.{End}
 use Rattle.clsm_law.specs.declared.step.End.TheVariants.{Neither, Recorded}
-use Rattle.clsm_law.specs.Views.{next_word}
+use Rattle.clsm_law.specs.Views.{IsBelow, blank, next_word}
 use Rattle.clsm_law.specs.Relation.{call_of}
 use Rattle.clsm_model.specs.Seats.{due_by}
 use Rattle.clsm_law.specs.declared.view.Mode.TheVariants.{Shared}
 use Rattle.clsm_words.specs.declared.known.Known.{Known}
+use Rattle.clsm_words.specs.Knowing.{IsNearHeld, known_of}
+use Rattle.clsm_words.specs.Keeping.{KeepsPlace}
 use Rattle.clsm_memtable.specs.declared.deciding.Decided.{Decided}
 use Rattle.clsm_memtable.specs.declared.deciding.Decided.TheVariants.{Done, Overtaken}
 use Rattle.clsm_calls.specs.declared.got.Rmw.{Rmw as Answered}
@@ -43,6 +44,36 @@ pub record ReadsNow (k : Known) (component key t : ℕ) (reply : Option (List �
 abbrev pub GivesUpFor : Known → Known → ℕ → Type 0
 GivesUpFor old new key = (new.view.gave_up ≡ old.view.gave_up) ⊎ IsWrittenFrom new.past key old.view.due
 
+-- ---- a draw that goes on until it has a time
+
+-- it has drawn nothing yet: at most it lost draws to other seats
+pub record LosesDraws (old new : Known) : Type 0 where
+  pub place : KeepsPlace old new
+  pub view : new.view ≡ record old.view { fresh_clock = new.view.fresh_clock; hold_limit = new.view.hold_limit; hold_clock = new.view.hold_clock; clock = new.view.clock; pin_clock = new.view.pin_clock; raced = new.view.raced }
+
+-- it drew the time, whatever draws it lost before
+pub record DrawsAtLast (old new : Known) (t : ℕ) : Type 0 where
+  pub place : KeepsPlace old new
+  pub view : new.view ≡ record old.view { drawn = Some t; key = None; length = None; words = blank 8; next = None; linked = false; order_next = None; inserted = false; low = 0; high = 0; fresh_clock = None; hold_limit = new.view.hold_limit; hold_clock = Some t; clock = Some t; pin_clock = new.view.pin_clock; raced = new.view.raced }
+  pub looked : new.view.hold_limit ≢ None
+  pub below : IsBelow t new.view.hold_limit
+  pub due : old.view.due ≤ t
+  pub near : IsNearHeld old.layout old.view.held t
+  pub passed : old.view.past ≤ t
+
+-- the clock stood at the limit, whatever draws it lost before
+pub record FindsLimitAtLast (old new : Known) (t : ℕ) : Type 0 where
+  pub draws : LosesDraws old new
+  pub limit : new.view.hold_limit ≡ Some t
+  pub clock : new.view.hold_clock ≡ Some t
+
+-- a draw ends a try only so: the clock stood at the limit
+abbrev pub EndsDraw : Known → Known → ChangeAttempt → Type 0
+EndsDraw old new (Full t) = FindsLimitAtLast old new t
+EndsDraw old new _ = ⊥
+
+-- ---- the drawn time
+
 -- what became of the drawn time
 pub record EndsDrawn (old new : Known) : Type 0 where
   pub mode : new.view.mode ≡ Shared
@@ -57,13 +88,18 @@ pub record EndsDrawn (old new : Known) : Type 0 where
 -- above it, or nothing
 abbrev pub DecidesDrawn : Known → Known → ℕ → Deed → Decided → Type 0
 DecidesDrawn old new t deed Done = EndsDrawn old new × (old.view.due ≤ t → Records old new t deed)
-DecidesDrawn old new t deed Overtaken = EndsDrawn old new × Still old new
+DecidesDrawn old new t deed Overtaken = EndsDrawn old new × Still old new × (new.view.overtaken ≡ next_word old.view.overtaken)
+
+-- the try was lost with the time that it had drawn: it gave that up, or somebody had cancelled it
+pub record LosesItsTime (old new : Known) : Type 0 where
+  pub still : Still old new
+  pub lost : (new.view.gave_up ≡ next_word old.view.gave_up) ⊎ (new.view.overtaken ≡ next_word old.view.overtaken)
 
 -- the change of the old value stands at a later time
 abbrev pub WritesLater : Known → Known → ℕ → Option (List ℕ) → Change → ChangeAttempt → Type 0
 WritesLater old new key o change (Finished rmw) = (rmw.old ≡ o) × (rmw.change ≡ change) × Records old new rmw.time (Rmw key o change)
 WritesLater old new key o change (Full t) = FindsFull old new t
-WritesLater old new key o change Lost = Still old new
+WritesLater old new key o change Lost = LosesItsTime old new
 
 -- what a change of the old value at the time t is: with Keep a read there, else a write
 abbrev pub Does : Change → Known → Known → ℕ → ℕ → ℕ → Option (List ℕ) → Type 0
@@ -71,11 +107,12 @@ Does Keep old new component key t o = Still old new × ReadsNow new component ke
 Does (Set written) old new component key t o = Records old new t (Rmw key o (Set written))
 Does Remove old new component key t o = Records old new t (Rmw key o Remove)
 
--- what came of one try to change the key: the change at its time, a clock at the limit, or nothing
+-- what came of one try to change the key: the change at its time, a clock at the limit, or nothing,
+-- and then its drawn time was lost. A draw that another seat won ends no try
 abbrev pub TriesChange : Known → Known → ℕ → ℕ → ChangeAttempt → Type 0
 TriesChange old new component key (Finished rmw) = Does rmw.change old new component key rmw.time rmw.old
 TriesChange old new component key (Full t) = FindsFull old new t
-TriesChange old new component key Lost = Still old new
+TriesChange old new component key Lost = LosesItsTime old new
 
 -- the change keeps the old value
 abbrev pub is_keep : Change → Bool
@@ -103,7 +140,7 @@ read_end key (Err full) = Neither
 pub record ChangesAt (old new : Known) (t key : ℕ) (o : Option (List ℕ)) (change : Change) : Type 0 where
   pub number : new.number ≡ old.number
   pub layout : new.layout ≡ old.layout
-  pub past : IsPrefix old.past new.past
+  pub past : IsBeginning (known_of old) (known_of new)
   pub snapshot : new.view.snapshot ≡ old.view.snapshot
   pub calls : new.view.calls ≡ old.view.calls ++ call_of old.number t (Rmw key o change) ∷ []
   pub due : new.view.due ≡ due_by t change
@@ -113,7 +150,7 @@ pub record ChangesAt (old new : Known) (t key : ℕ) (o : Option (List ℕ)) (ch
 pub record EndsFull (old new : Known) (t : ℕ) : Type 0 where
   pub number : new.number ≡ old.number
   pub layout : new.layout ≡ old.layout
-  pub past : IsPrefix old.past new.past
+  pub past : IsBeginning (known_of old) (known_of new)
   pub snapshot : new.view.snapshot ≡ old.view.snapshot
   pub calls : new.view.calls ≡ old.view.calls
   pub due : new.view.due ≡ old.view.due

@@ -11,3 +11,4 @@ pub mod Freezing
 pub mod Merging
 pub mod Reclaiming
 pub mod Trying
+pub mod Batching

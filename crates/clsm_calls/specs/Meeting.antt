@@ -1,21 +1,21 @@
 -- Meetings at the words: a read that ends with no record.
 use Rattle.std.specs.Prelude.{◌≡◌, ℕ, ◌≤◌, length}
-use mathlib.Core.List.{IsPrefix}
+use Rattle.clsm_model.specs.History.{IsBeginning}
 use Rattle.clsm_words.specs.declared.known.Known.{Known}
-use Rattle.clsm_words.specs.Knowing.{Agrees}
+use Rattle.clsm_words.specs.Knowing.{Agrees, known_of, told_of}
 use Rattle.clsm_calls.specs.Tally.{TakesNoLock, tally_of}
 
 -- it read at the time, which is now its due, and knows all that it was told
 pub record MeetsAt (old new : Known) (t : ℕ) : Type 0 where
   pub number : new.number ≡ old.number
   pub layout : new.layout ≡ old.layout
-  pub past : IsPrefix old.past new.past
+  pub past : IsBeginning (known_of old) (known_of new)
   pub snapshot : new.view.snapshot ≡ old.view.snapshot
   pub calls : new.view.calls ≡ old.view.calls
   pub due : new.view.due ≡ t
   pub above : old.view.due ≤ t
   pub reaches : t ≤ length new.past
-  pub has_told : IsPrefix old.told new.past
+  pub has_told : IsBeginning (told_of old) (known_of new)
   pub heard : old.heard ≤ t
   pub unlocked : TakesNoLock (tally_of old) (tally_of new)
 
@@ -25,9 +25,10 @@ pub record Confirms (old new : Known) : Type 0 where
   pub number : new.number ≡ old.number
   pub layout : new.layout ≡ old.layout
   pub past : new.past ≡ old.past
+  pub batches : new.batches ≡ old.batches
   pub pin : new.view.pin ≡ old.view.pin
   pub snapshot : new.view.snapshot ≡ old.view.snapshot
   pub calls : new.view.calls ≡ old.view.calls
   pub due : new.view.due ≡ old.view.due
   pub tally : tally_of new ≡ tally_of old
-  pub agrees : Agrees old.layout.seats old.number old.view.calls old.told
+  pub agrees : Agrees old.layout.seats old.number old.view.calls (told_of old)

@@ -1,6 +1,6 @@
 -- A seat at the words between two calls, and what parts of a call leave of it.
 use Rattle.std.specs.Prelude.{◌≡◌, ℕ, ◌+◌, ◌≤◌, ◌++◌, ◌∷◌, [], List, Option, false, Some, None}
-use mathlib.Core.List.{IsPrefix}
+use Rattle.clsm_model.specs.History.{IsBeginning}
 use Rattle.clsm_model.specs.declared.record.Deed.{Deed}
 use Rattle.clsm_model.specs.declared.record.Deed.TheVariants.{Put, Remove}
 use Rattle.clsm_law.specs.declared.view.Mode.TheVariants.{Free, Shared}
@@ -8,6 +8,7 @@ use Rattle.clsm_law.specs.declared.view.SnapshotState.{SnapshotState}
 use Rattle.clsm_law.specs.declared.view.SnapshotState.TheVariants.{Absent, Open}
 use Rattle.clsm_law.specs.Relation.{call_of, open_time}
 use Rattle.clsm_words.specs.declared.known.Known.{Known}
+use Rattle.clsm_words.specs.Knowing.{known_of}
 use Rattle.clsm_words.specs.declared.words.WordTable.{WordTable}
 use Rattle.clsm_words.specs.Seats.{RawState as RawState}
 use Rattle.clsm_calls.specs.Seats.{SeatState, StoreId}
@@ -21,6 +22,7 @@ seat_of s = let v = s.knows.view in record {
   store = record { table = s.table; layout = s.knows.layout };
   number = s.knows.number;
   past = s.knows.past;
+  batches = s.knows.batches;
   calls = v.calls;
   due = v.due;
   snapshot = open_time v.snapshot;
@@ -56,7 +58,7 @@ pub record IsInHold (k : Known) : Type 0 where
 pub record Keeps (old new : Known) : Type 0 where
   pub number : new.number ≡ old.number
   pub layout : new.layout ≡ old.layout
-  pub past : IsPrefix old.past new.past
+  pub past : IsBeginning (known_of old) (known_of new)
   pub pin : new.view.pin ≡ old.view.pin
   pub snapshot : new.view.snapshot ≡ old.view.snapshot
 

@@ -1,14 +1,14 @@
 -- Scans and pages at the words.
 use Rattle.std.specs.Prelude.{◌≡◌, ℕ, List, Option, Some, None}
-use mathlib.Core.List.{IsPrefix}
 use Rattle.clsm_model.specs.declared.record.Deed.{Deed}
 use Rattle.clsm_model.specs.declared.record.Deed.TheVariants.{Scan, Page}
-use Rattle.clsm_model.specs.History.{History}
+use Rattle.clsm_model.specs.History.{History, IsBeginning}
 use Rattle.clsm_law.specs.declared.step.End.{End}
 use Rattle.clsm_law.specs.declared.step.End.TheVariants.{Recorded}
 use Rattle.clsm_model.specs.Map.{IsRange, Pair}
 use Rattle.clsm_model.specs.Right.{IsPage}
 use Rattle.clsm_words.specs.declared.known.Known.{Known}
+use Rattle.clsm_words.specs.Knowing.{known_of}
 use Rattle.clsm_calls.specs.declared.scanning.Asked.{Asked}
 use Rattle.clsm_calls.specs.declared.scanning.Asked.TheVariants.{All, First}
 use Rattle.clsm_calls.specs.Tally.{TakesNoLock, tally_of}
@@ -42,7 +42,7 @@ IsAnswerTo asked deed = ⊥
 pub record GivesUpRead (old new : Known) : Type 0 where
   pub number : new.number ≡ old.number
   pub layout : new.layout ≡ old.layout
-  pub past : IsPrefix old.past new.past
+  pub past : IsBeginning (known_of old) (known_of new)
   pub snapshot : new.view.snapshot ≡ old.view.snapshot
   pub calls : new.view.calls ≡ old.view.calls
   pub due : new.view.due ≡ old.view.due

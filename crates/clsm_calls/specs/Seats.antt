@@ -1,13 +1,13 @@
 -- What contracts see of a store and its seats, and what calls make of a seat.
 use Rattle.std.specs.Prelude.{◌≡◌, ℕ, ◌<◌, ◌≤◌, ◌⊎◌, List, [], ◌∷◌, ◌++◌, length, slice_index_or, Option, Some, None}
 use Rattle.std.specs.List.{AllByRecursion}
-use mathlib.Core.List.{IsPrefix}
 use Rattle.atomic_table.specs.Seated.{TableId}
+use Rattle.clsm_model.specs.declared.batch.Batch.{Batch}
 use Rattle.clsm_model.specs.declared.slot.Slot.{Slot}
 use Rattle.clsm_model.specs.declared.slot.Slot.TheVariants.{Nothing, Wrote}
 use Rattle.clsm_model.specs.declared.record.Deed.{Deed}
 use Rattle.clsm_model.specs.declared.record.CallRecord.{CallRecord}
-use Rattle.clsm_model.specs.History.{plain}
+use Rattle.clsm_model.specs.History.{AreInTurn, History, IsBeginning, plain}
 use Rattle.clsm_model.specs.declared.config.Config.{Config}
 use Rattle.clsm_levels.specs.declared.entry.Entry.{Entry}
 use Rattle.clsm_law.specs.declared.layout.Layout.{Layout}
@@ -15,7 +15,7 @@ use Rattle.clsm_law.specs.declared.merger.Reader.{Reader}
 use Rattle.clsm_law.specs.Layout.{HasSizesOf}
 use Rattle.clsm_law.specs.Views.{next_word}
 use Rattle.clsm_law.specs.Relation.{call_of}
-use Rattle.clsm_model.specs.Seats.{IsNext, IsRightRecord, IsRising, due_after, open_after}
+use Rattle.clsm_model.specs.Seats.{FitsRecord, IsNext, IsRightRecord, IsRising, due_after, open_after}
 use Rattle.clsm_words.specs.Knowing.{Agrees}
 use Rattle.clsm_calls.specs.Tally.{Tally}
 
@@ -28,20 +28,26 @@ pub record StoreId : Type 0 where
 abbrev pub HasSizes : StoreId → Config → Type 0
 HasSizes store config = HasSizesOf store.layout config
 
--- a seat: its store, its number, the beginning of the history that it knows, its records in order,
--- the time below which it answers no more, and the time of its open snapshot
+-- a seat: its store, its number, the beginning of the history that it knows, its slots and its
+-- batches, its records in order, the time below which it answers no more, and the time of its open
+-- snapshot
 pub record SeatState : Type 0 where
   pub store : StoreId
   pub number : ℕ
   pub past : List Slot
+  pub batches : List Batch
   pub calls : List CallRecord
   pub due : ℕ
   pub snapshot : Option ℕ
   pub tally : Tally
 
+-- the history as far as the seat knows it
+abbrev pub known_by : SeatState → History
+known_by s = record { slots = s.past; batches = s.batches }
+
 -- the seat with this number, which did nothing yet
 abbrev pub newcomer : StoreId → ℕ → SeatState
-newcomer store number = record { store = store; number = number; past = []; calls = []; due = 0; snapshot = None; tally = record { entries = 0; busy = 0; raced = 0; overtaken = 0; gave_up = 0; cancelled = 0; limit = None; clock = None } }
+newcomer store number = record { store = store; number = number; past = []; batches = []; calls = []; due = 0; snapshot = None; tally = record { entries = 0; busy = 0; raced = 0; overtaken = 0; gave_up = 0; cancelled = 0; limit = None; clock = None } }
 
 -- the seats of the store in order, none of which did anything
 pub record AreNew (store : StoreId) (count : ℕ) (seats : List SeatState) : Type 0 where
@@ -80,16 +86,18 @@ IsNewMerger store merger = merger ≡ record { store = store; merges = 0; holds 
 
 -- The seat is lawful in the history h: its past is a beginning of h; each of its writes stands in h
 -- and each write in h with its number is one of its records, as far as h reaches; what it read is
--- right; and its records' times rise to its due
-pub record IsLawfulIn (h : List Slot) (s : SeatState) : Type 0 where
-  pub begins : IsPrefix s.past h
+-- right; each batch that it recorded fits an epoch; and its records' times rise to its due
+pub record IsLawfulIn (h : History) (s : SeatState) : Type 0 where
+  pub begins : IsBeginning (known_by s) h
   pub agrees : Agrees s.store.layout.seats s.number s.calls h
-  pub right : AllByRecursion (IsRightRecord (plain h)) s.calls
+  pub right : AllByRecursion (IsRightRecord (plain h.slots)) s.calls
+  pub fits : AllByRecursion (FitsRecord s.store.layout.cells) s.calls
   pub rising : IsRising s.calls s.due s.snapshot
 
--- it is lawful in as much of the history as it knows itself
+-- it is lawful in as much of the history as it knows itself, in which the batches don't overlap, and
+-- none ends beyond it
 abbrev pub IsLawfulAlone : SeatState → Type 0
-IsLawfulAlone s = IsLawfulIn s.past s
+IsLawfulAlone s = IsLawfulIn (known_by s) s × AreInTurn 0 s.batches (length s.past)
 
 -- ---- what calls make of a seat
 
@@ -97,7 +105,7 @@ IsLawfulAlone s = IsLawfulIn s.past s
 pub record IsSameSeat (old new : SeatState) : Type 0 where
   pub store : new.store ≡ old.store
   pub number : new.number ≡ old.number
-  pub longer : IsPrefix old.past new.past
+  pub longer : IsBeginning (known_by old) (known_by new)
 
 -- The call was answered: one record more, at a time that may come next, and the due and the open
 -- snapshot as it leaves them

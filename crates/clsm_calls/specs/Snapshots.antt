@@ -1,17 +1,18 @@
 -- Snapshots at the words.
 use Rattle.std.specs.Prelude.{◌≡◌, ℕ, ◌≤◌, ◌++◌, ◌∷◌, [], Some}
-use mathlib.Core.List.{IsPrefix}
+use Rattle.clsm_model.specs.History.{IsBeginning}
 use Rattle.clsm_model.specs.declared.record.Deed.{Deed}
 use Rattle.clsm_model.specs.declared.record.Deed.TheVariants.{Snapshot}
 use Rattle.clsm_law.specs.Relation.{call_of, open_time}
 use Rattle.clsm_words.specs.declared.known.Known.{Known}
+use Rattle.clsm_words.specs.Knowing.{known_of}
 use Rattle.clsm_calls.specs.Tally.{TakesNoLock, tally_of}
 
 -- it opened a snapshot at the time, which is recorded, and below which the seat knows all
 pub record OpensAt (old new : Known) (t : ℕ) : Type 0 where
   pub number : new.number ≡ old.number
   pub layout : new.layout ≡ old.layout
-  pub past : IsPrefix old.past new.past
+  pub past : IsBeginning (known_of old) (known_of new)
   pub snapshot : open_time new.view.snapshot ≡ Some t
   pub calls : new.view.calls ≡ old.view.calls ++ call_of old.number t Snapshot ∷ []
   pub due : new.view.due ≡ t
@@ -22,7 +23,7 @@ pub record OpensAt (old new : Known) (t : ℕ) : Type 0 where
 pub record ReadsUnder (old new : Known) (t : ℕ) (deed : Deed) : Type 0 where
   pub number : new.number ≡ old.number
   pub layout : new.layout ≡ old.layout
-  pub past : IsPrefix old.past new.past
+  pub past : IsBeginning (known_of old) (known_of new)
   pub snapshot : new.view.snapshot ≡ old.view.snapshot
   pub calls : new.view.calls ≡ old.view.calls ++ call_of old.number t deed ∷ []
   pub due : new.view.due ≡ old.view.due

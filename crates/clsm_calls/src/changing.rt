@@ -10,10 +10,11 @@ ghost use Rattle.clsm_law.specs.Relation.{IsReadBelow};
 ghost use Rattle.clsm_words.specs.Keeping.{OnlyReads};
 ghost use Rattle.clsm_words.specs.Plays.{IsSeatOf};
 ghost use Rattle.clsm_memtable.specs.Settled.{MaySettleBelow};
+ghost use Rattle.clsm_memtable.specs.Writing.{IsUnnoted};
 ghost use Rattle.clsm_calls.specs.Seats.{IsWrittenFrom};
 ghost use Rattle.clsm_calls.specs.Resting.{FindsFull, IsAtRest, Still};
 ghost use Rattle.clsm_model.specs.declared.record.Deed.TheVariants.{Rmw as ChangeOf};
-ghost use Rattle.clsm_calls.specs.Changing.{TriesChange, ChangesAt, Does, EndsFull, GivesUpFor, IsAnsweredBy, IsPinnedInHold, ReadsNow, DecidesDrawn, WritesLater, read_end, is_keep, value_set};
+ghost use Rattle.clsm_calls.specs.Changing.{TriesChange, ChangesAt, Does, DrawsAtLast, EndsDraw, EndsFull, GivesUpFor, IsAnsweredBy, IsPinnedInHold, ReadsNow, DecidesDrawn, WritesLater, read_end, is_keep, value_set};
 
 use crate::got::{Got, Rmw};
 use crate::reading::value_below;
@@ -32,7 +33,7 @@ pub(crate) enum ChangeAttempt {
     Done(Rmw),
     /// The clock stands at the limit.
     Full(Time),
-    /// Another seat drew the time first, cancelled it, or wrote the key meanwhile.
+    /// Another seat wrote the key meanwhile, or cancelled the drawn time, which is given up.
     Lost,
 }
 
@@ -51,6 +52,7 @@ fn value_now<P: Pace>(
     ensures still { Still seat.old.knows seat.new.knows }
     ensures entered { seat.new.knows.view.entries ≡ seat.old.knows.view.entries }
     ensures spared { seat.new.knows.view.gave_up ≡ seat.old.knows.view.gave_up }
+    ensures lost { seat.new.knows.view.overtaken ≡ seat.old.knows.view.overtaken }
     ensures reads { ReadsNow seat.new.knows component key result.time result.value }
 {
     let time = words.look(seat, Word::Clock);
@@ -121,7 +123,33 @@ fn deed_of(key: u64, rmw: &Rmw) -> Deed
     Deed::Rmw { key, old, change }
 }
 
-/// DecidesDrawn the change at a later time, if the key is unchanged until then.
+/// Draws a time, and tries until it has one or the clock stands at the limit. A draw that another
+/// seat wins costs two looks and an exchange, and no read.
+fn draw_at_last<P: Pace, R: Wait>(
+    rt: &R,
+    words: &Words<P>,
+    seat: &mut RawSeat,
+) -> Result<Time, ChangeAttempt>
+    requires of { IsSeatOf words.now seat.old }
+    requires holds { seat.old.knows.view.mode ≡ Shared }
+    requires undrawn { seat.old.knows.view.drawn ≡ None }
+    requires unnoted { IsUnnoted seat.old.knows.view.snapshot }
+    ensures of { IsSeatOf words.now seat.new }
+    ensures drawn { IfOk result (λ time. DrawsAtLast seat.old.knows seat.new.knows time) }
+    ensures ended { IfErr result (EndsDraw seat.old.knows seat.new.knows) }
+{
+    for _ in rt.forever() {
+        match draw(words, seat) {
+            Ok(time) => return Ok(time),
+            Err(DrawError::Full(time)) => return Err(ChangeAttempt::Full(time)),
+            Err(DrawError::Raced) => {}
+        }
+    }
+    unreachable!()
+}
+
+/// Writes the change at a later time, if the key is unchanged until then.
+#[tactic(auto, using(crate::proofs::Rest::still_trans))]
 fn write_later<P: Pace, R: Wait>(
     rt: &R,
     words: &Words<P>,
@@ -143,10 +171,9 @@ fn write_later<P: Pace, R: Wait>(
     ensures writes { WritesLater seat.old.knows seat.new.knows key read.old read.change result }
 {
     seat.show_invariant();
-    let time = match draw(words, seat) {
+    let time = match draw_at_last(rt, words, seat) {
         Ok(time) => time,
-        Err(DrawError::Full(time)) => return ChangeAttempt::Full(time),
-        Err(DrawError::Raced) => return ChangeAttempt::Lost,
+        Err(attempt) => return attempt,
     };
     if !is_unchanged(words, seat, component, patience, key, read.time, time) {
         give_up(words, seat, time);
@@ -174,7 +201,7 @@ fn is_keep(change: &Change) -> bool
 }
 
 /// The value that the change sets, or none for a removal.
-fn value_set(change: &Change) -> Option<Value>
+pub(crate) fn value_set(change: &Change) -> Option<Value>
     ensures { result ≡ value_set change.now }
 {
     match change {
@@ -212,7 +239,7 @@ fn try_change<P: Pace, R: Wait, F: Fn(Option<Value>) -> Change>(
     write_later(rt, words, seat, component, patience, key, read, &value)
 }
 
-/// TriesChange the key, and tries until that is done or the clock is at the limit.
+/// Changes the key, and tries until that is done or the clock is at the limit.
 fn change_pinned<P: Pace, R: Wait, F: Fn(Option<Value>) -> Change>(
     rt: &R,
     words: &Words<P>,
@@ -254,7 +281,7 @@ fn read_end(key: u64, answer: &Result<Rmw, Full>) -> End
     }
 }
 
-/// TriesChange the key: in a hold of the lock and a read.
+/// Changes the key: in a hold of the lock and a read.
 pub fn change<P: Pace, R: Wait, F: Fn(Option<Value>) -> Change>(
     rt: &R,
     words: &Words<P>,

@@ -7,7 +7,7 @@ ghost use Rattle.clsm_words.specs.Plays.{IsSeatOf};
 ghost use Rattle.clsm_calls.specs.Freezing.{HoldsOn, IsClean, IsFrozen};
 
 use clsm_law::Word;
-use clsm_lock::{lock_exclusive, unlock_exclusive};
+use clsm_lock::{lock_as_merger, unlock_as_merger};
 use clsm_words::{Pace, RawMerger, Words};
 use std::sync::Wait;
 
@@ -38,9 +38,9 @@ pub fn freeze<P: Pace, R: Wait>(rt: &R, words: &Words<P>, merger: &mut RawMerger
     ensures held { merger.new.knows.merger.holds ≡ next_word merger.old.knows.merger.holds }
 {
     let end = (merges + 1) * words.cells();
-    lock_exclusive(rt, words, merger);
+    lock_as_merger(rt, words, merger);
     pad(words, merger, merges, end);
     words.extend_clock(merger, merges);
     words.extend_limit(merger, merges);
-    unlock_exclusive(words, merger);
+    unlock_as_merger(words, merger);
 }

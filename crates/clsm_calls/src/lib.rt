@@ -2,6 +2,7 @@
 //! to its seats and tokens; nobody else calls them.
 #![tactic(auto)]
 
+mod batching;
 mod changing;
 mod flooring;
 mod freezing;
@@ -17,6 +18,7 @@ mod snapshotting;
 mod trying;
 mod writing;
 
+pub use batching::batch;
 pub use changing::change;
 pub use freezing::freeze;
 pub use got::{Got, Page, Rmw, Scan};
@@ -25,7 +27,7 @@ pub use merger_seat::MergerSeat;
 pub use merging::merge;
 pub use reading::read;
 pub use reclaiming::reclaim;
-pub use refusal::{Full, Open, Pinned, TryPutError, Worn};
+pub use refusal::{BatchError, Full, Open, Pinned, TryPutError, Worn};
 pub use scanning::{Asked, scan_at, scan_under};
 pub use snapshotting::{open_at, read_under};
 pub use trying::try_write;

@@ -46,3 +46,23 @@ pub enum TryPutError {
     #[error("overtaken")]
     Overtaken,
 }
+
+/// The refusals of a batch, tested in the order `Empty`, `TooLong`, `Keep`, `Full`. Nothing is
+/// written. The first three come before the lock is taken.
+#[derive(Clone, Copy, PartialEq, Eq, Debug, Error)]
+pub enum BatchError {
+    /// While the seat held the lock alone, fewer times were left below the limit than the batch has
+    /// members; the clock stood at this time. After the next freeze there is room for a batch of
+    /// any length again.
+    #[error("full @{time}")]
+    Full { time: Time },
+    /// It has more members than an epoch has cells.
+    #[error("too long")]
+    TooLong,
+    /// It has no member.
+    #[error("empty")]
+    Empty,
+    /// One of its members keeps its key, so that it is no write.
+    #[error("keep")]
+    Keep,
+}

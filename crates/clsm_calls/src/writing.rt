@@ -61,6 +61,7 @@ fn try_write<P: Pace, R: Wait>(
 }
 
 /// Writes, in a hold of the lock, and tries until the write stands or the clock is at the limit.
+#[tactic(auto, using(crate::proofs::Rest::records_later, crate::proofs::Rest::full_later, crate::proofs::Rest::still_trans))]
 fn write_in_hold<P: Pace, R: Wait>(
     rt: &R,
     words: &Words<P>,

@@ -77,6 +77,7 @@ where
         ops: options.ops as u32,
         keys: options.keys,
         seed: options.seed,
+        batch: options.batch,
     };
     let shows = Shows {
         stats: options.stats,

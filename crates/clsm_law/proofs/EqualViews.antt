@@ -7,7 +7,7 @@ use Rattle.std.specs.Cmp.{unsigned_Decides, booleans_Decides}
 use Rattle.std.specs.Cmp.Lexicographic.{pointwise, pointwise_decides}
 use Rattle.std.specs.Option.{option_eq}
 use Rattle.clsm_model.proofs.Equals.{Decides-by_same, option_eq-Decides}
-use Rattle.clsm_model.proofs.EqualRecords.{CallRecord-Decides}
+use Rattle.clsm_model.proofs.EqualRecords.{CallRecord-Decides, Members-Decides}
 use Rattle.clsm_law.specs.Same.{uncounted}
 use Rattle.clsm_law.specs.declared.view.Mode.{Mode}
 use Rattle.clsm_law.specs.declared.view.Mode.TheVariants.{Free, Shared, Exclusive}
@@ -67,6 +67,8 @@ view-same v w h =
     Decides-and _ _ (unsigned_Decides v.met w.met) (
     Decides-and _ _ (unsigned_Decides v.low w.low) (
     Decides-and _ _ (unsigned_Decides v.high w.high) (
+    Decides-and _ _ (Members-Decides v.staged w.staged) (
+    Decides-and _ _ (booleans_Decides v.committed w.committed) (
     Decides-and _ _ (unsigned_Decides v.pin w.pin) (
     Decides-and _ _ (booleans_Decides v.pinned w.pinned) (
     Decides-and _ _ (word v.held w.held) (
@@ -76,7 +78,7 @@ view-same v w h =
     Decides-and _ _ (unsigned_Decides v.reached w.reached) (
     Decides-and _ _ (unsigned_Decides v.past w.past) (
     Decides-and _ _ (unsigned_Decides v.due w.due) (
-    pointwise_decides CallRecord-Decides v.calls w.calls))))))))))))))))))))))))))).0 h in
+    pointwise_decides CallRecord-Decides v.calls w.calls))))))))))))))))))))))))))))).0 h in
     cc
 
 -- two views are equal where they are the same without their counts

@@ -8,10 +8,13 @@ use Rattle.std.specs.Cmp.{unsigned_Decides}
 use Rattle.std.specs.Cmp.Lexicographic.{pointwise_decides}
 use Rattle.clsm_model.proofs.Equals.{Decides-by_same, option_eq-Decides, Value-Decides}
 use Rattle.clsm_model.specs.Config.{IsBetween}
+use Rattle.clsm_model.specs.declared.batch.Batch.{Batch}
 use Rattle.clsm_model.specs.declared.slot.Slot.{Slot}
 use Rattle.clsm_model.specs.declared.slot.Slot.TheVariants.{Nothing, Wrote}
 use Rattle.clsm_model.specs.contracts.slot.SlotPartialEq.TheImpl as of_slots
+use Rattle.clsm_model.specs.contracts.batch.BatchPartialEq.TheImpl as of_batches
 use Rattle.clsm_model.specs.contracts.slot.SlotEq.TheImpl.Laws as slot_laws
+use Rattle.clsm_model.specs.contracts.batch.BatchEq.TheImpl.Laws as batch_laws
 use Rattle.clsm_law.specs.declared.layout.Layout.{Layout}
 use Rattle.clsm_law.specs.contracts.layout.LayoutPartialEq.TheImpl as of_layouts
 use Rattle.clsm_law.specs.contracts.layout.LayoutEq.TheImpl.Laws as layout_laws
@@ -50,8 +53,14 @@ slot-same _ _ h = absurd (true≢false (sym h))
 Slot-Decides : (a b : Slot) → Decides (of_slots.ghosts.eq a b) (a ≡ b)
 Slot-Decides = Decides-by_same slot_laws.laws-law slot-same
 
+batch-same : (a b : Batch) → of_batches.ghosts.eq a b ≡ true → a ≡ b
+batch-same a b h = let e = (Decides-and _ _ (unsigned_Decides a.first b.first) (unsigned_Decides a.size b.size)).0 h in λ i. record { first = e.0 i; size = e.1 i }
+
+Batch-Decides : (a b : Batch) → Decides (of_batches.ghosts.eq a b) (a ≡ b)
+Batch-Decides = Decides-by_same batch_laws.laws-law batch-same
+
 pub Layout-Decides : (a b : Layout) → Decides (of_layouts.ghosts.eq a b) (a ≡ b)
 Layout-Decides = Decides-by_same layout_laws.laws-law layout-same
 
 pub World-Decides : (a b : WorldState) → Decides (is_same_world a b) (uncounted_world a ≡ uncounted_world b)
-World-Decides a b = Decides-like _ (λ e i. record { layout = e.0 i; words = e.1.0 i; views = e.1.1.0 i; merger = e.1.1.1.0 i; slots = e.1.1.1.1 i }) (λ e. (ap (λ (w : WorldState). w.layout) e, (ap (λ (w : WorldState). w.words) e, (ap (λ (w : WorldState). w.views) e, (ap (λ (w : WorldState). w.merger) e, ap (λ (w : WorldState). w.slots) e))))) (Decides-and _ _ (Layout-Decides a.layout b.layout) (Decides-and _ _ (pointwise_decides unsigned_Decides a.words b.words) (Decides-and _ _ (Views-Decides a.views b.views) (Decides-and _ _ (MergerView-Decides a.merger b.merger) (pointwise_decides (option_eq-Decides Slot-Decides) a.slots b.slots)))))
+World-Decides a b = Decides-like _ (λ e i. record { layout = e.0 i; words = e.1.0 i; views = e.1.1.0 i; merger = e.1.1.1.0 i; slots = e.1.1.1.1.0 i; batches = e.1.1.1.1.1 i }) (λ e. (ap (λ (w : WorldState). w.layout) e, (ap (λ (w : WorldState). w.words) e, (ap (λ (w : WorldState). w.views) e, (ap (λ (w : WorldState). w.merger) e, (ap (λ (w : WorldState). w.slots) e, ap (λ (w : WorldState). w.batches) e)))))) (Decides-and _ _ (Layout-Decides a.layout b.layout) (Decides-and _ _ (pointwise_decides unsigned_Decides a.words b.words) (Decides-and _ _ (Views-Decides a.views b.views) (Decides-and _ _ (MergerView-Decides a.merger b.merger) (Decides-and _ _ (pointwise_decides (option_eq-Decides Slot-Decides) a.slots b.slots) (pointwise_decides Batch-Decides a.batches b.batches))))))

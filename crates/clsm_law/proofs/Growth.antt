@@ -1,25 +1,26 @@
 -- What an open step of a seat never takes back: decided slots stay, the history grows, and the
 -- pasts with it.
-use Rattle.std.proofs.Common.{◌≡◌, ℕ, ◌+◌, ◌<◌, ◌≤◌, cond, [], ◌∷◌, ◌++◌, length, set, refl, ◌∙◌, arith, ⊎_elim, Option, Some, None, length-set, length-append}
+use Rattle.std.proofs.Common.{◌≡◌, ℕ, ◌+◌, ◌<◌, ◌≤◌, cond, [], ◌∷◌, ◌++◌, length, set, refl, subst, ◌∙◌, arith, ⊎_elim, Option, Some, None, length-set, length-append}
 use Rattle.clsm_model.specs.declared.slot.Slot.{Slot}
 use Rattle.clsm_model.specs.declared.slot.Slot.TheVariants.{Nothing}
 use Rattle.clsm_model.specs.Right.{write_by}
 use Rattle.clsm_law.specs.declared.step.Step.{Step}
 use Rattle.clsm_law.specs.declared.step.Step.TheVariants.{Draw, Decide, Cancel}
 use Rattle.clsm_law.specs.declared.word.Word.TheVariants.{State}
+use Rattle.clsm_law.specs.declared.view.Mode.TheVariants.{Shared}
 use Rattle.clsm_law.specs.Memory.{cell_of}
 use Rattle.clsm_law.specs.Views.{IsBelow}
 use Rattle.clsm_law.specs.Relation.{HoldsFrom}
 use Rattle.clsm_law.specs.Worlds.{outcome_at}
-use Rattle.clsm_law.specs.Law.{first_shown}
+use Rattle.clsm_law.specs.Law.{Shows, first_shown}
 use Rattle.clsm_law.proofs.Cases.{by_test}
 use Rattle.clsm_law.proofs.Frames.{at_each, puts_slot, slots_grown}
-use Rattle.clsm_law.proofs.Setting.{Setting, ground, v, x, S, Opens, undecided, drawn_shown, held_shown, shown_below_merged}
+use Rattle.clsm_law.proofs.Setting.{Setting, ground, v, x, S, Opens, undecided, drawn_shown, held_shown, shown_below_merged, clock_below}
 
 -- the time of an open Cancel is shown
 pub cancels_shown : (s : Setting) (t : ℕ) → Opens s (Cancel t) → (first_shown s.z s.merger ≤ t) × (t < length s.slots)
 cancels_shown s t o = ⊎_elim
-    (λ (e : (v s).drawn ≡ Some t). let p = drawn_shown (ground s) s.me t e in (let a = shown_below_merged (ground s) in let b = p.0 in omega arith, p.1))
+    (λ (e : ((v s).drawn ≡ Some t) × ((v s).mode ≡ Shared)). let p = drawn_shown (ground s) s.me t e.0 in (let a = shown_below_merged (ground s) in let b = p.0 in omega arith, p.1))
     (λ h. (from (v s).held refl h.0, until (v s).clock refl h.1)) o
   where
     from : (o : Option ℕ) → (v s).held ≡ o → HoldsFrom s.z o t → first_shown s.z s.merger ≤ t
@@ -28,7 +29,7 @@ cancels_shown s t o = ⊎_elim
 
     until : (o : Option ℕ) → (v s).clock ≡ o → IsBelow t o → t < length s.slots
     until None e h = absurd h
-    until (Some n) e h = let a = s.law.clocks s.me n e in omega arith
+    until (Some n) e h = let a = s.law.clocks s.me n e in let b = clock_below (ground s) in omega arith
 
 -- the slot of a Decide or a Cancel that wins was undecided
 pub decides_undecided : (s : Setting) (t : ℕ) → (v s).drawn ≡ Some t → s.memory (State (cell_of s.z t)) ≡ 0 → outcome_at s.slots t ≡ None
@@ -36,6 +37,10 @@ decides_undecided s t e empty = let p = drawn_shown (ground s) s.me t e in undec
 
 pub cancels_undecided : (s : Setting) (t : ℕ) → Opens s (Cancel t) → s.memory (State (cell_of s.z t)) ≡ 0 → outcome_at s.slots t ≡ None
 cancels_undecided s t o empty = let p = cancels_shown s t o in undecided (ground s) t p.0 p.1 empty
+
+-- and the state of an undecided drawn time is empty
+pub undecided_empty : (s : Setting) (t : ℕ) → (v s).drawn ≡ Some t → outcome_at s.slots t ≡ None → s.memory (State (cell_of s.z t)) ≡ 0
+undecided_empty s t e none = let p = drawn_shown (ground s) s.me t e in subst (Shows s.memory (cell_of s.z t)) none (s.law.shown t (let a = shown_below_merged (ground s) in let b = p.0 in omega arith) p.1)
 
 stays_but : (s : Setting) (t : ℕ) (a : Option Slot) → t < length s.slots → outcome_at s.slots t ≡ None → (u : ℕ) (b : Slot) → outcome_at s.slots u ≡ Some b → outcome_at (set s.slots t a) u ≡ Some b
 stays_but s t a lt none u b = at_each (λ u. outcome_at s.slots u ≡ Some b → outcome_at (set s.slots t a) u ≡ Some b) t (λ e. absurd (cc (e, none))) (λ u ne e. (puts_slot s.slots t a lt).other u ne ∙ e) u

@@ -7,7 +7,7 @@ use Rattle.std.proofs.lemmas.List.{get_or-take, length-map, length-take, take_mo
 use Rattle.clsm_model.specs.declared.slot.Slot.{Slot}
 use Rattle.clsm_model.specs.declared.slot.Slot.TheVariants.{Nothing}
 use Rattle.clsm_model.specs.declared.record.Deed.{Deed}
-use Rattle.clsm_model.specs.declared.record.Deed.TheVariants.{Put, Remove}
+use Rattle.clsm_model.specs.declared.record.Deed.TheVariants.{Put, Remove, Batch as Group}
 use Rattle.clsm_model.specs.declared.record.CallRecord.{CallRecord}
 use Rattle.clsm_model.specs.History.{History, plain, IsInside, end_of, slot_at as slot_of}
 use Rattle.clsm_model.specs.Right.{IsRight}
@@ -45,12 +45,14 @@ IsRight-goes_on h h' s deed on r = let reached = r.readable.reached in record {
 pub IsRightDeed-goes_on : (h h' : History) (s : ℕ) (deed : Deed) → GoesOn h h' → IsRightDeed h s deed → IsRightDeed h' s deed
 IsRightDeed-goes_on h h' s (Put key written) on r = tt
 IsRightDeed-goes_on h h' s (Remove key) on r = tt
+IsRightDeed-goes_on h h' s (Group members) on r = tt
 IsRightDeed-goes_on h h' s deed on r = IsRight-goes_on h h' s deed on r
 
 -- what is right of a deed that read is right of any deed
 pub IsRightDeed-right : (h : History) (s : ℕ) (deed : Deed) → IsRight h s deed → IsRightDeed h s deed
 IsRightDeed-right h s (Put key written) r = tt
 IsRightDeed-right h s (Remove key) r = tt
+IsRightDeed-right h s (Group members) r = tt
 IsRightDeed-right h s deed r = r
 
 pub records_right-go_on : (h h' : History) (calls : List CallRecord) → GoesOn h h' → AllByRecursion (IsRightRecord h) calls → AllByRecursion (IsRightRecord h') calls

@@ -1,14 +1,17 @@
 -- A lawful world stays lawful under every open step: each clause by its own lemma.
 use Rattle.clsm_law.specs.declared.step.Step.{Step}
 use Rattle.clsm_law.specs.Law.{LawOf}
-use Rattle.clsm_law.proofs.Setting.{Setting, Ground, M, V, S, C, O, Opens, merger', memory', slots', chains', orders', OpensTo}
+use Rattle.clsm_law.proofs.Setting.{Setting, Ground, M, V, S, B, C, O, Allows, merger', memory', slots', chains', orders', OpensTo}
+use Rattle.clsm_law.proofs.PlainOpens.{opens_plain}
+use Rattle.clsm_law.proofs.KeptStaging.{staging_kept, staging_merged}
+use Rattle.clsm_law.proofs.KeptBatches.{fitting_kept, front_clock_kept, front_clock_merged, past_clock_kept, past_clock_merged, reached_clock_kept, reached_clock_merged, in_turn_kept, in_turn_merged, written_kept, written_merged, uncut_front_kept, uncut_front_merged, uncut_pins_kept, uncut_snapshots_kept, uncut_pasts_kept, uncut_kept, listed_kept}
 use Rattle.clsm_law.proofs.KeptCells.{shown_kept, shown_merged, empty_kept, empty_merged}
 use Rattle.clsm_law.proofs.KeptChains.{chained_kept, lies_kept, once_kept, standing_kept, linked_kept, loose_kept}
 use Rattle.clsm_law.proofs.KeptChainsMerger.{chained_merged, lies_merged, once_merged, standing_merged, linked_merged, loose_merged}
 use Rattle.clsm_law.proofs.KeptClock.{clock_kept, clock_merged, limit_kept, limit_merged, begun_kept, begun_merged, bounded_kept, bounded_merged, current_kept, current_merged, top_kept, top_merged, merged_kept, merged_merged}
 use Rattle.clsm_law.proofs.KeptDecided.{front_kept, front_merged, merged_decided_kept, merged_decided_merged, past_kept, past_merged, reached_kept, reached_merged}
 use Rattle.clsm_law.proofs.KeptDrawn.{holding_kept, holding_merged, pending_kept, pending_merged, owned_kept, owned_merged, alone_kept, alone_merged, filled_kept, filled_merged}
-use Rattle.clsm_law.proofs.KeptLock.{seated_kept, seated_merged, lock_kept, lock_merged, locked_out_kept, locked_out_merged, callers_kept, callers_merged, merger_kept, merger_merged}
+use Rattle.clsm_law.proofs.KeptLock.{seated_kept, seated_merged, lock_kept, lock_merged, locked_out_kept, locked_out_merged, sole_kept, sole_merged, merger_kept, merger_merged}
 use Rattle.clsm_law.proofs.KeptNotes.{limits_kept, limits_merged, fresh_clocks_kept, fresh_clocks_merged, hold_clocks_kept, hold_clocks_merged, clocks_kept, clocks_merged, pin_clocks_kept, pin_clocks_merged}
 use Rattle.clsm_law.proofs.KeptOrders.{ordered_kept, sorted_kept, placed_kept, entered_kept}
 use Rattle.clsm_law.proofs.KeptInserted.{inserted_kept, outside_kept, leading_kept}
@@ -23,12 +26,12 @@ use Rattle.clsm_law.proofs.KeptShort.{short_kept, short_merged}
 use Rattle.clsm_law.proofs.KeptSnapshots.{snapshots_kept, snapshots_merged, passed_kept, passed_merged, floors_kept, floors_merged}
 
 -- a caller's step
-pub kept : (s : Setting) (step : Step) → Opens s step → LawOf s.z (M s step) (V s step) s.merger (S s step) (C s step) (O s step)
-kept s step o = record {
+pub kept : (s : Setting) (step : Step) → Allows s step → LawOf s.z (M s step) (V s step) s.merger (S s step) (B s step) (C s step) (O s step)
+kept s step r = let o = opens_plain s step r in record {
   seated = seated_kept s step o;
   lock = lock_kept s step o;
   locked_out = locked_out_kept s step o;
-  callers = callers_kept s step o;
+  sole = sole_kept s step o;
   merger = merger_kept s step o;
   clock = clock_kept s step o;
   limit = limit_kept s step o;
@@ -87,15 +90,28 @@ kept s step o = record {
   rising = rising_kept s step o;
   dues = dues_kept s step o;
   own_dues = own_dues_kept s step o;
+  front_clock = front_clock_kept s step o;
+  past_clock = past_clock_kept s step o;
+  reached_clock = reached_clock_kept s step o;
+  staging = staging_kept s step o;
+  in_turn = in_turn_kept s step o;
+  written = written_kept s step o;
+  uncut_front = uncut_front_kept s step r;
+  uncut_pins = uncut_pins_kept s step o;
+  uncut_snapshots = uncut_snapshots_kept s step o;
+  uncut_pasts = uncut_pasts_kept s step r;
+  uncut = uncut_kept s step r;
+  listed = listed_kept s step o;
+  fitting = fitting_kept s step o;
 }
 
 -- a step of the merger
-pub kept' : (g : Ground) (step : Step) → OpensTo g step → LawOf g.z (memory' g step) g.views (merger' g step) (slots' g step) (chains' g step) (orders' g step)
+pub kept' : (g : Ground) (step : Step) → OpensTo g step → LawOf g.z (memory' g step) g.views (merger' g step) (slots' g step) g.batches (chains' g step) (orders' g step)
 kept' g step o = record {
   seated = seated_merged g step o;
   lock = lock_merged g step o;
   locked_out = locked_out_merged g step o;
-  callers = callers_merged g step o;
+  sole = sole_merged g step o;
   merger = merger_merged g step o;
   clock = clock_merged g step o;
   limit = limit_merged g step o;
@@ -154,4 +170,17 @@ kept' g step o = record {
   rising = rising_merged g step o;
   dues = dues_merged g step o;
   own_dues = own_dues_merged g step o;
+  front_clock = front_clock_merged g step o;
+  past_clock = past_clock_merged g step o;
+  reached_clock = reached_clock_merged g step o;
+  staging = staging_merged g step o;
+  in_turn = in_turn_merged g step o;
+  written = written_merged g step o;
+  uncut_front = uncut_front_merged g step o;
+  uncut_pins = g.law.uncut_pins;
+  uncut_snapshots = g.law.uncut_snapshots;
+  uncut_pasts = g.law.uncut_pasts;
+  uncut = g.law.uncut;
+  listed = g.law.listed;
+  fitting = g.law.fitting;
 }

@@ -22,7 +22,7 @@ use Rattle.clsm_law.specs.declared.merger.Phase.{Phase}
 use Rattle.clsm_law.specs.declared.merger.Phase.TheVariants.{Clean, Frozen, Retired}
 use Rattle.clsm_law.specs.declared.merger.Reader.{Reader}
 use Rattle.clsm_law.specs.Memory.{Memory, cell_of, region_of, put}
-use Rattle.clsm_law.specs.Views.{IsBelow, is_shared, SaysWrite, length_of, words_of}
+use Rattle.clsm_law.specs.Views.{IsBelow, SaysWrite, length_of, words_of}
 use Rattle.clsm_law.specs.Relation.{state_by}
 use Rattle.clsm_law.specs.Merging.{is_clean, is_frozen, is_retired, is_all_quiet, retired_region, reader_at, reader_by, unseen, epoch_end}
 use Rattle.clsm_law.specs.Worlds.{outcome_at, passes_from, is_last}
@@ -30,7 +30,7 @@ use Rattle.clsm_law.specs.Law.{Shows, AreShown, AreEmpty, first_shown, first_liv
 use Rattle.clsm_law.proofs.Cases.{by_test, by_bool}
 use Rattle.clsm_law.proofs.Frames.{keep1, puts_slot, slots_grown, past_end, put_same, put_here, put_other}
 use Rattle.clsm_law.proofs.Times.{Live, at_live, apart, cell_below, region_of_epoch}
-use Rattle.clsm_law.proofs.Setting.{Setting, Ground, ground, v, x, M, S, Opens, OpensTo, memory', merger', slots', own, own_drawn, looked_same, merger_looked_same, drawn_live, shown_live, limit_live, live_below_shown, shown_below_merged}
+use Rattle.clsm_law.proofs.Setting.{Setting, Ground, ground, v, x, M, S, Opens, OpensTo, memory', merger', slots', own, own_drawn, looked_same, merger_looked_same, drawn_live, shown_live, limit_live, live_below_shown, shown_below_merged, clock_below, clock_shared, clock_merger}
 use Rattle.clsm_law.proofs.Growth.{cancels_shown, longer}
 use Rattle.clsm_law.proofs.GrowthMerger.{passed_before, passed_behind, clock_held, length_passed, longer'}
 use Rattle.clsm_law.proofs.KeptDecided.{says_write, run_other}
@@ -56,12 +56,12 @@ same_shown z m m' first first' clock slot le states parts h t from until = shows
 -- the cell of the time that a Draw wins is empty: nothing is padded while a caller holds the lock
 drawn_empty : (s : Setting) (t : ℕ) → Opens s (Draw t) → length s.slots ≡ t → s.memory (State (cell_of s.z t)) ≡ 0
 drawn_empty s t o is = ⊎_elim (λ (e : s.memory (State (cell_of s.z t)) ≡ 0). e)
-    (λ (p : (s.merger.padded ≡ true) × (t < (s.merger.merged + 1) * s.z.cells) × (s.memory (State (cell_of s.z t)) ≡ 1)). let free = s.law.locked_out (s.law.merger.pads p.0) s.me in let held : is_shared (v s).mode ≡ true = ap is_shared o.0 in absurd cc)
+    (λ (p : (s.merger.padded ≡ true) × (t < (s.merger.merged + 1) * s.z.cells) × (s.memory (State (cell_of s.z t)) ≡ 1)). let free = s.law.locked_out (s.law.merger.pads p.0) s.me in let held = o.0 in absurd cc)
     (s.law.empty t (omega arith) (let a = below (v s).hold_limit refl o.3 in let b = limit_live (ground s) in omega arith))
   where
     below : (l : Option ℕ) → (v s).hold_limit ≡ l → IsBelow t l → t < s.memory Limit
     below None e h = absurd h
-    below (Some n) e h = let a = s.law.limits s.me n o.0 e in omega arith
+    below (Some n) e h = let a = s.law.limits s.me n (λ free. absurd (let shared = o.0 in cc)) e in omega arith
 
 -- the new time is undecided, and its cell empty
 drew_shown : (s : Setting) (t : ℕ) → Opens s (Draw t) → length s.slots ≡ t → AreShown s.z (M s (Draw t)) (first_shown s.z s.merger) (length (s.slots ++ None ∷ [])) (outcome_at (s.slots ++ None ∷ []))
@@ -109,7 +109,7 @@ write_shown s t deed o = let wr = says_write (v s) deed s.me o.2 in let says : S
 
 pub shown_kept : (s : Setting) (step : Step) → Opens s step → AreShown s.z (M s step) (first_shown s.z s.merger) (length (S s step)) (outcome_at (S s step))
 shown_kept s (Draw t) o = by_test (λ b. AreShown s.z (M s (Draw t)) (first_shown s.z s.merger) (length (cond b (s.slots ++ None ∷ []) s.slots)) (outcome_at (cond b (s.slots ++ None ∷ []) s.slots))) (x s (Draw t)) t
-    (λ e. drew_shown s t o (sym s.law.clock ∙ e))
+    (λ e. drew_shown s t o (sym (clock_shared (ground s) s.me o.0) ∙ e))
     (λ _. same_shown s.z s.memory (M s (Draw t)) _ _ (length s.slots) (outcome_at s.slots) (omega arith) (λ c. refl) (λ c p. refl) s.law.shown)
 shown_kept s (Fill part y) o = fill_shown s part y (own_drawn s o.0)
 shown_kept s (Decide t deed) o =
@@ -202,20 +202,20 @@ extend_shown : (g : Ground) → OpensTo g ExtendClock → AreShown g.z (memory' 
 extend_shown g o u from until = elim (cases_lt u (length g.slots)) [
   | inl old ↦ subst (Shows (memory' g ExtendClock) (cell_of g.z u)) (sym (passed_before g.slots (epoch_end g.z g.merger) u old))
       (shows_same g.memory (memory' g ExtendClock) (cell_of g.z u) (outcome_at g.slots u) refl (λ p. refl) (g.law.shown u from old))
-  | inr new ↦ let len = length_passed g o in let held = clock_held g o.0 in let clock = g.law.clock in
+  | inr new ↦ let len = length_passed g o in let held = clock_held g o.0 in let clock = clock_merger g o.0 in
       subst (Shows (memory' g ExtendClock) (cell_of g.z u)) (sym (passed_behind g.slots (epoch_end g.z g.merger) u new (omega arith)))
       (eqb-true (g.memory (State (cell_of g.z u))) 1 (passes_at (λ t. g.memory (State (cell_of g.z t)) == 1) (g.memory Clock) (epoch_end g.z g.merger - g.memory Clock) u o.1 (omega arith) (omega arith)))
 ]
 
 -- a cell that is padded is of an undrawn time, and of the live ones
 padded_live : (g : Ground) (t : ℕ) → OpensTo g (Pad t) → Live g.z (first_live g.z g.merger) t
-padded_live g t o = let live = live_if_not_retired g.z g.merger (held_retired g o.0) in let begun = g.law.begun in let clock = g.law.clock in let a = o.1 in let b = o.2 in record { from = omega arith; until = omega arith }
+padded_live g t o = let live = live_if_not_retired g.z g.merger (held_retired g o.0) in let begun = g.law.begun in let clock = clock_merger g o.0 in let a = o.1 in let b = o.2 in record { from = omega arith; until = omega arith }
 
 -- so it is of no shown time
 pad_shown : (g : Ground) (t : ℕ) → OpensTo g (Pad t) → AreShown g.z (memory' g (Pad t)) (first_shown g.z g.merger) (length g.slots) (outcome_at g.slots)
 pad_shown g t o u from until = shows_same g.memory (memory' g (Pad t)) (cell_of g.z u) (outcome_at g.slots u)
     (put_other g.memory (State (cell_of g.z t)) (State (cell_of g.z u)) 1
-    (λ q. let same : u ≡ t = apart g.z (first_live g.z g.merger) u t (shown_live g u from until) (padded_live g t o) cc in let clock = g.law.clock in let a = o.1 in absurd (omega arith)))
+    (λ q. let same : u ≡ t = apart g.z (first_live g.z g.merger) u t (shown_live g u from until) (padded_live g t o) cc in let clock = clock_merger g o.0 in let a = o.1 in absurd (omega arith)))
     (λ p. refl) (g.law.shown u from until)
 
 -- a cell that is cleared is of the other region than the shown times
@@ -265,7 +265,7 @@ last_live z m = first_live z m + 2 * z.cells
 
 -- an undrawn time is live
 undrawn_live : (g : Ground) (t : ℕ) → length g.slots ≤ t → t < last_live g.z g.merger → Live g.z (first_live g.z g.merger) t
-undrawn_live g t from until = let a = live_below_shown g in let b = shown_below_merged g in let c = g.law.begun in record { from = omega arith; until = omega arith }
+undrawn_live g t from until = let a = live_below_shown g in let b = shown_below_merged g in let c = g.law.begun in let d = clock_below g in record { from = omega arith; until = omega arith }
 
 -- a state that is written is of a drawn time
 settled_empty : (s : Setting) (t y clock : ℕ) → Live s.z (first_live s.z s.merger) t → t < length s.slots → length s.slots ≤ clock → AreEmpty s.z (put s.memory (State (cell_of s.z t)) y) s.merger.padded clock (epoch_end s.z s.merger) (last_live s.z s.merger)

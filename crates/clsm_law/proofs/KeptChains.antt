@@ -22,7 +22,7 @@ use Rattle.clsm_law.specs.Worlds.{outcome_at}
 use Rattle.clsm_law.specs.Law.{each, drawn_of, key_of, linked_of, In, Distinct, IsChain, AreChained, AreIn, AreOnce, IsLinkedAt, AreStanding, AreLinked, AreLoose, first_live, first_shown}
 use Rattle.clsm_law.proofs.Cases.{by_test}
 use Rattle.clsm_law.proofs.Frames.{at_each, keep1, put_same, put_other, puts_each, puts_slot, slots_grown}
-use Rattle.clsm_law.proofs.Setting.{Setting, ground, v, x, w, M, V, S, C, Opens, own, own_drawn, looked_same, drawn_shown, drawn_live}
+use Rattle.clsm_law.proofs.Setting.{Setting, ground, v, x, w, M, V, S, C, Opens, own, own_drawn, looked_same, drawn_shown, drawn_live, clock_shared}
 use Rattle.clsm_law.proofs.Growth.{longer, cancels_shown}
 use Rattle.clsm_law.proofs.ChainFacts.{by_line, chain_same, in_pushed, is_pushed, in_as, own_region, own_chain, is_there, nowhere, other_cell, stays_in}
 
@@ -50,7 +50,7 @@ chained_kept s (Link h) o = by_test (λ b. AreChained s.z (put s.memory (Head (o
 chained_kept s step o = λ r k a b. chain_same s.z s.memory (M s step) (s.memory (Head r k)) (s.chains r k) (λ t i. refl) (s.law.chained r k a b)
 
 -- ---- a chain holds drawn times of its region and its chain
-lies_as : (s : Setting) (memory' : Memory) (len : ℕ) → length s.slots ≤ len → ((r k t : ℕ) → In t (s.chains r k) → memory' (Cell (cell_of s.z t) Key) ≡ s.memory (Cell (cell_of s.z t) Key)) → AreIn s.z memory' (first_live s.z s.merger) len s.chains
+pub lies_as : (s : Setting) (memory' : Memory) (len : ℕ) → length s.slots ≤ len → ((r k t : ℕ) → In t (s.chains r k) → memory' (Cell (cell_of s.z t) Key) ≡ s.memory (Cell (cell_of s.z t) Key)) → AreIn s.z memory' (first_live s.z s.merger) len s.chains
 lies_as s memory' len le same r k t i = let l = s.law.lies r k t i in in_as s.z s.memory memory' _ _ _ len r k t l l.live le (same r k t i)
 
 lies_links : (s : Setting) (h : ℕ) → Opens s (Link h) → AreIn s.z (M s (Link h)) (first_live s.z s.merger) (length s.slots) (pushed s.chains (own_region s) (own_chain s) (own s))
@@ -128,7 +128,7 @@ not_given_up (Some y) t u e = by_test (λ b. cond b None (Some y) ≡ Some u →
 abbrev StandsLinked : Setting → Chains → Option ℕ → Option ℕ → Bool → Type 0
 StandsLinked s chains drawn key linked = (t : ℕ) → drawn ≡ Some t → linked ≡ true → (k : ℕ) × (key ≡ Some k) × IsLinkedAt s.z chains t k
 
-linked_by : (s : Setting) (chains : Chains) (y : View) → ((r k t : ℕ) → In t (s.chains r k) → In t (chains r k)) → StandsLinked s chains y.drawn y.key y.linked
+pub linked_by : (s : Setting) (chains : Chains) (y : View) → ((r k t : ℕ) → In t (s.chains r k) → In t (chains r k)) → StandsLinked s chains y.drawn y.key y.linked
     → AreLinked s.z (each s.z drawn_of (set s.views s.me y)) (each s.z key_of (set s.views s.me y)) (each s.z linked_of (set s.views s.me y)) chains
 linked_by s chains y grow now = let p = puts_each s.z drawn_of s.views s.me y s.inside in let q = puts_each s.z key_of s.views s.me y s.inside in let r = puts_each s.z linked_of s.views s.me y s.inside in let vs = set s.views s.me y in
     at_each (λ i. StandsLinked s chains (each s.z drawn_of vs i) (each s.z key_of vs i) (each s.z linked_of vs i)) s.me
@@ -165,12 +165,12 @@ links_own s h o i t r k ne d = by_test (λ b. In t (cond b (pushed s.chains (own
     (λ (n : In t (s.chains r k)). n) (in_pushed s.chains (own_region s) (own_chain s) (own s) r k t m))
     (λ _ m. m)
 
-loose_else : (s : Setting) (y : View) → StandsLoose s.chains y.drawn y.linked → AreLoose (each s.z drawn_of (set s.views s.me y)) (each s.z linked_of (set s.views s.me y)) s.chains
+pub loose_else : (s : Setting) (y : View) → StandsLoose s.chains y.drawn y.linked → AreLoose (each s.z drawn_of (set s.views s.me y)) (each s.z linked_of (set s.views s.me y)) s.chains
 loose_else s y now = loose_by s s.chains y (λ i t r k ne d m. m) now
 
 pub loose_kept : (s : Setting) (step : Step) → Opens s step → AreLoose (each s.z drawn_of (V s step)) (each s.z linked_of (V s step)) (C s step)
 loose_kept s (Draw t) o = loose_else s (w s (Draw t)) (by_test (λ b. StandsLoose s.chains (cond b (Some t) (v s).drawn) (cond b false (v s).linked)) (x s (Draw t)) t
-    (λ e u d l r k i. let same : t ≡ u = ap or_zero d in let b = (s.law.lies r k u i).drawn in let c = s.law.clock in omega arith) (λ _. s.law.loose s.me))
+    (λ e u d l r k i. let same : t ≡ u = ap or_zero d in let b = (s.law.lies r k u i).drawn in let c = clock_shared (ground s) s.me o.0 in omega arith) (λ _. s.law.loose s.me))
 loose_kept s (Fill part y) o = loose_else s (w s (Fill part y)) (filled_as (v s) part y (StandsLoose s.chains) (s.law.loose s.me))
 loose_kept s (Link h) o = loose_by s (C s (Link h)) (w s (Link h)) (links_own s h o) (by_test (λ b. StandsLoose (cond b (pushed s.chains (own_region s) (own_chain s) (own s)) s.chains) (v s).drawn (cond b true (v s).linked)) (x s (Link h)) h
     (λ _ u d l. absurd cc) (λ _. s.law.loose s.me))

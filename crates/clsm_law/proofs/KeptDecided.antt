@@ -25,7 +25,7 @@ use Rattle.clsm_law.specs.Worlds.{outcome_at}
 use Rattle.clsm_law.specs.Law.{each, past_time_of, reached_of, IsDecidedBelow, AreDecidedBelow, first_shown}
 use Rattle.clsm_law.proofs.Cases.{by_test, by_bool}
 use Rattle.clsm_law.proofs.Frames.{at_each, keep1, puts_each, puts_slot, put_other}
-use Rattle.clsm_law.proofs.Setting.{Setting, Ground, ground, v, x, w, M, V, S, Opens, OpensTo, found, memory', merger', slots', looked_same, merger_looked_same, decided, drawn_shown, held_shown, shown_below_merged}
+use Rattle.clsm_law.proofs.Setting.{Setting, Ground, ground, v, x, w, M, V, S, Opens, OpensTo, found, memory', merger', slots', looked_same, merger_looked_same, decided, drawn_shown, held_shown, shown_below_merged, clock_below}
 use Rattle.clsm_law.proofs.Growth.{cancels_shown, slots_stay}
 use Rattle.clsm_law.proofs.GrowthMerger.{slots_stay'}
 
@@ -51,7 +51,7 @@ run_other memory word v y run other = put_other memory word v y (λ e. other (su
 pub front_kept : (s : Setting) (step : Step) → Opens s step → IsDecidedBelow (outcome_at (S s step)) (M s step Front)
 front_kept s (RaiseFront t) o = λ u lt. elim (cases_lt u (s.memory Front)) [
   | inl old ↦ s.law.front u old
-  | inr le ↦ s.law.reached s.me u (omega arith)
+  | inr le ↦ s.law.reached s.me u (let a = o.0 in omega arith)
 ]
 front_kept s (Look c) o = keep1 (λ (m : Memory). IsDecidedBelow (outcome_at s.slots) (m Front)) (looked_same s c) s.law.front
 front_kept s step o = λ u lt. decided_stay s step o u (s.law.front u lt)
@@ -76,7 +76,7 @@ looked_merged z m word y = refl
 pub frozen_decided : (g : Ground) → is_frozen g.merger.phase ≡ true → IsDecidedBelow (outcome_at g.slots) ((g.merger.merged + 1) * g.z.cells)
 frozen_decided g frozen t lt none =
     let limit : g.memory Limit ≡ (g.merger.merged + 2) * g.z.cells = g.law.limit ∙ rw frozen refl in
-    let current = g.law.current in
+    let current = g.law.current in let below = clock_below g in
     let i = g.law.owned t (omega arith) none in
     let p = (g.law.pending i.0 t i.1).0 in absurd (omega arith)
 
@@ -109,7 +109,7 @@ filled_past v part y = refl
 pub past_kept : (s : Setting) (step : Step) → Opens s step → AreDecidedBelow (outcome_at (S s step)) (each s.z past_time_of (V s step))
 past_kept s (RaiseFront t) o = by_own s (RaiseFront t) o past_time_of s.law.past (λ u lt. elim (cases_lt u (v s).past) [
   | inl old ↦ s.law.past s.me u old
-  | inr le ↦ s.law.reached s.me u (omega arith)
+  | inr le ↦ s.law.reached s.me u (let a = o.0 in omega arith)
 ])
 past_kept s (Look c) o = same_own s (Look c) o past_time_of s.law.past (looked_past s.z (v s) c (x s (Look c)))
 past_kept s (Fill part y) o = same_own s (Fill part y) o past_time_of s.law.past (filled_past (v s) part y)
@@ -128,7 +128,7 @@ filled_reached v part y = refl
 module _ (s : Setting) (t : ℕ) where
   below_clock : (c : Option ℕ) → (v s).clock ≡ c → is_below t c ≡ true → t < length s.slots
   below_clock None e below = absurd cc
-  below_clock (Some n) e below = let a = s.law.clocks s.me n e in let b = ltb-true t n below in omega arith
+  below_clock (Some n) e below = let a = s.law.clocks s.me n e in let c = clock_below (ground s) in let b = ltb-true t n below in omega arith
 
   of_held : (h : Option ℕ) → (v s).held ≡ h → is_seen_of s.z h (v s).clock t ≡ true → (first_shown s.z s.merger ≤ t) × (t < length s.slots)
   of_held None e seen = absurd cc

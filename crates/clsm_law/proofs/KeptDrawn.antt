@@ -14,9 +14,9 @@ use Rattle.clsm_law.specs.declared.word.Word.TheVariants.{Lock, Limit, Cell}
 use Rattle.clsm_law.specs.declared.word.Part.{Part}
 use Rattle.clsm_law.specs.declared.word.Part.TheVariants.{Key, Length, Value, Next}
 use Rattle.clsm_law.specs.declared.step.Step.{Step}
-use Rattle.clsm_law.specs.declared.step.Step.TheVariants.{EnterShared, LeaveShared, Draw, Fill, Decide, Cancel, Look, WriteRun, ExtendClock, ExtendLimit}
+use Rattle.clsm_law.specs.declared.step.Step.TheVariants.{EnterShared, LeaveShared, EnterExclusive, LeaveExclusive, Draw, Fill, Decide, Cancel, Look, WriteRun, ExtendClock, ExtendLimit}
 use Rattle.clsm_law.specs.declared.view.View.{View}
-use Rattle.clsm_law.specs.declared.view.Mode.TheVariants.{Shared}
+use Rattle.clsm_law.specs.declared.view.Mode.TheVariants.{Free, Shared}
 use Rattle.clsm_law.specs.Memory.{Memory, cell_of, put}
 use Rattle.clsm_law.specs.Views.{blank, next_word}
 use Rattle.clsm_law.specs.Relation.{one_more_if, given_up, looked, filled}
@@ -26,7 +26,7 @@ use Rattle.clsm_law.specs.Law.{each, mode_of, drawn_of, part_of, AreHolding, Are
 use Rattle.clsm_law.proofs.Cases.{by_test, by_bool}
 use Rattle.clsm_law.proofs.Frames.{at_each, keep1, puts_each, puts_slot, slots_grown, past_end, put_here, put_other}
 use Rattle.clsm_law.proofs.Times.{apart}
-use Rattle.clsm_law.proofs.Setting.{Setting, Ground, ground, v, x, w, M, V, S, Opens, OpensTo, memory', slots', own, own_drawn, looked_same, merger_looked_same, drawn_live, none_drawn}
+use Rattle.clsm_law.proofs.Setting.{Setting, Ground, ground, v, x, w, M, V, S, Opens, OpensTo, memory', slots', own, own_drawn, looked_same, merger_looked_same, drawn_live, none_drawn, clock_below, clock_shared}
 use Rattle.clsm_law.proofs.Growth.{cancels_shown, slots_stay}
 use Rattle.clsm_law.proofs.GrowthMerger.{passed_before, passed_behind, length_passed}
 use Rattle.clsm_law.proofs.KeptDecided.{decide_settles, cancel_settles, run_other}
@@ -44,9 +44,9 @@ abbrev pub missed : Setting → View
 missed s = record (v s) { fresh_clock = None; raced = next_word (v s).raced }
 
 -- a clause over the views after a Draw
-pub by_draw : (s : Setting) (P : Bool → List View → Type 0) (t : ℕ) → (length s.slots ≡ t → P true (set s.views s.me (drew s t))) → (P false (set s.views s.me (missed s))) → P (x s (Draw t) == t) (V s (Draw t))
-by_draw s P t hit miss = by_test (λ b. P b (set s.views s.me (record (v s) { drawn = cond b (Some t) (v s).drawn; key = cond b None (v s).key; length = cond b None (v s).length; words = cond b (blank 8) (v s).words; next = cond b None (v s).next; linked = cond b false (v s).linked; order_next = cond b None (v s).order_next; inserted = cond b false (v s).inserted; low = cond b 0 (v s).low; high = cond b 0 (v s).high; fresh_clock = None; raced = one_more_if (not b) (v s).raced }))) (x s (Draw t)) t
-    (λ e. hit (sym s.law.clock ∙ e)) (λ _. miss)
+pub by_draw : (s : Setting) (P : Bool → List View → Type 0) (t : ℕ) → (v s).mode ≡ Shared → (length s.slots ≡ t → P true (set s.views s.me (drew s t))) → (P false (set s.views s.me (missed s))) → P (x s (Draw t) == t) (V s (Draw t))
+by_draw s P t shared hit miss = by_test (λ b. P b (set s.views s.me (record (v s) { drawn = cond b (Some t) (v s).drawn; key = cond b None (v s).key; length = cond b None (v s).length; words = cond b (blank 8) (v s).words; next = cond b None (v s).next; linked = cond b false (v s).linked; order_next = cond b None (v s).order_next; inserted = cond b false (v s).inserted; low = cond b 0 (v s).low; high = cond b 0 (v s).high; fresh_clock = None; raced = one_more_if (not b) (v s).raced }))) (x s (Draw t)) t
+    (λ e. hit (sym (clock_shared (ground s) s.me shared) ∙ e)) (λ _. miss)
 
 -- all but a Draw that wins leave a seat no more than it had drawn
 abbrev pub Keeps : Step → Type 0
@@ -81,8 +81,8 @@ fewer_after s (Fill part y) no_draw = λ u e. sym (filled_drawn (v s) part y) �
 fewer_after s step no_draw = λ u e. e
 
 -- ---- who has drawn a time holds the lock
-holding_by : (s : Setting) (y : View) → ((t : ℕ) → y.drawn ≡ Some t → y.mode ≡ Shared) → AreHolding (each s.z drawn_of (set s.views s.me y)) (each s.z mode_of (set s.views s.me y))
-holding_by s y here = by_seat s y (λ i u. (t : ℕ) → u.drawn ≡ Some t → u.mode ≡ Shared) here (λ i ne t e. s.law.holding i t e)
+pub holding_by : (s : Setting) (y : View) → ((t : ℕ) → y.drawn ≡ Some t → y.mode ≢ Free) → AreHolding (each s.z drawn_of (set s.views s.me y)) (each s.z mode_of (set s.views s.me y))
+holding_by s y here = by_seat s y (λ i u. (t : ℕ) → u.drawn ≡ Some t → u.mode ≢ Free) here (λ i ne t e. s.law.holding i t e)
 
 -- no look changes how the lock is held
 pub looked_mode : (z : Layout) (v : View) (word : Word) (y : ℕ) → (looked z v word y).mode ≡ v.mode
@@ -95,11 +95,13 @@ filled_mode v Key y = refl
 filled_mode v part y = refl
 
 pub holding_kept : (s : Setting) (step : Step) → Opens s step → AreHolding (each s.z drawn_of (V s step)) (each s.z mode_of (V s step))
-holding_kept s (EnterShared l) o = holding_by s (w s (EnterShared l)) (λ t e. by_bool (λ b. cond b Shared (v s).mode ≡ Shared) (x s (EnterShared l) == l) (λ _. refl) (λ _. s.law.holding s.me t e))
+holding_kept s (EnterShared l) o = holding_by s (w s (EnterShared l)) (λ t e free. s.law.holding s.me t e o.0)
+holding_kept s EnterExclusive o = holding_by s (w s EnterExclusive) (λ t e free. s.law.holding s.me t e o)
 holding_kept s LeaveShared o = holding_by s (w s LeaveShared) (λ t e. absurd (let none = o.1 in cc))
-holding_kept s (Draw t) o = holding_by s (w s (Draw t)) (λ u e. o.0)
-holding_kept s (Look c) o = holding_by s (w s (Look c)) (λ t e. looked_mode s.z (v s) c (x s (Look c)) ∙ s.law.holding s.me t (fewer_after s (Look c) tt t e))
-holding_kept s (Fill part y) o = holding_by s (w s (Fill part y)) (λ t e. filled_mode (v s) part y ∙ s.law.holding s.me t (fewer_after s (Fill part y) tt t e))
+holding_kept s LeaveExclusive o = holding_by s (w s LeaveExclusive) (λ t e. absurd (let none = o.1 in cc))
+holding_kept s (Draw t) o = holding_by s (w s (Draw t)) (λ u e free. absurd (let shared = o.0 in cc))
+holding_kept s (Look c) o = holding_by s (w s (Look c)) (λ t e free. s.law.holding s.me t (fewer_after s (Look c) tt t e) (sym (looked_mode s.z (v s) c (x s (Look c))) ∙ free))
+holding_kept s (Fill part y) o = holding_by s (w s (Fill part y)) (λ t e free. s.law.holding s.me t (fewer_after s (Fill part y) tt t e) (sym (filled_mode (v s) part y) ∙ free))
 holding_kept s step o = holding_by s (w s step) (λ t e. s.law.holding s.me t (fewer_after s step tt t e))
 
 pub holding_merged : (g : Ground) (step : Step) → OpensTo g step → AreHolding (each g.z drawn_of g.views) (each g.z mode_of g.views)
@@ -114,8 +116,8 @@ fewer_pending : (s : Setting) (y : View) → Fewer s y → ArePending s.z (s.mem
 fewer_pending s y less = by_seat s y (λ i a. (u : ℕ) → a.drawn ≡ Some u → Pends s.z (s.memory Limit) (length s.slots) (outcome_at s.slots) u) (λ u e. s.law.pending s.me u (less u e)) (λ i ne u e. s.law.pending i u e)
 
 -- the new time is the last, and undecided
-drew_pending : (s : Setting) (t : ℕ) → length s.slots ≡ t → ArePending s.z (s.memory Limit) (each s.z drawn_of (set s.views s.me (drew s t))) (length (s.slots ++ None ∷ [])) (outcome_at (s.slots ++ None ∷ []))
-drew_pending s t is = let len : length (s.slots ++ None ∷ []) ≡ length s.slots + 1 = length-append s.slots (None ∷ []) in let current = s.law.current in
+pub drew_pending : (s : Setting) (t : ℕ) → length s.slots ≡ t → ArePending s.z (s.memory Limit) (each s.z drawn_of (set s.views s.me (drew s t))) (length (s.slots ++ None ∷ [])) (outcome_at (s.slots ++ None ∷ []))
+drew_pending s t is = let len : length (s.slots ++ None ∷ []) ≡ length s.slots + 1 = length-append s.slots (None ∷ []) in let current = s.law.current in let below = clock_below (ground s) in
     keep1 (λ (f : ℕ → Option Slot). ArePending s.z (s.memory Limit) (each s.z drawn_of (set s.views s.me (drew s t))) (length (s.slots ++ None ∷ [])) f) (slots_grown s.slots)
     (by_seat s (drew s t) (λ i a. (u : ℕ) → a.drawn ≡ Some u → Pends s.z (s.memory Limit) (length (s.slots ++ None ∷ [])) (outcome_at s.slots) u)
     (λ u e. let same : t ≡ u = cc in (omega arith, omega arith, inl (subst (λ (k : ℕ). outcome_at s.slots k ≡ None) (is ∙ same) (past_end s.slots))))
@@ -137,7 +139,7 @@ decided_by_none : (s : Setting) (t : ℕ) (deed : Deed) → (v s).drawn ≡ Some
 decided_by_none s t deed mine = by_seat s (w s (Decide t deed)) (λ i a. a.drawn ≢ Some t) (λ e. absurd cc) (λ i ne e. ne (s.law.alone i s.me t e mine))
 
 pub pending_kept : (s : Setting) (step : Step) → Opens s step → ArePending s.z (M s step Limit) (each s.z drawn_of (V s step)) (length (S s step)) (outcome_at (S s step))
-pending_kept s (Draw t) o = by_draw s (λ b vs. ArePending s.z (s.memory Limit) (each s.z drawn_of vs) (length (cond b (s.slots ++ None ∷ []) s.slots)) (outcome_at (cond b (s.slots ++ None ∷ []) s.slots))) t (drew_pending s t) (fewer_pending s (missed s) (λ u e. e))
+pending_kept s (Draw t) o = by_draw s (λ b vs. ArePending s.z (s.memory Limit) (each s.z drawn_of vs) (length (cond b (s.slots ++ None ∷ []) s.slots)) (outcome_at (cond b (s.slots ++ None ∷ []) s.slots))) t o.0 (drew_pending s t) (fewer_pending s (missed s) (λ u e. e))
 pending_kept s (Decide t deed) o = by_test (λ b. ArePending s.z (s.memory Limit) (each s.z drawn_of (V s (Decide t deed))) (length (cond b (set s.slots t (write_by s.me deed)) s.slots)) (outcome_at (cond b (set s.slots t (write_by s.me deed)) s.slots))) (x s (Decide t deed)) 0
     (λ _. settled_pending s (w s (Decide t deed)) t (write_by s.me deed) (λ u e. absurd cc) (s.law.pending s.me t o.0).1 (inr (decided_by_none s t deed o.0)))
     (λ _. fewer_pending s (w s (Decide t deed)) (λ u e. absurd cc))
@@ -166,7 +168,7 @@ undecided_before s step o u none = is (outcome_at s.slots u) refl where
   is (Some b) e = absurd (cc (none, slots_stay s step o u b e))
 
 -- the new time is the own
-drew_owned : (s : Setting) (t : ℕ) → (v s).drawn ≡ None → length s.slots ≡ t → AreOwned (each s.z drawn_of (set s.views s.me (drew s t))) (length (s.slots ++ None ∷ [])) (outcome_at (s.slots ++ None ∷ []))
+pub drew_owned : (s : Setting) (t : ℕ) → (v s).drawn ≡ None → length s.slots ≡ t → AreOwned (each s.z drawn_of (set s.views s.me (drew s t))) (length (s.slots ++ None ∷ [])) (outcome_at (s.slots ++ None ∷ []))
 drew_owned s t free is u lt none = let len : length (s.slots ++ None ∷ []) ≡ length s.slots + 1 = length-append s.slots (None ∷ []) in
     elim (cases_lt u (length s.slots)) [
       | inl old ↦ still_owned s (drew s t) u (λ e. absurd cc) (s.law.owned u old (sym (λ k. slots_grown s.slots k u) ∙ none))
@@ -179,7 +181,7 @@ still_drawn None t u ne e = e
 still_drawn (Some y) t u ne e = by_test (λ b. cond b None (Some y) ≡ Some u) y t (λ same. absurd (ne (sym same ∙ (let is : y ≡ u = cc in is)))) (λ _. e)
 
 pub owned_kept : (s : Setting) (step : Step) → Opens s step → AreOwned (each s.z drawn_of (V s step)) (length (S s step)) (outcome_at (S s step))
-owned_kept s (Draw t) o = by_draw s (λ b vs. AreOwned (each s.z drawn_of vs) (length (cond b (s.slots ++ None ∷ []) s.slots)) (outcome_at (cond b (s.slots ++ None ∷ []) s.slots))) t (drew_owned s t o.1)
+owned_kept s (Draw t) o = by_draw s (λ b vs. AreOwned (each s.z drawn_of vs) (length (cond b (s.slots ++ None ∷ []) s.slots)) (outcome_at (cond b (s.slots ++ None ∷ []) s.slots))) t o.0 (drew_owned s t o.1)
     (λ u lt none. still_owned s (missed s) u (λ e. e) (s.law.owned u lt none))
 owned_kept s (Decide t deed) o = λ u lt none. still_owned s (w s (Decide t deed)) u
     (λ e. let same : t ≡ u = cc (o.0, e) in absurd (decide_settles s t deed o (subst (λ (k : ℕ). outcome_at (S s (Decide t deed)) k ≡ None) (sym same) none)))
@@ -206,13 +208,13 @@ fewer_alone s y less i j t e f = s.law.alone i j t (had i e) (had j f)
     had = by_seat s y (λ i a. a.drawn ≡ Some t → each s.z drawn_of s.views i ≡ Some t) (less t) (λ i ne e. e)
 
 -- the new time is below no clock yet, so no other seat has drawn it
-drew_alone : (s : Setting) (t : ℕ) → length s.slots ≡ t → AreAlone (each s.z drawn_of (set s.views s.me (drew s t)))
+pub drew_alone : (s : Setting) (t : ℕ) → length s.slots ≡ t → AreAlone (each s.z drawn_of (set s.views s.me (drew s t)))
 drew_alone s t is i j u e f = by_seat s (drew s t) (λ i a. a.drawn ≡ Some u → i ≡ j)
     (λ e. by_seat s (drew s t) (λ j b. b.drawn ≡ Some u → s.me ≡ j) (λ _. refl) (λ j ne f. let same : t ≡ u = cc in let lt = (s.law.pending j u f).1 in absurd (omega arith)) j f)
     (λ i ne e. by_seat s (drew s t) (λ j b. b.drawn ≡ Some u → i ≡ j) (λ f. let same : t ≡ u = cc in let lt = (s.law.pending i u e).1 in absurd (omega arith)) (λ j ne f. s.law.alone i j u e f) j f) i e
 
 pub alone_kept : (s : Setting) (step : Step) → Opens s step → AreAlone (each s.z drawn_of (V s step))
-alone_kept s (Draw t) o = by_draw s (λ _ vs. AreAlone (each s.z drawn_of vs)) t (drew_alone s t) (fewer_alone s (missed s) (λ u e. e))
+alone_kept s (Draw t) o = by_draw s (λ _ vs. AreAlone (each s.z drawn_of vs)) t o.0 (drew_alone s t) (fewer_alone s (missed s) (λ u e. e))
 alone_kept s step o = fewer_alone s (w s step) (fewer_after s step tt)
 
 pub alone_merged : (g : Ground) (step : Step) → OpensTo g step → AreAlone (each g.z drawn_of g.views)
@@ -271,7 +273,7 @@ fewer_filled s y m less same words = by_seat s y (λ i a. (t b : ℕ) (p : Part)
     (λ i ne t b p e f. words (cell_of s.z t) p ∙ s.law.filled i t b p e f)
 
 -- after a Draw that won nothing is filled
-drew_filled : (s : Setting) (t : ℕ) → AreFilled s.z s.memory (each s.z drawn_of (set s.views s.me (drew s t))) (each s.z part_of (set s.views s.me (drew s t)))
+pub drew_filled : (s : Setting) (t : ℕ) → AreFilled s.z s.memory (each s.z drawn_of (set s.views s.me (drew s t))) (each s.z part_of (set s.views s.me (drew s t)))
 drew_filled s t = by_seat s (drew s t) (λ i a. (u b : ℕ) (p : Part) → a.drawn ≡ Some u → part_of a p ≡ Some b → s.memory (Cell (cell_of s.z u) p) ≡ b)
     (λ u b p e f. absurd (cc (drew_parts s t p, f)))
     (λ i ne u b p e f. s.law.filled i u b p e f)
@@ -288,7 +290,7 @@ fill_filled s part y mine = by_seat s (w s (Fill part y)) (λ i a. (t b : ℕ) (
     ∙ s.law.filled i t b p e f)
 
 pub filled_kept : (s : Setting) (step : Step) → Opens s step → AreFilled s.z (M s step) (each s.z drawn_of (V s step)) (each s.z part_of (V s step))
-filled_kept s (Draw t) o = by_draw s (λ _ vs. AreFilled s.z s.memory (each s.z drawn_of vs) (each s.z part_of vs)) t (λ _. drew_filled s t) (fewer_filled s (missed s) s.memory (λ u e. e) (same_parts (missed s) (v s) refl refl refl refl) (λ c p. refl))
+filled_kept s (Draw t) o = by_draw s (λ _ vs. AreFilled s.z s.memory (each s.z drawn_of vs) (each s.z part_of vs)) t o.0 (λ _. drew_filled s t) (fewer_filled s (missed s) s.memory (λ u e. e) (same_parts (missed s) (v s) refl refl refl refl) (λ c p. refl))
 filled_kept s (Fill part y) o = fill_filled s part y (own_drawn s o.0)
 filled_kept s (Look c) o = fewer_filled s (w s (Look c)) (M s (Look c)) (fewer_after s (Look c) tt) (looked_parts s.z (v s) c (x s (Look c))) (λ d p. (λ k. looked_same s c k (Cell d p)))
 filled_kept s step o = fewer_filled s (w s step) (M s step) (fewer_after s step tt) (same_parts (w s step) (v s) refl refl refl refl) (λ c p. refl)

@@ -1,5 +1,7 @@
 -- How the clauses on the lock, and on the merger's hold of it, are kept.
-use Rattle.std.proofs.Common.{◌≡◌, ◌≢◌, ℕ, zero, suc, ◌+◌, ◌%◌, ◌^◌, ◌≤◌, Bool, true, false, cond, List, [], ◌∷◌, length, set, sym, refl, ap, ◌∙◌, subst, arith, sum_by, Some, length-set}
+use Rattle.std.proofs.Common.{◌≡◌, ◌≢◌, ℕ, zero, suc, ◌+◌, ◌%◌, ◌^◌, ◌*◌, ◌<◌, ◌≤◌, ◌⊎◌, inl, inr, ⊎_elim, Bool, true, false, cond, List, [], ◌∷◌, length, set, sym, refl, ap, ◌∙◌, arith, sum_by, Some, length-set}
+use mathlib.Core.Logic.{dite}
+use native.Mathlib.Decide.{ℕ_discrete}
 use prog.Atomic.{either}
 use Rattle.std.proofs.lemmas.List.Sums.{sum_by-set, sum_by-cons}
 use Rattle.std.proofs.Math.ListN.{length-replicate}
@@ -15,15 +17,15 @@ use Rattle.clsm_law.specs.declared.step.Step.{Step}
 use Rattle.clsm_law.specs.declared.step.Step.TheVariants.{EnterShared, LeaveShared, EnterExclusive, LeaveExclusive, Draw, Fill, Decide, Cancel, Look, Pad, WriteRun, ClearState, Publish, ExtendClock, ExtendLimit}
 use Rattle.clsm_law.specs.declared.view.View.{View}
 use Rattle.clsm_law.specs.declared.view.Mode.{Mode}
-use Rattle.clsm_law.specs.declared.view.Mode.TheVariants.{Shared, Exclusive}
+use Rattle.clsm_law.specs.declared.view.Mode.TheVariants.{Free, Shared, Exclusive}
 use Rattle.clsm_law.specs.declared.merger.MergerView.{MergerView}
 use Rattle.clsm_law.specs.declared.merger.Phase.{Phase}
 use Rattle.clsm_law.specs.declared.merger.Phase.TheVariants.{Clean, Frozen, Retired}
 use Rattle.clsm_law.specs.Memory.{Memory}
-use Rattle.clsm_law.specs.Views.{idle, is_shared}
+use Rattle.clsm_law.specs.Views.{idle, is_shared, is_exclusive}
 use Rattle.clsm_law.specs.Relation.{looked, filled}
 use Rattle.clsm_law.specs.Merging.{is_clean, is_frozen, is_retired, merger_looked, unseen, reader_at, reader_by}
-use Rattle.clsm_law.specs.Law.{each, mode_of, holders, IsLockedOut, AreCallers, IsMerger}
+use Rattle.clsm_law.specs.Law.{each, mode_of, holders, IsLockedOut, AreSole, IsMerger}
 use Rattle.clsm_law.proofs.Cases.{by_test, by_bool}
 use Rattle.clsm_law.proofs.Frames.{at_each, keep1, puts_each, same_each}
 use Rattle.clsm_law.proofs.Setting.{Setting, ground, v, x, w, M, V, S, Opens, looked_same, Ground, found, merger', memory', slots', OpensTo, merger_looked_same}
@@ -84,34 +86,85 @@ lock_held g e = g.law.lock ∙ ap (λ b. cond b 4294967296 (sum_by holders g.vie
 lock_shared : (g : Ground) → g.merger.exclusive ≡ false → g.memory Lock ≡ sum_by holders g.views
 lock_shared g e = g.law.lock ∙ ap (λ b. cond b 4294967296 (sum_by holders g.views)) e
 
--- a seat holds the lock once at most
-one_at_most : (y : View) → holders y ≤ 1
-one_at_most y = elim (is_shared y.mode) as (λ b. cond b 1 0 ≤ 1) [ true ↦ omega arith | false ↦ omega arith ]
+-- what a hold adds to LOCK
+abbrev hold_by : Mode → ℕ
+hold_by m = cond (is_shared m) 1 (cond (is_exclusive m) 4294967296 0)
 
--- so no more hold it than there are seats
-holders_below : (views : List View) → sum_by holders views ≤ length views
+-- a seat adds one hold at most
+hold_most : (m : Mode) → hold_by m ≤ 4294967296
+hold_most Free = omega arith
+hold_most Shared = omega arith
+hold_most Exclusive = omega arith
+
+-- so all holds together fit the word
+holders_below : (views : List View) → sum_by holders views ≤ 4294967296 * length views
 holders_below [] = omega arith
-holders_below (y ∷ ys) = let a = sum_by-cons holders y ys in let b = holders_below ys in let c = one_at_most y in omega arith
+holders_below (y ∷ ys) = let a = sum_by-cons holders y ys in let b = holders_below ys in let c = hold_most y.mode in omega arith
 
--- where no seat holds the lock shared the count is 0
-none_shared : (z : Layout) (views : List View) → ((i : ℕ) → is_shared (each z mode_of views i) ≡ false) → sum_by holders views ≡ 0
+-- where no seat holds the lock the count is 0
+none_shared : (z : Layout) (views : List View) → ((i : ℕ) → each z mode_of views i ≡ Free) → sum_by holders views ≡ 0
 none_shared z [] h = refl
-none_shared z (y ∷ ys) h = let a = sum_by-cons holders y ys in let b = none_shared z ys (λ i. h (suc i)) in let c : holders y ≡ 0 = ap (λ b. cond b 1 0) (h 0) in omega arith
+none_shared z (y ∷ ys) h = let a = sum_by-cons holders y ys in let b = none_shared z ys (λ i. h (suc i)) in let c : holders y ≡ 0 = ap hold_by (h 0) in omega arith
 
 -- and where a seat counts for nothing it is no holder
-no_holder : (b : Bool) → ◌≡◌ {A = ℕ} (cond b 1 0) 0 → b ≡ false
-no_holder true e = absurd (omega arith)
-no_holder false e = refl
+no_holder : (m : Mode) → hold_by m ≡ 0 → m ≡ Free
+no_holder Free e = refl
+no_holder Shared e = absurd (omega arith)
+no_holder Exclusive e = absurd (omega arith)
 
 -- and so where the count is 0, no seat is
-shared_none : (z : Layout) (views : List View) → sum_by holders views ≡ 0 → (i : ℕ) → is_shared (each z mode_of views i) ≡ false
+pub shared_none : (z : Layout) (views : List View) → sum_by holders views ≡ 0 → (i : ℕ) → each z mode_of views i ≡ Free
 shared_none z [] e i = refl
-shared_none z (y ∷ ys) e zero = let a = sum_by-cons holders y ys in no_holder (is_shared y.mode) (omega arith)
+shared_none z (y ∷ ys) e zero = let a = sum_by-cons holders y ys in no_holder y.mode (omega arith)
 shared_none z (y ∷ ys) e (suc i) = let a = sum_by-cons holders y ys in shared_none z ys (omega arith) i
 
--- a shared holder keeps the merger out
+-- where the count is below an exclusive hold, there is none
+none_exclusive : (z : Layout) (views : List View) → sum_by holders views < 4294967296 → (i : ℕ) → each z mode_of views i ≢ Exclusive
+none_exclusive z [] lt i e = absurd cc
+none_exclusive z (y ∷ ys) lt zero e = let a = sum_by-cons holders y ys in let b : holders y ≡ 4294967296 = ap hold_by e in absurd (omega arith)
+none_exclusive z (y ∷ ys) lt (suc i) e = let a = sum_by-cons holders y ys in none_exclusive z ys (omega arith) i e
+
+-- where none is exclusive they are no more than the seats
+holders_few : (z : Layout) (views : List View) → ((i : ℕ) → each z mode_of views i ≢ Exclusive) → sum_by holders views ≤ length views
+holders_few z [] none = omega arith
+holders_few z (y ∷ ys) none = let a = sum_by-cons holders y ys in let b = holders_few z ys (λ i. none (suc i)) in let c = one_most y.mode (none 0) in omega arith
+  where
+    one_most : (m : Mode) → m ≢ Exclusive → hold_by m ≤ 1
+    one_most Free ne = omega arith
+    one_most Shared ne = omega arith
+    one_most Exclusive ne = absurd (ne refl)
+
+-- and where one is, it is the only one
+holders_most : (z : Layout) (views : List View) → AreSole (each z mode_of views) → (sum_by holders views ≤ 4294967296) ⊎ (sum_by holders views ≤ length views)
+holders_most z [] sole = inl (omega arith)
+holders_most z (y ∷ ys) sole = head y.mode refl (holders_most z ys (λ i j f ne. sole (suc i) (suc j) f (λ same. ne (omega arith))))
+  where
+    head : (m : Mode) → y.mode ≡ m → (sum_by holders ys ≤ 4294967296) ⊎ (sum_by holders ys ≤ length ys) → (sum_by holders (y ∷ ys) ≤ 4294967296) ⊎ (sum_by holders (y ∷ ys) ≤ length (y ∷ ys))
+    head Exclusive e rest = let a = sum_by-cons holders y ys in let b = none_shared z ys (λ i. sole 0 (suc i) e (λ same. absurd (omega arith))) in let c : holders y ≡ 4294967296 = ap hold_by e in inl (omega arith)
+    head Free e rest = let a = sum_by-cons holders y ys in let c : holders y ≡ 0 = ap hold_by e in ⊎_elim (λ (le : sum_by holders ys ≤ 4294967296). inl (omega arith)) (λ (le : sum_by holders ys ≤ length ys). inr (omega arith)) rest
+    head Shared e rest = let a = sum_by-cons holders y ys in let c : holders y ≡ 1 = ap hold_by e in let b = holders_few z ys (λ i f. absurd (let free = sole (suc i) 0 f (λ same. absurd (omega arith)) in cc)) in inr (omega arith)
+
+-- a holder keeps the merger out
+pub held_free : (g : Ground) (i : ℕ) → each g.z mode_of g.views i ≢ Free → g.merger.exclusive ≡ false
+held_free g i ne = by_bool (λ b. g.merger.exclusive ≡ b → g.merger.exclusive ≡ false) g.merger.exclusive (λ _ h. absurd (ne (g.law.locked_out h i))) (λ _ h. h) refl
+
 pub shared_free : (g : Ground) (i : ℕ) → each g.z mode_of g.views i ≡ Shared → g.merger.exclusive ≡ false
-shared_free g i e = by_bool (λ b. g.merger.exclusive ≡ b → g.merger.exclusive ≡ false) g.merger.exclusive (λ _ h. let a = g.law.locked_out h i in let b : is_shared (each g.z mode_of g.views i) ≡ true = ap is_shared e in absurd cc) (λ _ h. h) refl
+shared_free g i e = held_free g i (λ free. absurd cc)
+
+pub exclusive_free : (g : Ground) (i : ℕ) → each g.z mode_of g.views i ≡ Exclusive → g.merger.exclusive ≡ false
+exclusive_free g i e = held_free g i (λ free. absurd cc)
+
+-- where LOCK is 0 nobody holds it
+unlocked : (g : Ground) → g.memory Lock ≡ 0 → g.merger.exclusive ≡ false
+unlocked g e = by_bool (λ b. g.merger.exclusive ≡ b → g.merger.exclusive ≡ false) g.merger.exclusive (λ _ h. let a = lock_held g h in absurd (omega arith)) (λ _ h. h) refl
+
+pub all_free : (g : Ground) → g.memory Lock ≡ 0 → (i : ℕ) → each g.z mode_of g.views i ≡ Free
+all_free g e = let a = lock_shared g (unlocked g e) in shared_none g.z g.views (omega arith)
+
+-- LOCK is no greater than an exclusive hold
+pub lock_most : (g : Ground) → g.memory Lock ≤ 4294967296
+lock_most g = by_bool (λ b. g.merger.exclusive ≡ b → g.memory Lock ≤ 4294967296) g.merger.exclusive (λ _ h. let a = lock_held g h in omega arith)
+    (λ _ h. let a = lock_shared g h in let c = g.law.seated in let d = g.sound.1.1 in ⊎_elim (λ (b : sum_by holders g.views ≤ 4294967296). omega arith) (λ (b : sum_by holders g.views ≤ length g.views). omega arith) (holders_most g.z g.views g.law.sole)) refl
 
 -- ---- the lock's word
 module _ (s : Setting) where
@@ -120,28 +173,46 @@ module _ (s : Setting) where
   counted y = sum_by-set holders s.views s.me y (idle s.z) s.inside
 
   -- a step that leaves the mode leaves the count
-  same_count : (y : View) → y.mode ≡ (v s).mode → cond s.merger.exclusive 4294967296 (sum_by holders s.views) ≡ cond s.merger.exclusive 4294967296 (sum_by holders (set s.views s.me y))
-  same_count y e = let a = counted y in let b : holders y ≡ holders (v s) = ap (λ (k : Mode). cond (is_shared k) 1 0) e in let c : sum_by holders s.views ≡ sum_by holders (set s.views s.me y) = omega arith in ap (cond s.merger.exclusive 4294967296) c
+  pub same_count : (y : View) → y.mode ≡ (v s).mode → cond s.merger.exclusive 4294967296 (sum_by holders s.views) ≡ cond s.merger.exclusive 4294967296 (sum_by holders (set s.views s.me y))
+  same_count y e = let a = counted y in let b : holders y ≡ holders (v s) = ap hold_by e in let c : sum_by holders s.views ≡ sum_by holders (set s.views s.me y) = omega arith in ap (cond s.merger.exclusive 4294967296) c
 
   -- who enters finds no exclusive holder
-  enters_free : (l : ℕ) → Opens s (EnterShared l) → x s (EnterShared l) ≡ l → s.merger.exclusive ≡ false
+  pub enters_free : (l : ℕ) → Opens s (EnterShared l) → x s (EnterShared l) ≡ l → s.merger.exclusive ≡ false
   enters_free l o e = by_bool (λ b. s.merger.exclusive ≡ b → s.merger.exclusive ≡ false) s.merger.exclusive (λ _ h. let a = lock_held (ground s) h in let b = o.2 in absurd (omega arith)) (λ _ h. h) refl
 
+  -- among the callers neither
+  pub enters_beside : (l : ℕ) → Opens s (EnterShared l) → x s (EnterShared l) ≡ l → (i : ℕ) → each s.z mode_of s.views i ≢ Exclusive
+  enters_beside l o e = let a = lock_shared (ground s) (enters_free l o e) in let b = o.2 in none_exclusive s.z s.views (omega arith)
+
   -- an entry that wins adds the seat to the count, and one that loses leaves it
-  lock_enters : (l n : ℕ) → Opens s (EnterShared l) → (b : Bool) → (b ≡ true → x s (EnterShared l) ≡ l) → n + holders (v s) ≡ sum_by holders s.views + cond (is_shared (cond b Shared (v s).mode)) 1 0
+  lock_enters : (l n : ℕ) → Opens s (EnterShared l) → (b : Bool) → (b ≡ true → x s (EnterShared l) ≡ l) → n + holders (v s) ≡ sum_by holders s.views + hold_by (cond b Shared (v s).mode)
       → either b (l + 1) (s.memory Lock) ≡ cond s.merger.exclusive 4294967296 n
-  lock_enters l n o true won e = let free = enters_free l o (won refl) in let found = lock_shared (ground s) free in let here = won refl in let none : holders (v s) ≡ 0 = ap (λ k. cond (is_shared k) 1 0) o.0 in rw free (omega arith)
+  lock_enters l n o true won e = let free = enters_free l o (won refl) in let found = lock_shared (ground s) free in let here = won refl in let none : holders (v s) ≡ 0 = ap hold_by o.0 in rw free (omega arith)
   lock_enters l n o false won e = let same : sum_by holders s.views ≡ n = omega arith in s.law.lock ∙ ap (cond s.merger.exclusive 4294967296) same
+
+  -- so does one that takes it alone
+  lock_takes : (n : ℕ) → Opens s EnterExclusive → (b : Bool) → (b ≡ true → x s EnterExclusive ≡ 0) → n + holders (v s) ≡ sum_by holders s.views + hold_by (cond b Exclusive (v s).mode)
+      → either b 4294967296 (s.memory Lock) ≡ cond s.merger.exclusive 4294967296 n
+  lock_takes n o true won e = let free = unlocked (ground s) (won refl) in let found = lock_shared (ground s) free in let here = won refl in let none : holders (v s) ≡ 0 = ap hold_by o in rw free (omega arith)
+  lock_takes n o false won e = let same : sum_by holders s.views ≡ n = omega arith in s.law.lock ∙ ap (cond s.merger.exclusive 4294967296) same
 
   -- a holder that leaves takes 1 from the word and from the count
   lock_leaves : (n : ℕ) → Opens s LeaveShared → n + holders (v s) ≡ sum_by holders s.views + 0 → (s.memory Lock + 18446744073709551615) % 2 ^ 64 ≡ cond s.merger.exclusive 4294967296 n
-  lock_leaves n o e = let free = shared_free (ground s) s.me o.0 in let found = lock_shared (ground s) free in let one : holders (v s) ≡ 1 = ap (λ k. cond (is_shared k) 1 0) o.0 in let few = holders_below s.views in let seats = s.law.seated in let most = s.sound.1.1 in
+  lock_leaves n o e = let free = shared_free (ground s) s.me o.0 in let found = lock_shared (ground s) free in let one : holders (v s) ≡ 1 = ap hold_by o.0 in let few = holders_below s.views in let seats = s.law.seated in let most = s.sound.1.1 in
+      rw free (omega arith)
+
+  -- and one that held it alone takes its hold
+  lock_gives : (n : ℕ) → Opens s LeaveExclusive → n + holders (v s) ≡ sum_by holders s.views + 0 → (s.memory Lock + 18446744069414584320) % 2 ^ 64 ≡ cond s.merger.exclusive 4294967296 n
+  lock_gives n o e = let free = exclusive_free (ground s) s.me o.0 in let found = lock_shared (ground s) free in let one : holders (v s) ≡ 4294967296 = ap hold_by o.0 in let few = holders_below s.views in let seats = s.law.seated in let most = s.sound.1.1 in
       rw free (omega arith)
 
 pub lock_kept : (s : Setting) (step : Step) → Opens s step → M s step Lock ≡ cond s.merger.exclusive 4294967296 (sum_by holders (V s step))
-lock_kept s (EnterShared l) o = by_test (λ b. (n : ℕ) → n + holders (v s) ≡ sum_by holders s.views + cond (is_shared (cond b Shared (v s).mode)) 1 0 → either b (l + 1) (s.memory Lock) ≡ cond s.merger.exclusive 4294967296 n) (x s (EnterShared l)) l
+lock_kept s (EnterShared l) o = by_test (λ b. (n : ℕ) → n + holders (v s) ≡ sum_by holders s.views + hold_by (cond b Shared (v s).mode) → either b (l + 1) (s.memory Lock) ≡ cond s.merger.exclusive 4294967296 n) (x s (EnterShared l)) l
     (λ e n. lock_enters s l n o true (λ _. e)) (λ _ n. lock_enters s l n o false (λ f. absurd cc)) (sum_by holders (V s (EnterShared l))) (counted s (w s (EnterShared l)))
+lock_kept s EnterExclusive o = by_test (λ b. (n : ℕ) → n + holders (v s) ≡ sum_by holders s.views + hold_by (cond b Exclusive (v s).mode) → either b 4294967296 (s.memory Lock) ≡ cond s.merger.exclusive 4294967296 n) (x s EnterExclusive) 0
+    (λ e n. lock_takes s n o true (λ _. e)) (λ _ n. lock_takes s n o false (λ f. absurd cc)) (sum_by holders (V s EnterExclusive)) (counted s (w s EnterExclusive))
 lock_kept s LeaveShared o = lock_leaves s (sum_by holders (V s LeaveShared)) o (counted s (w s LeaveShared))
+lock_kept s LeaveExclusive o = lock_gives s (sum_by holders (V s LeaveExclusive)) o (counted s (w s LeaveExclusive))
 lock_kept s (Fill part n) o = s.law.lock ∙ same_count s (w s (Fill part n)) (mode_filled (v s) part n)
 lock_kept s (Look word) o = ap (λ (m : Memory). m Lock) (looked_same s word) ∙ s.law.lock ∙ same_count s (w s (Look word)) (mode_looked s.z (v s) word (x s (Look word)))
 lock_kept s step o = s.law.lock ∙ same_count s (w s step) refl
@@ -161,11 +232,17 @@ lock_merged g step o = g.law.lock
 
 pub locked_out_kept : (s : Setting) (step : Step) → Opens s step → IsLockedOut s.merger.exclusive (each s.z mode_of (V s step))
 locked_out_kept s (EnterShared l) o = λ e. let p = puts_each s.z mode_of s.views s.me (w s (EnterShared l)) s.inside in
-    at_each (λ i. is_shared (each s.z mode_of (V s (EnterShared l)) i) ≡ false) s.me
-    (ap is_shared p.here ∙ by_test (λ b. is_shared (cond b Shared (v s).mode) ≡ false) (x s (EnterShared l)) l (λ won. absurd (not_both e (enters_free s l o won))) (λ _. ap is_shared o.0))
-    (λ i ne. ap is_shared (p.other i ne) ∙ s.law.locked_out e i)
+    at_each (λ i. each s.z mode_of (V s (EnterShared l)) i ≡ Free) s.me
+    (p.here ∙ by_test (λ b. cond b Shared (v s).mode ≡ Free) (x s (EnterShared l)) l (λ won. absurd (not_both e (enters_free s l o won))) (λ _. o.0))
+    (λ i ne. p.other i ne ∙ s.law.locked_out e i)
+locked_out_kept s EnterExclusive o = λ e. let p = puts_each s.z mode_of s.views s.me (w s EnterExclusive) s.inside in
+    at_each (λ i. each s.z mode_of (V s EnterExclusive) i ≡ Free) s.me
+    (p.here ∙ by_test (λ b. cond b Exclusive (v s).mode ≡ Free) (x s EnterExclusive) 0 (λ won. absurd (not_both e (unlocked (ground s) won))) (λ _. o))
+    (λ i ne. p.other i ne ∙ s.law.locked_out e i)
 locked_out_kept s LeaveShared o = λ e. let p = puts_each s.z mode_of s.views s.me (w s LeaveShared) s.inside in
-    at_each (λ i. is_shared (each s.z mode_of (V s LeaveShared) i) ≡ false) s.me (ap is_shared p.here) (λ i ne. ap is_shared (p.other i ne) ∙ s.law.locked_out e i)
+    at_each (λ i. each s.z mode_of (V s LeaveShared) i ≡ Free) s.me p.here (λ i ne. p.other i ne ∙ s.law.locked_out e i)
+locked_out_kept s LeaveExclusive o = λ e. let p = puts_each s.z mode_of s.views s.me (w s LeaveExclusive) s.inside in
+    at_each (λ i. each s.z mode_of (V s LeaveExclusive) i ≡ Free) s.me p.here (λ i ne. p.other i ne ∙ s.law.locked_out e i)
 locked_out_kept s (Fill part n) o = keep1 (IsLockedOut s.merger.exclusive) (same_each s.z mode_of s.views s.me (w s (Fill part n)) s.inside (mode_filled (v s) part n)) s.law.locked_out
 locked_out_kept s (Look word) o = keep1 (IsLockedOut s.merger.exclusive) (same_each s.z mode_of s.views s.me (w s (Look word)) s.inside (mode_looked s.z (v s) word (x s (Look word)))) s.law.locked_out
 locked_out_kept s step o = keep1 (IsLockedOut s.merger.exclusive) (same_each s.z mode_of s.views s.me (w s step) s.inside refl) s.law.locked_out
@@ -177,19 +254,36 @@ locked_out_merged g LeaveExclusive o = λ e. absurd cc
 locked_out_merged g (Look word) o = keep1 (λ b. IsLockedOut b (each g.z mode_of g.views)) (exclusive_looked g.z g.merger word (found g (Look word))) g.law.locked_out
 locked_out_merged g step o = g.law.locked_out
 
-pub callers_kept : (s : Setting) (step : Step) → Opens s step → AreCallers (each s.z mode_of (V s step))
-callers_kept s (EnterShared l) o = let p = puts_each s.z mode_of s.views s.me (w s (EnterShared l)) s.inside in
-    at_each (λ i. each s.z mode_of (V s (EnterShared l)) i ≢ Exclusive) s.me
-    (subst (λ (k : Mode). k ≢ Exclusive) (sym p.here) (by_test (λ b. cond b Shared (v s).mode ≢ Exclusive) (x s (EnterShared l)) l (λ _ e. cc) (λ _. s.law.callers s.me)))
-    (λ i ne e. s.law.callers i (sym (p.other i ne) ∙ e))
-callers_kept s LeaveShared o = let p = puts_each s.z mode_of s.views s.me (w s LeaveShared) s.inside in
-    at_each (λ i. each s.z mode_of (V s LeaveShared) i ≢ Exclusive) s.me (λ e. let a = p.here in cc) (λ i ne e. s.law.callers i (sym (p.other i ne) ∙ e))
-callers_kept s (Fill part n) o = keep1 AreCallers (same_each s.z mode_of s.views s.me (w s (Fill part n)) s.inside (mode_filled (v s) part n)) s.law.callers
-callers_kept s (Look word) o = keep1 AreCallers (same_each s.z mode_of s.views s.me (w s (Look word)) s.inside (mode_looked s.z (v s) word (x s (Look word)))) s.law.callers
-callers_kept s step o = keep1 AreCallers (same_each s.z mode_of s.views s.me (w s step) s.inside refl) s.law.callers
+-- from the seat's own hold after the step, and from what another's exclusive hold leaves it
+sole_by : (s : Setting) (y : View) → (y.mode ≡ Exclusive → (j : ℕ) → j ≢ s.me → each s.z mode_of s.views j ≡ Free) → ((i : ℕ) → i ≢ s.me → each s.z mode_of s.views i ≡ Exclusive → y.mode ≡ Free) → AreSole (each s.z mode_of (set s.views s.me y))
+sole_by s y own other i j e ne = let p = puts_each s.z mode_of s.views s.me y s.inside in let f = each s.z mode_of (set s.views s.me y) in
+    dite (ℕ_discrete i s.me)
+    (λ (a : i ≡ s.me). dite (ℕ_discrete j s.me)
+    (λ (b : j ≡ s.me). absurd (ne (b ∙ sym a)))
+    (λ n. p.other j n ∙ own (sym p.here ∙ ap f (sym a) ∙ e) j n))
+    (λ a. dite (ℕ_discrete j s.me)
+    (λ (b : j ≡ s.me). ap f b ∙ p.here ∙ other i a (sym (p.other i a) ∙ e))
+    (λ n. p.other j n ∙ s.law.sole i j (sym (p.other i a) ∙ e) ne))
 
-pub callers_merged : (g : Ground) (step : Step) → OpensTo g step → AreCallers (each g.z mode_of g.views)
-callers_merged g step o = g.law.callers
+-- an entry that loses leaves the mode
+pub sole_same : (s : Setting) (y : View) → y.mode ≡ (v s).mode → AreSole (each s.z mode_of (set s.views s.me y))
+sole_same s y e = keep1 AreSole (same_each s.z mode_of s.views s.me y s.inside e) s.law.sole
+
+pub sole_kept : (s : Setting) (step : Step) → Opens s step → AreSole (each s.z mode_of (V s step))
+sole_kept s (EnterShared l) o = sole_by s (w s (EnterShared l))
+    (by_test (λ b. cond b Shared (v s).mode ≡ Exclusive → (j : ℕ) → j ≢ s.me → each s.z mode_of s.views j ≡ Free) (x s (EnterShared l)) l (λ _ e. absurd cc) (λ _ e. absurd (let free = o.0 in cc)))
+    (λ i ne e. by_test (λ b. cond b Shared (v s).mode ≡ Free) (x s (EnterShared l)) l (λ won. absurd (enters_beside s l o won i e)) (λ _. o.0))
+sole_kept s EnterExclusive o = sole_by s (w s EnterExclusive)
+    (by_test (λ b. cond b Exclusive (v s).mode ≡ Exclusive → (j : ℕ) → j ≢ s.me → each s.z mode_of s.views j ≡ Free) (x s EnterExclusive) 0 (λ won _ j _. all_free (ground s) won j) (λ _ e. absurd cc))
+    (λ i ne e. by_test (λ b. cond b Exclusive (v s).mode ≡ Free) (x s EnterExclusive) 0 (λ won. absurd (let free = all_free (ground s) won i in cc)) (λ _. o))
+sole_kept s LeaveShared o = sole_by s (w s LeaveShared) (λ e. absurd cc) (λ i ne e. refl)
+sole_kept s LeaveExclusive o = sole_by s (w s LeaveExclusive) (λ e. absurd cc) (λ i ne e. refl)
+sole_kept s (Fill part n) o = sole_same s (w s (Fill part n)) (mode_filled (v s) part n)
+sole_kept s (Look word) o = sole_same s (w s (Look word)) (mode_looked s.z (v s) word (x s (Look word)))
+sole_kept s step o = sole_same s (w s step) refl
+
+pub sole_merged : (g : Ground) (step : Step) → OpensTo g step → AreSole (each g.z mode_of g.views)
+sole_merged g step o = g.law.sole
 
 -- ---- the merger's own clause
 

@@ -1,15 +1,15 @@
 -- How the clause of rising times is kept: each seat's calls rise to its due, and leave its snapshot
 -- open or closed.
-use Rattle.std.proofs.Common.{◌≡◌, ℕ, ◌+◌, ◌≤◌, false, cond, List, [], ◌∷◌, ◌++◌, sym, refl, ap, ◌∙◌, subst, arith, Option, Some, None}
+use Rattle.std.proofs.Common.{◌≡◌, ℕ, ◌+◌, ◌≤◌, ◌==◌, false, cond, List, [], ◌∷◌, ◌++◌, length, sym, refl, ap, ◌∙◌, subst, arith, Option, Some, None}
 use Rattle.std.specs.Prelude.{is_some}
 use Rattle.clsm_model.specs.declared.slot.Change.TheVariants.{Keep, Set, Remove as Erase}
 use Rattle.clsm_model.specs.declared.record.Deed.{Deed}
-use Rattle.clsm_model.specs.declared.record.Deed.TheVariants.{Put, Remove, Rmw, Get, Snapshot, Close, GetAt, Scan, Page}
+use Rattle.clsm_model.specs.declared.record.Deed.TheVariants.{Put, Remove, Rmw, Get, Snapshot, Close, GetAt, Scan, Page, Batch as Group}
 use Rattle.clsm_model.specs.declared.record.CallRecord.{CallRecord}
 use Rattle.clsm_model.specs.History.{History, or_else}
 use Rattle.clsm_model.specs.Right.{write_by}
 use Rattle.clsm_law.specs.declared.step.Step.{Step}
-use Rattle.clsm_law.specs.declared.step.Step.TheVariants.{Fill, Decide, Unpin, Look, Note, CloseSnapshot}
+use Rattle.clsm_law.specs.declared.step.Step.TheVariants.{Fill, Decide, Commit, Unpin, Look, Note, CloseSnapshot}
 use Rattle.clsm_law.specs.declared.step.End.{End}
 use Rattle.clsm_law.specs.declared.step.End.TheVariants.{Neither, Meeting, Recorded}
 use Rattle.clsm_law.specs.declared.word.Word.TheVariants.{Clock}
@@ -17,14 +17,15 @@ use Rattle.clsm_law.specs.declared.word.Part.TheVariants.{Key}
 use Rattle.clsm_law.specs.declared.view.View.{View}
 use Rattle.clsm_law.specs.declared.view.SnapshotState.{SnapshotState}
 use Rattle.clsm_law.specs.declared.view.SnapshotState.TheVariants.{Absent, Noted, Timed, Open}
-use Rattle.clsm_law.specs.Views.{or_zero, SaysWrite}
+use Rattle.clsm_law.specs.Views.{or_zero, is_exclusive, SaysWrite}
 use Rattle.clsm_law.specs.Relation.{open_time, timed, timed_by, time_of_read, is_old, IsRightAt, IsMetAt, IsEndingWith, IsOpenSnapshot, ended_calls, ended_due, ended_snapshot, call_of}
 use Rattle.clsm_law.specs.Worlds.{past_of}
 use Rattle.clsm_model.specs.Seats.{IsNextRead, IsRising}
 use Rattle.clsm_law.specs.Law.{each, due_of, calls_of, snapshot_of, AreRising}
 use Rattle.clsm_model.proofs.Rising.{Follows, rising_later, rising_next}
-use Rattle.clsm_law.proofs.Cases.{by_test}
+use Rattle.clsm_law.proofs.Cases.{by_test, by_bool}
 use Rattle.clsm_law.proofs.Setting.{Setting, Ground, v, x, w, V, Opens, OpensTo}
+use Rattle.clsm_law.proofs.KeptClock.{commits_at}
 use Rattle.clsm_law.proofs.Growth.{decides_undecided}
 use Rattle.clsm_law.proofs.Records.{at_views}
 
@@ -77,6 +78,7 @@ module _ (h : History) (u : View) (i : ℕ) where
     within = ranged_within h u (Scan lo hi rows) u.pin_clock (open_time u.snapshot) r;
     opens = refl;
   }
+  read_next (Group members) r = absurd r
   read_next (Page from hi max rows more) r = record {
     next = ranged_next h u (Page from hi max rows more) u.pin_clock (open_time u.snapshot) r refl;
     within = ranged_within h u (Page from hi max rows more) u.pin_clock (open_time u.snapshot) r;
@@ -134,10 +136,13 @@ timed_open n x = refl
 
 -- the calls of the seat that made the step
 own_rising : (s : Setting) (step : Step) → Opens s step → IsRising (w s step).calls (w s step).due (open_time (w s step).snapshot)
-own_rising s (Decide t deed) o = by_test (λ b. IsRising (cond b ((v s).calls ++ call_of s.me t deed ∷ []) (v s).calls) (cond b (t + 1) (v s).due) (open_time (v s).snapshot)) (x s (Decide t deed)) 0
+own_rising s (Decide t deed) o = by_bool (λ a. IsRising (cond a (v s).calls (cond (x s (Decide t deed) == 0) ((v s).calls ++ call_of s.me t deed ∷ []) (v s).calls)) (cond a (v s).due (cond (x s (Decide t deed) == 0) (t + 1) (v s).due)) (open_time (v s).snapshot)) (is_exclusive (v s).mode) (λ _. s.law.rising s.me) (λ _.
+    by_test (λ b. IsRising (cond b ((v s).calls ++ call_of s.me t deed ∷ []) (v s).calls) (cond b (t + 1) (v s).due) (open_time (v s).snapshot)) (x s (Decide t deed)) 0
     (λ e. rising_next (v s).calls (v s).due (t + 1) (open_time (v s).snapshot) (open_time (v s).snapshot) (call_of s.me t deed) (s.law.rising s.me)
     (writes_next (v s) s.me t (v s).due (open_time (v s).snapshot) deed o.2 (s.law.own_dues s.me t o.0 (decides_undecided s t o.0 e))))
-    (λ _. s.law.rising s.me)
+    (λ _. s.law.rising s.me))
+own_rising s (Commit members) o = let c = or_zero (v s).hold_clock in let at = commits_at s members o in let due = s.law.dues s.me in
+    rising_next (v s).calls (v s).due (c + length members) (open_time (v s).snapshot) (open_time (v s).snapshot) (call_of s.me c (Group members)) (s.law.rising s.me) (record { next = λ d le. omega arith; within = λ d le. omega arith; opens = refl })
 own_rising s (Unpin end) o = ended_rising (past_of s.slots (v s).past) (v s) s.me (s.law.rising s.me) (v s).snapshot end refl o.1
 own_rising s (Look Clock) o = subst (IsRising (v s).calls (v s).due) (sym (timed_open (v s).snapshot (x s (Look Clock)))) (s.law.rising s.me)
 own_rising s (Note b) o = subst (λ (n : SnapshotState). IsRising (v s).calls (v s).due (open_time n)) o.0 (s.law.rising s.me)

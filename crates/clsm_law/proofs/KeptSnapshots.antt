@@ -9,7 +9,7 @@ use Rattle.clsm_law.specs.declared.layout.Layout.{Layout}
 use Rattle.clsm_law.specs.declared.word.Word.TheVariants.{Clock, Pin as PinOf, Snap}
 use Rattle.clsm_law.specs.declared.word.Part.TheVariants.{Key}
 use Rattle.clsm_law.specs.declared.step.Step.{Step}
-use Rattle.clsm_law.specs.declared.step.Step.TheVariants.{EnterExclusive, LeaveExclusive, Fill, Pin, Unpin, Look, RaiseFront, Note, CloseSnapshot, Pad, ClearState, Publish, ExtendClock, ExtendLimit}
+use Rattle.clsm_law.specs.declared.step.Step.TheVariants.{EnterExclusive, LeaveExclusive, Fill, Pin, Unpin, Look, RaiseFront, Note, CloseSnapshot, Pad, WriteRun, ClearState, Publish, ExtendClock, ExtendLimit}
 use Rattle.clsm_law.specs.declared.step.End.{End}
 use Rattle.clsm_law.specs.declared.step.End.TheVariants.{Recorded}
 use Rattle.clsm_law.specs.declared.view.View.{View}
@@ -25,17 +25,15 @@ use Rattle.clsm_law.specs.Worlds.{past_of}
 use Rattle.clsm_law.specs.Law.{each, past_time_of, pinned_of, snapshot_of, IsSnapshot, AreSnapshots, note_of, IsPassed, ArePassed, AreFloors}
 use Rattle.clsm_law.proofs.Cases.{by_test, by_bool}
 use Rattle.clsm_law.proofs.Frames.{at_each, keep1, keep2, keep3, puts_each}
-use Rattle.clsm_law.proofs.Setting.{Setting, ground, v, w, V, S, Opens, Ground, facts, merger', slots', OpensTo, past_below}
-use Rattle.clsm_law.proofs.Growth.{longer}
-use Rattle.clsm_law.proofs.GrowthMerger.{longer'}
+use Rattle.clsm_law.proofs.Setting.{Setting, ground, v, w, M, V, Opens, Ground, facts, merger', memory', OpensTo, past_below}
 use Rattle.clsm_law.proofs.Histories.{end_of-past}
-use Rattle.clsm_law.proofs.KeptClock.{frozen_clock}
+use Rattle.clsm_law.proofs.KeptClock.{frozen_clock, clock_grows, clock_grows'}
 
 -- ---- each snapshot by itself
 
 -- the floor is drawn
-pub floor_below : (g : Ground) → g.merger.floor ≤ length g.slots
-floor_below g = by_bool (λ b. is_frozen g.merger.phase ≡ b → g.merger.floor ≤ length g.slots) (is_frozen g.merger.phase)
+pub floor_below : (g : Ground) → g.merger.floor ≤ g.memory Clock
+floor_below g = by_bool (λ b. is_frozen g.merger.phase ≡ b → g.merger.floor ≤ g.memory Clock) (is_frozen g.merger.phase)
     (λ _ e. let a = g.law.floors.below_end in let b = frozen_clock g e in omega arith)
     (λ _ e. let a = g.law.floors.at_rest e in let b = g.law.begun in omega arith) refl
 
@@ -74,31 +72,31 @@ snapshot_ended h v end floor n past pinned (Timed k s) o le i = let a = ends_rea
 snapshot_ended h v end floor n past pinned (Open k s) o le i = i
 
 -- the seat's own snapshot after the step, and the others' as before
-snapshots_by : (s : Setting) (step : Step) → (v s).past ≤ (w s step).past → IsSnapshot s.merger.floor (length (S s step)) (w s step).past (w s step).pinned (w s step).snapshot
-    → AreSnapshots s.merger.floor (length (S s step)) (each s.z past_time_of (V s step)) (each s.z pinned_of (V s step)) (each s.z snapshot_of (V s step))
-snapshots_by s step le now = let a = puts_each s.z past_time_of s.views s.me (w s step) s.inside in let b = puts_each s.z pinned_of s.views s.me (w s step) s.inside in let c = puts_each s.z snapshot_of s.views s.me (w s step) s.inside in
-    at_each (λ i. IsSnapshot s.merger.floor (length (S s step)) (each s.z past_time_of (V s step) i) (each s.z pinned_of (V s step) i) (each s.z snapshot_of (V s step) i)) s.me
-    (keep3 (IsSnapshot s.merger.floor (length (S s step))) a.here b.here c.here now)
-    (λ i ne. keep3 (IsSnapshot s.merger.floor (length (S s step))) (a.other i ne) (b.other i ne) (c.other i ne)
-    (snapshot_more s.merger.floor (length s.slots) (length (S s step)) (each s.z past_time_of s.views i) (each s.z past_time_of s.views i) (each s.z pinned_of s.views i) (each s.z snapshot_of s.views i) (longer s step) (omega arith) (s.law.snapshots i)))
+snapshots_by : (s : Setting) (step : Step) → Opens s step → (v s).past ≤ (w s step).past → IsSnapshot s.merger.floor (M s step Clock) (w s step).past (w s step).pinned (w s step).snapshot
+    → AreSnapshots s.merger.floor (M s step Clock) (each s.z past_time_of (V s step)) (each s.z pinned_of (V s step)) (each s.z snapshot_of (V s step))
+snapshots_by s step o le now = let a = puts_each s.z past_time_of s.views s.me (w s step) s.inside in let b = puts_each s.z pinned_of s.views s.me (w s step) s.inside in let c = puts_each s.z snapshot_of s.views s.me (w s step) s.inside in
+    at_each (λ i. IsSnapshot s.merger.floor (M s step Clock) (each s.z past_time_of (V s step) i) (each s.z pinned_of (V s step) i) (each s.z snapshot_of (V s step) i)) s.me
+    (keep3 (IsSnapshot s.merger.floor (M s step Clock)) a.here b.here c.here now)
+    (λ i ne. keep3 (IsSnapshot s.merger.floor (M s step Clock)) (a.other i ne) (b.other i ne) (c.other i ne)
+    (snapshot_more s.merger.floor (s.memory Clock) (M s step Clock) (each s.z past_time_of s.views i) (each s.z past_time_of s.views i) (each s.z pinned_of s.views i) (each s.z snapshot_of s.views i) (clock_grows s step o) (omega arith) (s.law.snapshots i)))
 
 -- a step that leaves the pin and the snapshot
-snapshots_same : (s : Setting) (step : Step) → (v s).past ≤ (w s step).past → (w s step).pinned ≡ (v s).pinned → (w s step).snapshot ≡ (v s).snapshot
-    → AreSnapshots s.merger.floor (length (S s step)) (each s.z past_time_of (V s step)) (each s.z pinned_of (V s step)) (each s.z snapshot_of (V s step))
-snapshots_same s step le a b = snapshots_by s step le (keep2 (IsSnapshot s.merger.floor (length (S s step)) (w s step).past) a b
-    (snapshot_more s.merger.floor (length s.slots) (length (S s step)) (v s).past (w s step).past (v s).pinned (v s).snapshot (longer s step) le (s.law.snapshots s.me)))
+snapshots_same : (s : Setting) (step : Step) → Opens s step → (v s).past ≤ (w s step).past → (w s step).pinned ≡ (v s).pinned → (w s step).snapshot ≡ (v s).snapshot
+    → AreSnapshots s.merger.floor (M s step Clock) (each s.z past_time_of (V s step)) (each s.z pinned_of (V s step)) (each s.z snapshot_of (V s step))
+snapshots_same s step o le a b = snapshots_by s step o le (keep2 (IsSnapshot s.merger.floor (M s step Clock) (w s step).past) a b
+    (snapshot_more s.merger.floor (s.memory Clock) (M s step Clock) (v s).past (w s step).past (v s).pinned (v s).snapshot (clock_grows s step o) le (s.law.snapshots s.me)))
 
-pub snapshots_kept : (s : Setting) (step : Step) → Opens s step → AreSnapshots s.merger.floor (length (S s step)) (each s.z past_time_of (V s step)) (each s.z pinned_of (V s step)) (each s.z snapshot_of (V s step))
-snapshots_kept s Pin o = snapshots_by s Pin (omega arith) (snapshot_pinned s.merger.floor (length s.slots) (v s).past (v s).pinned (v s).snapshot (s.law.snapshots s.me))
-snapshots_kept s (Unpin end) o = snapshots_by s (Unpin end) (omega arith)
-    (snapshot_ended (past_of s.slots (v s).past) (v s) end s.merger.floor (length s.slots) (v s).past (v s).pinned (v s).snapshot o.1 (let a = end_of-past s.slots (v s).past (past_below (ground s) s.me) in omega arith) (s.law.snapshots s.me))
-snapshots_kept s (Look Clock) o = snapshots_by s (Look Clock) (omega arith)
-    (subst (λ (n : ℕ). IsSnapshot s.merger.floor (length s.slots) (v s).past (v s).pinned (timed_by (v s).snapshot n)) (sym s.law.clock) (snapshot_timed s.merger.floor (length s.slots) (v s).past (v s).pinned (v s).snapshot (floor_below (ground s)) (s.law.snapshots s.me)))
-snapshots_kept s (Note b) o = snapshots_by s (Note b) (omega arith) (s.law.pin_clocks s.me b o.2, o.1)
-snapshots_kept s CloseSnapshot o = snapshots_by s CloseSnapshot (omega arith) tt
-snapshots_kept s (Fill Key n) o = snapshots_same s (Fill Key n) (omega arith) refl refl
-snapshots_kept s (RaiseFront t) o = snapshots_same s (RaiseFront t) (omega arith) refl refl
-snapshots_kept s step o = snapshots_same s step (omega arith) refl refl
+pub snapshots_kept : (s : Setting) (step : Step) → Opens s step → AreSnapshots s.merger.floor (M s step Clock) (each s.z past_time_of (V s step)) (each s.z pinned_of (V s step)) (each s.z snapshot_of (V s step))
+snapshots_kept s Pin o = snapshots_by s Pin o (omega arith) (snapshot_pinned s.merger.floor (s.memory Clock) (v s).past (v s).pinned (v s).snapshot (s.law.snapshots s.me))
+snapshots_kept s (Unpin end) o = snapshots_by s (Unpin end) o (omega arith)
+    (snapshot_ended (past_of s.slots (v s).past) (v s) end s.merger.floor (s.memory Clock) (v s).past (v s).pinned (v s).snapshot o.1 (let a = end_of-past s.slots (v s).past (past_below (ground s) s.me) in omega arith) (s.law.snapshots s.me))
+snapshots_kept s (Look Clock) o = snapshots_by s (Look Clock) o (omega arith)
+    (snapshot_timed s.merger.floor (s.memory Clock) (v s).past (v s).pinned (v s).snapshot (floor_below (ground s)) (s.law.snapshots s.me))
+snapshots_kept s (Note b) o = snapshots_by s (Note b) o (omega arith) (s.law.pin_clocks s.me b o.2, o.1)
+snapshots_kept s CloseSnapshot o = snapshots_by s CloseSnapshot o (omega arith) tt
+snapshots_kept s (Fill Key n) o = snapshots_same s (Fill Key n) o (omega arith) refl refl
+snapshots_kept s (RaiseFront t) o = snapshots_same s (RaiseFront t) o (omega arith) refl refl
+snapshots_kept s step o = snapshots_same s step o (omega arith) refl refl
 
 -- ---- the merger's round
 
@@ -182,7 +180,7 @@ passed_absent end (Some m) = tt
 pub passed_kept : (s : Setting) (step : Step) → Opens s step → ArePassed (is_frozen s.merger.phase) s.merger.round (epoch_end s.z s.merger) (each s.z snapshot_of (V s step))
 passed_kept s (Unpin end) o = passed_by s (Unpin end) (is_frozen s.merger.phase) s.merger.round (epoch_end s.z s.merger) (λ n e. passed_ended (epoch_end s.z s.merger) n (v s).snapshot) s.law.passed
 passed_kept s (Look Clock) o = passed_by s (Look Clock) (is_frozen s.merger.phase) s.merger.round (epoch_end s.z s.merger)
-    (λ n e. passed_timed (epoch_end s.z s.merger) (s.memory Clock) n (v s).snapshot (let a = frozen_clock (ground s) e in let b = s.law.clock in omega arith)) s.law.passed
+    (λ n e. passed_timed (epoch_end s.z s.merger) (s.memory Clock) n (v s).snapshot (frozen_clock (ground s) e)) s.law.passed
 passed_kept s (Note b) o = passed_by s (Note b) (is_frozen s.merger.phase) s.merger.round (epoch_end s.z s.merger) (λ n e h. passed_noted (epoch_end s.z s.merger) n b) s.law.passed
 passed_kept s CloseSnapshot o = passed_by s CloseSnapshot (is_frozen s.merger.phase) s.merger.round (epoch_end s.z s.merger) (λ n e h. passed_absent (epoch_end s.z s.merger) n) s.law.passed
 passed_kept s (Fill Key n) o = passed_by s (Fill Key n) (is_frozen s.merger.phase) s.merger.round (epoch_end s.z s.merger) (λ n e h. h) s.law.passed
@@ -202,7 +200,7 @@ module _ (g : Ground) (i : ℕ) (inside : i < g.z.seats) (frozen : is_frozen g.m
   -- the seat looked at is passed by what its word notes
   passed_here : IsPassed end (noted_time snap_word) (snapshots i)
   passed_here = subst (λ (n : ℕ). IsPassed end (noted_time n) (snapshots i)) (sym (g.law.notes i inside))
-      (passed_looked g.merger.floor (length g.slots) (each g.z past_time_of g.views i) end (each g.z pinned_of g.views i) (snapshots i) (g.law.snapshots i))
+      (passed_looked g.merger.floor (g.memory Clock) (each g.z past_time_of g.views i) end (each g.z pinned_of g.views i) (snapshots i) (g.law.snapshots i))
 
   -- and the seats before it as they were
   passed_on : (round : Option Round) → ArePassed true round end snapshots → ArePassed true (round_on round i snap_word) end snapshots
@@ -276,8 +274,8 @@ no_snapshot z (y ∷ ys) (suc i) le = no_snapshot z ys i (omega arith)
 
 -- a whole round passed every seat
 raised_by : (g : Ground) (round : Option Round) → ArePassed true round (epoch_end g.z g.merger) (each g.z snapshot_of g.views) → (i : ℕ) → IsAtLeast (floor_by g.z g.merger round) (each g.z snapshot_of g.views i)
-raised_by g None h i = floor_of g.merger.floor (length g.slots) (each g.z past_time_of g.views i) (each g.z pinned_of g.views i) (each g.z snapshot_of g.views i) (g.law.snapshots i)
-raised_by g (Some r) h i = let now = floor_of g.merger.floor (length g.slots) (each g.z past_time_of g.views i) (each g.z pinned_of g.views i) (each g.z snapshot_of g.views i) (g.law.snapshots i) in
+raised_by g None h i = floor_of g.merger.floor (g.memory Clock) (each g.z past_time_of g.views i) (each g.z pinned_of g.views i) (each g.z snapshot_of g.views i) (g.law.snapshots i)
+raised_by g (Some r) h i = let now = floor_of g.merger.floor (g.memory Clock) (each g.z past_time_of g.views i) (each g.z pinned_of g.views i) (each g.z snapshot_of g.views i) (g.law.snapshots i) in
     by_test (λ b. IsAtLeast (cond b (max g.merger.floor (lesser (epoch_end g.z g.merger) r.least)) g.merger.floor) (each g.z snapshot_of g.views i)) r.next g.z.seats
     (λ whole. elim (cases_lt i g.z.seats) [
       | inl lt ↦ raised_passed g.merger.floor (epoch_end g.z g.merger) r.least (each g.z snapshot_of g.views i) (h refl i (omega arith)) now
@@ -290,15 +288,17 @@ snapshots_looked : (g : Ground) (i : ℕ) → OpensTo g (Look (Snap i)) → (j :
 snapshots_looked g i o j = let n = g.memory (Snap i) in let y = each g.z snapshot_of g.views j in
     by_bool (λ b. is_frozen g.merger.phase ≡ b → IsAtLeast (cond b (floor_by g.z g.merger (cond b (round_by g.merger.round i n) g.merger.round)) g.merger.floor) y) (is_frozen g.merger.phase)
     (λ _ e. raised_by g (round_by g.merger.round i n) (round_passed g i (ltb-true i g.z.seats o) e) j)
-    (λ _ e. floor_of g.merger.floor (length g.slots) (each g.z past_time_of g.views j) (each g.z pinned_of g.views j) y (g.law.snapshots j)) refl
+    (λ _ e. floor_of g.merger.floor (g.memory Clock) (each g.z past_time_of g.views j) (each g.z pinned_of g.views j) y (g.law.snapshots j)) refl
 
 -- a step that leaves the floor
-snapshots_stay : (g : Ground) (step : Step) → AreSnapshots g.merger.floor (length (slots' g step)) (each g.z past_time_of g.views) (each g.z pinned_of g.views) (each g.z snapshot_of g.views)
-snapshots_stay g step i = let past = each g.z past_time_of g.views i in snapshot_more g.merger.floor (length g.slots) (length (slots' g step)) past past (each g.z pinned_of g.views i) (each g.z snapshot_of g.views i) (longer' g step) (omega arith) (g.law.snapshots i)
+snapshots_stay : (g : Ground) (step : Step) → OpensTo g step → AreSnapshots g.merger.floor (memory' g step Clock) (each g.z past_time_of g.views) (each g.z pinned_of g.views) (each g.z snapshot_of g.views)
+snapshots_stay g step o i = let past = each g.z past_time_of g.views i in snapshot_more g.merger.floor (g.memory Clock) (memory' g step Clock) past past (each g.z pinned_of g.views i) (each g.z snapshot_of g.views i) (clock_grows' g step o) (omega arith) (g.law.snapshots i)
 
-pub snapshots_merged : (g : Ground) (step : Step) → OpensTo g step → AreSnapshots (merger' g step).floor (length (slots' g step)) (each g.z past_time_of g.views) (each g.z pinned_of g.views) (each g.z snapshot_of g.views)
-snapshots_merged g (Look (Snap i)) o = λ j. snapshot_raised g.merger.floor (merger' g (Look (Snap i))).floor (length g.slots) (each g.z past_time_of g.views j) (each g.z pinned_of g.views j) (each g.z snapshot_of g.views j) (snapshots_looked g i o j) (g.law.snapshots j)
-snapshots_merged g ExtendClock o = snapshots_stay g ExtendClock
+pub snapshots_merged : (g : Ground) (step : Step) → OpensTo g step → AreSnapshots (merger' g step).floor (memory' g step Clock) (each g.z past_time_of g.views) (each g.z pinned_of g.views) (each g.z snapshot_of g.views)
+snapshots_merged g (Look (Snap i)) o = λ j. snapshot_raised g.merger.floor (merger' g (Look (Snap i))).floor (g.memory Clock) (each g.z past_time_of g.views j) (each g.z pinned_of g.views j) (each g.z snapshot_of g.views j) (snapshots_looked g i o j) (g.law.snapshots j)
+snapshots_merged g (Look word) o = snapshots_stay g (Look word) o
+snapshots_merged g (WriteRun word n) o = snapshots_stay g (WriteRun word n) o
+snapshots_merged g ExtendClock o = snapshots_stay g ExtendClock o
 snapshots_merged g step o = g.law.snapshots
 
 -- ---- the floors

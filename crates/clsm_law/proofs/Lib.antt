@@ -38,9 +38,17 @@ pub mod KeptSnapshots
 pub mod KeptNotes
 pub mod KeptRising
 pub mod KeptShort
+pub mod BatchFacts
+pub mod PlainOpens
+pub mod KeptStaging
+pub mod KeptBatches
+pub mod Taken
 pub mod Kept
+pub mod Steps
 pub mod Stepped
 pub mod MachineSteps
+pub mod StepsKeep
+pub mod Lifting
 pub mod SteppedKeeps
 pub mod Keeping
 pub mod ReadingChains

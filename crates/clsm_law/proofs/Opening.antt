@@ -13,8 +13,9 @@ use Rattle.clsm_law.specs.Views.{idle}
 use Rattle.clsm_law.specs.Relation.{open_time}
 use Rattle.clsm_law.specs.Merging.{opening, unseen}
 use Rattle.clsm_law.specs.Worlds.{view_at, outcome_at, past_of, history_of, runs_of}
-use Rattle.clsm_law.specs.Law.{LawOf, IsSnapshot, note_of, each, mode_of, drawn_of, holders, met_of, low_of, high_of, hold_limit_of, fresh_clock_of, hold_clock_of, clock_of, pin_clock_of, past_time_of, reached_of, pin_of, held_of}
-use Rattle.clsm_model.specs.Seats.{IsRightRecord, IsStandingRecord, IsRising}
+use Rattle.clsm_law.specs.Law.{LawOf, IsSnapshot, taken_by, note_of, each, mode_of, drawn_of, holders, met_of, low_of, high_of, hold_limit_of, fresh_clock_of, hold_clock_of, clock_of, pin_clock_of, past_time_of, reached_of, pin_of, held_of}
+use Rattle.clsm_law.specs.Batches.{IsStaging}
+use Rattle.clsm_model.specs.Seats.{IsRightRecord, IsStandingRecord, IsUncutRecord, IsListedRecord, FitsRecord, IsRising}
 use Rattle.clsm_law.specs.Machine.{IsLawful, opened}
 use Rattle.clsm_law.proofs.Layouts.{memory-set, memory-zeros}
 
@@ -39,6 +40,10 @@ module _ (z : Layout) where
   no_holders zero = refl
   no_holders (suc n) = let e = no_holders n in let f = sum_by-cons holders (idle z) (vs n) in omega arith
 
+  no_taken : (n : ℕ) → sum_by taken_by (vs n) ≡ 0
+  no_taken zero = refl
+  no_taken (suc n) = let e = no_taken n in let f = sum_by-cons taken_by (idle z) (vs n) in omega arith
+
   empty_runs : IsContent (history_of []) (runs_of fresh 0) 0 0
   empty_runs = record {
     exact = λ k s a b. let none : s ≡ 0 = omega arith in rw none refl;
@@ -52,12 +57,12 @@ module _ (z : Layout) where
   all_idle : (P : View → Type 0) → P (idle z) → (n i : ℕ) → P (view_at z (vs n) i)
   all_idle P h n i = subst P (sym (idle_at n i)) h
 
-  pub opening_law : IsLayout z → LawOf z fresh (vs z.seats) (opening z) [] (λ r s. []) (λ r. [])
+  pub opening_law : IsLayout z → LawOf z fresh (vs z.seats) (opening z) [] [] (λ r s. []) (λ r. [])
   opening_law sound = let n = z.seats in record {
     seated = length-replicate n (idle z);
     lock = no_holders n;
     locked_out = λ e. absurd cc;
-    callers = λ i e. let h = ap mode_of (idle_at n i) in absurd (cc (h, e));
+    sole = λ i j e. let h = ap mode_of (idle_at n i) in absurd (cc (h, e));
     merger = record {
       seats = length-replicate n unseen;
       some_merged = λ e. absurd cc;
@@ -68,7 +73,7 @@ module _ (z : Layout) where
       at_end = λ e. absurd cc;
       top = λ e. absurd cc;
     };
-    clock = refl;
+    clock = let a = no_taken n in omega arith;
     limit = omega arith;
     begun = omega arith;
     bounded = omega arith;
@@ -121,10 +126,23 @@ module _ (z : Layout) where
     former_runs = λ e. absurd cc;
     right = λ i. all_idle (λ (v : View). AllByRecursion (IsRightRecord (past_of [] v.past)) v.calls) tt n i;
     stand = λ i. all_idle (λ (v : View). AllByRecursion (IsStandingRecord (outcome_at []) i) v.calls) tt n i;
-    recorded = λ t i key written e. absurd cc;
+    recorded = λ t i key written lt e. absurd cc;
     rising = λ i. all_idle (λ (v : View). IsRising v.calls v.due (open_time v.snapshot)) (record { rises = tt; due_is = omega arith; open_is = refl }) n i;
     dues = λ i. all_idle (λ (v : View). v.due ≤ 0) (omega arith) n i;
     own_dues = λ i t e. absurd (none_at drawn_of n i t refl e);
+    front_clock = omega arith;
+    past_clock = λ i. all_idle (λ (v : View). v.past ≤ 0) (omega arith) n i;
+    reached_clock = λ i. all_idle (λ (v : View). v.reached ≤ 0) (omega arith) n i;
+    staging = λ i. all_idle (λ (v : View). IsStaging 0 i (outcome_at []) v.mode v.drawn v.staged v.committed v.hold_clock) (record { shut = λ e. refl; own = λ e. absurd cc; same = λ e. absurd cc; members = λ k lt. absurd (omega arith) }) n i;
+    in_turn = omega arith;
+    written = tt;
+    uncut_front = tt;
+    uncut_pins = λ i s e. tt;
+    uncut_snapshots = λ i s e. tt;
+    uncut_pasts = λ i. tt;
+    uncut = λ i. all_idle (λ (v : View). AllByRecursion (IsUncutRecord []) v.calls) tt n i;
+    listed = λ i. all_idle (λ (v : View). AllByRecursion (IsListedRecord []) v.calls) tt n i;
+    fitting = λ i. all_idle (λ (v : View). AllByRecursion (FitsRecord z.cells) v.calls) tt n i;
   }
 
   -- so the opening world is lawful
@@ -134,7 +152,7 @@ module _ (z : Layout) where
     size = length-set (replicate (size_of z) 0) (index_of z Limit) z.cells ∙ length-replicate (size_of z) 0;
     chains = λ r s. [];
     orders = λ r. [];
-    law = subst (λ (m : Memory). LawOf z m (vs z.seats) (opening z) [] (λ r s. []) (λ r. []))
+    law = subst (λ (m : Memory). LawOf z m (vs z.seats) (opening z) [] [] (λ r s. []) (λ r. []))
         (sym (memory-set z (replicate (size_of z) 0) Limit z.cells refl (length-replicate (size_of z) 0) ∙ ap (λ (m : Memory). put m Limit z.cells) (memory-zeros z (size_of z))))
         (opening_law sound);
   }

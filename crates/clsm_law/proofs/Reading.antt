@@ -20,7 +20,8 @@ use Rattle.clsm_law.specs.Merging.{is_retired, is_all_quiet}
 use Rattle.clsm_law.specs.Worlds.{outcome_at, history_of, runs_of}
 use Rattle.clsm_law.specs.Law.{In, Leads, Rising, Shows, AreRuns, IsSnapshot, IsRetiredFor, each, pin_of, held_of, snapshot_of, past_time_of, place_of_time, is_held_back, first_shown}
 use Rattle.clsm_law.specs.Reading.{write_at, newest_among, chain_of, newest_in, left_or, read, AnswersFrom, SnapshotsRead, HoldersRead, IsWalkOf, OrdersRead}
-use Rattle.clsm_law.specs.Machine.{WorldState, IsLawful}
+use Rattle.clsm_law.specs.declared.word.Word.TheVariants.{Clock}
+use Rattle.clsm_law.specs.Machine.{WorldState, IsLawful, memory_of}
 use Rattle.clsm_law.proofs.Cases.{by_test}
 use Rattle.clsm_law.proofs.Times.{region_of_epoch}
 use Rattle.clsm_law.proofs.Histories.{settle, slot_of-history}
@@ -186,7 +187,7 @@ open_within floor clock past s pinned (Open b t) is e = let same : t ≡ s = ap 
 pub snapshots_read : (w : WorldState) → IsLawful w → SnapshotsRead w
 snapshots_read w l i s timed key =
     let g = lawful_ground w l in
-    let within = open_within w.merger.floor (length w.slots) _ s _ _ (l.law.snapshots i) timed in
+    let within = open_within w.merger.floor (memory_of w Clock) _ s _ _ (l.law.snapshots i) timed in
     let low = within.0 in
     let high = within.1 in
     let floor = l.law.floors.merged in
@@ -219,7 +220,7 @@ holders_read w l i component s holds at key =
     let past = past_below g i in
     ⊎_elim
     (λ (timed : open_time (each w.layout snapshot_of w.views i) ≡ Some s).
-    let within = open_within w.merger.floor (length w.slots) _ s _ _ (l.law.snapshots i) timed in
+    let within = open_within w.merger.floor (memory_of w Clock) _ s _ _ (l.law.snapshots i) timed in
     let low = within.0 in
     let high = within.1 in
     let floor = l.law.floors.merged in

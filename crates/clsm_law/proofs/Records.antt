@@ -1,15 +1,17 @@
 -- A seat's records by themselves: one record more, what a read's end adds, and how far the due
 -- moves.
-use Rattle.std.proofs.Common.{◌≡◌, ◌≢◌, ℕ, ◌<◌, ◌≤◌, true, false, cond, List, [], ◌∷◌, ◌++◌, length, set, sym, refl, subst, arith, inl, inr, Option, Some, None, get_or-set_other, get_or-set_same}
+use Rattle.std.proofs.Common.{◌≡◌, ◌≢◌, ℕ, zero, suc, ◌+◌, ◌-◌, ◌<◌, ◌≤◌, ◌==◌, Bool, true, false, cond, List, [], ◌∷◌, ◌++◌, length, set, sym, refl, ap, ◌∙◌, subst, eq-eqb, arith, inl, inr, Option, Some, None, get_or-set_other, get_or-set_same}
 use Rattle.std.specs.List.{AllByRecursion}
 use Rattle.clsm_model.specs.declared.slot.Slot.{Slot}
-use Rattle.clsm_model.specs.declared.slot.Slot.TheVariants.{Wrote}
+use Rattle.clsm_model.specs.declared.slot.Slot.TheVariants.{Nothing, Wrote}
+use Rattle.std.proofs.lemmas.Bool.{cases_lt, le-leb, lt-leb}
+use Rattle.clsm_model.specs.declared.slot.Change.{Change}
 use Rattle.clsm_model.specs.declared.slot.Change.TheVariants.{Keep, Set, Remove as Erase}
 use Rattle.clsm_model.specs.declared.record.Deed.{Deed}
-use Rattle.clsm_model.specs.declared.record.Deed.TheVariants.{Put, Remove, Rmw, Snapshot}
+use Rattle.clsm_model.specs.declared.record.Deed.TheVariants.{Put, Remove, Rmw, Snapshot, Batch as Group}
 use Rattle.clsm_model.specs.declared.record.CallRecord.{CallRecord}
 use Rattle.clsm_model.specs.History.{History, end_of}
-use Rattle.clsm_model.specs.Right.{IsRight, write_by}
+use Rattle.clsm_model.specs.Right.{IsRight, Member, change_by, member_write, write_at, write_by}
 use Rattle.clsm_law.specs.declared.layout.Layout.{Layout}
 use Rattle.clsm_law.specs.declared.step.End.{End}
 use Rattle.clsm_law.specs.declared.step.End.TheVariants.{Neither, Meeting, Recorded}
@@ -17,9 +19,10 @@ use Rattle.clsm_law.specs.declared.view.View.{View}
 use Rattle.clsm_law.specs.declared.view.SnapshotState.{SnapshotState}
 use Rattle.clsm_law.specs.declared.view.SnapshotState.TheVariants.{Noted, Timed}
 use Rattle.clsm_law.specs.Views.{idle, or_zero, SaysWrite}
-use Rattle.clsm_law.specs.Relation.{IsReadBelow, timed, time_of_read, is_old, IsRightAt, IsMetAt, IsEndingWith, ended_calls, ended_due}
+use Rattle.clsm_law.specs.Relation.{IsReadBelow, member_of, timed, time_of_read, is_old, IsRightAt, IsMetAt, IsEndingWith, ended_calls, ended_due}
 use Rattle.clsm_law.specs.Worlds.{view_at}
 use Rattle.clsm_model.specs.Seats.{IsRightDeed, IsRightRecord, StandsAs, IsStandingRecord, HasWrite}
+use Rattle.clsm_law.proofs.Cases.{by_test}
 use Rattle.clsm_law.proofs.Frames.{at_each}
 use Rattle.clsm_law.proofs.Histories.{GoesOn, IsRightDeed-right, IsRight-goes_on}
 
@@ -46,9 +49,9 @@ has_before i t write (x ∷ xs) ys (inl here) = inl here
 has_before i t write (x ∷ xs) ys (inr there) = inr (has_before i t write xs ys there)
 
 -- and the last record may be it
-pub has_last : (i t : ℕ) (write : Slot) (xs : List CallRecord) (r : CallRecord) → r.time ≡ t → write_by i r.deed ≡ Some write → HasWrite i t write (xs ++ r ∷ [])
-has_last i t write [] r at is = inl (at, is)
-has_last i t write (x ∷ xs) r at is = inr (has_last i t write xs r at is)
+pub has_last : (i t : ℕ) (write : Slot) (xs : List CallRecord) (r : CallRecord) → write_at i r.time r.deed t ≡ Some write → HasWrite i t write (xs ++ r ∷ [])
+has_last i t write [] r is = inl is
+has_last i t write (x ∷ xs) r is = inr (has_last i t write xs r is)
 
 -- ---- what stands
 
@@ -63,7 +66,7 @@ stands_stays (Some write) slot slot' stays h = stays write h
 -- records that stand go on standing where decided slots stay
 pub all_stand_stay : (slot slot' : ℕ → Option Slot) (i : ℕ) (calls : List CallRecord) → ((t : ℕ) (b : Slot) → slot t ≡ Some b → slot' t ≡ Some b) → AllByRecursion (IsStandingRecord slot i) calls → AllByRecursion (IsStandingRecord slot' i) calls
 all_stand_stay slot slot' i [] stays all = tt
-all_stand_stay slot slot' i (r ∷ rs) stays all = ((all.0.0, stands_stays (write_by i r.deed) (slot r.time) (slot' r.time) (stays r.time) all.0.1), all_stand_stay slot slot' i rs stays all.1)
+all_stand_stay slot slot' i (r ∷ rs) stays all = ((all.0.0, λ t. stands_stays (write_at i r.time r.deed t) (slot t) (slot' t) (stays t) (all.0.1 t)), all_stand_stay slot slot' i rs stays all.1)
 
 -- ---- a deed that writes
 
@@ -73,6 +76,79 @@ decided_right h h' u t (Put key written) on says below = tt
 decided_right h h' u t (Remove key) on says below = tt
 decided_right h h' u t (Rmw key old change) on says below = IsRight-goes_on h h' t (Rmw key old change) on below.1
 decided_right h h' u t deed on says below = absurd says
+
+-- a deed that writes once writes at its time
+pub writes_once : (u : View) (i s t : ℕ) (deed : Deed) → SaysWrite u (write_by 0 deed) → write_at i s deed t ≡ cond (s == t) (write_by i deed) None
+writes_once u i s t (Put key written) says = refl
+writes_once u i s t (Remove key) says = refl
+writes_once u i s t (Rmw key old change) says = refl
+writes_once u i s t deed says = absurd says
+
+-- so it stands where its write is the slot
+pub once_stands : (u : View) (i s : ℕ) (deed : Deed) (slot : ℕ → Option Slot) → SaysWrite u (write_by 0 deed) → slot s ≡ write_by i deed → (t : ℕ) → StandsAs (write_at i s deed t) (slot t)
+once_stands u i s deed slot says here t = subst (λ (o : Option Slot). StandsAs o (slot t)) (sym (writes_once u i s t deed says))
+    (by_test (λ b. StandsAs (cond b (write_by i deed) None) (slot t)) s t (λ e. stands_itself (write_by i deed) (slot t) (ap slot (sym e) ∙ here)) (λ _. tt))
+
+-- and there its record has it
+pub once_written : (u : View) (i s : ℕ) (deed : Deed) (write : Slot) → SaysWrite u (write_by 0 deed) → write_by i deed ≡ Some write → write_at i s deed s ≡ Some write
+once_written u i s deed write says is = writes_once u i s s deed says ∙ ap (λ b. cond b (write_by i deed) None) (eq-eqb s s refl) ∙ is
+
+-- ---- members of a batch
+
+-- behind the members there is no write
+pub member_past : (i : ℕ) (ms : List Member) (n : ℕ) → length ms ≤ n → member_write i ms n ≡ None
+member_past i [] n le = refl
+member_past i (m ∷ ms) zero le = absurd (omega arith)
+member_past i (m ∷ ms) (suc n) le = member_past i ms n (omega arith)
+
+-- the write of a change is the seat's, and a write
+change_writer : (i j key k : ℕ) (written : Option (List ℕ)) (change : Change) → change_by i key change ≡ Some (Wrote j k written) → i ≡ j
+change_writer i j key k written Keep e = absurd cc
+change_writer i j key k written (Set words) e = cc
+change_writer i j key k written Erase e = cc
+
+change_writes : (i key : ℕ) (change : Change) → change_by i key change ≢ Some Nothing
+change_writes i key Keep e = absurd cc
+change_writes i key (Set words) e = absurd cc
+change_writes i key Erase e = absurd cc
+
+pub member_writer : (i j k : ℕ) (written : Option (List ℕ)) (ms : List Member) (n : ℕ) → member_write i ms n ≡ Some (Wrote j k written) → i ≡ j
+member_writer i j k written [] n e = absurd cc
+member_writer i j k written (m ∷ ms) zero e = change_writer i j m.0 k written m.1 e
+member_writer i j k written (m ∷ ms) (suc n) e = member_writer i j k written ms n e
+
+pub member_writes : (i : ℕ) (ms : List Member) (n : ℕ) → member_write i ms n ≢ Some Nothing
+member_writes i [] n e = absurd cc
+member_writes i (m ∷ ms) zero e = change_writes i m.0 m.1 e
+member_writes i (m ∷ ms) (suc n) e = member_writes i ms n e
+
+-- one member more
+pub member_before : (i : ℕ) (ms more : List Member) (n : ℕ) → n < length ms → member_write i (ms ++ more) n ≡ member_write i ms n
+member_before i [] more n lt = absurd (omega arith)
+member_before i (m ∷ ms) more zero lt = refl
+member_before i (m ∷ ms) more (suc n) lt = member_before i ms more n (omega arith)
+
+pub member_last : (u : View) (i : ℕ) (ms : List Member) (deed : Deed) (n : ℕ) → SaysWrite u (write_by 0 deed) → n ≡ length ms → member_write i (ms ++ member_of deed) n ≡ write_by i deed
+member_last u i [] (Put key written) zero says e = refl
+member_last u i [] (Remove key) zero says e = refl
+member_last u i [] (Rmw key old change) zero says e = refl
+member_last u i [] deed zero says e = absurd says
+member_last u i [] deed (suc n) says e = absurd (omega arith)
+member_last u i (m ∷ ms) deed zero says e = absurd (omega arith)
+member_last u i (m ∷ ms) deed (suc n) says e = member_last u i ms deed n says (omega arith)
+
+-- the writes of a batch at its times
+pub batch_at : (i c t : ℕ) (ms : List Member) → c ≤ t → write_at i c (Group ms) t ≡ member_write i ms (t - c)
+batch_at i c t ms le = ap (λ b. cond b (member_write i ms (t - c)) None) (le-leb c t le)
+
+pub batch_stands : (i c : ℕ) (ms : List Member) (slot : ℕ → Option Slot) → ((n : ℕ) → n < length ms → slot (c + n) ≡ member_write i ms n) → (t : ℕ) → StandsAs (write_at i c (Group ms) t) (slot t)
+batch_stands i c ms slot stand t = elim (cases_lt t c) [
+  | inl lt ↦ subst (λ (o : Option Slot). StandsAs o (slot t)) (sym (ap (λ b. cond b (member_write i ms (t - c)) None) (lt-leb c t lt))) tt
+  | inr le ↦ subst (λ (o : Option Slot). StandsAs o (slot t)) (sym (batch_at i c t ms le)) (elim (cases_lt (t - c) (length ms)) [
+    | inl inside ↦ let back : c + (t - c) ≡ t = omega arith in stands_itself (member_write i ms (t - c)) (slot t) (ap slot (sym back) ∙ stand (t - c) inside)
+    | inr past ↦ subst (λ (o : Option Slot). StandsAs o (slot t)) (sym (member_past i ms (t - c) past)) tt
+  ])
+]
 
 -- the seat that a deed's write names is the seat that does it
 pub writer_of : (i j key : ℕ) (written : Option (List ℕ)) (deed : Deed) → write_by i deed ≡ Some (Wrote j key written) → i ≡ j
@@ -91,13 +167,18 @@ read_right h u deed None r = absurd r
 read_right h u deed (Some s) r = IsRightDeed-right h s deed r.1
 
 -- such a deed writes nothing
-read_stands : (h : History) (i : ℕ) (u : View) (slot : Option Slot) (deed : Deed) → IsRightAt h u deed (time_of_read u deed) → StandsAs (write_by i deed) slot
-read_stands h i u slot (Put key written) r = absurd r
-read_stands h i u slot (Remove key) r = absurd r
-read_stands h i u slot (Rmw key old Keep) r = tt
-read_stands h i u slot (Rmw key old (Set written)) r = absurd r
-read_stands h i u slot (Rmw key old Erase) r = absurd r
-read_stands h i u slot deed r = tt
+pub nothing_stands : (b : Bool) (slot : Option Slot) → StandsAs (cond b None None) slot
+nothing_stands true slot = tt
+nothing_stands false slot = tt
+
+read_stands : (h : History) (i : ℕ) (u : View) (slot : Option Slot) (s t : ℕ) (deed : Deed) → IsRightAt h u deed (time_of_read u deed) → StandsAs (write_at i s deed t) slot
+read_stands h i u slot s t (Put key written) r = absurd r
+read_stands h i u slot s t (Remove key) r = absurd r
+read_stands h i u slot s t (Rmw key old Keep) r = nothing_stands (s == t) slot
+read_stands h i u slot s t (Rmw key old (Set written)) r = absurd r
+read_stands h i u slot s t (Rmw key old Erase) r = absurd r
+read_stands h i u slot s t (Group members) r = absurd r
+read_stands h i u slot s t deed r = nothing_stands (s == t) slot
 
 module _ (h : History) (i : ℕ) (u : View) where
   -- the records with which a read ends are right
@@ -117,12 +198,12 @@ module _ (h : History) (i : ℕ) (u : View) where
   ended_stands slot (Noted b) end p = absurd p
   ended_stands slot (Timed b s) Neither p = absurd p
   ended_stands slot (Timed b s) Meeting p = absurd p
-  ended_stands slot (Timed b s) (Recorded Snapshot) p = ((refl, tt), tt)
+  ended_stands slot (Timed b s) (Recorded Snapshot) p = ((refl, λ t. nothing_stands (or_zero (timed u.snapshot) == t) (slot t)), tt)
   ended_stands slot (Timed b s) (Recorded deed) p = absurd p
   ended_stands slot n Neither p = tt
   ended_stands slot n Meeting p = tt
   ended_stands slot n (Recorded Snapshot) p = absurd p
-  ended_stands slot n (Recorded deed) p = ((refl, read_stands h i u (slot (or_zero (time_of_read u deed))) deed p), tt)
+  ended_stands slot n (Recorded deed) p = ((refl, λ t. read_stands h i u (slot t) (or_zero (time_of_read u deed)) t deed p), tt)
 
   -- the due after a read moves no further than the past
   module _ (bound : ℕ) (due : u.due ≤ bound) (past : u.past ≤ bound) (reach : end_of h ≤ bound) where

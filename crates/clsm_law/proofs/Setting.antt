@@ -1,25 +1,31 @@
 -- A lawful world and a step of one caller's seat; and a lawful world and a step of the merger.
-use Rattle.std.proofs.Common.{◌≡◌, ◌≢◌, ℕ, zero, suc, ◌+◌, ◌-◌, ◌*◌, ◌<◌, ◌≤◌, ◌||◌, ◌&&◌, not, Bool, true, false, cond, List, [], ◌∷◌, length, set, sym, refl, ap, ◌∙◌, subst, arith, inl, inr, ⊎_elim, Option, Some, None}
+use Rattle.std.proofs.Common.{◌≡◌, ◌≢◌, ℕ, zero, suc, ◌+◌, ◌-◌, ◌*◌, ◌<◌, ◌≤◌, ◌||◌, ◌&&◌, not, Bool, true, false, cond, List, [], ◌∷◌, length, set, sym, refl, ap, ◌∙◌, subst, arith, inl, inr, ⊎_elim, Option, Some, None, sum_by, is_some}
+use mathlib.Core.Logic.{dite}
+use native.Mathlib.Decide.{ℕ_discrete}
 use Rattle.std.proofs.lemmas.Bool.{cases_lt}
+use Rattle.std.proofs.lemmas.List.Sums.{sum_by-cons}
+use Rattle.clsm_model.specs.declared.batch.Batch.{Batch}
 use Rattle.clsm_model.specs.declared.slot.Slot.{Slot}
 use Rattle.clsm_model.specs.declared.slot.Slot.TheVariants.{Nothing, Wrote}
 use Rattle.clsm_law.specs.declared.layout.Layout.{Layout}
 use Rattle.clsm_law.specs.declared.word.Word.{Word}
-use Rattle.clsm_law.specs.declared.word.Word.TheVariants.{Limit, State}
+use Rattle.clsm_law.specs.declared.word.Word.TheVariants.{Clock, Limit, State}
 use Rattle.clsm_law.specs.declared.step.Step.{Step}
-use Rattle.clsm_law.specs.declared.step.Step.TheVariants.{Look}
+use Rattle.clsm_law.specs.declared.step.Step.TheVariants.{Look, Pad, Stage}
 use Rattle.clsm_law.specs.declared.view.View.{View}
+use Rattle.clsm_law.specs.declared.view.Mode.{Mode}
+use Rattle.clsm_law.specs.declared.view.Mode.TheVariants.{Free, Shared, Exclusive}
 use Rattle.clsm_law.specs.declared.merger.MergerView.{MergerView}
 use Rattle.clsm_law.specs.declared.merger.Reader.{Reader}
 use Rattle.clsm_law.specs.declared.merger.Phase.{Phase}
 use Rattle.clsm_law.specs.declared.merger.Phase.TheVariants.{Clean, Frozen, Retired}
 use Rattle.clsm_law.specs.Memory.{Memory, cell_of, put}
 use Rattle.clsm_law.specs.Layout.{IsLayout}
-use Rattle.clsm_law.specs.Views.{is_shared, or_zero, own_time}
-use Rattle.clsm_law.specs.Relation.{Chains, Orders, IsOpen, word_of, changed, view_after, slots_after, chains_after, orders_after}
+use Rattle.clsm_law.specs.Views.{is_exclusive, or_zero, own_time}
+use Rattle.clsm_law.specs.Relation.{Chains, Orders, IsOpen, word_of, changed, view_after, slots_after, batches_after, chains_after, orders_after}
 use Rattle.clsm_law.specs.Merging.{is_clean, Facts, IsOpenToMerger, word_of_merger, changed_by_merger, merger_after, slots_after_merger, chains_after_merger, orders_after_merger, is_retired, is_frozen, is_all_quiet, reader_at}
-use Rattle.clsm_law.specs.Worlds.{view_at, outcome_at, past_of, facts_of}
-use Rattle.clsm_law.specs.Law.{LawOf, Shows, each, mode_of, drawn_of, held_of, pin_of, past_time_of, IsRetiredFor, first_shown, first_live, is_held_back}
+use Rattle.clsm_law.specs.Worlds.{view_at, outcome_at, past_of, open_past, facts_of}
+use Rattle.clsm_law.specs.Law.{LawOf, Shows, each, mode_of, taken_by, drawn_of, held_of, pin_of, past_time_of, IsRetiredFor, first_shown, first_live, is_held_back}
 use Rattle.clsm_law.proofs.Frames.{put_same, past_end}
 use Rattle.clsm_law.proofs.Cases.{by_bool}
 use Rattle.clsm_law.proofs.Times.{Live}
@@ -32,9 +38,10 @@ pub record Setting : Type 0 where
   pub views : List View
   pub merger : MergerView
   pub slots : List (Option Slot)
+  pub batches : List Batch
   pub chains : Chains
   pub orders : Orders
-  pub law : LawOf z memory views merger slots chains orders
+  pub law : LawOf z memory views merger slots batches chains orders
   pub me : ℕ
   pub inside : me < length views
 
@@ -42,36 +49,50 @@ pub record Setting : Type 0 where
 abbrev pub v : Setting → View
 v s = view_at s.z s.views s.me
 
+-- the steps of which the clauses speak one by one: a stage is none of them, since it takes a time and
+-- then is a fill (`Staged`)
+abbrev pub plainly : Step → Step
+plainly (Stage t key) = Pad 0
+plainly step = step
+
 -- the word that the step finds
 abbrev pub x : Setting → Step → ℕ
-x s step = s.memory (word_of s.z s.me (v s) step)
+x s step = s.memory (word_of s.z s.me (v s) (plainly step))
 
--- after the step: the seat's view, the memory, the views, the slots, the chains, the lists
+-- after the step: the seat's view, the memory, the views, the slots, the batches, the chains, the
+-- lists
 abbrev pub w : Setting → Step → View
-w s step = view_after s.z s.me (v s) step (x s step)
+w s step = view_after s.z s.me (v s) (plainly step) (x s step)
 
 abbrev pub M : Setting → Step → Memory
-M s step = put s.memory (word_of s.z s.me (v s) step) (changed s.z (v s) step (x s step))
+M s step = put s.memory (word_of s.z s.me (v s) (plainly step)) (changed s.z (v s) (plainly step) (x s step))
 
 abbrev pub V : Setting → Step → List View
 V s step = set s.views s.me (w s step)
 
 abbrev pub S : Setting → Step → List (Option Slot)
-S s step = slots_after s.me s.slots step (x s step)
+S s step = slots_after s.me s.slots (plainly step) (x s step)
+
+abbrev pub B : Setting → Step → List Batch
+B s step = batches_after (v s) s.batches (plainly step)
 
 abbrev pub C : Setting → Step → Chains
-C s step = chains_after s.z (v s) s.chains step (x s step)
+C s step = chains_after s.z (v s) s.chains (plainly step) (x s step)
 
 abbrev pub O : Setting → Step → Orders
-O s step = orders_after s.z (v s) s.orders step (x s step)
+O s step = orders_after s.z (v s) s.orders (plainly step) (x s step)
 
--- the step is open to the seat
+-- the step is open to the seat, where no batch is in its way
 abbrev pub Opens : Setting → Step → Type 0
-Opens s step = IsOpen s.z (past_of s.slots (v s).past) (v s) step
+Opens s step = IsOpen s.z (past_of s.slots (v s).past) (v s) (plainly step)
 
 -- the seat's drawn time
 abbrev pub own : Setting → ℕ
 own s = own_time (v s)
+
+-- the step may be made: no batch is in its way either
+abbrev pub Allows : Setting → Step → Type 0
+Allows s step = IsOpen s.z (open_past s.slots s.batches (v s).past) (v s) (plainly step)
 
 pub looked_same : (s : Setting) (c : Word) → M s (Look c) ≡ s.memory
 looked_same s c = put_same s.memory c
@@ -90,12 +111,13 @@ pub record Ground : Type 0 where
   pub views : List View
   pub merger : MergerView
   pub slots : List (Option Slot)
+  pub batches : List Batch
   pub chains : Chains
   pub orders : Orders
-  pub law : LawOf z memory views merger slots chains orders
+  pub law : LawOf z memory views merger slots batches chains orders
 
 abbrev pub ground : Setting → Ground
-ground s = record { z = s.z; sound = s.sound; memory = s.memory; views = s.views; merger = s.merger; slots = s.slots; chains = s.chains; orders = s.orders; law = s.law }
+ground s = record { z = s.z; sound = s.sound; memory = s.memory; views = s.views; merger = s.merger; slots = s.slots; batches = s.batches; chains = s.chains; orders = s.orders; law = s.law }
 
 -- ---- a step of the merger
 
@@ -228,8 +250,34 @@ module _ (g : Ground) where
 
   -- no seat has drawn a time while the merger holds the lock
   pub none_drawn : g.merger.exclusive ≡ true → (i t : ℕ) → each g.z drawn_of g.views i ≢ Some t
-  none_drawn e i t d = let free = g.law.locked_out e i in let holds = g.law.holding i t d in
-      absurd (let yes : is_shared (each g.z mode_of g.views i) ≡ true = ap is_shared holds in cc)
+  none_drawn e i t d = g.law.holding i t d (g.law.locked_out e i)
+
+  -- the clock is not beyond the times that are taken
+  pub clock_below : g.memory Clock ≤ length g.slots
+  clock_below = let a = g.law.clock in omega arith
+
+  -- where no caller holds the lock exclusively no time is taken beyond it
+  pub none_taken : (views : List View) → ((i : ℕ) → each g.z mode_of views i ≢ Exclusive) → sum_by taken_by views ≡ 0
+  none_taken [] none = refl
+  none_taken (y ∷ ys) none = let a = sum_by-cons taken_by y ys in let b = none_taken ys (λ i. none (suc i)) in let c = taken_none y.mode (none 0) in omega arith
+    where
+      taken_none : (m : Mode) → m ≢ Exclusive → cond (is_exclusive m) (length y.staged + cond (is_some y.drawn) 1 0) 0 ≡ 0
+      taken_none Free ne = refl
+      taken_none Shared ne = refl
+      taken_none Exclusive ne = absurd (ne refl)
+
+  pub clock_even : ((i : ℕ) → each g.z mode_of g.views i ≢ Exclusive) → g.memory Clock ≡ length g.slots
+  clock_even none = let a = g.law.clock in let b = none_taken g.views none in omega arith
+
+  -- so it is while a caller holds the lock shared
+  pub clock_shared : (i : ℕ) → each g.z mode_of g.views i ≡ Shared → g.memory Clock ≡ length g.slots
+  clock_shared i shared = clock_even (λ j e. dite (ℕ_discrete i j)
+      (λ (same : i ≡ j). absurd (let other : each g.z mode_of g.views i ≡ Exclusive = ap (each g.z mode_of g.views) same ∙ e in cc))
+      (λ ne. absurd (let free = g.law.sole j i e ne in cc)))
+
+  -- and while the merger holds it
+  pub clock_merger : g.merger.exclusive ≡ true → g.memory Clock ≡ length g.slots
+  clock_merger held = clock_even (λ j e. absurd (let free = g.law.locked_out held j in cc))
 
   -- who holds a component holds one whose cells are shown
   pub held_shown : (i c : ℕ) → i < length g.views → each g.z held_of g.views i ≡ Some c → first_shown g.z g.merger ≤ c * g.z.cells

@@ -6,33 +6,34 @@ use Rattle.clsm_law.specs.Memory.{Memory}
 use Rattle.clsm_law.specs.Layout.{index_of, memory}
 use Rattle.clsm_law.specs.Relation.{word_of, changed, IsOpen}
 use Rattle.clsm_law.specs.Merging.{word_of_merger, changed_by_merger, IsOpenToMerger}
-use Rattle.clsm_law.specs.Worlds.{view_at, past_of, facts_of}
+use Rattle.clsm_law.specs.Worlds.{view_at, open_past, facts_of}
 use Rattle.clsm_law.specs.Law.{LawOf}
 use Rattle.clsm_law.specs.Machine.{WorldState, IsLawful, MayStep, stepped, after_seat, after_merger, memory_of}
 use Rattle.clsm_law.proofs.Layouts.{memory-set}
 use Rattle.clsm_law.proofs.WordsThere.{word_there, word_there'}
-use Rattle.clsm_law.proofs.Setting.{Setting, Ground, v, x, V, S, C, O, found, merger', slots', chains', orders'}
-use Rattle.clsm_law.proofs.Kept.{kept, kept'}
+use Rattle.clsm_law.proofs.Setting.{Setting, Ground, v, found, merger', slots', chains', orders'}
+use Rattle.clsm_law.proofs.Kept.{kept'}
+use Rattle.clsm_law.proofs.Steps.{finds, views_by, slots_by, batches_by, chains_by, orders_by, kept_by}
 
 -- the world and its seat
 abbrev pub seat_setting : (w : WorldState) (l : IsLawful w) (seat : ℕ) → seat < length w.views → Setting
-seat_setting w l seat lt = record { z = w.layout; sound = l.sound; memory = memory_of w; views = w.views; merger = w.merger; slots = w.slots; chains = l.chains; orders = l.orders; law = l.law; me = seat; inside = lt }
+seat_setting w l seat lt = record { z = w.layout; sound = l.sound; memory = memory_of w; views = w.views; merger = w.merger; slots = w.slots; batches = w.batches; chains = l.chains; orders = l.orders; law = l.law; me = seat; inside = lt }
 
 abbrev pub lawful_ground : (w : WorldState) → IsLawful w → Ground
-lawful_ground w l = record { z = w.layout; sound = l.sound; memory = memory_of w; views = w.views; merger = w.merger; slots = w.slots; chains = l.chains; orders = l.orders; law = l.law }
+lawful_ground w l = record { z = w.layout; sound = l.sound; memory = memory_of w; views = w.views; merger = w.merger; slots = w.slots; batches = w.batches; chains = l.chains; orders = l.orders; law = l.law }
 
-pub lawful_after_seat : (w : WorldState) (l : IsLawful w) (seat : ℕ) (step : Step) (lt : seat < length w.views) → IsOpen w.layout (past_of w.slots (view_at w.layout w.views seat).past) (view_at w.layout w.views seat) step → IsLawful (after_seat w seat step)
+pub lawful_after_seat : (w : WorldState) (l : IsLawful w) (seat : ℕ) (step : Step) (lt : seat < length w.views) → IsOpen w.layout (open_past w.slots w.batches (view_at w.layout w.views seat).past) (view_at w.layout w.views seat) step → IsLawful (after_seat w seat step)
 unfolding memory
 lawful_after_seat w l seat step lt o =
     let s = seat_setting w l seat lt in
     let word = word_of w.layout seat (v s) step in
-    let y = changed w.layout (v s) step (x s step) in
+    let y = changed w.layout (v s) step (finds s step) in
     record {
       sound = l.sound;
       size = length-set w.words (index_of w.layout word) y ∙ l.size;
-      chains = C s step;
-      orders = O s step;
-      law = subst (λ (m : Memory). LawOf w.layout m (V s step) w.merger (S s step) (C s step) (O s step)) (sym (memory-set w.layout w.words word y (word_there s step o) l.size)) (kept s step o);
+      chains = chains_by s step;
+      orders = orders_by s step;
+      law = subst (λ (m : Memory). LawOf w.layout m (views_by s step) w.merger (slots_by s step) (batches_by s step) (chains_by s step) (orders_by s step)) (sym (memory-set w.layout w.words word y (word_there s step o) l.size)) (kept_by s step o);
     }
 
 pub lawful_after_merger : (w : WorldState) (l : IsLawful w) (step : Step) → IsOpenToMerger w.layout (facts_of w.layout (memory_of w) w.merger w.slots) w.merger step → IsLawful (after_merger w step)
@@ -46,7 +47,7 @@ lawful_after_merger w l step o =
       size = length-set w.words (index_of w.layout word) y ∙ l.size;
       chains = chains' g step;
       orders = orders' g step;
-      law = subst (λ (m : Memory). LawOf w.layout m w.views (merger' g step) (slots' g step) (chains' g step) (orders' g step)) (sym (memory-set w.layout w.words word y (word_there' g step o) l.size)) (kept' g step o);
+      law = subst (λ (m : Memory). LawOf w.layout m w.views (merger' g step) (slots' g step) w.batches (chains' g step) (orders' g step)) (sym (memory-set w.layout w.words word y (word_there' g step o) l.size)) (kept' g step o);
     }
 
 pub lawful_after : (w : WorldState) (seat : ℕ) (step : Step) → IsLawful w → MayStep w seat step → IsLawful (stepped w seat step)

@@ -1,11 +1,13 @@
 -- The law of a world: what every open step keeps. Each clause is stated over the few functions that
 -- it names.
-use Rattle.std.specs.Prelude.{◌≡◌, ◌≢◌, ℕ, ◌+◌, ◌-◌, ◌*◌, ◌%◌, ◌<◌, ◌≤◌, ◌&&◌, ◌||◌, ◌⊎◌, Bool, true, false, not, cond, List, [], ◌∷◌, length, slice_index, slice_index_or, Option, Some, None}
+use Rattle.std.specs.Prelude.{◌≡◌, ◌≢◌, ℕ, ◌+◌, ◌-◌, ◌*◌, ◌%◌, ◌<◌, ◌≤◌, ◌&&◌, ◌||◌, ◌⊎◌, Bool, true, false, not, cond, List, [], ◌∷◌, length, slice_index, slice_index_or, Option, Some, None, is_some}
 use Rattle.std.specs.List.{AllByRecursion, sum_by}
+use Rattle.clsm_model.specs.declared.batch.Batch.{Batch}
 use Rattle.clsm_model.specs.declared.slot.Slot.{Slot}
 use Rattle.clsm_model.specs.declared.slot.Slot.TheVariants.{Nothing, Wrote}
 use Rattle.clsm_model.specs.declared.record.CallRecord.{CallRecord}
-use Rattle.clsm_model.specs.History.{History}
+use Rattle.clsm_model.specs.History.{History, IsUncut, AreInTurn}
+use Rattle.clsm_model.specs.Right.{Member}
 use Rattle.clsm_levels.specs.Content.{IsContent}
 use Rattle.clsm_levels.specs.Place.{AreWithin}
 use Rattle.clsm_law.specs.declared.layout.Layout.{Layout}
@@ -14,7 +16,7 @@ use Rattle.clsm_law.specs.declared.word.Part.{Part}
 use Rattle.clsm_law.specs.declared.word.Part.TheVariants.{Key, Length, Value, Next}
 use Rattle.clsm_law.specs.declared.view.View.{View}
 use Rattle.clsm_law.specs.declared.view.Mode.{Mode}
-use Rattle.clsm_law.specs.declared.view.Mode.TheVariants.{Shared, Exclusive}
+use Rattle.clsm_law.specs.declared.view.Mode.TheVariants.{Free, Exclusive}
 use Rattle.clsm_law.specs.declared.view.SnapshotState.{SnapshotState}
 use Rattle.clsm_law.specs.declared.view.SnapshotState.TheVariants.{Absent, Noted, Timed, Open}
 use Rattle.clsm_law.specs.declared.merger.MergerView.{MergerView}
@@ -22,10 +24,11 @@ use Rattle.clsm_law.specs.declared.merger.Round.{Round}
 use Rattle.clsm_law.specs.Codes.{exclusive_hold, last_limit}
 use Rattle.clsm_law.specs.Memory.{Memory, cell_of, region_of, link_of, key_at, room_of}
 use Rattle.clsm_law.specs.Places.{is_named, held_at}
-use Rattle.clsm_law.specs.Views.{IsShort, is_shared, length_of, words_of, state_of}
+use Rattle.clsm_law.specs.Views.{IsShort, is_shared, is_exclusive, length_of, words_of, state_of}
 use Rattle.clsm_law.specs.Relation.{Chains, Orders, Before, open_time}
 use Rattle.clsm_law.specs.Merging.{is_clean, is_frozen, is_retired, is_all_quiet, reader_at, epoch_end}
 use Rattle.clsm_model.specs.Seats.{IsRightRecord, IsStandingRecord, HasWrite, IsRising}
+use Rattle.clsm_law.specs.Batches.{AreFitting, AreListed, AreStaging, AreUncut, AreUncutNotes, AreUncutPasts, AreUncutSnapshots, IsWritten}
 use Rattle.clsm_law.specs.Worlds.{view_at, outcome_at, past_of, history_of, runs_of, are_canonical}
 
 -- ---- the functions that the clauses name
@@ -127,9 +130,22 @@ part_of v Length = v.length
 part_of v (Value j) = slice_index_or v.words j None
 part_of v Next = v.next
 
--- 1 for a seat that holds the lock shared
+-- the members of its batch that are decided and not committed
+abbrev pub staged_of : View → List Member
+staged_of v = v.staged
+
+-- it committed a batch in this hold of the lock
+abbrev pub committed_of : View → Bool
+committed_of v = v.committed
+
+-- what a seat adds to LOCK: 1 for a shared hold
 abbrev pub holders : View → ℕ
-holders v = cond (is_shared v.mode) 1 0
+holders v = cond (is_shared v.mode) 1 (cond (is_exclusive v.mode) exclusive_hold 0)
+
+-- the times from the clock on that a seat has taken for its batch: those of the members that are
+-- decided, and of the one that it writes
+abbrev pub taken_by : View → ℕ
+taken_by v = cond (is_exclusive v.mode) (length v.staged + cond (is_some v.drawn) 1 0) 0
 
 -- readers may still hold the retired component
 abbrev pub is_held_back : MergerView → Bool
@@ -172,15 +188,15 @@ AreDecidedBelow slot bound = (i t : ℕ) → t < bound i → slot t ≢ None
 
 -- while the merger holds the lock no caller does
 abbrev pub IsLockedOut : Bool → (ℕ → Mode) → Type 0
-IsLockedOut exclusive mode = exclusive ≡ true → (i : ℕ) → is_shared (mode i) ≡ false
+IsLockedOut exclusive mode = exclusive ≡ true → (i : ℕ) → mode i ≡ Free
 
--- no caller holds the lock exclusively
-abbrev pub AreCallers : (ℕ → Mode) → Type 0
-AreCallers mode = (i : ℕ) → mode i ≢ Exclusive
+-- while a caller holds the lock exclusively no other does
+abbrev pub AreSole : (ℕ → Mode) → Type 0
+AreSole mode = (i j : ℕ) → mode i ≡ Exclusive → j ≢ i → mode j ≡ Free
 
 -- who has drawn a time holds the lock
 abbrev pub AreHolding : (ℕ → Option ℕ) → (ℕ → Mode) → Type 0
-AreHolding drawn mode = (i t : ℕ) → drawn i ≡ Some t → mode i ≡ Shared
+AreHolding drawn mode = (i t : ℕ) → drawn i ≡ Some t → mode i ≢ Free
 
 -- a drawn time is of the current epoch, and undecided, or another seat cancelled it
 abbrev pub ArePending : Layout → ℕ → (ℕ → Option ℕ) → ℕ → (ℕ → Option Slot) → Type 0
@@ -316,7 +332,7 @@ AreLeading z memory drawn inserted next = (i t w : ℕ) → drawn i ≡ Some t �
 
 -- the seat holds the lock, and the place stands in the list of the current epoch
 pub record IsMember (z : Layout) (limit : ℕ) (orders : Orders) (mode : Mode) (p : ℕ) : Type 0 where
-  pub holds : mode ≡ Shared
+  pub holds : mode ≢ Free
   pub time : ℕ
   pub recent : limit ≤ time + z.cells
   pub until : time < limit
@@ -341,7 +357,7 @@ AreNotedBelow noted bound = (i x : ℕ) → noted i ≡ Some x → x ≤ bound
 
 -- the limit noted in a hold is the limit
 abbrev pub AreLimits : (ℕ → Mode) → (ℕ → Option ℕ) → ℕ → Type 0
-AreLimits mode noted limit = (i x : ℕ) → mode i ≡ Shared → noted i ≡ Some x → x ≡ limit
+AreLimits mode noted limit = (i x : ℕ) → mode i ≢ Free → noted i ≡ Some x → x ≡ limit
 
 -- PIN is the pin word that the seat knows
 abbrev pub ArePins : Layout → Memory → (ℕ → ℕ) → Type 0
@@ -440,9 +456,9 @@ AreRight past calls = (i : ℕ) → AllByRecursion (IsRightRecord (past i)) (cal
 abbrev pub AreRecordsStanding : (ℕ → Option Slot) → (ℕ → List CallRecord) → Type 0
 AreRecordsStanding slot calls = (i : ℕ) → AllByRecursion (IsStandingRecord slot i) (calls i)
 
--- each written slot is in the records of its seat
-abbrev pub AreRecorded : (ℕ → Option Slot) → (ℕ → List CallRecord) → Type 0
-AreRecorded slot calls = (t i key : ℕ) (written : Option (List ℕ)) → slot t ≡ Some (Wrote i key written) → HasWrite i t (Wrote i key written) (calls i)
+-- each written slot below the clock is in the records of its seat
+abbrev pub AreRecorded : ℕ → (ℕ → Option Slot) → (ℕ → List CallRecord) → Type 0
+AreRecorded clock slot calls = (t i key : ℕ) (written : Option (List ℕ)) → t < clock → slot t ≡ Some (Wrote i key written) → HasWrite i t (Wrote i key written) (calls i)
 
 -- each seat's times rise to its due, and its calls leave its snapshot open or closed
 abbrev pub AreRising : (ℕ → List CallRecord) → (ℕ → ℕ) → (ℕ → SnapshotState) → Type 0
@@ -458,21 +474,21 @@ AreDuesBelowOwn drawn slot due = (i t : ℕ) → drawn i ≡ Some t → slot t �
 
 -- ---- the law
 
--- the law of a world with these words, views, merger and slots, and with these chains of times and
--- ordered lists: one field a clause
-pub record LawOf (z : Layout) (memory : Memory) (views : List View) (m : MergerView) (slots : List (Option Slot)) (chains : Chains) (orders : Orders) : Type 0 where
+-- the law of a world with these words, views, merger, slots and batches, and with these chains of
+-- times and ordered lists: one field a clause
+pub record LawOf (z : Layout) (memory : Memory) (views : List View) (m : MergerView) (slots : List (Option Slot)) (batches : List Batch) (chains : Chains) (orders : Orders) : Type 0 where
   -- the lock
   pub seated : length views ≡ z.seats
   pub lock : memory Lock ≡ cond m.exclusive exclusive_hold (sum_by holders views)
   pub locked_out : IsLockedOut m.exclusive (each z mode_of views)
-  pub callers : AreCallers (each z mode_of views)
+  pub sole : AreSole (each z mode_of views)
   pub merger : IsMerger z m (length slots)
   -- the clock
-  pub clock : memory Clock ≡ length slots
+  pub clock : memory Clock + sum_by taken_by views ≡ length slots
   pub limit : memory Limit ≡ first_free z m
-  pub begun : m.merged * z.cells ≤ length slots
+  pub begun : m.merged * z.cells ≤ memory Clock
   pub bounded : length slots ≤ memory Limit
-  pub current : memory Limit ≤ length slots + z.cells
+  pub current : memory Limit ≤ memory Clock + z.cells
   pub top : memory Limit ≤ last_limit
   pub merged : memory Merged ≡ m.merged
   -- drawn times
@@ -509,18 +525,21 @@ pub record LawOf (z : Layout) (memory : Memory) (views : List View) (m : MergerV
   pub higher : AreHigher z memory (each z drawn_of views) (each z key_of views) (each z inserted_of views) (each z high_of views)
   -- what is noted
   pub limits : AreLimits (each z mode_of views) (each z hold_limit_of views) (memory Limit)
-  pub fresh_clocks : AreNotedBelow (each z fresh_clock_of views) (length slots)
-  pub hold_clocks : AreNotedBelow (each z hold_clock_of views) (length slots)
-  pub clocks : AreNotedBelow (each z clock_of views) (length slots)
-  pub pin_clocks : AreNotedBelow (each z pin_clock_of views) (length slots)
+  pub fresh_clocks : AreNotedBelow (each z fresh_clock_of views) (memory Clock)
+  pub hold_clocks : AreNotedBelow (each z hold_clock_of views) (memory Clock)
+  pub clocks : AreNotedBelow (each z clock_of views) (memory Clock)
+  pub pin_clocks : AreNotedBelow (each z pin_clock_of views) (memory Clock)
   pub past : AreDecidedBelow (outcome_at slots) (each z past_time_of views)
   pub reached : AreDecidedBelow (outcome_at slots) (each z reached_of views)
+  pub front_clock : memory Front ≤ memory Clock
+  pub past_clock : AreAtMost (each z past_time_of views) (memory Clock)
+  pub reached_clock : AreAtMost (each z reached_of views) (memory Clock)
   -- pins and snapshots
   pub pins : ArePins z memory (each z pin_of views)
   pub odd : AreOdd (each z pin_of views) (each z pinned_of views)
   pub held : AreHeld m (each z held_of views) (each z pinned_of views) (each z pin_of views)
   pub notes : AreNotes z memory (each z snapshot_of views)
-  pub snapshots : AreSnapshots m.floor (length slots) (each z past_time_of views) (each z pinned_of views) (each z snapshot_of views)
+  pub snapshots : AreSnapshots m.floor (memory Clock) (each z past_time_of views) (each z pinned_of views) (each z snapshot_of views)
   pub passed : ArePassed (is_frozen m.phase) m.round (epoch_end z m) (each z snapshot_of views)
   -- runs
   pub floors : AreFloors z m
@@ -529,7 +548,18 @@ pub record LawOf (z : Layout) (memory : Memory) (views : List View) (m : MergerV
   -- records
   pub right : AreRight (λ i. past_of slots (each z past_time_of views i)) (each z calls_of views)
   pub stand : AreRecordsStanding (outcome_at slots) (each z calls_of views)
-  pub recorded : AreRecorded (outcome_at slots) (each z calls_of views)
+  pub recorded : AreRecorded (memory Clock) (outcome_at slots) (each z calls_of views)
   pub rising : AreRising (each z calls_of views) (each z due_of views) (each z snapshot_of views)
-  pub dues : AreAtMost (each z due_of views) (length slots)
+  pub dues : AreAtMost (each z due_of views) (memory Clock)
   pub own_dues : AreDuesBelowOwn (each z drawn_of views) (outcome_at slots) (each z due_of views)
+  -- batches
+  pub staging : AreStaging (memory Clock) (outcome_at slots) (each z mode_of views) (each z drawn_of views) (each z staged_of views) (each z committed_of views) (each z hold_clock_of views)
+  pub in_turn : AreInTurn 0 batches (memory Clock)
+  pub written : AllByRecursion (IsWritten (outcome_at slots)) batches
+  pub uncut_front : IsUncut batches (memory Front)
+  pub uncut_pins : AreUncutNotes batches (each z pin_clock_of views)
+  pub uncut_snapshots : AreUncutSnapshots batches (each z snapshot_of views)
+  pub uncut_pasts : AreUncutPasts batches (each z past_time_of views)
+  pub uncut : AreUncut batches (each z calls_of views)
+  pub listed : AreListed batches (each z calls_of views)
+  pub fitting : AreFitting z.cells (each z calls_of views)

@@ -6,6 +6,7 @@ pub mod Views
 pub mod Relation
 pub mod Merging
 pub mod Worlds
+pub mod Batches
 pub mod Law
 pub mod Machine
 pub mod Reading
@@ -15,3 +16,4 @@ pub mod SeatBounds
 pub mod SeatReads
 pub mod Deciding
 pub mod Same
+pub mod Raising

@@ -1,34 +1,35 @@
 -- The steps of a caller's seat, by cases in the order of the step's members: where each is open,
 -- its word, what it makes of the word, the view after it, the slots and chains after it, and its
 -- answer. `x` is the word that the step finds.
-use Rattle.std.specs.Prelude.{◌≡◌, ◌≢◌, ℕ, ◌+◌, ◌-◌, ◌*◌, ◌%◌, ◌^◌, ◌<◌, ◌≤◌, ◌==◌, ◌&&◌, ◌||◌, ◌⊎◌, Bool, true, false, not, cond, nat_lt, nat_le, max, List, [], ◌∷◌, ◌++◌, take, slice_index_or, slice_set, Option, Some, None, is_some}
+use Rattle.std.specs.Prelude.{◌≡◌, ◌≢◌, ℕ, ◌+◌, ◌-◌, ◌*◌, ◌%◌, ◌^◌, ◌<◌, ◌≤◌, ◌==◌, ◌&&◌, ◌||◌, ◌⊎◌, Bool, true, false, not, cond, nat_lt, nat_le, max, List, [], ◌∷◌, ◌++◌, length, take, slice_index_or, slice_set, Option, Some, None, is_some}
 use prog.Atomic.{either}
+use Rattle.clsm_model.specs.declared.batch.Batch.{Batch}
 use Rattle.clsm_model.specs.declared.slot.Slot.{Slot}
 use Rattle.clsm_model.specs.declared.slot.Slot.TheVariants.{Nothing, Wrote}
-use Rattle.clsm_model.specs.declared.slot.Change.TheVariants.{Keep}
+use Rattle.clsm_model.specs.declared.slot.Change.TheVariants.{Keep, Set, Remove as Erase}
 use Rattle.clsm_model.specs.declared.record.Deed.{Deed}
-use Rattle.clsm_model.specs.declared.record.Deed.TheVariants.{Rmw, Get, Snapshot, Close, GetAt, Scan, Page}
+use Rattle.clsm_model.specs.declared.record.Deed.TheVariants.{Put, Remove, Rmw, Get, Snapshot, Close, GetAt, Scan, Page, Batch as Group}
 use Rattle.clsm_model.specs.declared.record.CallRecord.{CallRecord}
-use Rattle.clsm_model.specs.History.{History, or_else}
-use Rattle.clsm_model.specs.Right.{IsRight, write_by}
+use Rattle.clsm_model.specs.History.{History, or_else, IsUncut}
+use Rattle.clsm_model.specs.Right.{IsRight, Member, write_by}
 use Rattle.clsm_law.specs.declared.layout.Layout.{Layout}
 use Rattle.clsm_law.specs.declared.word.Word.{Word}
 use Rattle.clsm_law.specs.declared.word.Word.TheVariants.{Lock, Clock, Limit, Front, Merged, Pin as PinOf, Snap, Head, Cell, Order, Hint, State, Count, Entry}
 use Rattle.clsm_law.specs.declared.word.Part.{Part}
 use Rattle.clsm_law.specs.declared.word.Part.TheVariants.{Key, Length, Value, Next}
 use Rattle.clsm_law.specs.declared.step.Step.{Step}
-use Rattle.clsm_law.specs.declared.step.Step.TheVariants.{EnterShared, LeaveShared, EnterExclusive, Draw, Fill, Link, FillOrder, Insert, StoreHint, Decide, Cancel, Pin, Unpin, Look, RaiseFront, Note, CloseSnapshot}
+use Rattle.clsm_law.specs.declared.step.Step.TheVariants.{EnterShared, LeaveShared, EnterExclusive, LeaveExclusive, Draw, Fill, Link, FillOrder, Insert, StoreHint, Decide, Cancel, Stage, Commit, Pin, Unpin, Look, RaiseFront, Note, CloseSnapshot}
 use Rattle.clsm_law.specs.declared.step.End.{End}
 use Rattle.clsm_law.specs.declared.step.End.TheVariants.{Neither, Meeting, Recorded}
 use Rattle.clsm_law.specs.declared.step.Answer.{Answer}
 use Rattle.clsm_law.specs.declared.step.Answer.TheVariants as answers
 use Rattle.clsm_law.specs.declared.view.View.{View}
-use Rattle.clsm_law.specs.declared.view.Mode.TheVariants.{Free, Shared}
+use Rattle.clsm_law.specs.declared.view.Mode.TheVariants.{Free, Shared, Exclusive}
 use Rattle.clsm_law.specs.declared.view.SnapshotState.{SnapshotState}
 use Rattle.clsm_law.specs.declared.view.SnapshotState.TheVariants.{Absent, Noted, Timed, Open}
 use Rattle.clsm_law.specs.Codes.{exclusive_hold, undecided_cell, cancelled_cell, value_cell, removal_cell}
 use Rattle.clsm_law.specs.Memory.{cell_of, region_of, region_of_link, link_at, head_of, is_part, is_word}
-use Rattle.clsm_law.specs.Views.{blank, or_zero, next_word, IsBelow, is_below, is_free, line_of, own_time, own_line, own_region, own_place, is_all_some, state_of, SaysWrite}
+use Rattle.clsm_law.specs.Views.{blank, or_zero, next_word, IsBelow, is_below, is_free, is_exclusive, line_of, own_time, own_line, own_region, own_place, is_all_some, state_of, SaysWrite}
 use Rattle.clsm_law.specs.Places.{is_named}
 
 -- ---- what a decide takes and writes
@@ -171,12 +172,27 @@ IsEndingWith h v _ Neither = Unit {0}
 IsEndingWith h v _ Meeting = IsMetAt v v.pin_clock
 IsEndingWith h v _ (Recorded deed) = IsRightAt h v deed (time_of_read v deed)
 
+-- ---- batches
+
+-- the time is that of the next member of the seat's batch: behind the clock as looked at in this
+-- hold, and behind the members that are decided
+abbrev pub IsNextMember : View → Option ℕ → ℕ → Type 0
+IsNextMember v None t = ⊥
+IsNextMember v (Some c) t = t ≡ c + length v.staged
+
+-- the member that a deed's write is
+abbrev pub member_of : Deed → List Member
+member_of (Put key written) = (key, Set written) ∷ []
+member_of (Remove key) = (key, Erase) ∷ []
+member_of (Rmw key old change) = (key, change) ∷ []
+member_of _ = []
+
 -- the snapshot is recorded and open
 abbrev pub IsOpenSnapshot : SnapshotState → Type 0
 IsOpenSnapshot (Open noted time) = Unit {0}
 IsOpenSnapshot _ = ⊥
 
--- ---- where a step is open to a seat: h is the seat's past
+-- ---- where a step is open to a seat: h is the seat's past, with all batches
 
 -- a caller's seat with this view may make the step
 abbrev pub IsOpen : Layout → History → View → Step → Type 0
@@ -202,9 +218,18 @@ IsOpen z h v (StoreHint cell i w) = is_word z (Hint cell i) ≡ true
 -- read-modify-write read is right at t, which the past of the seat has reached; and the cell stands
 -- in the ordered list
 IsOpen z h v (Decide t deed) = (v.drawn ≡ Some t) × (v.linked ≡ true) × SaysWrite v (write_by 0 deed) × IsReadBelow h v t deed × (v.inserted ≡ true)
--- t is drawn by the seat, or it is not before the held component and below the clock as the seat
--- last looked at it
-IsOpen z h v (Cancel t) = (v.drawn ≡ Some t) ⊎ (HoldsFrom z v.held t × IsBelow t v.clock)
+-- t is drawn by the seat in a shared hold of the lock, or it is not before the held component and
+-- below the clock as the seat last looked at it
+IsOpen z h v (Cancel t) = ((v.drawn ≡ Some t) × (v.mode ≡ Shared)) ⊎ (HoldsFrom z v.held t × IsBelow t v.clock)
+-- the seat does not hold the lock
+IsOpen z h v EnterExclusive = v.mode ≡ Free
+-- it holds the lock exclusively, and has written nothing that is not committed
+IsOpen z h v LeaveExclusive = (v.mode ≡ Exclusive) × (v.drawn ≡ None) × (v.staged ≡ [])
+-- it holds the lock exclusively, has committed nothing in this hold, and has decided all members
+-- before; t is the time of the next one, below the limit that it looked at in this hold
+IsOpen z h v (Stage t key) = (v.mode ≡ Exclusive) × (v.drawn ≡ None) × (v.committed ≡ false) × IsNextMember v v.hold_clock t × IsBelow t v.hold_limit
+-- the same; these are the members that it decided, and there is one
+IsOpen z h v (Commit members) = (v.mode ≡ Exclusive) × (v.drawn ≡ None) × (v.committed ≡ false) × (v.hold_clock ≢ None) × (v.staged ≡ members) × (members ≢ [])
 -- no read runs
 IsOpen z h v Pin = v.pinned ≡ false
 -- a read runs, and may end so: with a right record, a meeting or neither, and with a snapshot
@@ -213,8 +238,8 @@ IsOpen z h v (Unpin end) = (v.pinned ≡ true) × IsEndingWith h v v.snapshot en
 -- there is such a word; cells and heads ask for a component, or a hold of the lock for the current
 -- region; runs for a component that names them
 IsOpen z h v (Look word) = (is_word z word ≡ true) × IsLookable z v word
--- the seat has found each time below s decided
-IsOpen z h v (RaiseFront s) = s ≤ v.reached
+-- the seat has found each time below s decided, and s is inside no batch
+IsOpen z h v (RaiseFront s) = (s ≤ v.reached) × IsUncut h.batches s
 -- there is no snapshot, a read runs, and its look at the clock found b
 IsOpen z h v (Note b) = (v.snapshot ≡ Absent) × (v.pinned ≡ true) × (v.pin_clock ≡ Some b)
 -- a snapshot is open
@@ -241,6 +266,12 @@ word_of z i v (StoreHint cell j w) = Hint cell j
 -- the state of the time's cell
 word_of z i v (Decide t deed) = State (cell_of z t)
 word_of z i v (Cancel t) = State (cell_of z t)
+-- the lock
+word_of z i v EnterExclusive = Lock
+word_of z i v LeaveExclusive = Lock
+-- the key of the member's cell, and the clock
+word_of z i v (Stage t key) = Cell (cell_of z t) Key
+word_of z i v (Commit members) = Clock
 -- the seat's own pin word
 word_of z i v Pin = PinOf i
 word_of z i v (Unpin end) = PinOf i
@@ -278,6 +309,14 @@ changed z v (StoreHint cell i w) x = w
 changed z v (Decide t deed) x = either (x == undecided_cell) (state_by (write_by 0 deed)) x
 -- compare_exchange: cancelled, where nothing is decided
 changed z v (Cancel t) x = either (x == undecided_cell) cancelled_cell x
+-- compare_exchange: the exclusive hold, where nobody holds the lock
+changed z v EnterExclusive x = either (x == 0) exclusive_hold x
+-- fetch_sub of the same: no holder
+changed z v LeaveExclusive x = (x + 18446744069414584320) % 2 ^ 64
+-- store
+changed z v (Stage t key) x = key
+-- store: the time behind the last member
+changed z v (Commit members) x = or_zero v.hold_clock + length members
 -- store: the pin word as the seat knows it, plus 1
 changed z v Pin x = next_word v.pin
 changed z v (Unpin end) x = next_word v.pin
@@ -393,6 +432,11 @@ filled v Length w = record v { length = Some w }
 filled v (Value j) w = record v { words = slice_set v.words j (Some w) }
 filled v Next w = record v { next = Some w }
 
+-- the time is drawn: no part of its cell is filled, the cell is neither linked nor inserted, and no
+-- place is before or behind it; no look at the clock is fresh
+abbrev pub taken : View → ℕ → View
+taken v t = record v { drawn = Some t; key = None; length = None; words = blank 8; next = None; linked = false; order_next = None; inserted = false; low = 0; high = 0; fresh_clock = None }
+
 -- The view of the seat i after a step that found x. An exchange is won where it finds the word that
 -- it names, and else lost.
 abbrev pub view_after : Layout → ℕ → View → Step → ℕ → View
@@ -441,17 +485,42 @@ view_after z i v (FillOrder w) x = record v { order_next = Some w }
 view_after z i v (Insert p next) x = let won = x == next in record v { inserted = cond won true v.inserted; raced = one_more_if (not won) v.raced }
 -- of a hint nothing is noted
 view_after z i v (StoreHint cell j w) x = v
--- Nothing is drawn, and t is found decided. Won: the call is recorded, and the due is behind it;
--- lost: it is counted.
-view_after z i v (Decide t deed) x = let won = x == 0 in record v {
+-- Nothing is drawn, and t is found decided. Won: the call is recorded, and the due is behind it, or
+-- in an exclusive hold it is a member of the seat's batch; lost: it is counted.
+view_after z i v (Decide t deed) x = let won = x == 0 in let alone = is_exclusive v.mode in record v {
   drawn = None;
   reached = reached_after z v t;
-  due = cond won (t + 1) v.due;
-  calls = cond won (v.calls ++ call_of i t deed ∷ []) v.calls;
+  staged = cond alone (cond won (v.staged ++ member_of deed) v.staged) v.staged;
+  due = cond alone v.due (cond won (t + 1) v.due);
+  calls = cond alone v.calls (cond won (v.calls ++ call_of i t deed ∷ []) v.calls);
   overtaken = one_more_if (not won) v.overtaken;
 }
 -- t is found decided, and an own drawn time is given up; what was cancelled is counted
 view_after z i v (Cancel t) x = record (counted_cancel v t x) { drawn = given_up v.drawn t; reached = reached_after z v t }
+-- Won: the lock is held exclusively, no look before is fresh or of this hold, and nothing is
+-- committed in it. It is counted.
+view_after z i v EnterExclusive x = let won = x == 0 in record v {
+  mode = cond won Exclusive v.mode;
+  fresh_lock = None;
+  fresh_clock = cond won None v.fresh_clock;
+  fresh_heads = cond won (blank (2 * z.chains)) v.fresh_heads;
+  hold_limit = cond won None v.hold_limit;
+  hold_clock = cond won None v.hold_clock;
+  committed = cond won false v.committed;
+  entries = one_more_if won v.entries;
+}
+-- the lock is given back, as after a shared hold
+view_after z i v LeaveExclusive x = record v { mode = Free; fresh_lock = None; fresh_clock = None; fresh_heads = blank (2 * z.chains); met = 0; low = 0; high = 0 }
+-- the member's time is taken as a draw takes one, and then its key is filled
+view_after z i v (Stage t key) x = filled (taken v t) Key key
+-- the batch is recorded at its first time, and the due is behind it
+view_after z i v (Commit members) x = let first = or_zero v.hold_clock in record v {
+  staged = [];
+  committed = true;
+  fresh_clock = None;
+  due = first + length members;
+  calls = v.calls ++ call_of i first (Group members) ∷ [];
+}
 -- a read runs, by the next pin word: no component is held, and no clock is looked at yet
 view_after z i v Pin x = record v { pin = next_word v.pin; pinned = true; held = None; pin_clock = None }
 -- the read is over, by the next pin word: what it recorded joins the calls, the due follows, and a
@@ -478,7 +547,8 @@ view_after z i v _ x = v
 
 -- ---- the slots and the chains after the step
 
--- the slots after a step of the seat i that found x: they change by won exchanges alone
+-- the slots after a step of the seat i that found x: they change by won exchanges, and where a
+-- member of a batch takes its time
 abbrev pub slots_after : ℕ → List (Option Slot) → Step → ℕ → List (Option Slot)
 -- t is one slot more, undecided
 slots_after i slots (Draw t) x = cond (x == t) (slots ++ None ∷ []) slots
@@ -486,8 +556,15 @@ slots_after i slots (Draw t) x = cond (x == t) (slots ++ None ∷ []) slots
 slots_after i slots (Decide t deed) x = cond (x == 0) (slice_set slots t (write_by i deed)) slots
 -- t comes to nothing
 slots_after i slots (Cancel t) x = cond (x == 0) (slice_set slots t (Some Nothing)) slots
+-- t is one slot more, undecided
+slots_after i slots (Stage t key) x = slots ++ None ∷ []
 -- all others leave them
 slots_after i slots _ x = slots
+
+-- the batches after a step: a commit lists its own
+abbrev pub batches_after : View → List Batch → Step → List Batch
+batches_after v batches (Commit members) = batches ++ record { first = or_zero v.hold_clock; size = length members } ∷ []
+batches_after v batches _ = batches
 
 -- the chain of each head: the times whose cells stand in it, from the head on
 abbrev pub Chains : Type 0

@@ -5,7 +5,7 @@ use Rattle.clsm_model.specs.declared.slot.Slot.TheVariants.{Wrote}
 use Rattle.clsm_law.specs.declared.layout.Layout.{Layout}
 use Rattle.clsm_law.specs.declared.view.View.{View}
 use Rattle.clsm_law.specs.declared.view.Mode.{Mode}
-use Rattle.clsm_law.specs.declared.view.Mode.TheVariants.{Free, Shared}
+use Rattle.clsm_law.specs.declared.view.Mode.TheVariants.{Free, Shared, Exclusive}
 use Rattle.clsm_law.specs.declared.view.SnapshotState.TheVariants.{Absent}
 use Rattle.clsm_law.specs.Codes.{value_cell, removal_cell}
 use Rattle.clsm_law.specs.Memory.{cell_of, region_of}
@@ -36,6 +36,8 @@ idle z = record {
   met = 0;
   low = 0;
   high = 0;
+  staged = [];
+  committed = false;
   pin = 0;
   pinned = false;
   held = None;
@@ -84,6 +86,11 @@ is_free _ = false
 abbrev pub is_shared : Mode → Bool
 is_shared Shared = true
 is_shared _ = false
+
+-- the lock is held exclusively
+abbrev pub is_exclusive : Mode → Bool
+is_exclusive Exclusive = true
+is_exclusive _ = false
 
 -- the place of a chain's head among the fresh heads
 abbrev pub line_of : ℕ → ℕ → ℕ

@@ -1,5 +1,6 @@
 -- What the law and the steps say of a world's slots, views and words.
 use Rattle.std.specs.Prelude.{ℕ, zero, suc, ◌+◌, ◌-◌, ◌*◌, ◌%◌, ◌==◌, ◌&&◌, ◌||◌, Bool, true, cond, nat_lt, List, map, take, slice_index_or, Option, None, unwrap_or}
+use Rattle.clsm_model.specs.declared.batch.Batch.{Batch}
 use Rattle.clsm_model.specs.declared.slot.Slot.{Slot}
 use Rattle.clsm_model.specs.declared.slot.Slot.TheVariants.{Nothing}
 use Rattle.clsm_model.specs.History.{History, plain}
@@ -29,6 +30,10 @@ settled slots = map (λ s. unwrap_or s Nothing) slots
 -- the slots below the time p
 abbrev pub past_of : List (Option Slot) → ℕ → History
 past_of slots p = plain (take p (settled slots))
+
+-- the same, with all batches: what a step asks of a seat's past
+abbrev pub open_past : List (Option Slot) → List Batch → ℕ → History
+open_past slots batches p = record { slots = take p (settled slots); batches = batches }
 
 -- all slots as a history
 abbrev pub history_of : List (Option Slot) → History

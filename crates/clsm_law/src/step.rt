@@ -1,7 +1,7 @@
 ghost use Rattle.std.specs.Prelude.{◌≡◌};
 
 use crate::word::{Part, Word};
-use clsm_model::{Deed, Time};
+use clsm_model::{Deed, Members, Time};
 use std::alloc::AllocError;
 
 /// One atomic step.
@@ -12,7 +12,7 @@ pub enum Step {
     EnterShared(u64),
     /// fetch_sub LOCK 1.
     LeaveShared,
-    /// compare_exchange LOCK from 0 to 2^32.
+    /// compare_exchange LOCK from 0 to 2^32, of the merger for a freeze, of a caller for a batch.
     EnterExclusive,
     /// fetch_sub LOCK 2^32.
     LeaveExclusive,
@@ -31,10 +31,15 @@ pub enum Step {
     /// Store a hint.
     StoreHint { cell: u64, hint: u64, word: u64 },
     /// compare_exchange the state of the drawn cell from empty to set or removed, as the deed
-    /// writes.
+    /// writes. In an exclusive hold it records nothing.
     Decide(Time, Deed),
     /// compare_exchange the state of this time's cell from empty to cancelled.
     Cancel(Time),
+    // batches
+    /// Store the key of the next member of a batch, whose time is this one.
+    Stage(Time, u64),
+    /// Store CLOCK, behind the times of these members.
+    Commit(Members),
     // reads
     /// Store the seat's pin word plus 1, and so again where the read ends.
     Pin,

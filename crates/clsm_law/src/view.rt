@@ -1,7 +1,7 @@
 ghost use Rattle.std.specs.Prelude.{◌≡◌};
 
 use crate::items::Items;
-use clsm_model::{CallRecord, Time};
+use clsm_model::{CallRecord, Members, Time};
 use std::alloc::AllocError;
 
 /// How a seat holds the lock.
@@ -54,6 +54,10 @@ pub struct View {
     pub met: u64,
     pub low: u64,
     pub high: u64,
+    /// The members of a batch that it decided and has not committed, at the times from the clock on,
+    /// and whether it committed one in this hold of the lock.
+    pub staged: Members,
+    pub committed: bool,
     /// Its pin word, which is odd while it is pinned.
     pub pin: u64,
     pub pinned: bool,
@@ -94,6 +98,7 @@ impl Clone for View {
         Ok(View {
             fresh_heads: self.fresh_heads.clone()?,
             words: self.words.clone()?,
+            staged: self.staged.clone()?,
             calls: self.calls.clone()?,
             ..*self
         })

@@ -1,9 +1,10 @@
 -- What the calls on the lock leave of a seat as it was, and what they change.
-use Rattle.std.specs.Prelude.{◌≡◌, ◌*◌, true, length, None}
+use Rattle.std.specs.Prelude.{◌≡◌, ◌*◌, true, false, length, None}
 use mathlib.Core.List.{IsPrefix}
 use Rattle.clsm_law.specs.declared.word.Word.{Word}
-use Rattle.clsm_law.specs.declared.word.Word.TheVariants.{Clock}
-use Rattle.clsm_law.specs.declared.view.Mode.TheVariants.{Free, Shared}
+use Rattle.clsm_law.specs.declared.word.Word.TheVariants.{Lock, Clock}
+use Rattle.clsm_law.specs.declared.view.Mode.TheVariants.{Free, Shared, Exclusive}
+use Rattle.clsm_law.specs.Codes.{exclusive_hold}
 use Rattle.clsm_law.specs.Views.{blank, next_word}
 use Rattle.clsm_words.specs.declared.known.Known.{Known}
 use Rattle.clsm_words.specs.Knowing.{row_of}
@@ -27,6 +28,19 @@ pub record Leaves (old new : Known) : Type 0 where
   pub place : KeepsPlace old new
   pub view : new.view ≡ record old.view { mode = Free; fresh_lock = None; fresh_clock = None; fresh_heads = blank (2 * old.layout.chains); met = 0; low = 0; high = 0 }
 
+-- ---- a caller's hold alone
+
+-- it entered: it holds the lock alone, in a hold in which it has looked at nothing and committed
+-- nothing; what it tried before that is not counted
+pub record EntersExclusively (old new : Known) : Type 0 where
+  pub place : KeepsPlace old new
+  pub view : new.view ≡ record old.view { mode = Exclusive; fresh_lock = None; fresh_clock = None; fresh_heads = blank (2 * old.layout.chains); hold_limit = None; hold_clock = None; committed = false; entries = next_word old.view.entries }
+
+-- it tried the lock, and somebody held it
+pub record WaitsOutside (old new : Known) : Type 0 where
+  pub place : KeepsPlace old new
+  pub view : new.view ≡ record old.view { fresh_lock = new.view.fresh_lock }
+
 -- ---- the merger's hold
 
 -- the merger is where it was, but that it may hold the lock; its past goes on, and it knows of its
@@ -48,3 +62,9 @@ pub record EntersAlone (old new : Known) : Type 0 where
   pub keeps : KeepsMerge old new
   pub merger : new.merger ≡ record old.merger { exclusive = true; holds = next_word old.merger.holds }
   pub clock : length new.past ≡ row_of new Clock
+
+-- nobody else holds the lock: its word is that of one exclusive hold; and the merger's past ends at
+-- the clock, so that each drawn time is decided
+pub record HoldsAloneAsMerger (k : Known) : Type 0 where
+  pub lock : row_of k Lock ≡ exclusive_hold
+  pub clock : length k.past ≡ row_of k Clock

@@ -1,27 +1,63 @@
-//! The merger's hold, which it has alone.
-ghost use Rattle.std.specs.Prelude.{◌≡◌, true, false};
+//! Holds of the lock alone: a caller's for a batch, and the merger's for a freeze.
+ghost use Rattle.std.specs.Prelude.{◌≡◌, [], None, true, false};
+ghost use Rattle.clsm_law.specs.declared.view.Mode.TheVariants.{Free, Exclusive};
 ghost use Rattle.clsm_law.specs.declared.step.Step.TheVariants.{LeaveExclusive};
 ghost use Rattle.clsm_law.specs.Merging.{is_clean, is_freeze_whole};
+ghost use Rattle.clsm_words.specs.Knowing.{HoldsAlone};
 ghost use Rattle.clsm_words.specs.Plays.{IsSeatOf, PlaysAsMerger};
-ghost use Rattle.clsm_lock.specs.Keeping.{EntersAlone};
+ghost use Rattle.clsm_lock.specs.Keeping.{EntersAlone, EntersExclusively, HoldsAloneAsMerger, Leaves};
 
 use clsm_law::Answer;
-use clsm_words::{Pace, RawMerger, Words};
+use clsm_words::{Pace, RawMerger, RawSeat, Words};
 use std::sync::Wait;
 use std::thread;
 
-/// Holds the lock alone, and waits for that as long as it takes. Nothing is frozen then. While the
-/// merger holds it no caller does (a clause of the law that the words keep), so no time is drawn,
-/// and what each time came to is known to the merger.
-pub fn lock_exclusive<P: Pace, R: Wait>(rt: &R, words: &Words<P>, merger: &mut RawMerger)
+/// Holds the lock alone, and waits for that as long as it takes. The seat then holds the lock, in a
+/// hold in which it has looked at nothing yet: nobody else holds it, so no time is drawn and
+/// undecided. Tries that found a holder are not counted.
+pub fn lock_exclusive<P: Pace, R: Wait>(rt: &R, words: &Words<P>, seat: &mut RawSeat)
+    requires of { IsSeatOf words.now seat.old }
+    requires free { seat.old.knows.view.mode ≡ Free }
+    ensures of { IsSeatOf words.now seat.new }
+    ensures entered { EntersExclusively seat.old.knows seat.new.knows }
+    ensures alone { HoldsAlone seat.new.knows }
+{
+    for _ in rt.forever() {
+        if words.enter_exclusive(seat) == Answer::Done {
+            return;
+        }
+        thread::yield_now();
+    }
+    unreachable!()
+}
+
+/// Leaves the lock that the seat holds alone. It has staged no member that it has not committed. It
+/// never waits and is never refused.
+pub fn unlock_exclusive<P: Pace>(words: &Words<P>, seat: &mut RawSeat)
+    requires of { IsSeatOf words.now seat.old }
+    requires holds { seat.old.knows.view.mode ≡ Exclusive }
+    requires undrawn { seat.old.knows.view.drawn ≡ None }
+    requires unstaged { seat.old.knows.view.staged ≡ [] }
+    ensures of { IsSeatOf words.now seat.new }
+    ensures left { Leaves seat.old.knows seat.new.knows }
+{
+    seat.show_invariant();
+    words.leave_exclusive(seat);
+}
+
+/// Holds the lock alone as the merger, and waits for that as long as it takes. Nothing is frozen
+/// then. While the merger holds it no caller does (a clause of the law that the words keep), so no
+/// time is drawn, and what each time came to is known to the merger.
+pub fn lock_as_merger<P: Pace, R: Wait>(rt: &R, words: &Words<P>, merger: &mut RawMerger)
     requires of { IsSeatOf words.now merger.old }
     requires clean { is_clean merger.old.knows.merger.phase ≡ true }
     requires free { merger.old.knows.merger.exclusive ≡ false }
     ensures of { IsSeatOf words.now merger.new }
     ensures entered { EntersAlone merger.old.knows merger.new.knows }
+    ensures alone { HoldsAloneAsMerger merger.new.knows }
 {
     for _ in rt.forever() {
-        if words.enter_exclusive(merger) == Answer::Done {
+        if words.enter_as_merger(merger) == Answer::Done {
             merger.show_invariant();
             return;
         }
@@ -32,11 +68,11 @@ pub fn lock_exclusive<P: Pace, R: Wait>(rt: &R, words: &Words<P>, merger: &mut R
 
 /// Leaves the lock that the merger holds. A freeze that it began is whole. It never waits and is
 /// never refused.
-pub fn unlock_exclusive<P: Pace>(words: &Words<P>, merger: &mut RawMerger)
+pub fn unlock_as_merger<P: Pace>(words: &Words<P>, merger: &mut RawMerger)
     requires of { IsSeatOf words.now merger.old }
     requires holds { merger.old.knows.merger.exclusive ≡ true }
     requires whole { is_freeze_whole merger.old.knows.merger ≡ true }
     ensures { PlaysAsMerger words.now merger.old LeaveExclusive merger.new }
 {
-    words.leave_exclusive(merger);
+    words.leave_as_merger(merger);
 }

@@ -5,7 +5,7 @@ use Rattle.clsm_law.specs.declared.word.Word.TheVariants.{Clock, Limit}
 use Rattle.clsm_law.specs.declared.step.Step.TheVariants.{Draw, Look}
 use Rattle.clsm_law.specs.declared.view.View.{View}
 use Rattle.clsm_law.specs.declared.view.Mode.{Mode}
-use Rattle.clsm_law.specs.declared.view.Mode.TheVariants.{Shared}
+use Rattle.clsm_law.specs.declared.view.Mode.TheVariants.{Free, Shared, Exclusive}
 use Rattle.clsm_law.specs.declared.view.SnapshotState.{SnapshotState}
 use Rattle.clsm_law.specs.declared.view.SnapshotState.TheVariants.{Absent, Noted, Timed, Open}
 use Rattle.clsm_law.specs.Views.{IsBelow, blank, is_free, next_word}
@@ -14,7 +14,7 @@ use Rattle.clsm_words.specs.declared.known.Known.{Known}
 use Rattle.clsm_words.specs.Knowing.{IsNearHeld, Sound, Follows}
 use Rattle.clsm_words.specs.Keeping.{KeepsPlace}
 use Rattle.clsm_words.proofs.Keeps.{place_by, place_trans}
-use Rattle.clsm_memtable.specs.Writing.{IsUnnoted, Draws, FindsLimit, LosesDraw}
+use Rattle.clsm_memtable.specs.Writing.{IsUnnoted, Draws, FindsLimit, FindsRoom, LosesDraw}
 
 -- ---- the looks
 
@@ -24,6 +24,15 @@ unnoted_same (Noted noted) x h = absurd h
 unnoted_same (Timed noted time) x h = refl
 unnoted_same (Open noted time) x h = refl
 
+-- a seat that holds the lock, shared or alone
+unfree : (m : Mode) → m ≢ Free → is_free m ≡ false
+unfree Free ne = absurd (ne refl)
+unfree Shared ne = refl
+unfree Exclusive ne = refl
+
+pub shared_holds : (m : Mode) → m ≡ Shared → m ≢ Free
+shared_holds m shared free = absurd cc
+
 -- the view after a look at the limit, in a hold of the lock
 abbrev with_limit : View → ℕ → View
 with_limit v limit = record v { hold_limit = Some limit }
@@ -32,25 +41,38 @@ with_limit v limit = record v { hold_limit = Some limit }
 abbrev with_clock : View → ℕ → View
 with_clock v time = record v { fresh_clock = Some time; hold_clock = Some time; clock = Some time; pin_clock = cond v.pinned (Some time) v.pin_clock }
 
-limit_seen : (z : Layout) (v : View) (x : ℕ) → v.mode ≡ Shared → looked z v Limit x ≡ with_limit v x
-limit_seen z v x holds = ap (λ (m : Mode). record v { hold_limit = cond (not (is_free m)) (Some x) v.hold_limit }) holds
+limit_seen : (z : Layout) (v : View) (x : ℕ) → v.mode ≢ Free → looked z v Limit x ≡ with_limit v x
+limit_seen z v x holds = ap (λ (b : Bool). record v { hold_limit = cond (not b) (Some x) v.hold_limit }) (unfree v.mode holds)
 
-clock_seen : (z : Layout) (v : View) (x : ℕ) → v.mode ≡ Shared → IsUnnoted v.snapshot → looked z v Clock x ≡ with_clock v x
+clock_seen : (z : Layout) (v : View) (x : ℕ) → v.mode ≢ Free → IsUnnoted v.snapshot → looked z v Clock x ≡ with_clock v x
 clock_seen z v x holds unnoted =
-    ap (λ (m : Mode). record (with_clock v x) { hold_clock = cond (not (is_free m)) (Some x) v.hold_clock; snapshot = timed_by v.snapshot x }) holds
+    ap (λ (b : Bool). record (with_clock v x) { hold_clock = cond (not b) (Some x) v.hold_clock; snapshot = timed_by v.snapshot x }) (unfree v.mode holds)
     ∙ ap (λ (s : SnapshotState). record (with_clock v x) { snapshot = s }) (unnoted_same v.snapshot x unnoted)
 
-module _ (k k1 k2 : Known) (limit time : ℕ) (sound : Sound k) (holds : k.view.mode ≡ Shared) (unnoted : IsUnnoted k.view.snapshot) (a : Follows (Look Limit) k limit k1) (b : Follows (Look Clock) k1 time k2) where
+module _ (k k1 k2 : Known) (limit time : ℕ) (sound : Sound k) (holds : k.view.mode ≢ Free) (unnoted : IsUnnoted k.view.snapshot) (a : Follows (Look Limit) k limit k1) (b : Follows (Look Clock) k1 time k2) where
   both_seen : k2.view ≡ with_clock (with_limit k.view limit) time
   both_seen = b.view
       ∙ ap (λ (v : View). looked k1.layout v Clock time) (a.view ∙ limit_seen k.layout k.view limit holds)
       ∙ clock_seen k1.layout (with_limit k.view limit) time holds unnoted
 
   both_place : KeepsPlace k k2
-  both_place = place_trans k k1 k2 (place_by (Look Limit) k k1 limit sound a refl a.walks) (place_by (Look Clock) k1 k2 time a.sound b refl b.walks) (λ m held held'. ap (λ (v : View). v.held) a.view ∙ held)
+  both_place = place_trans k k1 k2 (place_by (Look Limit) k k1 limit a refl a.walks) (place_by (Look Clock) k1 k2 time b refl b.walks) (λ m held held'. ap (λ (v : View). v.held) a.view ∙ held)
+
+  -- the clock is at most the limit, and not below the due and the past
+  within : time ≤ limit
+  within = b.tells.4 limit (λ free. holds (sym (ap (λ (v : View). v.mode) both_seen) ∙ free)) (ap (λ (v : View). v.hold_limit) both_seen)
+
+  pub finds_room : FindsRoom k k2 time limit
+  finds_room = record {
+    place = both_place;
+    view = subst (λ (v : View). v ≡ record k.view { fresh_clock = Some time; hold_limit = Some limit; hold_clock = Some time; clock = Some time; pin_clock = v.pin_clock }) (sym both_seen) refl;
+    within = within;
+    due = let due = b.tells.0 in let e = ap (λ (v : View). v.due) both_seen in omega arith;
+    passed = let past = b.tells.5 in let e = ap (λ (v : View). v.past) both_seen in omega arith;
+  }
 
   at_limit : limit ≤ time → limit ≡ time
-  at_limit le = let high = b.tells.4 limit (ap (λ (v : View). v.mode) both_seen ∙ holds) (ap (λ (v : View). v.hold_limit) both_seen) in omega arith
+  at_limit le = let high = within in omega arith
 
   pub finds_limit : limit ≤ time → FindsLimit k k2 time
   finds_limit le = let is = both_seen ∙ ap (λ (n : ℕ). with_clock (with_limit k.view n) time) (at_limit le) in record {
@@ -82,7 +104,7 @@ module _ (k k1 k2 : Known) (limit time : ℕ) (sound : Sound k) (holds : k.view.
     after b is = c.view ∙ ap (exchanged k2.view) is ∙ ap (λ (v : View). exchanged v b) both_seen
 
     place : KeepsPlace k k3
-    place = place_trans k k2 k3 both_place (place_by (Draw time) k2 k3 x b.sound c refl c.walks) (λ m held held'. ap (λ (v : View). v.held) both_seen ∙ held)
+    place = place_trans k k2 k3 both_place (place_by (Draw time) k2 k3 x c refl c.walks) (λ m held held'. ap (λ (v : View). v.held) both_seen ∙ held)
 
     there : (b : Bool) → (x == time) ≡ b → k3.view.hold_limit ≢ None
     there b is none = let some = ap (λ (v : View). v.hold_limit) (after b is) in absurd cc

@@ -10,6 +10,7 @@ use Rattle.clsm_law.specs.Views.{IsBelow, is_below}
 use Rattle.clsm_law.specs.Relation.{is_met_by_state, counted_cancel, is_seen, is_seen_of, is_own, given_up, one_more_if, view_after, reached_after, reached_by_state, HoldsFrom}
 use Rattle.clsm_law.proofs.Cases.{by_bool}
 use Rattle.clsm_law.proofs.Times.{cell_below}
+use Rattle.clsm_law.specs.Raising.{MayRaise}
 use Rattle.clsm_words.specs.declared.known.Known.{Known}
 use Rattle.clsm_words.specs.Knowing.{Opens, Follows}
 use Rattle.clsm_words.specs.Keeping.{OnlyReads}
@@ -34,6 +35,7 @@ may_below_stays k k' component s h may = record {
   until = subst (λ (z : Layout). s ≤ (component + 2) * z.cells) (sym h.seat.layout) may.until;
   clock = subst (λ (o : Option ℕ). IsClockFrom o s) (sym (ap (λ (v : View). v.clock) h.view)) may.clock;
   own = λ u e. may.own u (sym (ap (λ (v : View). v.drawn) h.view) ∙ e);
+  raise = subst (λ (v : View). MayRaise v s) (sym h.view) may.raise;
 }
 
 clock_from : (o : Option ℕ) (s t : ℕ) → t ≤ s → IsClockFrom o s → IsClockFrom o t

@@ -1,5 +1,6 @@
 -- When a seat may settle the times below its own.
 use Rattle.std.specs.Prelude.{◌≡◌, ℕ, ◌+◌, ◌*◌, ◌<◌, ◌≤◌, Option, Some, None}
+use Rattle.clsm_law.specs.Raising.{MayRaise}
 use Rattle.clsm_words.specs.declared.known.Known.{Known}
 
 -- the seat looked at a clock that is not below the time
@@ -23,3 +24,5 @@ pub record MaySettleBelow (k : Known) (component s : ℕ) : Type 0 where
   pub until : s ≤ (component + 2) * k.layout.cells
   pub clock : IsClockFrom k.view.clock s
   pub own : (u : ℕ) → k.view.drawn ≡ Some u → s ≤ u
+  -- the front is raised to no time inside a batch
+  pub raise : MayRaise k.view s

@@ -1,10 +1,12 @@
 -- What the calls that write leave of a seat as it was, and what they change.
-use Rattle.std.specs.Prelude.{◌≡◌, ◌≢◌, ℕ, ◌+◌, ◌≤◌, ◌⊎◌, [], ◌∷◌, ◌++◌, false, Some, None}
+use Rattle.std.specs.Prelude.{◌≡◌, ◌≢◌, ℕ, ◌+◌, ◌≤◌, ◌⊎◌, List, [], ◌∷◌, ◌++◌, length, true, false, Some, None}
 use Rattle.clsm_model.specs.declared.record.Deed.{Deed}
+use Rattle.clsm_model.specs.declared.record.Deed.TheVariants.{Batch as Group}
+use Rattle.clsm_model.specs.Right.{Member}
 use Rattle.clsm_law.specs.declared.view.SnapshotState.{SnapshotState}
 use Rattle.clsm_law.specs.declared.view.SnapshotState.TheVariants.{Noted}
 use Rattle.clsm_law.specs.Views.{blank, next_word, IsBelow}
-use Rattle.clsm_law.specs.Relation.{reached_after, call_of}
+use Rattle.clsm_law.specs.Relation.{reached_after, call_of, member_of}
 use Rattle.clsm_words.specs.declared.known.Known.{Known}
 use Rattle.clsm_words.specs.Knowing.{IsNearHeld}
 use Rattle.clsm_words.specs.Keeping.{KeepsPlace}
@@ -30,6 +32,15 @@ pub record Draws (old new : Known) (t : ℕ) : Type 0 where
   pub due : old.view.due ≤ t
   pub near : IsNearHeld old.layout old.view.held t
   pub passed : old.view.past ≤ t
+
+-- in this hold of the lock it looked at the clock and the limit: no time from the clock on is taken,
+-- and each below the limit may be
+pub record FindsRoom (old new : Known) (clock limit : ℕ) : Type 0 where
+  pub place : KeepsPlace old new
+  pub view : new.view ≡ record old.view { fresh_clock = Some clock; hold_limit = Some limit; hold_clock = Some clock; clock = Some clock; pin_clock = new.view.pin_clock }
+  pub within : clock ≤ limit
+  pub due : old.view.due ≤ clock
+  pub passed : old.view.past ≤ clock
 
 -- in this hold of the lock the clock stood at the limit
 pub record FindsLimit (old new : Known) (t : ℕ) : Type 0 where
@@ -63,6 +74,20 @@ pub record LosesTime (old new : Known) (t : ℕ) : Type 0 where
 abbrev pub Decides : Known → Known → ℕ → Deed → Decided → Type 0
 Decides old new t deed Done = Records old new t deed
 Decides old new t deed Overtaken = LosesTime old new t
+
+-- ---- batches
+
+-- the deed's write is one staged member more; nothing is recorded yet, and the due stays
+pub record DecidesMember (old new : Known) (t : ℕ) (deed : Deed) : Type 0 where
+  pub place : KeepsPlace old new
+  pub view : new.view ≡ record old.view { drawn = None; reached = reached_after old.layout old.view t; staged = old.view.staged ++ member_of deed }
+
+-- the members are recorded as one batch at this time, and the due is behind them
+pub record Commits (old new : Known) (first : ℕ) (members : List Member) : Type 0 where
+  pub place : KeepsPlace old new
+  pub view : new.view ≡ record old.view { staged = []; committed = true; fresh_clock = None; due = first + length members; calls = old.view.calls ++ call_of old.number first (Group members) ∷ [] }
+
+-- ---- times given up
 
 -- nothing has the time, and nothing is recorded; it is counted whether the seat cancelled it or
 -- somebody had done so first

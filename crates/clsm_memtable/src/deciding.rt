@@ -1,6 +1,7 @@
 //! The end of a drawn time: its write stands, or nothing has it.
 ghost use Rattle.std.specs.Prelude.{◌≡◌, Some};
 ghost use Rattle.clsm_law.specs.declared.step.Step.TheVariants.{Decide};
+ghost use Rattle.clsm_law.specs.declared.view.Mode.TheVariants.{Shared};
 ghost use Rattle.clsm_words.specs.Plays.{IsSeatOf, MayPlay};
 ghost use Rattle.clsm_memtable.specs.Writing.{Decides, GivesUp};
 
@@ -21,7 +22,8 @@ pub enum Decided {
 
 /// Decides the drawn time, whose cell is linked and stands in the ordered list.
 fn decide_drawn<P: Pace>(words: &Words<P>, seat: &mut RawSeat, time: Time, deed: &Deed) -> Decided
-    requires { MayPlay words.now seat.old (Decide time deed.now) }
+    requires opens { MayPlay words.now seat.old (Decide time deed.now) }
+    requires holds { seat.old.knows.view.mode ≡ Shared }
     ensures of { IsSeatOf words.now seat.new }
     ensures decided { Decides seat.old.knows seat.new.knows time deed.now result }
 {
@@ -45,7 +47,8 @@ pub fn decide<P: Pace>(
     deed: &Deed,
     trace: &Trace,
 ) -> Decided
-    requires { MayPlay words.now seat.old (Decide time deed.now) }
+    requires opens { MayPlay words.now seat.old (Decide time deed.now) }
+    requires holds { seat.old.knows.view.mode ≡ Shared }
     ensures of { IsSeatOf words.now seat.new }
     ensures decided { Decides seat.old.knows seat.new.knows time deed.now result }
 {
@@ -62,6 +65,7 @@ pub fn decide<P: Pace>(
 pub fn give_up<P: Pace>(words: &Words<P>, seat: &mut RawSeat, time: Time)
     requires of { IsSeatOf words.now seat.old }
     requires drawn { seat.old.knows.view.drawn ≡ Some time }
+    requires holds { seat.old.knows.view.mode ≡ Shared }
     ensures of { IsSeatOf words.now seat.new }
     ensures given_up { GivesUp seat.old.knows seat.new.knows time }
 {

@@ -1,8 +1,8 @@
 //! The draw of a time.
-ghost use Rattle.std.specs.Prelude.{◌≡◌, None, IfOk, IfErr};
-ghost use Rattle.clsm_law.specs.declared.view.Mode.TheVariants.{Shared};
+ghost use Rattle.std.specs.Prelude.{◌≡◌, ◌≢◌, None, IfOk, IfErr};
+ghost use Rattle.clsm_law.specs.declared.view.Mode.TheVariants.{Free, Shared};
 ghost use Rattle.clsm_words.specs.Plays.{IsSeatOf};
-ghost use Rattle.clsm_memtable.specs.Writing.{IsUnnoted, Draws, RefusesDraw};
+ghost use Rattle.clsm_memtable.specs.Writing.{IsUnnoted, Draws, FindsRoom, RefusesDraw};
 
 use clsm_law::{Answer, Word};
 use clsm_model::Time;
@@ -19,6 +19,30 @@ pub enum DrawError {
     /// Number 2: another seat drew the time between the look and the exchange.
     #[error("raced")]
     Raced,
+}
+
+/// The times that are left of an epoch.
+#[derive(Clone, Copy)]
+pub struct Room {
+    /// The clock: the first of them.
+    pub clock: Time,
+    /// The end of the epoch, which is not below the clock.
+    pub limit: Time,
+}
+
+/// What is left of the epoch, in a hold of the lock: one look at LIMIT and one at CLOCK. In an
+/// exclusive hold both stay so until the seat commits. It never waits and is never refused.
+pub fn look_room<P: Pace>(words: &Words<P>, seat: &mut RawSeat) -> Room
+    requires of { IsSeatOf words.now seat.old }
+    requires holds { seat.old.knows.view.mode ≢ Free }
+    requires unnoted { IsUnnoted seat.old.knows.view.snapshot }
+    ensures of { IsSeatOf words.now seat.new }
+    ensures room { FindsRoom seat.old.knows seat.new.knows result.clock result.limit }
+{
+    seat.show_invariant();
+    let limit = words.look(seat, Word::Limit);
+    let clock = words.look(seat, Word::Clock);
+    Room { clock, limit }
 }
 
 /// Draws the next time, in a hold of the lock: one look at LIMIT, one at CLOCK, and one exchange of

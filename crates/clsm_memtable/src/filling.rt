@@ -8,7 +8,7 @@ use clsm_model::{Time, Value};
 use clsm_words::{Pace, RawSeat, Words};
 
 /// Fills the words of the value into the drawn cell.
-fn fill_words<P: Pace>(words: &Words<P>, seat: &mut RawSeat, time: Time, value: &[u64])
+pub(crate) fn fill_words<P: Pace>(words: &Words<P>, seat: &mut RawSeat, time: Time, value: &[u64])
     requires of { IsSeatOf words.now seat.old }
     requires drawn { seat.old.knows.view.drawn ≡ Some time }
     requires unlinked { seat.old.knows.view.linked ≡ false }

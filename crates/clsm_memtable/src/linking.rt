@@ -1,6 +1,6 @@
 //! The link of a drawn cell into its chain.
 ghost use Rattle.std.specs.Prelude.{◌≡◌, ◌≢◌, None, OnOk, OnErr};
-ghost use Rattle.clsm_law.specs.declared.view.Mode.TheVariants.{Shared};
+ghost use Rattle.clsm_law.specs.declared.view.Mode.TheVariants.{Free};
 ghost use Rattle.clsm_law.specs.Views.{next_word};
 ghost use Rattle.clsm_words.specs.Plays.{IsSeatOf, IsFilled};
 ghost use Rattle.clsm_memtable.specs.Filling.{Links, StaysUnlinked};
@@ -31,7 +31,7 @@ pub(crate) fn try_link<P: Pace>(
     key: u64,
 ) -> Result<(), Raced>
     requires of { IsSeatOf words.now seat.old }
-    requires holds { seat.old.knows.view.mode ≡ Shared }
+    requires holds { seat.old.knows.view.mode ≢ Free }
     requires limit { seat.old.knows.view.hold_limit ≢ None }
     requires filled { IsFilled seat.old.knows.view time key }
     ensures of { IsSeatOf words.now seat.new }
@@ -60,7 +60,7 @@ pub(crate) fn link<P: Pace, R: Wait>(
     key: u64,
 )
     requires of { IsSeatOf words.now seat.old }
-    requires holds { seat.old.knows.view.mode ≡ Shared }
+    requires holds { seat.old.knows.view.mode ≢ Free }
     requires limit { seat.old.knows.view.hold_limit ≢ None }
     requires filled { IsFilled seat.old.knows.view time key }
     ensures of { IsSeatOf words.now seat.new }

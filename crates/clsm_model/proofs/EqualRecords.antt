@@ -1,13 +1,14 @@
 -- What `==` says of changes, deeds and records: whether they are the same.
-use Rattle.std.proofs.Common.{◌≡◌, true, refl, sym, ap}
+use Rattle.std.proofs.Common.{◌≡◌, true, List, refl, sym, ap}
 use Rattle.std.proofs.Math.Bool.{true≢false}
 use Rattle.std.proofs.lemmas.Bool.Decides.{Decides-and}
 use Rattle.std.specs.Bool.{Decides}
 use Rattle.std.specs.Cmp.{unsigned_Decides}
+use Rattle.std.specs.Cmp.Lexicographic.{pointwise_decides}
 use Rattle.clsm_model.specs.declared.slot.Change.{Change}
 use Rattle.clsm_model.specs.declared.slot.Change.TheVariants.{Keep, Set, Remove as Erase}
 use Rattle.clsm_model.specs.declared.record.Deed.{Deed}
-use Rattle.clsm_model.specs.declared.record.Deed.TheVariants.{Put, Remove, Rmw, Get, Snapshot, Close, GetAt, Scan, Page}
+use Rattle.clsm_model.specs.declared.record.Deed.TheVariants.{Put, Remove, Rmw, Get, Snapshot, Close, GetAt, Scan, Page, Batch as Group}
 use Rattle.clsm_model.specs.declared.record.CallRecord.{CallRecord}
 use Rattle.clsm_model.specs.contracts.slot.ChangePartialEq.TheImpl as of_changes
 use Rattle.clsm_model.specs.contracts.slot.ChangeEq.TheImpl.Laws as change_laws
@@ -15,7 +16,9 @@ use Rattle.clsm_model.specs.contracts.record.DeedPartialEq.TheImpl as of_deeds
 use Rattle.clsm_model.specs.contracts.record.DeedEq.TheImpl.Laws as deed_laws
 use Rattle.clsm_model.specs.contracts.record.CallRecordPartialEq.TheImpl as of_records
 use Rattle.clsm_model.specs.contracts.record.CallRecordEq.TheImpl.Laws as record_laws
-use Rattle.clsm_model.proofs.Equals.{Decides-by_same, option_eq-Decides, Value-Decides, Rows-Decides}
+use Rattle.clsm_model.specs.contracts.members.MembersPartialEq.TheImpl as of_members
+use Rattle.clsm_model.specs.Right.{Member}
+use Rattle.clsm_model.proofs.Equals.{Decides-by_same, option_eq-Decides, pair-Decides, Value-Decides, Rows-Decides}
 
 change-same : (a b : Change) → of_changes.ghosts.eq a b ≡ true → a ≡ b
 change-same Keep Keep h = refl
@@ -25,6 +28,9 @@ change-same _ _ h = absurd (true≢false (sym h))
 
 pub Change-Decides : (a b : Change) → Decides (of_changes.ghosts.eq a b) (a ≡ b)
 Change-Decides = Decides-by_same change_laws.laws-law change-same
+
+pub Members-Decides : (a b : List Member) → Decides (of_members.ghosts.eq a b) (a ≡ b)
+Members-Decides = pointwise_decides (pair-Decides unsigned_Decides Change-Decides)
 
 deed-same : (a b : Deed) → of_deeds.ghosts.eq a b ≡ true → a ≡ b
 deed-same (Put key value) (Put key' value') h =
@@ -45,6 +51,7 @@ deed-same (Scan lo hi rows) (Scan lo' hi' rows') h =
 deed-same (Page from hi max rows more) (Page from' hi' max' rows' more') h =
     let e = (Decides-and _ _ (unsigned_Decides from from') (Decides-and _ _ (unsigned_Decides hi hi') (Decides-and _ _ (unsigned_Decides max max') (Decides-and _ _ (Rows-Decides rows rows') (option_eq-Decides unsigned_Decides more more'))))).0 h in
     λ i. Page (e.0 i) (e.1.0 i) (e.1.1.0 i) (e.1.1.1.0 i) (e.1.1.1.1 i)
+deed-same (Group members) (Group members') h = ap Group ((Members-Decides members members').0 h)
 deed-same _ _ h = absurd (true≢false (sym h))
 
 pub Deed-Decides : (a b : Deed) → Decides (of_deeds.ghosts.eq a b) (a ≡ b)

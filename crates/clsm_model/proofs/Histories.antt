@@ -2,7 +2,7 @@
 use Rattle.std.proofs.Common.{◌≡◌, ℕ, ◌<◌, zero, suc, List, take, refl, sym, ap, ◌∙◌, arith}
 use Rattle.std.proofs.lemmas.List.{get_or-take}
 use Rattle.clsm_model.specs.declared.record.Deed.{Deed}
-use Rattle.clsm_model.specs.declared.record.Deed.TheVariants.{Put, Remove, Rmw, Get, Snapshot, Close, GetAt, Scan, Page}
+use Rattle.clsm_model.specs.declared.record.Deed.TheVariants.{Put, Remove, Rmw, Get, Snapshot, Close, GetAt, Scan, Page, Batch as Group}
 use Rattle.clsm_model.specs.declared.slot.Slot.{Slot}
 use Rattle.clsm_model.specs.declared.slot.Slot.TheVariants.{Nothing}
 use Rattle.clsm_model.specs.History.{History, left_by, newest, or_else, plain, slot_at, value, write_of}
@@ -39,11 +39,13 @@ Reads-same h h' s (Put key written) same r = tt
 Reads-same h h' s (Remove key) same r = tt
 Reads-same h h' s Snapshot same r = tt
 Reads-same h h' s Close same r = tt
+Reads-same h h' s (Group members) same r = tt
 
 -- what a right deed read
 pub IsRightDeed-reads : (h : History) (s : ℕ) (deed : Deed) → IsRightDeed h s deed → Reads h s deed
 IsRightDeed-reads h s (Put key written) right = tt
 IsRightDeed-reads h s (Remove key) right = tt
+IsRightDeed-reads h s (Group members) right = tt
 IsRightDeed-reads h s deed right = right.reads
 
 -- ---- a history's first slots

@@ -1,4 +1,5 @@
 pub mod Histories
+pub mod Batches
 pub mod Maps
 pub mod Ranges
 pub mod Texts
@@ -7,3 +8,4 @@ pub mod EqualRecords
 pub mod Pages
 pub mod Rising
 pub mod Written
+pub mod Writes

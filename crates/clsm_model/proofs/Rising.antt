@@ -3,7 +3,7 @@ use Rattle.std.proofs.Common.{◌≡◌, ℕ, ◌≤◌, List, [], ◌∷◌, �
 use Rattle.std.proofs.lemmas.List.{append-nil}
 use Rattle.clsm_model.specs.declared.slot.Change.TheVariants.{Keep, Set, Remove as Erase}
 use Rattle.clsm_model.specs.declared.record.Deed.{Deed}
-use Rattle.clsm_model.specs.declared.record.Deed.TheVariants.{Put, Remove, Rmw, Get, Snapshot, Close, GetAt, Scan, Page}
+use Rattle.clsm_model.specs.declared.record.Deed.TheVariants.{Put, Remove, Rmw, Get, Snapshot, Close, GetAt, Scan, Page, Batch as Group}
 use Rattle.clsm_model.specs.declared.record.CallRecord.{CallRecord}
 use Rattle.clsm_model.specs.Seats.{IsNext, IsRising, Rises, due_after, last_due, last_open, open_after}
 
@@ -17,6 +17,7 @@ due_grows due t snapshot (Rmw key old Keep) next = next
 due_grows due t snapshot (Rmw key old (Set written)) next = omega arith
 due_grows due t snapshot (Rmw key old Erase) next = omega arith
 due_grows due t snapshot (Get key reply) next = next
+due_grows due t snapshot (Group members) next = omega arith
 due_grows due t snapshot Snapshot next = next.1
 due_grows due t snapshot Close next = omega arith
 due_grows due t snapshot (GetAt key reply) next = omega arith

@@ -1,13 +1,10 @@
 -- The history of a store, and what it answers: one list of writes indexed by timestamp.
-use Rattle.std.specs.Prelude.{ℕ, ◌+◌, ◌<◌, ◌≤◌, ◌==◌, zero, suc, cond, List, [], length, Option, Some, None, slice_index_or}
+use Rattle.std.specs.Prelude.{◌≡◌, ℕ, ◌+◌, ◌<◌, ◌≤◌, ◌==◌, ◌⊎◌, zero, suc, cond, nat_lt, List, [], ◌∷◌, length, take, filter, Option, Some, None, slice_index_or}
 use Rattle.std.specs.List.{AllByRecursion}
+use mathlib.Core.List.{IsPrefix}
+use Rattle.clsm_model.specs.declared.batch.Batch.{Batch}
 use Rattle.clsm_model.specs.declared.slot.Slot.{Slot}
 use Rattle.clsm_model.specs.declared.slot.Slot.TheVariants.{Nothing, Wrote}
-
--- the times of a batch: `size` of them, from `first` on
-pub record Batch : Type 0 where
-  pub first : ℕ
-  pub size : ℕ
 
 -- what each timestamp came to, and the batches
 pub record History : Type 0 where
@@ -60,7 +57,36 @@ value h k s = left_by (newest h k s)
 abbrev pub IsInside : ℕ → Batch → Type 0
 IsInside s b = (b.first < s) × (s < b.first + b.size)
 
+-- the time lies strictly inside no batch of the list
+abbrev pub IsUncut : List Batch → ℕ → Type 0
+IsUncut batches s = AllByRecursion (λ b. ¬ IsInside s b) batches
+
+-- the batch is one of the list
+abbrev pub IsListed : List Batch → Batch → Type 0
+IsListed [] b = ⊥
+IsListed (a ∷ rest) b = (a ≡ b) ⊎ IsListed rest b
+
+-- each batch of the list has a member; none begins before the time, nor before an earlier one ends,
+-- nor ends after the bound: so they don't overlap
+abbrev pub AreInTurn : ℕ → List Batch → ℕ → Type 0
+AreInTurn from [] bound = from ≤ bound
+AreInTurn from (b ∷ bs) bound = (from ≤ b.first) × (0 < b.size) × AreInTurn (b.first + b.size) bs bound
+
+-- the batches that begin below the time
+abbrev pub batches_below : ℕ → List Batch → List Batch
+batches_below s batches = filter (λ b. nat_lt b.first s) batches
+
+-- the history below a time: a beginning of it, where the time cuts no batch
+abbrev pub below : ℕ → History → History
+below s h = record { slots = take s h.slots; batches = batches_below s h.batches }
+
+-- the history is a beginning of the other: its slots are the first of the other's, and the same
+-- batches begin below its end
+pub record IsBeginning (g h : History) : Type 0 where
+  pub slots : IsPrefix g.slots h.slots
+  pub batches : batches_below (end_of g) g.batches ≡ batches_below (end_of g) h.batches
+
 -- a read may stand at this time: the history reaches it, and no batch is cut by it
 pub record IsReadable (h : History) (s : ℕ) : Type 0 where
   pub reached : s ≤ end_of h
-  pub uncut : AllByRecursion (λ b. ¬ IsInside s b) h.batches
+  pub uncut : IsUncut h.batches s

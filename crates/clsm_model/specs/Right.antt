@@ -1,11 +1,11 @@
 -- What a call did, against a history: the write that it made, and what makes its reading right.
-use Rattle.std.specs.Prelude.{◌≡◌, ℕ, List, [], ◌∷◌, take, drop, Option, Some, None}
+use Rattle.std.specs.Prelude.{◌≡◌, ◌≢◌, ℕ, zero, suc, ◌-◌, ◌==◌, nat_le, cond, List, [], ◌∷◌, take, drop, Option, Some, None}
 use Rattle.clsm_model.specs.declared.slot.Slot.{Slot}
 use Rattle.clsm_model.specs.declared.slot.Slot.TheVariants.{Wrote}
 use Rattle.clsm_model.specs.declared.slot.Change.{Change}
 use Rattle.clsm_model.specs.declared.slot.Change.TheVariants.{Keep, Set, Remove as Erase}
 use Rattle.clsm_model.specs.declared.record.Deed.{Deed}
-use Rattle.clsm_model.specs.declared.record.Deed.TheVariants.{Put, Remove, Rmw, Get, GetAt, Scan, Page}
+use Rattle.clsm_model.specs.declared.record.Deed.TheVariants.{Put, Remove, Rmw, Get, GetAt, Scan, Page, Batch as Group}
 use Rattle.clsm_model.specs.History.{History, IsReadable, value}
 use Rattle.clsm_model.specs.Map.{Pair, IsRange}
 
@@ -15,12 +15,33 @@ change_by seat key Keep = None
 change_by seat key (Set written) = Some (Wrote seat key (Some written))
 change_by seat key Erase = Some (Wrote seat key None)
 
--- the write that the deed is, where the seat does it
+-- a member of a batch: its key, and what is written there
+abbrev pub Member : Type 0
+Member = ℕ × Change
+
+-- each member is a write
+abbrev pub AreWrites : List Member → Type 0
+AreWrites [] = Unit {0}
+AreWrites (m ∷ ms) = (m.1 ≢ Keep) × AreWrites ms
+
+-- the write that the member with this number is, where the seat makes it
+abbrev pub member_write : ℕ → List Member → ℕ → Option Slot
+member_write seat [] n = None
+member_write seat (m ∷ ms) zero = change_by seat m.0 m.1
+member_write seat (m ∷ ms) (suc n) = member_write seat ms n
+
+-- the write that the deed is, where the seat does it; a batch is several
 abbrev pub write_by : ℕ → Deed → Option Slot
 write_by seat (Put key written) = Some (Wrote seat key (Some written))
 write_by seat (Remove key) = Some (Wrote seat key None)
 write_by seat (Rmw key old change) = change_by seat key change
 write_by seat _ = None
+
+-- the write that the deed, done by the seat at the time s, makes at the time t: a batch has a time
+-- for each member, from s on
+abbrev pub write_at : ℕ → ℕ → Deed → ℕ → Option Slot
+write_at seat s (Group members) t = cond (nat_le s t) (member_write seat members (t - s)) None
+write_at seat s deed t = cond (s == t) (write_by seat deed) None
 
 -- the key of the first row, where there is one
 abbrev pub first_key : List Pair → Option ℕ

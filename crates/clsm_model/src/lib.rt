@@ -2,14 +2,18 @@
 //! word.
 #![tactic(auto)]
 
+mod batch;
 mod config;
+mod members;
 mod plain_map;
 mod record;
 mod rows;
 mod slot;
 mod value;
 
+pub use batch::Batch;
 pub use config::{Config, OpenError};
+pub use members::{Members, are_writes};
 pub use plain_map::{Memory, PlainMap};
 pub use record::{CallRecord, Deed};
 pub use rows::Rows;

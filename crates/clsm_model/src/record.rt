@@ -1,6 +1,7 @@
 ghost use Rattle.std.specs.Prelude.{◌≡◌};
 
 use crate::Time;
+use crate::members::Members;
 use crate::rows::Rows;
 use crate::slot::Change;
 use crate::value::Value;
@@ -48,6 +49,11 @@ pub enum Deed {
         max: u64,
         rows: Rows,
         more: Option<u64>,
+    },
+    /// Writes at the record's time and at those behind it, one for each member. No read stands
+    /// between them.
+    Batch {
+        members: Members,
     },
 }
 

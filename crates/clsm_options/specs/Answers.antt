@@ -66,6 +66,7 @@ run rows = record {
   ops = number_of (codes "ops") rows;
   keys = number_of (codes "keys") rows;
   seed = number_of (codes "seed") rows;
+  batch = flag_of (codes "batch") rows;
   stats = flag_of (codes "stats") rows;
   progress = flag_of (codes "progress") rows;
   records = flag_of (codes "records") rows;

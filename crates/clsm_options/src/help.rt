@@ -22,6 +22,7 @@ FROM are keys, numbers of 64 bits; V is 1 to 8 such words, joined by commas.
 
   put K V, remove K, try K V   a write: @T is its time; full where no write may be made
   add K D, claim K V           add D to the word of K; write V where K has no value
+  batch K=V K=none ..          several writes as one, K=none removes K: @T is the time of the first
   get K                        the value of K, or none, by the writes below T
   snap, getat K, close         open a snapshot, read K under it, close it
   scan LO HI, page FROM HI MAX the keys with a value, under the open snapshot if there is one
@@ -98,6 +99,8 @@ pub(crate) const OPS: &str = "Calls of each thread, 0 to 1,000,000";
 pub(crate) const KEYS: &str = "Keys that the calls are of, 1 to 1,000,000";
 
 pub(crate) const SEED: &str = "What the calls are drawn from";
+
+pub(crate) const BATCH: &str = "Draw batches of two writes, too: one call in sixteen";
 
 pub(crate) const STATS: &str =
     "Print rates and times of the calls to the standard error, at the end";

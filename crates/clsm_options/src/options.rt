@@ -24,6 +24,8 @@ pub struct RunOptions {
     pub keys: u64,
     /// What the calls are drawn from.
     pub seed: u64,
+    /// `--batch`: batches are among the calls.
+    pub batch: bool,
     /// `--stats`
     pub stats: bool,
     /// `--progress`

@@ -67,6 +67,7 @@ fn run(matches: &ArgMatches<'_>) -> RunOptions
         ops: number(matches, "ops"),
         keys: number(matches, "keys"),
         seed: number(matches, "seed"),
+        batch: flag(matches, "batch"),
         stats: flag(matches, "stats"),
         progress: flag(matches, "progress"),
         records: flag(matches, "records"),

@@ -31,9 +31,9 @@ notes_of old first noted new b x t sound free pinned one two three =
     let e : new.view ≡ looked old.layout (record (looked old.layout old.view Clock b) { snapshot = Noted b }) Clock t =
     three.view ∙ (λ i. looked (layout i) ((two.view ∙ ap (λ (v : View). record v { snapshot = Noted b }) one.view) i) Clock t) in
     let is = e ∙ noted_view old.layout old.view b t free pinned in
-    let kept = past_trans old first noted (past_by (Look Clock) old first b sound one refl) (past_by (Note b) first noted x one.sound two refl) in
+    let kept = past_trans old first noted (past_by (Look Clock) old first b one refl) (past_by (Note b) first noted x two refl) in
     record {
-      keeps = past_trans old noted new kept (past_by (Look Clock) noted new t two.sound three refl);
+      keeps = past_trans old noted new kept (past_by (Look Clock) noted new t three refl);
       view = is ∙ ap (λ (s : SnapshotState). record old.view { fresh_clock = Some t; clock = Some t; pin_clock = Some t; snapshot = s }) (sym (ap (λ (v : View). v.snapshot) is));
       timed = ap (λ (v : View). timed v.snapshot) is;
       due = let tells = three.tells.0 in let d = ap (λ (v : View). v.due) is in omega arith;
@@ -50,6 +50,6 @@ is_opened (Timed noted time) t e = absurd cc
 
 pub closes_of : (old new : Known) (x t : ℕ) → Sound old → open_time old.view.snapshot ≡ Some t → Follows CloseSnapshot old x new → ClosesSnapshot old new t
 closes_of old new x t sound opened one = record {
-  keeps = past_by CloseSnapshot old new x sound one refl;
+  keeps = past_by CloseSnapshot old new x one refl;
   view = one.view ∙ ap (λ (o : Option ℕ). record old.view { snapshot = Absent; calls = old.view.calls ++ call_of old.number (or_zero o) Close ∷ [] }) opened;
 }

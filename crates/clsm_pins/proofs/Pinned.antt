@@ -16,7 +16,7 @@ pins_of old mid new x c sound one two =
     let e : new.view ≡ looked old.layout (view_after old.layout old.number old.view Pin x) Merged c = two.view ∙ (λ i. looked (one.layout i) (one.view i) Merged c) in
     let reached = ap (λ (v : View). v.reached) e in
     record {
-      keeps = past_trans old mid new (past_by Pin old mid x sound one refl) (past_by (Look Merged) mid new c one.sound two refl);
+      keeps = past_trans old mid new (past_by Pin old mid x one refl) (past_by (Look Merged) mid new c two refl);
       view = e ∙ ap (λ (r : ℕ). record old.view { pin = next_word old.view.pin; pinned = true; held = Some c; pin_clock = None; reached = r }) (sym reached);
       reached = omega arith;
       merged = omega arith;
@@ -24,7 +24,7 @@ pins_of old mid new x c sound one two =
 
 pub unpins_of : (old new : Known) (x : ℕ) (end : End) → Sound old → Follows (Unpin end) old x new → Unpins old new end
 unpins_of old new x end sound one = record {
-  keeps = past_by (Unpin end) old new x sound one refl;
+  keeps = past_by (Unpin end) old new x one refl;
   view = one.view;
   has_told = one.reaches;
 }

@@ -1,4 +1,4 @@
-use clsm_model::Value;
+use clsm_model::{Change, Value};
 
 /// A call that a workload or an exploration hands to a seat.
 #[derive(Clone, Copy, PartialEq, Eq, Debug)]
@@ -12,15 +12,19 @@ pub enum Deal {
     Close,
     GetAt { key: u64 },
     Scan { lo: u64, hi: u64 },
+    /// Two writes at once: keys, with what is done there.
+    Batch { members: [(u64, Change); 2] },
 }
 
 impl Deal {
     /// Whether it is passed over: it asks for an open snapshot where there is none, or for none
-    /// where one is open.
+    /// where one is open; or it is a batch with a member that keeps its key, which is refused
+    /// before any step.
     pub(crate) fn is_passed_over(&self, has_snapshot: bool) -> bool {
         match self {
             Deal::Snap => has_snapshot,
             Deal::Close | Deal::GetAt { .. } => !has_snapshot,
+            Deal::Batch { members } => members.iter().any(|member| member.1 == Change::Keep),
             _ => false,
         }
     }
@@ -34,12 +38,17 @@ impl Deal {
             | Deal::Add { key, .. }
             | Deal::Claim { key, .. }
             | Deal::GetAt { key } => key,
-            Deal::Snap | Deal::Close | Deal::Scan { .. } => 0,
+            Deal::Snap | Deal::Close | Deal::Scan { .. } | Deal::Batch { .. } => 0,
         }
     }
 
     /// Whether it reads its key and then writes it.
     pub(crate) fn is_change(&self) -> bool {
         matches!(self, Deal::Add { .. } | Deal::Claim { .. })
+    }
+
+    /// Whether it takes the lock alone.
+    pub(crate) fn is_batch(&self) -> bool {
+        matches!(self, Deal::Batch { .. })
     }
 }

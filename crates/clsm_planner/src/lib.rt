@@ -2,6 +2,7 @@
 //! what those before it found.
 #![tactic(auto)]
 
+mod batching;
 mod caller;
 mod cells;
 mod deal;

@@ -6,7 +6,7 @@ use clsm_model::{Time, Value};
 /// The parts of calls. Each begins where no step of it was made, and has at least one step.
 #[derive(Clone, Copy, PartialEq, Eq, Hash)]
 pub enum Stage {
-    /// The lock is taken, shared.
+    /// The lock is taken: alone for a batch, else shared.
     Enter,
     /// A read begins.
     Begin,
@@ -22,13 +22,17 @@ pub enum Stage {
     Answer,
     /// A time is drawn.
     Draw,
-    /// Its cell is filled and linked.
+    /// The times of a batch are found: those from the clock on.
+    Times,
+    /// Its cell is filled and linked; the cell of a batch's member is taken with its key.
     Fill,
     Link,
     /// It is inserted into the ordered list, behind this place or a later one.
     Insert(u64),
-    /// It is decided.
+    /// It is decided. The next member of a batch is filled then.
     Decide,
+    /// A batch is committed.
+    Commit,
     /// The read under a change ends with no record.
     Unpin,
     /// The lock is left.
@@ -43,11 +47,12 @@ pub enum Stage {
 #[derive(Clone, Copy, PartialEq, Eq, Hash)]
 pub struct Place {
     pub stage: Stage,
-    /// The component held, and the time of the read.
+    /// The component held, and the time of the read, or of the first member of a batch.
     pub component: u64,
     pub time: Time,
     /// What a change read.
     pub old: Option<Value>,
+    /// The time that is written.
     pub drawn: Option<Time>,
 }
 

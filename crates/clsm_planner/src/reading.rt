@@ -202,27 +202,37 @@ impl Place {
         })
     }
 
-    /// What the call writes, as its record says it.
-    pub(crate) fn deed_of(&self, deal: &Deal) -> Deed {
-        match *deal {
-            Deal::Put { key, value } => Deed::Put { key, value },
-            Deal::Add { key, .. } | Deal::Claim { key, .. } => {
-                let change = change_of(deal, &self.old);
-                let old = self.old;
-                Deed::Rmw { key, old, change }
-            }
-            _ => Deed::Remove { key: deal.key() },
+    /// The key that the call is about, or the member of a batch that is written.
+    pub(crate) fn key_of(&self, deal: &Deal) -> u64 {
+        match self.member(deal) {
+            Some((key, _)) => key,
+            None => deal.key(),
         }
     }
 
-    /// The value that the call writes; none where it removes.
+    /// What is written, as a record of one write says it.
+    pub(crate) fn deed_of(&self, deal: &Deal) -> Deed {
+        let key = self.key_of(deal);
+        if deal.is_change() {
+            let change = change_of(deal, &self.old);
+            let old = self.old;
+            return Deed::Rmw { key, old, change };
+        }
+        match self.value_of(deal) {
+            Some(value) => Deed::Put { key, value },
+            None => Deed::Remove { key },
+        }
+    }
+
+    /// The value that is written; none where it is a removal.
     pub(crate) fn value_of(&self, deal: &Deal) -> Option<Value> {
-        match *deal {
-            Deal::Put { value, .. } => Some(value),
-            Deal::Add { .. } | Deal::Claim { .. } => match change_of(deal, &self.old) {
-                Change::Set(value) => Some(value),
-                _ => None,
-            },
+        let change = match deal {
+            Deal::Put { value, .. } => Change::Set(*value),
+            Deal::Add { .. } | Deal::Claim { .. } => change_of(deal, &self.old),
+            _ => self.member(deal).map_or(Change::Remove, |member| member.1),
+        };
+        match change {
+            Change::Set(value) => Some(value),
             _ => None,
         }
     }

@@ -4,13 +4,12 @@ use crate::place::{Place, Setting, Stage};
 use clsm_law::{EXCLUSIVE_HOLD, End, Layout, Part, Step, Word};
 use clsm_model::{Deed, Time, Value};
 
-/// Fills the drawn cell: its key, its length and its words.
-fn fill_cell(made: &mut Made, key: u64, value: Option<&Value>) -> Result<(), Stop> {
+/// Fills the length and the words of the drawn cell.
+fn fill_value(made: &mut Made, value: Option<&Value>) -> Result<(), Stop> {
     let words = match value {
         Some(value) => value.words(),
         None => &[],
     };
-    made.step(Step::Fill(Part::Key, key))?;
     made.step(Step::Fill(Part::Length, words.len() as u64))?;
     for (index, word) in words.iter().enumerate() {
         made.step(Step::Fill(Part::Value(index as u64), *word))?;
@@ -27,8 +26,11 @@ fn head_of(layout: &Layout, time: Time, key: u64) -> Word {
 
 impl Place {
     /// Takes the lock shared; where it is held exclusively, or another seat was first, it looks
-    /// again.
+    /// again. A batch takes it alone.
     pub(crate) fn enter(&self, made: &mut Made, setting: &Setting) -> Result<Place, Stop> {
+        if setting.deal.is_batch() {
+            return self.enter_alone(made);
+        }
         let holders = made.look(Word::Lock)?;
         if holders >= EXCLUSIVE_HOLD || !made.wins(Step::EnterShared(holders))? {
             return Err(Stop::Again);
@@ -37,7 +39,8 @@ impl Place {
         Ok(self.at(if is_change { Stage::Begin } else { Stage::Draw }))
     }
 
-    /// Draws the time that the clock says, if it is below the limit.
+    /// Draws the time that the clock says, if it is below the limit; where another seat was first,
+    /// it looks again.
     pub(crate) fn draw(&self, made: &mut Made, setting: &Setting) -> Result<Place, Stop> {
         let is_change = setting.deal.is_change();
         let limit = made.look(Word::Limit)?;
@@ -51,7 +54,7 @@ impl Place {
             return Ok(self.at(stage));
         }
         if !made.wins(Step::Draw(time))? {
-            return self.try_again(is_change);
+            return Err(Stop::Again);
         }
         let stage = if is_change { Stage::Front } else { Stage::Fill };
         let drawn = Some(time);
@@ -62,25 +65,24 @@ impl Place {
         })
     }
 
-    /// After a lost draw or decide a change reads again, and another write draws again.
-    fn try_again(&self, is_change: bool) -> Result<Place, Stop> {
-        if is_change {
-            Ok(self.read_again())
-        } else {
-            Ok(Place::new(Stage::Draw))
-        }
-    }
-
+    /// Fills the drawn cell, but for its link. The cell of a batch's member is taken with its key.
     pub(crate) fn fill(&self, made: &mut Made, setting: &Setting) -> Result<Place, Stop> {
+        let key = self.key_of(setting.deal);
+        made.step(if setting.deal.is_batch() {
+            Step::Stage(self.drawn.unwrap_or(0), key)
+        } else {
+            Step::Fill(Part::Key, key)
+        })?;
         let value = self.value_of(setting.deal);
-        fill_cell(made, setting.deal.key(), value.as_ref())?;
+        fill_value(made, value.as_ref())?;
         Ok(self.at(Stage::Link))
     }
 
     /// Puts the drawn cell in front of its chain; where another was first, it looks again.
     pub(crate) fn link(&self, made: &mut Made, setting: &Setting) -> Result<Place, Stop> {
         let time = self.drawn.unwrap_or(0);
-        let head = made.look(head_of(setting.layout, time, setting.deal.key()))?;
+        let key = self.key_of(setting.deal);
+        let head = made.look(head_of(setting.layout, time, key))?;
         made.step(Step::Fill(Part::Next, head))?;
         if !made.wins(Step::Link(head))? {
             return Err(Stop::Again);
@@ -88,18 +90,22 @@ impl Place {
         Ok(self.at(Stage::Insert(0)))
     }
 
+    /// Decides the drawn time. Where it was cancelled a change reads again, and another write draws
+    /// again. No one cancels a time of a batch.
     pub(crate) fn decide(&self, made: &mut Made, setting: &Setting) -> Result<Place, Stop> {
         let is_change = setting.deal.is_change();
         let time = self.drawn.unwrap_or(0);
         let deed: Deed = self.deed_of(setting.deal);
-        if !made.wins(Step::Decide(time, deed))? {
-            return self.try_again(is_change);
+        let is_won = made.wins(Step::Decide(time, deed))?;
+        if setting.deal.is_batch() {
+            return Ok(self.after_member());
         }
-        Ok(Place::new(if is_change {
-            Stage::Unpin
-        } else {
-            Stage::Leave
-        }))
+        Ok(match (is_change, is_won) {
+            (true, true) => Place::new(Stage::Unpin),
+            (true, false) => self.read_again(),
+            (false, true) => Place::new(Stage::Leave),
+            (false, false) => Place::new(Stage::Draw),
+        })
     }
 
     /// Ends the read under a change with no record.
@@ -108,8 +114,12 @@ impl Place {
         Ok(Place::new(Stage::Leave))
     }
 
-    pub(crate) fn leave(&self, made: &mut Made) -> Result<Place, Stop> {
-        made.step(Step::LeaveShared)?;
+    pub(crate) fn leave(&self, made: &mut Made, setting: &Setting) -> Result<Place, Stop> {
+        made.step(if setting.deal.is_batch() {
+            Step::LeaveExclusive
+        } else {
+            Step::LeaveShared
+        })?;
         Ok(self.at(Stage::Over))
     }
 

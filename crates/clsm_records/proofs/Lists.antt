@@ -1,5 +1,5 @@
 -- The records that lines say, line by line.
-use Rattle.std.proofs.Common.{◌≡◌, ℕ, zero, suc, ◌+◌, ◌-◌, ◌<◌, ◌≤◌, List, [], ◌∷◌, ◌++◌}
+use Rattle.std.proofs.Common.{◌≡◌, ℕ, zero, suc, ◌+◌, ◌-◌, ◌<◌, List, [], ◌∷◌, ◌++◌}
 use Rattle.std.proofs.Common.{length, take, get_or, Option, Some, None, Ok, Err, All, IsSome, refl}
 use Rattle.std.proofs.Common.{ap, sym, ◌∙◌, subst}
 use Rattle.std.proofs.Common.{arith, rules, append-nil, IsSomeAnd, slice_get, inl, inr}
@@ -15,7 +15,7 @@ use Rattle.clsm_text.specs.declared.line.LineError.{LineError}
 use Rattle.clsm_text.specs.declared.line.LineError.TheVariants.{Bad, Memory}
 use Rattle.clsm_records.specs.Audit.{AreSaid, records_of, StandsOn, IsListOf, IsGood, StopsLines}
 use Rattle.clsm_records.specs.Lines.{Reads}
-use Rattle.clsm_records.proofs.Zips.{zip_push, get_seam}
+use Rattle.clsm_text.proofs.Zips.{zip_push, get_seam}
 
 -- a line that is not good is bad
 pub bad_not_good : (line : List ℕ) → Reads line (Err Bad) → ¬ IsGood line

@@ -2,59 +2,31 @@
 use Rattle.std.proofs.Common.{◌≡◌, ◌≢◌, ℕ, zero, suc, ◌+◌, ◌-◌, ◌<◌, ◌≤◌, List, [], ◌∷◌, ◌++◌}
 use Rattle.std.proofs.Common.{length, map, take}
 use Rattle.std.proofs.Common.{drop, get_or, codes, refl, ap, sym, ◌∙◌, arith, subst, append-nil}
-use Rattle.std.proofs.Common.{drop_of_length-le, lit<, Option, Some, None}
+use Rattle.std.proofs.Common.{lit<, Option, Some, None}
 use Rattle.std.proofs.lemmas.List.{map_more, map-append, flat_map_more, get_or-map, length-map}
 use Rattle.std.proofs.lemmas.List.{length-append, take_all}
 use Rattle.std.proofs.lemmas.List.Concat.{flat_map-append}
 use Rattle.std.specs.Borrow.{Bor}
-use Rattle.std.specs.List.{AllZip, position_or_len, join_with_byte, after_first}
+use Rattle.std.specs.List.{position_or_len, join_with_byte}
 use Rattle.clsm_model.specs.declared.record.CallRecord.{CallRecord}
 use Rattle.clsm_model.specs.declared.record.Deed.{Deed}
 use Rattle.clsm_model.specs.declared.record.Deed.TheVariants.{Put, Remove, Rmw, Get}
-use Rattle.clsm_model.specs.declared.record.Deed.TheVariants.{Snapshot, Close, GetAt, Scan, Page}
+use Rattle.clsm_model.specs.declared.record.Deed.TheVariants.{Snapshot, Close, GetAt, Scan, Page, Batch}
 use Rattle.clsm_text.specs.Line.{texts_of}
-use Rattle.clsm_text.specs.Number.{IsNumber, IsValue}
-use Rattle.clsm_records.specs.Record.{is_equals, WritesNumber, WritesSeat, WritesRow, WriteRows}
+use Rattle.clsm_text.specs.Number.{IsValue}
+use Rattle.clsm_text.specs.Member.{is_equals, WritesNumber}
+use Rattle.clsm_text.proofs.Readings.{nil_no_value, no_equals}
+use Rattle.clsm_records.specs.Record.{WritesSeat, WritesRow, WriteRows}
 use Rattle.clsm_records.specs.Record.{WritePage, SayDeed, Say}
-use Rattle.clsm_records.specs.Written.{row_text, spaced}
-use Rattle.clsm_records.proofs.Zips.{zip_push, zip_at, get_seam}
+use Rattle.clsm_records.specs.Written.{spaced}
+use Rattle.clsm_text.proofs.Zips.{zip_at, get_seam}
 
 -- ---- rows
-
--- the empty text is no value
-nil_no_value : ¬ IsValue []
-nil_no_value value =
-    let number : IsNumber [] = value.numbers 0 [] (omega arith) in
-    omega (arith, number.numeral.0)
 
 -- a text with no `=` is no row
 pub no_row : (word : List ℕ) → position_or_len is_equals word ≡ length word →
     (row : ℕ × List ℕ) → ¬ WritesRow word row
-no_row word far row writes =
-    let empty : after_first is_equals word ≡ [] = drop_of_length-le word (omega arith) in
-    nil_no_value (subst IsValue empty writes.1.0)
-
--- one more row is read
-pub rows_more : (words : List (Bor (List ℕ))) (i : ℕ) (d : Bor (List ℕ)) (rows : List (ℕ × List ℕ))
-    (row : ℕ × List ℕ) → i < length words → WriteRows (texts_of (take i words)) rows →
-    WritesRow (get_or words i d).now row →
-    WriteRows (texts_of (take (i + 1) words)) (rows ++ row ∷ [])
-rows_more words i d rows row inside before writes =
-    subst (λ (ws : List (List ℕ)). WriteRows ws (rows ++ row ∷ []))
-    (sym (map_more (λ (w : Bor (List ℕ)). w.now) words i d inside))
-    (zip_push WritesRow (texts_of (take i words)) rows (get_or words i d).now row before writes)
-
--- a word that is no row stands in no rows
-pub no_rows : (words : List (Bor (List ℕ))) (i : ℕ) (d : Bor (List ℕ)) → i < length words →
-    ((row : ℕ × List ℕ) → ¬ WritesRow (get_or words i d).now row) →
-    (rows : List (ℕ × List ℕ)) → ¬ WriteRows (texts_of words) rows
-no_rows words i d inside refused rows write =
-    let long : length (texts_of words) ≡ length words =
-    length-map words (λ (w : Bor (List ℕ)). w.now) in
-    let (row, writes) = zip_at WritesRow (texts_of words) rows i d.now write (omega arith) in
-    refused row
-    (subst (λ (w : List ℕ). WritesRow w row)
-    (get_or-map (λ (w : Bor (List ℕ)). w.now) words i d d.now inside) writes)
+no_row word far row writes = nil_no_value (subst IsValue (no_equals word far) writes.1.0)
 
 -- ---- the end of a page
 
@@ -170,6 +142,9 @@ page_only f h m words (GetAt key reply) refused says =
 page_only f h m words (Scan lo hi rows) refused says =
     let letter : 112 ≡ 115 = ap (λ (l : List ℕ). get_or l 0 0) says.0 in
     absurd (apart 112 115 (lit< tt) letter)
+page_only f h m words (Batch members) refused says =
+    let letter : 112 ≡ 98 = ap (λ (l : List ℕ). get_or l 0 0) says.0 in
+    absurd (apart 98 112 (lit< tt) (sym letter))
 
 pub no_page : (words : List (Bor (List ℕ))) (deed : Deed) → 3 ≤ length words →
     ((page : List (ℕ × List ℕ) × Option ℕ) →
@@ -213,11 +188,11 @@ joined_two word words more =
     joined word (words ++ more)
     ∙ ap (λ (end : List ℕ). word ++ end) (flat_map-append (λ (w : List ℕ). 32 ∷ w) words more)
 
--- one more row is written
-pub spaced_more : (rows : List (ℕ × List ℕ)) (i : ℕ) (d : ℕ × List ℕ) → i < length rows →
-    spaced (map row_text (take i rows)) ++ (32 ∷ row_text (get_or rows i d))
-    ≡ spaced (map row_text (take (i + 1) rows))
-spaced_more rows i d inside =
-    flat_map_more (λ (w : List ℕ). 32 ∷ w) [] (map row_text (take i rows))
-    (row_text (get_or rows i d))
-    ∙ ap (λ (rs : List (List ℕ)). spaced rs) (sym (map_more row_text rows i d inside))
+-- one more word is written
+pub spaced_more : {A : Type 0} (text_of : A → List ℕ) (xs : List A) (i : ℕ) (d : A) →
+    i < length xs →
+    spaced (map text_of (take i xs)) ++ (32 ∷ text_of (get_or xs i d))
+    ≡ spaced (map text_of (take (i + 1) xs))
+spaced_more text_of xs i d inside =
+    flat_map_more (λ (w : List ℕ). 32 ∷ w) [] (map text_of (take i xs)) (text_of (get_or xs i d))
+    ∙ ap (λ (rs : List (List ℕ)). spaced rs) (sym (map_more text_of xs i d inside))

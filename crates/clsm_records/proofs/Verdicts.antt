@@ -1,7 +1,7 @@
 -- The audit of the records that lines say.
-use Rattle.std.proofs.Common.{◌≡◌, ℕ, zero, suc, ◌+◌, ◌<◌, List, [], ◌∷◌, length, get_or}
+use Rattle.std.proofs.Common.{◌≡◌, ℕ, zero, suc, ◌<◌, List, [], ◌∷◌, length, get_or}
 use Rattle.std.proofs.Common.{IfSome, slice_get}
-use Rattle.std.proofs.Common.{IsSome, sym, subst, arith}
+use Rattle.std.proofs.Common.{sym, subst, arith}
 use Rattle.std.proofs.lemmas.List.{get_or_read}
 use Rattle.clsm_model.specs.declared.config.Config.{Config}
 use Rattle.clsm_model.specs.declared.record.CallRecord.{CallRecord}

@@ -1,7 +1,7 @@
 -- The audit of the records that lines say.
 use Rattle.std.specs.Prelude.{◌≡◌, ℕ, ◌-◌, ◌<◌, ◌≤◌, ⊤, List, [], ◌∷◌, length, take}
 use Rattle.std.specs.Prelude.{filter_map, slice_get, All, Contains, IfSome, IsSome, IsSomeAnd}
-use Rattle.std.specs.Prelude.{slice_index, slice_index_or, Option, Some, None, Ok}
+use Rattle.std.specs.Prelude.{slice_index, slice_index_or, Option, Ok}
 use Rattle.std.specs.List.{AllZip}
 use Rattle.clsm_model.specs.declared.config.Config.{Config}
 use Rattle.clsm_model.specs.declared.record.CallRecord.{CallRecord}

@@ -1,25 +1,17 @@
 -- Records of calls, as the words of a line say them.
-use Rattle.std.specs.Prelude.{◌≡◌, ℕ, ◌^◌, ◌-◌, ◌==◌, min, ⊤, Bool, List, [], ◌∷◌, ◌++◌, codes}
+use Rattle.std.specs.Prelude.{◌≡◌, ℕ, ◌^◌, ◌-◌, min, ⊤, List, [], ◌∷◌, ◌++◌, codes}
 use Rattle.std.specs.Prelude.{Option, Some, None}
 use Rattle.std.specs.List.{AllZip, before_first, after_first}
 use Rattle.std.specs.Str.Parse.{digits_value}
 use Rattle.clsm_model.specs.declared.record.CallRecord.{CallRecord}
 use Rattle.clsm_model.specs.declared.record.Deed.{Deed}
 use Rattle.clsm_model.specs.declared.record.Deed.TheVariants.{Put, Remove, Rmw, Get}
-use Rattle.clsm_model.specs.declared.record.Deed.TheVariants.{Snapshot, Close, GetAt, Scan, Page}
-use Rattle.clsm_model.specs.declared.slot.Change.{Change}
-use Rattle.clsm_model.specs.declared.slot.Change.TheVariants.{Keep, Set, Remove as Removal}
-use Rattle.clsm_text.specs.Number.{IsNumber, IsValue, value_of}
+use Rattle.clsm_model.specs.declared.record.Deed.TheVariants.{Snapshot, Close, GetAt, Scan, Page, Batch}
+use Rattle.clsm_text.specs.Member.{is_equals, WritesChange, WritesNumber, WritesValue}
+use Rattle.clsm_text.specs.Member.{WriteMembers}
+use Rattle.clsm_text.specs.Number.{IsNumber}
 
 -- ---- single words
-
--- the text writes this number
-abbrev pub WritesNumber : List ℕ → ℕ → Type 0
-WritesNumber text number = IsNumber text × (number ≡ digits_value 10 text)
-
--- the text writes this value
-abbrev pub WritesValue : List ℕ → List ℕ → Type 0
-WritesValue text value = IsValue text × (value ≡ value_of text)
 
 -- the text writes this seat; a number past 32 bits stands for the greatest seat
 abbrev pub WritesSeat : List ℕ → ℕ → Type 0
@@ -29,16 +21,6 @@ WritesSeat text seat = IsNumber text × (seat ≡ min (digits_value 10 text) (2 
 abbrev pub WritesReply : List ℕ → Option (List ℕ) → Type 0
 WritesReply text None = text ≡ codes "none"
 WritesReply text (Some value) = WritesValue text value
-
--- the text writes this change: `keep`, a new value, or `none` for a removal
-abbrev pub WritesChange : List ℕ → Change → Type 0
-WritesChange text Keep = text ≡ codes "keep"
-WritesChange text (Set value) = WritesValue text value
-WritesChange text Removal = text ≡ codes "none"
-
--- the byte is `=`
-abbrev pub is_equals : ℕ → Bool
-is_equals b = b == 61
 
 -- the text writes this row: its key, `=`, and its value
 abbrev pub WritesRow : List ℕ → (ℕ × List ℕ) → Type 0
@@ -72,6 +54,7 @@ name_of Close = codes "close"
 name_of (GetAt key reply) = codes "getat"
 name_of (Scan lo hi rows) = codes "scan"
 name_of (Page from hi max rows more) = codes "page"
+name_of (Batch members) = codes "batch"
 
 -- the words after its name write the deed
 abbrev pub WriteDeed : Deed → List (List ℕ) → Type 0
@@ -87,6 +70,7 @@ WriteDeed (Scan lo hi rows) (l ∷ h ∷ words) =
     WritesNumber l lo × WritesNumber h hi × WriteRows words rows
 WriteDeed (Page from hi max rows more) (f ∷ h ∷ m ∷ words) =
     WritesNumber f from × WritesNumber h hi × WritesNumber m max × WritePage words rows more
+WriteDeed (Batch members) words = WriteMembers words members
 WriteDeed _ _ = ⊥
 
 -- the words say the deed: its name, and then what writes it

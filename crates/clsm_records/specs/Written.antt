@@ -6,7 +6,7 @@ use Rattle.clsm_model.specs.Value.{text}
 use Rattle.clsm_model.specs.declared.record.CallRecord.{CallRecord}
 use Rattle.clsm_model.specs.declared.record.Deed.{Deed}
 use Rattle.clsm_model.specs.declared.record.Deed.TheVariants.{Put, Remove, Rmw, Get}
-use Rattle.clsm_model.specs.declared.record.Deed.TheVariants.{Snapshot, Close, GetAt, Scan, Page}
+use Rattle.clsm_model.specs.declared.record.Deed.TheVariants.{Snapshot, Close, GetAt, Scan, Page, Batch}
 use Rattle.clsm_model.specs.declared.slot.Change.{Change}
 use Rattle.clsm_model.specs.declared.slot.Change.TheVariants.{Keep, Set, Remove as Removal}
 use Rattle.clsm_records.specs.Record.{name_of}
@@ -26,6 +26,10 @@ change_text Removal = codes "none"
 abbrev pub row_text : (ℕ × List ℕ) → List ℕ
 row_text row = decimal row.0 ++ (61 ∷ text row.1)
 
+-- a member of a batch: its key, `=`, and its change
+abbrev pub member_text : (ℕ × Change) → List ℕ
+member_text member = decimal member.0 ++ (61 ∷ change_text member.1)
+
 -- the key of the next row, where there is one
 abbrev pub more_words : Option ℕ → List (List ℕ)
 more_words None = []
@@ -43,6 +47,7 @@ deed_words (GetAt key reply) = decimal key ∷ reply_text reply ∷ []
 deed_words (Scan lo hi rows) = decimal lo ∷ decimal hi ∷ map row_text rows
 deed_words (Page from hi max rows more) =
     decimal from ∷ decimal hi ∷ decimal max ∷ (map row_text rows ++ more_words more)
+deed_words (Batch members) = map member_text members
 
 -- the words of a record
 abbrev pub record_words : CallRecord → List (List ℕ)

@@ -1,11 +1,11 @@
 ghost use Rattle.std.specs.Prelude.{◌∷◌, codes, IfOk};
 ghost use Rattle.clsm_text.specs.Line.{texts_of};
-ghost use Rattle.clsm_records.specs.Found.{Finds};
+ghost use Rattle.clsm_text.specs.Found.{Finds};
 ghost use Rattle.clsm_records.specs.Record.{SayDeed};
 
-use crate::words::{parse_change, parse_page_rows, parse_reply, parse_rows};
+use crate::words::{parse_page_rows, parse_reply, parse_rows};
 use clsm_model::Deed;
-use clsm_text::{parse_number, parse_value};
+use clsm_text::{parse_change, parse_members, parse_number, parse_value};
 use std::alloc::{AllocError, Global};
 
 /// The deed that words say: its name, and what follows it. Refused for want of memory.
@@ -25,6 +25,7 @@ pub fn parse_deed(alloc: Global, words: &[&str]) -> Result<Option<Deed>, AllocEr
         "getat" => Ok(parse_get_at(words)),
         "scan" => parse_scan(alloc, words),
         "page" => parse_page(alloc, words),
+        "batch" => parse_batch(alloc, words),
         _ => Ok(None),
     }
 }
@@ -142,4 +143,13 @@ fn parse_page(alloc: Global, words: &[&str]) -> Result<Option<Deed>, AllocError>
         rows,
         more,
     }))
+}
+
+fn parse_batch(alloc: Global, words: &[&str]) -> Result<Option<Deed>, AllocError>
+    ensures { IfOk result (Finds (SayDeed (codes "batch" ∷ texts_of words.now))) }
+{
+    let Some(members) = parse_members(alloc, words)? else {
+        return Ok(None);
+    };
+    Ok(Some(Deed::Batch { members }))
 }

@@ -1,6 +1,6 @@
 ghost use Rattle.std.specs.Prelude.{IfOk};
 ghost use Rattle.clsm_text.specs.Line.{texts_of};
-ghost use Rattle.clsm_records.specs.Found.{Finds};
+ghost use Rattle.clsm_text.specs.Found.{Finds};
 ghost use Rattle.clsm_records.specs.Lines.{Reads};
 ghost use Rattle.clsm_records.specs.Record.{Say};
 

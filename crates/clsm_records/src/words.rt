@@ -1,10 +1,10 @@
 ghost use Rattle.std.specs.Prelude.{◌≡◌, ◌≢◌, ℕ, List, [], ◌∷◌, ◌++◌, codes, IfOk, IfSome, IfNone};
 ghost use Rattle.clsm_text.specs.Line.{texts_of};
-ghost use Rattle.clsm_records.specs.Found.{Finds};
-ghost use Rattle.clsm_records.specs.Record.{WritesSeat, WritesReply, WritesChange};
+ghost use Rattle.clsm_text.specs.Found.{Finds};
+ghost use Rattle.clsm_records.specs.Record.{WritesSeat, WritesReply};
 ghost use Rattle.clsm_records.specs.Record.{WritesRow, WriteRows, WritePage};
 
-use clsm_model::{Change, Rows, Value};
+use clsm_model::{Rows, Value};
 use clsm_text::{parse_number, parse_value};
 use std::alloc::{AllocError, Global};
 
@@ -25,17 +25,6 @@ pub fn parse_reply(text: &str) -> Option<Option<Value>>
     }
     let value = parse_value(text)?;
     Some(Some(value))
-}
-
-/// The change that a text writes.
-pub fn parse_change(text: &str) -> Option<Change>
-    ensures { Finds (WritesChange text.now) result }
-{
-    match text {
-        "keep" => Some(Change::Keep),
-        "none" => Some(Change::Remove),
-        _ => Some(Change::Set(parse_value(text)?)),
-    }
 }
 
 /// The row that a text writes: a key, `=`, and a value.

@@ -1,9 +1,9 @@
 ghost use Rattle.std.specs.Prelude.{OnOk, Some, map};
 ghost use Rattle.std.specs.Io.KnownBytes.{Appends};
-ghost use Rattle.clsm_records.specs.Written.{reply_text, change_text, row_text, more_words, spaced};
+ghost use Rattle.clsm_records.specs.Written.{reply_text, change_text, row_text, more_words, spaced, member_text};
 ghost use Rattle.clsm_records.specs.Written.{deed_text, line_of};
 
-use clsm_model::{CallRecord, Change, Deed, Rows, Value};
+use clsm_model::{CallRecord, Change, Deed, Members, Rows, Value};
 use std::fmt;
 use std::io::{self, Write};
 
@@ -74,6 +74,10 @@ impl fmt::Display for Told<'_> {
                 let more = More(more);
                 write!(f, "page {from} {hi} {max}{rows}{more}")
             }
+            Deed::Batch { members } => {
+                let members = MemberWords(members);
+                write!(f, "batch{members}")
+            }
         }
     }
 }
@@ -119,6 +123,22 @@ impl fmt::Display for RowWords<'_> {
     fn fmt<W: fmt::Write>(&self, f: &mut fmt::Formatter<W>) -> fmt::Result {
         for (key, value) in self.0.as_slice() {
             write!(f, " {key}={value}")?;
+        }
+        Ok(())
+    }
+}
+
+/// The members of a batch, each behind a space.
+#[derive(Drop)]
+struct MemberWords<'a>(&'a Members);
+
+impl fmt::Display for MemberWords<'_> {
+    ghost output = { λ listed. Some (spaced (map member_text listed.0.now)) };
+
+    fn fmt<W: fmt::Write>(&self, f: &mut fmt::Formatter<W>) -> fmt::Result {
+        for (key, change) in self.0.as_slice() {
+            let change = Changed(change);
+            write!(f, " {key}={change}")?;
         }
         Ok(())
     }

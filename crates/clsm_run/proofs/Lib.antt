@@ -1,2 +1,3 @@
 pub mod Brought
 pub mod Seated
+pub mod Verdicts

@@ -4,8 +4,10 @@ use Rattle.clsm_model.specs.declared.record.Deed.{Deed}
 use Rattle.clsm_model.specs.declared.record.Deed.TheVariants as deeds
 use Rattle.clsm_model.specs.declared.record.CallRecord.{CallRecord}
 use Rattle.clsm_calls.specs.Seats.{IsFull, IsSameSeat, SeatState}
+use Rattle.clsm_calls.specs.Batching.{IsRefusedBatch}
+use Rattle.clsm_calls.specs.declared.refusal.BatchError.{BatchError}
 use Rattle.clsm_planner.specs.declared.deal.Deal.{Deal}
-use Rattle.clsm_planner.specs.declared.deal.Deal.TheVariants.{Put, Remove, Get, Add, Claim, Snap, Close, GetAt, Scan}
+use Rattle.clsm_planner.specs.declared.deal.Deal.TheVariants.{Put, Remove, Get, Add, Claim, Snap, Close, GetAt, Scan, Batch}
 use Rattle.clsm_run.specs.Changes.{added, claimed}
 
 -- the deed is what the deal asks for, whatever it read
@@ -24,12 +26,14 @@ IsDeedOf (GetAt key) (deeds.GetAt k reply) = k ≡ key
 IsDeedOf (GetAt key) _ = ⊥
 IsDeedOf (Scan lo hi) (deeds.Scan from to rows) = (from ≡ lo) × (to ≡ hi)
 IsDeedOf (Scan lo hi) _ = ⊥
+IsDeedOf (Batch members) deed = deed ≡ deeds.Batch members
 
 -- the clock stood at the limit, in the call's hold of the lock
 abbrev pub IsFullAt : SeatState → SeatState → Type 0
 IsFullAt old new = (t : ℕ) × IsFull old new t
 
--- why the deal may be refused: no write may be made; a snapshot is open, or none is
+-- why the deal may be refused: no write may be made; a snapshot is open, or none is; or for what a
+-- batch is refused
 abbrev pub IsRefusedFor : Deal → SeatState → SeatState → Type 0
 IsRefusedFor (Put _ _) old new = IsFullAt old new
 IsRefusedFor (Remove _) old new = IsFullAt old new
@@ -40,6 +44,7 @@ IsRefusedFor Close old new = old.snapshot ≡ None
 IsRefusedFor (GetAt _) old new = old.snapshot ≡ None
 IsRefusedFor (Get _) old new = ⊥
 IsRefusedFor (Scan _ _) old new = ⊥
+IsRefusedFor (Batch members) old new = (error : BatchError) × IsRefusedBatch old new members error
 
 -- the deal was answered, and the seat has exactly this record more; or it was refused for its
 -- cause, and the seat has the same calls

@@ -1,15 +1,17 @@
 -- The workload: which call each draw of three words is.
-use Rattle.std.specs.Prelude.{ℕ, ◌+◌, ◌-◌, ◌%◌, ◌^◌, ◌==◌, List, [], ◌∷◌, map, take, Bool, nat_le, if◌then◌else◌}
+use Rattle.std.specs.Prelude.{ℕ, ◌+◌, ◌-◌, ◌%◌, ◌^◌, ◌==◌, List, [], ◌∷◌, map, take, Bool, nat_le, if◌then◌else◌, ◌&&◌}
 use Rattle.rand_pcg.specs.Lcg.{Lcg}
 use Rattle.rand_pcg.specs.Pcg.{pcg32}
+use Rattle.clsm_model.specs.declared.slot.Change.TheVariants.{Set}
 use Rattle.clsm_run.specs.declared.workload.Draw.{Draw}
 use Rattle.clsm_planner.specs.declared.deal.Deal.{Deal}
-use Rattle.clsm_planner.specs.declared.deal.Deal.TheVariants.{Put, Remove, Get, Add, Claim, Snap, Close, GetAt, Scan}
+use Rattle.clsm_planner.specs.declared.deal.Deal.TheVariants.{Put, Remove, Get, Add, Claim, Snap, Close, GetAt, Scan, Batch}
 
--- where the words come from, and the number of keys
+-- where the words come from, the number of keys, and whether there are batches
 pub record Source : Type 0 where
   pub words : Lcg
   pub keys : ℕ
+  pub batch : Bool
 
 -- the generator after one word, and after the three of a call
 abbrev pub after_word : Lcg → Lcg
@@ -42,7 +44,20 @@ dealt r k v keys has_snapshot =
     else if r == 14 then (if has_snapshot then GetAt k else Snap)
     else if has_snapshot then Close else Scan 0 (keys - 1)
 
--- the call of a draw
+-- the call of a draw where there are no batches
 abbrev pub deal_of : Draw → ℕ → Bool → Deal
 deal_of draw keys has_snapshot =
     dealt (draw.call % 16) (draw.key % keys) draw.first keys has_snapshot
+
+-- the batch of a draw: one value at the key and at the next one, modulo the number of keys
+abbrev pub pair_of : Draw → ℕ → Deal
+pair_of draw keys =
+    Batch ((draw.key % keys, Set (words_by draw.first))
+    ∷ ((draw.key % keys + 1) % keys, Set (words_by draw.first))
+    ∷ [])
+
+-- the call of a draw: with batches, one of them at the number 0
+abbrev pub deal_from : Source → Draw → Bool → Deal
+deal_from source draw has_snapshot =
+    if source.batch && draw.call % 16 == 0 then pair_of draw source.keys
+    else deal_of draw source.keys has_snapshot

@@ -13,10 +13,11 @@ pub enum Kind {
     Close,
     GetAt,
     Scan,
+    Batch,
 }
 
 /// All kinds, in the order in which they are printed.
-pub const KINDS: [Kind; 9] = [
+pub const KINDS: [Kind; 10] = [
     Kind::Put,
     Kind::Remove,
     Kind::Get,
@@ -26,6 +27,7 @@ pub const KINDS: [Kind; 9] = [
     Kind::Close,
     Kind::GetAt,
     Kind::Scan,
+    Kind::Batch,
 ];
 
 impl Kind {
@@ -41,6 +43,7 @@ impl Kind {
             Deal::Close => Kind::Close,
             Deal::GetAt { .. } => Kind::GetAt,
             Deal::Scan { .. } => Kind::Scan,
+            Deal::Batch { .. } => Kind::Batch,
         }
     }
 
@@ -56,6 +59,7 @@ impl Kind {
             Kind::Close => "close",
             Kind::GetAt => "getat",
             Kind::Scan => "scan",
+            Kind::Batch => "batch",
         }
     }
 }

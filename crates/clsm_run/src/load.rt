@@ -10,6 +10,8 @@ pub struct Load {
     pub keys: u64,
     /// What its calls are drawn by, beside its own number.
     pub seed: u64,
+    /// Whether batches are among its calls.
+    pub batch: bool,
     pub ghost some_keys: { 1 ≤ keys },
     pub ghost not_too_many_keys: { keys ≤ 1000000 },
 }

@@ -2,11 +2,11 @@
 ghost use Rattle.std.specs.Prelude.{◌≡◌, IfErr, IfOk};
 ghost use Rattle.clsm_calls.specs.Seats.{Refuses};
 ghost use Rattle.clsm_law.specs.Relation.{call_of};
-ghost use Rattle.clsm_planner.specs.declared.deal.Deal.TheVariants.{Add, Claim, Close, Get, GetAt, Put, Remove, Scan as ScanOf, Snap};
+ghost use Rattle.clsm_planner.specs.declared.deal.Deal.TheVariants.{Add, Batch as BatchOf, Claim, Close, Get, GetAt, Put, Remove, Scan as ScanOf, Snap};
 ghost use Rattle.clsm_run.specs.Play.{Plays};
 
 use crate::changes::{added, claimed};
-use clsm_model::{CallRecord, Deed, Memory, Time, Value};
+use clsm_model::{CallRecord, Change, Deed, Members, Memory, Time, Value};
 use clsm_planner::Deal;
 use clsm_store::{Got, Pace, Rmw, Scan, Seat, Store};
 use std::alloc::Global;
@@ -14,7 +14,8 @@ use std::sync::Wait;
 
 /// Plays a deal on one of the store's seats, and answers the record of it; none where it was
 /// refused, which is a write with `Full`, a `Snap` where a snapshot is open, and a `Close` and a
-/// `GetAt` where none is. A scan may be refused for want of memory: the seat is as before then.
+/// `GetAt` where none is. A scan and a batch may be refused for want of memory: the seat is as
+/// before then.
 pub fn play<P: Pace + Drop, R: Wait>(
     rt: &R,
     alloc: Global,
@@ -36,6 +37,7 @@ pub fn play<P: Pace + Drop, R: Wait>(
         Deal::Close => Ok(close_snapshot(store, seat)),
         Deal::GetAt { key } => Ok(get_at(store, seat, key)),
         Deal::Scan { lo, hi } => scan(alloc, store, seat, lo, hi),
+        Deal::Batch { members } => batch(rt, alloc, store, seat, members),
     }
 }
 
@@ -169,4 +171,26 @@ fn scan<P: Pace + Drop>(
     let Scan { time, rows } = store.scan(alloc, seat, lo, hi)?;
     let deed = Deed::Scan { lo, hi, rows };
     Ok(Some(recorded(seat, time, deed)))
+}
+
+/// Refused for want of memory, before anything is written: the record has the members.
+fn batch<P: Pace + Drop, R: Wait>(
+    rt: &R,
+    alloc: Global,
+    store: &Store<P>,
+    seat: &mut Seat,
+    members: [(u64, Change); 2],
+) -> Result<Option<CallRecord>, Memory>
+    requires { seat.old.store ≡ store.now }
+    ensures played { IfOk result (Plays (BatchOf members) seat.old seat.new) }
+    ensures refused { IfErr result (λ _. Refuses seat.old seat.new) }
+{
+    let Ok(members) = Vec::from_array(alloc, members) else {
+        return Err(Memory);
+    };
+    let members = Members::new(members);
+    match store.batch(rt, seat, members.as_slice()) {
+        Ok(time) => Ok(Some(recorded(seat, time, Deed::Batch { members }))),
+        Err(_) => Ok(None),
+    }
 }

@@ -48,7 +48,7 @@ pub fn work<P: Pace + Drop, R: Clock + Wait>(
     requires { seat.store ≡ store.now }
     ensures { Works seat result }
 {
-    let workload = Workload::new(load.seed, seat.number(), load.keys);
+    let workload = Workload::new(load.seed, seat.number(), load.keys, load.batch);
     let mut worker = Worker {
         seat,
         workload,

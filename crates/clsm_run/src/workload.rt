@@ -2,9 +2,9 @@
 ghost use Rattle.std.specs.Prelude.{◌≡◌, ◌≤◌};
 ghost use Rattle.rand_pcg.specs.Lcg.{started, increment_of};
 ghost use Rattle.rand_pcg.specs.Pcg.{multiplier_64};
-ghost use Rattle.clsm_run.specs.Workload.{after_draw, deal_of, drawn, words_by};
+ghost use Rattle.clsm_run.specs.Workload.{after_draw, deal_from, deal_of, drawn, pair_of, words_by};
 
-use clsm_model::Value;
+use clsm_model::{Change, Value};
 use clsm_planner::Deal;
 use rand_core::utils::NextWord;
 use rand_pcg::Lcg64Xsh32;
@@ -12,10 +12,12 @@ use std::marker::Model;
 
 /// The calls of one worker, drawn by chance: six of sixteen are puts, one a remove, four gets, one
 /// an `add`, one a `claim`, one a scan of 16 keys, and two a snapshot's, or a scan of all keys.
+/// With batches, one of the puts is a batch of two keys that follow each other.
 #[derive(Drop)]
 pub struct Workload {
     words: Lcg64Xsh32,
     keys: u64,
+    batch: bool,
 }
 
 impl Model for Workload {
@@ -24,7 +26,7 @@ impl Model for Workload {
 
     ghost Value = { Source };
 
-    ghost view = { λ w. record { words = w.words; keys = w.keys } };
+    ghost view = { λ w. record { words = w.words; keys = w.keys; batch = w.batch } };
 
     ghost invariant = { λ w. (1 ≤ w.keys) × (w.keys ≤ 1000000) };
 }
@@ -38,25 +40,31 @@ struct Draw {
 }
 
 impl Workload {
-    /// The calls of the worker with this number, of keys below `keys`.
-    pub fn new(seed: u64, worker: u32, keys: u64) -> Workload
+    /// The calls of the worker with this number, of keys below `keys`, with batches among them or
+    /// with none.
+    pub fn new(seed: u64, worker: u32, keys: u64, batch: bool) -> Workload
         requires some { 1 ≤ keys }
         requires at_most { keys ≤ 1000000 }
         ensures words { result.words ≡ started 64 multiplier_64 seed (increment_of 64 worker) }
         ensures keys { result.keys ≡ keys }
+        ensures batch { result.batch ≡ batch }
     {
         Workload {
             words: Lcg64Xsh32::new(seed, u64::from(worker)),
             keys,
+            batch,
         }
     }
 
     /// The next call, for a worker that has a snapshot open or has none.
     pub fn next(&mut self, has_snapshot: bool) -> Deal
-        ensures deal { result ≡ deal_of (drawn self.old.words) self.old.keys has_snapshot }
+        ensures deal { result ≡ deal_from self.old (drawn self.old.words) has_snapshot }
         ensures words { self.new ≡ record self.old { words = after_draw self.old.words } }
     {
         let draw = self.draw();
+        if self.batch && draw.call % 16 == 0 {
+            return pair_by(draw, self.keys);
+        }
         deal_by(draw, self.keys, has_snapshot)
     }
 
@@ -72,7 +80,22 @@ impl Workload {
     }
 }
 
-/// The call of a draw.
+/// The batch of a draw: one value at the key and at the key behind it, which is 0 behind the last.
+/// Of one key both members are.
+fn pair_by(draw: Draw, keys: u64) -> Deal
+    requires some { 1 ≤ keys }
+    requires at_most { keys ≤ 1000000 }
+    ensures { result ≡ pair_of draw keys }
+{
+    let key = u64::from(draw.key) % keys;
+    let next = (key + 1) % keys;
+    let value = value_by(u64::from(draw.first));
+    Deal::Batch {
+        members: [(key, Change::Set(value)), (next, Change::Set(value))],
+    }
+}
+
+/// The call of a draw where there are no batches.
 fn deal_by(draw: Draw, keys: u64, has_snapshot: bool) -> Deal
     requires some { 1 ≤ keys }
     requires at_most { keys ≤ 1000000 }

@@ -1,21 +1,12 @@
 -- The commands of a script, as their words say them.
 use Rattle.std.specs.Prelude.{◌≡◌, ℕ, List, [], ◌∷◌, codes}
-use Rattle.std.specs.Str.Parse.{digits_value}
-use Rattle.clsm_text.specs.Number.{IsNumber, IsValue, value_of}
+use Rattle.clsm_text.specs.Member.{WritesNumber, WritesValue, WriteMembers}
 use Rattle.clsm_script.specs.declared.call.Call.{Call}
 use Rattle.clsm_script.specs.declared.call.Call.TheVariants.{Put, Remove, Try, Add, Claim}
-use Rattle.clsm_script.specs.declared.call.Call.TheVariants.{Get, Snap, Close, GetAt, Scan, Page}
+use Rattle.clsm_script.specs.declared.call.Call.TheVariants.{Get, Snap, Close, GetAt, Scan, Page, Batch}
 use Rattle.clsm_script.specs.declared.command.Command.{Command}
 use Rattle.clsm_script.specs.declared.command.Command.TheVariants.{Call as Makes, Seat, Meet, Audit}
 use Rattle.clsm_script.specs.declared.command.Command.TheVariants.{Freeze, Merge, Reclaim}
-
--- the text writes this number
-abbrev pub WritesNumber : List ℕ → ℕ → Type 0
-WritesNumber text number = IsNumber text × (number ≡ digits_value 10 text)
-
--- the text writes this value
-abbrev pub WritesValue : List ℕ → List ℕ → Type 0
-WritesValue text value = IsValue text × (value ≡ value_of text)
 
 -- the words say the call of a seat
 abbrev pub SaysCall : Call → List (List ℕ) → Type 0
@@ -36,6 +27,7 @@ SaysCall (Scan lo hi) (name ∷ l ∷ h ∷ []) =
     (name ≡ codes "scan") × WritesNumber l lo × WritesNumber h hi
 SaysCall (Page from hi max) (name ∷ f ∷ h ∷ m ∷ []) =
     (name ≡ codes "page") × WritesNumber f from × WritesNumber h hi × WritesNumber m max
+SaysCall (Batch members) (name ∷ words) = (name ≡ codes "batch") × WriteMembers words members
 SaysCall _ _ = ⊥
 
 -- the words say the command

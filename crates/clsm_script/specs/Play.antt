@@ -1,19 +1,20 @@
 -- What the commands of a script make of its session and the merger's phase, and what they answer.
 use Rattle.std.specs.Prelude.{◌≡◌, ◌≢◌, ℕ, ◌<◌, ◌≤◌, ◌++◌, ◌⊎◌, List, length, set}
 use Rattle.std.specs.Prelude.{Option, Some, None, Result, Ok, Err}
-use mathlib.Core.List.{IsPrefix}
+use Rattle.clsm_model.specs.History.{IsBeginning}
 use Rattle.clsm_model.specs.declared.record.CallRecord.{CallRecord}
 use Rattle.clsm_model.specs.declared.record.Deed.TheVariants as deeds
 use Rattle.clsm_audit.specs.Faults.{IsLawful, IsOneHistory, IsRefusal}
 use Rattle.clsm_audit.specs.declared.fault.AuditError.{AuditError}
-use Rattle.clsm_calls.specs.Seats.{SeatState, Answers, IsFull, Refuses}
+use Rattle.clsm_calls.specs.Seats.{SeatState, Answers, IsFull, Refuses, known_by}
+use Rattle.clsm_calls.specs.Batching.{IsRefusedBatch}
 use Rattle.clsm_calls.specs.Trying.{RefusesTry}
 use Rattle.clsm_script.specs.Changes.{added, claimed}
 use Rattle.clsm_store.specs.Headline.{IsAt}
 use Rattle.clsm_store.specs.Meetings.{Meets}
 use Rattle.clsm_store.specs.Phase.{Freezes, Merges, Reclaims}
 use Rattle.clsm_script.specs.declared.answer.Answer.{Answer}
-use Rattle.clsm_script.specs.declared.answer.Answer.TheVariants.{Write, Try as Tried}
+use Rattle.clsm_script.specs.declared.answer.Answer.TheVariants.{Write, Try as Tried, Batch as Batched}
 use Rattle.clsm_script.specs.declared.answer.Answer.TheVariants.{Change as Changed, Read, ReadAt}
 use Rattle.clsm_script.specs.declared.answer.Answer.TheVariants.{Snapshot, Close as Closed}
 use Rattle.clsm_script.specs.declared.answer.Answer.TheVariants.{Scan as Scanned, Page as Paged}
@@ -23,7 +24,7 @@ use Rattle.clsm_script.specs.declared.answer.Answer.TheVariants.{Freeze as Froze
 use Rattle.clsm_script.specs.declared.answer.Answer.TheVariants.{Reclaim as Reclaimed}
 use Rattle.clsm_script.specs.declared.call.Call.{Call}
 use Rattle.clsm_script.specs.declared.call.Call.TheVariants.{Put, Remove, Try, Add, Claim}
-use Rattle.clsm_script.specs.declared.call.Call.TheVariants.{Get, Snap, Close, GetAt, Scan, Page}
+use Rattle.clsm_script.specs.declared.call.Call.TheVariants.{Get, Snap, Close, GetAt, Scan, Page, Batch}
 use Rattle.clsm_script.specs.declared.command.Command.{Command}
 use Rattle.clsm_script.specs.declared.command.Command.TheVariants.{Call as Makes, Seat, Meet, Audit}
 use Rattle.clsm_script.specs.declared.command.Command.TheVariants.{Freeze, Merge, Reclaim}
@@ -58,6 +59,9 @@ PlaysCall (Scan lo hi) old new (Scanned (Err _)) = Refuses old new
 PlaysCall (Page from hi max) old new (Paged (Ok page)) =
     Answers old new page.time (deeds.Page from hi max page.rows page.more)
 PlaysCall (Page from hi max) old new (Paged (Err _)) = Refuses old new
+PlaysCall (Batch members) old new (Batched (Ok t)) = Answers old new t (deeds.Batch members)
+PlaysCall (Batch members) old new (Batched (Err refusal)) =
+    IsRefusedBatch old new members refusal
 PlaysCall _ _ _ _ = ⊥
 
 -- the seat in use makes the call; the records gain what its calls gain, and the other seats stay as
@@ -92,7 +96,7 @@ pub record PairMeets (i j t : ℕ) (old new : List SeatState) : Type 0 where
   pub above_other : other.due ≤ t
   pub meets : Meets t one one_after
   pub other_meets : Meets t other other_after
-  pub begins : IsPrefix one_after.past other_after.past
+  pub begins : IsBeginning (known_by one_after) (known_by other_after)
   pub seats : new ≡ set (set old i one_after) j other_after
 
 -- the seat in use and the one with this number meet at the time, and nothing else changes

@@ -3,7 +3,8 @@ ghost use Rattle.std.specs.Prelude.{◌↔◌, IsTrue};
 use clsm_audit::AuditError;
 use clsm_model::{Change, Memory, Time};
 use clsm_store::{
-    FreezeError, Full, Got, MergeError, Open, Page, ReclaimError, Rmw, Scan, TryPutError,
+    BatchError, FreezeError, Full, Got, MergeError, Open, Page, ReclaimError, Rmw, Scan,
+    TryPutError,
 };
 use clsm_text::{Shown, ShownRows};
 use std::fmt;
@@ -15,6 +16,9 @@ pub enum Answer {
     Write(Result<Time, Full>),
     /// `@T`, or why nothing was written: `full @T`, `busy`, `raced` or `overtaken`.
     Try(Result<Time, TryPutError>),
+    /// `@T`, the time of the first member; or why nothing was written: `full @T`, `too long`,
+    /// `empty` or `keep`.
+    Batch(Result<Time, BatchError>),
     /// `old V new W @T`, with `none` for a key that had no value; `kept V @T`; or `full @T`.
     Change(Result<Rmw, Full>),
     /// `V @T`, or `none @T` where the key has no value.
@@ -70,9 +74,12 @@ impl Answer {
 impl fmt::Display for Answer {
     fn fmt<W: fmt::Write>(&self, f: &mut fmt::Formatter<W>) -> fmt::Result {
         match self {
-            Answer::Write(Ok(time)) | Answer::Try(Ok(time)) => write!(f, "@{time}"),
+            Answer::Write(Ok(time)) | Answer::Try(Ok(time)) | Answer::Batch(Ok(time)) => {
+                write!(f, "@{time}")
+            }
             Answer::Write(Err(refusal)) => write!(f, "{refusal}"),
             Answer::Try(Err(refusal)) => write!(f, "{refusal}"),
+            Answer::Batch(Err(refusal)) => write!(f, "{refusal}"),
             Answer::Change(Ok(rmw)) => write_change(f, rmw),
             Answer::Change(Err(refusal)) => write!(f, "{refusal}"),
             Answer::Read(got) | Answer::ReadAt(Some(got)) => {

@@ -6,13 +6,13 @@ ghost use Rattle.clsm_script.specs.Play.{PlaysCall};
 use crate::answer::Answer;
 use crate::changes::{add, claim};
 use crate::snapshots::get_at;
-use clsm_model::{CallRecord, Deed, Value};
+use clsm_model::{CallRecord, Deed, Members, Value};
 use clsm_store::{Pace, Seat, Store};
 use std::alloc::{AllocError, Global};
 use std::sync::Wait;
 
 /// A call of a seat.
-#[derive(Clone, Copy, Debug)]
+#[derive(Debug, Drop)]
 pub enum Call {
     /// `put K V`: writes the value at the key.
     Put { key: u64, value: Value },
@@ -38,6 +38,8 @@ pub enum Call {
     Scan { lo: u64, hi: u64 },
     /// `page FROM HI MAX`: reads the first `MAX` of the keys that a scan would read.
     Page { from: u64, hi: u64, max: u64 },
+    /// `batch K=V K=none ..`: makes the writes of all members at once.
+    Batch { members: Members },
 }
 
 impl Call {
@@ -54,20 +56,21 @@ impl Call {
         ensures store { seat.new.store ≡ seat.old.store }
         ensures number { seat.new.number ≡ seat.old.number }
     {
-        match *self {
-            Call::Put { key, value } => Answer::Write(store.put(rt, seat, key, value)),
-            Call::Remove { key } => Answer::Write(store.remove(rt, seat, key)),
-            Call::Try { key, value } => Answer::Try(store.try_put(seat, key, value)),
-            Call::Add { key, by } => Answer::Change(add(rt, store, seat, key, by)),
-            Call::Claim { key, value } => Answer::Change(claim(rt, store, seat, key, value)),
-            Call::Get { key } => Answer::Read(store.get(seat, key)),
+        match self {
+            Call::Put { key, value } => Answer::Write(store.put(rt, seat, *key, *value)),
+            Call::Remove { key } => Answer::Write(store.remove(rt, seat, *key)),
+            Call::Try { key, value } => Answer::Try(store.try_put(seat, *key, *value)),
+            Call::Add { key, by } => Answer::Change(add(rt, store, seat, *key, *by)),
+            Call::Claim { key, value } => Answer::Change(claim(rt, store, seat, *key, *value)),
+            Call::Get { key } => Answer::Read(store.get(seat, *key)),
             Call::Snap => Answer::Snapshot(store.snapshot(seat)),
             Call::Close => Answer::Close(store.close_snapshot(seat)),
-            Call::GetAt { key } => Answer::ReadAt(get_at(store, seat, key)),
-            Call::Scan { lo, hi } => Answer::Scan(store.scan(alloc, seat, lo, hi)),
+            Call::GetAt { key } => Answer::ReadAt(get_at(store, seat, *key)),
+            Call::Scan { lo, hi } => Answer::Scan(store.scan(alloc, seat, *lo, *hi)),
             Call::Page { from, hi, max } => {
-                Answer::Page(store.page(alloc, seat, from, hi, max as usize))
+                Answer::Page(store.page(alloc, seat, *from, *hi, *max as usize))
             }
+            Call::Batch { members } => Answer::Batch(store.batch(rt, seat, members.as_slice())),
         }
     }
 
@@ -116,6 +119,10 @@ impl Call {
                         more,
                     },
                 )
+            }
+            (Call::Batch { members }, Answer::Batch(Ok(time))) => {
+                let members = members.clone()?;
+                (*time, Deed::Batch { members })
             }
             _ => return Ok(None),
         };

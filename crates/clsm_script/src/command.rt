@@ -1,15 +1,15 @@
-ghost use Rattle.std.specs.Prelude.{◌≡◌, ◌∷◌, [], IfNone, IfOk, IfSome, OnOk};
+ghost use Rattle.std.specs.Prelude.{◌≡◌, ◌≢◌, ◌∷◌, [], codes, IfNone, IfOk, IfSome, OnOk};
 
 use crate::answer::Answer;
 use crate::call::Call;
 use crate::session::Session;
 use clsm_store::{Pace, Phase, Store};
-use clsm_text::{parse_number, parse_value};
+use clsm_text::{parse_members, parse_number, parse_value};
 use std::alloc::{AllocError, Global};
 use std::sync::Wait;
 
 /// A command of a script.
-#[derive(Clone, Copy, Debug)]
+#[derive(Debug, Drop)]
 pub enum Command {
     /// A call of the seat in use.
     Call(Call),
@@ -29,27 +29,55 @@ pub enum Command {
 
 impl Command {
     ghost use Rattle.clsm_script.specs.Command.{Says, IsCommand};
+    ghost use Rattle.clsm_text.specs.Found.{Finds};
     ghost use Rattle.clsm_text.specs.Line.{texts_of};
     ghost use Rattle.clsm_script.specs.Session.{IsSession};
     ghost use Rattle.clsm_store.specs.Phase.{merger_in};
     ghost use Rattle.clsm_script.specs.Play.{Plays, Turns};
 
-    /// The command that the words of a line say; `None` where they say none.
-    pub fn parse(words: &[&str]) -> Option<Command>
-        ensures read { IfSome result (λ command. Says command (texts_of words.now)) }
-        ensures refused { IfNone result (¬ IsCommand (texts_of words.now)) }
+    /// The command that the words of a line say; `None` where they say none. Refused for want of
+    /// memory.
+    pub fn parse(alloc: Global, words: &[&str]) -> Result<Option<Command>, AllocError>
+        ensures { IfOk result (Finds (λ command. Says command (texts_of words.now))) }
+    {
+        let Some((name, said)) = words.split_first() else {
+            return Ok(None);
+        };
+        match *name {
+            "batch" => Command::of_batch(alloc, said),
+            name => Ok(Command::of_words(name, said)),
+        }
+    }
+
+    /// The batch of the members that the words write. Refused for want of memory.
+    fn of_batch(alloc: Global, words: &[&str]) -> Result<Option<Command>, AllocError>
+        ensures { IfOk result
+            (Finds (λ command. Says command (codes "batch" ∷ texts_of words.now))) }
+    {
+        let Some(members) = parse_members(alloc, words)? else {
+            return Ok(None);
+        };
+        Ok(Some(Command::Call(Call::Batch { members })))
+    }
+
+    /// The command with this name, which is not that of a batch, and the words behind it.
+    fn of_words(name: &str, words: &[&str]) -> Option<Command>
+        requires { name.now ≢ codes "batch" }
+        ensures read { IfSome result (λ command. Says command (name.now ∷ texts_of words.now)) }
+        ensures refused { IfNone result (¬ IsCommand (name.now ∷ texts_of words.now)) }
     {
         match *words {
-            [name] => Command::of_name(name),
-            [name, key] => Command::of_key(name, key),
-            [name, key, value] => Command::of_value(name, key, value),
-            [name, from, hi, max] => Command::of_page(name, from, hi, max),
+            [] => Command::of_name(name),
+            [key] => Command::of_key(name, key),
+            [key, value] => Command::of_value(name, key, value),
+            [from, hi, max] => Command::of_page(name, from, hi, max),
             _ => None,
         }
     }
 
-    /// The command with this name alone.
+    /// The command with this name alone. Here and below the name is not that of a batch.
     fn of_name(name: &str) -> Option<Command>
+        requires { name.now ≢ codes "batch" }
         ensures read { IfSome result (λ command. Says command (name.now ∷ [])) }
         ensures refused { IfNone result (¬ IsCommand (name.now ∷ [])) }
     {
@@ -66,6 +94,7 @@ impl Command {
 
     /// The command with this name and a key, or the number of a seat.
     fn of_key(name: &str, key: &str) -> Option<Command>
+        requires { name.now ≢ codes "batch" }
         ensures read { IfSome result (λ command. Says command (name.now ∷ key.now ∷ [])) }
         ensures refused { IfNone result (¬ IsCommand (name.now ∷ key.now ∷ [])) }
     {
@@ -82,6 +111,7 @@ impl Command {
 
     /// The command with this name and two numbers, or a key and a value.
     fn of_value(name: &str, key: &str, value: &str) -> Option<Command>
+        requires { name.now ≢ codes "batch" }
         ensures read { IfSome result
             (λ command. Says command (name.now ∷ key.now ∷ value.now ∷ [])) }
         ensures refused { IfNone result (¬ IsCommand (name.now ∷ key.now ∷ value.now ∷ [])) }
@@ -106,6 +136,7 @@ impl Command {
 
     /// The command with this name and three numbers.
     fn of_page(name: &str, from: &str, hi: &str, max: &str) -> Option<Command>
+        requires { name.now ≢ codes "batch" }
         ensures read { IfSome result
             (λ command. Says command (name.now ∷ from.now ∷ hi.now ∷ max.now ∷ [])) }
         ensures refused { IfNone result

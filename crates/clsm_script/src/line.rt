@@ -12,7 +12,7 @@ pub fn parse_line(alloc: Global, line: &[u8]) -> Result<Option<Command>, LineErr
 {
     match plain_words(alloc, line)? {
         None => Ok(None),
-        Some(words) => match Command::parse(&words) {
+        Some(words) => match Command::parse(alloc, &words)? {
             Some(command) => Ok(Some(command)),
             None => Err(LineError::Bad),
         },

@@ -27,8 +27,9 @@
 //! A second world, which is opened with the first: `copies` makes it a copy of the first, `swaps`
 //! takes the one for the other, and `equal` and `differ` compare them, by `==` and by hash.
 //!
-//! Parts of calls stand in `writes.rt`, `reads.rt` and `merging.rt`, each with its row.
+//! Parts of calls stand in `writes.rt`, `batches.rt`, `reads.rt` and `merging.rt`, each with its row.
 
+mod batches;
 mod line;
 mod merging;
 mod play;

@@ -35,7 +35,7 @@ own_numbers slots n [] stand = tt
 own_numbers slots n (r ∷ rs) stand = (stand.0.0, own_numbers slots n rs stand.1)
 
 pub lawful_own : (s : SeatState) → IsLawfulAlone s → HasOwnCalls s
-lawful_own s lawful = own_numbers s.past s.number s.calls lawful.agrees.stand
+lawful_own s lawful = own_numbers s.past s.number s.calls lawful.0.agrees.stand
 
 -- ---- and among those of all seats
 

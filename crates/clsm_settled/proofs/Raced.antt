@@ -1,5 +1,5 @@
 -- One put and one get are all the calls of their seats: what the settled history says of them.
-use Rattle.std.proofs.Common.{◌≡◌, ◌≢◌, ℕ, zero, suc, ◌<◌, ◌==◌, ◌&&◌, ◌⊎◌, inl, inr, Bool, true, false, cond, List, [], ◌∷◌, length, get_or, Option, Some, None, refl, sym, ap, ◌∙◌, subst, arith, add-one, nat_lt, ⊎_elim, lt-ltb, le-ltb, lt_of_not-le}
+use Rattle.std.proofs.Common.{◌≡◌, ◌≢◌, ℕ, zero, suc, ◌<◌, ◌==◌, ◌⊎◌, inl, inr, Bool, true, false, cond, List, [], ◌∷◌, length, get_or, Option, Some, None, is_some, refl, sym, ap, ◌∙◌, subst, arith, add-one, nat_lt, ⊎_elim, lt-ltb, le-ltb, lt_of_not-le}
 use Rattle.std.proofs.lemmas.Bool.{cases_Bool, eq-eqb, eqb-true}
 use Rattle.std.proofs.lemmas.List.{get_or_past, get_or_default}
 use Rattle.std.proofs.lemmas.List.Elements.{All-get_or}
@@ -9,9 +9,9 @@ use Rattle.clsm_model.specs.declared.slot.Slot.{Slot}
 use Rattle.clsm_model.specs.declared.slot.Slot.TheVariants.{Nothing, Wrote}
 use Rattle.clsm_model.specs.declared.record.Deed.TheVariants.{Get, Put}
 use Rattle.clsm_model.specs.declared.record.CallRecord.{CallRecord}
-use Rattle.clsm_model.specs.History.{plain, value}
+use Rattle.clsm_model.specs.History.{History, end_of, value}
 use Rattle.clsm_model.specs.Map.{value_after}
-use Rattle.clsm_model.specs.Seats.{AreCallsIn, HasEachWrite}
+use Rattle.clsm_model.specs.Seats.{AreCallsIn, HasEachWrite, StandsAs}
 use Rattle.clsm_model.proofs.Maps.{value-next}
 use Rattle.clsm_law.specs.Relation.{call_of}
 use Rattle.clsm_calls.specs.Seats.{Answers, SeatState, StoreId, newcomer}
@@ -28,61 +28,62 @@ test_more put t ne = elim (dec_le t put) [
   | no above ↦ lt-ltb put t (lt_of_not-le above) ∙ sym (lt-ltb put (suc t) (let a = lt_of_not-le above in omega arith))
 ]
 
-module _ (h : List Slot) (key put : ℕ) (v : List ℕ) (stands : get_or h put Nothing ≡ Wrote 0 key (Some v)) (alone : (t n k : ℕ) (written : Option (List ℕ)) → t < length h → get_or h t Nothing ≡ Wrote n k written → t ≡ put) where
+module _ (h : History) (key put : ℕ) (v : List ℕ) (stands : get_or h.slots put Nothing ≡ Wrote 0 key (Some v)) (alone : (t n k : ℕ) (written : Option (List ℕ)) → t < end_of h → get_or h.slots t Nothing ≡ Wrote n k written → t ≡ put) where
   same : (k : ℕ) (before : Option (List ℕ)) → value_after (Wrote 0 k (Some v)) k before ≡ Some v
   same k before = ap (λ (b : Bool). cond b (Some v) before) (eq-eqb k k refl)
 
-  nothing_else : (t : ℕ) (slot : Slot) → get_or h t Nothing ≡ slot → t ≢ put → (before : Option (List ℕ)) → value_after slot key before ≡ before
+  nothing_else : (t : ℕ) (slot : Slot) → get_or h.slots t Nothing ≡ slot → t ≢ put → (before : Option (List ℕ)) → value_after slot key before ≡ before
   nothing_else t Nothing is ne before = refl
-  nothing_else t (Wrote n k written) is ne before = elim (dec_le (length h) t) [
-    | yes past ↦ absurd (let e : Nothing ≡ Wrote n k written = sym (get_or_past h t Nothing past) ∙ is in cc)
+  nothing_else t (Wrote n k written) is ne before = elim (dec_le (end_of h) t) [
+    | yes past ↦ absurd (let e : Nothing ≡ Wrote n k written = sym (get_or_past h.slots t Nothing past) ∙ is in cc)
     | no within ↦ absurd (ne (alone t n k written (lt_of_not-le within) is))
   ]
 
-  next : (t : ℕ) → value (plain h) key (suc t) ≡ value_after (get_or h t Nothing) key (value (plain h) key t)
-  next t = rw add-one at (value-next (plain h) key t)
+  next : (t : ℕ) → value h key (suc t) ≡ value_after (get_or h.slots t Nothing) key (value h key t)
+  next t = rw add-one at (value-next h key t)
 
-  pub only_put : (at : ℕ) → value (plain h) key at ≡ left_by_put v put at
+  pub only_put : (at : ℕ) → value h key at ≡ left_by_put v put at
   only_put zero = sym (ap (λ (b : Bool). cond b (Some v) None) (le-ltb put 0 (omega arith)))
   only_put (suc t) = next t ∙ dite (ℕ_discrete t put)
-      (λ (e : t ≡ put). ap (λ (slot : Slot). value_after slot key (value (plain h) key t)) (ap (λ (i : ℕ). get_or h i Nothing) e ∙ stands) ∙ same key (value (plain h) key t)
+      (λ (e : t ≡ put). ap (λ (slot : Slot). value_after slot key (value h key t)) (ap (λ (i : ℕ). get_or h.slots i Nothing) e ∙ stands) ∙ same key (value h key t)
       ∙ sym (ap (λ (b : Bool). cond b (Some v) None) (lt-ltb put (suc t) (omega arith))))
-      (λ (ne : t ≢ put). nothing_else t (get_or h t Nothing) refl ne (value (plain h) key t) ∙ only_put t ∙ ap (λ (b : Bool). cond b (Some v) None) (test_more put t ne))
+      (λ (ne : t ≢ put). nothing_else t (get_or h.slots t Nothing) refl ne (value h key t) ∙ only_put t ∙ ap (λ (b : Bool). cond b (Some v) None) (test_more put t ne))
 
 -- ---- the calls of the two seats
 
-one_time : (t time : ℕ) (x r : CallRecord) → cond (time == t && true) (x ∷ []) [] ≡ r ∷ [] → t ≡ time
-one_time t time x r e = ⊎_elim
+one_time : (t time : ℕ) (write : Slot) (x r : CallRecord) → cond (is_some (cond (time == t) (Some write) None)) (x ∷ []) [] ≡ r ∷ [] → t ≡ time
+one_time t time write x r e = ⊎_elim
     (λ (is : (time == t) ≡ true). sym (eqb-true time t is))
-    (λ (no : (time == t) ≡ false). absurd (some_not_none (sym e ∙ ap (λ (b : Bool). cond (b && true) (x ∷ []) []) no)))
+    (λ (no : (time == t) ≡ false). absurd (some_not_none (sym e ∙ ap (λ (b : Bool). cond (is_some (cond b (Some write) None)) (x ∷ []) []) no)))
     (cases_Bool (time == t))
   where
     some_not_none : {y : CallRecord} {ys : List CallRecord} → y ∷ ys ≡ [] → ⊥
     some_not_none e = cc e
 
 -- each write of a seat whose only call is a put stands at the put's time
-at_put : (h : List Slot) (time key : ℕ) (v : List ℕ) → HasEachWrite h 0 (call_of 0 time (Put key v) ∷ []) → (t k : ℕ) (written : Option (List ℕ)) → t < length h → get_or h t Nothing ≡ Wrote 0 k written → t ≡ time
-at_put h time key v each t k written lt is = let e = each t k written lt is in one_time t time _ e.0 e.1
+at_put : (h : History) (time key : ℕ) (v : List ℕ) → HasEachWrite h.slots 0 (call_of 0 time (Put key v) ∷ []) → (t k : ℕ) (written : Option (List ℕ)) → t < end_of h → get_or h.slots t Nothing ≡ Wrote 0 k written → t ≡ time
+at_put h time key v each t k written lt is = let e = each t k written lt is in one_time t time _ _ e.0 e.1
 
 -- a seat whose only call is a get wrote nothing
-none_of : (h : List Slot) (time key : ℕ) (reply : Option (List ℕ)) → HasEachWrite h 1 (call_of 1 time (Get key reply) ∷ []) → (t k : ℕ) (written : Option (List ℕ)) → t < length h → get_or h t Nothing ≡ Wrote 1 k written → ⊥
+none_of : (h : History) (time key : ℕ) (reply : Option (List ℕ)) → HasEachWrite h.slots 1 (call_of 1 time (Get key reply) ∷ []) → (t k : ℕ) (written : Option (List ℕ)) → t < end_of h → get_or h.slots t Nothing ≡ Wrote 1 k written → ⊥
 none_of h time key reply each t k written lt is = let e = each t k written lt is in go (time == t) e.0 e.1
   where
-    go : (b : Bool) (r : CallRecord) → cond (b && false) (call_of 1 time (Get key reply) ∷ []) [] ≡ r ∷ [] → ⊥
+    go : (b : Bool) (r : CallRecord) → cond (is_some (cond {A = Option Slot} b None None)) (call_of 1 time (Get key reply) ∷ []) [] ≡ r ∷ [] → ⊥
     go true r e = cc e
     go false r e = cc e
 
-module _ (h : List Slot) (key put at : ℕ) (v : List ℕ) (reply : Option (List ℕ)) (due due' : ℕ) (snapshot snapshot' : Option ℕ)
+module _ (h : History) (key put at : ℕ) (v : List ℕ) (reply : Option (List ℕ)) (due due' : ℕ) (snapshot snapshot' : Option ℕ)
     (puts : AreCallsIn h 0 (call_of 0 put (Put key v) ∷ []) due snapshot)
     (gets : AreCallsIn h 1 (call_of 1 at (Get key reply) ∷ []) due' snapshot')
-    (theirs : (t n k : ℕ) (written : Option (List ℕ)) → t < length h → get_or h t Nothing ≡ Wrote n k written → (n ≡ 0) ⊎ (n ≡ 1)) where
-  stands : get_or h put Nothing ≡ Wrote 0 key (Some v)
-  stands = some_one (puts.stand.0.1 (let a = puts.reached in let b = puts.rising.due_is in omega arith))
+    (theirs : (t n k : ℕ) (written : Option (List ℕ)) → t < end_of h → get_or h.slots t Nothing ≡ Wrote n k written → (n ≡ 0) ⊎ (n ≡ 1)) where
+  stands : get_or h.slots put Nothing ≡ Wrote 0 key (Some v)
+  stands = some_one (subst (λ (b : Bool). StandsAs (cond b (Some (Wrote 0 key (Some v))) None) (Some (get_or h.slots put Nothing))) (eq-eqb put put refl)
+      (puts.stand.0.1 put (let a = puts.reached in let b = puts.rising.due_is in omega arith)))
     where
       some_one : {x y : Slot} → Some x ≡ Some y → x ≡ y
       some_one e = cc e
 
-  alone : (t n k : ℕ) (written : Option (List ℕ)) → t < length h → get_or h t Nothing ≡ Wrote n k written → t ≡ put
+  alone : (t n k : ℕ) (written : Option (List ℕ)) → t < end_of h → get_or h.slots t Nothing ≡ Wrote n k written → t ≡ put
   alone t n k written lt is = ⊎_elim
       (λ (e : n ≡ 0). at_put h put key v puts.each t k written lt (is ∙ ap (λ (i : ℕ). Wrote i k written) e))
       (λ (e : n ≡ 1). absurd (none_of h at key reply gets.each t k written lt (is ∙ ap (λ (i : ℕ). Wrote i k written) e)))
@@ -104,7 +105,7 @@ module _ (store : StoreId) (two : store.layout.seats ≡ 2) (writer reader : Sea
   all_seats (suc (suc n)) lt = absurd (omega arith)
 
   module _ (settled : List SeatState) (met : AreMet both settled) (whole : HasAllSeats store both → IsWholeHistory settled (longest_past settled)) where
-    abbrev h : List Slot
+    abbrev h : History
     h = longest_past settled
 
     abbrev now : ℕ → SeatState
@@ -117,7 +118,7 @@ module _ (store : StoreId) (two : store.layout.seats ≡ 2) (writer reader : Sea
     is = whole all_seats
 
     part : (i : ℕ) → i < 2 → IsSeatIn h (now i)
-    part i lt = All-get_or (IsSeatIn h) settled i writer (there i lt).0 is.joint
+    part i lt = All-get_or (IsSeatIn h) settled i writer (there i lt).0 is.joint.parts
 
     meets : (i : ℕ) (s : SeatState) → i < 2 → IsAt both i s → Meets writer.due s (now i)
     meets i s lt at = met.each i 0 s (now i) writer at (there i lt) (omega arith, refl)

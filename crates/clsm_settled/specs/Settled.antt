@@ -2,6 +2,7 @@
 use Rattle.std.specs.Prelude.{◌≡◌, ℕ, ◌≤◌, ◌^◌, List, [], length}
 use Rattle.std.specs.List.{AllByRecursion, flat_map}
 use Rattle.clsm_model.specs.declared.record.CallRecord.{CallRecord}
+use Rattle.clsm_model.specs.Seats.{FitsRecord}
 use Rattle.clsm_audit.specs.Lawful.{calls_of}
 use Rattle.clsm_calls.specs.Seats.{SeatState, StoreId}
 use Rattle.clsm_store.specs.Headline.{IsAt}
@@ -27,6 +28,14 @@ HasOwnCalls s = AllByRecursion (λ r. r.seat ≡ s.number) s.calls
 -- and so of each seat
 abbrev pub HaveOwnCalls : List SeatState → Type 0
 HaveOwnCalls seats = (i : ℕ) (s : SeatState) → IsAt seats i s → HasOwnCalls s
+
+-- each batch among the seat's calls fits an epoch
+abbrev pub HasFittingCalls : SeatState → Type 0
+HasFittingCalls s = AllByRecursion (FitsRecord s.store.layout.cells) s.calls
+
+-- and so of each seat
+abbrev pub HaveFittingCalls : List SeatState → Type 0
+HaveFittingCalls seats = (i : ℕ) (s : SeatState) → IsAt seats i s → HasFittingCalls s
 
 -- no due is past the end of time
 abbrev pub AreInTime : List SeatState → Type 0

@@ -8,7 +8,7 @@ ghost use Rattle.clsm_audit.specs.Whole.{HasHistory};
 ghost use Rattle.clsm_calls.specs.Seats.{HasSizes};
 ghost use Rattle.clsm_store.specs.Headline.{HasAllSeats, IsJointHistory, IsWholeHistory, longest_past};
 ghost use Rattle.clsm_store.specs.Meetings.{AreMet, AreOf};
-ghost use Rattle.clsm_settled.specs.Settled.{AreAllInOrder, AreInTime, AreRecordsOf, HaveOwnCalls, joined};
+ghost use Rattle.clsm_settled.specs.Settled.{AreAllInOrder, AreInTime, AreRecordsOf, HaveFittingCalls, HaveOwnCalls, joined};
 
 use clsm_audit::{AuditError, audit};
 use clsm_model::{CallRecord, Config, Memory};
@@ -29,6 +29,15 @@ fn are_in_time(seats: &[Seat])
     }
 }
 
+/// What holds of seats: each batch that they made fits an epoch. It does nothing when it runs.
+fn have_fitting_calls(seats: &[Seat])
+    ensures { HaveFittingCalls seats.now }
+{
+    for seat in seats {
+        seat.show_records();
+    }
+}
+
 /// What holds of all seats of a store that are settled: records that are each seat's calls in its
 /// own order, however those of several seats are mixed, have no fault. It does nothing when it
 /// runs.
@@ -39,12 +48,14 @@ pub fn are_lawful<P: Pace>(
     records: &[CallRecord],
 )
     requires sizes { HasSizes store.now config.now }
+    requires of_store { AreOf store.now seats.now }
     requires all { HasAllSeats store.now seats.now }
     requires whole { IsWholeHistory seats.now (longest_past seats.now) }
     requires records { AreRecordsOf store.now seats.now records.now }
     ensures { HasHistory config.now records.now }
 {
     are_in_time(seats);
+    have_fitting_calls(seats);
 }
 
 /// Audits the records of all seats of a store, which are settled: each seat's calls in its own
@@ -58,6 +69,7 @@ pub fn audit_settled<P: Pace>(
     records: &[CallRecord],
 ) -> Result<(), Memory>
     requires sizes { HasSizes store.now config.now }
+    requires of_store { AreOf store.now seats.now }
     requires all { HasAllSeats store.now seats.now }
     requires whole { IsWholeHistory seats.now (longest_past seats.now) }
     requires records { AreRecordsOf store.now seats.now records.now }

@@ -6,6 +6,8 @@ use native.Mathlib.Decide.{ℕ_discrete}
 use Rattle.std.proofs.lemmas.List.Elements.{All-get_or, All-from_get_or}
 use Rattle.std.proofs.lemmas.List.{append-nil, get_or_default, set-get_or}
 use Rattle.clsm_model.specs.declared.slot.Slot.{Slot}
+use Rattle.clsm_model.specs.History.{History, AreInTurn, IsBeginning, end_of}
+use Rattle.clsm_model.proofs.Batches.{begins_same}
 use Rattle.clsm_store.specs.Headline.{IsAt}
 use Rattle.clsm_store.specs.Meetings.{AreOf}
 use Rattle.clsm_calls.specs.Seats.{SeatState, StoreId, newcomer}
@@ -48,13 +50,19 @@ none_left : (r : List Slot) → length r ≤ 0 → r ≡ []
 none_left [] le = refl
 none_left (x ∷ xs) le = absurd (omega arith)
 
-pub prefix_self : (a : List Slot) → IsPrefix a a
-prefix_self a = ([], append-nil a)
-
-pub prefix_length : (a b : List Slot) → IsPrefix a b → length a ≤ length b
+prefix_length : (a b : List Slot) → IsPrefix a b → length a ≤ length b
 prefix_length a b p = let l = length-append a p.0 in let e = ap length p.1 in omega arith
 
 -- a beginning that is as long is all
-pub prefix_all : (a b : List Slot) → IsPrefix a b → length b ≤ length a → a ≡ b
+prefix_all : (a b : List Slot) → IsPrefix a b → length b ≤ length a → a ≡ b
 prefix_all a b p le = let l = length-append a p.0 in let e = ap length p.1 in let n : p.0 ≡ [] = none_left p.0 (omega arith) in
     sym (append-nil a) ∙ ap (λ (r : List Slot). a ++ r) (sym n) ∙ p.1
+
+pub begins_length : (a b : History) → IsBeginning a b → end_of a ≤ end_of b
+begins_length a b begins = prefix_length a.slots b.slots begins.slots
+
+pub begins_all : (a b : History) → IsBeginning a b → end_of b ≤ end_of a → AreInTurn 0 a.batches (end_of a) → AreInTurn 0 b.batches (end_of b) → a ≡ b
+begins_all a b begins le turn turn' =
+    let slots = prefix_all a.slots b.slots begins.slots le in
+    let batches = begins_same a b begins (ap (λ (l : List Slot). length l) (sym slots)) turn turn' in
+    λ i. record { slots = slots i; batches = sym batches i }

@@ -1,11 +1,11 @@
--- The joint history of seats: what their calls did, as one list of writes by time.
+-- The joint history of seats: what their calls did, as one list of writes by time, and the batches
+-- among these.
 use Rattle.std.specs.Prelude.{◌≡◌, ℕ, ◌<◌, List, [], ◌∷◌, cond, length, nat_lt, slice_index_or, Option}
 use Rattle.std.specs.List.{All}
-use mathlib.Core.List.{IsPrefix}
-use Rattle.clsm_model.specs.declared.slot.Slot.{Slot}
-use Rattle.clsm_model.specs.declared.slot.Slot.TheVariants.{Nothing, Wrote}
+use Rattle.clsm_model.specs.declared.slot.Slot.TheVariants.{Wrote}
+use Rattle.clsm_model.specs.History.{History, AreInTurn, IsBeginning, end_of, plain, slot_at}
 use Rattle.clsm_model.specs.Seats.{AreCallsIn}
-use Rattle.clsm_calls.specs.Seats.{SeatState, StoreId}
+use Rattle.clsm_calls.specs.Seats.{SeatState, StoreId, known_by}
 
 -- s is the seat at the place i
 abbrev pub IsAt : List SeatState → ℕ → SeatState → Type 0
@@ -19,21 +19,24 @@ IsNumbered seats n = (i : ℕ) × (s : SeatState) × IsAt seats i s × (s.number
 abbrev pub HasAllSeats : StoreId → List SeatState → Type 0
 HasAllSeats store seats = (n : ℕ) → n < store.layout.seats → IsNumbered seats n
 
--- what the seat knows is a beginning of the history, and its calls are its part of it
-pub record IsSeatIn (h : List Slot) (s : SeatState) : Type 0 where
-  pub begins : IsPrefix s.past h
+-- what the seat knows is a beginning of the history, and its calls are its part of it: so no read of
+-- its own stands strictly inside a batch
+pub record IsSeatIn (h : History) (s : SeatState) : Type 0 where
+  pub begins : IsBeginning (known_by s) h
   pub part : AreCallsIn h s.number s.calls s.due s.snapshot
 
--- h is the history of these seats
-abbrev pub IsJointHistory : List SeatState → List Slot → Type 0
-IsJointHistory seats h = All (IsSeatIn h) seats
+-- h is the history of these seats: each has its part in it, and its batches don't overlap, and none
+-- ends beyond it
+pub record IsJointHistory (seats : List SeatState) (h : History) : Type 0 where
+  pub parts : All (IsSeatIn h) seats
+  pub in_turn : AreInTurn 0 h.batches (end_of h)
 
 -- and each write in it is one of theirs
-pub record IsWholeHistory (seats : List SeatState) (h : List Slot) : Type 0 where
+pub record IsWholeHistory (seats : List SeatState) (h : History) : Type 0 where
   pub joint : IsJointHistory seats h
-  pub theirs : (t n key : ℕ) (written : Option (List ℕ)) → t < length h → slice_index_or h t Nothing ≡ Wrote n key written → IsNumbered seats n
+  pub theirs : (t n key : ℕ) (written : Option (List ℕ)) → t < end_of h → slot_at h t ≡ Wrote n key written → IsNumbered seats n
 
--- the longest of the pasts
-abbrev pub longest_past : List SeatState → List Slot
-longest_past [] = []
-longest_past (s ∷ ss) = cond (nat_lt (length (longest_past ss)) (length s.past)) s.past (longest_past ss)
+-- the longest of the histories that they know
+abbrev pub longest_past : List SeatState → History
+longest_past [] = plain []
+longest_past (s ∷ ss) = cond (nat_lt (end_of (longest_past ss)) (end_of (known_by s))) (known_by s) (longest_past ss)

@@ -1,13 +1,15 @@
 //! A caller with its store: the calls of the store. Only `get_at` asks for an open snapshot.
 ghost use Rattle.std.specs.Prelude.{◌≡◌, ◌≢◌, None, Some, IfNone, IfOk, IfErr, IfSome};
-ghost use Rattle.clsm_model.specs.declared.record.Deed.TheVariants.{Close, Get, GetAt, Page as PageOf, Put, Remove, Rmw as ChangeOf, Scan as ScanOf, Snapshot};
+ghost use Rattle.clsm_model.specs.declared.record.Deed.TheVariants.{Batch as Group, Close, Get, GetAt, Page as PageOf, Put, Remove, Rmw as ChangeOf, Scan as ScanOf, Snapshot};
+ghost use Rattle.clsm_model.specs.Seats.{FitsDeed};
+ghost use Rattle.clsm_calls.specs.Batching.{CountsBatch, IsRefusedBatch};
 ghost use Rattle.clsm_calls.specs.Seats.{Answers, GivesUpForWrites, IsFull, Refuses};
 ghost use Rattle.clsm_calls.specs.Tally.{CancelsNone, CountsTry, TakesLockOnce, TakesNoLock};
 ghost use Rattle.clsm_calls.specs.Trying.{RefusesTry};
 
 use crate::seat::Seat;
 use crate::store::Store;
-use clsm_calls::{Full, Got, Open, Page, Rmw, Scan, TryPutError};
+use clsm_calls::{BatchError, Full, Got, Open, Page, Rmw, Scan, TryPutError};
 use clsm_model::{Change, Memory, Time, Value};
 use clsm_words::Pace;
 use std::alloc::Global;
@@ -49,6 +51,16 @@ impl<'a, P: Pace> Caller<'a, P> {
         ensures full { IfErr result (λ full. IsFull self.old.seat self.new.seat full.time) }
     {
         self.store.remove(rt, &mut self.seat, key)
+    }
+
+    /// As `Store::batch`.
+    pub fn batch<R: Wait>(&mut self, rt: &R, members: &[(u64, Change)]) -> Result<Time, BatchError>
+        ensures written { IfOk result (λ time. Answers self.old.seat self.new.seat time (Group members.now)) }
+        ensures fits { IfOk result (λ time. FitsDeed self.old.seat.store.layout.cells (Group members.now)) }
+        ensures counts { CountsBatch self.old.seat.tally self.new.seat.tally result }
+        ensures refused { IfErr result (IsRefusedBatch self.old.seat self.new.seat members.now) }
+    {
+        self.store.batch(rt, &mut self.seat, members)
     }
 
     /// As `Store::try_put`.

@@ -1,6 +1,8 @@
 //! The calls of one seat.
 ghost use Rattle.std.specs.Prelude.{◌≡◌, ◌≢◌, None, Some, IfNone, IfOk, IfErr, IfSome};
-ghost use Rattle.clsm_model.specs.declared.record.Deed.TheVariants.{Close, Get, GetAt, Put, Remove, Rmw as ChangeOf, Snapshot};
+ghost use Rattle.clsm_model.specs.declared.record.Deed.TheVariants.{Batch as Group, Close, Get, GetAt, Put, Remove, Rmw as ChangeOf, Snapshot};
+ghost use Rattle.clsm_model.specs.Seats.{FitsDeed};
+ghost use Rattle.clsm_calls.specs.Batching.{CountsBatch, IsRefusedBatch};
 ghost use Rattle.clsm_calls.specs.Seats.{Answers, GivesUpForWrites, IsFull};
 ghost use Rattle.clsm_calls.specs.Tally.{CancelsNone, CountsTry, TakesLockOnce, TakesNoLock};
 ghost use Rattle.clsm_calls.specs.Trying.{RefusesTry};
@@ -8,7 +10,8 @@ ghost use Rattle.clsm_calls.specs.Trying.{RefusesTry};
 use crate::seat::Seat;
 use crate::store::Store;
 use clsm_calls::{
-    Full, Got, Open, Rmw, TryPutError, change, open_at, read, read_under, try_write, write,
+    BatchError, Full, Got, Open, Rmw, TryPutError, batch, change, open_at, read, read_under,
+    try_write, write,
 };
 use clsm_model::{Change, Time, Value};
 use clsm_pins::close_snapshot;
@@ -46,6 +49,31 @@ impl<P: Pace> Store<P> {
         ensures full { IfErr result (λ full. IsFull seat.old seat.new full.time) }
     {
         write(rt, &self.words, &mut seat.raw, key, &None)
+    }
+
+    /// Writes all members as one batch, at consecutive times in their order, and answers the time of
+    /// the first. They become visible together, by one step: no read of any seat is answered between
+    /// them, and of members of one key the last one wins. A batch never spans two epochs. It holds
+    /// the lock alone, once: it waits for that until no writer is inside, and keeps other writers
+    /// out meanwhile, but no reader. It takes no memory, and gives up no time.
+    ///
+    /// Refused, in this order: with `Empty` where there is no member, `TooLong` where there are more
+    /// than an epoch has cells, `Keep` where a member keeps its key, each before it enters the lock;
+    /// with `Full` where fewer times are left of the epoch than there are members. Nothing was
+    /// written then, and the seat is as before. (LevelDB's write batch.)
+    pub fn batch<R: Wait>(
+        &self,
+        rt: &R,
+        seat: &mut Seat,
+        members: &[(u64, Change)],
+    ) -> Result<Time, BatchError>
+        requires { seat.old.store ≡ self.now }
+        ensures written { IfOk result (λ time. Answers seat.old seat.new time (Group members.now)) }
+        ensures fits { IfOk result (λ time. FitsDeed seat.old.store.layout.cells (Group members.now)) }
+        ensures counts { CountsBatch seat.old.tally seat.new.tally result }
+        ensures refused { IfErr result (IsRefusedBatch seat.old seat.new members.now) }
+    {
+        batch(rt, &self.words, &mut seat.raw, members)
     }
 
     /// Writes the value at the key as `put`, but tries each exchange once and never waits. Refused

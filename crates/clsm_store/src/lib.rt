@@ -15,10 +15,13 @@ mod sweeping;
 mod telling;
 
 pub use caller::Caller;
-pub use clsm_calls::{Full, Got, Open, Page, Pinned, Rmw, Scan, TryPutError, Worn};
-pub use clsm_model::{Change, Config, Length, Memory, OpenError, Rows, Time, Value};
+pub use clsm_calls::{BatchError, Full, Got, Open, Page, Pinned, Rmw, Scan, TryPutError, Worn};
+pub use clsm_law::{Part, Word};
+pub use clsm_model::{
+    CallRecord, Change, Config, Deed, Length, Members, Memory, OpenError, Rows, Time, Value,
+};
 pub use clsm_runs::RunFull;
-pub use clsm_words::{Free, Pace};
+pub use clsm_words::{Free, Kind, Pace};
 pub use merger::{Clean, Frozen, Merger, Retired};
 pub use opening::{Opened, open, open_paced};
 pub use phase::{FreezeError, MergeError, Phase, ReclaimError};

@@ -65,15 +65,14 @@ impl<'a, P: Pace + Drop> Merger<'a, P> {
 
     /// Freezes the current epoch, merges it and gives up what that retired, from the phase in which
     /// the merger is and as far as these go: a flush of the component in memory, and each fourth
-    /// time a compaction of all runs. It waits for the lock as a freeze does, and for nothing else.
-    /// Where it was stopped, the next sweep goes on from there, and `Stopped` says what stopped it.
+    /// time a compaction of all runs. It makes one try of each of these, as `freeze`, `merge` and
+    /// `reclaim` do, waits for the lock as a freeze does, and for nothing else. Where one of them is
+    /// refused it stops there, and `Stopped` says why; the next sweep goes on from there.
     pub fn sweep<R: Wait>(self, rt: &R) -> (Merger<'a, P>, Result<(), Stopped>)
         ensures { Sweeps self.entry.phase result.0.phase result.1 }
     {
         let store = self.store;
-        match sweep(rt, store, self.phase) {
-            Ok(phase) => (Merger { store, phase }, Ok(())),
-            Err((phase, stopped)) => (Merger { store, phase }, Err(stopped)),
-        }
+        let (phase, answer) = sweep(rt, store, self.phase);
+        (Merger { store, phase }, answer)
     }
 }

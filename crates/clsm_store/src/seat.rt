@@ -50,8 +50,9 @@ impl Seat {
     }
 
     /// Shows what holds of every seat: each of its writes stands in the history that it knows, each
-    /// write there with its number is one of its records, what it read is right, and its records'
-    /// times rise to its due. It does nothing when it runs.
+    /// write there with its number is one of its records, what it read is right and at no time
+    /// strictly inside a batch, each of its batches is listed there, and its records' times rise to
+    /// its due. It does nothing when it runs.
     #[inline]
     pub fn show_records(&self)
         ensures { IsLawfulAlone self.now }

@@ -1,5 +1,5 @@
 //! How seats settle: each tells its due, each follows the one before it, and each is confirmed by
-//! the last one's past. It takes no memory.
+//! what the last one knows. It takes no memory.
 ghost use Rattle.std.specs.Prelude.{◌≡◌, ◌<◌, length};
 ghost use Rattle.clsm_store.specs.Meetings.{AreChained, AreConfirmed, AreDueBelow, AreMetAt, AreOf};
 
@@ -38,7 +38,7 @@ pub(crate) fn follow_all<P: Pace>(store: &Store<P>, seats: &mut Vec<Seat>, messa
     }
 }
 
-/// Each is confirmed by the past of the last one.
+/// Each is confirmed by what the last one knows.
 pub(crate) fn confirm_all<P: Pace>(store: &Store<P>, seats: &mut Vec<Seat>)
     requires of_store { AreOf store.now seats.old.items }
     ensures seats { seats.new.items ≡ seats.old.items }

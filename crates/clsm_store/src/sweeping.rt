@@ -1,8 +1,9 @@
-//! A sweep of the merger: a freeze, a merge and a reclaim, as far as these go.
-ghost use Rattle.std.specs.Prelude.{◌≡◌, IfOk, IfErr};
+//! The merger's sweep: it freezes, merges and reclaims, from the phase in which the merger is.
+ghost use Rattle.std.specs.Prelude.{◌≡◌};
 ghost use Rattle.clsm_store.specs.Phase.{merger_in};
-ghost use Rattle.clsm_store.specs.Sweeping.{IsFrozenOn, IsMergedOn, IsSwept, Stops};
+ghost use Rattle.clsm_store.specs.Sweeping.{Sweeps, SweepsClean, SweepsFrozen, SweepsRetired};
 
+use crate::merger::{Clean, Frozen, Retired};
 use crate::phase::Phase;
 use crate::store::Store;
 use clsm_calls::{Pinned, Worn};
@@ -26,60 +27,43 @@ pub enum Stopped {
     Pinned(Pinned),
 }
 
-/// Freezes the current epoch, where nothing is frozen.
-fn freeze_on<P: Pace + Drop, R: Wait>(
+/// Gives the retired component up.
+fn sweep_retired<P: Pace + Drop>(store: &Store<P>, retired: Retired) -> (Phase, Result<(), Stopped>)
+    requires { retired.merger.store ≡ store.now }
+    ensures sweeps { SweepsRetired retired result.0 result.1 }
+    ensures store { (merger_in result.0).store ≡ store.now }
+{
+    match retired.reclaim(store) {
+        Ok(clean) => (Phase::Clean(clean), Ok(())),
+        Err((retired, pinned)) => (Phase::Retired(retired), Err(Stopped::Pinned(pinned))),
+    }
+}
+
+/// Merges the frozen epoch, and gives up what that retired.
+fn sweep_frozen<P: Pace + Drop>(store: &Store<P>, frozen: Frozen) -> (Phase, Result<(), Stopped>)
+    requires { frozen.merger.store ≡ store.now }
+    ensures sweeps { SweepsFrozen frozen result.0 result.1 }
+    ensures store { (merger_in result.0).store ≡ store.now }
+{
+    match frozen.merge(store) {
+        Ok(retired) => sweep_retired(store, retired),
+        Err((frozen, full)) => (Phase::Frozen(frozen), Err(Stopped::RunFull(full))),
+    }
+}
+
+/// Freezes the current epoch, merges it and gives up what that retired.
+fn sweep_clean<P: Pace + Drop, R: Wait>(
     rt: &R,
     store: &Store<P>,
-    phase: Phase,
-) -> Result<Phase, (Phase, Stopped)>
-    requires { (merger_in phase).store ≡ store.now }
-    ensures store { IfOk result (λ new. (merger_in new).store ≡ store.now) }
-    ensures frozen { IfOk result (λ new. IsFrozenOn phase new) }
-    ensures kept { IfErr result (λ refused. (merger_in refused.0).store ≡ store.now) }
-    ensures stopped { IfErr result (λ refused. Stops phase refused.0 refused.1) }
+    clean: Clean,
+) -> (Phase, Result<(), Stopped>)
+    requires { clean.store ≡ store.now }
+    ensures sweeps { SweepsClean clean result.0 result.1 }
+    ensures store { (merger_in result.0).store ≡ store.now }
 {
-    match phase {
-        Phase::Clean(clean) => match clean.freeze(rt, store) {
-            Ok(frozen) => Ok(Phase::Frozen(frozen)),
-            Err((clean, worn)) => Err((Phase::Clean(clean), Stopped::Worn(worn))),
-        },
-        other => Ok(other),
-    }
-}
-
-/// Merges the frozen epoch, where one is frozen.
-fn merge_on<P: Pace + Drop>(store: &Store<P>, phase: Phase) -> Result<Phase, (Phase, Stopped)>
-    requires store { (merger_in phase).store ≡ store.now }
-    requires frozen { IsFrozenOn phase phase }
-    ensures store { IfOk result (λ new. (merger_in new).store ≡ store.now) }
-    ensures merged { IfOk result (λ new. IsMergedOn phase new) }
-    ensures kept { IfErr result (λ refused. (merger_in refused.0).store ≡ store.now) }
-    ensures stopped { IfErr result (λ refused. Stops phase refused.0 refused.1) }
-{
-    match phase {
-        Phase::Frozen(frozen) => match frozen.merge(store) {
-            Ok(retired) => Ok(Phase::Retired(retired)),
-            Err((frozen, full)) => Err((Phase::Frozen(frozen), Stopped::RunFull(full))),
-        },
-        other => Ok(other),
-    }
-}
-
-/// Gives the retired component up.
-fn reclaim_on<P: Pace + Drop>(store: &Store<P>, phase: Phase) -> Result<Phase, (Phase, Stopped)>
-    requires store { (merger_in phase).store ≡ store.now }
-    requires merged { IsMergedOn phase phase }
-    ensures store { IfOk result (λ new. (merger_in new).store ≡ store.now) }
-    ensures swept { IfOk result (λ new. IsSwept phase new) }
-    ensures kept { IfErr result (λ refused. (merger_in refused.0).store ≡ store.now) }
-    ensures stopped { IfErr result (λ refused. Stops phase refused.0 refused.1) }
-{
-    match phase {
-        Phase::Retired(retired) => match retired.reclaim(store) {
-            Ok(clean) => Ok(Phase::Clean(clean)),
-            Err((retired, pinned)) => Err((Phase::Retired(retired), Stopped::Pinned(pinned))),
-        },
-        other => Ok(other),
+    match clean.freeze(rt, store) {
+        Ok(frozen) => sweep_frozen(store, frozen),
+        Err((clean, worn)) => (Phase::Clean(clean), Err(Stopped::Worn(worn))),
     }
 }
 
@@ -88,14 +72,14 @@ pub(crate) fn sweep<P: Pace + Drop, R: Wait>(
     rt: &R,
     store: &Store<P>,
     phase: Phase,
-) -> Result<Phase, (Phase, Stopped)>
+) -> (Phase, Result<(), Stopped>)
     requires { (merger_in phase).store ≡ store.now }
-    ensures store { IfOk result (λ new. (merger_in new).store ≡ store.now) }
-    ensures swept { IfOk result (λ new. IsSwept phase new) }
-    ensures kept { IfErr result (λ refused. (merger_in refused.0).store ≡ store.now) }
-    ensures stopped { IfErr result (λ refused. Stops phase refused.0 refused.1) }
+    ensures sweeps { Sweeps phase result.0 result.1 }
+    ensures store { (merger_in result.0).store ≡ store.now }
 {
-    let frozen = freeze_on(rt, store, phase)?;
-    let merged = merge_on(store, frozen)?;
-    reclaim_on(store, merged)
+    match phase {
+        Phase::Clean(clean) => sweep_clean(rt, store, clean),
+        Phase::Frozen(frozen) => sweep_frozen(store, frozen),
+        Phase::Retired(retired) => sweep_retired(store, retired),
+    }
 }

@@ -1,6 +1,7 @@
 //! What seats tell one another.
 ghost use Rattle.std.specs.Prelude.{◌≡◌, ◌≤◌};
-ghost use Rattle.clsm_store.specs.Meetings.{Follows, IsConfirmedBy};
+ghost use Rattle.clsm_calls.specs.Seats.{known_by};
+ghost use Rattle.clsm_store.specs.Meetings.{Follows, IsConfirmedBy, told_by};
 
 use crate::seat::Seat;
 use crate::store::Store;
@@ -13,18 +14,18 @@ pub(crate) fn tell<P: Pace>(store: &Store<P>, seat: &mut Seat) -> Message
     requires { seat.old.store ≡ store.now }
     ensures seat { seat.new ≡ seat.old }
     ensures table { result.table ≡ store.now.table }
-    ensures told { result.told ≡ seat.old.past }
+    ensures told { told_by result ≡ known_by seat.old }
     ensures heard { result.heard ≡ seat.old.due }
 {
     store.words.tell(&mut seat.raw)
 }
 
-/// The message carries the other's past from now on, and the greater due.
+/// The message carries what the other tells of from now on, and the greater due.
 pub(crate) fn join<P: Pace>(store: &Store<P>, message: &mut Message, other: Message)
     requires table { message.old.table ≡ store.now.table }
     requires other { other.table ≡ store.now.table }
     ensures table { message.new.table ≡ store.now.table }
-    ensures told { message.new.told ≡ other.told }
+    ensures told { told_by message.new ≡ told_by other }
     ensures above { message.old.heard ≤ message.new.heard }
     ensures above_other { other.heard ≤ message.new.heard }
 {
@@ -54,7 +55,7 @@ pub(crate) fn confirm<P: Pace>(store: &Store<P>, seat: &mut Seat, message: Messa
     requires seat { seat.old.store ≡ store.now }
     requires message { message.table ≡ store.now.table }
     ensures seat { seat.new ≡ seat.old }
-    ensures confirmed { IsConfirmedBy message.told seat.old }
+    ensures confirmed { IsConfirmedBy (told_by message) seat.old }
 {
     seat.show_records();
     store.words.learn(&mut seat.raw, message);

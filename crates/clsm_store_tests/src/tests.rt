@@ -2,6 +2,7 @@
 //! what needs no store: tables of the model, of runs and of the audit.
 mod act;
 mod actor;
+mod batches;
 mod case;
 mod drawn;
 mod gate;

@@ -1,3 +1,5 @@
 pub mod Inputs
 pub mod Lines
 pub mod Parts
+pub mod Readings
+pub mod Zips

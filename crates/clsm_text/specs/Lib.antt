@@ -1,4 +1,6 @@
 pub mod Failure
+pub mod Found
 pub mod Input
 pub mod Line
+pub mod Member
 pub mod Number

@@ -1,17 +1,21 @@
 -- Each open step of a seat is allowed.
-use Rattle.std.proofs.Common.{◌≡◌, ℕ, ◌≤◌, true, length, refl, arith}
+use Rattle.std.proofs.Common.{◌≡◌, ℕ, ◌≤◌, true, length, take, refl, sym, ap, ◌∙◌, arith}
 use mathlib.Core.Option.{some}
 use lib.ListN.{get_elem?}
 use Rattle.atomic_table.specs.Table.{State, Me, keeps, Allows}
+use Rattle.clsm_model.specs.History.{History, IsBeginning, batches_below, end_of}
+use Rattle.clsm_model.proofs.Batches.{below_below}
 use Rattle.clsm_law.specs.declared.step.Step.{Step}
-use Rattle.clsm_law.specs.Layout.{index_of}
+use Rattle.clsm_law.specs.declared.word.Word.TheVariants.{Clock}
+use Rattle.clsm_law.specs.Layout.{index_of, memory}
 use Rattle.clsm_law.specs.Relation.{word_of, changed}
+use Rattle.clsm_law.specs.Worlds.{settled}
 use Rattle.clsm_words.specs.declared.known.Known.{Known}
-use Rattle.clsm_words.specs.Knowing.{Opens, Sound, Follows}
+use Rattle.clsm_words.specs.Knowing.{Opens, Sound, Follows, known_of, told_of}
 use Rattle.clsm_words.specs.Ruled.{Begins, Ruled}
 use Rattle.clsm_words.proofs.Beginnings.{begins_prefix}
-use Rattle.clsm_words.proofs.Knows.{own_past, agrees_of, sound_of}
-use Rattle.clsm_words.proofs.Played.{me_seated, found, next, slots', after, told_stays, next_seated, ruled'}
+use Rattle.clsm_words.proofs.Knows.{own_batches, own_past, past_clock, past_long, agrees_of, sound_of}
+use Rattle.clsm_words.proofs.Played.{clock_rises, me_seated, found, next, slots', batches', below_stay, batches_known, past_stays, after, told_stays, next_seated, ruled'}
 use Rattle.clsm_words.proofs.PastGrowth.{past_grows}
 use Rattle.clsm_words.proofs.Telling.{tells_of}
 use Rattle.clsm_words.proofs.Walking.{walks_of, runs_of_step}
@@ -24,8 +28,30 @@ module _ (s : State ℕ Known) (id : ℕ) (k : Known) (r : Ruled k.layout s) (at
   old_past : Begins (slots' s id k r at sits step o) k.past
   old_past = told_stays s id k r at sits step o k.past (own_past s k r (me_seated s id k r at sits step o))
 
+  -- each with the batches that begin below its end
+  next_batches : (next s id k r at sits step o).batches ≡ batches_below (length (next s id k r at sits step o).past) (batches' s id k r at sits step o)
+  next_batches = own_batches (after s id k r at sits step o) (next s id k r at sits step o) (ruled' s id k r at sits step o) (next_seated s id k r at sits step o)
+
+  old_batches : k.batches ≡ batches_below (length k.past) (batches' s id k r at sits step o)
+  old_batches = own_batches s k r (me_seated s id k r at sits step o) ∙ below_stay s id k r at sits step o (length k.past) (let a = past_long s k r (me_seated s id k r at sits step o) in let b = past_clock s k r (me_seated s id k r at sits step o) in omega arith)
+
+  told_batches : k.told_batches ≡ batches_below (length k.told) (batches' s id k r at sits step o)
+  told_batches = (r.seats.told id k at).listed ∙ below_stay s id k r at sits step o (length k.told) (r.seats.told id k at).within
+
+  -- of two beginnings of the history the one that is not longer begins the other
+  begins_by : (g h : History) → Begins (slots' s id k r at sits step o) g.slots → Begins (slots' s id k r at sits step o) h.slots → g.batches ≡ batches_below (end_of g) (batches' s id k r at sits step o) → h.batches ≡ batches_below (end_of h) (batches' s id k r at sits step o) → end_of g ≤ end_of h → IsBeginning g h
+  begins_by g h b c e f le = record {
+    slots = begins_prefix (slots' s id k r at sits step o) g.slots h.slots b c le;
+    batches =
+        let all = batches' s id k r at sits step o in
+        ap (batches_below (end_of g)) e ∙ below_below (end_of g) (end_of g) all (omega arith) ∙ sym (below_below (end_of g) (end_of h) all le) ∙ sym (ap (batches_below (end_of g)) f);
+  }
+
   told_past : Begins (slots' s id k r at sits step o) k.told
   told_past = told_stays s id k r at sits step o k.told (r.seats.told id k at).begins
+
+  told_within : length k.told ≤ memory k.layout (after s id k r at sits step o).words Clock
+  told_within = let a = (r.seats.told id k at).within in let b = clock_rises s id k r at sits step o in omega arith
 
   sound' : Sound (next s id k r at sits step o)
   sound' = sound_of (after s id k r at sits step o) (next s id k r at sits step o) (ruled' s id k r at sits step o) (next_seated s id k r at sits step o) sits
@@ -43,12 +69,17 @@ module _ (s : State ℕ Known) (id : ℕ) (k : Known) (r : Ruled k.layout s) (at
     dealt = refl;
     layout = refl;
     told = refl;
+    told_batches = refl;
     heard = refl;
     view = refl;
-    longer = begins_prefix (slots' s id k r at sits step o) k.past (next s id k r at sits step o).past old_past next_past longer_past;
-    reaches = λ le. begins_prefix (slots' s id k r at sits step o) k.told (next s id k r at sits step o).past told_past next_past le;
-    within = λ le. begins_prefix (slots' s id k r at sits step o) (next s id k r at sits step o).past k.told next_past told_past le;
-    agrees = agrees_of (after s id k r at sits step o) (next s id k r at sits step o) (ruled' s id k r at sits step o) (next_seated s id k r at sits step o) k.told told_past;
+    longer = begins_by (known_of k) (known_of (next s id k r at sits step o)) old_past next_past old_batches next_batches longer_past;
+    same = λ e. (
+      ap (λ (n : ℕ). take n (settled (slots' s id k r at sits step o))) e ∙ sym (past_stays s id k r at sits step o k (me_seated s id k r at sits step o)),
+      ap (λ (n : ℕ). batches_below n (batches' s id k r at sits step o)) e ∙ sym (batches_known s id k r at sits step o k (me_seated s id k r at sits step o)),
+    );
+    reaches = λ le. begins_by (told_of k) (known_of (next s id k r at sits step o)) told_past next_past told_batches next_batches le;
+    within = λ le. begins_by (known_of (next s id k r at sits step o)) (told_of k) next_past told_past next_batches told_batches le;
+    agrees = agrees_of (after s id k r at sits step o) (next s id k r at sits step o) (ruled' s id k r at sits step o) (next_seated s id k r at sits step o) (told_of k) told_past told_batches told_within;
     tells = tells_of s id k r at sits step o;
     walks = walks_of s id k r at sits step o;
     runs = runs_of_step s id k r at sits step o;

@@ -14,7 +14,7 @@ use Rattle.clsm_words.specs.declared.known.Known.{Known}
 use Rattle.clsm_words.specs.Changing.{Changes, NoWord}
 use Rattle.clsm_words.specs.Knowing.{row_of}
 use Rattle.clsm_words.specs.Merging.{FollowsMerger, IsOwn, facts_known}
-use Rattle.clsm_words.proofs.Keeps.{prefix_trans}
+use Rattle.clsm_model.proofs.Batches.{prefix_trans}
 
 pub changes_none : (Those : Word → Type 0) (k : Known) → Changes Those k k
 changes_none Those k = record { layout = refl; view = refl; trail = λ _. refl; past = ([], append-nil k.past); stays = λ word run not. refl }

@@ -4,7 +4,7 @@ use Rattle.clsm_model.specs.declared.slot.Slot.{Slot}
 use Rattle.clsm_model.specs.declared.slot.Slot.TheVariants.{Nothing, Wrote}
 use Rattle.clsm_model.specs.History.{plain}
 use Rattle.clsm_law.specs.declared.word.Word.{Word}
-use Rattle.clsm_law.specs.declared.word.Word.TheVariants.{Count, Entry}
+use Rattle.clsm_law.specs.declared.word.Word.TheVariants.{Count, Entry, Clock}
 use Rattle.clsm_law.specs.declared.view.SnapshotState.{SnapshotState}
 use Rattle.clsm_law.specs.declared.view.SnapshotState.TheVariants.{Open}
 use Rattle.clsm_law.specs.Memory.{Memory}
@@ -45,16 +45,16 @@ end_within c n x live h until = omega arith
 start_within : (c n x : ℕ) → (c + 1) * n ≤ x → c * n ≤ x
 start_within c n x h = omega arith
 
-pub clock_near : (g : Ground) (i c : ℕ) → each g.z held_of g.views i ≡ Some c → (c * g.z.cells ≤ length g.slots) × (length g.slots ≤ (c + 2) * g.z.cells)
+pub clock_near : (g : Ground) (i c : ℕ) → each g.z held_of g.views i ≡ Some c → (c * g.z.cells ≤ g.memory Clock) × (length g.slots ≤ (c + 2) * g.z.cells)
 clock_near g i c held = ⊎_elim
     (λ (same : c ≡ g.merger.merged). let low = live_below_shown g in let high = shown_below_merged g in
-    subst (λ (m : ℕ). (m * g.z.cells ≤ length g.slots) × (length g.slots ≤ (m + 2) * g.z.cells)) (sym same) (g.law.begun, end_within g.merger.merged g.z.cells (length g.slots) (first_live g.z g.merger) (omega arith) (clock_live g)))
+    subst (λ (m : ℕ). (m * g.z.cells ≤ g.memory Clock) × (length g.slots ≤ (m + 2) * g.z.cells)) (sym same) (g.law.begun, end_within g.merger.merged g.z.cells (length g.slots) (first_live g.z g.merger) (omega arith) (clock_live g)))
     (λ (retired : IsRetiredFor g.merger i (each g.z pin_of g.views i) c).
     let end : g.merger.merged ≡ c + 1 = sym retired.before in
     let start : g.merger.merged - 1 ≡ c = omega arith in
     let live : first_live g.z g.merger ≡ c * g.z.cells = rw (retired.retired, start) refl in
-    let first : (c + 1) * g.z.cells ≤ length g.slots = subst (λ (m : ℕ). m * g.z.cells ≤ length g.slots) end g.law.begun in
-    (start_within c g.z.cells (length g.slots) first, end_within c g.z.cells (length g.slots) (first_live g.z g.merger) (omega arith) (clock_live g)))
+    let first : (c + 1) * g.z.cells ≤ g.memory Clock = subst (λ (m : ℕ). m * g.z.cells ≤ g.memory Clock) end g.law.begun in
+    (start_within c g.z.cells (g.memory Clock) first, end_within c g.z.cells (length g.slots) (first_live g.z g.merger) (omega arith) (clock_live g)))
     (g.law.held i c held).1
 
 -- a slot that is a write was decided so

@@ -1,17 +1,12 @@
 -- What a seat keeps over one step, and over one after another.
-use Rattle.std.proofs.Common.{◌≡◌, ℕ, ◌≤◌, List, ◌++◌, sym, ap, refl, ◌∙◌, subst, arith, append_assoc, append-nil, Option, [], Some}
-use mathlib.Core.List.{IsPrefix}
-use Rattle.clsm_model.specs.declared.slot.Slot.{Slot}
+use Rattle.std.proofs.Common.{◌≡◌, ℕ, ◌≤◌, List, sym, ap, refl, ◌∙◌, subst, arith, Option, Some}
+use Rattle.clsm_model.proofs.Batches.{begins_self, begins_trans}
 use Rattle.clsm_law.specs.declared.step.Step.{Step}
 use Rattle.clsm_law.specs.declared.view.View.{View}
 use Rattle.clsm_law.specs.Relation.{view_after}
 use Rattle.clsm_words.specs.declared.known.Known.{Known}
-use Rattle.clsm_words.specs.Knowing.{Follows, Sound}
-use Rattle.clsm_words.proofs.PastGrowth.{same_past}
+use Rattle.clsm_words.specs.Knowing.{Follows, known_of}
 use Rattle.clsm_words.specs.Keeping.{KeepsSeat, KeepsPast, KeepsPlace, OnlyReads, Looks, LooksAside}
-
-pub prefix_trans : (a b c : List Slot) → IsPrefix a b → IsPrefix b c → IsPrefix a c
-prefix_trans a b c h k = (h.0 ++ k.0, sym (append_assoc a h.0 k.0) ∙ ap (λ (l : List Slot). l ++ k.0) h.1 ∙ k.1)
 
 -- ---- the seat
 
@@ -21,6 +16,7 @@ seat_by step k k' x follows = record {
   dealt = follows.dealt;
   layout = follows.layout;
   told = follows.told;
+  told_batches = follows.told_batches;
   heard = follows.heard;
   past = follows.longer;
   runs = follows.runs;
@@ -28,7 +24,7 @@ seat_by step k k' x follows = record {
 }
 
 pub seat_stays : (k : Known) → KeepsSeat k k
-seat_stays k = record { number = refl; dealt = refl; layout = refl; told = refl; heard = refl; past = ([], append-nil k.past); runs = λ c held held'. (refl, λ word named. refl); spots = λ c held held'. record { each = λ p key has. has } }
+seat_stays k = record { number = refl; dealt = refl; layout = refl; told = refl; told_batches = refl; heard = refl; past = begins_self (known_of k); runs = λ c held held'. (refl, λ word named. refl); spots = λ c held held'. record { each = λ p key has. has } }
 
 -- a component that was held before and is held after was held between
 pub seat_trans : (a b c : Known) → KeepsSeat a b → KeepsSeat b c → ((m : ℕ) → a.view.held ≡ Some m → c.view.held ≡ Some m → b.view.held ≡ Some m) → KeepsSeat a c
@@ -37,8 +33,9 @@ seat_trans a b c h k between = record {
   dealt = k.dealt ∙ h.dealt;
   layout = k.layout ∙ h.layout;
   told = k.told ∙ h.told;
+  told_batches = k.told_batches ∙ h.told_batches;
   heard = k.heard ∙ h.heard;
-  past = prefix_trans a.past b.past c.past h.past k.past;
+  past = begins_trans (known_of a) (known_of b) (known_of c) h.past k.past;
   runs = λ m held held'. let mid = between m held held' in let one = h.runs m held mid in let two = k.runs m mid held' in (two.0 ∙ one.0, λ word named. two.1 word named ∙ one.1 word named);
   spots = λ m held held'. let mid = between m held held' in let one = h.spots m held mid in let two = k.spots m mid held' in record { each = λ p key has. two.each p key (one.each p key has) };
 }
@@ -46,14 +43,16 @@ seat_trans a b c h k between = record {
 -- ---- the seat and its past
 
 -- a step that leaves how far the past goes
-pub past_by : (step : Step) (k k' : Known) (x : ℕ) → Sound k → Follows step k x k' → (view_after k.layout k.number k.view step x).past ≡ k.view.past → KeepsPast k k'
-past_by step k k' x sound follows past = record {
+pub past_by : (step : Step) (k k' : Known) (x : ℕ) → Follows step k x k' → (view_after k.layout k.number k.view step x).past ≡ k.view.past → KeepsPast k k'
+past_by step k k' x follows past = record {
   number = follows.number;
   dealt = follows.dealt;
   layout = follows.layout;
   told = follows.told;
+  told_batches = follows.told_batches;
   heard = follows.heard;
-  past = same_past step k k' x sound follows (ap (λ (v : View). v.past) follows.view ∙ past);
+  past = (follows.same (ap (λ (v : View). v.past) follows.view ∙ past)).0;
+  batches = (follows.same (ap (λ (v : View). v.past) follows.view ∙ past)).1;
 }
 
 pub past_trans : (a b c : Known) → KeepsPast a b → KeepsPast b c → KeepsPast a c
@@ -62,21 +61,28 @@ past_trans a b c h k = record {
   dealt = k.dealt ∙ h.dealt;
   layout = k.layout ∙ h.layout;
   told = k.told ∙ h.told;
+  told_batches = k.told_batches ∙ h.told_batches;
   heard = k.heard ∙ h.heard;
   past = k.past ∙ h.past;
+  batches = k.batches ∙ h.batches;
 }
 
 -- ---- the seat and its place
 
 pub place_stays : (k : Known) → KeepsPlace k k
-place_stays k = record { seat = seat_stays k; past = refl; trail = refl }
+place_stays k = record { seat = seat_stays k; past = refl; batches = refl; trail = refl }
 
 -- a step that leaves how far the past goes, and the walk
-pub place_by : (step : Step) (k k' : Known) (x : ℕ) → Sound k → Follows step k x k' → (view_after k.layout k.number k.view step x).past ≡ k.view.past → k'.trail ≡ k.trail → KeepsPlace k k'
-place_by step k k' x sound follows past trail = record { seat = seat_by step k k' x follows; past = same_past step k k' x sound follows (ap (λ (v : View). v.past) follows.view ∙ past); trail = trail }
+pub place_by : (step : Step) (k k' : Known) (x : ℕ) → Follows step k x k' → (view_after k.layout k.number k.view step x).past ≡ k.view.past → k'.trail ≡ k.trail → KeepsPlace k k'
+place_by step k k' x follows past trail = record {
+  seat = seat_by step k k' x follows;
+  past = (follows.same (ap (λ (v : View). v.past) follows.view ∙ past)).0;
+  batches = (follows.same (ap (λ (v : View). v.past) follows.view ∙ past)).1;
+  trail = trail;
+}
 
 pub place_trans : (a b c : Known) → KeepsPlace a b → KeepsPlace b c → ((m : ℕ) → a.view.held ≡ Some m → c.view.held ≡ Some m → b.view.held ≡ Some m) → KeepsPlace a c
-place_trans a b c h k between = record { seat = seat_trans a b c h.seat k.seat between; past = k.past ∙ h.past; trail = k.trail ∙ h.trail }
+place_trans a b c h k between = record { seat = seat_trans a b c h.seat k.seat between; past = k.past ∙ h.past; batches = k.batches ∙ h.batches; trail = k.trail ∙ h.trail }
 
 -- ---- reads
 
@@ -106,11 +112,11 @@ reads_trans a b c h k = record {
 -- ---- looks
 
 pub looks_none : (k : Known) → Looks k k
-looks_none k = record { reads = reads_none k; past = refl; cancelled = refl }
+looks_none k = record { reads = reads_none k; past = refl; batches = refl; cancelled = refl }
 
 -- one look after another
 pub looks_trans : (a b c : Known) → Looks a b → Looks b c → Looks a c
-looks_trans a b c h k = record { reads = reads_trans a b c h.reads k.reads; past = k.past ∙ h.past; cancelled = k.cancelled ∙ h.cancelled }
+looks_trans a b c h k = record { reads = reads_trans a b c h.reads k.reads; past = k.past ∙ h.past; batches = k.batches ∙ h.batches; cancelled = k.cancelled ∙ h.cancelled }
 
 pub aside_trans : (a b c : Known) → LooksAside a b → LooksAside b c → LooksAside a c
 aside_trans a b c h k = record { looks = looks_trans a b c h.looks k.looks; trail = k.trail ∙ h.trail }

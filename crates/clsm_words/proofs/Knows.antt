@@ -1,19 +1,24 @@
 -- What the rule says of a seat, the seat knows.
-use Rattle.std.proofs.Common.{◌≡◌, ◌≢◌, ◌⊎◌, ⊎_elim, ℕ, ◌+◌, ◌-◌, ◌*◌, ◌%◌, ◌<◌, ◌≤◌, ◌||◌, Bool, true, cond, List, refl, length, get_or, sym, ap, ◌∙◌, subst, arith, inl, inr, Option, Some, None}
+use Rattle.std.proofs.Common.{◌≡◌, ◌≢◌, ◌⊎◌, ⊎_elim, ℕ, ◌+◌, ◌-◌, ◌*◌, ◌%◌, ◌<◌, ◌≤◌, ◌||◌, Bool, true, cond, List, [], refl, length, get_or, sym, ap, ◌∙◌, subst, arith, inl, inr, Option, Some, None}
 use Rattle.std.specs.List.{AllByRecursion}
 use Rattle.std.proofs.lemmas.Bool.{cases_lt}
 use Rattle.std.proofs.lemmas.List.{get_or_past}
 use Rattle.atomic_table.specs.Table.{State}
+use Rattle.clsm_model.specs.declared.batch.Batch.{Batch}
+use Rattle.clsm_model.specs.declared.record.Deed.{Deed}
+use Rattle.clsm_model.specs.declared.record.Deed.TheVariants.{Put, Remove, Batch as Group}
 use Rattle.clsm_model.specs.declared.slot.Slot.{Slot}
 use Rattle.clsm_model.specs.declared.slot.Slot.TheVariants.{Nothing, Wrote}
-use Rattle.clsm_model.specs.History.{History, plain}
-use Rattle.clsm_model.specs.Right.{write_by}
+use Rattle.clsm_model.specs.History.{History, AreInTurn, IsListed, IsUncut, batches_below, end_of, plain}
+use Rattle.clsm_model.proofs.Batches.{below_listed, below_uncut, in_turn_below, in_turn_some}
+use Rattle.clsm_model.specs.Right.{write_at}
 use Rattle.clsm_law.specs.declared.layout.Layout.{Layout}
 use Rattle.clsm_law.specs.declared.word.Word.{Word}
-use Rattle.clsm_law.specs.declared.word.Word.TheVariants.{Limit, Merged}
+use Rattle.clsm_law.specs.declared.word.Word.TheVariants.{Clock, Limit, Merged}
 use Rattle.clsm_law.specs.declared.step.Step.{Step}
-use Rattle.clsm_law.specs.declared.step.Step.TheVariants.{EnterShared, Draw, Decide, Look, Note}
+use Rattle.clsm_law.specs.declared.step.Step.TheVariants.{EnterShared, Draw, Decide, Look, Note, RaiseFront}
 use Rattle.clsm_law.specs.declared.view.View.{View}
+use Rattle.clsm_law.specs.declared.view.Mode.TheVariants.{Exclusive}
 use Rattle.clsm_law.specs.declared.view.SnapshotState.{SnapshotState}
 use Rattle.clsm_law.specs.declared.view.SnapshotState.TheVariants.{Open}
 use Rattle.clsm_law.specs.declared.merger.MergerView.{MergerView}
@@ -23,13 +28,16 @@ use Rattle.clsm_law.specs.Relation.{open_time, IsOpen, word_of}
 use Rattle.clsm_law.specs.Merging.{is_frozen}
 use Rattle.clsm_law.specs.Worlds.{view_at, outcome_at, past_of}
 use Rattle.clsm_law.specs.Law.{IsMember, IsSnapshot, first_free}
-use Rattle.clsm_model.specs.Seats.{IsRightRecord, StandsAs, IsStandingRecord, HasWrite, IsRecordIn, IsRising}
-use Rattle.clsm_law.specs.SeatBounds.{IsSmall, IsSmallLook}
+use Rattle.clsm_model.specs.Seats.{FitsRecord, IsListedDeed, IsListedRecord, IsRightRecord, IsUncutDeed, IsUncutRecord, StandsAs, IsStandingRecord, HasWrite, IsRecordIn, IsRising}
+use Rattle.clsm_law.specs.SeatBounds.{IsSmall, IsSmallFor, IsSmallLook}
 use Rattle.clsm_law.specs.Machine.{WorldState}
 use Rattle.clsm_law.proofs.Histories.{end_of-past}
 use Rattle.clsm_law.proofs.Records.{all_map}
-use Rattle.clsm_law.proofs.SeatSmall.{step_small}
-use Rattle.clsm_law.proofs.Setting.{Setting, Opens as OpensIn, ground, past_below, v, x}
+use Rattle.clsm_law.proofs.SeatSmall.{commit_small, step_small}
+use Rattle.clsm_law.proofs.Setting.{Setting, ground, past_below, clock_below, v}
+use Rattle.clsm_law.proofs.Steps.{May, finds as found_by}
+use Rattle.clsm_law.proofs.Lifting.{lifted}
+use Rattle.clsm_law.specs.Raising.{IsRaise}
 use Rattle.clsm_law.proofs.Stepped.{seat_setting}
 use Rattle.clsm_law.proofs.Cases.{by_bool}
 use Rattle.clsm_law.proofs.Times.{cell_below, region_of_epoch}
@@ -37,7 +45,7 @@ use Rattle.clsm_law.proofs.OrderFacts.{R, some_place, place_region, member_own}
 use Rattle.clsm_law.proofs.WordsThere.{word_there}
 use Rattle.clsm_words.specs.declared.known.Known.{Known}
 use Rattle.clsm_law.specs.Layout.{memory}
-use Rattle.clsm_words.specs.Knowing.{row_of, HasSpot, IsHeldEpoch, IsReading, IsCellPlace, IsOwnPlace, Agrees, Opens, Sound}
+use Rattle.clsm_words.specs.Knowing.{row_of, HasSpot, IsHeldEpoch, IsReading, IsCellPlace, IsOwnPlace, IsListedWithin, Agrees, Opens, Sound, known_of}
 use Rattle.clsm_words.specs.Ruled.{world_of, IsSeated, Begins, Ruled}
 use Rattle.clsm_words.proofs.Beginnings.{begins_at}
 use Rattle.clsm_words.proofs.HeldRuns.{clock_near, snapshot_above, floor_below, floor_least, runs_held}
@@ -77,9 +85,9 @@ snapshot_reached : (floor clock past : ℕ) (pinned : Bool) (snapshot : Snapshot
 snapshot_reached floor clock past pinned (Open noted time) t h e = let same : time ≡ t = ap or_zero e in let below = h.2 in omega arith
 snapshot_reached floor clock past pinned snapshot t h e = absurd cc
 
-module _ (s : State ℕ Known) (k : Known) (r : Ruled k.layout s) (ok : IsSeated k.layout s.words r.merger r.slots r.lawful.chains r.lawful.orders r.views k) where
+module _ (s : State ℕ Known) (k : Known) (r : Ruled k.layout s) (ok : IsSeated k.layout s.words r.merger r.slots r.batches r.lawful.chains r.lawful.orders r.views k) where
   abbrev pub world : WorldState
-  world = world_of k.layout s.words r.views r.merger r.slots
+  world = world_of k.layout s.words r.views r.merger r.slots r.batches
 
   pub number_inside : k.number < length r.views
   number_inside = let a = r.lawful.law.seated in let b = ok.inside in omega arith
@@ -88,8 +96,12 @@ module _ (s : State ℕ Known) (k : Known) (r : Ruled k.layout s) (ok : IsSeated
   setting = seat_setting world r.lawful k.number number_inside
 
   -- a step that is open to what the seat knows is open in the world
-  pub open_there : (step : Step) → Opens k step → OpensIn setting step
-  open_there step o = subst (λ (u : View). IsOpen k.layout (past_of r.slots u.past) u step) (sym ok.view) (subst (λ (h : History). IsOpen k.layout h k.view step) (ap plain ok.past) o)
+  opens_both : (step : Step) → Opens k step → IsOpen k.layout (plain k.past) k.view step × IsRaise k.view step
+  opens_both (RaiseFront t) o = o
+  opens_both step o = (o, tt)
+
+  pub open_there : (step : Step) → Opens k step → May setting step
+  open_there step o = lifted setting step (subst (λ (u : View). IsOpen k.layout (past_of r.slots u.past) u step) (sym ok.view) (subst (λ (h : History). IsOpen k.layout h k.view step) (ap plain ok.past) (opens_both step o).0)) (subst (λ (u : View). IsRaise u step) (sym ok.view) (opens_both step o).1)
 
   pub own_past : Begins r.slots k.past
   own_past = record { until = k.view.past; is = ok.past; decided = λ t lt. r.lawful.law.past k.number t (subst (λ (u : View). t < u.past) (sym ok.view) lt) }
@@ -101,17 +113,35 @@ module _ (s : State ℕ Known) (k : Known) (r : Ruled k.layout s) (ok : IsSeated
   wrote_at : (list : List Slot) → Begins r.slots list → (t : ℕ) → t < length list → (slot : Slot) → get_or list t Nothing ≡ slot → outcome_at r.slots t ≡ Some slot
   wrote_at list b t lt slot e = begins_at r.slots list b t lt ∙ ap (λ (a : Slot). Some a) e
 
+  -- a batch that ends within a beginning of the history is listed there, since it has a member
+  deed_listed : (h : History) (t : ℕ) (deed : Deed) → h.batches ≡ batches_below (end_of h) r.batches → IsListedDeed r.batches t deed → IsListedWithin h t deed
+  deed_listed h t (Group members) is listed = λ ends.
+      let some = in_turn_some 0 r.batches (memory k.layout s.words Clock) (record { first = t; size = length members }) r.lawful.law.in_turn listed in
+      subst (λ (bs : List Batch). IsListed bs (record { first = t; size = length members })) (sym is) (below_listed (end_of h) r.batches (record { first = t; size = length members }) (omega arith) listed)
+  deed_listed h t deed is listed = tt
+
+  -- and no read that is inside no batch is inside one of these
+  deed_uncut : (h : History) (t : ℕ) (deed : Deed) → h.batches ≡ batches_below (end_of h) r.batches → IsUncutDeed r.batches t deed → IsUncutDeed h.batches t deed
+  deed_uncut h t (Put key written) is uncut = tt
+  deed_uncut h t (Remove key) is uncut = tt
+  deed_uncut h t (Group members) is uncut = tt
+  deed_uncut h t deed is uncut = subst (λ (bs : List Batch). IsUncut bs t) (sym is) (below_uncut (end_of h) t r.batches uncut)
+
   -- the seat's records agree with each beginning of the history
-  pub agrees_of : (list : List Slot) → Begins r.slots list → Agrees k.layout.seats k.number k.view.calls list
-  agrees_of list b = record {
+  pub agrees_of : (h : History) → Begins r.slots h.slots → h.batches ≡ batches_below (end_of h) r.batches → end_of h ≤ memory k.layout s.words Clock → Agrees k.layout.seats k.number k.view.calls h
+  agrees_of h b is within = let list = h.slots in record {
+    uncut = all_map (IsUncutRecord r.batches) (IsUncutRecord h.batches) k.view.calls (λ c. deed_uncut h c.time c.deed is)
+        (subst (λ (u : View). AllByRecursion (IsUncutRecord r.batches) u.calls) ok.view (r.lawful.law.uncut k.number));
+    listed = all_map (IsListedRecord r.batches) (λ c. IsListedWithin h c.time c.deed) k.view.calls (λ c. deed_listed h c.time c.deed is)
+        (subst (λ (u : View). AllByRecursion (IsListedRecord r.batches) u.calls) ok.view (r.lawful.law.listed k.number));
     stand = all_map (IsStandingRecord (outcome_at r.slots) k.number) (IsRecordIn list k.number) k.view.calls
-        (λ c h. (h.0, λ lt. subst (λ (o : Option Slot). StandsAs (write_by k.number c.deed) o) (begins_at r.slots list b c.time lt) h.1))
+        (λ c h. (h.0, λ t lt. subst (λ (o : Option Slot). StandsAs (write_at k.number c.time c.deed t) o) (begins_at r.slots list b t lt) (h.1 t)))
         (subst (λ (u : View). AllByRecursion (IsStandingRecord (outcome_at r.slots) k.number) u.calls) ok.view (r.lawful.law.stand k.number));
     recorded = λ t key written lt e. subst (λ (u : View). HasWrite k.number t (Wrote k.number key written) u.calls) ok.view
-        (r.lawful.law.recorded t k.number key written (wrote_at list b t lt (Wrote k.number key written) e));
+        (r.lawful.law.recorded t k.number key written (omega arith) (wrote_at list b t lt (Wrote k.number key written) e));
     numbered = λ t i key written lt e. elim (cases_lt i (length r.views)) [
       | inl below ↦ let a = r.lawful.law.seated in omega arith
-      | inr beyond ↦ absurd (nobody i t (Wrote i key written) beyond (r.lawful.law.recorded t i key written (wrote_at list b t lt (Wrote i key written) e)))
+      | inr beyond ↦ absurd (nobody i t (Wrote i key written) beyond (r.lawful.law.recorded t i key written (omega arith) (wrote_at list b t lt (Wrote i key written) e)))
     ];
     short = λ t i key written lt e. r.lawful.law.short t i key written (wrote_at list b t lt (Wrote i key written) e);
   }
@@ -120,10 +150,22 @@ module _ (s : State ℕ Known) (k : Known) (r : Ruled k.layout s) (ok : IsSeated
   past_bound = subst (λ (u : View). u.past ≤ length r.slots) ok.view (past_below (ground setting) k.number)
 
   due_bound : k.view.due ≤ length r.slots
-  due_bound = subst (λ (u : View). u.due ≤ length r.slots) ok.view (r.lawful.law.dues k.number)
+  due_bound = let a = clock_below (ground setting) in let b = subst (λ (u : View). u.due ≤ memory k.layout s.words Clock) ok.view (r.lawful.law.dues k.number) in omega arith
 
   pub past_long : length k.past ≡ k.view.past
   past_long = ap (λ (xs : List Slot). length xs) ok.past ∙ end_of-past r.slots k.view.past past_bound
+
+  -- its past is not beyond the clock
+  pub past_clock : k.view.past ≤ memory k.layout s.words Clock
+  past_clock = subst (λ (u : View). u.past ≤ memory k.layout s.words Clock) ok.view (r.lawful.law.past_clock k.number)
+
+  -- its batches are those that begin below its past, and none ends beyond that
+  pub own_batches : k.batches ≡ batches_below (length k.past) r.batches
+  own_batches = ok.listed ∙ ap (λ (n : ℕ). batches_below n r.batches) (sym past_long)
+
+  batches_turn : AreInTurn 0 k.batches (length k.past)
+  batches_turn = subst (λ (y : List Batch × ℕ). AreInTurn 0 y.0 y.1) (λ i. (sym ok.listed i, sym past_long i))
+      (in_turn_below 0 r.batches (memory k.layout s.words Clock) k.view.past (omega arith) (subst (λ (u : View). IsUncut r.batches u.past) ok.view (r.lawful.law.uncut_pasts k.number)) r.lawful.law.in_turn)
 
   right_there : AllByRecursion (IsRightRecord (plain k.past)) k.view.calls
   right_there = subst (λ (h : History). AllByRecursion (IsRightRecord h) k.view.calls) (sym (ap plain ok.past))
@@ -132,7 +174,7 @@ module _ (s : State ℕ Known) (k : Known) (r : Ruled k.layout s) (ok : IsSeated
   -- the open snapshot's time is below the past
   opened_of : (t : ℕ) → open_time k.view.snapshot ≡ Some t → t ≤ k.view.past
   opened_of t e = subst (λ (u : View). open_time u.snapshot ≡ Some t → t ≤ u.past) ok.view
-      (snapshot_reached r.merger.floor (length r.slots) there.past there.pinned there.snapshot t (r.lawful.law.snapshots k.number)) e
+      (snapshot_reached r.merger.floor (memory k.layout s.words Clock) there.past there.pinned there.snapshot t (r.lawful.law.snapshots k.number)) e
     where
       there : View
       there = view_at k.layout r.views k.number
@@ -183,7 +225,7 @@ module _ (s : State ℕ Known) (k : Known) (r : Ruled k.layout s) (ok : IsSeated
         below_merged = floor_below g k.number c k.floor (row_of k) k.past own_past number_inside there (ok.floor c held) (ok.row c held);
         below_snapshot = λ t is.
             let least = floor_least g k.number c k.floor (row_of k) k.past own_past number_inside there (ok.floor c held) (ok.row c held) in
-            let above = snapshot_above r.merger.floor (length r.slots) (view_at k.layout r.views k.number).past (view_at k.layout r.views k.number).pinned (view_at k.layout r.views k.number).snapshot t (r.lawful.law.snapshots k.number) (ap (λ (u : View). open_time u.snapshot) ok.view ∙ is) in
+            let above = snapshot_above r.merger.floor (memory k.layout s.words Clock) (view_at k.layout r.views k.number).past (view_at k.layout r.views k.number).pinned (view_at k.layout r.views k.number).snapshot t (r.lawful.law.snapshots k.number) (ap (λ (u : View). open_time u.snapshot) ok.view ∙ is) in
             omega arith;
         runs = runs_held g k.number c k.floor (row_of k) k.past own_past number_inside there (ok.floor c held) (ok.row c held);
       }
@@ -207,10 +249,14 @@ module _ (s : State ℕ Known) (k : Known) (r : Ruled k.layout s) (ok : IsSeated
     seated = sits;
     inside = ok.inside;
     there = λ step o. subst (λ (u : View). is_word k.layout (word_of k.layout k.number u step) ≡ true) ok.view (word_there setting step (open_there step o));
-    small = λ step o. small_at k.layout step (x setting step) (step_small setting step (open_there step o));
+    small = λ step o. small_at k.layout step (found_by setting step) (step_small setting step (open_there step o));
+    small_for = λ step o. subst (λ (u : View). IsSmallFor u step) ok.view (commit_small setting step (open_there step o));
+    unstaged = subst (λ (u : View). u.mode ≢ Exclusive → u.staged ≡ []) ok.view (r.lawful.law.staging k.number).shut;
     length_is = past_long;
-    agrees = agrees_of k.past own_past;
+    in_turn = batches_turn;
+    agrees = agrees_of (known_of k) own_past own_batches (let a = past_long in let b = past_clock in omega arith);
     right = right_there;
+    fits = subst (λ (u : View). AllByRecursion (FitsRecord k.layout.cells) u.calls) ok.view (r.lawful.law.fitting k.number);
     rows = ok.rows;
     own_region = region_is;
     own_places = own_place_of;

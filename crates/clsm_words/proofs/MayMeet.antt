@@ -8,7 +8,7 @@ use Rattle.clsm_law.proofs.LayoutIndex.{index_inside}
 use Rattle.clsm_words.specs.declared.known.Known.{Known}
 use Rattle.clsm_words.specs.declared.words.WordTable.{WordTable}
 use Rattle.clsm_words.specs.Seats.{RawState}
-use Rattle.clsm_words.specs.Knowing.{unplayed, deals, messenger, Sound}
+use Rattle.clsm_words.specs.Knowing.{unplayed, deals, known_of, messenger, Sound}
 use Rattle.clsm_words.specs.Merging.{IsSoundMerger}
 use Rattle.clsm_words.specs.Plays.{IsSeatOf}
 use Rattle.clsm_words.specs.Ruled.{Ruled}
@@ -33,5 +33,5 @@ module _ (w : WordTable) (table : TableId) (id : ℕ) (me : Me ℕ Known) (now :
       let inside : me.0.dealt < me.0.layout.seats = subst (λ (z : Layout). me.0.dealt < z.seats) (sym of'.1) room' in
       (of'.0, some_word w, subst (λ (z : Layout). Splits (Ruled z) id me.0 (deals me.0) (unplayed me.0.layout me.0.dealt)) key (deals_one id me.0 sound.merges inside))
 
-  pub may_tell : Sound me.0 → (table ≡ w.table.shared.table_id) × (0 < w.table.shared.table_id.words) × Splits (Ruled w.table.shared.key) id me.0 me.0 (messenger me.0.past me.0.view.due)
-  may_tell sound = (of'.0, some_word w, subst (λ (z : Layout). Splits (Ruled z) id me.0 me.0 (messenger me.0.past me.0.view.due)) key (tells_one id me.0 sound.seated))
+  pub may_tell : Sound me.0 → (table ≡ w.table.shared.table_id) × (0 < w.table.shared.table_id.words) × Splits (Ruled w.table.shared.key) id me.0 me.0 (messenger (known_of me.0) me.0.view.due)
+  may_tell sound = (of'.0, some_word w, subst (λ (z : Layout). Splits (Ruled z) id me.0 me.0 (messenger (known_of me.0) me.0.view.due)) key (tells_one id me.0 sound.seated))

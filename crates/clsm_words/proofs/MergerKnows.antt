@@ -18,7 +18,7 @@ use Rattle.clsm_law.specs.Machine.{WorldState}
 use Rattle.clsm_law.proofs.Cases.{by_bool}
 use Rattle.clsm_law.proofs.KeptRuns.{runs_stay}
 use Rattle.clsm_law.proofs.MergingLawful.{lawful_is_mergeable}
-use Rattle.clsm_law.proofs.Setting.{Ground, OpensTo}
+use Rattle.clsm_law.proofs.Setting.{Ground, OpensTo, clock_below, clock_merger}
 use Rattle.clsm_law.proofs.Stepped.{lawful_ground}
 use Rattle.clsm_law.proofs.WordsThere.{word_there'}
 use Rattle.clsm_words.specs.declared.known.Known.{Known}
@@ -37,7 +37,7 @@ merged_known false false merged n clock past begun reaches = reaches
 
 module _ (s : State ℕ Known) (k : Known) (r : Ruled k.layout s) (ok : IsMerging k.layout s.words r.merger r.slots r.lawful.orders k) where
   abbrev pub world : WorldState
-  world = world_of k.layout s.words r.views r.merger r.slots
+  world = world_of k.layout s.words r.views r.merger r.slots r.batches
 
   abbrev pub setting : Ground
   setting = lawful_ground world r.lawful
@@ -52,7 +52,7 @@ module _ (s : State ℕ Known) (k : Known) (r : Ruled k.layout s) (ok : IsMergin
 
   past_agrees : AgreeBelow (r.merger.merged * k.layout.cells) (history_of r.slots) (plain k.past)
   past_agrees t lt =
-      let enough = merged_known r.merger.exclusive (is_frozen r.merger.phase) r.merger.merged k.layout.cells (length r.slots) (length k.past) r.lawful.law.begun ok.reaches in
+      let enough = merged_known r.merger.exclusive (is_frozen r.merger.phase) r.merger.merged k.layout.cells (length r.slots) (length k.past) (let a = r.lawful.law.begun in let b = clock_below setting in omega arith) ok.reaches in
       begins_settled r.slots k.past ok.past t (omega arith)
 
   runs_known : AreRuns k.layout (row_of k) (plain k.past) r.merger.merged r.merger.merged_floor
@@ -62,7 +62,7 @@ module _ (s : State ℕ Known) (k : Known) (r : Ruled k.layout s) (ok : IsMergin
   mergeable : IsMergeable k.layout k.row r.merger
   mergeable = record {
     size = ok.sized;
-    small = (lawful_is_mergeable k.layout s.words r.views r.merger r.slots r.lawful.chains r.lawful.orders r.lawful.size r.lawful.law).small;
+    small = (lawful_is_mergeable k.layout s.words r.views r.merger r.slots r.batches r.lawful.chains r.lawful.orders r.lawful.size r.lawful.law).small;
     counts = runs_known.counts;
     falls = runs_known.content.falls;
     older = runs_known.content.older;
@@ -70,7 +70,7 @@ module _ (s : State ℕ Known) (k : Known) (r : Ruled k.layout s) (ok : IsMergin
 
   -- in a hold of the lock the clock that it knows is the clock
   clock_known : r.merger.exclusive ≡ true → row_of k Clock ≡ length r.slots
-  clock_known e = ok.row Clock e ∙ r.lawful.law.clock
+  clock_known e = ok.row Clock e ∙ clock_merger setting e
 
   reaches_known : known_end k.layout r.merger (row_of k Clock) ≤ length k.past
   reaches_known = by_bool (λ b. (r.merger.exclusive ≡ b → cond b (row_of k Clock) (cond (is_frozen r.merger.phase) (epoch_end k.layout r.merger) (r.merger.merged * k.layout.cells)) ≤ length k.past)) r.merger.exclusive

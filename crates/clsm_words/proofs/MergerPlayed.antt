@@ -6,8 +6,9 @@ use lib.ListN.{get_elem?}
 use Rattle.atomic_table.specs.Table.{State}
 use Rattle.atomic_table.proofs.Lists.{at_set}
 use Rattle.clsm_model.specs.declared.slot.Slot.{Slot}
+use Rattle.clsm_model.specs.History.{History, batches_below, end_of}
 use Rattle.clsm_law.specs.declared.word.Word.{Word}
-use Rattle.clsm_law.specs.declared.word.Word.TheVariants.{Pin, Snap, Count, Entry}
+use Rattle.clsm_law.specs.declared.word.Word.TheVariants.{Pin, Snap, Count, Entry, Clock}
 use Rattle.clsm_law.specs.declared.step.Step.{Step}
 use Rattle.clsm_law.specs.declared.step.Step.TheVariants.{LeaveExclusive, Look, ClearHead, ClearState, Publish}
 use Rattle.clsm_law.specs.declared.view.View.{View}
@@ -25,12 +26,13 @@ use Rattle.clsm_law.proofs.GrowthMerger.{slots_stay', longer'}
 use Rattle.clsm_law.proofs.KeptDecided.{frozen_decided}
 use Rattle.clsm_law.proofs.Layouts.{memory-at, memory-set}
 use Rattle.clsm_law.proofs.MachineSteps.{merger_word, merger_there}
+use Rattle.clsm_law.proofs.KeptClock.{clock_grows'}
 use Rattle.clsm_law.proofs.Setting.{Ground, facts, OpensTo, merger', memory', none_drawn, past_below}
 use Rattle.clsm_law.proofs.Kept.{kept'}
 use Rattle.clsm_law.proofs.Keeping.{holds_quiet, places_stay}
 use Rattle.clsm_law.proofs.Stepped.{lawful_ground}
 use Rattle.clsm_words.specs.declared.known.Known.{Known}
-use Rattle.clsm_words.specs.Knowing.{row_of, IsHeldEpoch, IsNamedWord}
+use Rattle.clsm_words.specs.Knowing.{row_of, told_of, IsHeldEpoch, IsNamedWord}
 use Rattle.clsm_words.specs.Merging.{facts_known, OpensToMerger, known_end}
 use Rattle.clsm_words.specs.Ruled.{world_of, HasFloor, IsSpot, IsSeated, Begins, IsMerging, AreSeats, Ruled, frozen_times}
 use Rattle.clsm_words.proofs.Beginnings.{HaveGrown, begins_stay, begins_length, decided_stay}
@@ -153,17 +155,21 @@ module _ (s : State ℕ Known) (id : ℕ) (k : Known) (r : Ruled k.layout s) (at
   abbrev pub chains' : Chains
   chains' = chains_after_merger r.lawful.chains step
 
-  abbrev pub lawful' : IsLawful (world_of k.layout words' r.views view' slots')
+  abbrev pub lawful' : IsLawful (world_of k.layout words' r.views view' slots' r.batches)
   lawful' = record {
     sound = r.lawful.sound;
     size = length-set s.words (index_of k.layout word) made ∙ r.lawful.size;
     chains = chains';
     orders = orders';
-    law = subst (λ (y : Memory × MergerView × List (Option Slot)). LawOf k.layout y.0 r.views y.1 y.2 chains' orders') (λ i. (sym there_memory i, sym there_view i, sym same_slots i)) (kept' before step opens);
+    law = subst (λ (y : Memory × MergerView × List (Option Slot)). LawOf k.layout y.0 r.views y.1 y.2 r.batches chains' orders') (λ i. (sym there_memory i, sym there_view i, sym same_slots i)) (kept' before step opens);
   }
 
   abbrev pub ended : Ground
-  ended = lawful_ground (world_of k.layout words' r.views view' slots') lawful'
+  ended = lawful_ground (world_of k.layout words' r.views view' slots' r.batches) lawful'
+
+  -- the clock never falls
+  pub clock_rises : memory k.layout s.words Clock ≤ memory k.layout words' Clock
+  clock_rises = let a = clock_grows' before step opens in let b : memory k.layout words' Clock ≡ memory' before step Clock = λ i. there_memory i Clock in omega arith
 
   pub grown : HaveGrown r.slots slots'
   grown = subst (HaveGrown r.slots) (sym same_slots) record { longer = longer' before step; stay = slots_stay' before step opens }
@@ -209,7 +215,7 @@ module _ (s : State ℕ Known) (id : ℕ) (k : Known) (r : Ruled k.layout s) (at
   longer_past = let e = past_long in omega arith
 
   -- what a caller knew stays
-  module _ (j : Known) (h : IsSeated k.layout s.words r.merger r.slots r.lawful.chains r.lawful.orders r.views j) where
+  module _ (j : Known) (h : IsSeated k.layout s.words r.merger r.slots r.batches r.lawful.chains r.lawful.orders r.views j) where
     past_inside : j.view.past ≤ length r.slots
     past_inside = subst (λ (u : View). u.past ≤ length r.slots) h.view (past_below before j.number)
 
@@ -235,13 +241,14 @@ module _ (s : State ℕ Known) (id : ℕ) (k : Known) (r : Ruled k.layout s) (at
       by (Some c) is epoch = λ q.
           walked_apart before j.number c (h.line walks).0 j.view.past (held_there c is) past_inside epoch region chain clears (sym (h.line walks).2 ∙ q)
 
-    seated_stays : IsSeated k.layout words' view' slots' chains' orders' r.views j
+    seated_stays : IsSeated k.layout words' view' slots' r.batches chains' orders' r.views j
     seated_stays = record {
       layout = h.layout;
       inside = h.inside;
       view = h.view;
       rows = h.rows;
       past = past_stays;
+      listed = h.listed;
       row = row_stays;
       floor = floor_stays;
       ends = ends_walked before step opens j.region j.chain j.trail line_apart h.ends;
@@ -260,7 +267,7 @@ module _ (s : State ℕ Known) (id : ℕ) (k : Known) (r : Ruled k.layout s) (at
     pub seated : old.seated ≡ j.seated
     pub merger : old.merges ≡ j.merges
     pub dealt : old.dealt ≡ j.dealt
-    pub told : old.told ≡ j.told
+    pub told : told_of old ≡ told_of j
     pub heard : old.heard ≡ j.heard
 
   was : (i : ℕ) (j : Known) → get_elem? after.views i ≡ some j → Was i j
@@ -268,7 +275,7 @@ module _ (s : State ℕ Known) (id : ℕ) (k : Known) (r : Ruled k.layout s) (at
       (λ (t : (i ≡ id) × (next ≡ j)). subst (λ (y : ℕ × Known). Was y.0 y.1) (λ m. (sym t.0 m, t.1 m)) (record { old = k; stood = at; number = refl; seated = refl; merger = refl; dealt = refl; told = refl; heard = refl }))
       (λ (t : (i ≢ id) × (get_elem? s.views i ≡ some j)). record { old = j; stood = t.1; number = refl; seated = refl; merger = refl; dealt = refl; told = refl; heard = refl }) (back i j e)
 
-  pub seats' : AreSeats k.layout words' view' slots' chains' orders' r.views after.views
+  pub seats' : AreSeats k.layout words' view' slots' r.batches chains' orders' r.views after.views
   seats' = record {
     seated = λ i j e sat. ⊎_elim
         (λ (t : (i ≡ id) × (next ≡ j)). let mine : k.seated ≡ true = ap (λ (y : Known). y.seated) t.1 ∙ sat in absurd (let f = me_merging.unseated in cc (f, mine)))
@@ -276,7 +283,12 @@ module _ (s : State ℕ Known) (id : ℕ) (k : Known) (r : Ruled k.layout s) (at
     merging = λ i j e p. ⊎_elim
         (λ (t : (i ≡ id) × (next ≡ j)). subst (IsMerging k.layout words' view' slots' orders') t.1 next_merging)
         (λ (t : (i ≢ id) × (get_elem? s.views i ≡ some j)). absurd (t.0 (r.seats.one i id j k t.1 at p merges))) (back i j e);
-    told = λ i j e. let w = was i j e in let h = r.seats.told i w.old w.stood in record { begins = subst (Begins slots') w.told (told_stays w.old.told h.begins); below = let a = h.below in let e = w.heard in let g = grown.longer in omega arith };
+    told = λ i j e. let w = was i j e in let h = r.seats.told i w.old w.stood in record {
+      begins = subst (λ (l : History). Begins slots' l.slots) w.told (told_stays w.old.told h.begins);
+      listed = subst (λ (l : History). l.batches ≡ batches_below (end_of l) r.batches) w.told h.listed;
+      within = let a = h.within in let e = ap end_of w.told in let g = clock_rises in omega arith;
+      below = let a = h.below in let e = w.heard in let g = clock_rises in omega arith;
+    };
     apart = λ i i' j j' e e' a a' q. let w = was i j e in let w' = was i' j' e' in r.seats.apart i i' w.old w'.old w.stood w'.stood (w.seated ∙ a) (w'.seated ∙ a') (w.number ∙ q ∙ sym w'.number);
     dealer = λ i j e p. let w = was i j e in let d = r.seats.dealer i w.old w.stood (w.merger ∙ p) in record {
       below = λ i' j' e' sat. let w' = was i' j' e' in let b = d.below i' w'.old w'.stood (w'.seated ∙ sat) in let y = w.dealt in let y' = w'.number in omega arith;
@@ -287,7 +299,7 @@ module _ (s : State ℕ Known) (id : ℕ) (k : Known) (r : Ruled k.layout s) (at
 
   -- the rule holds after the step
   abbrev pub ruled' : Ruled k.layout after
-  ruled' = record { views = r.views; merger = view'; slots = slots'; lawful = lawful'; seats = seats' }
+  ruled' = record { views = r.views; merger = view'; slots = slots'; batches = r.batches; lawful = lawful'; seats = seats' }
 
   -- what is found is what the word has
   pub finds_word : found ≡ memory k.layout s.words word

@@ -4,15 +4,17 @@ use prog.Atomic.{either}
 use Rattle.clsm_law.specs.declared.word.Word.{Word}
 use Rattle.clsm_law.specs.declared.word.Word.TheVariants.{Clock, Head, Order, State, Count, Entry}
 use Rattle.clsm_law.specs.declared.step.Step.{Step}
-use Rattle.clsm_law.specs.declared.step.Step.TheVariants.{Draw, Link, FillOrder, Insert, Decide, Cancel, Look}
+use Rattle.clsm_law.specs.declared.step.Step.TheVariants.{Draw, Link, FillOrder, Insert, Decide, Cancel, Look, Stage, Commit}
 use Rattle.clsm_law.specs.declared.view.Mode.TheVariants.{Shared}
 use Rattle.clsm_law.specs.Memory.{cell_of, region_of, link_at, put}
-use Rattle.clsm_law.specs.Views.{is_shared, or_zero}
+use Rattle.clsm_law.specs.Views.{or_zero}
 use Rattle.clsm_law.specs.Merging.{retired_region}
 use Rattle.clsm_law.specs.Worlds.{outcome_at}
 use Rattle.clsm_law.specs.Law.{first_shown, each, drawn_of}
 use Rattle.clsm_law.proofs.Cases.{by_test}
 use Rattle.clsm_law.proofs.Frames.{put_other, put_same}
+use Rattle.clsm_law.proofs.PlainOpens.{opens_plain}
+use Rattle.clsm_law.proofs.Steps.{May, memory_by}
 use Rattle.clsm_law.proofs.Setting.{Setting, v, M, x, own, own_drawn, Opens, ground, drawn_shown, none_drawn, undecided}
 use Rattle.clsm_law.proofs.Growth.{cancels_shown}
 use Rattle.clsm_law.proofs.KeptCells.{first_if_quiet, retired_end}
@@ -41,10 +43,11 @@ module _ (s : Setting) (gone : IsLetGo s.merger) where
 -- ---- the clock
 
 no_draw : (s : Setting) → s.merger.exclusive ≡ true → (v s).mode ≢ Shared
-no_draw s e shared = let free = s.law.locked_out e s.me in absurd (let yes = ap is_shared shared in cc (yes, free))
+no_draw s e shared = let free = s.law.locked_out e s.me in absurd cc
 
 own_clock : (s : Setting) (step : Step) → Opens s step → s.merger.exclusive ≡ true → M s step Clock ≡ s.memory Clock
 own_clock s (Draw t) o e = absurd (no_draw s e o.0)
+own_clock s (Commit members) o e = absurd (let free = s.law.locked_out e s.me in let alone = o.0 in cc)
 own_clock s (Look word) o e = λ k. put_same s.memory word k Clock
 own_clock s step o e = refl
 
@@ -90,11 +93,22 @@ own_order s (Insert p next) o link is = put_other s.memory (Order (link_at (R s)
 own_order s (Look word) o link is = λ k. put_same s.memory word k (Order link)
 own_order s step o link is = refl
 
-pub own_kept : (s : Setting) (step : Step) → Opens s step → (word : Word) → IsOwn s.z s.merger word → M s step word ≡ s.memory word
-own_kept s step o Clock is = own_clock s step o is
-own_kept s step o (Head region chain) is = own_head s step o region chain is
-own_kept s step o (Order link) is = own_order s step o link is
-own_kept s step o (State cell) is = own_state s step o cell is
-own_kept s step o (Count place) is = (seat_same s step o place).count
-own_kept s step o (Entry place entry part) is = (seat_same s step o place).words entry part
-own_kept s step o word is = absurd is
+own_plain : (s : Setting) (step : Step) → Opens s step → (word : Word) → IsOwn s.z s.merger word → M s step word ≡ s.memory word
+own_plain s step o Clock is = own_clock s step o is
+own_plain s step o (Head region chain) is = own_head s step o region chain is
+own_plain s step o (Order link) is = own_order s step o link is
+own_plain s step o (State cell) is = own_state s step o cell is
+own_plain s step o (Count place) is = (seat_same s step o place).count
+own_plain s step o (Entry place entry part) is = (seat_same s step o place).words entry part
+own_plain s step o word is = absurd is
+
+-- so it is of the step as it is made: the key of a staged cell is none of them
+pub own_kept : (s : Setting) (step : Step) → May s step → (word : Word) → IsOwn s.z s.merger word → memory_by s step word ≡ s.memory word
+own_kept s (Stage t key) o Clock is = refl
+own_kept s (Stage t key) o (Head region chain) is = refl
+own_kept s (Stage t key) o (Order link) is = refl
+own_kept s (Stage t key) o (State cell) is = refl
+own_kept s (Stage t key) o (Count place) is = refl
+own_kept s (Stage t key) o (Entry place entry part) is = refl
+own_kept s (Stage t key) o word is = absurd is
+own_kept s step o word is = own_plain s step (opens_plain s step o) word is

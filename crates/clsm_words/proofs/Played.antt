@@ -4,31 +4,31 @@ use mathlib.Core.Option.{some}
 use lib.ListN.{get_elem?}
 use Rattle.atomic_table.specs.Table.{State}
 use Rattle.atomic_table.proofs.Lists.{at_set}
+use Rattle.clsm_model.specs.declared.batch.Batch.{Batch}
 use Rattle.clsm_model.specs.declared.slot.Slot.{Slot}
+use Rattle.clsm_model.specs.History.{History, batches_below, end_of}
 use Rattle.clsm_law.specs.declared.word.Word.{Word}
 use Rattle.clsm_law.specs.declared.word.Word.TheVariants.{Clock, Count, Entry}
 use Rattle.clsm_law.specs.declared.step.Step.{Step}
 use Rattle.clsm_law.specs.declared.view.View.{View}
 use Rattle.clsm_law.specs.Layout.{index_of, memory}
 use Rattle.clsm_law.specs.Views.{idle}
-use Rattle.clsm_law.specs.Relation.{Chains, Orders, word_of, changed, view_after, slots_after, chains_after, orders_after}
+use Rattle.clsm_law.specs.Relation.{Chains, Orders, word_of, changed, view_after, slots_after, batches_after, chains_after, orders_after}
 use Rattle.clsm_law.specs.Worlds.{view_at, outcome_at, settled}
 use Rattle.clsm_law.specs.Memory.{Memory, key_at, is_word}
 use Rattle.clsm_law.specs.Law.{LawOf, In}
 use Rattle.clsm_law.specs.Reading.{time_in}
 use Rattle.clsm_law.specs.Merging.{is_frozen, epoch_end, IsRunWord}
 use Rattle.clsm_law.specs.Machine.{WorldState, IsLawful, memory_of}
-use Rattle.clsm_law.proofs.Growth.{slots_stay, longer}
 use Rattle.clsm_law.proofs.Cases.{by_bool}
 use Rattle.clsm_law.proofs.Layouts.{memory-at, memory-set}
 use Rattle.clsm_law.proofs.MachineSteps.{seat_word, seat_there, seat_writes}
-use Rattle.clsm_law.proofs.Setting.{Setting, v, x, M, S, O, ground, past_below, Opens as OpensIn}
-use Rattle.clsm_law.proofs.OrderFacts.{stays_ordered}
-use Rattle.clsm_law.proofs.KeptOrders.{keys_stay}
-use Rattle.clsm_law.proofs.Kept.{kept}
-use Rattle.clsm_law.proofs.KeptRuns.{seat_same}
+use Rattle.clsm_law.proofs.Setting.{Setting, Ground, v, ground, past_below, clock_merger}
+use Rattle.clsm_law.proofs.Steps.{May, finds as found_by, memory_by, slots_by, orders_by, kept_by}
+use Rattle.clsm_law.proofs.StepsKeep.{longer_by, slots_kept_by, ordered_by, keys_by, runs_by, batches_stay, clock_by}
+use Rattle.clsm_law.proofs.Stepped.{lawful_ground}
 use Rattle.clsm_words.specs.declared.known.Known.{Known}
-use Rattle.clsm_words.specs.Knowing.{Opens}
+use Rattle.clsm_words.specs.Knowing.{Opens, told_of}
 use Rattle.clsm_words.specs.Merging.{IsOwn, known_end}
 use Rattle.clsm_words.specs.Ruled.{world_of, IsSpot, IsSeated, Begins, IsMerging, AreSeats, Ruled, frozen_times}
 use Rattle.clsm_words.proofs.Beginnings.{HaveGrown, begins_stay, decided_stay}
@@ -40,7 +40,7 @@ use Rattle.clsm_words.proofs.Rows.{rows_stay}
 use Rattle.clsm_words.proofs.Knows.{world, number_inside, setting, open_there}
 
 module _ (s : State ℕ Known) (id : ℕ) (k : Known) (r : Ruled k.layout s) (at : get_elem? s.views id ≡ some k) (sits : k.seated ≡ true) (step : Step) (o : Opens k step) where
-  pub me_seated : IsSeated k.layout s.words r.merger r.slots r.lawful.chains r.lawful.orders r.views k
+  pub me_seated : IsSeated k.layout s.words r.merger r.slots r.batches r.lawful.chains r.lawful.orders r.views k
   me_seated = r.seats.seated id k at sits
 
   -- the word that the step is on, what it finds there, and what comes after
@@ -62,6 +62,9 @@ module _ (s : State ℕ Known) (id : ℕ) (k : Known) (r : Ruled k.layout s) (at
   abbrev pub words' : List ℕ
   words' = set s.words (index_of k.layout word) (changed k.layout k.view step found)
 
+  abbrev pub batches' : List Batch
+  batches' = batches_after k.view r.batches step
+
   abbrev pub chains' : Chains
   chains' = chains_after k.layout k.view r.lawful.chains step found
 
@@ -72,6 +75,7 @@ module _ (s : State ℕ Known) (id : ℕ) (k : Known) (r : Ruled k.layout s) (at
   next = record k {
     view = view';
     past = take view'.past (settled slots');
+    batches = batches_below view'.past batches';
     row = words';
     trail = trail_after k.layout k.view r.lawful.chains k.trail step;
     region = region_after k.region step;
@@ -86,7 +90,7 @@ module _ (s : State ℕ Known) (id : ℕ) (k : Known) (r : Ruled k.layout s) (at
   abbrev pub before : Setting
   before = setting s k r me_seated
 
-  pub opens : OpensIn before step
+  pub opens : May before step
   opens = open_there s k r me_seated step o
 
   -- the table's place and what stands there are those of the world
@@ -104,53 +108,60 @@ module _ (s : State ℕ Known) (id : ℕ) (k : Known) (r : Ruled k.layout s) (at
   word_there = subst (λ (u : View). is_word k.layout (word_of k.layout k.number u step) ≡ true) (sym finds.0) (seat_there (world s k r me_seated) r.lawful k.number step (number_inside s k r me_seated) opens)
 
   -- the memory after the step
-  pub same_memory : memory k.layout words' ≡ M before step
+  pub same_memory : memory k.layout words' ≡ memory_by before step
   same_memory =
       let there = seat_there (world s k r me_seated) r.lawful k.number step (number_inside s k r me_seated) opens in
-      let e = seat_writes (world s k r me_seated) r.lawful k.number step (number_inside s k r me_seated) opens k.view view' (index_of k.layout word) found (changed k.layout k.view step found) slots' finds refl refl refl in
+      let e = seat_writes (world s k r me_seated) r.lawful k.number step (number_inside s k r me_seated) opens k.view view' (index_of k.layout word) found (changed k.layout k.view step found) slots' batches' finds refl refl refl refl in
       ap (λ (w : WorldState). memory k.layout w.words) e
-      ∙ memory-set k.layout s.words (word_of k.layout k.number (view_at k.layout r.views k.number) step) (changed k.layout (v before) step (x before step)) there r.lawful.size
+      ∙ memory-set k.layout s.words (word_of k.layout k.number (view_at k.layout r.views k.number) step) (changed k.layout (v before) step (found_by before step)) there r.lawful.size
 
-  abbrev pub lawful' : IsLawful (world_of k.layout words' views' r.merger slots')
+  abbrev pub lawful' : IsLawful (world_of k.layout words' views' r.merger slots' batches')
   lawful' = record {
     sound = r.lawful.sound;
     size = length-set s.words (index_of k.layout word) (changed k.layout k.view step found) ∙ r.lawful.size;
     chains = chains';
     orders = orders';
-    law = subst (λ (y : Memory × View × ℕ). LawOf k.layout y.0 (set r.views k.number (view_after k.layout k.number y.1 step y.2)) r.merger (slots_after k.number r.slots step y.2) (chains_after k.layout y.1 r.lawful.chains step y.2) (orders_after k.layout y.1 r.lawful.orders step y.2))
-        (λ i. (sym same_memory i, sym finds.0 i, sym finds.2 i)) (kept before step opens);
+    law = subst (λ (y : Memory × View × ℕ). LawOf k.layout y.0 (set r.views k.number (view_after k.layout k.number y.1 step y.2)) r.merger (slots_after k.number r.slots step y.2) (batches_after y.1 r.batches step) (chains_after k.layout y.1 r.lawful.chains step y.2) (orders_after k.layout y.1 r.lawful.orders step y.2))
+        (λ i. (sym same_memory i, sym finds.0 i, sym finds.2 i)) (kept_by before step opens);
   }
 
-  same_slots : S before step ≡ slots'
+  same_slots : slots_by before step ≡ slots'
   same_slots = ap (λ (n : ℕ). slots_after k.number r.slots step n) (sym finds.2)
 
-  same_orders : O before step ≡ orders'
+  same_orders : orders_by before step ≡ orders'
   same_orders = λ i. orders_after k.layout (sym finds.0 i) r.lawful.orders step (sym finds.2 i)
 
   -- a spot of a seat's stays one
   kept_spot : (held : Option ℕ) (past p key : ℕ) → IsSpot k.layout (memory k.layout s.words) r.lawful.orders held past p key → IsSpot k.layout (memory k.layout words') orders' held past p key
   kept_spot held past p key = spot_kept k.layout (memory k.layout s.words) (memory k.layout words') r.lawful.orders orders' held past p key
-      (λ e epoch stands. (subst (λ (lists : Orders). In p (lists (e % 2))) same_orders (stays_ordered before step (e % 2) p stands), (λ i. key_at (same_memory i) p) ∙ keys_stay before step opens (e % 2) p stands))
+      (λ e epoch stands. (subst (λ (lists : Orders). In p (lists (e % 2))) same_orders (ordered_by before step opens (e % 2) p stands), (λ i. key_at (same_memory i) p) ∙ keys_by before step opens (e % 2) p stands))
 
   pub grown : HaveGrown r.slots slots'
-  grown = subst (HaveGrown r.slots) same_slots record { longer = longer before step; stay = slots_stay before step opens }
+  grown = subst (HaveGrown r.slots) same_slots record { longer = longer_by before step opens; stay = slots_kept_by before step opens }
 
   pub told_stays : (list : List Slot) → Begins r.slots list → Begins slots' list
   told_stays list b = begins_stay r.slots slots' list grown b
 
   -- what a seat knew of the history stays
-  pub past_stays : (j : Known) → IsSeated k.layout s.words r.merger r.slots r.lawful.chains r.lawful.orders r.views j → j.past ≡ take j.view.past (settled slots')
+  pub past_stays : (j : Known) → IsSeated k.layout s.words r.merger r.slots r.batches r.lawful.chains r.lawful.orders r.views j → j.past ≡ take j.view.past (settled slots')
   past_stays j h =
       let decided : (t : ℕ) → t < j.view.past → outcome_at r.slots t ≢ None = λ t lt. r.lawful.law.past j.number t (subst (λ (u : View). t < u.past) (sym h.view) lt) in
       let bound : j.view.past ≤ length r.slots = subst (λ (u : View). u.past ≤ length r.slots) h.view (past_below (ground before) j.number) in
       h.past ∙ decided_stay r.slots slots' j.view.past grown bound decided
+
+  -- the batches that begin below a time up to the clock stay
+  pub below_stay : (t : ℕ) → t ≤ memory k.layout s.words Clock → batches_below t r.batches ≡ batches_below t batches'
+  below_stay t le = sym (batches_stay before step opens t le) ∙ ap (λ (u : View). batches_below t (batches_after u r.batches step)) (sym finds.0)
+
+  pub batches_known : (j : Known) → IsSeated k.layout s.words r.merger r.slots r.batches r.lawful.chains r.lawful.orders r.views j → j.batches ≡ batches_below j.view.past batches'
+  batches_known j h = h.listed ∙ below_stay j.view.past (subst (λ (u : View). u.past ≤ memory k.layout s.words Clock) h.view (r.lawful.law.past_clock j.number))
 
   -- a view after the step, and the one that stood there before
   back : (i : ℕ) (j : Known) → get_elem? after.views i ≡ some j → ((i ≡ id) × (next ≡ j)) ⊎ ((i ≢ id) × (get_elem? s.views i ≡ some j))
   back i j e = at_set s.views id i next j e
 
   abbrev Was : ℕ → Known → Type 0
-  Was i j = (old : Known) × (get_elem? s.views i ≡ some old) × (old.number ≡ j.number) × (old.seated ≡ j.seated) × (old.dealt ≡ j.dealt) × (old.told ≡ j.told) × (old.heard ≡ j.heard) × (old.merges ≡ j.merges)
+  Was i j = (old : Known) × (get_elem? s.views i ≡ some old) × (old.number ≡ j.number) × (old.seated ≡ j.seated) × (old.dealt ≡ j.dealt) × (told_of old ≡ told_of j) × (old.heard ≡ j.heard) × (old.merges ≡ j.merges)
 
   was : (i : ℕ) (j : Known) → get_elem? after.views i ≡ some j → Was i j
   was i j e = ⊎_elim
@@ -160,13 +171,14 @@ module _ (s : State ℕ Known) (id : ℕ) (k : Known) (r : Ruled k.layout s) (at
   inside' : k.number < length r.views
   inside' = number_inside s k r me_seated
 
-  pub next_seated : IsSeated k.layout words' r.merger slots' chains' orders' views' next
+  pub next_seated : IsSeated k.layout words' r.merger slots' batches' chains' orders' views' next
   next_seated = record {
     layout = refl;
     inside = me_seated.inside;
     view = get_or-set_same r.views k.number view' (idle k.layout) inside';
     rows = rows_stay k.layout k.number k.view step found me_seated.rows;
     past = refl;
+    listed = refl;
     row = λ c held w named. refl;
     floor = own_floor k.layout k.number k.view r.merger (memory k.layout s.words) k.floor step found finds_word r.lawful.law.merged me_seated.floor;
     ends = ends_stay k.layout k.view r.lawful.chains step found (region_after k.region step) (chain_after k.chain step) next.trail (own_ends k.layout k.view r.lawful.chains k.trail k.region k.chain step me_seated.ends);
@@ -177,20 +189,21 @@ module _ (s : State ℕ Known) (id : ℕ) (k : Known) (r : Ruled k.layout s) (at
   -- the words of runs stay
   pub run_word : (w : Word) → IsRunWord w → memory k.layout words' w ≡ memory k.layout s.words w
   run_word w is = (λ i. same_memory i w) ∙ stays w is where
-    stays : (w : Word) → IsRunWord w → M before step w ≡ memory k.layout s.words w
-    stays (Count place) is = (seat_same before step opens place).count
-    stays (Entry place entry part) is = (seat_same before step opens place).words entry part
+    stays : (w : Word) → IsRunWord w → memory_by before step w ≡ memory k.layout s.words w
+    stays (Count place) is = (runs_by before step opens place).count
+    stays (Entry place entry part) is = (runs_by before step opens place).words entry part
     stays w is = absurd is
 
-  seated' : (i : ℕ) (j : Known) → get_elem? after.views i ≡ some j → j.seated ≡ true → IsSeated k.layout words' r.merger slots' chains' orders' views' j
+  seated' : (i : ℕ) (j : Known) → get_elem? after.views i ≡ some j → j.seated ≡ true → IsSeated k.layout words' r.merger slots' batches' chains' orders' views' j
   seated' i j e sat = ⊎_elim
-      (λ (t : (i ≡ id) × (next ≡ j)). subst (IsSeated k.layout words' r.merger slots' chains' orders' views') t.1 next_seated)
+      (λ (t : (i ≡ id) × (next ≡ j)). subst (IsSeated k.layout words' r.merger slots' batches' chains' orders' views') t.1 next_seated)
       (λ (t : (i ≢ id) × (get_elem? s.views i ≡ some j)). let h = r.seats.seated i j t.1 sat in record {
         layout = h.layout;
         inside = h.inside;
         view = get_or-set_other r.views k.number j.number view' (idle k.layout) (λ q. t.0 (r.seats.apart i id j k t.1 at sat sits q)) ∙ h.view;
         rows = h.rows;
         past = past_stays j h;
+        listed = batches_known j h;
         row = λ c held w named. h.row c held w named ∙ sym (run_word w named.0);
         floor = h.floor;
         ends = ends_stay k.layout k.view r.lawful.chains step found j.region j.chain j.trail h.ends;
@@ -202,9 +215,16 @@ module _ (s : State ℕ Known) (id : ℕ) (k : Known) (r : Ruled k.layout s) (at
   merging_row : (j : Known) → IsMerging k.layout s.words r.merger r.slots r.lawful.orders j → (w : Word) → IsOwn k.layout r.merger w → memory k.layout j.row w ≡ memory k.layout words' w
   merging_row j h w is = h.row w is ∙ sym (own_kept before step opens w is) ∙ sym (λ i. same_memory i w)
 
+  abbrev after_ground : Ground
+  after_ground = lawful_ground (world_of k.layout words' views' r.merger slots' batches') lawful'
+
+  -- the clock never falls
+  pub clock_rises : memory k.layout s.words Clock ≤ memory k.layout words' Clock
+  clock_rises = let a = clock_by before step opens in let b : memory k.layout words' Clock ≡ memory_by before step Clock = λ i. same_memory i Clock in omega arith
+
   -- and the clock, while it holds the lock
   clock_stays : r.merger.exclusive ≡ true → length slots' ≡ length r.slots
-  clock_stays e = sym lawful'.law.clock ∙ (λ i. same_memory i Clock) ∙ own_kept before step opens Clock e ∙ r.lawful.law.clock
+  clock_stays e = sym (clock_merger after_ground e) ∙ (λ i. same_memory i Clock) ∙ own_kept before step opens Clock e ∙ clock_merger (ground before) e
 
   known_stays : known_end k.layout r.merger (length slots') ≡ known_end k.layout r.merger (length r.slots)
   known_stays = by_bool (λ b. cond b (length slots') (cond (is_frozen r.merger.phase) (epoch_end k.layout r.merger) (r.merger.merged * k.layout.cells)) ≡ cond b (length r.slots) (cond (is_frozen r.merger.phase) (epoch_end k.layout r.merger) (r.merger.merged * k.layout.cells))) r.merger.exclusive
@@ -231,11 +251,16 @@ module _ (s : State ℕ Known) (id : ℕ) (k : Known) (r : Ruled k.layout s) (at
       (λ (t : (i ≡ id) × (next ≡ j)). let mine : k.merges ≡ true = ap (λ (y : Known). y.merges) t.1 ∙ p in absurd (let f = (r.seats.merging id k at mine).unseated in cc (f, sits)))
       (λ (t : (i ≢ id) × (get_elem? s.views i ≡ some j)). merging_stays j (r.seats.merging i j t.1 p)) (back i j e)
 
-  pub seats' : AreSeats k.layout words' r.merger slots' chains' orders' views' after.views
+  pub seats' : AreSeats k.layout words' r.merger slots' batches' chains' orders' views' after.views
   seats' = record {
     seated = seated';
     merging = merging';
-    told = λ i j e. let w = was i j e in let h = r.seats.told i w.0 w.1 in record { begins = subst (Begins slots') w.5 (told_stays w.0.told h.begins); below = let a = h.below in let e = w.6 in let g = grown.longer in omega arith };
+    told = λ i j e. let w = was i j e in let h = r.seats.told i w.0 w.1 in record {
+      begins = subst (λ (l : History). Begins slots' l.slots) w.5 (told_stays w.0.told h.begins);
+      listed = subst (λ (l : History). l.batches ≡ batches_below (end_of l) batches') w.5 (h.listed ∙ below_stay (end_of (told_of w.0)) h.within);
+      within = let a = h.within in let e = ap end_of w.5 in let g = clock_rises in omega arith;
+      below = let a = h.below in let e = w.6 in let g = clock_rises in omega arith;
+    };
     apart = λ i i' j j' e e' a a' q. let w = was i j e in let w' = was i' j' e' in r.seats.apart i i' w.0 w'.0 w.1 w'.1 (w.3 ∙ a) (w'.3 ∙ a') (w.2 ∙ q ∙ sym w'.2);
     dealer = λ i j e p. let w = was i j e in let d = r.seats.dealer i w.0 w.1 (w.7 ∙ p) in record {
       below = λ i' j' e' sat. let w' = was i' j' e' in let b = d.below i' w'.0 w'.1 (w'.3 ∙ sat) in let y = w.4 in let y' = w'.2 in omega arith;
@@ -246,4 +271,4 @@ module _ (s : State ℕ Known) (id : ℕ) (k : Known) (r : Ruled k.layout s) (at
 
   -- the rule holds after the step
   abbrev pub ruled' : Ruled k.layout after
-  ruled' = record { views = views'; merger = r.merger; slots = slots'; lawful = lawful'; seats = seats' }
+  ruled' = record { views = views'; merger = r.merger; slots = slots'; batches = batches'; lawful = lawful'; seats = seats' }

@@ -7,7 +7,7 @@ use Rattle.clsm_law.specs.declared.word.Word.TheVariants.{Lock, Clock, Limit, Fr
 use Rattle.clsm_law.specs.declared.word.Part.{Part}
 use Rattle.clsm_law.specs.declared.word.Part.TheVariants.{Key, Length, Value, Next}
 use Rattle.clsm_law.specs.declared.step.Step.{Step}
-use Rattle.clsm_law.specs.declared.step.Step.TheVariants.{EnterShared, LeaveShared, Draw, Fill, Link, Look}
+use Rattle.clsm_law.specs.declared.step.Step.TheVariants.{EnterShared, LeaveShared, Draw, Fill, Link, Look, EnterExclusive, LeaveExclusive, Stage}
 use Rattle.clsm_law.specs.declared.view.View.{View}
 use Rattle.clsm_law.specs.Views.{blank, idle, line_of, own_line}
 use Rattle.clsm_law.specs.Relation.{holds_lock, looked, filled, view_after}
@@ -48,6 +48,9 @@ looked_rows z v word x h = h
 pub rows_stay : (z : Layout) (i : ℕ) (v : View) (step : Step) (x : ℕ) → HasRows z v → HasRows z (view_after z i v step x)
 rows_stay z i v (EnterShared l) x h = record { heads = either_long (x == l) (replicate (2 * z.chains) None) v.fresh_heads (2 * z.chains) (blank_long (2 * z.chains)) h.heads; words = h.words }
 rows_stay z i v LeaveShared x h = record { heads = blank_long (2 * z.chains); words = h.words }
+rows_stay z i v EnterExclusive x h = record { heads = either_long (x == 0) (replicate (2 * z.chains) None) v.fresh_heads (2 * z.chains) (blank_long (2 * z.chains)) h.heads; words = h.words }
+rows_stay z i v LeaveExclusive x h = record { heads = blank_long (2 * z.chains); words = h.words }
+rows_stay z i v (Stage t key) x h = record { heads = h.heads; words = blank_long 8 }
 rows_stay z i v (Draw t) x h = record { heads = h.heads; words = either_long (x == t) (replicate 8 None) v.words 8 (blank_long 8) h.words }
 rows_stay z i v (Fill part w) x h = filled_rows z v part w h
 rows_stay z i v (Link head) x h = record { heads = set_long v.fresh_heads (own_line z v) None (2 * z.chains) h.heads; words = h.words }

@@ -1,34 +1,42 @@
 -- What a look finds, by what the law says of the word.
-use Rattle.std.proofs.Common.{◌≡◌, ℕ, ◌*◌, ◌^◌, ◌<◌, ◌≤◌, Bool, true, false, cond, nat_lt, List, [], ◌∷◌, length, sum_by, take, get_or, refl, sym, ap, ◌∙◌, subst, arith, Option, Some, None}
+use Rattle.std.proofs.Common.{◌≡◌, ◌≢◌, ℕ, ◌*◌, ◌<◌, ◌≤◌, ◌==◌, true, cond, nat_lt, List, length, take, get_or, refl, sym, ap, ◌∙◌, subst, arith, Option, Some, None}
 use Rattle.std.proofs.lemmas.Bool.{and_parts}
-use Rattle.std.proofs.lemmas.List.Sums.{sum_by-cons}
+use mathlib.Core.Logic.{dite}
 use mathlib.Core.Option.{some}
+use native.Mathlib.Decide.{ℕ_discrete}
+use prog.Atomic.{either}
 use lib.ListN.{get_elem?}
 use Rattle.atomic_table.specs.Table.{State}
 use Rattle.clsm_model.specs.declared.slot.Slot.{Slot}
 use Rattle.clsm_model.specs.declared.slot.Slot.TheVariants.{Nothing, Wrote}
+use Rattle.clsm_model.specs.declared.record.Deed.{Deed}
 use Rattle.clsm_law.specs.declared.layout.Layout.{Layout}
 use Rattle.clsm_law.specs.declared.word.Word.TheVariants.{Lock, Clock, Cell, State as StateOf, Count, Entry}
 use Rattle.clsm_law.specs.declared.word.Part.{Part}
 use Rattle.clsm_law.specs.declared.word.Part.TheVariants.{Key, Length, Value}
 use Rattle.clsm_law.specs.declared.step.Step.{Step}
-use Rattle.clsm_law.specs.declared.step.Step.TheVariants.{Look}
+use Rattle.clsm_law.specs.declared.step.Step.TheVariants.{EnterExclusive, Decide, Look}
 use Rattle.clsm_law.specs.declared.view.View.{View}
+use Rattle.clsm_law.specs.declared.view.Mode.TheVariants.{Exclusive}
+use Rattle.clsm_law.specs.Codes.{exclusive_hold, undecided_cell}
 use Rattle.clsm_law.specs.Memory.{Memory, cell_of, is_part, put}
-use Rattle.clsm_law.specs.Views.{is_shared}
 use Rattle.clsm_law.specs.Relation.{HoldsFrom, word_of, changed}
 use Rattle.clsm_law.specs.Layout.{memory}
 use Rattle.clsm_law.specs.Worlds.{view_at, settled}
-use Rattle.clsm_law.specs.Law.{Shows, first_shown, holders}
+use Rattle.clsm_law.specs.Law.{Shows, each, drawn_of, mode_of, first_shown}
 use Rattle.clsm_law.proofs.Frames.{put_same}
-use Rattle.clsm_law.proofs.Setting.{ground, x, M, held_shown, past_below}
+use Rattle.clsm_law.proofs.Setting.{Ground, ground, held_shown, clock_below, drawn_shown, shown_below_merged, undecided}
+use Rattle.clsm_law.proofs.Layouts.{memory-set}
+use Rattle.clsm_law.proofs.Stepped.{lawful_ground}
+use Rattle.clsm_law.proofs.Steps.{finds as found_by, memory_by}
+use Rattle.clsm_law.proofs.KeptLock.{lock_most}
 use Rattle.clsm_words.specs.declared.known.Known.{Known}
-use Rattle.clsm_words.specs.Knowing.{row_of, Opens, code_of, IsPartOf, IsNearHeld, Tells}
-use Rattle.clsm_words.specs.Ruled.{Begins, Ruled}
+use Rattle.clsm_words.specs.Knowing.{row_of, Opens, code_of, HoldsAlone, IsPartOf, IsNearHeld, Tells}
+use Rattle.clsm_words.specs.Ruled.{world_of, Begins, Ruled}
 use Rattle.clsm_words.proofs.Beginnings.{begins_at, begins_bound}
 use Rattle.clsm_words.proofs.HeldRuns.{clock_near}
 use Rattle.clsm_words.proofs.Knows.{number_inside, own_past}
-use Rattle.clsm_words.proofs.Played.{me_seated, word, found, next, before, finds, finds_word, same_memory}
+use Rattle.clsm_words.proofs.Played.{me_seated, word, found, next, before, finds, finds_word, same_memory, words', views', slots', batches', lawful', next_seated}
 
 pub shown_state : (memory : Memory) (cell : ℕ) (slot : Slot) → Shows memory cell (Some slot) → memory (StateOf cell) ≡ code_of slot
 shown_state memory cell Nothing h = h
@@ -40,18 +48,15 @@ shown_part memory cell (Wrote seat key written) Length there h = h.2
 shown_part memory cell (Wrote seat key written) (Value j) there h = h.3 j
 shown_part memory cell slot part there h = tt
 
--- no more hold the lock shared than there are seats
-holders_below : (views : List View) → sum_by holders views ≤ length views
-holders_below [] = omega arith
-holders_below (y ∷ ys) =
-    let one : holders y ≤ 1 = elim (is_shared y.mode) as (λ b. cond b 1 0 ≤ 1) [ true ↦ omega arith | false ↦ omega arith ] in
-    let a = sum_by-cons holders y ys in
-    let b = holders_below ys in
-    omega arith
-
-lock_below : (exclusive : Bool) (n : ℕ) → n ≤ 64 → cond exclusive 4294967296 n ≤ 2 ^ 32
-lock_below true n h = omega arith
-lock_below false n h = omega arith
+-- while a caller holds the lock alone, each time below the clock whose epoch is not merged is decided
+alone_decided : (g : Ground) (me t : ℕ) → each g.z mode_of g.views me ≡ Exclusive → g.merger.merged * g.z.cells ≤ t → t < g.memory Clock → g.memory (StateOf (cell_of g.z t)) ≢ undecided_cell
+alone_decided g me t alone from until e =
+    let below = clock_below g in
+    let merged = shown_below_merged g in
+    let owner = g.law.owned t (omega arith) (undecided g t (omega arith) (omega arith) e) in
+    dite (ℕ_discrete owner.0 me)
+    (λ (same : owner.0 ≡ me). let mine = subst (λ (i : ℕ). each g.z drawn_of g.views i ≡ Some t) same owner.1 in let at = ((g.law.staging me).own alone t mine).0 in absurd (omega arith))
+    (λ ne. absurd (g.law.holding owner.0 t owner.1 (g.law.sole me owner.0 alone ne)))
 
 module _ (s : State ℕ Known) (id : ℕ) (k : Known) (r : Ruled k.layout s) (at : get_elem? s.views id ≡ some k) (sits : k.seated ≡ true) where
   module _ (step : Step) (o : Opens k step) where
@@ -77,49 +82,71 @@ module _ (s : State ℕ Known) (id : ℕ) (k : Known) (r : Ruled k.layout s) (at
     past_before = let ok = me_seated s id k r at sits step o in subst (Begins r.slots) ok.past (own_past s k r ok)
 
     -- the clock is within the two epochs of what is held
-    clock_within : IsNearHeld k.layout k.view.held (length r.slots)
+    clock_within : IsNearHeld k.layout k.view.held (memory k.layout s.words Clock)
     clock_within = within k.view.held refl where
-      within : (a : Option ℕ) → k.view.held ≡ a → IsNearHeld k.layout a (length r.slots)
+      within : (a : Option ℕ) → k.view.held ≡ a → IsNearHeld k.layout a (memory k.layout s.words Clock)
       within None e = tt
       within (Some m) e =
           let ok = me_seated s id k r at sits step o in
-          clock_near (ground (before s id k r at sits step o)) k.number m (ap (λ (u : View). u.held) ok.view ∙ e)
+          let g = ground (before s id k r at sits step o) in
+          let near = clock_near g k.number m (ap (λ (u : View). u.held) ok.view ∙ e) in
+          let below = clock_below g in
+          (near.0, let high = near.1 in omega arith)
 
   clock_found : (a : Option ℕ) (z : Layout) (x y : ℕ) → x ≡ y → IsNearHeld z a y → IsNearHeld z a x
   clock_found a z x y e h = subst (IsNearHeld z a) (sym e) h
 
   -- a step that leaves its word knows it
-  row_found : (step : Step) (o : Opens k step) → changed k.layout (view_at k.layout r.views k.number) step (x (before s id k r at sits step o) step) ≡ x (before s id k r at sits step o) step → found s id k r at sits step o ≡ row_of (next s id k r at sits step o) (word s id k r at sits step o)
+  row_found : (step : Step) (o : Opens k step) → changed k.layout (view_at k.layout r.views k.number) step (found_by (before s id k r at sits step o) step) ≡ found_by (before s id k r at sits step o) step → found s id k r at sits step o ≡ row_of (next s id k r at sits step o) (word s id k r at sits step o)
   row_found step o same =
       finds_word s id k r at sits step o
       ∙ sym ((λ i. same_memory s id k r at sits step o i (word s id k r at sits step o)) ∙ left)
     where
-      left : M (before s id k r at sits step o) step (word s id k r at sits step o) ≡ memory k.layout s.words (word s id k r at sits step o)
+      left : memory_by (before s id k r at sits step o) step (word s id k r at sits step o) ≡ memory k.layout s.words (word s id k r at sits step o)
       left = ap (λ (y : ℕ). put (memory k.layout s.words) (word_of k.layout k.number (view_at k.layout r.views k.number) step) y (word s id k r at sits step o)) same
           ∙ (λ i. put_same (memory k.layout s.words) (word_of k.layout k.number (view_at k.layout r.views k.number) step) i (word s id k r at sits step o))
+
+  -- in an exclusive hold the time of a member is undecided
+  member_undecided : (t : ℕ) (deed : Deed) (o : Opens k (Decide t deed)) → k.view.mode ≡ Exclusive → found s id k r at sits (Decide t deed) o ≡ undecided_cell
+  member_undecided t deed o alone =
+      let ok = me_seated s id k r at sits (Decide t deed) o in
+      let g = ground (before s id k r at sits (Decide t deed) o) in
+      let drawn = ap (λ (u : View). u.drawn) ok.view ∙ o.0 in
+      let none = ((r.lawful.law.staging k.number).own (ap (λ (u : View). u.mode) ok.view ∙ alone) t drawn).1 in
+      let low = drawn_shown g k.number t drawn in
+      let merged = shown_below_merged g in
+      (finds s id k r at sits (Decide t deed) o).2
+      ∙ subst (Shows (memory k.layout s.words) (cell_of k.layout t)) none (r.lawful.law.shown t (let from = low.0 in omega arith) low.1)
+
+  -- who entered the lock alone holds it alone
+  enters_alone : (o : Opens k EnterExclusive) → found s id k r at sits EnterExclusive o ≡ 0 → HoldsAlone (next s id k r at sits EnterExclusive o)
+  enters_alone o free =
+      let g = lawful_ground (world_of k.layout (words' s id k r at sits EnterExclusive o) (views' s id k r at sits EnterExclusive o) r.merger (slots' s id k r at sits EnterExclusive o) (batches' s id k r at sits EnterExclusive o)) (lawful' s id k r at sits EnterExclusive o) in
+      let mode : each g.z mode_of g.views k.number ≡ Exclusive = ap (λ (u : View). u.mode) (next_seated s id k r at sits EnterExclusive o).view ∙ ap (λ (x : ℕ). cond (x == 0) Exclusive k.view.mode) free in
+      record {
+        lock = (λ i. memory-set k.layout s.words Lock (changed k.layout k.view EnterExclusive (found s id k r at sits EnterExclusive o)) refl r.lawful.size i Lock) ∙ ap (λ (x : ℕ). either (x == 0) exclusive_hold x) free;
+        decided = λ t from until. let merged = g.law.merged in alone_decided g k.number t mode (let count = ap (λ (m : ℕ). m * k.layout.cells) merged in omega arith) until;
+      }
 
   pub tells_of : (step : Step) (o : Opens k step) → Tells step (next s id k r at sits step o) (found s id k r at sits step o)
   tells_of (Look Lock) o =
       let lock = (finds s id k r at sits (Look Lock) o).2 ∙ r.lawful.law.lock in
-      let few = holders_below r.views in
-      let seats = r.lawful.law.seated in
-      let most = k.layout.seats_in_range.1 in
-      let below = lock_below r.merger.exclusive (sum_by holders r.views) (omega arith) in
+      let below = lock_most (ground (before s id k r at sits (Look Lock) o)) in
       omega arith
   tells_of (Look Clock) o =
       let ok = me_seated s id k r at sits (Look Clock) o in
       let told = r.seats.told id k at in
       let clock = (finds s id k r at sits (Look Clock) o).2 in
-      let is = r.lawful.law.clock in
-      let due : k.view.due ≤ length r.slots = subst (λ (u : View). u.due ≤ length r.slots) ok.view (r.lawful.law.dues k.number) in
-      let begins = begins_bound r.slots k.told told.begins in
+      let due : k.view.due ≤ memory k.layout s.words Clock = subst (λ (u : View). u.due ≤ memory k.layout s.words Clock) ok.view (r.lawful.law.dues k.number) in
+      let begins = told.within in
       let heard = told.below in
-      let past = subst (λ (u : View). u.past ≤ length r.slots) ok.view (past_below (ground (before s id k r at sits (Look Clock) o)) k.number) in (
+      let past = subst (λ (u : View). u.past ≤ memory k.layout s.words Clock) ok.view (r.lawful.law.past_clock k.number) in
+      let least = clock_below (ground (before s id k r at sits (Look Clock) o)) in (
         omega arith,
         omega arith,
         omega arith,
-        clock_found k.view.held k.layout (found s id k r at sits (Look Clock) o) (length r.slots) (clock ∙ is) (clock_within (Look Clock) o),
-        λ limit shared held. let same = r.lawful.law.limits k.number limit (ap (λ (u : View). u.mode) ok.view ∙ shared) (ap (λ (u : View). u.hold_limit) ok.view ∙ held) in let bounded = r.lawful.law.bounded in omega arith,
+        clock_found k.view.held k.layout (found s id k r at sits (Look Clock) o) (memory k.layout s.words Clock) clock (clock_within (Look Clock) o),
+        λ limit holds held. let same = r.lawful.law.limits k.number limit (λ free. holds (sym (ap (λ (u : View). u.mode) ok.view) ∙ free)) (ap (λ (u : View). u.hold_limit) ok.view ∙ held) in let bounded = r.lawful.law.bounded in omega arith,
         omega arith,
       )
   tells_of (Look (StateOf cell)) o = λ t known.
@@ -132,4 +159,6 @@ module _ (s : State ℕ Known) (id : ℕ) (k : Known) (r : Ruled k.layout s) (at
       (known_shown (Look (Cell cell part)) o (take k.view.past (settled r.slots)) cell t (past_before (Look (Cell cell part)) o) known.0 known.1 known.2))
   tells_of (Look (Count place)) o = row_found (Look (Count place)) o refl
   tells_of (Look (Entry place entry part)) o = row_found (Look (Entry place entry part)) o refl
+  tells_of EnterExclusive o = enters_alone o
+  tells_of (Decide t deed) o = member_undecided t deed o
   tells_of step o = tt

@@ -1,8 +1,8 @@
 -- What a seat keeps over several steps.
 use Rattle.std.specs.Prelude.{◌≡◌, ◌≤◌}
-use mathlib.Core.List.{IsPrefix}
+use Rattle.clsm_model.specs.History.{IsBeginning}
 use Rattle.clsm_words.specs.declared.known.Known.{Known}
-use Rattle.clsm_words.specs.Knowing.{KeepsRuns, KeepsSpots}
+use Rattle.clsm_words.specs.Knowing.{KeepsRuns, KeepsSpots, known_of}
 
 -- It is the seat that it was, with a past that goes on. While it holds a component, the runs that
 -- it searches stay, and its spots
@@ -11,8 +11,9 @@ pub record KeepsSeat (old new : Known) : Type 0 where
   pub dealt : new.dealt ≡ old.dealt
   pub layout : new.layout ≡ old.layout
   pub told : new.told ≡ old.told
+  pub told_batches : new.told_batches ≡ old.told_batches
   pub heard : new.heard ≡ old.heard
-  pub past : IsPrefix old.past new.past
+  pub past : IsBeginning (known_of old) (known_of new)
   pub runs : KeepsRuns old new
   pub spots : KeepsSpots old new
 
@@ -22,13 +23,16 @@ pub record KeepsPast (old new : Known) : Type 0 where
   pub dealt : new.dealt ≡ old.dealt
   pub layout : new.layout ≡ old.layout
   pub told : new.told ≡ old.told
+  pub told_batches : new.told_batches ≡ old.told_batches
   pub heard : new.heard ≡ old.heard
   pub past : new.past ≡ old.past
+  pub batches : new.batches ≡ old.batches
 
 -- It is the seat that it was, and neither its past nor its walk went on: at most its view changed
 pub record KeepsPlace (old new : Known) : Type 0 where
   pub seat : KeepsSeat old new
   pub past : new.past ≡ old.past
+  pub batches : new.batches ≡ old.batches
   pub trail : new.trail ≡ old.trail
 
 -- It only read: its view is as it was, but for the heads that it looked at, the places of the
@@ -43,6 +47,7 @@ pub record OnlyReads (old new : Known) : Type 0 where
 pub record Looks (old new : Known) : Type 0 where
   pub reads : OnlyReads old new
   pub past : new.past ≡ old.past
+  pub batches : new.batches ≡ old.batches
   pub cancelled : new.view.cancelled ≡ old.view.cancelled
 
 -- and it did not go on along the chain that it walks

@@ -3,23 +3,24 @@
 use Rattle.std.specs.Prelude.{max, min, true, false, ◌≡◌, ◌≢◌, ℕ, ◌+◌, ◌-◌, ◌*◌, ◌%◌, ◌<◌, ◌≤◌, ◌==◌, ◌&&◌, ◌||◌, ◌⊎◌, Bool, List, [], ◌∷◌, length, slice_index, slice_index_or, Option, Some, None}
 use Rattle.std.specs.List.{AllByRecursion}
 use Rattle.std.proofs.Common.{arith}
-use mathlib.Core.List.{IsPrefix}
 use Rattle.clsm_model.specs.declared.slot.Slot.{Slot}
 use Rattle.clsm_model.specs.declared.slot.Slot.TheVariants.{Nothing, Wrote}
+use Rattle.clsm_model.specs.declared.record.Deed.{Deed}
+use Rattle.clsm_model.specs.declared.record.Deed.TheVariants.{Batch as Group}
 use Rattle.clsm_model.specs.declared.record.CallRecord.{CallRecord}
-use Rattle.clsm_model.specs.History.{History, end_of, plain}
+use Rattle.clsm_model.specs.History.{History, AreInTurn, IsBeginning, IsListed, end_of, plain, slot_at}
 use Rattle.clsm_levels.specs.Entry.{AreBelow}
 use Rattle.clsm_levels.specs.Run.{IsExact, IsRun, all_of}
 use Rattle.clsm_law.specs.declared.layout.Layout.{Layout}
 use Rattle.clsm_law.specs.declared.word.Word.{Word}
-use Rattle.clsm_law.specs.declared.word.Word.TheVariants.{Lock, Clock, Head, Cell, Order, State, Count, Entry}
+use Rattle.clsm_law.specs.declared.word.Word.TheVariants.{Lock, Clock, Merged, Head, Cell, Order, State, Count, Entry}
 use Rattle.clsm_law.specs.declared.word.Part.{Part}
 use Rattle.clsm_law.specs.declared.word.Part.TheVariants.{Key, Length, Value, Next}
 use Rattle.clsm_law.specs.declared.step.Step.{Step}
-use Rattle.clsm_law.specs.declared.step.Step.TheVariants.{Pin, Unpin, Look}
+use Rattle.clsm_law.specs.declared.step.Step.TheVariants.{EnterExclusive, Decide, Pin, Unpin, Look, RaiseFront}
 use Rattle.clsm_law.specs.declared.view.View.{View}
-use Rattle.clsm_law.specs.declared.view.Mode.TheVariants.{Shared}
-use Rattle.clsm_law.specs.Codes.{exclusive_hold, cancelled_cell, value_cell, removal_cell, last_limit}
+use Rattle.clsm_law.specs.declared.view.Mode.TheVariants.{Free, Exclusive}
+use Rattle.clsm_law.specs.Codes.{exclusive_hold, undecided_cell, cancelled_cell, value_cell, removal_cell, last_limit}
 use Rattle.clsm_law.specs.Memory.{Memory, cell_of, region_of, link_at, is_word, room_of}
 use Rattle.clsm_law.specs.Layout.{memory}
 use Rattle.clsm_law.specs.Places.{is_named}
@@ -29,8 +30,9 @@ use Rattle.clsm_law.specs.Views.{IsShort, own_region, idle, length_of, words_of,
 use Rattle.clsm_law.specs.Relation.{Before, open_time, HoldsFrom, IsOpen, word_of, view_after}
 use Rattle.clsm_law.specs.Merging.{opening, IsRunWord, place_of}
 use Rattle.clsm_law.specs.Machine.{opened}
-use Rattle.clsm_model.specs.Seats.{IsRecordIn, IsRightRecord, HasWrite, IsRising}
-use Rattle.clsm_law.specs.SeatBounds.{IsSmall}
+use Rattle.clsm_model.specs.Seats.{FitsRecord, IsRecordIn, IsRightRecord, IsUncutRecord, HasWrite, IsRising}
+use Rattle.clsm_law.specs.SeatBounds.{IsSmall, IsSmallFor}
+use Rattle.clsm_law.specs.Raising.{MayRaise}
 use Rattle.clsm_words.specs.declared.known.Known.{Known}
 use Rattle.clsm_words.specs.declared.known.Spot.{Spot}
 
@@ -42,39 +44,57 @@ least_layout = record { cells = 4; seats = 1; chains = 1; run = 4; patience = 0;
 
 -- a caller's seat that has played nothing
 abbrev pub unplayed : Layout → ℕ → Known
-unplayed z number = record { seated = true; merges = false; number = number; dealt = 0; layout = z; view = idle z; merger = opening z; row = []; trail = []; spots = []; region = 0; chain = 0; floor = 0; past = []; told = []; heard = 0 }
+unplayed z number = record { seated = true; merges = false; number = number; dealt = 0; layout = z; view = idle z; merger = opening z; row = []; trail = []; spots = []; region = 0; chain = 0; floor = 0; past = []; batches = []; told = []; told_batches = []; heard = 0 }
 
 -- the merger's, which is the first of all and deals the others: its number is the number of the
 -- callers' seats
 abbrev pub new_merger : Layout → Known
-new_merger z = record { seated = false; merges = true; number = z.seats; dealt = 0; layout = z; view = idle z; merger = opening z; row = (opened z).words; trail = []; spots = []; region = 0; chain = 0; floor = 0; past = []; told = []; heard = 0 }
+new_merger z = record { seated = false; merges = true; number = z.seats; dealt = 0; layout = z; view = idle z; merger = opening z; row = (opened z).words; trail = []; spots = []; region = 0; chain = 0; floor = 0; past = []; batches = []; told = []; told_batches = []; heard = 0 }
 
 -- one seat more is dealt
 abbrev pub deals : Known → Known
 deals k = record k { dealt = k.dealt + 1 }
 
+-- the beginning of the history that a seat knows, and the one that it was told of
+abbrev pub known_of : Known → History
+known_of k = record { slots = k.past; batches = k.batches }
+
+abbrev pub told_of : Known → History
+told_of k = record { slots = k.told; batches = k.told_batches }
+
 -- one that only carries a past and a due
-abbrev pub messenger : List Slot → ℕ → Known
-messenger told heard = record { seated = false; merges = false; number = 0; dealt = 0; layout = least_layout; view = idle least_layout; merger = opening least_layout; row = []; trail = []; spots = []; region = 0; chain = 0; floor = 0; past = []; told = told; heard = heard }
+abbrev pub messenger : History → ℕ → Known
+messenger told heard = record { seated = false; merges = false; number = 0; dealt = 0; layout = least_layout; view = idle least_layout; merger = opening least_layout; row = []; trail = []; spots = []; region = 0; chain = 0; floor = 0; past = []; batches = []; told = told.slots; told_batches = told.batches; heard = heard }
 
 -- a seat that takes in what another carries: its beginning of the history, and its due where that
 -- is greater
 abbrev pub learns : Known → Known → Known
-learns k m = record k { told = m.told; heard = max k.heard m.heard }
+learns k m = record k { told = m.told; told_batches = m.told_batches; heard = max k.heard m.heard }
 
 -- ---- a seat's records and the history
 
--- As far as the slots go: each record's write stands in them, and each write in them with the
--- seat's number is one of its records; no other number writes, and no write has more words than a
--- cell, nor a value none
-pub record Agrees (seats number : ℕ) (calls : List CallRecord) (slots : List Slot) : Type 0 where
-  pub stand : AllByRecursion (IsRecordIn slots number) calls
-  pub recorded : (t key : ℕ) (written : Option (List ℕ)) → t < length slots → slice_index_or slots t Nothing ≡ Wrote number key written → HasWrite number t (Wrote number key written) calls
-  pub numbered : (t i key : ℕ) (written : Option (List ℕ)) → t < length slots → slice_index_or slots t Nothing ≡ Wrote i key written → i < seats
-  pub short : (t i key : ℕ) (written : Option (List ℕ)) → t < length slots → slice_index_or slots t Nothing ≡ Wrote i key written → IsShort written
+-- the batch that the deed is at the time s, if it is one, is listed in the history, where it ends
+-- within that
+abbrev pub IsListedWithin : History → ℕ → Deed → Type 0
+IsListedWithin h s (Group members) = s + length members ≤ end_of h → IsListed h.batches (record { first = s; size = length members })
+IsListedWithin h s deed = Unit {0}
 
--- the step is open to the seat, which needs its own past for it and no more
+-- As far as the history goes: each record's writes stand in it, and each write in it with the
+-- seat's number is of one of its records; no other number writes, and no write has more words than
+-- a cell, nor a value none. No record read inside a batch of the history, and each batch that is a
+-- record is listed
+pub record Agrees (seats number : ℕ) (calls : List CallRecord) (h : History) : Type 0 where
+  pub stand : AllByRecursion (IsRecordIn h.slots number) calls
+  pub recorded : (t key : ℕ) (written : Option (List ℕ)) → t < end_of h → slot_at h t ≡ Wrote number key written → HasWrite number t (Wrote number key written) calls
+  pub numbered : (t i key : ℕ) (written : Option (List ℕ)) → t < end_of h → slot_at h t ≡ Wrote i key written → i < seats
+  pub short : (t i key : ℕ) (written : Option (List ℕ)) → t < end_of h → slot_at h t ≡ Wrote i key written → IsShort written
+  pub uncut : AllByRecursion (IsUncutRecord h.batches) calls
+  pub listed : AllByRecursion (λ r. IsListedWithin h r.time r.deed) calls
+
+-- the step is open to the seat, which needs its own past for it, and raises the front to times alone
+-- that are inside no batch
 abbrev pub Opens : Known → Step → Type 0
+Opens k (RaiseFront s) = IsOpen k.layout (plain k.past) k.view (RaiseFront s) × MayRaise k.view s
 Opens k step = IsOpen k.layout (plain k.past) k.view step
 
 -- a view has a place for each chain's head, and for eight words
@@ -134,22 +154,28 @@ pub record IsOwnPlace (k : Known) (p : ℕ) : Type 0 where
   pub region : region_of k.layout (p - 1) ≡ own_region k.layout k.view
 
 -- what a seat knows of itself: the words of its open steps are there, the numbers that these make
--- fit 64 bits, its records are right in its past and agree with it, and their times rise to its
--- due, which is no time past the end; its drawn time is in the epoch of the limit that it looked at
--- in this hold of the lock, and so is each place of the ordered list that it met, or found before
--- or behind its drawn cell; the time of its open snapshot is within its past; what it may search;
--- and that each spot is the place of a cell, with one key
+-- fit 64 bits, the batches of its past don't overlap, and none ends beyond it; its records are right
+-- in its past and agree with it, each batch that it recorded fits an epoch, and their times rise to
+-- its due, which is no time past the end; nothing is staged outside an exclusive hold of the lock;
+-- its drawn time is in the epoch of the limit that it looked at in this hold of the lock, and so is
+-- each place of the ordered list that it met, or found before or behind its drawn cell; the time of
+-- its open snapshot is within its past; what it may search; and that each spot is the place of a
+-- cell, with one key
 pub record Sound (k : Known) : Type 0 where
   pub seated : k.seated ≡ true
   pub inside : k.number < k.layout.seats
   pub there : (step : Step) → Opens k step → is_word k.layout (word_of k.layout k.number k.view step) ≡ true
   pub small : (step : Step) → Opens k step → IsSmall k.layout step 0
+  pub small_for : (step : Step) → Opens k step → IsSmallFor k.view step
   pub rows : HasRows k.layout k.view
   pub length_is : length k.past ≡ k.view.past
-  pub agrees : Agrees k.layout.seats k.number k.view.calls k.past
+  pub in_turn : AreInTurn 0 k.batches (length k.past)
+  pub agrees : Agrees k.layout.seats k.number k.view.calls (known_of k)
   pub right : AllByRecursion (IsRightRecord (plain k.past)) k.view.calls
+  pub fits : AllByRecursion (FitsRecord k.layout.cells) k.view.calls
   pub rising : IsRising k.view.calls k.view.due (open_time k.view.snapshot)
   pub in_time : k.view.due ≤ last_limit
+  pub unstaged : k.view.mode ≢ Exclusive → k.view.staged ≡ []
   pub own_region : (t limit : ℕ) → k.view.drawn ≡ Some t → k.view.hold_limit ≡ Some limit → region_of k.layout (cell_of k.layout (limit - 1)) ≡ region_of k.layout (cell_of k.layout t)
   pub own_places : (p : ℕ) → k.view.drawn ≢ None → p ≢ 0 → (p ≡ k.view.met) ⊎ ((p ≡ k.view.low) ⊎ (p ≡ k.view.high)) → IsOwnPlace k p
   pub opened : (s : ℕ) → open_time k.view.snapshot ≡ Some s → s ≤ k.view.past
@@ -183,7 +209,13 @@ IsNearHeld z (Some m) x = (m * z.cells ≤ x) × (x ≤ (m + 2) * z.cells)
 
 -- in a hold of the lock the clock is at most the limit that was looked at
 abbrev pub IsInLimit : Known → ℕ → Type 0
-IsInLimit k x = (limit : ℕ) → k.view.mode ≡ Shared → k.view.hold_limit ≡ Some limit → x ≤ limit
+IsInLimit k x = (limit : ℕ) → k.view.mode ≢ Free → k.view.hold_limit ≡ Some limit → x ≤ limit
+
+-- nobody else holds the lock: its word is that of one exclusive hold; and each time below the clock
+-- whose epoch is not merged is decided
+pub record HoldsAlone (k : Known) : Type 0 where
+  pub lock : row_of k Lock ≡ exclusive_hold
+  pub decided : (t : ℕ) → row_of k Merged * k.layout.cells ≤ t → t < row_of k Clock → row_of k (State (cell_of k.layout t)) ≢ undecided_cell
 
 -- what a step that found x tells the seat
 abbrev pub Tells : Step → Known → ℕ → Type 0
@@ -193,6 +225,8 @@ Tells (Look (State cell)) k x = (t : ℕ) → IsKnownIn k cell t → x ≡ code_
 Tells (Look (Cell cell part)) k x = (t : ℕ) → IsKnownIn k cell t → IsPartOf (slice_index_or k.past t Nothing) part x
 Tells (Look (Count place)) k x = x ≡ row_of k (Count place)
 Tells (Look (Entry place entry part)) k x = x ≡ row_of k (Entry place entry part)
+Tells EnterExclusive k x = x ≡ 0 → HoldsAlone k
+Tells (Decide t deed) k x = k.view.mode ≡ Exclusive → x ≡ undecided_cell
 Tells _ k x = Unit {0}
 
 -- ---- chains and runs
@@ -283,19 +317,22 @@ pub record HasSpotsOf (k k' : Known) : Type 0 where
 abbrev pub KeepsSpots : Known → Known → Type 0
 KeepsSpots k k' = (c : ℕ) → k.view.held ≡ Some c → k'.view.held ≡ Some c → HasSpotsOf k k'
 
--- the seat after a step that found x: its view is the machine's, and its past only grows. What it
--- was told and its past are beginnings of one history, with which its records agree
+-- the seat after a step that found x: its view is the machine's, and its past only grows, and stays
+-- where the view's past does. What it was told and its past are beginnings of one history, with
+-- which its records agree
 pub record Follows (step : Step) (k : Known) (x : ℕ) (k' : Known) : Type 0 where
   pub number : k'.number ≡ k.number
   pub dealt : k'.dealt ≡ k.dealt
   pub layout : k'.layout ≡ k.layout
   pub told : k'.told ≡ k.told
+  pub told_batches : k'.told_batches ≡ k.told_batches
   pub heard : k'.heard ≡ k.heard
   pub view : k'.view ≡ view_after k.layout k.number k.view step x
-  pub longer : IsPrefix k.past k'.past
-  pub reaches : length k.told ≤ length k'.past → IsPrefix k.told k'.past
-  pub within : length k'.past ≤ length k.told → IsPrefix k'.past k.told
-  pub agrees : Agrees k'.layout.seats k'.number k'.view.calls k.told
+  pub longer : IsBeginning (known_of k) (known_of k')
+  pub same : k'.view.past ≡ k.view.past → (k'.past ≡ k.past) × (k'.batches ≡ k.batches)
+  pub reaches : length k.told ≤ length k'.past → IsBeginning (told_of k) (known_of k')
+  pub within : length k'.past ≤ length k.told → IsBeginning (known_of k') (told_of k)
+  pub agrees : Agrees k'.layout.seats k'.number k'.view.calls (told_of k)
   pub tells : Tells step k' x
   pub walks : Walks step k x k'
   pub runs : KeepsRuns k k'

@@ -1,5 +1,6 @@
 -- What the step functions ask and tell.
 use Rattle.std.specs.Prelude.{◌≡◌, ◌≢◌, ℕ, ◌+◌, ◌<◌, max, true, false, [], List, length, take, slice_index_or, Some, None}
+use Rattle.clsm_model.specs.History.{plain}
 use Rattle.clsm_law.specs.declared.word.Word.{Word}
 use Rattle.clsm_law.specs.declared.step.Step.{Step}
 use Rattle.clsm_law.specs.declared.step.Answer.{Answer}
@@ -10,7 +11,7 @@ use Rattle.clsm_law.specs.Merging.{opening, word_of_merger}
 use Rattle.clsm_words.specs.declared.known.Known.{Known}
 use Rattle.clsm_words.specs.declared.words.WordTable.{WordTable}
 use Rattle.clsm_words.specs.Seats.{RawState, MessageState}
-use Rattle.clsm_words.specs.Knowing.{Opens, Follows}
+use Rattle.clsm_words.specs.Knowing.{Opens, Follows, known_of, told_of}
 use Rattle.clsm_words.specs.Merging.{OpensToMerger, FollowsMerger}
 
 -- the seat is one of these words
@@ -71,7 +72,7 @@ MergerAnswers words seat step answer seat' = (x : ℕ) × Merged words seat step
 
 -- the seat with this number has played nothing
 abbrev pub IsFresh : ℕ → RawState → Type 0
-IsFresh number seat = (seat.knows.number ≡ number) × (seat.knows.view ≡ idle seat.knows.layout) × (seat.knows.past ≡ []) × (seat.knows.told ≡ []) × (seat.knows.heard ≡ 0)
+IsFresh number seat = (seat.knows.number ≡ number) × (seat.knows.view ≡ idle seat.knows.layout) × (known_of seat.knows ≡ plain []) × (told_of seat.knows ≡ plain []) × (seat.knows.heard ≡ 0)
 
 -- the merger has played nothing
 abbrev pub IsFreshMerger : RawState → Type 0
@@ -87,4 +88,12 @@ IsMessageOf words message = message.table ≡ words.table.shared.table_id
 
 -- a seat that learned of the message: it was told of no more than that, and of the greater due
 abbrev pub Learns : Known → MessageState → Known → Type 0
-Learns k message k' = k' ≡ record k { told = message.told; heard = max k.heard message.heard }
+Learns k message k' = k' ≡ record k { told = message.told; told_batches = message.batches; heard = max k.heard message.heard }
+
+-- the message tells of the seat's past and its due
+abbrev pub TellsOf : Known → MessageState → Type 0
+TellsOf k message = (message.told ≡ k.past) × (message.batches ≡ k.batches) × (message.heard ≡ k.view.due)
+
+-- it took in another: it carries the other's past and the greater of the dues
+abbrev pub TakesIn : MessageState → MessageState → MessageState → Type 0
+TakesIn before other after = (after.told ≡ other.told) × (after.batches ≡ other.batches) × (after.heard ≡ max before.heard other.heard)

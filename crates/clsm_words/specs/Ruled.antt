@@ -4,11 +4,14 @@ use Rattle.std.specs.Prelude.{true, false, ◌≡◌, ◌≢◌, ℕ, ◌+◌, �
 use mathlib.Core.Option.{some}
 use lib.ListN.{get_elem?}
 use Rattle.atomic_table.specs.Table.{State}
+use Rattle.clsm_model.specs.declared.batch.Batch.{Batch}
 use Rattle.clsm_model.specs.declared.slot.Slot.{Slot}
+use Rattle.clsm_model.specs.History.{History, batches_below, end_of}
 use Rattle.clsm_law.specs.declared.layout.Layout.{Layout}
 use Rattle.clsm_law.specs.declared.view.View.{View}
 use Rattle.clsm_law.specs.declared.merger.MergerView.{MergerView}
 use Rattle.clsm_law.specs.declared.word.Word.{Word}
+use Rattle.clsm_law.specs.declared.word.Word.TheVariants.{Clock}
 use Rattle.clsm_law.specs.Layout.{memory, size_of}
 use Rattle.clsm_law.specs.Memory.{Memory, key_at}
 use Rattle.clsm_law.specs.Views.{idle}
@@ -19,12 +22,12 @@ use Rattle.clsm_law.specs.Merging.{is_frozen, is_retired}
 use Rattle.clsm_law.specs.Worlds.{view_at, outcome_at, settled}
 use Rattle.clsm_law.specs.Machine.{WorldState, IsLawful}
 use Rattle.clsm_words.specs.declared.known.Known.{Known}
-use Rattle.clsm_words.specs.Knowing.{HasRows, HasSpot, IsHeldEpoch, IsNamedWord}
+use Rattle.clsm_words.specs.Knowing.{HasRows, HasSpot, IsHeldEpoch, IsNamedWord, told_of}
 use Rattle.clsm_words.specs.Merging.{IsOwn, known_end}
 
 -- the world with these words
-abbrev pub world_of : Layout → List ℕ → List View → MergerView → List (Option Slot) → WorldState
-world_of z words views merger slots = record { layout = z; words = words; views = views; merger = merger; slots = slots }
+abbrev pub world_of : Layout → List ℕ → List View → MergerView → List (Option Slot) → List Batch → WorldState
+world_of z words views merger slots batches = record { layout = z; words = words; views = views; merger = merger; slots = slots; batches = batches }
 
 -- the floor of the runs of a component that is held: the newest, or the retired one
 abbrev pub HasFloor : MergerView → ℕ → ℕ → Type 0
@@ -46,15 +49,16 @@ pub record IsSpot (z : Layout) (memory : Memory) (orders : Orders) (held : Optio
   pub key_is : key ≡ key_at memory p
 
 -- what is so of a seat in the world: its view is the one of its number, and its past is what the
--- times below the view's past came to; while it holds a component it knows the words of its runs,
--- and their floor; its trail is an end of a chain that it may walk, and its spots stand in lists
--- that it may walk
-pub record IsSeated (z : Layout) (words : List ℕ) (m : MergerView) (slots : List (Option Slot)) (chains : Chains) (orders : Orders) (views : List View) (k : Known) : Type 0 where
+-- times below the view's past came to, with the batches that begin below it; while it holds a
+-- component it knows the words of its runs, and their floor; its trail is an end of a chain that it
+-- may walk, and its spots stand in lists that it may walk
+pub record IsSeated (z : Layout) (words : List ℕ) (m : MergerView) (slots : List (Option Slot)) (batches : List Batch) (chains : Chains) (orders : Orders) (views : List View) (k : Known) : Type 0 where
   pub layout : k.layout ≡ z
   pub inside : k.number < z.seats
   pub view : view_at z views k.number ≡ k.view
   pub rows : HasRows z k.view
   pub past : k.past ≡ take k.view.past (settled slots)
+  pub listed : k.batches ≡ batches_below k.view.past batches
   pub row : (c : ℕ) → k.view.held ≡ Some c → (word : Word) → IsNamedWord c word → memory z k.row word ≡ memory z words word
   pub floor : (c : ℕ) → k.view.held ≡ Some c → HasFloor m c k.floor
   pub ends : IsEndOf k.trail (chains k.region k.chain)
@@ -67,10 +71,13 @@ pub record Begins (slots : List (Option Slot)) (list : List Slot) : Type 0 where
   pub is : list ≡ take until (settled slots)
   pub decided : (t : ℕ) → t < until → outcome_at slots t ≢ None
 
--- what is told is true: a beginning of the history, and a due that is not above the clock
-pub record IsTold (slots : List (Option Slot)) (told : List Slot) (heard : ℕ) : Type 0 where
-  pub begins : Begins slots told
-  pub below : heard ≤ length slots
+-- what is told is true: a beginning of the history, with its batches, and a due, neither above the
+-- clock
+pub record IsTold (clock : ℕ) (slots : List (Option Slot)) (batches : List Batch) (told : History) (heard : ℕ) : Type 0 where
+  pub begins : Begins slots told.slots
+  pub listed : told.batches ≡ batches_below (end_of told) batches
+  pub within : end_of told ≤ clock
+  pub below : heard ≤ clock
 
 -- the times of the list of the epoch that is merged next
 abbrev pub frozen_times : Layout → MergerView → Orders → List ℕ
@@ -95,10 +102,10 @@ pub record IsDealing (z : Layout) (views : List View) (seats : List Known) (deal
   pub idle_above : (number : ℕ) → dealt ≤ number → view_at z views number ≡ idle z
 
 -- the seats: no two callers have one number, and one seat merges and deals
-pub record AreSeats (z : Layout) (words : List ℕ) (m : MergerView) (slots : List (Option Slot)) (chains : Chains) (orders : Orders) (views : List View) (seats : List Known) : Type 0 where
-  pub seated : (i : ℕ) (k : Known) → get_elem? seats i ≡ some k → k.seated ≡ true → IsSeated z words m slots chains orders views k
+pub record AreSeats (z : Layout) (words : List ℕ) (m : MergerView) (slots : List (Option Slot)) (batches : List Batch) (chains : Chains) (orders : Orders) (views : List View) (seats : List Known) : Type 0 where
+  pub seated : (i : ℕ) (k : Known) → get_elem? seats i ≡ some k → k.seated ≡ true → IsSeated z words m slots batches chains orders views k
   pub merging : (i : ℕ) (k : Known) → get_elem? seats i ≡ some k → k.merges ≡ true → IsMerging z words m slots orders k
-  pub told : (i : ℕ) (k : Known) → get_elem? seats i ≡ some k → IsTold slots k.told k.heard
+  pub told : (i : ℕ) (k : Known) → get_elem? seats i ≡ some k → IsTold (memory z words Clock) slots batches (told_of k) k.heard
   pub apart : (i j : ℕ) (k k' : Known) → get_elem? seats i ≡ some k → get_elem? seats j ≡ some k' → k.seated ≡ true → k'.seated ≡ true → k.number ≡ k'.number → i ≡ j
   pub dealer : (i : ℕ) (k : Known) → get_elem? seats i ≡ some k → k.merges ≡ true → IsDealing z views seats k.dealt
   pub one : (i j : ℕ) (k k' : Known) → get_elem? seats i ≡ some k → get_elem? seats j ≡ some k' → k.merges ≡ true → k'.merges ≡ true → i ≡ j
@@ -108,5 +115,6 @@ pub record Ruled (z : Layout) (s : State ℕ Known) : Type 0 where
   pub views : List View
   pub merger : MergerView
   pub slots : List (Option Slot)
-  pub lawful : IsLawful (world_of z s.words views merger slots)
-  pub seats : AreSeats z s.words merger slots lawful.chains lawful.orders views s.views
+  pub batches : List Batch
+  pub lawful : IsLawful (world_of z s.words views merger slots batches)
+  pub seats : AreSeats z s.words merger slots batches lawful.chains lawful.orders views s.views

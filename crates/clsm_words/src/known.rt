@@ -1,5 +1,5 @@
 use clsm_law::{Layout, MergerView, View};
-use clsm_model::{Slot, Time};
+use clsm_model::{Batch, Slot, Time};
 use std::collections::LinkedList;
 
 /// A place of an ordered list, a cell plus 1, with the key of its cell.
@@ -32,10 +32,13 @@ pub struct Known {
     pub spots: LinkedList<Spot>,
     /// The floor that the runs of the component that it holds were merged with.
     pub floor: Time,
-    /// What each time below the view's past came to.
+    /// What each time below the view's past came to, and the batches that begin below it.
     pub past: LinkedList<Slot>,
-    /// A beginning of the history that another seat told of.
+    pub batches: LinkedList<Batch>,
+    /// A beginning of the history that another seat told of: what its times came to, and its
+    /// batches.
     pub told: LinkedList<Slot>,
+    pub told_batches: LinkedList<Batch>,
     /// The greatest due that other seats told of.
     pub heard: Time,
 }

@@ -18,6 +18,8 @@ pub enum Kind {
     StoreHint,
     Decide,
     Cancel,
+    // batches
+    Commit,
     // reads
     Pin,
     Unpin,

@@ -87,18 +87,19 @@ impl Split<Known> for Deals {
 pub struct Tells;
 
 impl Split<Known> for Tells {
-    ghost use Rattle.clsm_words.specs.Knowing.{messenger};
+    ghost use Rattle.clsm_words.specs.Knowing.{messenger, known_of};
 
     ghost left = { λ k. k };
 
-    ghost right = { λ k. messenger k.past k.view.due };
+    ghost right = { λ k. messenger (known_of k) k.view.due };
 }
 
 impl Join<Known> for Tells {
     ghost use Rattle.std.specs.Prelude.{[]};
+    ghost use Rattle.clsm_model.specs.History.{plain};
     ghost use Rattle.clsm_words.specs.Knowing.{messenger, learns};
 
     ghost both = { learns };
 
-    ghost spent = { messenger [] 0 };
+    ghost spent = { messenger (plain []) 0 };
 }

@@ -10,6 +10,7 @@ use clsm_law::Layout;
 use std::alloc::Global;
 use std::marker::Model;
 
+mod batching;
 mod cells;
 mod meet;
 mod merger_raw;
@@ -165,7 +166,7 @@ impl RawMerger {
 }
 
 /// What a seat knew of the past. It has no bytes. Contracts see which words it is of, the beginning
-/// of the history and the due.
+/// of the history, as its slots and its batches, and the due.
 #[derive(Drop)]
 pub struct Message {
     pub(crate) seat: Seat<u64, Known>,
@@ -177,7 +178,7 @@ impl Model for Message {
 
     ghost Value = { MessageState };
 
-    ghost view = { λ m. record { table = m.seat.table_id; told = m.seat.me.0.told; heard = m.seat.me.0.heard } };
+    ghost view = { λ m. record { table = m.seat.table_id; told = m.seat.me.0.told; batches = m.seat.me.0.told_batches; heard = m.seat.me.0.heard } };
 
     ghost invariant = { λ m. (m.seat.me.0.seated ≡ false) × (m.seat.me.0.merges ≡ false) × (m.seat.me.1 ≡ []) };
 }

@@ -17,14 +17,13 @@ const SCHEDULES: &[(&[&str], &str, &str)] = &[
          0 1 put 1 1; 1 1 get 1 none\n0 4 put 1 1; 1 0 get 1 none\n0 4 put 1 1; 1 4 get 1 none\n\
          0 4 put 1 1; 1 5 get 1 1\n0 5 put 1 1; 1 5 get 1 none\n",
     ),
-    // each cancels times of the other, until one of them or both find no cell
+    // the add cancels times of the put, or finds its write and reads again
     (
         &["add 1 1", "put 1 5"],
-        "\rworlds 15065 ends 29 \n",
-        "no record\n0 0 rmw 1 none 1; 1 1 put 1 5\n0 1 rmw 1 none 1; 1 2 put 1 5\n\
+        "\rworlds 7379 ends 19 \n",
+        "0 0 rmw 1 none 1; 1 1 put 1 5\n0 1 rmw 1 none 1; 1 2 put 1 5\n\
          0 1 rmw 1 5 6; 1 0 put 1 5\n0 2 rmw 1 none 1; 1 3 put 1 5\n0 2 rmw 1 5 6; 1 0 put 1 5\n\
-         0 2 rmw 1 5 6; 1 1 put 1 5\n0 3 rmw 1 none 1\n0 3 rmw 1 5 6; 1 1 put 1 5\n\
-         0 3 rmw 1 5 6; 1 2 put 1 5\n1 2 put 1 5\n1 3 put 1 5\n",
+         0 3 rmw 1 5 6; 1 1 put 1 5\n",
     ),
     // whatever the merger does meanwhile, a seat reads what it put
     (

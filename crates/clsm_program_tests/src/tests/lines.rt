@@ -99,6 +99,9 @@ const RECORDS: &[&str] = &[
     "3 12 scan 0 9 5=7 6=1,2",
     "3 12 page 0 9 2 5=7 6=1,2",
     "3 12 page 0 9 2 5=7 6=1,2 more 8",
+    "3 12 batch",
+    "3 12 batch 5=7",
+    "3 12 batch 1=1,18446744073709551615 1=none 18446744073709551615=keep",
 ];
 
 /// What is read of a line is written as the same line.

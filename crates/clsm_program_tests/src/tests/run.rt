@@ -2,7 +2,7 @@
 //! their workloads.
 use super::device::{NEVER, SOUND, Screen, play};
 use clsm_audit::{AuditError, FaultKind, audit};
-use clsm_model::{CallRecord, Config, Deed, Value};
+use clsm_model::{CallRecord, Change, Config, Deed, Value};
 use clsm_planner::Deal;
 use clsm_run::{Load, Ran, Shows, Workload, run_on};
 use std::alloc::Global;
@@ -39,6 +39,7 @@ const LOAD: Load = Load {
     ops: 1_000,
     keys: 64,
     seed: 7,
+    batch: false,
 };
 
 const SHOWING: &[&str] = &[
@@ -48,6 +49,7 @@ const SHOWING: &[&str] = &[
     "2",
     "--ops",
     "100",
+    "--batch",
     "--stats",
     "--progress",
 ];
@@ -61,6 +63,7 @@ const RECORDING: &[&str] = &[
     "50",
     "--seed",
     "7",
+    "--batch",
     "--records",
 ];
 
@@ -76,6 +79,7 @@ fn runs_are_shown(rt: HostRuntime) -> Result<(), Fail> {
     shown.expect(&rt, "calls 200\naudit ok\n", faults, 0);
     assert!(rt; faults.starts_with("\rcalls "));
     assert!(rt; faults.contains("\nput answered "));
+    assert!(rt; faults.contains("\nbatch answered "));
     assert!(rt; faults.contains("\nrefused full 0\nmerges "));
     let records = play(&rt, alloc, RECORDING, none, &SOUND)?;
     let lines = records.output.as_str();
@@ -112,7 +116,7 @@ fn the_calls_are_those_drawn_by_hand(rt: HostRuntime) -> Result<(), Fail> {
         Deal::Close,
         Deal::Add { key: 42, by: 1 },
     ];
-    let mut workload = Workload::new(14_301, 1, 64);
+    let mut workload = Workload::new(14_301, 1, 64, false);
     let mut has_snapshot = false;
     for call in calls {
         assert_eq!(rt; workload.next(has_snapshot), call);
@@ -123,4 +127,16 @@ fn the_calls_are_those_drawn_by_hand(rt: HostRuntime) -> Result<(), Fail> {
         }
     }
     Ok(())
+}
+
+/// Batches that were drawn by hand in the same way, the first one at the last key.
+#[test]
+fn the_batches_are_those_drawn_by_hand(rt: HostRuntime) {
+    let first = Value::new(&[1_038_557_569, 1_038_557_570]).expect(&rt, "two words");
+    let second = Value::new(&[1_588_407_264]).expect(&rt, "a word");
+    let mut workload = Workload::new(254_571, 1, 64, true);
+    for (key, next, value) in [(63, 0, first), (19, 20, second)] {
+        let members = [(key, Change::Set(value)), (next, Change::Set(value))];
+        assert_eq!(rt; workload.next(false), Deal::Batch { members });
+    }
 }

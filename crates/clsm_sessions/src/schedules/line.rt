@@ -1,7 +1,7 @@
 //! What the words of a row say.
 use crate::schedules::play::Wrong;
 use clsm_core::{End, Part, Step, Word};
-use clsm_model::{CallRecord, Value};
+use clsm_model::{CallRecord, Deed, Members, Value};
 use clsm_records::parse_record;
 use clsm_text::{LineError, parse_number, parse_value};
 use std::alloc::Global;
@@ -122,8 +122,21 @@ impl<'a> Line<'a> {
                 Step::Decide(decided.time, decided.deed)
             }
             "cancel" => Step::Cancel(self.number()?),
+            "stage" => Step::Stage(self.number()?, self.number()?),
+            "commit" => Step::Commit(self.members(alloc)?),
             name => self.step_of_reader(alloc, name)?,
         })
+    }
+
+    /// The members of a batch, as in its record.
+    fn members(&mut self, alloc: Global) -> Result<Members, Wrong> {
+        let Ok(text) = format!(in alloc; "0 0 batch {}", self.left) else {
+            return Err(Wrong::Memory);
+        };
+        match record(alloc, &text)?.deed {
+            Deed::Batch { members } => Ok(members),
+            _ => Err(Wrong::Unread),
+        }
     }
 
     fn step_of_reader(&mut self, alloc: Global, name: &str) -> Result<Step, Wrong> {

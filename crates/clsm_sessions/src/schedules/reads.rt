@@ -48,7 +48,11 @@ impl Play {
                 self.settles(seat, component, time)?;
             }
         }
-        self.does(seat, Step::Unpin(End::Recorded(deed)))
+        self.does(seat, Step::Unpin(End::Recorded(deed)))?;
+        match self.world.calls(seat).last() {
+            Some(call) if call.time == time => Ok(()),
+            _ => Err(Wrong::Other),
+        }
     }
 
     fn pins(&mut self, seat: u32, component: u64) -> Result<(), Wrong> {

@@ -80,7 +80,9 @@ impl Play {
             "equal" => right(
                 self.world == self.other && hash_of(&self.world) == hash_of(&self.other),
             ),
-            "differ" => right(self.world != self.other),
+            "differ" => right(
+                self.world != self.other && hash_of(&self.world) != hash_of(&self.other),
+            ),
             "layout" => has_layout(&mut line),
             "no-layout" => match Layout::new(config_of(&mut line)?) {
                 Ok(_) => Err(Wrong::Other),

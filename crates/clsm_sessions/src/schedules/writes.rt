@@ -83,7 +83,7 @@ impl Play {
                 self.does(seat, Step::LeaveShared)
             }
             "walks" => self.walks(line),
-            name => self.read(name, line),
+            name => self.batch(name, line),
         }
     }
 
@@ -134,7 +134,7 @@ impl Play {
         self.does(seat, Step::Link(first))
     }
 
-    fn writes(&mut self, call: CallRecord) -> Result<(), Wrong> {
+    pub(crate) fn writes(&mut self, call: CallRecord) -> Result<(), Wrong> {
         let CallRecord { seat, time, deed } = call;
         let (key, value) = written_by(&deed);
         self.fills(seat, key, &value, Part::Next)?;

@@ -1,6 +1,6 @@
 //! What an actor does, and how it is answered.
 use super::drawn::Load;
-use clsm_store::{Time, TryPutError, Value};
+use clsm_store::{BatchError, Time, TryPutError, Value};
 
 /// A call of the actor's seat, a command of the merger, or a turn at a gate. A value has one word,
 /// where nothing else is said.
@@ -11,6 +11,10 @@ pub(super) enum Act {
     PutEight(u64),
     TryPut(u64, u64),
     Remove(u64),
+    /// The writes of a batch.
+    Batch(&'static [Write]),
+    /// A batch of this word at the key and at the next one.
+    BatchTwo(u64, u64),
     /// A read-modify-write, which makes of the value what `drawn::next` says.
     Change(u64),
     Get(u64),
@@ -36,6 +40,18 @@ pub(super) enum Act {
     Second(Turn),
 }
 
+/// A member of a batch, with its key.
+#[derive(Clone, Copy, Drop)]
+pub(super) enum Write {
+    /// A value of one word.
+    Word(u64, u64),
+    /// A value of eight words, of which the first is 1.
+    Eight(u64),
+    Remove(u64),
+    /// No write.
+    Keep(u64),
+}
+
 /// A turn at a gate.
 #[derive(Drop)]
 pub(super) enum Turn {
@@ -57,6 +73,7 @@ pub(super) enum Answer {
     At(Time),
     Full(Time),
     Refused(TryPutError),
+    Unbatched(BatchError),
     Got(Time, u64),
     None(Time),
     /// So many rows of a scan.

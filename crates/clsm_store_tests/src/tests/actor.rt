@@ -1,11 +1,10 @@
 //! An actor plays acts in a thread of its own, and keeps the records of its calls.
-use super::act::{Act, Answer, Step, read_as};
+use super::act::{Act, Answer, Step, Write, read_as};
 use super::drawn::{Load, Mix, after, draw, next};
 use super::gate::Gates;
-use clsm_model::{CallRecord, Deed};
 use clsm_store::{
-    Caller, Change, Full, Got, MergeError, Merger, Page, ReclaimError, Rmw, Scan, Stopped, Time,
-    Value,
+    BatchError, CallRecord, Caller, Change, Deed, Full, Got, Members, MergeError, Merger, Page,
+    ReclaimError, Rmw, Scan, Stopped, Time, Value,
 };
 use std::alloc::Global;
 use std::process::Abort;
@@ -57,10 +56,21 @@ fn answer_of_sweep(swept: &Result<(), Stopped>) -> Answer {
     }
 }
 
+fn answer_of_refusal(refusal: BatchError) -> Answer {
+    match refusal {
+        BatchError::Full { time } => Answer::Full(time),
+        refusal => Answer::Unbatched(refusal),
+    }
+}
+
 /// How the call is answered.
 fn answer_of(time: Time, deed: &Deed) -> Answer {
     match deed {
-        Deed::Put { .. } | Deed::Remove { .. } | Deed::Snapshot | Deed::Close => Answer::At(time),
+        Deed::Put { .. }
+        | Deed::Remove { .. }
+        | Deed::Snapshot
+        | Deed::Close
+        | Deed::Batch { .. } => Answer::At(time),
         Deed::Rmw {
             old,
             change: Change::Keep,
@@ -73,7 +83,39 @@ fn answer_of(time: Time, deed: &Deed) -> Answer {
     }
 }
 
+/// The member of a batch that the write is.
+fn member_of(rt: &impl Abort, write: &Write) -> (u64, Change) {
+    match *write {
+        Write::Word(key, word) => {
+            let value = Value::new(&[word]).expect(rt, "one word");
+            (key, Change::Set(value))
+        }
+        Write::Eight(key) => {
+            let value = Value::new(&[1, 2, 3, 4, 5, 6, 7, 8]).expect(rt, "eight words");
+            (key, Change::Set(value))
+        }
+        Write::Remove(key) => (key, Change::Remove),
+        Write::Keep(key) => (key, Change::Keep),
+    }
+}
+
 impl<'a> Actor<'a> {
+    /// A batch of these writes.
+    fn batch<R: Abort + Wait>(
+        &mut self,
+        rt: &R,
+        alloc: Global,
+        writes: &[Write],
+    ) -> Result<(Time, Deed), BatchError> {
+        let mut members = Vec::with_capacity(alloc, writes.len()).expect(rt, "memory");
+        for write in writes {
+            members.push(member_of(rt, write)).expect(rt, "memory");
+        }
+        let time = self.caller.batch(rt, &members)?;
+        let members = Members::new(members);
+        Ok((time, Deed::Batch { members }))
+    }
+
     /// A write of the seat.
     fn write<R: Abort + Wait>(&mut self, rt: &R, act: &Act) -> Result<(Time, Deed), Full> {
         let caller = &mut self.caller;
@@ -138,6 +180,18 @@ impl<'a> Actor<'a> {
                 match self.write(rt, act) {
                     Ok(done) => done,
                     Err(Full { time }) => return Answer::Full(time),
+                }
+            }
+            Act::Batch(writes) => match self.batch(rt, alloc, writes) {
+                Ok(done) => done,
+                Err(refusal) => return answer_of_refusal(refusal),
+            },
+            Act::BatchTwo(key, word) => {
+                let next = key.wrapping_add(1);
+                let writes = [Write::Word(key, word), Write::Word(next, word)];
+                match self.batch(rt, alloc, &writes) {
+                    Ok(done) => done,
+                    Err(refusal) => return answer_of_refusal(refusal),
                 }
             }
             Act::TryPut(key, word) => {

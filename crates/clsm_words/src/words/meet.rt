@@ -1,7 +1,7 @@
 //! How one seat learns what another knew.
-ghost use Rattle.std.specs.Prelude.{◌≡◌, max};
+ghost use Rattle.std.specs.Prelude.{◌≡◌};
 ghost use Rattle.clsm_words.specs.Seats.{MessageState};
-ghost use Rattle.clsm_words.specs.Plays.{IsSeatOf, IsMessageOf, Learns};
+ghost use Rattle.clsm_words.specs.Plays.{IsSeatOf, IsMessageOf, Learns, TakesIn, TellsOf};
 
 use super::{Message, RawSeat, WordTable, Words};
 use crate::pace::Pace;
@@ -12,7 +12,7 @@ impl WordTable {
     pub(super) fn tell(&self, from: &mut RawSeat) -> Message
         requires { IsSeatOf self.now from.old }
         ensures seat { from.new ≡ from.old }
-        ensures message { IsMessageOf self.now result × (result.told ≡ from.old.knows.past) × (result.heard ≡ from.old.knows.view.due) }
+        ensures message { IsMessageOf self.now result × TellsOf from.old.knows result }
     {
         let seat = self.table.shared.split_seat::<Tells>(&mut from.seat);
         Message { seat }
@@ -22,7 +22,7 @@ impl WordTable {
     pub(super) fn join(&self, to: &mut Message, message: Message)
         requires to { IsMessageOf self.now to.old }
         requires message { IsMessageOf self.now message }
-        ensures { IsMessageOf self.now to.new × (to.new.told ≡ message.told) × (to.new.heard ≡ max to.old.heard message.heard) }
+        ensures { IsMessageOf self.now to.new × TakesIn to.old message to.new }
     {
         let Message { seat: other } = message;
         self.table.shared.join_seat::<Tells>(&mut to.seat, other);
@@ -45,7 +45,7 @@ impl<P: Pace> Words<P> {
     pub fn tell(&self, from: &mut RawSeat) -> Message
         requires { IsSeatOf self.now from.old }
         ensures seat { from.new ≡ from.old }
-        ensures message { IsMessageOf self.now result × (result.told ≡ from.old.knows.past) × (result.heard ≡ from.old.knows.view.due) }
+        ensures message { IsMessageOf self.now result × TellsOf from.old.knows result }
     {
         self.words.tell(from)
     }
@@ -54,7 +54,7 @@ impl<P: Pace> Words<P> {
     pub fn join(&self, to: &mut Message, message: Message)
         requires to { IsMessageOf self.now to.old }
         requires message { IsMessageOf self.now message }
-        ensures { IsMessageOf self.now to.new × (to.new.told ≡ message.told) × (to.new.heard ≡ max to.old.heard message.heard) }
+        ensures { IsMessageOf self.now to.new × TakesIn to.old message to.new }
     {
         self.words.join(to, message);
     }

@@ -11,8 +11,8 @@ use crate::pace::{Kind, Pace};
 use clsm_law::{Answer, Step, Word};
 use clsm_model::Time;
 
-/// What LOCK is while the merger holds it.
-const HELD: u64 = 1 << 32;
+/// What LOCK is while one holds it alone.
+pub(super) const HELD: u64 = 1 << 32;
 
 impl<P: Pace> Words<P> {
     /// Calls the pace: the merger's number is the number of the callers' seats.
@@ -24,7 +24,7 @@ impl<P: Pace> Words<P> {
     /// Enters the lock alone, if nobody holds it. Answers `Lost` where somebody does: the merger is
     /// outside then.
     #[inline(always)]
-    pub fn enter_exclusive(&self, seat: &mut RawMerger) -> Answer
+    pub fn enter_as_merger(&self, seat: &mut RawMerger) -> Answer
         requires { MayMerge self.now seat.old EnterExclusive }
         ensures { MergerAnswers self.now seat.old EnterExclusive result seat.new }
     {
@@ -37,7 +37,7 @@ impl<P: Pace> Words<P> {
 
     /// Leaves the lock.
     #[inline(always)]
-    pub fn leave_exclusive(&self, seat: &mut RawMerger)
+    pub fn leave_as_merger(&self, seat: &mut RawMerger)
         requires { MayMerge self.now seat.old LeaveExclusive }
         ensures { PlaysAsMerger self.now seat.old LeaveExclusive seat.new }
     {

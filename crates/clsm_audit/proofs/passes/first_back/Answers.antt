@@ -1,7 +1,7 @@
 use Rattle.std.proofs.Common.{arith, below_more, refl, rules, take}
 use Rattle.clsm_audit.specs.Lawful.{IsFromDue, due_of, open_of}
 use Rattle.clsm_audit.proofs.Indices.{each_index}
-use Rattle.clsm_audit.proofs.Walks.{AreStates-next, from_due_here, known_seat, known_time}
+use Rattle.clsm_audit.proofs.Walks.{AreStates-next, from_due_here, known_seat, known_past}
 use Rattle.clsm_audit.proofs.passes.first_back.Goals as goal
 
 pub index-requires : goal.index-requires
@@ -14,7 +14,7 @@ advance-requires c =
     let seat = known_seat c.args.config.now c.args.records.now c.loop-index.index c.index-records-index.result c.loop-index-test.true c.index-records-index.is (c.requires c.loop-index.index) in
     record {
       seat = omega arith;
-      time = known_time c.args.config.now c.args.records.now c.loop-index.index c.index-records-index.result c.loop-index-test.true c.index-records-index.is (c.requires c.loop-index.index);
+      time = known_past c.args.config.now c.args.records.now c.loop-index.index c.index-records-index.result c.loop-index-test.true c.index-records-index.is (c.requires c.loop-index.index);
     }
 
 pub loop-index-preserved : goal.loop-index-preserved

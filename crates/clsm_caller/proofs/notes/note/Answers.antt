@@ -28,3 +28,15 @@ returns-in_ok-note_close-in-CloseSnapshot c = rw c.in-CloseSnapshot.is (c.in_ok-
 
 pub returns-in-Insert : goal.returns-in-Insert
 returns-in-Insert c = rw c.in-Insert.is (c.note_insert.ensures c.args.layout.now c.args.seat)
+
+pub returns-in_ok-note_leaving-in-LeaveExclusive : goal.returns-in_ok-note_leaving-in-LeaveExclusive
+returns-in_ok-note_leaving-in-LeaveExclusive c = rw c.in-LeaveExclusive.is (c.in_ok-note_leaving-in-LeaveExclusive.ensures c.args.seat c.args.found)
+
+pub returns-in_ok-note_taking-in-EnterExclusive : goal.returns-in_ok-note_taking-in-EnterExclusive
+returns-in_ok-note_taking-in-EnterExclusive c = rw c.in-EnterExclusive.is (c.in_ok-note_taking-in-EnterExclusive.ensures c.args.seat)
+
+pub returns-in_ok-note_stage-in-Stage : goal.returns-in_ok-note_stage-in-Stage
+returns-in_ok-note_stage-in-Stage c = rw c.in-Stage.is (c.in_ok-note_stage-in-Stage.ensures c.args.layout.now c.args.seat c.args.found)
+
+pub returns-in_ok-note_commit-in-Commit : goal.returns-in_ok-note_commit-in-Commit
+returns-in_ok-note_commit-in-Commit c = rw c.in-Commit.is (c.in_ok-note_commit-in-Commit.ensures c.args.layout.now c.args.found)

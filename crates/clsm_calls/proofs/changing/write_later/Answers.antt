@@ -4,7 +4,8 @@ use Rattle.clsm_model.specs.declared.record.Deed.TheVariants.{Rmw as ChangeOf}
 use Rattle.clsm_calls.specs.declared.got.Rmw.{Rmw}
 use Rattle.clsm_calls.specs.Resting.{Records}
 use Rattle.clsm_calls.proofs.Giving.{written_later}
-use Rattle.clsm_calls.proofs.Rest.{records_later, same_past, still_drawn, still_reads, still_trans}
+use Rattle.clsm_calls.proofs.DrawsAgain.{still_at_last}
+use Rattle.clsm_calls.proofs.Rest.{records_later, same_past, still_reads, still_trans}
 use Rattle.clsm_model.specs.History.{plain}
 use Rattle.clsm_law.specs.Relation.{IsReadBelow}
 use Rattle.clsm_calls.proofs.Unchanged.{value_later}
@@ -16,12 +17,12 @@ is_unchanged-requires-clause-later g c = let a = c.requires.reads.settled in let
 pub write_drawn-requires-clause-read : goal.write_drawn-requires-clause-read
 write_drawn-requires-clause-read g c =
     let k = c.args.seat.now.knows in
-    let k' = c.draw.new.seat.knows in
+    let k' = c.draw_at_last.new.seat.knows in
     let k'' = c.is_unchanged.new.seat.knows in
     let read = c.requires.reads in
     let t = c.in-Ok.time in
     let settled = c.is_unchanged.ensures.settled in
-    let later = value_later k.past k'.past k''.past c.args.key c.args.read.time c.in-Ok.ensures.drawn.place.past c.is_unchanged.ensures.reads.seat.past read.settled in
+    let later = value_later k.past k'.past k''.past c.args.key c.args.read.time c.in-Ok.ensures.drawn.place.past c.is_unchanged.ensures.reads.seat.past.slots read.settled in
     let old = read.is ∙ later ∙ sym (c.if-not-is_unchanged.ensures.unchanged refl) in
     subst (IsReadBelow (plain k''.past) k''.view t) (sym c.deed_of.ensures)
     (let long = c.show_invariant-2.ensures.length_is in omega arith, record { readable = record { reached = settled; uncut = tt }; reads = old })
@@ -33,16 +34,16 @@ returns-then-not-is_unchanged-clause-spared g c =
     let written = c.is_unchanged.ensures.written c.if-not-is_unchanged.true in
     let gave = c.give_up.ensures.given_up in
     inr (written_later c.is_unchanged.new.seat.knows.past c.give_up.new.seat.knows.past c.args.key c.args.read.time k.view.due
-    (same_past c.is_unchanged.new.seat.knows.past c.give_up.new.seat.knows.past gave.place.past) read.above written)
+    (same_past c.is_unchanged.new.seat.knows c.give_up.new.seat.knows gave.place.past gave.place.batches).slots read.above written)
 
 pub returns-in-Done-clause-writes : goal.returns-in-Done-clause-writes
 returns-in-Done-clause-writes g c =
     let k = c.args.seat.now.knows in
-    let k' = c.draw.new.seat.knows in
+    let k' = c.draw_at_last.new.seat.knows in
     let k'' = c.is_unchanged.new.seat.knows in
     let end = c.write_drawn.new.seat.knows in
     let t = c.in-Ok.time in
-    let still = still_trans k k' k'' (still_drawn k k' t c.in-Ok.ensures.drawn) (still_reads k' k'' c.is_unchanged.ensures.reads) in
+    let still = still_trans k k' k'' (still_at_last k k' t c.in-Ok.ensures.drawn) (still_reads k' k'' c.is_unchanged.ensures.reads) in
     let above = c.in-Ok.ensures.drawn.due in
     let records = c.in-Done.ensures.writes.1 (let due = still.due in omega arith) in
     let deed = ChangeOf c.args.key c.args.read.old c.args.read.change in

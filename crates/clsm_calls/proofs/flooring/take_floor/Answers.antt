@@ -4,7 +4,7 @@ use Rattle.clsm_law.specs.declared.merger.MergerView.{MergerView}
 use Rattle.clsm_law.specs.declared.word.Word.TheVariants.{Snap}
 use Rattle.clsm_law.specs.Merging.{epoch_end, is_frozen, least}
 use Rattle.clsm_words.proofs.Changing.{look_leaves}
-use Rattle.clsm_words.proofs.Keeps.{prefix_trans}
+use Rattle.clsm_model.proofs.Batches.{prefix_trans}
 use Rattle.clsm_calls.specs.Flooring.{floor_at, round_at, rounds_at}
 use Rattle.clsm_calls.proofs.Rounds.{next_floor, next_round, next_rounds}
 use Rattle.clsm_calls.proofs.flooring.take_floor.Goals as goal

@@ -46,7 +46,7 @@ fn settle<R: Abort + Threads + Sync + Clock + Wait>(
     (records.len(), audit(alloc, config, &records))
 }
 
-/// A million calls, those apart that find no room before the next merge.
+/// A million calls, batches among them, those apart that find no room before the next merge.
 #[test]
 fn settled_seats_are_audited(rt: HostRuntime) -> Result<(), Fail> {
     let alloc = rt.alloc();
@@ -56,6 +56,7 @@ fn settled_seats_are_audited(rt: HostRuntime) -> Result<(), Fail> {
         ops: 250_000,
         keys: 64,
         seed: 7,
+        batch: true,
     };
     let (calls, verdict) = settle(&rt, alloc, &config, opened, &load);
     assert!(rt; calls <= 1_000_000);

@@ -1,5 +1,6 @@
 use Rattle.std.proofs.Common.{◌-◌, List, arith}
 use Rattle.clsm_calls.specs.Seats.{SeatState}
+use Rattle.clsm_store.specs.Meetings.{told_by}
 use Rattle.clsm_store.proofs.Chained.{confirm_next, confirm_same}
 use Rattle.clsm_store.proofs.settling.confirm_all.Goals as goal
 
@@ -16,7 +17,7 @@ loop-place-preserved g c =
       confirm_same seats l c.loop-place.invariant.0 n (omega arith) x c.tell-message.new.seat c.index_mut.ensures.value c.tell-message.ensures.seat c.loop-place.place (omega arith) s c.index_mut-in-loop-place.ensures.value
           c.confirm.new.seat c.confirm.ensures.seat,
       confirm_next seats l c.loop-place.invariant.0 n (omega arith) x c.tell-message.new.seat c.index_mut.ensures.value c.tell-message.ensures.seat c.loop-place.place (omega arith) s c.index_mut-in-loop-place.ensures.value
-          c.tell-message.result.told c.tell-message.ensures.told c.confirm.ensures.confirmed c.loop-place.invariant.1,
+          (told_by c.tell-message.result) c.tell-message.ensures.told c.confirm.ensures.confirmed c.loop-place.invariant.1,
     )
 
 pub returns-clause-confirmed : goal.returns-clause-confirmed

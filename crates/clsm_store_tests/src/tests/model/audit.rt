@@ -12,6 +12,9 @@ const END: Time = 1 << 62;
 /// The keys of drawn lists are below it.
 const KEYS: u64 = 4;
 
+/// The most members of a batch.
+const CELLS: usize = 4;
+
 /// How many lists are drawn.
 const LISTS: u64 = 10_000;
 
@@ -22,7 +25,7 @@ fn audited(
     records: &[CallRecord],
 ) -> Result<Option<(FaultKind, usize)>, Wrong> {
     let config = Config {
-        cells: 4,
+        cells: CELLS,
         seats,
         shards: 1,
         run: 4,

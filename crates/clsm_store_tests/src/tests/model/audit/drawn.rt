@@ -1,7 +1,7 @@
 //! Short lists of records that are drawn: lawful ones, made by calls that are played on plain maps,
 //! and such lists with one field altered.
 use super::{END, KEYS};
-use clsm_model::{CallRecord, Change, Deed, Memory, PlainMap, Rows, Slot, Time, Value};
+use clsm_model::{CallRecord, Change, Deed, Members, Memory, PlainMap, Rows, Slot, Time, Value};
 use rand_core::utils::NextWord;
 use rand_pcg::Pcg32;
 use std::alloc::{AllocError, Global};
@@ -127,13 +127,35 @@ impl Played {
         Ok((time, deed))
     }
 
+    /// A batch of one, two or three writes.
+    fn draw_batch(&mut self, alloc: Global, seat: u32) -> Result<(Time, Deed), Memory> {
+        let time = self.clock();
+        let mut items = Vec::new(alloc);
+        for _ in 0..1 + self.draws.next_word() % 3 {
+            let key = draw_key(&mut self.draws);
+            let drawn = draw_value(&mut self.draws);
+            let is_removal = self.draws.next_word() % 3 == 0;
+            let value = if is_removal { None } else { drawn };
+            let change = match &value {
+                Some(value) => Change::Set(*value),
+                None => Change::Remove,
+            };
+            let slot = Slot::Wrote { seat, key, value };
+            self.slots.push(slot).map_err(AllocError::from)?;
+            items.push((key, change)).map_err(AllocError::from)?;
+        }
+        let members = Members::new(items);
+        Ok((time, Deed::Batch { members }))
+    }
+
     /// One call of some seat.
     fn draw_call(&mut self, alloc: Global) -> Result<CallRecord, Memory> {
         let seat = self.draws.next_word() % 3;
         let key = draw_key(&mut self.draws);
-        let (time, deed) = match self.draws.next_word() % 3 {
+        let (time, deed) = match self.draws.next_word() % 4 {
             0 => self.draw_write(alloc, seat, key)?,
-            1 => self.draw_read(alloc, seat as usize, key)?,
+            1 => self.draw_batch(alloc, seat)?,
+            2 => self.draw_read(alloc, seat as usize, key)?,
             _ => self.draw_range(alloc, seat as usize)?,
         };
         Ok(CallRecord { seat, time, deed })
@@ -156,6 +178,7 @@ fn alter(draws: &mut Pcg32, call: &mut CallRecord) {
             Deed::Page { more, .. } => *more = Some(drawn_key),
             Deed::Snapshot => call.deed = Deed::Close,
             Deed::Close => call.deed = Deed::Snapshot,
+            Deed::Batch { members } => members.clear(),
         },
     }
 }

@@ -1,10 +1,27 @@
 //! A second check of records, quadratic and straight from the words of the audit's four passes.
-use super::{END, KEYS};
+use super::{CELLS, END, KEYS};
 use clsm_audit::FaultKind;
 use clsm_model::{CallRecord, Change, Deed, Time, Value};
 
-/// What the call writes at the key, if it does.
-fn written(call: &CallRecord, key: u64) -> Option<Option<Value>> {
+/// What the change writes, if it does.
+fn left_by(change: &Change) -> Option<Option<Value>> {
+    match change {
+        Change::Keep => None,
+        Change::Set(value) => Some(Some(*value)),
+        Change::Remove => Some(None),
+    }
+}
+
+/// How many times the call takes: a batch one for each member.
+fn span(call: &CallRecord) -> u64 {
+    match &call.deed {
+        Deed::Batch { members } => members.as_slice().len() as u64,
+        _ => 1,
+    }
+}
+
+/// What the call writes at the key at its time that is so far behind its first, if it does.
+fn written(call: &CallRecord, behind: u64, key: u64) -> Option<Option<Value>> {
     match &call.deed {
         Deed::Put { key: at, value } if *at == key => Some(Some(*value)),
         Deed::Remove { key: at } if *at == key => Some(None),
@@ -12,10 +29,10 @@ fn written(call: &CallRecord, key: u64) -> Option<Option<Value>> {
             key: at,
             change,
             ..
-        } if *at == key => match change {
-            Change::Keep => None,
-            Change::Set(value) => Some(Some(*value)),
-            Change::Remove => Some(None),
+        } if *at == key => left_by(change),
+        Deed::Batch { members } => match members.as_slice().get(behind as usize) {
+            Some((at, change)) if *at == key => left_by(change),
+            _ => None,
         },
         _ => None,
     }
@@ -24,10 +41,43 @@ fn written(call: &CallRecord, key: u64) -> Option<Option<Value>> {
 /// Whether the call writes.
 fn is_write(call: &CallRecord) -> bool {
     match &call.deed {
-        Deed::Put { .. } | Deed::Remove { .. } => true,
+        Deed::Put { .. } | Deed::Remove { .. } | Deed::Batch { .. } => true,
         Deed::Rmw { change, .. } => *change != Change::Keep,
         _ => false,
     }
+}
+
+/// Whether the call reads, or opens or closes a snapshot: its time is none strictly inside a batch.
+fn is_read(call: &CallRecord) -> bool {
+    !matches!(
+        call.deed,
+        Deed::Put { .. } | Deed::Remove { .. } | Deed::Batch { .. }
+    )
+}
+
+/// Whether the time is strictly inside a batch of the records.
+fn is_inside(records: &[CallRecord], time: Time) -> bool {
+    for call in records {
+        let is_batch = matches!(call.deed, Deed::Batch { .. });
+        if is_batch && call.time < time && time < call.time.wrapping_add(span(call)) {
+            return true;
+        }
+    }
+    false
+}
+
+/// Whether the call is a batch of no member, of too many, or with one that writes nothing.
+fn is_bad_batch(call: &CallRecord) -> bool {
+    let Deed::Batch { members } = &call.deed else {
+        return false;
+    };
+    let members = members.as_slice();
+    for (_, change) in members {
+        if *change == Change::Keep {
+            return true;
+        }
+    }
+    members.is_empty() || members.len() > CELLS
 }
 
 /// Whether the call stands at the present of its seat, of which this snapshot is open.
@@ -57,7 +107,11 @@ fn due_before(records: &[CallRecord], count: usize, seat: u32) -> Time {
     let mut due = 0;
     for (index, call) in records.iter().enumerate().take(count) {
         if call.seat == seat && is_at_present(call, open_before(records, index, seat)) {
-            due = call.time.wrapping_add(u64::from(is_write(call)));
+            due = if is_write(call) {
+                call.time.wrapping_add(span(call))
+            } else {
+                call.time
+            };
         }
     }
     due
@@ -71,13 +125,16 @@ fn is_unknown(seats: u32, records: &[CallRecord], index: usize, call: &CallRecor
         Deed::Scan { .. } | Deed::Page { .. } => open.is_none() || open == Some(call.time),
         _ => true,
     };
-    call.seat >= seats || call.time > END || (is_write(call) && call.time == END) || !suits
+    let is_late = call.time > END || (is_write(call) && call.time.wrapping_add(span(call)) > END);
+    call.seat >= seats || is_late || !suits || is_bad_batch(call)
 }
 
-/// Whether a call before this one wrote at the same time.
+/// Whether a call before this one wrote at one of its times.
 fn is_second(records: &[CallRecord], index: usize, call: &CallRecord) -> bool {
     for other in records.iter().take(index) {
-        if is_write(other) && other.time == call.time {
+        let begins_before_end = other.time < call.time.wrapping_add(span(call));
+        let ends_behind = call.time < other.time.wrapping_add(span(other));
+        if is_write(other) && begins_before_end && ends_behind {
             return is_write(call);
         }
     }
@@ -94,10 +151,13 @@ fn value_below(records: &[CallRecord], key: u64, time: Time) -> Option<Value> {
     let mut newest = 0;
     let mut value = None;
     for call in records {
-        if let Some(left) = written(call, key) {
-            if call.time < time && call.time >= newest {
-                newest = call.time;
-                value = left;
+        for behind in 0..span(call) {
+            let at = call.time.wrapping_add(behind);
+            if let Some(left) = written(call, behind, key) {
+                if at < time && at >= newest {
+                    newest = at;
+                    value = left;
+                }
             }
         }
     }
@@ -135,6 +195,9 @@ fn is_page(
 
 fn is_wrong(records: &[CallRecord], call: &CallRecord) -> bool {
     let time = call.time;
+    if is_read(call) && is_inside(records, time) {
+        return true;
+    }
     match &call.deed {
         Deed::Rmw { key, old, .. } => *old != value_below(records, *key, time),
         Deed::Get { key, reply } | Deed::GetAt { key, reply } => {

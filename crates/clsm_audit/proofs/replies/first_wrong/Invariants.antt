@@ -1,8 +1,0 @@
-use Rattle.clsm_audit.proofs.Played.{IsFoundBefore, IsPlayed}
-use Rattle.clsm_audit.proofs.replies.first_wrong.Given as goal
-
-abbrev pub invariant-loop-stamp : goal.invariant-loop-stamp
-invariant-loop-stamp l = record {
-  map : IsPlayed l.records l.stamps l.stamp-index l.map;
-  found : IsFoundBefore l.records l.stamps l.stamp-index l.found;
-}

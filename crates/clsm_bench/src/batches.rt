@@ -1,0 +1,124 @@
+//! Writes of threads by batches, beside the same writes by puts.
+ghost use Rattle.std.specs.Prelude.{◌≡◌, All, IfOk};
+
+use crate::calls::{Lap, work_all};
+use crate::draws::{Call, FILLER, Series, key_of};
+use crate::failure::Failure;
+use crate::lines::Line;
+use crate::options::Options;
+use crate::series::targets;
+use crate::target::Target;
+use clsm_model::{Change, Value};
+use clsm_store::{Opened, Seat, Store, open};
+use clsm_words::Free;
+use rand_pcg::Pcg32;
+use std::alloc::{AllocError, Global};
+use std::rt::Clock;
+use std::sync::Wait;
+use std::thread::Threads;
+use std::time::Instant;
+
+/// The members of the batches that go on beside other calls.
+const BESIDE: u32 = 16;
+
+/// What is written by a put of this word.
+fn change_of(word: u64) -> Change {
+    Change::Set(Value::new(&[word]).unwrap())
+}
+
+/// So many members, at the first of the filled keys.
+pub fn filled_members(alloc: Global, keys: u32) -> Result<Vec<(u64, Change)>, AllocError> {
+    let mut members = Vec::new(alloc);
+    for index in 0..BESIDE.min(keys) {
+        members.push((key_of(FILLER, index), change_of(u64::from(index))))?;
+    }
+    Ok(members)
+}
+
+/// Puts the writes of the series from this index on in the place of the members.
+fn draw_members(
+    series: &Series,
+    words: &mut Pcg32,
+    number: u32,
+    first: u32,
+    members: &mut [(u64, Change)],
+) {
+    let mut index = first;
+    for member in members {
+        if let Call::Put { key, word } = series.call(words, number, index) {
+            *member = (key, change_of(word));
+        }
+        index = index.wrapping_add(1);
+    }
+}
+
+/// Makes so many writes of the series as the thread of the target, by batches of so many members.
+/// Refused where one is not answered.
+pub fn work_batches<R: Wait + Clock>(
+    rt: &R,
+    alloc: Global,
+    target: &mut Target,
+    series: &Series,
+    members: u32,
+    writes: u32,
+) -> Result<Lap, Failure>
+    ensures { IfOk result (λ lap. lap.calls ≡ writes) }
+{
+    let (Target::Store(number, _) | Target::Map(number, _)) = target;
+    let number = *number;
+    let mut words = Pcg32::new(u64::from(number), 1);
+    let mut row = vec![in alloc; (0, Change::Keep); members as usize]?;
+    let mut first = 0_u32;
+    let start = Instant::now(rt)?;
+    for _ in 0..writes / members.max(1) {
+        draw_members(series, &mut words, number, first, &mut row);
+        if !target.batch(rt, &row) {
+            return Err(Failure::Unanswered);
+        }
+        first = first.wrapping_add(members);
+    }
+    let end = Instant::now(rt)?;
+    Ok(Lap {
+        calls: writes,
+        start,
+        end,
+    })
+}
+
+/// The writes of the series by the seats of the store but one.
+fn write_all<R: Threads + Sync + Clock + Wait>(
+    rt: &R,
+    alloc: Global,
+    store: &Store<Free>,
+    seats: Vec<Seat>,
+    series: &Series,
+    writes: u32,
+) -> Result<Lap, Failure>
+    requires { All (λ seat. seat.store ≡ store.now) seats.items }
+{
+    let mut targets = targets(alloc, store, seats)?;
+    let _ = targets.pop();
+    work_all(rt, alloc, targets, series, writes)
+}
+
+/// The writes of each of so many threads on a store that is opened for them: by batches, or in the
+/// second way by puts.
+pub fn batch_lap<R: Threads + Sync + Clock + Wait>(
+    rt: &R,
+    alloc: Global,
+    line: &Line,
+    options: &Options,
+    threads: u32,
+    is_second: bool,
+) -> Result<Lap, Failure> {
+    let mut series = Series::new(alloc, line, options)?;
+    if !is_second {
+        series.members = Some(line.members(options, threads));
+    }
+    let writes = line.calls(false, options, threads);
+    let Ok(opened) = open(alloc, line.sizes(false, options, threads)) else {
+        return Err(Failure::Refused);
+    };
+    let Opened { store, seats, .. } = opened;
+    write_all(rt, alloc, &store, seats, &series, writes)
+}

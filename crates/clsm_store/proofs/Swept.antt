@@ -1,0 +1,24 @@
+-- A sweep goes on from a part of it that was done.
+use Rattle.std.proofs.Common.{◌+◌, Ok, Err, Result}
+use Rattle.std.specs.Prelude.{⊤}
+use Rattle.clsm_calls.specs.Seats.{FrozenState, MergerState, RetiredState}
+use Rattle.clsm_store.specs.declared.phase.Phase.{Phase}
+use Rattle.clsm_store.specs.declared.phase.Phase.TheVariants.{Clean, Frozen, Retired}
+use Rattle.clsm_store.specs.declared.sweeping.Stopped.{Stopped}
+use Rattle.clsm_store.specs.declared.sweeping.Stopped.TheVariants.{Worn, RunFull, Pinned}
+use Rattle.clsm_store.specs.Phase.{Freezes, Merges}
+use Rattle.clsm_store.specs.Sweeping.{SweepsClean, SweepsFrozen, SweepsRetired}
+
+-- the epoch is merged
+pub merged_on : (old : FrozenState) (retired : RetiredState) (new : Phase) (answer : Result ⊤ Stopped) → Merges (Frozen old) (Retired retired) (Ok (old.merger.merges + 1)) → SweepsRetired retired new answer → SweepsFrozen old new answer
+merged_on old retired new (Ok done) merged swept = (retired, merged, swept)
+merged_on old retired new (Err (Pinned pinned)) merged swept = (retired, merged, swept)
+merged_on old retired new (Err (RunFull full)) merged swept = absurd swept
+merged_on old retired new (Err (Worn worn)) merged swept = absurd swept
+
+-- an epoch is frozen
+pub frozen_on : (old : MergerState) (frozen : FrozenState) (new : Phase) (answer : Result ⊤ Stopped) → Freezes (Clean old) (Frozen frozen) (Ok old.merges) → SweepsFrozen frozen new answer → SweepsClean old new answer
+frozen_on old frozen new (Ok done) freezes swept = (frozen, freezes, swept)
+frozen_on old frozen new (Err (Pinned pinned)) freezes swept = (frozen, freezes, swept)
+frozen_on old frozen new (Err (RunFull full)) freezes swept = (frozen, freezes, swept)
+frozen_on old frozen new (Err (Worn worn)) freezes swept = absurd swept.2
