@@ -1,18 +1,26 @@
 -- Members of a batch, staged one after another.
-use Rattle.std.proofs.Common.{◌≡◌, ◌≢◌, ◌∙◌, ℕ, zero, suc, ◌+◌, ◌^◌, ◌<◌, ◌≤◌, ◌++◌, ◌∷◌, [], List, length, take, get_or, ap, sym, arith, append-nil, false, None, Result, Ok, Err, IfErr}
+use Rattle.std.proofs.Common.{◌≡◌, ◌≢◌, ◌∙◌, ℕ, zero, suc, ◌+◌, ◌^◌, ◌<◌, ◌≤◌, ◌++◌, ◌∷◌, [], List, length, take, get_or, ap, refl, sym, arith, append-nil, false, Option, None, Result, Ok, Err, IfErr}
 use Rattle.std.proofs.lemmas.List.{append_assoc, length-append, length-take-le, take_more}
-use Rattle.clsm_model.specs.declared.slot.Change.TheVariants.{Keep}
+use Rattle.clsm_model.specs.declared.slot.Change.{Change}
+use Rattle.clsm_model.specs.declared.slot.Change.TheVariants.{Keep, Set, Remove}
+use Rattle.clsm_model.specs.declared.record.Deed.{Deed}
 use Rattle.clsm_model.specs.declared.record.Deed.TheVariants.{Batch as Group}
 use Rattle.clsm_model.specs.Right.{AreWrites, Member}
 use Rattle.clsm_model.specs.Seats.{FitsDeed}
 use Rattle.clsm_law.specs.declared.view.View.{View}
+use Rattle.clsm_law.specs.Relation.{member_of}
 use Rattle.clsm_words.specs.declared.known.Known.{Known}
+use Rattle.clsm_words.specs.Keeping.{KeepsPlace}
 use Rattle.clsm_words.proofs.Keeps.{seat_stays, seat_trans}
 use Rattle.clsm_lock.specs.Keeping.{EntersExclusively, Leaves}
-use Rattle.clsm_memtable.specs.Writing.{FindsRoom}
+use Rattle.clsm_memtable.specs.Filling.{Stages}
+use Rattle.clsm_memtable.specs.Inserting.{Enters, StaysOut}
+use Rattle.clsm_memtable.specs.Writing.{DecidesMember, FindsRoom}
 use Rattle.clsm_calls.specs.declared.refusal.BatchError.{BatchError}
 use Rattle.clsm_calls.specs.declared.refusal.BatchError.TheVariants.{Full}
 use Rattle.clsm_calls.specs.Batching.{FindsNoRoom, FindsNoRoomFor, IsAlone, MayStage, RefusesBatch, StagesAll, with_staged}
+use Rattle.clsm_calls.specs.Changing.{value_set}
+use Rattle.clsm_calls.specs.Resting.{deed_of}
 use Rattle.clsm_calls.proofs.Rest.{left, still_by, still_trans}
 
 -- each member is a write
@@ -52,6 +60,49 @@ module _ (a b : Known) (members : List Member) (i : ℕ) (within : i < length me
     more : b.view.staged ++ m ∷ [] ≡ a.view.staged ++ take (i + 1) members
     more = ap (λ (v : View). v.staged ++ m ∷ []) staged.view ∙ append_assoc a.view.staged (take i members) (m ∷ [])
         ∙ ap (λ (l : List Member). a.view.staged ++ l) (ap (λ (x : Member). take i members ++ x ∷ []) is ∙ sym (take_more members i d within))
+
+-- ---- one member
+
+-- the deed of a member that is a write is that member's
+pub one_member : (m : Member) → m.1 ≢ Keep → member_of (deed_of m.0 (value_set m.1)) ≡ m ∷ []
+one_member m writes = by m.0 m.1 writes where
+  by : (key : ℕ) (change : Change) → change ≢ Keep → member_of (deed_of key (value_set change)) ≡ (key, change) ∷ []
+  by key Keep ne = absurd (ne refl)
+  by key (Set written) ne = refl
+  by key Remove ne = refl
+
+-- staged, looked for, entered and decided, with the hints behind it, it is one staged member more
+pub staged_one : (a b c d e f : Known) (t key : ℕ) (written : Option (List ℕ)) (deed : Deed) (m : Member) → Stages a b t key written → StaysOut b c → Enters c d → DecidesMember d e t deed → KeepsPlace e f → f.view ≡ e.view → member_of deed ≡ m ∷ [] → StagesAll a f (m ∷ [])
+staged_one a b c d e f t key written deed m stages looks enters decides place hints is = record {
+  seat =
+      seat_trans a b f stages.place.seat
+      (seat_trans b c f looks.seat
+      (seat_trans c d f enters.seat
+      (seat_trans d e f decides.place.seat place.seat (λ h held held'. ap (λ (v : View). v.held) decides.view ∙ held))
+      (λ h held held'. ap (λ (v : View). v.held) enters.view ∙ held))
+      (λ h held held'. ap (λ (v : View). v.held) looks.view ∙ held))
+      (λ h held held'. ap (λ (v : View). v.held) stages.view ∙ held);
+  view = (λ i. record f.view { drawn = undrawn i }) ∙ rest ∙ ap (with_staged a.view f.view) more;
+} where
+  undrawn : f.view.drawn ≡ None
+  undrawn = ap (λ (v : View). v.drawn) (hints ∙ decides.view)
+
+  rest : with_staged f.view f.view f.view.staged ≡ with_staged a.view f.view f.view.staged
+  rest =
+      ap (λ (v : View). with_staged v f.view f.view.staged) hints
+      ∙ ap (λ (v : View). with_staged v f.view f.view.staged) decides.view
+      ∙ ap (λ (v : View). with_staged v f.view f.view.staged) enters.view
+      ∙ ap (λ (v : View). with_staged v f.view f.view.staged) looks.view
+      ∙ ap (λ (v : View). with_staged v f.view f.view.staged) stages.view
+
+  before : d.view.staged ≡ a.view.staged
+  before = ap (λ (v : View). v.staged) enters.view ∙ ap (λ (v : View). v.staged) looks.view ∙ ap (λ (v : View). v.staged) stages.view
+
+  more : f.view.staged ≡ a.view.staged ++ m ∷ []
+  more =
+      ap (λ (v : View). v.staged) (hints ∙ decides.view)
+      ∙ ap (λ (l : List Member). l ++ member_of deed) before
+      ∙ ap (λ (l : List Member). a.view.staged ++ l) is
 
 -- ---- the room
 

@@ -14,7 +14,7 @@ use crate::changing::value_set;
 use crate::refusal::BatchError;
 use crate::writing::deed_of;
 use clsm_lock::{lock_exclusive, unlock_exclusive};
-use clsm_memtable::{commit, decide_member, enter, leave_hints, look_room, stage};
+use clsm_memtable::{commit, decide_member, enter, leave_hints, look_room, prefetch, stage};
 use clsm_model::{Change, Time, are_writes};
 use clsm_words::{Pace, RawSeat, Words};
 use std::sync::Wait;
@@ -54,7 +54,10 @@ fn stage_member<P: Pace, R: Wait>(
     let key = member.0;
     let value = value_set(&member.1);
     stage(words, seat, time, key, value.as_ref());
-    let trace = enter(rt, words, seat, time, key);
+    seat.show_invariant();
+    let guess = prefetch(words, seat, time, key);
+    seat.show_invariant();
+    let trace = enter(rt, words, seat, time, key, &guess);
     decide_member(words, seat, time, &deed_of(key, &value));
     leave_hints(words, seat, time, &trace);
 }

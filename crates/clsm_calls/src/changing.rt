@@ -21,7 +21,9 @@ use crate::reading::value_below;
 use crate::refusal::Full;
 use clsm_law::{End, Word};
 use clsm_lock::{lock_shared, unlock_shared};
-use clsm_memtable::{Decided, DrawError, decide, draw, enter, fill, give_up, newest, settle_below};
+use clsm_memtable::{
+    Decided, DrawError, decide, draw, enter, fill, give_up, newest, prefetch, settle_below,
+};
 use clsm_model::{Change, Deed, Time, Value};
 use clsm_pins::{pin, unpin};
 use clsm_words::{Pace, RawSeat, Words};
@@ -109,8 +111,11 @@ fn write_drawn<P: Pace, R: Wait>(
     ensures of { IsSeatOf words.now seat.new }
     ensures writes { DecidesDrawn seat.old.knows seat.new.knows time deed.now result }
 {
+    seat.show_invariant();
+    let guess = prefetch(words, seat, time, key);
+    seat.show_invariant();
     fill(words, seat, time, key, value.as_ref());
-    let trace = enter(rt, words, seat, time, key);
+    let trace = enter(rt, words, seat, time, key, &guess);
     decide(words, seat, time, deed, &trace)
 }
 

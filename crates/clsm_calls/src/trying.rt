@@ -10,7 +10,7 @@ ghost use Rattle.clsm_calls.specs.Trying.{Fails};
 use crate::refusal::TryPutError;
 use crate::writing::deed_of;
 use clsm_lock::{try_lock_shared, unlock_shared};
-use clsm_memtable::{Decided, DrawError, decide, draw, fill, give_up, try_enter};
+use clsm_memtable::{Decided, DrawError, decide, draw, fill, give_up, prefetch, try_enter};
 use clsm_model::{Time, Value};
 use clsm_words::{Pace, RawSeat, Words};
 
@@ -47,8 +47,9 @@ fn try_in_hold<P: Pace>(
     ensures counts { CountsInHold (tally_of seat.old.knows) (tally_of seat.new.knows) result }
 {
     let time = try_draw(words, seat)?;
+    let guess = prefetch(words, seat, time, key);
     fill(words, seat, time, key, Some(&value));
-    let Ok(trace) = try_enter(words, seat, time, key) else {
+    let Ok(trace) = try_enter(words, seat, time, key, &guess) else {
         give_up(words, seat, time);
         return Err(TryPutError::Raced);
     };

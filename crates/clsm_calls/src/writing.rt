@@ -7,7 +7,7 @@ ghost use Rattle.clsm_calls.specs.Resting.{IsAtRest, IsInHold, FindsFull, Record
 
 use crate::refusal::Full;
 use clsm_lock::{lock_shared, unlock_shared};
-use clsm_memtable::{Decided, DrawError, decide, draw, enter, fill};
+use clsm_memtable::{Decided, DrawError, decide, draw, enter, fill, prefetch};
 use clsm_model::{Deed, Time, Value};
 use clsm_words::{Pace, RawSeat, Words};
 use std::sync::Wait;
@@ -52,8 +52,9 @@ fn try_write<P: Pace, R: Wait>(
         Err(DrawError::Full(time)) => return Attempt::Full(time),
         Err(DrawError::Raced) => return Attempt::Lost,
     };
+    let guess = prefetch(words, seat, time, key);
     fill(words, seat, time, key, value.as_ref());
-    let trace = enter(rt, words, seat, time, key);
+    let trace = enter(rt, words, seat, time, key, &guess);
     match decide(words, seat, time, &deed_of(key, value), &trace) {
         Decided::Done => Attempt::Written(time),
         Decided::Overtaken => Attempt::Lost,

@@ -27,13 +27,13 @@ between_same : {low high n : ℕ} (p q : IsBetween low high n) → p ≡ q
 between_same p q i = (le_prop p.0 q.0 i, le_prop p.1 q.1 i)
 
 -- layouts of the same sizes are the same: that the sizes are in their ranges says no more
-same_sizes : (z : Layout) (cells seats chains run : ℕ) → z.cells ≡ cells → z.seats ≡ seats → z.chains ≡ chains → z.run ≡ run → (c : IsBetween 4 65536 cells) (s : IsBetween 1 64 seats) (h : IsBetween 1 16384 chains) (r : IsBetween 4 4194304 run) → z ≡ record { cells = cells; seats = seats; chains = chains; run = run; patience = z.patience; cells_in_range = c; seats_in_range = s; chains_in_range = h; run_in_range = r }
+same_sizes : (z : Layout) (cells seats chains run : ℕ) → z.cells ≡ cells → z.seats ≡ seats → z.chains ≡ chains → z.run ≡ run → (c : IsBetween 4 65536 cells) (s : IsBetween 1 64 seats) (h : IsBetween 1 65536 chains) (r : IsBetween 4 4194304 run) → z ≡ record { cells = cells; seats = seats; chains = chains; run = run; patience = z.patience; cells_in_range = c; seats_in_range = s; chains_in_range = h; run_in_range = r }
 same_sizes z cells seats chains run a b d e c s h r =
-    let with_run : (c : IsBetween 4 65536 z.cells) (s : IsBetween 1 64 z.seats) (h : IsBetween 1 16384 z.chains) → z ≡ record { cells = z.cells; seats = z.seats; chains = z.chains; run = run; patience = z.patience; cells_in_range = c; seats_in_range = s; chains_in_range = h; run_in_range = r } =
+    let with_run : (c : IsBetween 4 65536 z.cells) (s : IsBetween 1 64 z.seats) (h : IsBetween 1 65536 z.chains) → z ≡ record { cells = z.cells; seats = z.seats; chains = z.chains; run = run; patience = z.patience; cells_in_range = c; seats_in_range = s; chains_in_range = h; run_in_range = r } =
     λ c s h. subst (λ (n : ℕ). (r : IsBetween 4 4194304 n) → z ≡ record { cells = z.cells; seats = z.seats; chains = z.chains; run = n; patience = z.patience; cells_in_range = c; seats_in_range = s; chains_in_range = h; run_in_range = r }) e
     (λ r i. record { cells = z.cells; seats = z.seats; chains = z.chains; run = z.run; patience = z.patience; cells_in_range = between_same z.cells_in_range c i; seats_in_range = between_same z.seats_in_range s i; chains_in_range = between_same z.chains_in_range h i; run_in_range = between_same z.run_in_range r i }) r in
     let with_chains : (c : IsBetween 4 65536 z.cells) (s : IsBetween 1 64 z.seats) → z ≡ record { cells = z.cells; seats = z.seats; chains = chains; run = run; patience = z.patience; cells_in_range = c; seats_in_range = s; chains_in_range = h; run_in_range = r } =
-    λ c s. subst (λ (n : ℕ). (h : IsBetween 1 16384 n) → z ≡ record { cells = z.cells; seats = z.seats; chains = n; run = run; patience = z.patience; cells_in_range = c; seats_in_range = s; chains_in_range = h; run_in_range = r }) d (with_run c s) h in
+    λ c s. subst (λ (n : ℕ). (h : IsBetween 1 65536 n) → z ≡ record { cells = z.cells; seats = z.seats; chains = n; run = run; patience = z.patience; cells_in_range = c; seats_in_range = s; chains_in_range = h; run_in_range = r }) d (with_run c s) h in
     let with_seats : (c : IsBetween 4 65536 z.cells) → z ≡ record { cells = z.cells; seats = seats; chains = chains; run = run; patience = z.patience; cells_in_range = c; seats_in_range = s; chains_in_range = h; run_in_range = r } =
     λ c. subst (λ (n : ℕ). (s : IsBetween 1 64 n) → z ≡ record { cells = z.cells; seats = n; chains = chains; run = run; patience = z.patience; cells_in_range = c; seats_in_range = s; chains_in_range = h; run_in_range = r }) b (with_chains c) s in
     subst (λ (n : ℕ). (c : IsBetween 4 65536 n) → z ≡ record { cells = n; seats = seats; chains = chains; run = run; patience = z.patience; cells_in_range = c; seats_in_range = s; chains_in_range = h; run_in_range = r }) a with_seats c

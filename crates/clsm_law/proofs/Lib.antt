@@ -60,3 +60,4 @@ pub mod MergingLawful
 pub mod EqualViews
 pub mod EqualMergers
 pub mod EqualWorlds
+pub mod LayoutEntries

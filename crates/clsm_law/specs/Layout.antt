@@ -1,5 +1,5 @@
 -- Where each word stands in the one row of words, and the row as a memory.
-use Rattle.std.specs.Prelude.{◌≡◌, ℕ, ◌+◌, ◌*◌, ◌-◌, ◌==◌, ◌/◌, max, cond, List, [], ◌∷◌, sum, take, slice_index}
+use Rattle.std.specs.Prelude.{◌≡◌, ℕ, ◌+◌, ◌*◌, ◌-◌, ◌==◌, ◌%◌, max, cond, suc, List, [], ◌∷◌, sum, take, slice_index}
 use Rattle.clsm_model.specs.Config.{IsBetween}
 use Rattle.clsm_model.specs.declared.config.Config.{Config}
 use Rattle.clsm_law.specs.declared.layout.Layout.{Layout}
@@ -11,17 +11,18 @@ use Rattle.clsm_law.specs.Memory.{Memory, is_word, room_of}
 
 -- the sizes of a sound layout
 abbrev pub IsLayout : Layout → Type 0
-IsLayout z = IsBetween 4 65536 z.cells × IsBetween 1 64 z.seats × IsBetween 1 16384 z.chains × IsBetween 4 4194304 z.run
+IsLayout z = IsBetween 4 65536 z.cells × IsBetween 1 64 z.seats × IsBetween 1 65536 z.chains × IsBetween 4 4194304 z.run
 
--- there is a chain for each so many cells of a region
-abbrev pub cells_per_chain : ℕ
-cells_per_chain = 4
+-- the greatest odd number that is not above this one: an odd number of chains parts keys that are
+-- alike in their last bits
+abbrev pub odd_below : ℕ → ℕ
+odd_below n = n - 1 + n % 2
 
 -- the layout has the sizes of the configuration; the shards are the least number of chains
 pub record HasSizesOf (z : Layout) (config : Config) : Type 0 where
   pub cells : z.cells ≡ config.cells
   pub seats : z.seats ≡ config.seats
-  pub chains : z.chains ≡ max config.shards (config.cells / cells_per_chain)
+  pub chains : z.chains ≡ max config.shards (odd_below config.cells)
   pub run : z.run ≡ config.run
   pub patience : z.patience ≡ config.patience
 
@@ -29,9 +30,18 @@ pub record HasSizesOf (z : Layout) (config : Config) : Type 0 where
 abbrev pub spacing : ℕ
 spacing = 16
 
--- from a cell to the next: a cell has two lines of 64 bytes to itself
+-- the row begins so many words before a line of 64 bytes
+abbrev pub to_line : ℕ
+to_line = 6
+
+-- from a cell to the next: a cell has a line to itself
 abbrev pub cell_words : ℕ
-cell_words = 16
+cell_words = 8
+
+-- the first three words of a value stand in its cell's line, the other five in a block behind the
+-- cells
+abbrev pub far_words : ℕ
+far_words = 5
 
 -- an entry's words
 abbrev pub entry_words : ℕ
@@ -43,11 +53,16 @@ place_size z p = 1 + entry_words * room_of z p
 
 -- the row is made of blocks, one behind the other, and these are their lengths: of LOCK, CLOCK,
 -- LIMIT, FRONT and MERGED, of the pins, of the snapshots, of the cells with the heads of the two
--- ordered lists before them, of the heads, and of the five places. The heads stand behind the
--- cells, since their number could push the cells off their lines
+-- ordered lists before them, of the values' far words, of the hints, of the heads of the chains, and
+-- of the five places. What could push the cells off their lines stands behind them
 abbrev pub blocks : Layout → List ℕ
 blocks z =
-    spacing ∷ spacing ∷ spacing ∷ spacing ∷ spacing ∷ (spacing * z.seats) ∷ (spacing * z.seats) ∷ (cell_words * (2 + 2 * z.cells)) ∷ (2 * z.chains) ∷ (place_size z 0) ∷ (place_size z 1) ∷ (place_size z 2) ∷ (place_size z 3) ∷ (place_size z 4) ∷ []
+    (to_line + spacing) ∷ spacing ∷ spacing ∷ spacing ∷ spacing ∷ (spacing * z.seats) ∷ (spacing * z.seats) ∷ (cell_words * (2 + 2 * z.cells)) ∷ (far_words * (2 * z.cells)) ∷ (3 * (2 * z.cells)) ∷ (2 * z.chains) ∷ (place_size z 0) ∷ (place_size z 1) ∷ (place_size z 2) ∷ (place_size z 3) ∷ (place_size z 4) ∷ []
+
+-- the block that a part of a cell stands in
+abbrev pub part_block : Part → ℕ
+part_block (Value (suc (suc (suc j)))) = 8
+part_block _ = 7
 
 -- the block that a word stands in
 abbrev pub block_of : Word → ℕ
@@ -58,43 +73,45 @@ block_of Front = 3
 block_of Merged = 4
 block_of (Pin i) = 5
 block_of (Snap i) = 6
-block_of (Cell c part) = 7
+block_of (Cell c part) = part_block part
 block_of (Order k) = 7
-block_of (Hint c i) = 7
+block_of (Hint c i) = 9
 block_of (State c) = 7
-block_of (Head region chain) = 8
-block_of (Count p) = 9 + p
-block_of (Entry p e i) = 9 + p
+block_of (Head region chain) = 10
+block_of (Count p) = 11 + p
+block_of (Entry p e i) = 11 + p
 
--- where a part stands in its cell: what a walk reads, the link of the ordered list, three hints and
--- the length in the first line, and the value in the second
+-- where a part that is no far word stands in its cell's line
 abbrev pub part_offset : Part → ℕ
 part_offset Key = 1
 part_offset Next = 2
-part_offset Length = 7
-part_offset (Value j) = 8 + j
+part_offset Length = 4
+part_offset (Value j) = 5 + j
 
--- and where the link of the ordered list and the first hint stand there
+-- and where the link of the ordered list stands there
 abbrev pub order_offset : ℕ
 order_offset = 3
 
-abbrev pub hint_offset : ℕ
-hint_offset = 4
+-- where a part of the cell stands in its block
+abbrev pub cell_offset : ℕ → Part → ℕ
+cell_offset c (Value (suc (suc (suc j)))) = far_words * c + j
+cell_offset c part = cell_words * (2 + c) + part_offset part
 
 -- where a word of an entry stands behind its place's count: the keys of all entries side by side,
 -- and then the other words of each
 abbrev pub entry_offset : ℕ → ℕ → ℕ → ℕ
 entry_offset room e i = cond (i == 0) e (room + ((entry_words - 1) * e + (i - 1)))
 
--- where a word stands in its block; a list's head has the link's place in a cell of its own
+-- where a word stands in its block; an ordered list's head has a line of its own, and the link's
+-- place in it; the hints stand in three rows
 abbrev pub offset_of : Layout → Word → ℕ
 offset_of z (Pin i) = spacing * i
 offset_of z (Snap i) = spacing * i
-offset_of z (Cell c part) = cell_words * (2 + c) + part_offset part
+offset_of z (Cell c part) = cell_offset c part
 offset_of z (Order k) = cell_words * k + order_offset
-offset_of z (Hint c i) = cell_words * (2 + c) + hint_offset + i
+offset_of z (Hint c i) = 2 * z.cells * i + c
 offset_of z (State c) = cell_words * (2 + c)
-offset_of z (Head region chain) = 2 * chain + region
+offset_of z (Head region chain) = z.chains * region + chain
 offset_of z (Entry p e i) = 1 + entry_offset (room_of z p) e i
 offset_of z _ = 0
 

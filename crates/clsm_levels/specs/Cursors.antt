@@ -2,8 +2,10 @@
 use Rattle.std.specs.Prelude.{◌≡◌, ℕ, ◌<◌, ◌≤◌, List, [], ◌∷◌, ◌++◌, length, drop, slice_index_or, Option, Some, None}
 use Rattle.std.specs.List.{AllByRecursion}
 use Rattle.clsm_levels.specs.declared.entry.Entry.{Entry}
+use Rattle.clsm_levels.specs.declared.entry.Version.{Version}
 use Rattle.clsm_levels.specs.declared.cursor.Cursor.{Cursor}
 use Rattle.clsm_levels.specs.Pass.{RisesByKey}
+use Rattle.clsm_levels.specs.Version.{version_in}
 
 -- the row with this number
 abbrev pub row_at : List (List Entry) → ℕ → List Entry
@@ -22,9 +24,9 @@ abbrev pub first_of : List Entry → Option Entry
 first_of [] = None
 first_of (e ∷ es) = Some e
 
--- each cursor has the entry at its position
+-- each cursor has the entry at its position, without its value
 abbrev pub HeadsOf : List (List Entry) → List Cursor → Type 0
-HeadsOf rows cursors = (i : ℕ) → i < length cursors → (cursor_at cursors i).head ≡ first_of (drop (cursor_at cursors i).position (row_at rows i))
+HeadsOf rows cursors = (i : ℕ) → i < length cursors → (cursor_at cursors i).head ≡ version_in (first_of (drop (cursor_at cursors i).position (row_at rows i)))
 
 -- what is left of the rows, one after another
 abbrev pub rests : List (List Entry) → List Cursor → List Entry
@@ -32,9 +34,9 @@ rests [] cursors = []
 rests (row ∷ rows) [] = row ++ rests rows []
 rests (row ∷ rows) (c ∷ cs) = drop c.position row ++ rests rows cs
 
--- of the cursors below n, the first with the least key is at i, and e is its head
-abbrev pub IsLeast : List Cursor → ℕ → ℕ → Entry → Type 0
-IsLeast cursors n i e = (i < n) × ((cursor_at cursors i).head ≡ Some e) × ((j : ℕ) (x : Entry) → j < n → (cursor_at cursors j).head ≡ Some x → (e.key ≤ x.key) × (j < i → e.key < x.key))
+-- of the cursors below n, the first with the least key is at i, and v is its head
+abbrev pub IsLeast : List Cursor → ℕ → ℕ → Version → Type 0
+IsLeast cursors n i v = (i < n) × ((cursor_at cursors i).head ≡ Some v) × ((j : ℕ) (x : Version) → j < n → (cursor_at cursors j).head ≡ Some x → (v.key ≤ x.key) × (j < i → v.key < x.key))
 
 -- no cursor below n has a head
 abbrev pub IsEmptied : List Cursor → ℕ → Type 0

@@ -1,4 +1,5 @@
 pub mod Entry
+pub mod Version
 pub mod Run
 pub mod Yields
 pub mod Merge

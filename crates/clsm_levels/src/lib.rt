@@ -10,7 +10,7 @@ mod place;
 mod table;
 
 pub use cursor::{Cursor, least};
-pub use entry::Entry;
+pub use entry::{Entry, Version};
 pub use epoch::entries_of;
 pub use merge::{judge, wanted};
 pub use place::Place;

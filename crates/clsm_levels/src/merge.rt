@@ -3,8 +3,9 @@ ghost use Rattle.clsm_levels.specs.declared.entry.Entry.{Entry};
 ghost use Rattle.clsm_levels.specs.Merge.{kept, merged, wanted};
 ghost use Rattle.clsm_levels.specs.Rule.{sources, KeepsByRule, MakesNext};
 ghost use Rattle.clsm_levels.specs.Pass.{RisesByKey, kept_after};
+ghost use Rattle.clsm_levels.specs.Version.{version_of};
 
-use crate::entry::Entry;
+use crate::entry::{Entry, Version};
 use crate::table::is_to_level_one;
 use std::alloc::{AllocError, Global};
 
@@ -13,19 +14,19 @@ use std::alloc::{AllocError, Global};
 /// the second result that key after it.
 pub fn judge(
     settled: Option<u64>,
-    entry: Entry,
+    version: Version,
     floor: u64,
     to_level_one: bool,
 ) -> (bool, Option<u64>)
-    ensures { (rest : List Entry) → kept_after settled floor to_level_one (entry ∷ rest)
-        ≡ cond result.0 (entry ∷ kept_after result.1 floor to_level_one rest) (kept_after result.1 floor to_level_one rest) }
+    ensures { (e : Entry) (rest : List Entry) → version_of e ≡ version → kept_after settled floor to_level_one (e ∷ rest)
+        ≡ cond result.0 (e ∷ kept_after result.1 floor to_level_one rest) (kept_after result.1 floor to_level_one rest) }
 {
-    if entry.time >= floor {
+    if version.time >= floor {
         return (true, settled);
     }
-    let is_hidden = settled == Some(entry.key);
-    let is_dropped = to_level_one && entry.value.is_none();
-    (!is_hidden && !is_dropped, Some(entry.key))
+    let is_hidden = settled == Some(version.key);
+    let is_dropped = to_level_one && version.is_removal;
+    (!is_hidden && !is_dropped, Some(version.key))
 }
 
 /// What a merge keeps of entries by rising key.
@@ -41,7 +42,7 @@ fn kept(
     let mut run = Vec::new(alloc);
     let mut settled = None;
     for entry in entries {
-        let (is_kept, now_settled) = judge(settled, *entry, floor, to_level_one);
+        let (is_kept, now_settled) = judge(settled, entry.version(), floor, to_level_one);
         settled = now_settled;
         if is_kept {
             run.push(*entry)?;

@@ -3,6 +3,7 @@ ghost use Rattle.std.specs.Prelude.{◌≡◌, Some};
 ghost use Rattle.clsm_law.specs.declared.step.Step.TheVariants.{Decide};
 ghost use Rattle.clsm_law.specs.declared.view.Mode.TheVariants.{Shared};
 ghost use Rattle.clsm_words.specs.Plays.{IsSeatOf, MayPlay};
+ghost use Rattle.clsm_memtable.specs.Inserting.{MayLeaveHints};
 ghost use Rattle.clsm_memtable.specs.Writing.{Decides, GivesUp};
 
 use crate::hints::leave_hints;
@@ -36,10 +37,9 @@ fn decide_drawn<P: Pace>(words: &Words<P>, seat: &mut RawSeat, time: Time, deed:
 
 /// Decides the drawn time, whose cell is linked, was inserted by this search and says the deed's
 /// write: one exchange. With `Done` the write stands, the call is recorded at the time, and later
-/// calls of the seat have later times; hints lead to the cell then, where it is higher than others
-/// of the ordered list. With `Overtaken` somebody had cancelled the time: nothing is recorded, and
-/// the seat's count of such times has moved by one. Either way the time is no longer the seat's. It
-/// never waits.
+/// calls of the seat have later times; the bucket of its key leads to the cell then. With
+/// `Overtaken` somebody had cancelled the time: nothing is recorded, and the seat's count of such
+/// times has moved by one. Either way the time is no longer the seat's. It never waits.
 pub fn decide<P: Pace>(
     words: &Words<P>,
     seat: &mut RawSeat,
@@ -49,6 +49,7 @@ pub fn decide<P: Pace>(
 ) -> Decided
     requires opens { MayPlay words.now seat.old (Decide time deed.now) }
     requires holds { seat.old.knows.view.mode ≡ Shared }
+    requires hints { MayLeaveHints seat.old.knows trace.now }
     ensures of { IsSeatOf words.now seat.new }
     ensures decided { Decides seat.old.knows seat.new.knows time deed.now result }
 {

@@ -1,17 +1,19 @@
 //! The cells of a frozen epoch, as the merger reads them.
 ghost use Rattle.std.specs.Prelude.{◌≡◌, true};
 ghost use Rattle.std.proofs.Common.{ap, ◌∙◌};
+ghost use Rattle.clsm_levels.specs.declared.entry.Entry.{Entry};
+ghost use Rattle.clsm_levels.specs.Version.{version_of};
 ghost use Rattle.clsm_law.specs.Memory.{is_part};
 ghost use Rattle.clsm_words.specs.Changing.{Changes, NoWord};
 ghost use Rattle.clsm_words.specs.Knowing.{IsPartOf, code_of};
 ghost use Rattle.clsm_words.specs.Plays.{IsSeatOf};
 ghost use Rattle.clsm_words.proofs.Changing.{changes_trans};
 ghost use Rattle.clsm_memtable.specs.Searching.{slot_in, value_in};
-ghost use Rattle.clsm_memtable.specs.Frozen.{IsEntryOf, IsFrozenTime, IsKeyOf, IsOfFrozen};
+ghost use Rattle.clsm_memtable.specs.Frozen.{IsEntryAt, IsFrozenTime, IsKeyOf, IsOfFrozen, IsVersionOf};
 ghost use Rattle.clsm_memtable.specs.Staying.{frozen_stays, slot_on};
 
 use clsm_law::{Part, Word};
-use clsm_levels::Entry;
+use clsm_levels::Version;
 use clsm_model::{Time, Value};
 use clsm_words::{Load, Pace, RawMerger, Words, load_value};
 
@@ -76,26 +78,26 @@ impl Load<RawMerger> for FrozenCell {
     ghost looks_on = { λ words a b c first then. (then.0, changes_trans NoWord a.knows b.knows c.knows first.1 then.1) };
 }
 
-/// The value of a time with this state: none where it is a removal.
-fn value_by<P: Pace>(
+/// The value of a write of a frozen epoch: none where it is a removal. It never waits and takes no
+/// memory.
+pub fn frozen_value<P: Pace>(
     words: &Words<P>,
     merger: &mut RawMerger,
-    time: Time,
-    cell: u64,
-    code: u64,
+    version: &Version,
 ) -> Option<Value>
     requires of { IsSeatOf words.now merger.old }
-    requires frozen { IsFrozenTime merger.old.knows time cell }
-    requires code { code ≡ code_of (slot_in merger.old.knows time) }
+    requires written { (e : Entry) × IsEntryAt merger.old.knows e × (version_of e ≡ version.now) }
     ensures of { IsSeatOf words.now merger.new }
     ensures looks { Changes NoWord merger.old.knows merger.new.knows }
-    ensures told { result ≡ value_in (slot_in merger.old.knows time) }
+    ensures told { (e : Entry) → IsEntryAt merger.old.knows e → version_of e ≡ version.now → result ≡ e.value }
 {
-    merger.show_invariant();
-    match code {
-        2 => Some(load_value(words, merger, &FrozenCell { time, cell })),
-        _ => None,
+    if version.is_removal {
+        return None;
     }
+    merger.show_invariant();
+    let time = version.time;
+    let cell = words.cell_of(time);
+    Some(load_value(words, merger, &FrozenCell { time, cell }))
 }
 
 /// The key of the time's write, if it is one.
@@ -115,16 +117,16 @@ pub(crate) fn key_at<P: Pace>(words: &Words<P>, merger: &mut RawMerger, time: Ti
 }
 
 /// The write of the time, if it is one.
-pub(crate) fn entry_at<P: Pace>(
+pub(crate) fn version_at<P: Pace>(
     words: &Words<P>,
     merger: &mut RawMerger,
     time: Time,
-) -> Option<Entry>
+) -> Option<Version>
     requires of { IsSeatOf words.now merger.old }
     requires frozen { IsOfFrozen merger.old.knows time }
     ensures of { IsSeatOf words.now merger.new }
     ensures looks { Changes NoWord merger.old.knows merger.new.knows }
-    ensures entry { IsEntryOf time (slot_in merger.old.knows time) result }
+    ensures version { IsVersionOf time (slot_in merger.old.knows time) result }
 {
     merger.show_invariant();
     let cell = words.cell_of(time);
@@ -133,6 +135,10 @@ pub(crate) fn entry_at<P: Pace>(
         return None;
     }
     let key = part(words, merger, time, cell, Part::Key);
-    let value = value_by(words, merger, time, cell, code);
-    Some(Entry { key, time, value })
+    let is_removal = code != 2;
+    Some(Version {
+        key,
+        time,
+        is_removal,
+    })
 }

@@ -34,6 +34,18 @@ impl Model for Value {
 }
 
 impl Value {
+    ghost use Rattle.std.specs.Prelude.{take};
+    ghost use Rattle.clsm_model.specs.Value.{IsPadded};
+
+    /// The value of the first so many of these words, behind which stand zeros.
+    #[inline]
+    pub fn of_padded(words: [u64; 8], count: usize) -> Value
+        requires { IsPadded words count }
+        ensures { result ≡ take count words }
+    {
+        Value { words, count }
+    }
+
     /// The value of these words. It is refused where there is no word, or more than eight.
     pub fn new(words: &[u64]) -> Result<Value, Length>
         ensures taken { IsOk result ↔ ((1 ≤ length words.now) × (length words.now ≤ 8)) }

@@ -1,7 +1,7 @@
 -- The rows that a merge reads, by their numbers, and what of them stays over its looks and writes.
 use Rattle.std.proofs.Common.{◌≡◌, ℕ, zero, suc, ◌+◌, ◌-◌, ◌/◌, ◌%◌, ◌<◌, ◌≤◌, ◌==◌, Bool, true, false, cond, nat_lt, List, [], ◌∷◌, ◌++◌, drop, length, slice_get, refl, ap, sym, ◌∙◌, arith, subst, Some, None, inl, inr}
 use Rattle.std.specs.List.{AllByRecursion}
-use Rattle.std.proofs.lemmas.Bool.{cases_eq, eq-eqb, le-ltb, lt-ltb, ne_eqb}
+use Rattle.std.proofs.lemmas.Bool.{cases_eq, cases_lt, eq-eqb, le-ltb, lt-ltb, ne_eqb}
 use Rattle.clsm_levels.specs.declared.entry.Entry.{Entry}
 use Rattle.clsm_levels.specs.declared.place.Place.{Place}
 use Rattle.clsm_levels.specs.declared.place.Place.TheVariants.{LevelOne}
@@ -21,9 +21,14 @@ use Rattle.clsm_words.specs.declared.known.Known.{Known}
 use Rattle.clsm_words.specs.Knowing.{row_of}
 use Rattle.clsm_words.specs.Changing.{Changes, NoWord}
 use Rattle.clsm_words.specs.Merging.{IsSoundMerger}
-use Rattle.clsm_memtable.specs.Frozen.{IsFrozenBehind, epoch_row}
+use Rattle.clsm_words.proofs.Changing.{changes_more, changes_trans}
+use Rattle.clsm_memtable.specs.Frozen.{IsEntryAt, IsFrozenBehind, epoch_row}
+use Rattle.clsm_memtable.proofs.FrozenTimes.{row_written}
 use Rattle.clsm_memtable.proofs.FrozenWalks.{epoch_row_stays}
+use Rattle.clsm_runs.specs.declared.rows.Winner.{Winner}
+use Rattle.clsm_runs.specs.Outputs.{IsTaken}
 use Rattle.clsm_runs.specs.Placing.{IsOfPlace, rows_of}
+use Rattle.clsm_runs.specs.Searching.{count_of, run_at}
 
 -- ---- the entry at a position
 
@@ -43,6 +48,16 @@ first_past memory p i zero zero le = refl
 first_past memory p i zero (suc j) le = refl
 first_past memory p i (suc n) zero le = absurd (omega arith)
 first_past memory p i (suc n) (suc j) le = first_past memory p (i + 1) n j (omega arith)
+
+-- the entry at a position is within the run
+pub taken_inside : (k : Known) (p n : ℕ) (e : Entry) → first_of (drop n (run_at k p)) ≡ Some e → (n < count_of k p) × (entry_in (row_of k) p n ≡ e)
+taken_inside k p n e is = elim (cases_lt n (count_of k p)) [
+  | inl lt ↦
+      let same : n ≡ 0 + n = omega arith in
+      let here : entry_in (row_of k) p (0 + n) ≡ e = cc (sym (first_there (row_of k) p 0 (count_of k p) n lt) ∙ is) in
+      (lt, ap (entry_in (row_of k) p) same ∙ here)
+  | inr past ↦ absurd (cc (sym (first_past (row_of k) p 0 (count_of k p) n past) ∙ is))
+]
 
 -- ---- the rows
 
@@ -127,3 +142,22 @@ runs_stay k k' changes = runs_kept (IsOfPlace (target_of k.merger)) k k' changes
 
 pub rows_stay : (k k' : Known) (merges : ℕ) → IsSoundMerger k → IsFrozenBehind k merges → Changes (IsOfPlace (target_of k.merger)) k k' → rows_of k' ≡ rows_of k
 rows_stay k k' merges sound behind changes = rows_kept k k' (epoch_row_stays (IsOfPlace (target_of k.merger)) k k' changes merges behind sound) changes.view (runs_stay k k' changes)
+
+-- ---- the entry that is taken
+
+module _ (k : Known) (w : Winner) (e : Entry) (taken : IsTaken (rows_of k) w e) where
+  -- of the first row it is a write of the epoch
+  pub taken_written : (merges : ℕ) → IsSoundMerger k → IsFrozenBehind k merges → w.row ≡ 0 → IsEntryAt k e
+  taken_written merges sound behind first =
+      every_first (IsEntryAt k) (epoch_row k) w.position e (row_written k merges sound behind) (subst (λ (row : ℕ). first_of (drop w.position (row_at (rows_of k) row)) ≡ Some e) first taken.stands)
+
+  -- of a later one it stands in the run that is this row
+  pub taken_of_run : (place : ℕ) → row_at (rows_of k) w.row ≡ run_at k place → (w.position < count_of k place) × (entry_in (row_of k) place w.position ≡ e)
+  taken_of_run place is = taken_inside k place w.position e (ap (λ (row : List Entry). first_of (drop w.position row)) (sym is) ∙ taken.stands)
+
+  -- what is written at the place of the next merge, and looks, leave it
+  pub taken_stays : (first then : Known) (merges : ℕ) → IsSoundMerger first → IsFrozenBehind first merges → Changes (IsOfPlace (target_of first.merger)) first k → Changes NoWord k then → IsTaken (rows_of then) w e
+  taken_stays first then merges sound behind changes looks =
+      let target = target_of first.merger in
+      let all = changes_trans (IsOfPlace target) first k then changes (changes_more NoWord (IsOfPlace target) k then (λ word no. absurd no) looks) in
+      subst (λ (rows : List (List Entry)). IsTaken rows w e) (rows_stay first k merges sound behind changes ∙ sym (rows_stay first then merges sound behind all)) taken

@@ -3,11 +3,12 @@ use Rattle.std.specs.Prelude.{◌≡◌, ℕ, ◌+◌, ◌^◌, ◌<◌, ◌≤�
 use Rattle.std.specs.List.{AllByRecursion}
 use Rattle.clsm_levels.specs.declared.entry.Entry.{Entry}
 use Rattle.clsm_levels.specs.declared.cursor.Cursor.{Cursor}
-use Rattle.clsm_levels.specs.Cursors.{AllRise, cursor_at, rests}
+use Rattle.clsm_levels.specs.Cursors.{AllRise, cursor_at, first_of, rests, row_at}
 use Rattle.clsm_levels.specs.Entry.{AreBelow}
 use Rattle.clsm_levels.specs.Merge.{is_to_level_one, kept, merged}
 use Rattle.clsm_levels.specs.Pass.{kept_after}
 use Rattle.clsm_levels.specs.Run.{all_of}
+use Rattle.clsm_levels.specs.Version.{version_of}
 use Rattle.clsm_law.specs.declared.word.Word.TheVariants.{Count}
 use Rattle.clsm_law.specs.Memory.{room_of}
 use Rattle.clsm_law.specs.Merging.{is_frozen, target_of}
@@ -18,7 +19,9 @@ use Rattle.clsm_words.specs.Knowing.{row_of}
 use Rattle.clsm_memtable.specs.declared.frozen_walk.FrozenWalk.{FrozenWalk}
 use Rattle.clsm_memtable.specs.Frozen.{IsAhead, epoch_row}
 use Rattle.clsm_runs.specs.declared.output.Output.{Output}
+use Rattle.clsm_runs.specs.declared.rows.Winner.{Winner}
 use Rattle.clsm_runs.specs.Placing.{rows_of}
+use Rattle.clsm_runs.specs.Searching.{run_at}
 
 -- ---- what is read
 
@@ -29,10 +32,20 @@ pub record AreSources (rows : List (List Entry)) : Type 0 where
   pub early : AllByRecursion (AreBelow (2 ^ 62)) rows
   pub few : AllByRecursion (λ row. length row < 2 ^ 62) rows
 
+-- the place is that of the run which is this row, if there is such a row
+abbrev pub IsPlaceOfRow : Known → ℕ → Option ℕ → Type 0
+IsPlaceOfRow k row None = row_at (rows_of k) row ≡ []
+IsPlaceOfRow k row (Some place) = (row_at (rows_of k) row ≡ run_at k place) × (is_named k.merger.merged place ≡ true) × (place < 5)
+
+-- the entry stands where the winner says, and this is its version
+pub record IsTaken (rows : List (List Entry)) (w : Winner) (e : Entry) : Type 0 where
+  pub stands : first_of (drop w.position (row_at rows w.row)) ≡ Some e
+  pub version : version_of e ≡ w.version
+
 -- the next entry of the rows by rising key is taken, or there is none
-abbrev pub IsNextOf : List (List Entry) → List Cursor → List Cursor → Option Entry → Type 0
+abbrev pub IsNextOf : List (List Entry) → List Cursor → List Cursor → Option Winner → Type 0
 IsNextOf rows before after None = rests rows before ≡ []
-IsNextOf rows before after (Some e) = (merged (rests rows before) ≡ e ∷ merged (rests rows after)) × (e.time < 2 ^ 62)
+IsNextOf rows before after (Some w) = (e : Entry) × (merged (rests rows before) ≡ e ∷ merged (rests rows after)) × IsTaken rows w e × (e.time < 2 ^ 62) × (w.row < 5)
 
 -- the walk has yielded so many of the epoch's writes
 abbrev pub IsWalkedTo : Known → FrozenWalk → ℕ → Type 0

@@ -15,5 +15,5 @@ mod writing;
 
 pub use finding::find;
 pub use merging::{RunFull, merge};
-pub use passing::{next, seek};
+pub use passing::{Passed, next, seek, value};
 pub use searching::search;

@@ -4,19 +4,20 @@ ghost use Rattle.clsm_law.specs.Memory.{room_of};
 ghost use Rattle.clsm_law.specs.Merging.{target_of};
 ghost use Rattle.clsm_levels.specs.declared.entry.Entry.{Entry};
 ghost use Rattle.clsm_levels.specs.Merge.{is_to_level_one};
+ghost use Rattle.clsm_levels.specs.Version.{version_of};
 ghost use Rattle.clsm_memtable.specs.Frozen.{IsAhead, IsFrozenBehind, epoch_row};
 ghost use Rattle.clsm_words.specs.Plays.{IsSeatOf};
-ghost use Rattle.clsm_runs.specs.Outputs.{HasWritten, IsOutput, IsSameOutput, LeavesOff, kept_of};
+ghost use Rattle.clsm_runs.specs.Outputs.{HasWritten, IsOutput, IsSameOutput, IsTaken, LeavesOff, kept_of};
 ghost use Rattle.clsm_words.specs.Changing.{Changes};
-ghost use Rattle.clsm_runs.specs.Placing.{IsOfPlace};
+ghost use Rattle.clsm_runs.specs.Placing.{IsOfPlace, rows_of};
 
 use crate::output::Output;
-use crate::rows::{next, open_cursors};
+use crate::rows::{Winner, next, open_cursors, value};
 use crate::writing::write_entry;
 use clsm_law::{Word, target_place};
-use clsm_levels::{Entry, is_to_level_one, judge};
+use clsm_levels::{Entry, Version, is_to_level_one, judge};
 use clsm_memtable::FrozenWalk;
-use clsm_model::Time;
+use clsm_model::{Time, Value};
 use clsm_words::{Pace, RawMerger, Words};
 use thiserror::Error;
 
@@ -47,24 +48,42 @@ fn open_output<P: Pace>(words: &Words<P>, merger: &RawMerger, merges: u64, floor
     }
 }
 
+/// The entry with this version and value.
+#[inline]
+fn entry_with(version: &Version, value: Option<Value>) -> Entry
+    ensures is { (e : Entry) → version_of e ≡ version.now → value ≡ e.value → result ≡ e }
+    ensures early { result.time ≡ version.now.time }
+{
+    Entry {
+        key: version.key,
+        time: version.time,
+        value,
+    }
+}
+
 /// Writes the next entry by rising key, if it is kept. Refused where there is no room for it.
 fn take<P: Pace>(
     words: &Words<P>,
     merger: &mut RawMerger,
+    merges: u64,
     output: &mut Output,
-    entry: Entry,
+    winner: &Winner,
 ) -> Result<(), RunFull>
     requires of { IsSeatOf words.now merger.old }
+    requires merging { IsFrozenBehind merger.old.knows merges }
     requires output { IsOutput merger.old.knows output.old }
-    requires early { entry.time < 2 ^ 62 }
+    requires inside { winner.now.row < 5 }
+    requires there { (e : Entry) × IsTaken (rows_of merger.old.knows) winner.now e }
+    requires early { winner.now.version.time < 2 ^ 62 }
     ensures of { IsSeatOf words.now merger.new }
     ensures changes { Changes (IsOfPlace output.old.place) merger.old.knows merger.new.knows }
     ensures output { IsOutput merger.new.knows output.new }
     ensures same { IsSameOutput output.old output.new }
-    ensures goes_on { OnOk result ((rest all : List Entry) → LeavesOff merger.old.knows output.old (entry ∷ rest) all → LeavesOff merger.new.knows output.new rest all) }
-    ensures full { IfErr result (λ refusal. (rest all : List Entry) → LeavesOff merger.old.knows output.old (entry ∷ rest) all → output.old.room < length all) }
+    ensures goes_on { OnOk result ((e : Entry) (rest all : List Entry) → IsTaken (rows_of merger.old.knows) winner.now e → LeavesOff merger.old.knows output.old (e ∷ rest) all → LeavesOff merger.new.knows output.new rest all) }
+    ensures full { IfErr result (λ refusal. (e : Entry) (rest all : List Entry) → IsTaken (rows_of merger.old.knows) winner.now e → LeavesOff merger.old.knows output.old (e ∷ rest) all → output.old.room < length all) }
 {
-    let (is_kept, settled) = judge(output.settled, entry, output.floor, output.to_level_one);
+    let version = winner.version;
+    let (is_kept, settled) = judge(output.settled, version, output.floor, output.to_level_one);
     if !is_kept {
         output.settled = settled;
         return Ok(());
@@ -72,6 +91,8 @@ fn take<P: Pace>(
     if output.count == output.room {
         return Err(RunFull);
     }
+    let value = value(words, merger, merges, winner);
+    let entry = entry_with(&version, value);
     write_entry(words, merger, output.place, output.count, &entry);
     output.count += 1;
     output.settled = settled;
@@ -101,9 +122,9 @@ pub fn merge<P: Pace>(
     merger.show_invariant();
     let mut output = open_output(words, merger, merges, floor);
     let mut cursors = open_cursors(words, merger, merges, walk);
-    while let Some(entry) = next(words, merger, merges, walk, &mut cursors) {
+    while let Some(winner) = next(words, merger, merges, walk, &mut cursors) {
         merger.show_invariant();
-        take(words, merger, &mut output, entry)?;
+        take(words, merger, merges, &mut output, &winner)?;
     }
     words.write_run(merger, Word::Count(output.place), output.count);
     Ok(())

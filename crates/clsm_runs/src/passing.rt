@@ -1,17 +1,19 @@
 //! A passage of one run by rising key: it is begun at a key, and goes on from entry to entry.
-ghost use Rattle.std.specs.Prelude.{◌≡◌, ◌≤◌, Some, true};
+ghost use Rattle.std.specs.Prelude.{◌≡◌, ◌≤◌, ℕ, IfSome, Some, is_some, true};
 ghost use Rattle.clsm_levels.specs.Entry.{first_below};
 ghost use Rattle.clsm_levels.specs.Yields.{IsNextFrom, behind};
-ghost use Rattle.clsm_law.specs.Places.{is_named};
+ghost use Rattle.clsm_law.specs.Places.{entry_in, is_named};
 ghost use Rattle.clsm_words.specs.Keeping.{LooksAside};
+ghost use Rattle.clsm_words.specs.Knowing.{row_of};
 ghost use Rattle.clsm_words.specs.Plays.{IsSeatOf};
+ghost use Rattle.clsm_words.specs.declared.known.Known.{Known};
+ghost use Rattle.clsm_runs.specs.Passing.{IsPassed, passed_entry};
 ghost use Rattle.clsm_runs.specs.Searching.{StandsFrom, run_at};
 
 use crate::finding::bound;
-use crate::reading::{KEY, TIME, count, entry, part};
-use clsm_levels::Entry;
-use clsm_model::Time;
-use clsm_words::{Pace, RawSeat, Words};
+use crate::reading::{HeldEntry, KEY, TIME, count, part};
+use clsm_model::{Time, Value};
+use clsm_words::{Pace, RawSeat, Words, load_value};
 
 /// Where a passage of the run at the place begins, which the held component names: at the first
 /// entry of the key with a time below `until`; where there is none, at the first of a greater key,
@@ -35,10 +37,28 @@ pub fn seek<P: Pace>(
     bound(words, seat, component, place, key, until).low
 }
 
+/// An entry of a run that a passage came by: its number, its key and its time word.
+#[derive(Clone, Copy)]
+pub struct Passed {
+    number: u64,
+    pub key: u64,
+    spelled: u64,
+}
+
+impl Passed {
+    /// Whether it has a value, which a removal has not.
+    #[inline]
+    pub fn has_value(&self) -> bool
+        ensures { (k : Known) (component place : ℕ) → IsPassed k component place self.now → result ≡ is_some (entry_in (row_of k) place self.now.number).value }
+    {
+        self.spelled % 2 != 1
+    }
+}
+
 /// Of the entries from the position on, the newest below `until` of the least key from `from` on
 /// that has one. The position goes on behind it, or to the run's end where there is none. Versions
-/// not below `until`, and those of keys below `from`, are passed one by one. Only the value of the
-/// entry that is found is read. It never waits, takes no memory and is never refused.
+/// not below `until`, and those of keys below `from`, are passed one by one. No value is read. It
+/// never waits, takes no memory and is never refused.
 pub fn next<P: Pace>(
     words: &Words<P>,
     seat: &mut RawSeat,
@@ -47,15 +67,16 @@ pub fn next<P: Pace>(
     position: &mut u64,
     from: u64,
     until: Time,
-) -> Option<Entry>
+) -> Option<Passed>
     requires of { IsSeatOf words.now seat.old }
     requires held { seat.old.knows.view.held ≡ Some component }
     requires named { is_named component place ≡ true }
     requires stands { StandsFrom seat.old.knows place until from position.old }
     ensures of { IsSeatOf words.now seat.new }
     ensures looks { LooksAside seat.old.knows seat.new.knows }
-    ensures next { IsNextFrom (λ key. first_below (run_at seat.old.knows place) key until) from result }
-    ensures stands { StandsFrom seat.old.knows place until (behind from result) position.new }
+    ensures passed { IfSome result (IsPassed seat.new.knows component place) }
+    ensures next { IsNextFrom (λ key. first_below (run_at seat.old.knows place) key until) from (passed_entry seat.new.knows place result) }
+    ensures stands { StandsFrom seat.old.knows place until (behind from (passed_entry seat.new.knows place result)) position.new }
 {
     seat.show_invariant();
     let count = count(words, seat, component, place);
@@ -68,8 +89,37 @@ pub fn next<P: Pace>(
         }
         let spelled = part(words, seat, component, place, number, TIME);
         if spelled / 2 < until {
-            return Some(entry(words, seat, component, place, number, key, spelled));
+            return Some(Passed {
+                number,
+                key,
+                spelled,
+            });
         }
     }
     None
+}
+
+/// The value of an entry that was passed, which is no removal. It never waits, takes no memory and
+/// is never refused.
+pub fn value<P: Pace>(
+    words: &Words<P>,
+    seat: &mut RawSeat,
+    component: u64,
+    place: u64,
+    passed: &Passed,
+) -> Value
+    requires of { IsSeatOf words.now seat.old }
+    requires passed { IsPassed seat.old.knows component place passed.now }
+    requires sets { is_some (entry_in (row_of seat.old.knows) place passed.now.number).value ≡ true }
+    ensures of { IsSeatOf words.now seat.new }
+    ensures looks { LooksAside seat.old.knows seat.new.knows }
+    ensures told { (entry_in (row_of seat.old.knows) place passed.now.number).value ≡ Some result }
+{
+    let entry = passed.number;
+    let at = HeldEntry {
+        component,
+        place,
+        entry,
+    };
+    load_value(words, seat, &at)
 }

@@ -64,10 +64,10 @@ pub(crate) fn part<P: Pace>(
 
 /// An entry that is no removal, of a run of the component that the seat holds.
 #[derive(Clone, Copy)]
-struct HeldEntry {
-    component: u64,
-    place: u64,
-    entry: u64,
+pub(crate) struct HeldEntry {
+    pub(crate) component: u64,
+    pub(crate) place: u64,
+    pub(crate) entry: u64,
 }
 
 impl Load<RawSeat> for HeldEntry {

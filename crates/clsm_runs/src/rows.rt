@@ -1,74 +1,94 @@
 //! The sources of a merge, read by cursors.
 ghost use Rattle.std.specs.Prelude.{◌≡◌, ◌≢◌, ℕ, ◌<◌, ◌+◌, true, drop, length};
+ghost use Rattle.clsm_levels.specs.declared.entry.Entry.{Entry};
+ghost use Rattle.clsm_levels.specs.Version.{version_in};
 ghost use Rattle.clsm_law.specs.Places.{is_named};
+ghost use Rattle.clsm_words.specs.declared.known.Known.{Known};
 ghost use Rattle.clsm_levels.specs.Cursors.{HeadsOf, cursor_at, first_of, row_at};
 ghost use Rattle.clsm_words.specs.Plays.{IsSeatOf};
 ghost use Rattle.clsm_memtable.specs.Frozen.{IsFrozenBehind, IsGoing, epoch_row};
-ghost use Rattle.clsm_runs.specs.Outputs.{AreSources, IsNextOf, IsOneAhead, IsWalkedTo};
+ghost use Rattle.clsm_runs.specs.Outputs.{AreSources, IsNextOf, IsOneAhead, IsPlaceOfRow, IsTaken, IsWalkedTo};
 ghost use Rattle.clsm_words.specs.Changing.{Changes, NoWord};
 ghost use Rattle.clsm_runs.specs.Placing.{rows_of};
 ghost use Rattle.clsm_runs.specs.Searching.{run_at};
 
-use crate::sources::entry;
+use crate::sources::{value as entry_value, version};
 use clsm_law::{Word, level_one_place};
-use clsm_levels::{Cursor, Entry, is_to_level_one, least};
-use clsm_memtable::{FrozenWalk, next_write};
+use clsm_levels::{Cursor, Version, is_to_level_one, least};
+use clsm_memtable::{FrozenWalk, frozen_value, next_write};
+use clsm_model::Value;
 use clsm_words::{Pace, RawMerger, Words};
 
 /// A merge reads at most so many rows: the epoch's writes, three runs of level 0 and that of level
 /// 1.
 const ROWS: usize = 5;
 
-/// The entry with this number of the run at the place, if it has so many.
-fn entry_at<P: Pace>(
+/// An entry that a merge takes: it stands at this position of the row.
+#[derive(Clone, Copy)]
+pub(crate) struct Winner {
+    row: usize,
+    position: u64,
+    pub(crate) version: Version,
+}
+
+/// The entry with this number of the run at the place without its value, if it has so many.
+fn version_at<P: Pace>(
     words: &Words<P>,
     merger: &mut RawMerger,
     merges: u64,
     place: u64,
     number: u64,
-) -> Option<Entry>
+) -> Option<Version>
     requires of { IsSeatOf words.now merger.old }
     requires merging { IsFrozenBehind merger.old.knows merges }
     requires named { is_named merger.old.knows.merger.merged place ≡ true }
     requires there { place < 5 }
     ensures of { IsSeatOf words.now merger.new }
     ensures looks { Changes NoWord merger.old.knows merger.new.knows }
-    ensures head { result ≡ first_of (drop number (run_at merger.old.knows place)) }
+    ensures head { result ≡ version_in (first_of (drop number (run_at merger.old.knows place))) }
 {
     merger.show_invariant();
     let count = words.look_as_merger(merger, Word::Count(place));
     if number < count {
-        Some(entry(words, merger, place, number))
+        Some(version(words, merger, place, number))
     } else {
         None
     }
 }
 
-/// The entry at the position of a row behind the first, if it has so many: the runs stand in the
-/// order in which they are searched, where the merge writes level 1.
+/// The place of the run that is this row behind the first, if the merge reads runs: they stand in
+/// the order in which they are searched.
+fn place_of_row(merges: u64, row: usize) -> Option<u64>
+    requires inside { (0 < row) × (row < 5) }
+    ensures place { (k : Known) → k.merger.merged ≡ merges → IsPlaceOfRow k row result }
+{
+    if !is_to_level_one(merges) {
+        return None;
+    }
+    Some(if row < 4 {
+        3 - row as u64
+    } else {
+        level_one_place(merges)
+    })
+}
+
+/// The entry at the position of a row behind the first without its value, if it has so many.
 fn run_head<P: Pace>(
     words: &Words<P>,
     merger: &mut RawMerger,
     merges: u64,
     row: usize,
     position: u64,
-) -> Option<Entry>
+) -> Option<Version>
     requires of { IsSeatOf words.now merger.old }
     requires merging { IsFrozenBehind merger.old.knows merges }
     requires inside { (0 < row) × (row < 5) }
     ensures of { IsSeatOf words.now merger.new }
     ensures looks { Changes NoWord merger.old.knows merger.new.knows }
-    ensures head { result ≡ first_of (drop position (row_at (rows_of merger.old.knows) row)) }
+    ensures head { result ≡ version_in (first_of (drop position (row_at (rows_of merger.old.knows) row))) }
 {
-    if !is_to_level_one(merges) {
-        return None;
-    }
-    let place = if row < 4 {
-        3 - row as u64
-    } else {
-        level_one_place(merges)
-    };
-    entry_at(words, merger, merges, place, position)
+    let place = place_of_row(merges, row)?;
+    version_at(words, merger, merges, place, position)
 }
 
 /// A cursor at the position of a row behind the first.
@@ -85,7 +105,7 @@ fn run_cursor<P: Pace>(
     ensures of { IsSeatOf words.now merger.new }
     ensures looks { Changes NoWord merger.old.knows merger.new.knows }
     ensures position { result.position ≡ position }
-    ensures head { result.head ≡ first_of (drop position (row_at (rows_of merger.old.knows) row)) }
+    ensures head { result.head ≡ version_in (first_of (drop position (row_at (rows_of merger.old.knows) row))) }
 {
     let head = run_head(words, merger, merges, row, position);
     Cursor { position, head }
@@ -104,7 +124,7 @@ fn epoch_cursor<P: Pace>(
     ensures of { IsSeatOf words.now merger.new }
     ensures looks { Changes NoWord merger.old.knows merger.new.knows }
     ensures position { result.position ≡ position }
-    ensures head { result.head ≡ first_of (drop position (epoch_row merger.old.knows)) }
+    ensures head { result.head ≡ version_in (first_of (drop position (epoch_row merger.old.knows))) }
     ensures walked { IsWalkedTo merger.new.knows walk.new (position + 1) }
 {
     merger.show_invariant();
@@ -157,7 +177,7 @@ fn cursor_to<P: Pace>(
     ensures of { IsSeatOf words.now merger.new }
     ensures looks { Changes NoWord merger.old.knows merger.new.knows }
     ensures position { result.position ≡ position }
-    ensures head { result.head ≡ first_of (drop position (row_at (rows_of merger.old.knows) row)) }
+    ensures head { result.head ≡ version_in (first_of (drop position (row_at (rows_of merger.old.knows) row))) }
     ensures walked { row ≡ 0 → IsWalkedTo merger.new.knows walk.new (position + 1) }
     ensures stays { row ≢ 0 → walk.new ≡ walk.old }
 {
@@ -175,7 +195,7 @@ pub(crate) fn next<P: Pace>(
     merges: u64,
     walk: &mut FrozenWalk,
     cursors: &mut [Cursor],
-) -> Option<Entry>
+) -> Option<Winner>
     requires of { IsSeatOf words.now merger.old }
     requires merging { IsFrozenBehind merger.old.knows merges }
     requires sources { AreSources (rows_of merger.old.knows) }
@@ -190,10 +210,39 @@ pub(crate) fn next<P: Pace>(
     ensures ahead { IsOneAhead merger.new.knows walk.new cursors.new }
 {
     merger.show_invariant();
-    let Some((row, entry)) = least(cursors) else {
+    let Some((row, version)) = least(cursors) else {
         return None;
     };
-    let position = cursors[row].position + 1;
-    cursors[row] = cursor_to(words, merger, merges, walk, row, position);
-    Some(entry)
+    let position = cursors[row].position;
+    cursors[row] = cursor_to(words, merger, merges, walk, row, position + 1);
+    Some(Winner {
+        row,
+        position,
+        version,
+    })
+}
+
+/// The value of the entry that is taken: none where it is a removal. Of all that a merge reads,
+/// these values alone are read.
+pub(crate) fn value<P: Pace>(
+    words: &Words<P>,
+    merger: &mut RawMerger,
+    merges: u64,
+    winner: &Winner,
+) -> Option<Value>
+    requires of { IsSeatOf words.now merger.old }
+    requires merging { IsFrozenBehind merger.old.knows merges }
+    requires inside { winner.now.row < 5 }
+    requires there { (e : Entry) × IsTaken (rows_of merger.old.knows) winner.now e }
+    ensures of { IsSeatOf words.now merger.new }
+    ensures looks { Changes NoWord merger.old.knows merger.new.knows }
+    ensures told { (e : Entry) → IsTaken (rows_of merger.old.knows) winner.now e → result ≡ e.value }
+{
+    merger.show_invariant();
+    if winner.row == 0 {
+        return frozen_value(words, merger, &winner.version);
+    }
+    let place = place_of_row(merges, winner.row)?;
+    let removes = winner.version.is_removal;
+    entry_value(words, merger, place, winner.position, removes)
 }

@@ -2,6 +2,8 @@
 ghost use Rattle.std.specs.Prelude.{◌≡◌, ◌≢◌, ◌%◌, ◌<◌};
 ghost use Rattle.std.proofs.Common.{ap};
 ghost use Rattle.clsm_levels.specs.declared.entry.Entry.{Entry};
+ghost use Rattle.clsm_levels.specs.Entry.{is_removal};
+ghost use Rattle.clsm_levels.specs.Version.{version_of};
 ghost use Rattle.clsm_law.specs.Places.{entry_in};
 ghost use Rattle.clsm_words.specs.Knowing.{row_of};
 ghost use Rattle.clsm_words.specs.Plays.{IsSeatOf};
@@ -13,7 +15,8 @@ ghost use Rattle.clsm_runs.specs.Staying.{merged_entry_stays, merged_stays, merg
 
 use crate::reading::{KEY, LENGTH, TIME, VALUE};
 use clsm_law::Word;
-use clsm_levels::Entry;
+use clsm_levels::Version;
+use clsm_model::Value;
 use clsm_words::{Load, Pace, RawMerger, Words, load_value};
 
 /// One of the words of the entry.
@@ -61,29 +64,45 @@ impl Load<RawMerger> for MergedEntry {
     ghost looks_on = { λ words a b c first then. (then.0, changes_trans NoWord a.knows b.knows c.knows first.1 then.1) };
 }
 
-/// The entry with this number of the run at the place.
-pub(crate) fn entry<P: Pace>(
+/// The entry with this number of the run at the place, without its value.
+pub(crate) fn version<P: Pace>(
     words: &Words<P>,
     merger: &mut RawMerger,
     place: u64,
     entry: u64,
-) -> Entry
+) -> Version
     requires of { IsSeatOf words.now merger.old }
     requires has { IsMergedEntry merger.old.knows place entry }
     ensures of { IsSeatOf words.now merger.new }
     ensures looks { Changes NoWord merger.old.knows merger.new.knows }
-    ensures told { result ≡ entry_in (row_of merger.old.knows) place entry }
+    ensures told { result ≡ version_of (entry_in (row_of merger.old.knows) place entry) }
 {
     let key = part(words, merger, place, entry, KEY);
     let spelled = part(words, merger, place, entry, TIME);
-    let time = spelled / 2;
-    if spelled % 2 == 1 {
-        return Entry {
-            key,
-            time,
-            value: None,
-        };
+    Version {
+        key,
+        time: spelled / 2,
+        is_removal: spelled % 2 == 1,
     }
-    let value = Some(load_value(words, merger, &MergedEntry { place, entry }));
-    Entry { key, time, value }
+}
+
+/// Its value: none where it is a removal.
+pub(crate) fn value<P: Pace>(
+    words: &Words<P>,
+    merger: &mut RawMerger,
+    place: u64,
+    entry: u64,
+    removes: bool,
+) -> Option<Value>
+    requires of { IsSeatOf words.now merger.old }
+    requires has { IsMergedEntry merger.old.knows place entry }
+    requires removes { is_removal (entry_in (row_of merger.old.knows) place entry) ≡ removes }
+    ensures of { IsSeatOf words.now merger.new }
+    ensures looks { Changes NoWord merger.old.knows merger.new.knows }
+    ensures told { result ≡ (entry_in (row_of merger.old.knows) place entry).value }
+{
+    if removes {
+        return None;
+    }
+    Some(load_value(words, merger, &MergedEntry { place, entry }))
 }

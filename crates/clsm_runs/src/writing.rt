@@ -5,7 +5,7 @@ ghost use Rattle.clsm_law.specs.Places.{entry_in};
 ghost use Rattle.clsm_law.specs.Worlds.{is_canonical};
 ghost use Rattle.clsm_words.specs.Knowing.{row_of};
 ghost use Rattle.clsm_words.specs.Plays.{IsSeatOf};
-ghost use Rattle.clsm_words.specs.Changing.{Changes};
+ghost use Rattle.clsm_words.specs.Changing.{Changes, NoWord};
 ghost use Rattle.clsm_runs.specs.Placing.{MayWriteInto, IsOfEntry, IsPart, spelling, value_list};
 
 use crate::reading::{KEY, LENGTH, TIME, VALUE};
@@ -32,6 +32,43 @@ fn write_part<P: Pace>(
     words.write_run(merger, Word::Entry { place, entry, part }, word);
 }
 
+/// One of the words of the entry.
+fn part<P: Pace>(words: &Words<P>, merger: &mut RawMerger, place: u64, entry: u64, part: u64) -> u64
+    requires of { IsSeatOf words.now merger.old }
+    requires free { MayWriteInto merger.old.knows place entry }
+    requires inside { part < 11 }
+    ensures of { IsSeatOf words.now merger.new }
+    ensures looks { Changes NoWord merger.old.knows merger.new.knows }
+    ensures free { MayWriteInto merger.new.knows place entry }
+    ensures told { result ≡ row_of merger.old.knows (EntryWord place entry part) }
+    ensures still { result ≡ row_of merger.new.knows (EntryWord place entry part) }
+{
+    merger.show_invariant();
+    words.look_as_merger(merger, Word::Entry { place, entry, part })
+}
+
+/// Writes one of the words of the entry, unless it is there: a look costs less than a write.
+fn write_other<P: Pace>(
+    words: &Words<P>,
+    merger: &mut RawMerger,
+    place: u64,
+    entry: u64,
+    at: u64,
+    word: u64,
+)
+    requires of { IsSeatOf words.now merger.old }
+    requires free { MayWriteInto merger.old.knows place entry }
+    requires inside { at < 11 }
+    ensures of { IsSeatOf words.now merger.new }
+    ensures changes { Changes (IsPart place entry at) merger.old.knows merger.new.knows }
+    ensures made { row_of merger.new.knows (EntryWord place entry at) ≡ word }
+{
+    if part(words, merger, place, entry, at) == word {
+        return;
+    }
+    write_part(words, merger, place, entry, at, word);
+}
+
 /// Writes the words of the entry's value, and 0 behind them.
 fn write_words<P: Pace>(
     words: &Words<P>,
@@ -48,7 +85,7 @@ fn write_words<P: Pace>(
 {
     for index in 0..8_u64 {
         let word = value.get(index as usize).copied().unwrap_or(0);
-        write_part(words, merger, place, entry, VALUE + index, word);
+        write_other(words, merger, place, entry, VALUE + index, word);
     }
 }
 
@@ -89,7 +126,7 @@ pub(crate) fn write_entry<P: Pace>(
 {
     let value = words_of(entry);
     write_words(words, merger, place, number, value);
-    write_part(words, merger, place, number, LENGTH, value.len() as u64);
-    write_part(words, merger, place, number, TIME, spelling(entry));
-    write_part(words, merger, place, number, KEY, entry.key);
+    write_other(words, merger, place, number, LENGTH, value.len() as u64);
+    write_other(words, merger, place, number, TIME, spelling(entry));
+    write_other(words, merger, place, number, KEY, entry.key);
 }

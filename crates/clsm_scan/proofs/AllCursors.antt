@@ -1,5 +1,5 @@
 -- The cursors over a component's epochs and runs, as one.
-use Rattle.std.proofs.Common.{◌≡◌, ℕ, ◌+◌, ◌*◌, ◌^◌, ◌<◌, ◌≤◌, min, refl, ap, ◌∙◌, arith, add-mul, inl, inr, Option, Some, None}
+use Rattle.std.proofs.Common.{◌≡◌, ℕ, ◌+◌, ◌*◌, ◌^◌, ◌<◌, ◌≤◌, min, refl, ap, ◌∙◌, arith, add-mul, inl, inr, Option, Some, None, false}
 use Rattle.std.proofs.Math.Nat.{mul-le-mul_right, mul_comm}
 use Rattle.clsm_model.specs.History.{or_else}
 use Rattle.clsm_levels.specs.declared.entry.Entry.{Entry}
@@ -7,8 +7,8 @@ use Rattle.clsm_levels.specs.Run.{first_in_runs}
 use Rattle.clsm_law.specs.Worlds.{runs_of}
 use Rattle.clsm_words.specs.declared.known.Known.{Known}
 use Rattle.clsm_words.specs.Knowing.{row_of}
+use Rattle.clsm_scan.specs.declared.ahead.Ahead.{Ahead}
 use Rattle.clsm_scan.specs.declared.epoch_cursor.EpochCursor.{EpochCursor}
-use Rattle.clsm_scan.specs.declared.merged.Head.TheVariants.{Unread}
 use Rattle.clsm_scan.specs.declared.merged.Merged.{Merged}
 use Rattle.clsm_scan.specs.declared.run_cursor.RunCursor.{RunCursor}
 use Rattle.clsm_scan.specs.Ahead.{first_found}
@@ -18,14 +18,14 @@ use Rattle.clsm_scan.proofs.ComponentCursors.{one_over, run_found, run_over, run
 use Rattle.clsm_scan.proofs.EpochCursors.{epoch_found, epoch_over, epochs_found, over_epoch}
 
 abbrev pub AllRuns : Type 0
-AllRuns = Merged (Option RunCursor) (Merged (Option RunCursor) (Merged (Option RunCursor) RunCursor))
+AllRuns = Merged (Option (Ahead RunCursor)) (Merged (Option (Ahead RunCursor)) (Merged (Option (Ahead RunCursor)) (Ahead RunCursor)))
 
 abbrev pub AllSources : Type 0
-AllSources = Merged (Option EpochCursor) (Merged (Option EpochCursor) AllRuns)
+AllSources = Merged (Option (Ahead EpochCursor)) (Merged (Option (Ahead EpochCursor)) AllRuns)
 
--- two cursors, of which nothing was read ahead
+-- two cursors, of which nothing was read
 abbrev pub both : {A B : Type 0} → A → B → Merged A B
-both newer older = record { newer = newer; older = older; newer_head = Unread; older_head = Unread }
+both newer older = record { newer = newer; older = older; older_leads = false }
 
 -- all of them, where the epochs have these numbers and first times
 abbrev pub all_at : ℕ → ℕ → ℕ → ℕ → ℕ → ℕ → AllSources

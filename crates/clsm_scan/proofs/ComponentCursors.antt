@@ -12,33 +12,35 @@ use Rattle.clsm_words.specs.declared.known.Known.{Known}
 use Rattle.clsm_words.specs.Knowing.{row_of}
 use Rattle.clsm_runs.specs.Searching.{IsSearchable, run_at, runs_below}
 use Rattle.clsm_runs.proofs.NamedRuns.{names_one, names_zero}
+use Rattle.clsm_runs.specs.Passing.{IsPassed}
+use Rattle.clsm_scan.specs.declared.ahead.Ahead.{Ahead}
 use Rattle.clsm_scan.specs.declared.run_cursor.RunCursor.{RunCursor}
 use Rattle.clsm_scan.specs.Collected.{IsCollected}
 use Rattle.clsm_scan.specs.Optional.{If, found_in}
-use Rattle.clsm_scan.specs.Sources.{level_one_cursor, level_zero_cursor}
+use Rattle.clsm_scan.specs.Sources.{level_one_cursor, level_zero_cursor, run_walk, unread}
 
 -- what a cursor over a run finds, and that it is over one
-abbrev pub run_found : Known → RunCursor → ℕ → Option Entry
-run_found k c key = first_below (run_at k c.place) key c.until
+abbrev pub run_found : Known → Ahead RunCursor → ℕ → Option Entry
+run_found k c key = first_below (run_at k c.walk.place) key c.walk.until
 
-abbrev pub run_over : Known → RunCursor → Type 0
-run_over k c = IsSearchable k c.component c.place
+abbrev pub run_over : Known → Ahead RunCursor → Type 0
+run_over k c = IsSearchable k c.walk.component c.walk.place × If (IsPassed k c.walk.component c.walk.place) c.walk.last
 
 module _ (k : Known) (component until : ℕ) where
   pub zero_over : (place : ℕ) → k.view.held ≡ Some component → If (run_over k) (level_zero_cursor component place until)
-  zero_over place held = elim (nat_lt place (component % 4)) as (λ (b : Bool). nat_lt place (component % 4) ≡ b → If (run_over k) (cond b (Some (record { component = component; place = place; until = until; position = 0 })) None)) [
-    | true ↦ λ is. record { held = held; named = names_zero component place (ltb-true place (component % 4) is) }
+  zero_over place held = elim (nat_lt place (component % 4)) as (λ (b : Bool). nat_lt place (component % 4) ≡ b → If (run_over k) (cond b (Some (unread (run_walk component place until))) None)) [
+    | true ↦ λ is. (record { held = held; named = names_zero component place (ltb-true place (component % 4) is) }, tt)
     | false ↦ λ is. tt
   ] refl
 
   pub one_over : k.view.held ≡ Some component → run_over k (level_one_cursor component until)
-  one_over held = record { held = held; named = names_one component }
+  one_over held = (record { held = held; named = names_one component }, tt)
 
   abbrev zero_finds : ℕ → ℕ → ℕ → Option Entry
   zero_finds j place key = cond (nat_lt place j) (first_below (run_at k place) key until) None
 
   zero_found : (place key : ℕ) → found_in (run_found k) (level_zero_cursor component place until) key ≡ zero_finds (component % 4) place key
-  zero_found place key = elim (nat_lt place (component % 4)) as (λ (b : Bool). found_in (run_found k) (cond b (Some (record { component = component; place = place; until = until; position = 0 })) None) key ≡ cond b (first_below (run_at k place) key until) None) [ true ↦ refl | false ↦ refl ]
+  zero_found place key = elim (nat_lt place (component % 4)) as (λ (b : Bool). found_in (run_found k) (cond b (Some (unread (run_walk component place until))) None) key ≡ cond b (first_below (run_at k place) key until) None) [ true ↦ refl | false ↦ refl ]
 
   abbrev one_finds : ℕ → Option Entry
   one_finds key = first_below (run_at k (3 + component / 4 % 2)) key until

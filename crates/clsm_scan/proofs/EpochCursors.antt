@@ -1,5 +1,5 @@
 -- The cursors over a component's two epochs find together what a search of all its writes finds.
-use Rattle.std.proofs.Common.{◌≡◌, ℕ, zero, suc, ◌+◌, ◌*◌, ◌<◌, ◌≤◌, ◌⊎◌, ◌++◌, Bool, cond, min, List, length, get_or, sym, ap, ◌∙◌, subst, arith, inl, inr, ⊎_elim, append_assoc, add-mul, Option, Some, None}
+use Rattle.std.proofs.Common.{◌≡◌, ℕ, zero, suc, ◌+◌, ◌*◌, ◌<◌, ◌≤◌, ◌⊎◌, ◌++◌, Bool, cond, min, List, length, get_or, sym, ap, ◌∙◌, subst, arith, inl, inr, ⊎_elim, append_assoc, add-mul, refl, Option, Some, None}
 use Rattle.std.proofs.lemmas.Bool.{cases_lt, lt-ltb, le-ltb}
 use Rattle.clsm_model.specs.declared.slot.Slot.{Slot}
 use Rattle.clsm_model.specs.declared.slot.Slot.TheVariants.{Nothing}
@@ -10,17 +10,24 @@ use Rattle.clsm_levels.proofs.Histories.{entries_below, entries_more, entries_no
 use Rattle.clsm_levels.proofs.Searches.{first_below-above, first_below-append}
 use Rattle.clsm_words.specs.declared.known.Known.{Known}
 use Rattle.clsm_words.specs.Knowing.{IsHeldEpoch}
-use Rattle.clsm_memtable.specs.Ordering.{MayWalk, found_in_epoch}
+use Rattle.clsm_levels.specs.Yields.{IsNextFrom}
+use Rattle.clsm_words.specs.declared.known.Spot.{Spot}
+use Rattle.clsm_memtable.specs.declared.ordering.Epoch.{Epoch}
+use Rattle.clsm_memtable.specs.Ordering.{IsNewestFrom, MayWalk, found_in_epoch, time_at}
+use Rattle.clsm_memtable.specs.Searching.{slot_in, value_in}
+use Rattle.clsm_memtable.proofs.EpochWrites.{next_none, next_some}
+use Rattle.clsm_scan.specs.declared.ahead.Ahead.{Ahead}
 use Rattle.clsm_scan.specs.declared.epoch_cursor.EpochCursor.{EpochCursor}
 use Rattle.clsm_scan.specs.Optional.{If, found_in}
-use Rattle.clsm_scan.specs.Sources.{MayScan, epoch_cursor}
+use Rattle.clsm_scan.specs.Sources.{MayScan, epoch_cursor, unread}
+use Rattle.clsm_scan.specs.Walking.{IsWriteAt, spot_entry}
 
 -- what a cursor over an epoch finds, and that it is over one
-abbrev pub epoch_found : Known → EpochCursor → ℕ → Option Entry
-epoch_found k c key = found_in_epoch k c.epoch key
+abbrev pub epoch_found : Known → Ahead EpochCursor → ℕ → Option Entry
+epoch_found k c key = found_in_epoch k c.walk.epoch key
 
-abbrev pub epoch_over : Known → EpochCursor → Type 0
-epoch_over k c = MayWalk k c.epoch
+abbrev pub epoch_over : Known → Ahead EpochCursor → Type 0
+epoch_over k c = MayWalk k c.walk.epoch × If (IsWriteAt k c.walk.epoch) c.walk.last
 
 -- ---- writes from one time to another, split at a time between
 
@@ -55,22 +62,25 @@ module _ (k : Known) (component until number first : ℕ) where
   abbrev cells : ℕ
   cells = k.layout.cells
 
-  abbrev cursor : Option EpochCursor
+  abbrev cursor : Option (Ahead EpochCursor)
   cursor = epoch_cursor component number first cells until
 
-  abbrev begun : EpochCursor
-  begun = record { epoch = record { component = component; number = number; first = first; until = min until (first + cells) }; ahead = None }
+  abbrev begun : Ahead EpochCursor
+  begun = unread (record { epoch = record { component = component; number = number; first = first; until = min until (first + cells) }; ahead = None; last = None })
 
   pub over_epoch : MayScan k component until → (first < until → (first ≡ number * cells) × ((number ≡ component) ⊎ (number ≡ component + 1))) → If (epoch_over k) cursor
   over_epoch may is = elim (cases_lt first until) [
-    | inl lt ↦ subst (λ (b : Bool). If (epoch_over k) (cond b (Some begun) None)) (sym (lt-ltb first until lt)) (record {
-      held = may.held;
-      walked = subst (λ (o : Option ℕ). IsHeldEpoch k.layout o (length k.past) number) (sym may.held) (⊎_elim (λ (same : number ≡ component). inl same)
-          (λ (next : number ≡ component + 1). inr (next, let at = (is lt).0 in let settled = may.settled in omega arith)) (is lt).1);
-      begins = (is lt).0;
-      within = omega arith;
-      settled = let settled = may.settled in omega arith;
-    })
+    | inl lt ↦ subst (λ (b : Bool). If (epoch_over k) (cond b (Some begun) None)) (sym (lt-ltb first until lt)) (
+      record {
+        held = may.held;
+        walked = subst (λ (o : Option ℕ). IsHeldEpoch k.layout o (length k.past) number) (sym may.held) (⊎_elim (λ (same : number ≡ component). inl same)
+            (λ (next : number ≡ component + 1). inr (next, let at = (is lt).0 in let settled = may.settled in omega arith)) (is lt).1);
+        begins = (is lt).0;
+        within = omega arith;
+        settled = let settled = may.settled in omega arith;
+      },
+      tt,
+    )
     | inr ge ↦ subst (λ (b : Bool). If (epoch_over k) (cond b (Some begun) None)) (sym (le-ltb first until ge)) tt
   ]
 
@@ -117,3 +127,9 @@ module _ (k : Known) (component until later first second : ℕ) (may : MayScan k
               ∙ sym (found_split k.past from border key until (omega arith) (omega arith))
         ]
   ]
+
+-- ---- what a walk comes by is the next of the epoch's writes
+
+pub newest_next : (k : Known) (e : Epoch) (from : ℕ) (o : Option Spot) → IsNewestFrom k e from o → IsNextFrom (found_in_epoch k e) from (spot_entry k e o)
+newest_next k e from None newest = next_none k e from newest
+newest_next k e from (Some spot) newest = next_some k e from spot (record { key = spot.key; time = time_at k e spot.place; value = value_in (slot_in k (time_at k e spot.place)) }) newest refl refl refl

@@ -1,4 +1,3 @@
-pub mod Turns
 pub mod Rows
 pub mod ComponentCursors
 pub mod EpochCursors

@@ -1,15 +1,16 @@
 -- The rows of a scan, one after another.
-use Rattle.std.proofs.Common.{◌≡◌, ℕ, ◌+◌, ◌<◌, ◌≤◌, ◌==◌, true, false, List, [], ◌∷◌, ◌++◌, length, nat_eq, true≢false, Option, Some, None, refl, sym, ap, ◌∙◌, subst, arith, inl, inr}
-use Rattle.std.proofs.lemmas.Bool.{cases_lt}
+use Rattle.std.proofs.Common.{◌≡◌, ℕ, ◌+◌, ◌<◌, ◌≤◌, ◌==◌, true, false, List, [], ◌∷◌, ◌++◌, length, is_some, true≢false, Option, Some, None, refl, sym, ap, ◌∙◌, subst, arith, inl, inr}
+use Rattle.std.proofs.lemmas.Bool.{cases_lt, le-leb, leb-true}
+use Rattle.std.proofs.lemmas.List.{length_push}
 use Rattle.std.proofs.lemmas.Bool.Decides.{nat_tests}
-use Rattle.std.specs.Option.{option_eq}
 use Rattle.clsm_model.specs.History.{or_else}
 use Rattle.clsm_model.proofs.Pages.{EachKey, each-append, each_weaker, or_none, rise-append, rise-cons, rise-nil, value_at-append}
 use Rattle.clsm_model.specs.Map.{KeysRise, Pair, value_at}
 use Rattle.clsm_levels.specs.declared.entry.Entry.{Entry}
 use Rattle.clsm_levels.specs.Entry.{value_of}
 use Rattle.clsm_levels.specs.Yields.{IsNextFrom}
-use Rattle.clsm_scan.specs.Collected.{AreAll, AreRowsTo, IsAtMost, IsNextRow, IsStopped, left_at}
+use Rattle.clsm_scan.specs.Collected.{AreAll, AreRowsTo, IsAtMost, IsHeadRow, IsNextRow, IsStopped, is_full, left_at}
+use Rattle.clsm_scan.specs.Heads.{has_value, key_of, row_of, rows_of}
 
 -- none of the keys from one on and below another has a value
 abbrev pub ArePassed : (ℕ → Option (List ℕ)) → ℕ → ℕ → Type 0
@@ -53,8 +54,45 @@ module _ (found found' : ℕ → Option Entry) (from sought : ℕ) (same : (k : 
     | inr here ↦ let at : k ≡ e.key = omega arith in ap (left_at found) at ∙ value_here e None next is
   ]
 
+  -- by what was read of a cursor: there is nothing more
+  pub no_key : (hi : ℕ) (head : Option Entry) → key_of head ≡ None → IsNextFrom found' sought head → IsNextRow (left_at found) from hi None
+  no_key hi None is next = none_left hi next
+  no_key hi (Some e) is next = absurd (cc is)
+
+  -- or the next key is past the last one
+  pub key_past : (hi key : ℕ) (head : Option Entry) → key_of head ≡ Some key → hi < key → IsNextFrom found' sought head → IsNextRow (left_at found) from hi None
+  key_past hi key None is lt next = absurd (cc is)
+  key_past hi key (Some e) is lt next = let at : e.key ≡ key = cc is in none_before hi e next (omega arith)
+
+  head_here : (hi key : ℕ) (e : Entry) (written : Option (List ℕ)) → e.key ≡ key → e.value ≡ written → is_some written ≡ true → from ≤ sought → key ≤ hi → IsNextFrom found' sought (Some e) → IsHeadRow (left_at found) from hi (Some e) key
+  head_here hi key e None at is some le until next = absurd (true≢false (sym some))
+  head_here hi key e (Some words) at is some le until next = record {
+    words = words;
+    is = (λ i. row_of (at i) (is i));
+    has = ap (λ (v : Option (List ℕ)). is_some v) is;
+    next = subst (λ (n : ℕ). IsNextRow (left_at found) from hi (Some (n, words))) at (row_here hi e words next le (omega arith) is);
+  }
+
+  -- or it has a value
+  pub key_found : (hi key : ℕ) (head : Option Entry) → key_of head ≡ Some key → has_value head ≡ true → from ≤ sought → key ≤ hi → IsNextFrom found' sought head → IsHeadRow (left_at found) from hi head key
+  key_found hi key None is has le until next = absurd (cc is)
+  key_found hi key (Some e) is has le until next = head_here hi key e e.value (cc is) refl has le until next
+
+  removed_here : (e : Entry) (written : Option (List ℕ)) → e.value ≡ written → is_some written ≡ false → IsNextFrom found' sought (Some e) → ArePassed (left_at found) from (e.key + 1)
+  removed_here e None is none next = pass_removal e next is
+  removed_here e (Some words) is none next = absurd (true≢false none)
+
+  -- or it has none, and is passed over
+  pub key_passed : (key : ℕ) (head : Option Entry) → key_of head ≡ Some key → has_value head ≡ false → IsNextFrom found' sought head → ArePassed (left_at found) from (key + 1)
+  key_passed key None is none next = absurd (cc is)
+  key_passed key (Some e) is none next = let at : e.key ≡ key = cc is in subst (λ (n : ℕ). ArePassed (left_at found) from (n + 1)) at (removed_here e e.value refl none next)
+
   pub none_at_end : (hi : ℕ) → hi < sought → IsNextRow (left_at found) from hi None
   none_at_end hi lt = λ k le until. passed k le (omega arith)
+
+pub head_later : (found : ℕ → Option Entry) (from key : ℕ) (head : Option Entry) → key_of head ≡ Some key → IsNextFrom found from head → from ≤ key
+head_later found from key None is next = absurd (cc is)
+head_later found from key (Some e) is next = let at : e.key ≡ key = cc is in let le = next.0 in omega arith
 
 -- ---- one row more
 
@@ -134,15 +172,25 @@ pub next_row_same : (value value' : ℕ → Option (List ℕ)) (from hi : ℕ) (
 next_row_same value value' from hi None same next = λ k above below. sym (same k) ∙ next k above below
 next_row_same value value' from hi (Some row) same next = (next.0, next.1, sym (same row.0) ∙ next.2, λ k above below. sym (same k) ∙ next.3 k above below)
 
--- so many are not the most: one more is not too many
-pub one_more : (max : Option ℕ) (n : ℕ) → option_eq nat_eq max (Some n) ≡ false → IsAtMost n max → IsAtMost (n + 1) max
-one_more None n other most = tt
-one_more (Some m) n other most = grind (arith, nat_tests)
+-- where there are not as many as may be, one more is not too many
+pub not_full : (max : Option ℕ) (n : ℕ) → is_full max n ≡ false → IsAtMost (n + 1) max
+not_full None n not = tt
+not_full (Some m) n not = elim (cases_lt n m) [
+  | inl lt ↦ omega arith
+  | inr le ↦ absurd (true≢false (sym (le-leb m n le) ∙ not))
+]
 
-pub option_equal : (max : Option ℕ) (n : ℕ) → option_eq nat_eq max (Some n) ≡ true → max ≡ Some n
-option_equal None n same = absurd (true≢false (sym same))
-option_equal (Some m) n same = grind (arith, nat_tests)
+pub most_pushed : (max : Option ℕ) (old new : List Pair) (row : Pair) → new ≡ old ++ row ∷ [] → is_full max (length old) ≡ false → IsAtMost (length new) max
+most_pushed max old new row put not =
+    let long : length new ≡ length old + 1 = ap (λ (l : List Pair). length l) put ∙ length_push old row in
+    subst (λ (n : ℕ). IsAtMost n max) (sym long) (not_full max (length old) not)
 
+-- or there are just as many
+pub just_full : (max : Option ℕ) (n : ℕ) → is_full max n ≡ true → IsAtMost n max → max ≡ Some n
+just_full None n full most = absurd (true≢false (sym full))
+just_full (Some m) n full most = let le = leb-true m n full in let same : m ≡ n = omega arith in ap (λ (i : ℕ). Some i) same
+
+-- none are not too many
 pub none_at_most : (max : Option ℕ) → IsAtMost 0 max
 none_at_most None = tt
 none_at_most (Some m) = omega arith

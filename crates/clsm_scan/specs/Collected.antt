@@ -1,9 +1,10 @@
 -- The rows that a scan or a page collects, and where it stopped.
-use Rattle.std.specs.Prelude.{◌≡◌, ℕ, ◌+◌, ◌<◌, ◌≤◌, List, length, Option, Some, None}
+use Rattle.std.specs.Prelude.{◌≡◌, ℕ, ◌<◌, ◌≤◌, Bool, true, false, nat_le, List, [], ◌∷◌, ◌++◌, length, Option, Some, None}
 use Rattle.std.specs.List.{AllByRecursion}
 use Rattle.clsm_model.specs.Map.{KeysRise, Pair, value_at}
 use Rattle.clsm_levels.specs.declared.entry.Entry.{Entry}
 use Rattle.clsm_levels.specs.Entry.{value_of}
+use Rattle.clsm_scan.specs.Heads.{has_value, rows_of}
 
 -- the value that the newest write of each key left, where `found` gives that write
 abbrev pub left_at : (ℕ → Option Entry) → ℕ → Option (List ℕ)
@@ -14,10 +15,22 @@ abbrev pub IsNextRow : (ℕ → Option (List ℕ)) → ℕ → ℕ → Option Pa
 IsNextRow value from hi None = (k : ℕ) → from ≤ k → k ≤ hi → value k ≡ None
 IsNextRow value from hi (Some row) = (from ≤ row.0) × (row.0 ≤ hi) × (value row.0 ≡ Some row.1) × ((k : ℕ) → from ≤ k → k < row.0 → value k ≡ None)
 
--- the key behind the row
-abbrev pub past_row : ℕ → Option Pair → ℕ
-past_row from None = from
-past_row from (Some row) = row.0 + 1
+-- the head of a cursor is that row, and this is its key
+pub record IsHeadRow (value : ℕ → Option (List ℕ)) (from hi : ℕ) (head : Option Entry) (key : ℕ) : Type 0 where
+  pub words : List ℕ
+  pub is : rows_of head ≡ (key, words) ∷ []
+  pub has : has_value head ≡ true
+  pub next : IsNextRow value from hi (Some (key, words))
+
+-- so it is, or there is no next row
+abbrev pub IsNextKey : (ℕ → Option (List ℕ)) → ℕ → ℕ → Option Entry → Option ℕ → Type 0
+IsNextKey value from hi head None = IsNextRow value from hi None
+IsNextKey value from hi head (Some key) = IsHeadRow value from hi head key
+
+-- so many are as many as may be
+abbrev pub is_full : Option ℕ → ℕ → Bool
+is_full None n = false
+is_full (Some max) n = nat_le max n
 
 -- the rows are all keys from `lo` on and below `end` that have a value, by rising key
 pub record AreRowsTo (value : ℕ → Option (List ℕ)) (lo end : ℕ) (rows : List Pair) : Type 0 where

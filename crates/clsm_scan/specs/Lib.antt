@@ -1,4 +1,6 @@
+pub mod Heads
 pub mod Ahead
+pub mod AheadLaws
 pub mod MergedLaws
 pub mod Collected
 pub mod Optional

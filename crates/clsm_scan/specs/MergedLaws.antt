@@ -1,30 +1,51 @@
--- What was read ahead of a cursor stays so.
-use Rattle.std.specs.Prelude.{◌≡◌, ℕ, ◌+◌, ◌≤◌, Option, Some, None}
-use Rattle.std.proofs.Common.{ap, ◌∙◌, arith}
+-- What two cursors are as one.
+use Rattle.std.specs.Prelude.{◌≡◌, ℕ, ◌<◌, ◌≤◌, Bool, true, false, cond, Option, Some, None}
+use Rattle.std.proofs.Common.{ap, ◌∙◌, arith, inl, inr, refl, subst, sym}
+use Rattle.std.proofs.lemmas.Bool.{cases_lt, le-ltb, lt-ltb}
 use Rattle.clsm_levels.specs.declared.entry.Entry.{Entry}
-use Rattle.clsm_levels.specs.Yields.{IsNextFrom}
 use Rattle.clsm_model.specs.History.{or_else}
-use Rattle.clsm_scan.specs.declared.merged.Head.{Head}
-use Rattle.clsm_scan.specs.declared.merged.Head.TheVariants.{Read, Unread}
-use Rattle.clsm_scan.specs.Ahead.{IsAhead, first_found}
-
-pub next_same : (found found' : ℕ → Option Entry) (from : ℕ) (o : Option Entry) → ((k : ℕ) → found' k ≡ found k) → IsNextFrom found from o → IsNextFrom found' from o
-next_same found found' from None same next = λ k le. same k ∙ next k le
-next_same found found' from (Some e) same next = (next.0, same e.key ∙ next.1, λ k le lt. same k ∙ next.2 k le lt)
-
-pub ahead_stays : (found found' : ℕ → Option Entry) (stands stands' : ℕ → Type 0) (from : ℕ) (head : Head) → ((k : ℕ) → found' k ≡ found k) → ((i : ℕ) → stands i → stands' i) → IsAhead found stands from head → IsAhead found' stands' from head
-ahead_stays found found' stands stands' from Unread same stays ahead = stays from ahead
-ahead_stays found found' stands stands' from (Read None) same stays ahead = (stays from ahead.0, next_same found found' from None same ahead.1)
-ahead_stays found found' stands stands' from (Read (Some e)) same stays ahead = (stays (e.key + 1) ahead.0, λ le. next_same found found' from (Some e) same (ahead.1 le))
-
-pub ahead_later : (found : ℕ → Option Entry) (stands : ℕ → Type 0) (from later : ℕ) (head : Head) → from ≤ later → ((i j : ℕ) → i ≤ j → stands i → stands j) → IsAhead found stands from head → IsAhead found stands later head
-ahead_later found stands from later Unread le rises ahead = rises from later le ahead
-ahead_later found stands from later (Read None) le rises ahead = (rises from later le ahead.0, λ k from_later. ahead.1 k (omega arith))
-ahead_later found stands from later (Read (Some e)) le rises ahead = (
-  ahead.0,
-  λ (here : later ≤ e.key).
-      let next = ahead.1 (omega arith) in (here, next.1, λ k from_later lt. next.2 k (omega arith) lt),
-)
+use Rattle.clsm_levels.specs.Yields.{IsNextFrom}
+use Rattle.clsm_scan.specs.Ahead.{first_found}
+use Rattle.clsm_scan.specs.Heads.{is_older, key_of}
 
 pub first_same : (found found' other other' : ℕ → Option Entry) (k : ℕ) → found' k ≡ found k → other' k ≡ other k → first_found found' other' k ≡ first_found found other k
 first_same found found' other other' k e e' = ap (λ (o : Option Entry). or_else o (other' k)) e ∙ ap (or_else (found k)) e'
+
+pub lead_same : {newer newer' older older' : Option Entry} (leads : Bool) → newer' ≡ newer → older' ≡ older → cond leads older' newer' ≡ cond leads older newer
+lead_same true e e' = e'
+lead_same false e e' = e
+
+-- both find nothing at the key
+none_found : (found found' : ℕ → Option Entry) (k : ℕ) → found k ≡ None → found' k ≡ None → first_found found found' k ≡ None
+none_found found found' k e e' = ap (λ (o : Option Entry). or_else o (found' k)) e ∙ e'
+
+-- the newer's entry comes first
+newer_next : (found found' : ℕ → Option Entry) (from : ℕ) (e : Entry) → IsNextFrom found from (Some e) → ((k : ℕ) → from ≤ k → k < e.key → found' k ≡ None) → IsNextFrom (first_found found found') from (Some e)
+newer_next found found' from e next none = (
+  next.0,
+  ap (λ (o : Option Entry). or_else o (found' e.key)) next.1,
+  λ k le lt. none_found found found' k (next.2 k le lt) (none k le lt),
+)
+
+-- or the older's
+older_next : (found found' : ℕ → Option Entry) (from : ℕ) (e : Entry) → IsNextFrom found' from (Some e) → ((k : ℕ) → from ≤ k → k ≤ e.key → found k ≡ None) → IsNextFrom (first_found found found') from (Some e)
+older_next found found' from e next none = (
+  next.0,
+  ap (λ (o : Option Entry). or_else o (found' e.key)) (none e.key next.0 (omega arith)) ∙ next.1,
+  λ k le lt. none_found found found' k (none k le (omega arith)) (next.2 k le lt),
+)
+
+-- what comes first of both
+pub lead_next : (found found' : ℕ → Option Entry) (from : ℕ) (one other : Option Entry) → IsNextFrom found from one → IsNextFrom found' from other → IsNextFrom (first_found found found') from (cond (is_older (key_of one) (key_of other)) other one)
+lead_next found found' from None None next next' = λ k le. none_found found found' k (next k le) (next' k le)
+lead_next found found' from (Some e) None next next' = newer_next found found' from e next (λ k le lt. next' k le)
+lead_next found found' from None (Some e) next next' = older_next found found' from e next' (λ k le lt. next k le)
+lead_next found found' from (Some e) (Some e') next next' = elim (cases_lt e'.key e.key) [
+  | inl lt ↦ subst (λ (b : Bool). IsNextFrom (first_found found found') from (cond b (Some e') (Some e))) (sym (lt-ltb e'.key e.key lt)) (older_next found found' from e' next' (λ k le le'. next.2 k le (omega arith)))
+  | inr le ↦ subst (λ (b : Bool). IsNextFrom (first_found found found') from (cond b (Some e') (Some e))) (sym (le-ltb e'.key e.key le)) (newer_next found found' from e next (λ k from' lt. next'.2 k from' (omega arith)))
+]
+
+-- and its key
+pub lead_key : (leads : Bool) (one other : Option Entry) → cond leads (key_of other) (key_of one) ≡ key_of (cond leads other one)
+lead_key true one other = refl
+lead_key false one other = refl

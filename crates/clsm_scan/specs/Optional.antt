@@ -7,6 +7,11 @@ abbrev pub found_in : {C : Type 0} → (C → ℕ → Option Entry) → Option C
 found_in found None key = None
 found_in found (Some c) key = found c key
 
+-- what was read of the cursor: nothing, where there is none
+abbrev pub head_in : {C : Type 0} → (C → Option Entry) → Option C → Option Entry
+head_in head None = None
+head_in head (Some c) = head c
+
 -- it holds of the cursor, if there is one
 abbrev pub If : {C : Type 0} → (C → Type 0) → Option C → Type 0
 If holds None = Unit {0}
@@ -25,3 +30,7 @@ if_both R P Q (Some c) each over holds = each c over holds
 pub found_same : {C : Type 0} (found found' : C → ℕ → Option Entry) (R : C → Type 0) (o : Option C) → ((c : C) → R c → (key : ℕ) → found' c key ≡ found c key) → If R o → (key : ℕ) → found_in found' o key ≡ found_in found o key
 found_same found found' R None each over key = refl
 found_same found found' R (Some c) each over key = each c over key
+
+pub head_same : {C : Type 0} (head head' : C → Option Entry) (R : C → Type 0) (o : Option C) → ((c : C) → R c → head' c ≡ head c) → If R o → head_in head' o ≡ head_in head o
+head_same head head' R None each over = refl
+head_same head head' R (Some c) each over = each c over

@@ -7,6 +7,8 @@ use Rattle.clsm_levels.specs.Run.{first_in_runs}
 use Rattle.clsm_law.specs.Worlds.{runs_of}
 use Rattle.clsm_words.specs.declared.known.Known.{Known}
 use Rattle.clsm_words.specs.Knowing.{row_of}
+use Rattle.clsm_scan.specs.declared.ahead.Ahead.{Ahead}
+use Rattle.clsm_scan.specs.declared.ahead.Head.TheVariants.{Unread}
 use Rattle.clsm_scan.specs.declared.epoch_cursor.EpochCursor.{EpochCursor}
 use Rattle.clsm_scan.specs.declared.run_cursor.RunCursor.{RunCursor}
 
@@ -23,14 +25,22 @@ pub record MayScan (k : Known) (component until : ℕ) : Type 0 where
   pub within : until ≤ (component + 2) * k.layout.cells
   pub settled : until ≤ length k.past
 
--- the cursor over an epoch, where it begins below `until`: for its writes below that
-abbrev pub epoch_cursor : ℕ → ℕ → ℕ → ℕ → ℕ → Option EpochCursor
-epoch_cursor component number first cells until = cond (nat_lt first until) (Some (record { epoch = record { component = component; number = number; first = first; until = min until (first + cells) }; ahead = None })) None
+-- the cursor over what the walk is along, of which nothing was read
+abbrev pub unread : {W : Type 0} → W → Ahead W
+unread walk = record { walk = walk; head = Unread }
 
--- the cursor at the beginning of the run at a place of level 0, where the component names it
-abbrev pub level_zero_cursor : ℕ → ℕ → ℕ → Option RunCursor
-level_zero_cursor component place until = cond (nat_lt place (component % 4)) (Some (record { component = component; place = place; until = until; position = 0 })) None
+-- the cursor over an epoch, where it begins below `until`: for its writes below that
+abbrev pub epoch_cursor : ℕ → ℕ → ℕ → ℕ → ℕ → Option (Ahead EpochCursor)
+epoch_cursor component number first cells until = cond (nat_lt first until) (Some (unread (record { epoch = record { component = component; number = number; first = first; until = min until (first + cells) }; ahead = None; last = None }))) None
+
+-- the walk at the beginning of the run at a place
+abbrev pub run_walk : ℕ → ℕ → ℕ → RunCursor
+run_walk component place until = record { component = component; place = place; until = until; position = 0; last = None }
+
+-- the cursor there, of a place of level 0, where the component names it
+abbrev pub level_zero_cursor : ℕ → ℕ → ℕ → Option (Ahead RunCursor)
+level_zero_cursor component place until = cond (nat_lt place (component % 4)) (Some (unread (run_walk component place until))) None
 
 -- that at the beginning of the run of level 1
-abbrev pub level_one_cursor : ℕ → ℕ → RunCursor
-level_one_cursor component until = record { component = component; place = 3 + component / 4 % 2; until = until; position = 0 }
+abbrev pub level_one_cursor : ℕ → ℕ → Ahead RunCursor
+level_one_cursor component until = unread (run_walk component (3 + component / 4 % 2) until)

@@ -1,13 +1,16 @@
 //! The rows of a range of keys, by a cursor.
-ghost use Rattle.std.specs.Prelude.{◌≡◌, ℕ, ◌+◌, ◌≤◌, ◌<◌, ◌++◌, ◌∷◌, [], IfOk, IfSome, OnOk, Some, length};
+ghost use Rattle.std.specs.Prelude.{◌≡◌, ℕ, ◌+◌, ◌∷◌, ◌++◌, [], IfOk, IfSome, OnOk};
 ghost use Rattle.clsm_words.specs.Keeping.{LooksAside};
 ghost use Rattle.clsm_words.specs.Plays.{IsSeatOf};
-ghost use Rattle.clsm_scan.specs.Collected.{IsCollected, IsNextRow, left_at, past_row};
+ghost use Rattle.clsm_scan.specs.Collected.{IsCollected, IsNextKey, is_full, left_at};
 
 use crate::cursor::Cursor;
 use clsm_model::{Memory, Value};
 use clsm_words::{Pace, RawSeat, Words};
 use std::alloc::Global;
+
+/// So many rows a scan has room for at first, where no number is given.
+const FEW: usize = 16;
 
 /// Rows by rising key, and the key of the next one, if the rows were stopped before it.
 #[derive(Drop)]
@@ -16,14 +19,26 @@ pub struct Collected {
     pub more: Option<u64>,
 }
 
-/// The next key from `from` to `hi` that has a value, with it. Removed keys are passed over.
-fn next_row<C: Cursor, P: Pace>(
+/// Puts the key with its value behind the rows. Refused for want of memory.
+#[inline(always)]
+pub(crate) fn push_row(rows: &mut Vec<(u64, Value)>, key: u64, value: Value) -> Result<(), Memory>
+    ensures { OnOk result (rows.new.items ≡ rows.old.items ++ (key, value) ∷ []) }
+{
+    match rows.push((key, value)) {
+        Ok(()) => Ok(()),
+        Err(_) => Err(Memory),
+    }
+}
+
+/// The next key from `from` to `hi` that has a value, if there is one: the cursor has read it, but
+/// not its value. Removed keys are passed over.
+fn next_key<C: Cursor, P: Pace>(
     words: &Words<P>,
     seat: &mut RawSeat,
     cursor: &mut C,
     from: u64,
     hi: u64,
-) -> Option<(u64, Value)>
+) -> Option<u64>
     requires of { IsSeatOf words.now seat.old }
     requires over { C.is_over seat.old.knows cursor.old }
     requires stands { C.stands seat.old.knows cursor.old from }
@@ -31,30 +46,40 @@ fn next_row<C: Cursor, P: Pace>(
     ensures looks { LooksAside seat.old.knows seat.new.knows }
     ensures over { C.is_over seat.new.knows cursor.new }
     ensures same { (k : ℕ) → C.found seat.new.knows cursor.new k ≡ C.found seat.old.knows cursor.old k }
-    ensures next { IsNextRow (left_at (C.found seat.old.knows cursor.old)) from hi result }
-    ensures stands { IfSome result (λ row. C.stands seat.new.knows cursor.new (row.0 + 1)) }
+    ensures next { IsNextKey (left_at (C.found seat.old.knows cursor.old)) from hi (C.head seat.new.knows cursor.new) result }
+    ensures stands { IfSome result (λ key. C.stands seat.new.knows cursor.new (key + 1)) }
 {
     let mut sought = from;
     while sought <= hi {
-        let entry = cursor.next(words, seat, sought)?;
-        if entry.key > hi {
+        let Some(key) = cursor.read(words, seat, sought) else {
+            return None;
+        };
+        if key > hi {
             return None;
         }
-        if let Some(value) = entry.value {
-            return Some((entry.key, value));
+        if cursor.has_value(words, seat) {
+            return Some(key);
         }
-        sought = entry.key.checked_add(1)?;
+        let Some(behind) = key.checked_add(1) else {
+            return None;
+        };
+        sought = behind;
     }
     None
 }
 
-/// Puts the row behind the others. Refused for want of memory.
-fn push_row(rows: &mut Vec<(u64, Value)>, row: (u64, Value)) -> Result<(), Memory>
-    ensures { OnOk result (rows.new.items ≡ rows.old.items ++ row ∷ []) }
+/// The rows for which memory is taken at once: as many as may come, or a few.
+fn first_room(max: Option<usize>) -> usize {
+    max.unwrap_or(FEW).min(FEW)
+}
+
+/// Whether there are as many rows as there may be.
+fn is_full(max: Option<usize>, count: usize) -> bool
+    ensures { result ≡ is_full max count }
 {
-    match rows.push(row) {
-        Ok(()) => Ok(()),
-        Err(_) => Err(Memory),
+    match max {
+        Some(max) => max <= count,
+        None => false,
     }
 }
 
@@ -76,15 +101,14 @@ pub fn collect<C: Cursor, P: Pace>(
     ensures looks { LooksAside seat.old.knows seat.new.knows }
     ensures rows { IfOk result (λ all. IsCollected (left_at (C.found seat.old.knows cursor.old)) lo hi max all.rows.items all.more) }
 {
-    let mut rows = Vec::new(alloc);
+    let mut rows = Vec::with_capacity(alloc, first_room(max))?;
     let mut from = lo;
-    while let Some(row) = next_row(words, seat, cursor, from, hi) {
-        let key = row.0;
-        if max == Some(rows.len()) {
+    while let Some(key) = next_key(words, seat, cursor, from, hi) {
+        if is_full(max, rows.len()) {
             let more = Some(key);
             return Ok(Collected { rows, more });
         }
-        push_row(&mut rows, row)?;
+        cursor.push(words, seat, &mut rows)?;
         let Some(behind) = key.checked_add(1) else {
             return Ok(Collected { rows, more: None });
         };

@@ -1,51 +1,101 @@
-//! A cursor over the ordered list of an epoch.
+//! A walk along the ordered list of an epoch.
 ghost use Rattle.std.specs.Prelude.{◌≡◌, None};
 ghost use Rattle.clsm_memtable.specs.Ordering.{MayWalk, StandsAt, found_in_epoch};
 ghost use Rattle.clsm_memtable.proofs.Orders.{walk_on};
-ghost use Rattle.clsm_scan.specs.Walking.{found_on, stands_later, stands_on};
+ghost use Rattle.clsm_memtable.specs.declared.ordering.Epoch.{Epoch};
+ghost use Rattle.clsm_words.specs.declared.known.Known.{Known};
+ghost use Rattle.clsm_scan.specs.Heads.{key_of};
+ghost use Rattle.clsm_scan.specs.Optional.{If, if_so};
+ghost use Rattle.clsm_scan.specs.Walking.{IsWriteAt, found_on, spot_entry, spot_same, stands_later, stands_on, write_on};
 
-use crate::cursor::Cursor;
-use clsm_levels::Entry;
-use clsm_memtable::{Epoch, next, seek};
+use crate::collecting::push_row;
+use crate::walk::Walk;
+use clsm_memtable::{Epoch, has_value, newest_from, seek, value};
+use clsm_model::{Memory, Value};
 use clsm_words::{Pace, RawSeat, Spot, Words};
 
-/// A cursor over an epoch of the held component.
+/// A walk along an epoch of the held component.
 #[derive(Clone, Copy)]
 pub struct EpochCursor {
     epoch: Epoch,
     /// The spot of the list from which it goes on, if there is one.
     ahead: Option<Spot>,
+    /// The spot of the write that it came by last, if there was one.
+    last: Option<Spot>,
 }
 
 impl EpochCursor {
-    /// The cursor over the epoch, which has to seek first.
+    /// The walk along the epoch, which has to seek first.
     pub fn new(epoch: Epoch) -> EpochCursor
-        ensures { result ≡ record { epoch = epoch; ahead = None } }
+        ensures { result ≡ record { epoch = epoch; ahead = None; last = None } }
     {
-        EpochCursor { epoch, ahead: None }
+        EpochCursor {
+            epoch,
+            ahead: None,
+            last: None,
+        }
     }
 }
 
-impl Cursor for EpochCursor {
-    ghost found = { λ k c key. found_in_epoch k c.epoch key };
+/// The key of the spot, if there is one.
+#[inline(always)]
+fn key_of(spot: &Option<Spot>) -> Option<u64>
+    ensures { (k : Known) (e : Epoch) → result ≡ key_of (spot_entry k e spot.now) }
+{
+    match spot {
+        Some(spot) => Some(spot.key),
+        None => None,
+    }
+}
 
-    ghost is_over = { λ k c. MayWalk k c.epoch };
+impl Walk for EpochCursor {
+    ghost found = { λ k w key. found_in_epoch k w.epoch key };
 
-    ghost stands = { λ k c from. StandsAt k c.epoch from c.ahead };
+    ghost is_over = { λ k w. MayWalk k w.epoch × If (IsWriteAt k w.epoch) w.last };
+
+    ghost stands = { λ k w from. StandsAt k w.epoch from w.ahead };
+
+    ghost last = { λ k w. spot_entry k w.epoch w.last };
 
     fn seek<P: Pace>(&mut self, words: &Words<P>, seat: &mut RawSeat, key: u64) {
         self.ahead = seek(words, seat, &self.epoch, key);
+        self.last = None;
     }
 
-    fn next<P: Pace>(&mut self, words: &Words<P>, seat: &mut RawSeat, from: u64) -> Option<Entry> {
-        next(words, seat, &self.epoch, &mut self.ahead, from)
+    #[inline(always)]
+    fn next<P: Pace>(&mut self, words: &Words<P>, seat: &mut RawSeat, from: u64) -> Option<u64> {
+        self.last = newest_from(words, seat, &self.epoch, &mut self.ahead, from);
+        key_of(&self.last)
     }
 
-    ghost over_stays = { λ k k' c looks over. walk_on k k' c.epoch looks.looks over };
+    #[inline(always)]
+    fn has_value<P: Pace>(&self, words: &Words<P>, seat: &mut RawSeat) -> bool {
+        match self.last {
+            Some(spot) => has_value(words, seat, &self.epoch, spot),
+            None => false,
+        }
+    }
 
-    ghost found_stays = { λ k k' c looks over key. found_on k k' c.epoch looks.looks key };
+    fn push<P: Pace>(
+        &self,
+        words: &Words<P>,
+        seat: &mut RawSeat,
+        rows: &mut Vec<(u64, Value)>,
+    ) -> Result<(), Memory> {
+        let Some(spot) = self.last else {
+            return Ok(());
+        };
+        let value = value(words, seat, &self.epoch, spot);
+        push_row(rows, spot.key, value)
+    }
 
-    ghost stands_stays = { λ k k' c from looks over stands. stands_on k k' c.epoch from c.ahead looks.looks over stands };
+    ghost over_stays = { λ k k' w looks over. (walk_on k k' w.epoch looks.looks over.0, if_so (IsWriteAt k w.epoch) (IsWriteAt k' w.epoch) w.last (λ spot. write_on k k' w.epoch spot looks.looks over.0) over.1) };
 
-    ghost stands_later = { λ k c from later le stands. stands_later k c.epoch from later c.ahead le stands };
+    ghost found_stays = { λ k k' w looks over key. found_on k k' w.epoch looks.looks key };
+
+    ghost stands_stays = { λ k k' w from looks over stands. stands_on k k' w.epoch from w.ahead looks.looks over.0 stands };
+
+    ghost stands_later = { λ k w from later le stands. stands_later k w.epoch from later w.ahead le stands };
+
+    ghost last_stays = { λ k k' w looks over. spot_same k k' w.epoch w.last looks.looks };
 }

@@ -1,6 +1,7 @@
 //! Scans: cursors over the epochs and the runs of a held component, merged by rising key.
 #![tactic(auto)]
 
+mod ahead;
 mod collecting;
 mod cursor;
 mod epoch_cursor;
@@ -8,10 +9,13 @@ mod merged;
 mod optional;
 mod run_cursor;
 mod scanning;
+mod walk;
 
+pub use ahead::{Ahead, Head};
 pub use collecting::{Collected, collect};
 pub use cursor::Cursor;
 pub use epoch_cursor::EpochCursor;
 pub use merged::Merged;
 pub use run_cursor::RunCursor;
 pub use scanning::scan;
+pub use walk::Walk;

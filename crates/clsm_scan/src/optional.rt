@@ -1,9 +1,9 @@
-//! A cursor that may be missing: it yields nothing then.
+//! A cursor that may be missing: nothing is read of it then.
 ghost use Rattle.std.specs.Prelude.{◌≡◌, None, Some};
-ghost use Rattle.clsm_scan.specs.Optional.{If, found_in, found_same, if_both, if_so};
+ghost use Rattle.clsm_scan.specs.Optional.{If, found_in, found_same, head_in, head_same, if_both, if_so};
 
 use crate::cursor::Cursor;
-use clsm_levels::Entry;
+use clsm_model::{Memory, Value};
 use clsm_words::{Pace, RawSeat, Words};
 
 impl<C: Cursor> Cursor for Option<C> {
@@ -13,16 +13,40 @@ impl<C: Cursor> Cursor for Option<C> {
 
     ghost stands = { λ k c from. If (λ cursor. C.stands k cursor from) c };
 
+    ghost head = { λ k c. head_in (C.head k) c };
+
     fn seek<P: Pace>(&mut self, words: &Words<P>, seat: &mut RawSeat, key: u64) {
         if let Some(cursor) = self {
             cursor.seek(words, seat, key);
         }
     }
 
-    fn next<P: Pace>(&mut self, words: &Words<P>, seat: &mut RawSeat, from: u64) -> Option<Entry> {
+    #[inline(always)]
+    fn read<P: Pace>(&mut self, words: &Words<P>, seat: &mut RawSeat, from: u64) -> Option<u64> {
         match self {
-            Some(cursor) => cursor.next(words, seat, from),
+            Some(cursor) => cursor.read(words, seat, from),
             None => None,
+        }
+    }
+
+    #[inline(always)]
+    fn has_value<P: Pace>(&self, words: &Words<P>, seat: &mut RawSeat) -> bool {
+        match self {
+            Some(cursor) => cursor.has_value(words, seat),
+            None => false,
+        }
+    }
+
+    #[inline(always)]
+    fn push<P: Pace>(
+        &self,
+        words: &Words<P>,
+        seat: &mut RawSeat,
+        rows: &mut Vec<(u64, Value)>,
+    ) -> Result<(), Memory> {
+        match self {
+            Some(cursor) => cursor.push(words, seat, rows),
+            None => Ok(()),
         }
     }
 
@@ -33,4 +57,6 @@ impl<C: Cursor> Cursor for Option<C> {
     ghost stands_stays = { λ k k' c from looks over stands. if_both (C.is_over k) (λ cursor. C.stands k cursor from) (λ cursor. C.stands k' cursor from) c (λ cursor. C.stands_stays k k' cursor from looks) over stands };
 
     ghost stands_later = { λ k c from later le stands. if_so (λ cursor. C.stands k cursor from) (λ cursor. C.stands k cursor later) c (λ cursor. C.stands_later k cursor from later le) stands };
+
+    ghost head_stays = { λ k k' c looks over. head_same (C.head k) (C.head k') (C.is_over k) c (λ cursor. C.head_stays k k' cursor looks) over };
 }

@@ -1,19 +1,24 @@
-//! A cursor over a run in the words.
-ghost use Rattle.std.specs.Prelude.{◌≡◌};
+//! A walk along a run in the words.
+ghost use Rattle.std.specs.Prelude.{◌≡◌, ℕ, IfSome, None};
 ghost use Rattle.std.proofs.Common.{ap, ◌∙◌};
 ghost use Rattle.clsm_levels.specs.Entry.{first_below};
 ghost use Rattle.clsm_law.specs.declared.view.View.{View};
+ghost use Rattle.clsm_runs.specs.Passing.{IsPassed, passed_entry};
 ghost use Rattle.clsm_runs.specs.Searching.{IsSearchable, StandsFrom, run_at};
 ghost use Rattle.clsm_runs.proofs.Looking.{run_stays};
 ghost use Rattle.clsm_runs.proofs.Standing.{stands_later, stands_stays};
+ghost use Rattle.clsm_words.specs.declared.known.Known.{Known};
+ghost use Rattle.clsm_scan.specs.Heads.{key_of};
+ghost use Rattle.clsm_scan.specs.Optional.{If, if_so};
+ghost use Rattle.clsm_scan.specs.Walking.{passed_on, passed_same, run_on};
 
-use crate::cursor::Cursor;
-use clsm_levels::Entry;
-use clsm_model::Time;
-use clsm_runs::{next, seek};
+use crate::collecting::push_row;
+use crate::walk::Walk;
+use clsm_model::{Memory, Time, Value};
+use clsm_runs::{Passed, next, seek, value};
 use clsm_words::{Pace, RawSeat, Words};
 
-/// A cursor over the run at a place that the held component names.
+/// A walk along the run at a place that the held component names.
 #[derive(Clone, Copy)]
 pub struct RunCursor {
     component: u64,
@@ -21,35 +26,53 @@ pub struct RunCursor {
     /// It yields versions below this time.
     until: Time,
     position: u64,
+    /// The entry that it came by last, if there was one.
+    last: Option<Passed>,
 }
 
 impl RunCursor {
-    /// The cursor at the run's beginning.
+    /// The walk at the run's beginning.
     pub fn new(component: u64, place: u64, until: Time) -> RunCursor
-        ensures { result ≡ record { component = component; place = place; until = until; position = 0 } }
+        ensures { result ≡ record { component = component; place = place; until = until; position = 0; last = None } }
     {
         RunCursor {
             component,
             place,
             until,
             position: 0,
+            last: None,
         }
     }
 }
 
-impl Cursor for RunCursor {
-    ghost found = { λ k c key. first_below (run_at k c.place) key c.until };
+/// The key of the entry, if there is one.
+#[inline(always)]
+fn key_of(passed: &Option<Passed>) -> Option<u64>
+    ensures { (k : Known) (component place : ℕ) → IfSome passed.now (IsPassed k component place) → result ≡ key_of (passed_entry k place passed.now) }
+{
+    match passed {
+        Some(passed) => Some(passed.key),
+        None => None,
+    }
+}
 
-    ghost is_over = { λ k c. IsSearchable k c.component c.place };
+impl Walk for RunCursor {
+    ghost found = { λ k w key. first_below (run_at k w.place) key w.until };
 
-    ghost stands = { λ k c from. StandsFrom k c.place c.until from c.position };
+    ghost is_over = { λ k w. IsSearchable k w.component w.place × If (IsPassed k w.component w.place) w.last };
+
+    ghost stands = { λ k w from. StandsFrom k w.place w.until from w.position };
+
+    ghost last = { λ k w. passed_entry k w.place w.last };
 
     fn seek<P: Pace>(&mut self, words: &Words<P>, seat: &mut RawSeat, key: u64) {
         self.position = seek(words, seat, self.component, self.place, key, self.until);
+        self.last = None;
     }
 
-    fn next<P: Pace>(&mut self, words: &Words<P>, seat: &mut RawSeat, from: u64) -> Option<Entry> {
-        next(
+    #[inline(always)]
+    fn next<P: Pace>(&mut self, words: &Words<P>, seat: &mut RawSeat, from: u64) -> Option<u64> {
+        self.last = next(
             words,
             seat,
             self.component,
@@ -57,14 +80,38 @@ impl Cursor for RunCursor {
             &mut self.position,
             from,
             self.until,
-        )
+        );
+        key_of(&self.last)
     }
 
-    ghost over_stays = { λ k k' c looks over. record { held = ap (λ (v : View). v.held) looks.looks.reads.view ∙ over.held; named = over.named } };
+    #[inline(always)]
+    fn has_value<P: Pace>(&self, _words: &Words<P>, _seat: &mut RawSeat) -> bool {
+        match self.last {
+            Some(passed) => passed.has_value(),
+            None => false,
+        }
+    }
 
-    ghost found_stays = { λ k k' c looks over key. ap (λ es. first_below es key c.until) (run_stays k k' c.component c.place looks.looks over) };
+    fn push<P: Pace>(
+        &self,
+        words: &Words<P>,
+        seat: &mut RawSeat,
+        rows: &mut Vec<(u64, Value)>,
+    ) -> Result<(), Memory> {
+        let Some(passed) = self.last else {
+            return Ok(());
+        };
+        let value = value(words, seat, self.component, self.place, &passed);
+        push_row(rows, passed.key, value)
+    }
 
-    ghost stands_stays = { λ k k' c from looks over stands. stands_stays k k' c.component c.place c.until from c.position looks.looks over stands };
+    ghost over_stays = { λ k k' w looks over. (run_on k k' w.component w.place looks.looks over.0, if_so (IsPassed k w.component w.place) (IsPassed k' w.component w.place) w.last (λ passed. passed_on k k' w.component w.place passed looks.looks) over.1) };
 
-    ghost stands_later = { λ k c from later le stands. stands_later k c.place c.until from later c.position le stands };
+    ghost found_stays = { λ k k' w looks over key. ap (λ es. first_below es key w.until) (run_stays k k' w.component w.place looks.looks over.0) };
+
+    ghost stands_stays = { λ k k' w from looks over stands. stands_stays k k' w.component w.place w.until from w.position looks.looks over.0 stands };
+
+    ghost stands_later = { λ k w from later le stands. stands_later k w.place w.until from later w.position le stands };
+
+    ghost last_stays = { λ k k' w looks over. passed_same k k' w.component w.place w.last looks.looks over.0 };
 }

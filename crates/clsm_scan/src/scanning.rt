@@ -6,6 +6,7 @@ ghost use Rattle.clsm_words.specs.Plays.{IsSeatOf};
 ghost use Rattle.clsm_scan.specs.Collected.{IsCollected, left_at};
 ghost use Rattle.clsm_scan.specs.Sources.{MayScan, epoch_cursor, found_in_component, level_zero_cursor};
 
+use crate::ahead::Ahead;
 use crate::collecting::{Collected, collect};
 use crate::cursor::Cursor;
 use crate::epoch_cursor::EpochCursor;
@@ -21,13 +22,13 @@ use std::alloc::Global;
 /// Cursors over the runs of a component, the newest first: those of level 0, as far as the
 /// component has them, and that of level 1.
 type Runs = Merged<
-    Option<RunCursor>,
-    Merged<Option<RunCursor>, Merged<Option<RunCursor>, RunCursor>>,
+    Option<Ahead<RunCursor>>,
+    Merged<Option<Ahead<RunCursor>>, Merged<Option<Ahead<RunCursor>>, Ahead<RunCursor>>>,
 >;
 
 /// Cursors over all of a component, the newest first: its later epoch and the one before, as far as
 /// they begin below the time of the scan, and its runs.
-type Sources = Merged<Option<EpochCursor>, Merged<Option<EpochCursor>, Runs>>;
+type Sources = Merged<Option<Ahead<EpochCursor>>, Merged<Option<Ahead<EpochCursor>>, Runs>>;
 
 /// The cursor over the epoch's writes below the time, if it begins below that.
 fn epoch_below(
@@ -36,27 +37,27 @@ fn epoch_below(
     first: Time,
     cells: u64,
     until: Time,
-) -> Option<EpochCursor>
+) -> Option<Ahead<EpochCursor>>
     ensures { result ≡ epoch_cursor component number first cells until }
 {
     if first < until {
-        Some(EpochCursor::new(Epoch {
+        Some(Ahead::new(EpochCursor::new(Epoch {
             component,
             number,
             first,
             until: until.min(first.saturating_add(cells)),
-        }))
+        })))
     } else {
         None
     }
 }
 
 /// The cursor over the run at the place of level 0, if the component names it.
-fn level_zero(component: u64, place: u64, until: Time) -> Option<RunCursor>
+fn level_zero(component: u64, place: u64, until: Time) -> Option<Ahead<RunCursor>>
     ensures { result ≡ level_zero_cursor component place until }
 {
     if place < level_zero_runs(component) {
-        Some(RunCursor::new(component, place, until))
+        Some(Ahead::new(RunCursor::new(component, place, until)))
     } else {
         None
     }
@@ -73,7 +74,7 @@ fn sources<P: Pace>(words: &Words<P>, component: u64, until: Time) -> Sources
     let later = component.saturating_add(1);
     let oldest = Merged::new(
         level_zero(component, 0, until),
-        RunCursor::new(component, level_one_place(component), until),
+        Ahead::new(RunCursor::new(component, level_one_place(component), until)),
     );
     let older = Merged::new(level_zero(component, 1, until), oldest);
     let runs = Merged::new(level_zero(component, 2, until), older);

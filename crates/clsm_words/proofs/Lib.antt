@@ -26,3 +26,4 @@ pub mod MergerTelling
 pub mod MergerAllowed
 pub mod MayMerge
 pub mod Changing
+pub mod Starts

@@ -5,3 +5,4 @@ pub mod Merging
 pub mod Ruled
 pub mod Plays
 pub mod Changing
+pub mod Starts

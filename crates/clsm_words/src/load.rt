@@ -49,8 +49,5 @@ pub fn load_value<S, L: Load<S>, P: Pace>(words: &Words<P>, seat: &mut S, at: &L
     for index in 0..count {
         read[index] = at.word(words, seat, index);
     }
-    match Value::new(&read[..count]) {
-        Ok(value) => value,
-        Err(_) => unreachable!(),
-    }
+    Value::of_padded(read, count)
 }

@@ -1,5 +1,6 @@
 ghost use Rattle.std.specs.Prelude.{◌≡◌, ◌*◌};
 ghost use Rattle.clsm_law.specs.Layout.{size_of};
+ghost use Rattle.clsm_words.specs.Starts.{starts_of};
 
 use crate::divisor::Divisors;
 use crate::known::Known;
@@ -27,8 +28,11 @@ pub struct WordTable {
     pub(crate) table: Table<u64, Known, Layout, Law, Global>,
     pub layout: Layout,
     pub(crate) divisors: Divisors,
+    /// Where each place begins.
+    pub(crate) starts: [u64; 5],
     pub ghost sized: { (table.shared.table_id.words ≡ size_of layout) × (table.shared.key ≡ layout) },
     pub ghost divided: { (divisors.region.by ≡ layout.cells) × (divisors.ring.by ≡ 2 * layout.cells) × (divisors.chains.by ≡ layout.chains) },
+    pub ghost started: { starts ≡ starts_of layout },
 }
 
 /// The words that the seats share, and the pace that is called before each step on them.

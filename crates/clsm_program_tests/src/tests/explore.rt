@@ -12,7 +12,7 @@ use std::test::Fail;
 const SCHEDULES: &[(&[&str], &str, &str)] = &[
     (
         &["--merge", "put 1 1", "get 1"],
-        "\rworlds 17643 ends 277 \n",
+        "\rworlds 18276 ends 289 \n",
         "0 0 put 1 1; 1 0 get 1 none\n0 0 put 1 1; 1 1 get 1 1\n0 0 put 1 1; 1 4 get 1 1\n\
          0 1 put 1 1; 1 1 get 1 none\n0 4 put 1 1; 1 0 get 1 none\n0 4 put 1 1; 1 4 get 1 none\n\
          0 4 put 1 1; 1 5 get 1 1\n0 5 put 1 1; 1 5 get 1 none\n",
@@ -28,7 +28,7 @@ const SCHEDULES: &[(&[&str], &str, &str)] = &[
     // whatever the merger does meanwhile, a seat reads what it put
     (
         &["--merge", "put 1 2;get 1"],
-        "\rworlds 1636 ends 110 \n",
+        "\rworlds 1683 ends 115 \n",
         "0 0 put 1 2; 0 1 get 1 2\n0 0 put 1 2; 0 4 get 1 2\n0 4 put 1 2; 0 5 get 1 2\n",
     ),
     // a snapshot has the writes below its time, and no others

@@ -37,7 +37,7 @@ impl Model for Alone {
     ghost invariant = { λ a. IsSeatOf a.words a.seat × IsAtRest a.seat.knows × (a.pin ≡ a.seat.knows.view.pin) × (open_time a.seat.knows.view.snapshot ≡ None) };
 }
 
-fn opened(rt: &impl Abort, alloc: Global) -> Alone {
+fn layout(rt: &impl Abort) -> Layout {
     let config = Config {
         cells: CELLS,
         seats: 1,
@@ -45,7 +45,11 @@ fn opened(rt: &impl Abort, alloc: Global) -> Alone {
         run: 4,
         patience: 0,
     };
-    let layout = Layout::new(config).expect(rt, "sizes in their ranges");
+    Layout::new(config).expect(rt, "sizes in their ranges")
+}
+
+fn opened(rt: &impl Abort, alloc: Global) -> Alone {
+    let layout = layout(rt);
     let (words, mut seats, _merger) = Words::new(alloc, &layout, Free).expect(rt, "memory");
     let seat = seats.pop().expect(rt, "a seat");
     Alone {

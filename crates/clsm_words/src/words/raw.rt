@@ -2,6 +2,7 @@
 //! runs.
 ghost use Rattle.std.specs.Prelude.{◌≡◌, ℕ, ◌+◌, ◌-◌, ◌%◌, ◌^◌, ◌<◌, ◌==◌, true, max};
 ghost use prog.Atomic.{either};
+ghost use Rattle.clsm_law.specs.declared.word.Word.TheVariants.{Count as CountWord};
 ghost use Rattle.clsm_law.specs.Memory.{is_word};
 ghost use Rattle.clsm_law.specs.Layout.{index_of, size_of};
 ghost use Rattle.clsm_law.specs.Relation.{changed};
@@ -13,13 +14,31 @@ use clsm_law::{Step, Word};
 use std::marker::Brand;
 
 impl WordTable {
+    /// Where the place begins, with its count.
+    #[inline(always)]
+    #[tactic(auto, using(crate::proofs::Starts::start_at, crate::proofs::Starts::start_inside))]
+    fn start_of(&self, place: u64) -> u64
+        requires { place < 5 }
+        ensures placed { result ≡ index_of self.now.layout (CountWord place) }
+        ensures inside { result < size_of self.now.layout }
+    {
+        self.starts[place as usize]
+    }
+
     /// Where the word stands.
     #[inline(always)]
     pub(super) fn place(&self, word: Word) -> usize
         requires { is_word self.now.layout word ≡ true }
         ensures { (result ≡ index_of self.now.layout word) × (result < size_of self.now.layout) }
     {
-        self.layout.index(word).unwrap()
+        match word {
+            Word::Count(place) => self.start_of(place) as usize,
+            Word::Entry { place, entry, part } => {
+                let start = self.start_of(place);
+                self.layout.entry_index(start, place, entry, part)
+            }
+            _ => self.layout.index_of(word),
+        }
     }
 
     #[inline(always)]

@@ -8,8 +8,8 @@ use Rattle.clsm_words.specs.Changing.{Changes}
 use Rattle.clsm_runs.specs.Placing.{IsOfPlace, rows_of}
 use Rattle.clsm_runs.proofs.merging.merge.Given as goal
 
-abbrev pub invariant-loop-entry : goal.invariant-loop-entry
-invariant-loop-entry g l = record {
+abbrev pub invariant-loop-winner : goal.invariant-loop-winner
+invariant-loop-winner g l = record {
   of : IsSeatOf l.words l.merger;
   changes : Changes (IsOfPlace (target_of l.fn.merger.knows.merger)) l.fn.merger.knows l.merger.knows;
   output : IsOutput l.merger.knows l.output;
@@ -20,5 +20,5 @@ invariant-loop-entry g l = record {
   left : LeavesOff l.merger.knows l.output (merged (rests (rows_of l.fn.merger.knows) l.cursors)) (kept_of l.fn.merger.knows l.floor);
 }
 
-abbrev pub decreases-loop-entry : goal.decreases-loop-entry
-decreases-loop-entry g l = length (merged (rests (rows_of l.fn.merger.knows) l.cursors))
+abbrev pub decreases-loop-winner : goal.decreases-loop-winner
+decreases-loop-winner g l = length (merged (rests (rows_of l.fn.merger.knows) l.cursors))

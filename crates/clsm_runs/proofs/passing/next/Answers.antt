@@ -7,7 +7,7 @@ use Rattle.clsm_words.specs.Knowing.{row_of}
 use Rattle.clsm_words.proofs.Keeps.{aside_trans}
 use Rattle.clsm_runs.specs.Searching.{IsSearchable, StandsFrom, run_at}
 use Rattle.clsm_runs.proofs.NamedRuns.{run_there}
-use Rattle.clsm_runs.specs.Staying.{entry_in_stays, place_stays}
+use Rattle.clsm_runs.specs.Staying.{entry_in_stays, has_stays, place_stays}
 use Rattle.clsm_runs.proofs.Standing.{passes, passes_taken, takes}
 use Rattle.clsm_runs.proofs.passing.next.Goals as goal
 
@@ -69,14 +69,20 @@ returns-then-spelled-until g c =
     let key = c.part-key.ensures.told ∙ same.words at 0 in
     let still = place_stays k first component place one.looks run in
     let spelled = c.part-spelled.ensures.told ∙ still.words at 1 in
-    let is = c.entry.ensures.told ∙ entry_in_stays k second component place at two.looks run in
+    let is = entry_in_stays k second component place at two.looks run in
     let early : (entry_in (row_of k) place at).time < until = omega (arith, spelled) in
     let later : from ≤ (entry_in (row_of k) place at).key = omega (arith, key) in
     let order = (run_there k component place c.show_invariant.ensures run).order in
     let found = λ (key : ℕ). first_below (run_at k place) key until in
+    let there = place_stays k second component place two.looks run in
     record {
-      of = c.entry.ensures.of;
-      looks = aside_trans k second c.entry.new.seat.knows two c.entry.ensures.looks;
+      of = c.part-spelled.ensures.of;
+      looks = two;
+      passed = record {
+        has = has_stays k second component place at two.looks (record { run = run; inside = omega arith });
+        key = there.words at 0 ∙ sym key;
+        spelled = there.words at 1 ∙ sym spelled;
+      };
       next = subst (λ (e : Entry). IsNextFrom found from (Some e)) (sym is)
           (takes k place until from at before.stands (omega arith) order later early);
       stands = subst (λ (e : Entry). StandsFrom k place until (e.key + 1) (at + 1)) (sym is)

@@ -1,10 +1,9 @@
-use Rattle.std.proofs.Common.{◌≡◌, ◌≢◌, ℕ, refl, subst, ◌+◌, ◌<◌, ◌^◌, sym, ◌∙◌, ap, arith, drop, Some}
-use Rattle.std.proofs.lemmas.List.{get_or_default}
+use Rattle.std.proofs.Common.{◌≡◌, ◌≢◌, ℕ, refl, subst, ◌+◌, ◌<◌, ◌^◌, sym, ◌∙◌, ap, arith, drop, length}
 use Rattle.clsm_levels.specs.declared.entry.Entry.{Entry}
 use Rattle.clsm_levels.specs.declared.cursor.Cursor.{Cursor}
-use Rattle.clsm_levels.specs.Cursors.{cursor_at, first_of, no_cursor, row_at}
+use Rattle.clsm_levels.specs.Cursors.{IsLeast, cursor_at, row_at}
 use Rattle.clsm_levels.specs.Entry.{AreBelow}
-use Rattle.clsm_levels.proofs.Picks.{at_set, nothing_left, picks}
+use Rattle.clsm_levels.proofs.Picks.{at_set, head_entry, nothing_left, picks}
 use Rattle.clsm_words.specs.Changing.{NoWord}
 use Rattle.clsm_memtable.specs.declared.frozen_walk.FrozenWalk.{FrozenWalk}
 use Rattle.clsm_runs.specs.Outputs.{IsWalkedTo}
@@ -18,13 +17,15 @@ returns-clause-next g c =
     let rows = rows_of c.args.merger.now.knows in
     let cursors = c.args.cursors.now in
     let row = c.in-Some.row in
-    let e = c.in-Some.entry in
     let least = c.in-Some.ensures in
     let few = few_rows c.args.merger.now.knows in
     let at = (cursor_at cursors row).position in
-    let here : first_of (drop at (row_at rows row)) ≡ Some e = sym (c.requires.heads row least.0) ∙ least.1 in (
-      picks rows cursors row e c.cursor_to.result (let long = c.requires.long in omega arith) c.requires.sources.rise c.requires.heads least (c.cursor_to.ensures.position ∙ ap (λ (x : Cursor). x.position + 1) (get_or_default cursors row c.index-cursors-row.result no_cursor least.0)),
-      every_first (λ (x : Entry). x.time < 2 ^ 62) (row_at rows row) at e (every_row (AreBelow (2 ^ 62)) rows row tt c.requires.sources.early) here,
+    let head = head_entry (drop at (row_at rows row)) c.in-Some.version (sym (c.requires.heads row least.0) ∙ least.1) in (
+      head.0,
+      picks rows cursors row head.0 c.cursor_to.result (let long = c.requires.long in omega arith) c.requires.sources.rise c.requires.heads head.1 (subst (IsLeast cursors (length cursors) row) (sym head.2) least) c.cursor_to.ensures.position,
+      record { stands = head.1; version = head.2 },
+      every_first (λ (x : Entry). x.time < 2 ^ 62) (row_at rows row) at head.0 (every_row (AreBelow (2 ^ 62)) rows row tt c.requires.sources.early) head.1,
+      let long = c.requires.long in let inside = least.0 in omega arith,
     )
 
 pub returns-in_default-clause-next : goal.returns-in_default-clause-next

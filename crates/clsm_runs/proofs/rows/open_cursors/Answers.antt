@@ -2,6 +2,7 @@ use Rattle.std.proofs.Common.{◌≡◌, ℕ, ◌+◌, ◌<◌, List, drop, arit
 use Rattle.clsm_levels.specs.declared.entry.Entry.{Entry}
 use Rattle.clsm_levels.specs.declared.cursor.Cursor.{Cursor}
 use Rattle.clsm_levels.specs.Cursors.{first_of, row_at}
+use Rattle.clsm_levels.specs.Version.{version_in}
 use Rattle.clsm_levels.proofs.Picks.{at_set}
 use Rattle.clsm_words.specs.Changing.{NoWord}
 use Rattle.clsm_runs.specs.Placing.{rows_of}
@@ -23,7 +24,7 @@ loop-row-preserved g c =
       some = omega arith;
       walked = walked_on NoWord k' c.run_cursor.new.merger.knows c.epoch_cursor-first.new.walk 1 c.run_cursor.ensures.looks c.show_invariant-in-loop-row.ensures c.loop-row.invariant.walked;
       long = length-set c.loop-row.cursors i new ∙ c.loop-row.invariant.long;
-      opened = at_set (λ (j : ℕ) (x : Cursor). j < i + 1 → (x.head ≡ first_of (drop x.position (row_at rows j))) × (x.position ≡ 0)) c.loop-row.cursors i new (let long = c.loop-row.invariant.long in omega arith)
-          (λ _. (c.run_cursor.ensures.head ∙ ap (λ (l : List (List Entry)). first_of (row_at l i)) (rows_looked k k' c.args.merges c.show_invariant.ensures c.requires.merging c.loop-row.invariant.looks) ∙ ap (λ (n : ℕ). first_of (drop n (row_at rows i))) (sym c.run_cursor.ensures.position), c.run_cursor.ensures.position))
+      opened = at_set (λ (j : ℕ) (x : Cursor). j < i + 1 → (x.head ≡ version_in (first_of (drop x.position (row_at rows j)))) × (x.position ≡ 0)) c.loop-row.cursors i new (let long = c.loop-row.invariant.long in omega arith)
+          (λ _. (c.run_cursor.ensures.head ∙ ap (λ (l : List (List Entry)). version_in (first_of (row_at l i))) (rows_looked k k' c.args.merges c.show_invariant.ensures c.requires.merging c.loop-row.invariant.looks) ∙ ap (λ (n : ℕ). version_in (first_of (drop n (row_at rows i)))) (sym c.run_cursor.ensures.position), c.run_cursor.ensures.position))
           (λ j ne lt. c.loop-row.invariant.opened j (omega arith));
     }

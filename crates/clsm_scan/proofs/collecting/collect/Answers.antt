@@ -1,18 +1,16 @@
-use Rattle.std.proofs.Common.{rules, ◌≡◌, ℕ, ◌≤◌, ◌<◌, Some, None, length, false, nat_eq, sym, ap, ◌∙◌, refl, subst, arith, [], ◌∷◌, ◌++◌, List, inl, inr}
+use Rattle.std.proofs.Common.{rules, ◌≡◌, ℕ, ◌+◌, ◌≤◌, ◌<◌, Some, None, length, true, sym, ap, ◌∙◌, refl, subst, arith, [], ◌∷◌, ◌++◌, List, inl, inr}
 use Rattle.std.proofs.lemmas.Bool.{cases_lt}
-use Rattle.std.specs.Option.{option_eq}
-use Rattle.std.proofs.lemmas.List.{length_push}
 use Rattle.clsm_model.specs.Map.{Pair, value_at}
 use Rattle.clsm_levels.specs.Entry.{value_of}
 use Rattle.clsm_words.proofs.Keeps.{aside_trans}
-use Rattle.clsm_scan.specs.Collected.{AreAll, AreRowsTo, IsAtMost, left_at}
-use Rattle.clsm_scan.proofs.Rows.{all_rows, beyond_pushed, next_row_same, none_at_most, one_more, option_equal, rows_ended, rows_none, rows_stopped, rows_taken}
+use Rattle.clsm_scan.specs.Collected.{AreAll, AreRowsTo, IsAtMost, is_full, left_at}
+use Rattle.clsm_scan.proofs.Rows.{beyond_pushed, just_full, next_row_same, none_at_most, most_pushed, rows_ended, rows_none, rows_stopped, rows_taken}
 use Rattle.clsm_scan.proofs.collecting.collect.Goals as goal
 
-pub loop-row-init : goal.loop-row-init
-loop-row-init g c =
+pub loop-key-init : goal.loop-key-init
+loop-key-init g c =
     let value = left_at (g.C.Cursor.found c.args.seat.now.knows c.args.cursor.now) in
-    let empty = sym c.new-rows.ensures.items in
+    let empty = sym c.in_ok-rows.ensures.items in
     record {
       of = c.requires.of;
       looks = search rules;
@@ -21,65 +19,66 @@ loop-row-init g c =
       stands = c.requires.stands;
       later = omega arith;
       rows = subst (AreRowsTo value c.args.lo c.args.lo) empty (rows_none value c.args.lo);
-      beyond = λ k lt. ap (λ (rows : List Pair). value_at rows k) c.new-rows.ensures.items;
+      beyond = λ k lt. ap (λ (rows : List Pair). value_at rows k) c.in_ok-rows.ensures.items;
       most = subst (λ (rows : List Pair). IsAtMost (length rows) c.args.max) empty (none_at_most c.args.max);
     }
 
-pub returns-then-eq-clause-rows : goal.returns-then-eq-clause-rows
-returns-then-eq-clause-rows g c =
+pub returns-then-is_full-clause-rows : goal.returns-then-is_full-clause-rows
+returns-then-is_full-clause-rows g c =
     let value = left_at (g.C.Cursor.found c.args.seat.now.knows c.args.cursor.now) in
-    let value' = left_at (g.C.Cursor.found c.loop-row.seat.knows c.loop-row.cursor) in
-    let next = next_row_same value value' c.loop-row.from c.args.hi (Some c.in-Some.row) (λ k. ap value_of (c.loop-row.invariant.same k)) c.in-Some.ensures.next in
-    rows_stopped value c.args.lo c.loop-row.from c.args.hi c.args.max c.loop-row.rows.items c.in-Some.row c.loop-row.invariant.rows c.loop-row.invariant.later next
-    (option_equal c.args.max c.len.result (sym c.eq.ensures ∙ c.if-eq.true) ∙ ap (λ n. Some n) (c.len.ensures ∙ c.loop-row.rows.ok.0))
-
-pub loop-row-preserved : goal.loop-row-preserved
-loop-row-preserved g c =
-    let value = left_at (g.C.Cursor.found c.args.seat.now.knows c.args.cursor.now) in
-    let value' = left_at (g.C.Cursor.found c.loop-row.seat.knows c.loop-row.cursor) in
-    let row = c.in-Some.row in
-    let before = c.loop-row.invariant in
-    let next = next_row_same value value' c.loop-row.from c.args.hi (Some row) (λ k. ap value_of (before.same k)) c.in-Some.ensures.next in
-    let behind = sym c.in-Some-checked_add.ensures.1 in
-    let pushed = sym c.in_ok-push_row.ensures in
-    record {
-      of = c.next_row.ensures.of;
-      looks = aside_trans c.args.seat.now.knows c.loop-row.seat.knows c.next_row.new.seat.knows before.looks c.next_row.ensures.looks;
-      over = c.next_row.ensures.over;
-      same = λ k. c.next_row.ensures.same k ∙ before.same k;
-      stands = subst (g.C.Cursor.stands c.next_row.new.seat.knows c.next_row.new.cursor) behind c.in-Some.ensures.stands;
-      later = omega arith;
-      rows = subst (λ (rows : List Pair). AreRowsTo value c.args.lo c.in-Some-checked_add.behind rows) pushed
-          (subst (λ (end : ℕ). AreRowsTo value c.args.lo end (c.loop-row.rows.items ++ row ∷ [])) behind
-          (rows_taken value c.args.lo c.loop-row.from c.args.hi c.loop-row.rows.items row before.rows before.later next));
-      beyond = subst (λ (rows : List Pair). (k : ℕ) → c.args.hi < k → value_at rows k ≡ None) pushed
-          (beyond_pushed value c.args.lo c.args.hi c.loop-row.rows.items row next.1 before.beyond);
-      most = subst (λ (rows : List Pair). IsAtMost (length rows) c.args.max) pushed
-          (subst (λ (n : ℕ). IsAtMost n c.args.max) (sym (length_push c.loop-row.rows.items row))
-          (one_more c.args.max (length c.loop-row.rows.items) (subst (λ (n : ℕ). option_eq nat_eq c.args.max (Some n) ≡ false) (c.len.ensures ∙ c.loop-row.rows.ok.0) (sym c.eq.ensures ∙ c.if-eq.false)) before.most));
-    }
+    let value' = left_at (g.C.Cursor.found c.loop-key.seat.knows c.loop-key.cursor) in
+    let before = c.loop-key.invariant in
+    let old = c.loop-key.rows.items in
+    let here = c.in-Some.ensures.next in
+    let next = next_row_same value value' c.loop-key.from c.args.hi (Some (c.in-Some.key, here.words)) (λ k. ap value_of (before.same k)) here.next in
+    let full : is_full c.args.max (length old) ≡ true = ap (is_full c.args.max) (sym (c.len.ensures ∙ c.loop-key.rows.ok.0)) ∙ sym c.is_full.ensures ∙ c.if-is_full.true in
+    rows_stopped value c.args.lo c.loop-key.from c.args.hi c.args.max old (c.in-Some.key, here.words) before.rows before.later next (just_full c.args.max (length old) full before.most)
 
 pub returns-in_default-checked_add-clause-rows : goal.returns-in_default-checked_add-clause-rows
 returns-in_default-checked_add-clause-rows g c =
     let value = left_at (g.C.Cursor.found c.args.seat.now.knows c.args.cursor.now) in
-    let value' = left_at (g.C.Cursor.found c.loop-row.seat.knows c.loop-row.cursor) in
-    let row = c.in-Some.row in
-    let before = c.loop-row.invariant in
-    let next = next_row_same value value' c.loop-row.from c.args.hi (Some row) (λ k. ap value_of (before.same k)) c.in-Some.ensures.next in
-    let pushed = sym c.in_ok-push_row.ensures in
-    let last : c.args.hi ≤ row.0 = elim (cases_lt row.0 c.args.hi) [
+    let value' = left_at (g.C.Cursor.found c.loop-key.seat.knows c.loop-key.cursor) in
+    let before = c.loop-key.invariant in
+    let old = c.loop-key.rows.items in
+    let here = c.in-Some.ensures.next in
+    let row : Pair = (c.in-Some.key, here.words) in
+    let put : c.push.new.rows.items ≡ old ++ row ∷ [] = c.in_ok-push.ensures.rows ∙ ap (λ (l : List Pair). old ++ l) here.is in
+    let most = most_pushed c.args.max old c.push.new.rows.items row put (ap (is_full c.args.max) (sym (c.len.ensures ∙ c.loop-key.rows.ok.0)) ∙ sym c.is_full.ensures ∙ c.if-is_full.false) in
+    let next = next_row_same value value' c.loop-key.from c.args.hi (Some row) (λ k. ap value_of (before.same k)) here.next in
+    let last : c.args.hi ≤ c.in-Some.key = elim (cases_lt c.in-Some.key c.args.hi) [
       | inl lt ↦ absurd (c.in_default-checked_add.ensures (omega (arith, c.ranges.hi.fits)))
       | inr le ↦ le
     ] in (
-      subst (AreAll value c.args.lo c.args.hi) pushed (rows_ended value c.args.lo c.loop-row.from c.args.hi c.loop-row.rows.items row before.rows before.later next before.beyond last),
-      subst (λ (rows : List Pair). IsAtMost (length rows) c.args.max) pushed
-          (subst (λ (n : ℕ). IsAtMost n c.args.max) (sym (length_push c.loop-row.rows.items row))
-          (one_more c.args.max (length c.loop-row.rows.items) (subst (λ (n : ℕ). option_eq nat_eq c.args.max (Some n) ≡ false) (c.len.ensures ∙ c.loop-row.rows.ok.0) (sym c.eq.ensures ∙ c.if-eq.false)) before.most)),
+      subst (AreAll value c.args.lo c.args.hi) (sym put) (rows_ended value c.args.lo c.loop-key.from c.args.hi old row before.rows before.later next before.beyond last),
+      most,
     )
 
-pub returns-clause-rows : goal.returns-clause-rows
-returns-clause-rows g c =
+pub loop-key-preserved : goal.loop-key-preserved
+loop-key-preserved g c =
     let value = left_at (g.C.Cursor.found c.args.seat.now.knows c.args.cursor.now) in
-    let value' = left_at (g.C.Cursor.found c.loop-row.seat.knows c.loop-row.cursor) in
-    let before = c.loop-row.invariant in
-    (all_rows value c.args.lo c.loop-row.from c.args.hi c.loop-row.rows.items before.rows (next_row_same value value' c.loop-row.from c.args.hi None (λ k. ap value_of (before.same k)) c.in_default.ensures.next) before.beyond, before.most)
+    let value' = left_at (g.C.Cursor.found c.loop-key.seat.knows c.loop-key.cursor) in
+    let before = c.loop-key.invariant in
+    let old = c.loop-key.rows.items in
+    let here = c.in-Some.ensures.next in
+    let row : Pair = (c.in-Some.key, here.words) in
+    let put : c.push.new.rows.items ≡ old ++ row ∷ [] = c.in_ok-push.ensures.rows ∙ ap (λ (l : List Pair). old ++ l) here.is in
+    let most = most_pushed c.args.max old c.push.new.rows.items row put (ap (is_full c.args.max) (sym (c.len.ensures ∙ c.loop-key.rows.ok.0)) ∙ sym c.is_full.ensures ∙ c.if-is_full.false) in
+    let next = next_row_same value value' c.loop-key.from c.args.hi (Some row) (λ k. ap value_of (before.same k)) here.next in
+    let behind = sym c.in-Some-checked_add.ensures.1 in
+    let k1 = c.next_key.new.seat.knows in
+    let k2 = c.push.new.seat.knows in
+    let cursor = c.next_key.new.cursor in
+    record {
+      of = c.in_ok-push.ensures.of;
+      looks = aside_trans c.args.seat.now.knows k1 k2 (aside_trans c.args.seat.now.knows c.loop-key.seat.knows k1 before.looks c.next_key.ensures.looks) c.push.ensures.looks;
+      over = g.met.C.Cursor.over_stays k1 k2 cursor c.push.ensures.looks c.next_key.ensures.over;
+      same = λ k. g.met.C.Cursor.found_stays k1 k2 cursor c.push.ensures.looks c.next_key.ensures.over k ∙ c.next_key.ensures.same k ∙ before.same k;
+      stands = subst (g.C.Cursor.stands k2 cursor) behind (g.met.C.Cursor.stands_stays k1 k2 cursor (c.in-Some.key + 1) c.push.ensures.looks c.next_key.ensures.over c.in-Some.ensures.stands);
+      later = let later = next.0 in omega arith;
+      rows = subst (AreRowsTo value c.args.lo c.in-Some-checked_add.behind) (sym put)
+          (subst (λ (end : ℕ). AreRowsTo value c.args.lo end (old ++ row ∷ [])) behind
+          (rows_taken value c.args.lo c.loop-key.from c.args.hi old row before.rows before.later next));
+      beyond = subst (λ (rows : List Pair). (k : ℕ) → c.args.hi < k → value_at rows k ≡ None) (sym put)
+          (beyond_pushed value c.args.lo c.args.hi old row next.1 before.beyond);
+      most = most;
+    }

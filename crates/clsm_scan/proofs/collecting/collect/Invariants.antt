@@ -5,8 +5,8 @@ use Rattle.clsm_words.specs.Plays.{IsSeatOf}
 use Rattle.clsm_scan.specs.Collected.{AreRowsTo, IsAtMost, left_at}
 use Rattle.clsm_scan.proofs.collecting.collect.Given as goal
 
-abbrev pub invariant-loop-row : goal.invariant-loop-row
-invariant-loop-row g l = record {
+abbrev pub invariant-loop-key : goal.invariant-loop-key
+invariant-loop-key g l = record {
   of : IsSeatOf l.words l.seat;
   looks : LooksAside l.fn.seat.knows l.seat.knows;
   over : g.C.Cursor.is_over l.seat.knows l.cursor;
@@ -18,5 +18,5 @@ invariant-loop-row g l = record {
   most : IsAtMost (length l.rows.items) l.max;
 }
 
-abbrev pub decreases-loop-row : goal.decreases-loop-row
-decreases-loop-row g l = 2 ^ 64 - l.from
+abbrev pub decreases-loop-key : goal.decreases-loop-key
+decreases-loop-key g l = 2 ^ 64 - l.from

@@ -5,7 +5,7 @@ use Rattle.clsm_scan.proofs.AllCursors.{AllSources, AreComputed, AreOver, all_at
 use Rattle.clsm_scan.proofs.scanning.sources.Given.{Over}
 use Rattle.clsm_scan.proofs.scanning.sources.Goals as goal
 
-module _ (g : Over) (c : goal.After-new-2 g) (k : Known) (layout : k.layout ≡ c.args.words.now.layout) where
+module _ (g : Over) (c : goal.After-new-3 g) (k : Known) (layout : k.layout ≡ c.args.words.now.layout) where
   same : k.layout.cells ≡ c.cells-cells.result
   same = ap (λ (z : Layout). z.cells) layout ∙ sym c.cells-cells.ensures
 
@@ -18,8 +18,8 @@ module _ (g : Over) (c : goal.After-new-2 g) (k : Known) (layout : k.layout ≡ 
     later_is = c.saturating_add-later.ensures;
   }
 
-  whole : c.new-2.result ≡ all_at c.args.component c.saturating_add-later.result c.saturating_mul-first.result c.saturating_add-second.result k.layout.cells c.args.until
-  whole = rw (same, c.new-2.ensures, c.epoch_below-2.ensures, c.new-earlier.ensures, c.epoch_below.ensures, c.new-runs.ensures, c.level_zero-3.ensures, c.new-older.ensures, c.level_zero-2.ensures, c.new-oldest.ensures, c.level_zero.ensures, c.new.ensures, c.level_one_place.ensures) refl
+  whole : c.new-3.result ≡ all_at c.args.component c.saturating_add-later.result c.saturating_mul-first.result c.saturating_add-second.result k.layout.cells c.args.until
+  whole = rw (same, c.new-3.ensures, c.epoch_below-2.ensures, c.new-earlier.ensures, c.epoch_below.ensures, c.new-runs.ensures, c.level_zero-3.ensures, c.new-older.ensures, c.level_zero-2.ensures, c.new-oldest.ensures, c.level_zero.ensures, c.new-2.ensures, c.new.ensures, c.level_one_place.ensures) refl
 
 pub returns-clause-over : goal.returns-clause-over
 returns-clause-over g c = λ k layout may. subst (AreOver k) (sym (whole g c k layout)) (are_over k c.args.component c.args.until c.saturating_add-later.result c.saturating_mul-first.result c.saturating_add-second.result may (computed g c k layout))

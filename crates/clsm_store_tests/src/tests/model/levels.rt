@@ -203,7 +203,7 @@ const NO_HEAD: Cursor = Cursor {
 fn cursor(key: u64, time: u64, word: Option<u64>) -> Cursor {
     Cursor {
         position: 0,
-        head: Some(entry(key, time, word)),
+        head: Some(entry(key, time, word).version()),
     }
 }
 
@@ -217,9 +217,9 @@ pub(super) fn least_of_cursors() -> Result<(), Wrong> {
         cursor(7, 4, Some(74)),
     ];
     let all = &cursors[..];
-    let found = Some((2, entry(3, 2, Some(32))));
+    let found = Some((2, entry(3, 2, Some(32)).version()));
     same(least(all) == found, Wrong::Least(0))?;
-    let found = Some((0, entry(3, 1, None)));
+    let found = Some((0, entry(3, 1, None).version()));
     same(least(&all[4..]) == found, Wrong::Least(1))?;
     same(least(&[]).is_none(), Wrong::Least(2))?;
     same(least(&[NO_HEAD, NO_HEAD]).is_none(), Wrong::Least(3))
@@ -240,8 +240,8 @@ const JUDGED: &[(Option<u64>, Line, (bool, bool), Option<u64>)] = &[
 
 pub(super) fn judge_by_the_floor() -> Result<(), Wrong> {
     for (row, (settled, (key, time, word), (in_zero, in_one), then)) in JUDGED.iter().enumerate() {
-        let in_level_zero = judge(*settled, entry(*key, *time, *word), 5, false);
-        let in_level_one = judge(*settled, entry(*key, *time, *word), 5, true);
+        let in_level_zero = judge(*settled, entry(*key, *time, *word).version(), 5, false);
+        let in_level_one = judge(*settled, entry(*key, *time, *word).version(), 5, true);
         let is_same = in_level_zero == (*in_zero, *then) && in_level_one == (*in_one, *then);
         same(is_same, Wrong::Judged(row))?;
     }
