@@ -118,8 +118,8 @@ impl Line {
     }
 
     /// The calls for which each of so many threads has room, as many as the options say at most:
-    /// in one epoch, but for reads and beside a merger. Where others get or what is put has a
-    /// value, half of the times that are left are for puts: a reader may cancel one, and the put
+    /// in one epoch, but for reads and beside a merger. Where others get or scan, or what is put has
+    /// a value, half of the times that are left are for puts: a reader may cancel one, and the put
     /// then takes another.
     pub fn calls(&self, is_merged: bool, options: &Options, threads: u32) -> u32 {
         let room = match &self.4 {
@@ -130,6 +130,7 @@ impl Line {
                 (MOST_ROWS / rows.max(1)).max(1)
             }
             OnePuts => options.cells / 4,
+            Puts if matches!(self.6, Scanner) => options.cells / 4 / threads.max(1),
             Puts | RisingPuts => options.cells / threads.max(1),
             Mixed | HotMixed => options.cells / 4 / threads.max(1),
             _ => options.calls,
