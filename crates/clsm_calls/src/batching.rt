@@ -14,7 +14,7 @@ use crate::changing::value_set;
 use crate::refusal::BatchError;
 use crate::writing::deed_of;
 use clsm_lock::{lock_exclusive, unlock_exclusive};
-use clsm_memtable::{commit, decide_member, enter, leave_hints, look_room, prefetch, stage};
+use clsm_memtable::{Lookahead, commit, decide_member, enter, leave_hints, look_room, stage};
 use clsm_model::{Change, Time, are_writes};
 use clsm_words::{Pace, RawSeat, Words};
 use std::sync::Wait;
@@ -36,26 +36,34 @@ fn check_members(members: &[(u64, Change)], cells: u64) -> Result<(), BatchError
     Ok(())
 }
 
+/// The next member of a batch, and its time.
+#[derive(Drop)]
+struct Turn {
+    time: Time,
+    member: (u64, Change),
+}
+
 /// Stages the next member: takes its time, fills its cell, enters that into its chain and into the
 /// ordered list, and decides it.
 fn stage_member<P: Pace, R: Wait>(
     rt: &R,
     words: &Words<P>,
     seat: &mut RawSeat,
-    time: Time,
-    member: &(u64, Change),
+    turn: &Turn,
+    lookahead: &mut Lookahead,
 )
     requires of { IsSeatOf words.now seat.old }
-    requires may { MayStage seat.old.knows time 1 }
-    requires writes { member.now.1 ≢ Keep }
+    requires may { MayStage seat.old.knows turn.now.time 1 }
+    requires writes { turn.now.member.1 ≢ Keep }
     ensures of { IsSeatOf words.now seat.new }
-    ensures staged { StagesAll seat.old.knows seat.new.knows (member.now ∷ []) }
+    ensures staged { StagesAll seat.old.knows seat.new.knows (turn.now.member ∷ []) }
 {
-    let key = member.0;
-    let value = value_set(&member.1);
+    let time = turn.time;
+    let key = turn.member.0;
+    let value = value_set(&turn.member.1);
     stage(words, seat, time, key, value.as_ref());
     seat.show_invariant();
-    let guess = prefetch(words, seat, time, key);
+    let guess = lookahead.next(words, seat, time);
     seat.show_invariant();
     let trace = enter(rt, words, seat, time, key, &guess);
     decide_member(words, seat, time, &deed_of(key, &value));
@@ -76,9 +84,14 @@ fn stage_all<P: Pace, R: Wait>(
     ensures of { IsSeatOf words.now seat.new }
     ensures staged { StagesAll seat.old.knows seat.new.knows members.now }
 {
+    let mut lookahead = Lookahead::new(members);
     let mut time = first;
     for member in members {
-        stage_member(rt, words, seat, time, member);
+        let turn = Turn {
+            time,
+            member: *member,
+        };
+        stage_member(rt, words, seat, &turn, &mut lookahead);
         time += 1;
     }
 }
