@@ -11,7 +11,7 @@ pub struct Value {
     count: usize,
 }
 
-/// The refusal of `Value::new`, number 10: no word, or more than eight.
+/// The refusal of `Value::new`: no word, or more than eight.
 #[derive(Clone, Copy, Debug, PartialEq, Eq, Error)]
 #[error("length")]
 pub struct Length;
@@ -34,7 +34,7 @@ impl Model for Value {
 }
 
 impl Value {
-    ghost use Rattle.std.specs.Prelude.{take};
+    ghost use Rattle.std.specs.Prelude.{slice_index, take};
     ghost use Rattle.clsm_model.specs.Value.{IsPadded};
 
     /// The value of the first so many of these words, behind which stand zeros.
@@ -69,6 +69,24 @@ impl Value {
         ensures at_most_eight { length self.now ≤ 8 }
     {
         &self.words[..self.count]
+    }
+
+    /// Its first word.
+    pub fn first(&self) -> u64
+        ensures { result ≡ slice_index self.now 0 }
+    {
+        self.words()[0]
+    }
+}
+
+impl From<u64> for Value {
+    ghost use Rattle.std.specs.Prelude.{[], ◌∷◌};
+
+    ghost from_gives = { λ word value. value ≡ word ∷ [] };
+
+    /// The value of this one word.
+    fn from(word: u64) -> Value {
+        Value::of_padded([word, 0, 0, 0, 0, 0, 0, 0], 1)
     }
 }
 

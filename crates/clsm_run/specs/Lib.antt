@@ -1,5 +1,4 @@
 pub mod Audit
-pub mod Changes
 pub mod Play
 pub mod Run
 pub mod Work

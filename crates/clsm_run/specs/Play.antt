@@ -8,7 +8,7 @@ use Rattle.clsm_calls.specs.Batching.{IsRefusedBatch}
 use Rattle.clsm_calls.specs.declared.refusal.BatchError.{BatchError}
 use Rattle.clsm_planner.specs.declared.deal.Deal.{Deal}
 use Rattle.clsm_planner.specs.declared.deal.Deal.TheVariants.{Put, Remove, Get, Add, Claim, Snap, Close, GetAt, Scan, Batch}
-use Rattle.clsm_run.specs.Changes.{added, claimed}
+use Rattle.clsm_store.specs.Changes.{added, put_if_absent}
 
 -- the deed is what the deal asks for, whatever it read
 abbrev pub IsDeedOf : Deal → Deed → Type 0
@@ -18,7 +18,7 @@ IsDeedOf (Get key) (deeds.Get k reply) = k ≡ key
 IsDeedOf (Get key) _ = ⊥
 IsDeedOf (Add key by) (deeds.Rmw k old change) = (k ≡ key) × (change ≡ added old by)
 IsDeedOf (Add key by) _ = ⊥
-IsDeedOf (Claim key value) (deeds.Rmw k old change) = (k ≡ key) × (change ≡ claimed old value)
+IsDeedOf (Claim key value) (deeds.Rmw k old change) = (k ≡ key) × (change ≡ put_if_absent old value)
 IsDeedOf (Claim key value) _ = ⊥
 IsDeedOf Snap deed = deed ≡ deeds.Snapshot
 IsDeedOf Close deed = deed ≡ deeds.Close

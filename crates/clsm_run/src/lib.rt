@@ -4,7 +4,6 @@
 mod answer;
 mod auditing;
 mod board;
-mod changes;
 mod crew;
 mod gathering;
 mod kind;

@@ -5,7 +5,6 @@ ghost use Rattle.clsm_law.specs.Relation.{call_of};
 ghost use Rattle.clsm_planner.specs.declared.deal.Deal.TheVariants.{Add, Batch as BatchOf, Claim, Close, Get, GetAt, Put, Remove, Scan as ScanOf, Snap};
 ghost use Rattle.clsm_run.specs.Play.{Plays};
 
-use crate::changes::{added, claimed};
 use clsm_model::{CallRecord, Change, Deed, Members, Memory, Time, Value};
 use clsm_planner::Deal;
 use clsm_store::{Got, Pace, Rmw, Scan, Seat, Store};
@@ -102,7 +101,7 @@ fn add<P: Pace + Drop, R: Wait>(
     requires { seat.old.store ≡ store.now }
     ensures { Plays (Add key by) seat.old seat.new result }
 {
-    match store.rmw(rt, seat, key, &|old| added(&old, by)) {
+    match store.add(rt, seat, key, by) {
         Ok(Rmw { time, old, change }) => {
             Some(recorded(seat, time, Deed::Rmw { key, old, change }))
         }
@@ -120,7 +119,7 @@ fn claim<P: Pace + Drop, R: Wait>(
     requires { seat.old.store ≡ store.now }
     ensures { Plays (Claim key value) seat.old seat.new result }
 {
-    match store.rmw(rt, seat, key, &|old| claimed(&old, value)) {
+    match store.put_if_absent(rt, seat, key, value) {
         Ok(Rmw { time, old, change }) => {
             Some(recorded(seat, time, Deed::Rmw { key, old, change }))
         }

@@ -1,5 +1,4 @@
 pub mod Answer
-pub mod Changes
 pub mod Command
 pub mod Line
 pub mod Play

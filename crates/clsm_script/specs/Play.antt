@@ -9,7 +9,7 @@ use Rattle.clsm_audit.specs.declared.fault.AuditError.{AuditError}
 use Rattle.clsm_calls.specs.Seats.{SeatState, Answers, IsFull, Refuses, known_by}
 use Rattle.clsm_calls.specs.Batching.{IsRefusedBatch}
 use Rattle.clsm_calls.specs.Trying.{RefusesTry}
-use Rattle.clsm_script.specs.Changes.{added, claimed}
+use Rattle.clsm_store.specs.Changes.{added, put_if_absent}
 use Rattle.clsm_store.specs.Headline.{IsAt}
 use Rattle.clsm_store.specs.Meetings.{Meets}
 use Rattle.clsm_store.specs.Phase.{Freezes, Merges, Reclaims}
@@ -43,7 +43,7 @@ PlaysCall (Add key by) old new (Changed (Ok rmw)) =
     Answers old new rmw.time (deeds.Rmw key rmw.old rmw.change) × (rmw.change ≡ added rmw.old by)
 PlaysCall (Add key by) old new (Changed (Err full)) = IsFull old new full.time
 PlaysCall (Claim key v) old new (Changed (Ok rmw)) =
-    Answers old new rmw.time (deeds.Rmw key rmw.old rmw.change) × (rmw.change ≡ claimed rmw.old v)
+    Answers old new rmw.time (deeds.Rmw key rmw.old rmw.change) × (rmw.change ≡ put_if_absent rmw.old v)
 PlaysCall (Claim key v) old new (Changed (Err full)) = IsFull old new full.time
 PlaysCall (Get key) old new (Read got) = Answers old new got.time (deeds.Get key got.value)
 PlaysCall Snap old new (Snapshot (Ok t)) = Answers old new t deeds.Snapshot

@@ -4,7 +4,6 @@ ghost use Rattle.clsm_calls.specs.Seats.{SeatState};
 ghost use Rattle.clsm_script.specs.Play.{PlaysCall};
 
 use crate::answer::Answer;
-use crate::changes::{add, claim};
 use crate::snapshots::get_at;
 use clsm_model::{CallRecord, Deed, Members, Value};
 use clsm_store::{Pace, Seat, Store};
@@ -60,8 +59,8 @@ impl Call {
             Call::Put { key, value } => Answer::Write(store.put(rt, seat, *key, *value)),
             Call::Remove { key } => Answer::Write(store.remove(rt, seat, *key)),
             Call::Try { key, value } => Answer::Try(store.try_put(seat, *key, *value)),
-            Call::Add { key, by } => Answer::Change(add(rt, store, seat, *key, *by)),
-            Call::Claim { key, value } => Answer::Change(claim(rt, store, seat, *key, *value)),
+            Call::Add { key, by } => Answer::Change(store.add(rt, seat, *key, *by)),
+            Call::Claim { key, value } => Answer::Change(store.put_if_absent(rt, seat, *key, *value)),
             Call::Get { key } => Answer::Read(store.get(seat, *key)),
             Call::Snap => Answer::Snapshot(store.snapshot(seat)),
             Call::Close => Answer::Close(store.close_snapshot(seat)),

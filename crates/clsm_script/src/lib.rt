@@ -3,7 +3,6 @@
 
 mod answer;
 mod call;
-mod changes;
 mod command;
 mod line;
 mod playing;

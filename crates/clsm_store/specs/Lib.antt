@@ -1,3 +1,4 @@
+pub mod Changes
 pub mod Headline
 pub mod Meetings
 pub mod Settling

@@ -3,6 +3,7 @@
 
 mod caller;
 mod calls;
+mod changes;
 mod joining;
 mod many;
 pub mod merger;

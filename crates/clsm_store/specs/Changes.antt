@@ -1,4 +1,4 @@
--- What the commands that change a key make of its old value.
+-- What an addition and a first write make of a key's old value.
 use Rattle.std.specs.Prelude.{ℕ, ◌+◌, ◌^◌, List, [], ◌∷◌, cond, nat_lt, Option, Some, None}
 use Rattle.clsm_model.specs.declared.slot.Change.{Change}
 use Rattle.clsm_model.specs.declared.slot.Change.TheVariants.{Keep, Set}
@@ -21,6 +21,6 @@ abbrev pub added : Option (List ℕ) → ℕ → Change
 added old by = set_or_keep (word_sum old by)
 
 -- the value, where there is no old one
-abbrev pub claimed : Option (List ℕ) → List ℕ → Change
-claimed None value = Set value
-claimed (Some old) value = Keep
+abbrev pub put_if_absent : Option (List ℕ) → List ℕ → Change
+put_if_absent None value = Set value
+put_if_absent (Some old) value = Keep

@@ -1,0 +1,107 @@
+//! Read-modify-writes that most programs make: an addition to a counter, and a first write.
+ghost use Rattle.std.specs.Prelude.{◌≡◌, IfOk, IfErr};
+ghost use Rattle.clsm_model.specs.declared.record.Deed.TheVariants.{Rmw as ChangeOf};
+ghost use Rattle.clsm_calls.specs.Seats.{Answers, GivesUpForWrites, IsFull};
+ghost use Rattle.clsm_calls.specs.Tally.{TakesLockOnce};
+ghost use Rattle.clsm_store.specs.Changes.{added, put_if_absent, word_sum};
+
+use crate::caller::Caller;
+use crate::seat::Seat;
+use crate::store::Store;
+use clsm_calls::{Full, Rmw};
+use clsm_model::{Change, Value};
+use clsm_words::Pace;
+use std::sync::Wait;
+
+/// The sum of a value's word and another, where it has one word and the sum fits in 64 bits; of no
+/// value, that other.
+fn word_sum(old: &Option<Value>, by: u64) -> Option<u64>
+    ensures { result ≡ word_sum old.now by }
+{
+    match old {
+        None => Some(by),
+        Some(value) => match value.words() {
+            [word] => word.checked_add(by),
+            _ => None,
+        },
+    }
+}
+
+/// What `add` makes of the old value.
+fn added(old: &Option<Value>, by: u64) -> Change
+    ensures { result ≡ added old.now by }
+{
+    match word_sum(old, by) {
+        Some(word) => Change::Set(Value::from(word)),
+        None => Change::Keep,
+    }
+}
+
+/// What `put_if_absent` makes of the old value.
+fn put_if_absent(old: &Option<Value>, value: Value) -> Change
+    ensures { result ≡ put_if_absent old.now value }
+{
+    match old {
+        None => Change::Set(value),
+        Some(_) => Change::Keep,
+    }
+}
+
+impl<P: Pace> Store<P> {
+    /// Adds the number to the key's word, which counts as 0 where the key has no value, in one
+    /// read-modify-write. It keeps the value where the sum passes 2^64 - 1 or the value has several
+    /// words: the answer's `change` tells. It waits and is refused as `put`.
+    pub fn add<R: Wait>(&self, rt: &R, seat: &mut Seat, key: u64, by: u64) -> Result<Rmw, Full>
+        requires { seat.old.store ≡ self.now }
+        ensures changed { IfOk result (λ rmw. Answers seat.old seat.new rmw.time (ChangeOf key rmw.old rmw.change)) }
+        ensures added { IfOk result (λ rmw. rmw.change ≡ added rmw.old by) }
+        ensures lock { TakesLockOnce seat.old.tally seat.new.tally }
+        ensures spared { GivesUpForWrites seat.old seat.new key }
+        ensures full { IfErr result (λ full. IsFull seat.old seat.new full.time) }
+    {
+        self.rmw(rt, seat, key, &|old| added(&old, by))
+    }
+
+    /// Writes the value at the key where the key has none, and else keeps what it has, in one
+    /// read-modify-write: the answer's `old` tells. It waits and is refused as `put`.
+    pub fn put_if_absent<R: Wait>(
+        &self,
+        rt: &R,
+        seat: &mut Seat,
+        key: u64,
+        value: Value,
+    ) -> Result<Rmw, Full>
+        requires { seat.old.store ≡ self.now }
+        ensures changed { IfOk result (λ rmw. Answers seat.old seat.new rmw.time (ChangeOf key rmw.old rmw.change)) }
+        ensures claimed { IfOk result (λ rmw. rmw.change ≡ put_if_absent rmw.old value) }
+        ensures lock { TakesLockOnce seat.old.tally seat.new.tally }
+        ensures spared { GivesUpForWrites seat.old seat.new key }
+        ensures full { IfErr result (λ full. IsFull seat.old seat.new full.time) }
+    {
+        self.rmw(rt, seat, key, &|old| put_if_absent(&old, value))
+    }
+}
+
+impl<'a, P: Pace> Caller<'a, P> {
+    /// As `Store::add`.
+    pub fn add<R: Wait>(&mut self, rt: &R, key: u64, by: u64) -> Result<Rmw, Full>
+        ensures changed { IfOk result (λ rmw. Answers self.old.seat self.new.seat rmw.time (ChangeOf key rmw.old rmw.change)) }
+        ensures added { IfOk result (λ rmw. rmw.change ≡ added rmw.old by) }
+        ensures lock { TakesLockOnce self.old.seat.tally self.new.seat.tally }
+        ensures spared { GivesUpForWrites self.old.seat self.new.seat key }
+        ensures full { IfErr result (λ full. IsFull self.old.seat self.new.seat full.time) }
+    {
+        self.store.add(rt, &mut self.seat, key, by)
+    }
+
+    /// As `Store::put_if_absent`.
+    pub fn put_if_absent<R: Wait>(&mut self, rt: &R, key: u64, value: Value) -> Result<Rmw, Full>
+        ensures changed { IfOk result (λ rmw. Answers self.old.seat self.new.seat rmw.time (ChangeOf key rmw.old rmw.change)) }
+        ensures claimed { IfOk result (λ rmw. rmw.change ≡ put_if_absent rmw.old value) }
+        ensures lock { TakesLockOnce self.old.seat.tally self.new.seat.tally }
+        ensures spared { GivesUpForWrites self.old.seat self.new.seat key }
+        ensures full { IfErr result (λ full. IsFull self.old.seat self.new.seat full.time) }
+    {
+        self.store.put_if_absent(rt, &mut self.seat, key, value)
+    }
+}
