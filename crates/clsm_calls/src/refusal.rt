@@ -2,28 +2,28 @@
 use clsm_model::Time;
 use thiserror::Error;
 
-/// The refusal of a write, number 1: while the seat held the lock, the clock stood at its limit,
-/// which is this time. There is no time for a write before the next freeze.
+/// The refusal of a write: while the seat held the lock, the clock stood at its limit, which is this
+/// time. There is no time for a write before the next freeze.
 #[derive(Clone, Copy, PartialEq, Eq, Debug, Error)]
 #[error("full @{time}")]
 pub struct Full {
     pub time: Time,
 }
 
-/// The refusal of a snapshot, number 1: the seat has one open, at this time. It stays open.
+/// The refusal of a snapshot: the seat has one open, at this time. It stays open.
 #[derive(Clone, Copy, PartialEq, Eq, Debug, Error)]
 #[error("open @{time}")]
 pub struct Open {
     pub time: Time,
 }
 
-/// The refusal of a freeze, number 1: the next limit would pass 2^62. No run reaches it.
+/// The refusal of a freeze: the next limit would pass 2^62. No run reaches it.
 #[derive(Clone, Copy, PartialEq, Eq, Debug, Error)]
 #[error("worn")]
 pub struct Worn;
 
-/// The refusal of a reclaim, number 1: the pin word of the seat with this number was found to keep
-/// the retired component.
+/// The refusal of a reclaim: the pin word of the seat with this number was found to keep the retired
+/// component.
 #[derive(Clone, Copy, PartialEq, Eq, Debug, Error)]
 #[error("pinned {0}")]
 pub struct Pinned(pub u32);
@@ -31,18 +31,18 @@ pub struct Pinned(pub u32);
 /// The refusals of `try_put`. After each the seat is as before, but for its count of such refusals.
 #[derive(Clone, Copy, PartialEq, Eq, Debug, Error)]
 pub enum TryPutError {
-    /// Number 1: as `Full`.
+    /// As `Full`.
     #[error("full @{time}")]
     Full { time: Time },
-    /// Number 2: the lock was held exclusively, or another seat entered or left it between the look
-    /// and the exchange.
+    /// The lock was held exclusively, or another seat entered or left it between the look and the
+    /// exchange.
     #[error("busy")]
     Busy,
-    /// Number 3: another seat drew the time first, or linked a cell in the same chain between the
-    /// look and the exchange.
+    /// Another seat drew the time first, or linked a cell in the same chain, or inserted one at the
+    /// same place of the ordered list, between the look and the exchange.
     #[error("raced")]
     Raced,
-    /// Number 4: a reader cancelled the drawn time.
+    /// A reader cancelled the drawn time.
     #[error("overtaken")]
     Overtaken,
 }

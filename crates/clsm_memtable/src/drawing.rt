@@ -12,11 +12,10 @@ use thiserror::Error;
 /// Why a seat drew no time.
 #[derive(Clone, Copy, PartialEq, Eq, Debug, Error)]
 pub enum DrawError {
-    /// Number 1: every time of the epoch is drawn; the clock stands at this time, which is the
-    /// limit.
+    /// Every time of the epoch is drawn; the clock stands at this time, which is the limit.
     #[error("full @{0}")]
     Full(Time),
-    /// Number 2: another seat drew the time between the look and the exchange.
+    /// Another seat drew the time between the look and the exchange.
     #[error("raced")]
     Raced,
 }

@@ -9,7 +9,6 @@ use clsm_law::{Answer, Part};
 use clsm_model::Time;
 use clsm_words::{Pace, RawSeat, Words};
 use std::sync::Wait;
-use std::thread;
 use thiserror::Error;
 
 /// Why a seat did not link its cell: another cell was linked in the chain between the look and the
@@ -50,8 +49,8 @@ pub(crate) fn try_link<P: Pace>(
 }
 
 /// Links the drawn cell, and tries until it is linked, as long as that takes. Each try that lost
-/// has moved the seat's count of such refusals by one. A walk of a chain that the seat had begun is
-/// ended.
+/// has moved the seat's count of such refusals by one: another cell was linked, so it tries again at
+/// once. A walk of a chain that the seat had begun is ended.
 pub(crate) fn link<P: Pace, R: Wait>(
     rt: &R,
     words: &Words<P>,
@@ -70,7 +69,6 @@ pub(crate) fn link<P: Pace, R: Wait>(
         if try_link(words, seat, time, key).is_ok() {
             return;
         }
-        thread::yield_now();
     }
     unreachable!()
 }

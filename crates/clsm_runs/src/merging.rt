@@ -21,13 +21,12 @@ use clsm_model::{Time, Value};
 use clsm_words::{Pace, RawMerger, Words};
 use thiserror::Error;
 
-/// The refusal of a merge, number 1: a merge into level 1 would keep more entries than a run has
-/// room for.
+/// The refusal of a merge: a merge into level 1 would keep more entries than a run has room for.
 #[derive(Clone, Copy, PartialEq, Eq, Debug, Error)]
 #[error("run full")]
 pub struct RunFull;
 
-/// The run that the merge after so many writes, with nothing in it.
+/// The run that the merge after this many merges writes, with nothing in it.
 fn open_output<P: Pace>(words: &Words<P>, merger: &RawMerger, merges: u64, floor: Time) -> Output
     requires of { IsSeatOf words.now merger.now }
     requires merging { IsFrozenBehind merger.now.knows merges }
