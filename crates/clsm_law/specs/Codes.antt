@@ -1,7 +1,7 @@
 -- The numbers that stand for something else in a word.
 use Rattle.std.specs.Prelude.{ℕ, ◌^◌}
 
--- LOCK while the merger holds it; a number of shared holders is below it
+-- LOCK under an exclusive hold; a number of shared holders is below it
 abbrev pub exclusive_hold : ℕ
 exclusive_hold = 4294967296
 

@@ -9,8 +9,9 @@ use clsm_law::{Answer, Step, Word};
 use clsm_model::Time;
 
 impl<P: Pace> Words<P> {
-    /// Enters the lock beside so many other holders. PlaysTo `Lost` where there were not just so
-    /// many, or the merger held it: the seat is outside then, and its count `busy` moves by one.
+    /// Enters the lock beside so many other holders. Answers `Lost` where there were not just so
+    /// many, or somebody held it exclusively: the seat is outside then, and its count `busy` moves
+    /// by one.
     #[inline(always)]
     pub fn enter_shared(&self, seat: &mut RawSeat, holders: u64) -> Answer
         requires { MayPlay self.now seat.old (EnterShared holders) }
@@ -34,7 +35,7 @@ impl<P: Pace> Words<P> {
         self.words.subtract(seat, &Step::LeaveShared, Word::Lock, 1);
     }
 
-    /// Draws the time, if it is the next. PlaysTo `Lost` where it is not: nothing is drawn then,
+    /// Draws the time, if it is the next. Answers `Lost` where it is not: nothing is drawn then,
     /// and the seat's count `raced` moves by one.
     #[inline(always)]
     pub fn draw(&self, seat: &mut RawSeat, time: Time) -> Answer
