@@ -74,6 +74,9 @@ module _ (a b c d e : Known) (component t : ℕ) (end : End) (rests : IsAtRest a
   pub clock_noted : d.view.pin_clock ≡ Some t
   clock_noted = ap (λ (v : View). v.pin_clock) looks.reads.view ∙ ap (λ (v : View). v.pin_clock) reads.view ∙ begins.pin_clock
 
+  clock_seen : e.view.clock ≡ Some t
+  clock_seen = ap (λ (v : View). v.clock) unpins.view ∙ ap (λ (v : View). v.clock) looks.reads.view ∙ ap (λ (v : View). v.clock) reads.view ∙ begins.clock
+
   pub snapshot_before : d.view.snapshot ≡ a.view.snapshot
   snapshot_before = ap (λ (v : View). v.snapshot) looks.reads.view ∙ ap (λ (v : View). v.snapshot) reads.view ∙ begins.snapshot
 
@@ -125,6 +128,7 @@ module _ (a b c d e : Known) (component t : ℕ) (end : End) (rests : IsAtRest a
     snapshot = snapshot;
     calls = ap (λ (v : View). v.calls) unpins.view ∙ ap (λ (f : End). d.view.calls ++ ended_calls d.number d.view f) is ∙ append-nil d.view.calls ∙ calls_before;
     due = ap (λ (v : View). v.due) unpins.view ∙ ap (ended_due d.view) is ∙ ap or_zero clock_noted;
+    read = clock_seen;
     above = begins.above;
     reaches = reached;
     has_told = told_known reached;

@@ -30,4 +30,5 @@ pub record HoldsOn (old new : Known) : Type 0 where
   pub clock : new.merger.clock_extended ≡ old.merger.clock_extended
   pub limit : new.merger.limit_extended ≡ old.merger.limit_extended
   pub floor : new.merger.floor ≡ old.merger.floor
+  pub rounds : new.merger.rounds ≡ old.merger.rounds
   pub holds : new.merger.holds ≡ old.merger.holds

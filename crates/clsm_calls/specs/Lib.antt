@@ -8,6 +8,7 @@ pub mod Meeting
 pub mod Changing
 pub mod Flooring
 pub mod Freezing
+pub mod Looking
 pub mod Merging
 pub mod Reclaiming
 pub mod Trying

@@ -1,5 +1,5 @@
 -- What the merger's tokens carry, and what a merge makes of them.
-use Rattle.std.specs.Prelude.{◌≡◌, ℕ, ◌+◌, ◌*◌, ◌<◌, ◌≤◌, List, length, map, Some, vec_capacity, true}
+use Rattle.std.specs.Prelude.{◌≡◌, ℕ, ◌+◌, ◌*◌, ◌<◌, ◌≤◌, List, length, map, max, Option, Some, vec_capacity, true}
 use Rattle.std.specs.List.{AllByRecursion}
 use Rattle.clsm_model.specs.declared.slot.Slot.{Slot}
 use Rattle.clsm_model.specs.History.{plain}
@@ -7,6 +7,8 @@ use Rattle.clsm_levels.specs.declared.entry.Entry.{Entry}
 use Rattle.clsm_levels.specs.Entry.{IsWriteOf, entries_of}
 use Rattle.clsm_levels.specs.Merge.{is_to_level_one, wanted}
 use Rattle.clsm_levels.specs.Run.{IsExact, all_of}
+use Rattle.clsm_law.specs.declared.word.Word.TheVariants.{Clock}
+use Rattle.clsm_law.specs.Merging.{lesser}
 use Rattle.clsm_law.specs.Views.{next_word}
 use Rattle.clsm_law.specs.Worlds.{epoch_of, runs_of}
 use Rattle.clsm_words.specs.declared.known.Known.{Known}
@@ -14,7 +16,7 @@ use Rattle.clsm_words.specs.Knowing.{row_of}
 use Rattle.clsm_calls.specs.declared.merger_seat.MergerSeat.{MergerSeat}
 use Rattle.clsm_calls.specs.Freezing.{IsFrozen}
 use Rattle.clsm_calls.specs.Reclaiming.{IsRetired}
-use Rattle.clsm_calls.specs.Seats.{FrozenState, MergerState, RetiredState}
+use Rattle.clsm_calls.specs.Seats.{CleanState, FrozenState, MergerState, RetiredState}
 
 -- the writes of the epoch of the next merge, as far as the merger knows, and the runs
 abbrev pub epoch_known : Known → List Entry
@@ -30,14 +32,18 @@ runs_known k = runs_of (row_of k) k.merger.merged
 abbrev pub merger_of : MergerSeat → MergerState
 merger_of m = record { store = record { table = m.raw.table; layout = m.raw.knows.layout }; merges = m.merges; holds = m.raw.knows.merger.holds }
 
--- the same while an epoch is frozen: with its floor and its rounds, and with what the next merge
--- reads
+-- the same while nothing is frozen: with its floor, its rounds and the clock
+abbrev pub clean_of : MergerSeat → CleanState
+clean_of m = record { merger = merger_of m; floor = m.floor; rounds = m.raw.knows.merger.rounds; clock = row_of m.raw.knows Clock }
+
+-- while an epoch is frozen: with its floor, its rounds and what the last one found, and with what the
+-- next merge reads
 abbrev pub frozen_of : MergerSeat → FrozenState
-frozen_of m = record { merger = merger_of m; floor = m.floor; rounds = m.raw.knows.merger.rounds; epoch = epoch_known m.raw.knows; runs = runs_known m.raw.knows }
+frozen_of m = record { merger = merger_of m; floor = m.floor; rounds = m.raw.knows.merger.rounds; noted = m.noted; epoch = epoch_known m.raw.knows; runs = runs_known m.raw.knows }
 
 -- and while a component is retired: with what was noted of each seat
 abbrev pub retired_of : MergerSeat → RetiredState
-retired_of m = record { merger = merger_of m; floor = m.floor; rounds = m.raw.knows.merger.rounds; readers = m.seen.items }
+retired_of m = record { merger = merger_of m; floor = m.floor; rounds = m.raw.knows.merger.rounds; noted = m.noted; readers = m.seen.items }
 
 -- What the token of a frozen epoch carries is of the history h, whose times are known to the epoch's
 -- end. The epoch's writes are those of h at the epoch's times, the newest first. Each entry of the
@@ -61,7 +67,7 @@ pub record IsReady (m : MergerSeat) : Type 0 where
 pub record StaysFrozen (old new : MergerSeat) : Type 0 where
   pub frozen : IsFrozen new.raw.knows new.merges
   pub ready : IsReady new
-  pub same : frozen_of new ≡ record (frozen_of old) { floor = new.floor; rounds = new.raw.knows.merger.rounds }
+  pub same : frozen_of new ≡ record (frozen_of old) { floor = new.floor; rounds = new.raw.knows.merger.rounds; noted = new.noted }
 
 -- a component is retired
 pub record IsRetiring (m : MergerSeat) : Type 0 where
@@ -69,10 +75,12 @@ pub record IsRetiring (m : MergerSeat) : Type 0 where
   pub ready : IsReady m
   pub seen : m.seen.items ≡ m.raw.knows.merger.readers
 
--- It looked at all snapshot words in one round, and took this floor from it: a floor never falls,
--- and is not past the epoch's end
-pub record TakesFloor (s : FrozenState) (floor rounds : ℕ) : Type 0 where
+-- It looked at all snapshot words in one round, which found this least time noted, if any. The floor
+-- that it took is the greater of the one before and of the epoch's end or that time, where that is
+-- less. So a floor never falls, and is not past the epoch's end
+pub record TakesFloor (s : FrozenState) (floor rounds : ℕ) (noted : Option ℕ) : Type 0 where
   pub looked : rounds ≡ next_word s.rounds
+  pub took : floor ≡ max s.floor (lesser ((s.merger.merges + 1) * s.merger.store.layout.cells) noted)
   pub kept : s.floor ≤ floor
   pub early : floor ≤ (s.merger.merges + 1) * s.merger.store.layout.cells
 

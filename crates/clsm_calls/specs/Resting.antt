@@ -27,6 +27,7 @@ seat_of s = let v = s.knows.view in record {
   due = v.due;
   snapshot = open_time v.snapshot;
   tally = tally_of s.knows;
+  clock = v.clock;
 }
 
 -- the store that has these words

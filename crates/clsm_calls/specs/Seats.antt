@@ -29,8 +29,8 @@ abbrev pub HasSizes : StoreId → Config → Type 0
 HasSizes store config = HasSizesOf store.layout config
 
 -- a seat: its store, its number, the beginning of the history that it knows, its slots and its
--- batches, its records in order, the time below which it answers no more, and the time of its open
--- snapshot
+-- batches, its records in order, the time below which it answers no more, the time of its open
+-- snapshot, what it counts, and the clock as it looked at it last
 pub record SeatState : Type 0 where
   pub store : StoreId
   pub number : ℕ
@@ -40,6 +40,7 @@ pub record SeatState : Type 0 where
   pub due : ℕ
   pub snapshot : Option ℕ
   pub tally : Tally
+  pub clock : Option ℕ
 
 -- the history as far as the seat knows it
 abbrev pub known_by : SeatState → History
@@ -47,7 +48,7 @@ known_by s = record { slots = s.past; batches = s.batches }
 
 -- the seat with this number, which did nothing yet
 abbrev pub newcomer : StoreId → ℕ → SeatState
-newcomer store number = record { store = store; number = number; past = []; batches = []; calls = []; due = 0; snapshot = None; tally = record { entries = 0; busy = 0; raced = 0; overtaken = 0; gave_up = 0; cancelled = 0; limit = None; clock = None } }
+newcomer store number = record { store = store; number = number; past = []; batches = []; calls = []; due = 0; snapshot = None; tally = record { entries = 0; busy = 0; raced = 0; overtaken = 0; gave_up = 0; cancelled = 0; limit = None; clock = None }; clock = None }
 
 -- the seats of the store in order, none of which did anything
 pub record AreNew (store : StoreId) (count : ℕ) (seats : List SeatState) : Type 0 where
@@ -60,27 +61,36 @@ pub record MergerState : Type 0 where
   pub merges : ℕ
   pub holds : ℕ
 
--- and, while an epoch is frozen, the floor of the last try to merge, how many rounds of looks at
--- all snapshot words it made, modulo 2^64, the epoch's writes, the newest first, and the runs in
--- the order in which they are searched
+-- and, while nothing is frozen, the floor of the last try to merge, how many rounds of looks at all
+-- snapshot words it made, modulo 2^64, and the clock as it was at the merger's last step
+pub record CleanState : Type 0 where
+  pub merger : MergerState
+  pub floor : ℕ
+  pub rounds : ℕ
+  pub clock : ℕ
+
+-- and, while an epoch is frozen, the floor and the rounds, the least time that the last round found
+-- noted, the epoch's writes, the newest first, and the runs in the order in which they are searched
 pub record FrozenState : Type 0 where
   pub merger : MergerState
   pub floor : ℕ
   pub rounds : ℕ
+  pub noted : Option ℕ
   pub epoch : List Entry
   pub runs : List (List Entry)
 
--- and, while a component is retired, the floor of the merge that retired it, the rounds, and what
--- was noted of each seat since
+-- and, while a component is retired, the floor of the merge that retired it, the rounds, the least
+-- time that its round found noted, and what was noted of each seat since
 pub record RetiredState : Type 0 where
   pub merger : MergerState
   pub floor : ℕ
   pub rounds : ℕ
+  pub noted : Option ℕ
   pub readers : List Reader
 
 -- the store's merger, which did nothing yet
-abbrev pub IsNewMerger : StoreId → MergerState → Type 0
-IsNewMerger store merger = merger ≡ record { store = store; merges = 0; holds = 0 }
+abbrev pub IsNewMerger : StoreId → CleanState → Type 0
+IsNewMerger store new = new ≡ record { merger = record { store = store; merges = 0; holds = 0 }; floor = 0; rounds = 0; clock = new.clock }
 
 -- ---- what holds of every seat
 

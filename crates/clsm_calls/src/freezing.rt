@@ -35,6 +35,7 @@ pub fn freeze<P: Pace, R: Wait>(rt: &R, words: &Words<P>, merger: &mut RawMerger
     ensures of { IsSeatOf words.now merger.new }
     ensures frozen { IsFrozen merger.new.knows merges }
     ensures floor { merger.new.knows.merger.floor ≡ merger.old.knows.merger.floor }
+    ensures rounds { merger.new.knows.merger.rounds ≡ merger.old.knows.merger.rounds }
     ensures held { merger.new.knows.merger.holds ≡ next_word merger.old.knows.merger.holds }
 {
     let end = (merges + 1) * words.cells();

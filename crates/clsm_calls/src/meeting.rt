@@ -38,6 +38,6 @@ pub fn confirm_at<P: Pace>(words: &Words<P>, seat: &mut RawSeat)
     ensures confirms { Confirms seat.old.knows seat.new.knows }
 {
     seat.show_invariant();
-    words.look(seat, Word::Clock);
+    words.look(seat, Word::Limit);
     seat.show_invariant();
 }

@@ -18,11 +18,13 @@ fn renew_floor<P: Pace>(words: &Words<P>, merger: &mut MergerSeat)
     requires ready { IsReady merger.old }
     ensures of { IsSeatOf words.now merger.new.raw }
     ensures stays { StaysFrozen merger.old merger.new }
-    ensures floor { TakesFloor (frozen_of merger.old) merger.new.floor merger.new.raw.knows.merger.rounds }
+    ensures floor { TakesFloor (frozen_of merger.old) merger.new.floor merger.new.raw.knows.merger.rounds merger.new.noted }
 {
     merger.raw.show_invariant();
     let end = (merger.merges + 1) * words.cells();
-    merger.floor = take_floor(words, &mut merger.raw, merger.floor, end);
+    let (floor, noted) = take_floor(words, &mut merger.raw, merger.floor, end);
+    merger.floor = floor;
+    merger.noted = noted;
 }
 
 /// Forgets what was noted of the seats.
@@ -44,7 +46,8 @@ pub fn merge<P: Pace>(words: &Words<P>, merger: &mut MergerSeat) -> Result<(), R
     requires ready { IsReady merger.old }
     ensures retired { OnOk result (IsRetiring merger.new) }
     ensures counted { OnOk result (merger_of merger.new ≡ record (merger_of merger.old) { merges = merger.old.merges + 1 }) }
-    ensures floor { TakesFloor (frozen_of merger.old) merger.new.floor merger.new.raw.knows.merger.rounds }
+    ensures unseen { OnOk result (merger.new.seen.items ≡ replicate merger.old.raw.knows.layout.seats unseen) }
+    ensures floor { TakesFloor (frozen_of merger.old) merger.new.floor merger.new.raw.knows.merger.rounds merger.new.noted }
     ensures fits { OnOk result (IsRunFull (frozen_of merger.old) merger.new.floor → ⊥) }
     ensures stays { IfErr result (λ refusal. StaysFrozen merger.old merger.new) }
     ensures full { IfErr result (λ refusal. IsRunFull (frozen_of merger.old) merger.new.floor) }

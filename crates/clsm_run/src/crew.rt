@@ -113,14 +113,14 @@ where
     R: Threads + Sync + Clock + Wait,
     E: Write + Send,
     requires seats { All (λ seat. seat.store ≡ store.now) seats.items }
-    requires merger { merger.store ≡ store.now }
+    requires merger { merger.merger.store ≡ store.now }
     ensures { IfOk result.0 (λ worked. AreWorked seats.items worked.items) }
 {
     // Where no thread can be made, the first of the two comes last, and finds that all is over.
     let (merges, worked) = join(
         rt,
         || -> u64
-            requires { merger.store ≡ store.now }
+            requires { merger.merger.store ≡ store.now }
         { merge_showing(rt, store, merger, shows, board, faults) },
         || -> Result<Vec<Worked>, AllocError>
             requires { All (λ seat. seat.store ≡ store.now) seats.items }
@@ -172,7 +172,7 @@ where
     P: Pace + Drop + Sync,
     R: Threads + Sync + Clock + Wait,
     E: Write + Send,
-    requires { merger.store ≡ store.now }
+    requires { merger.merger.store ≡ store.now }
 {
     let merger = Merger::new(store, merger);
     if !shows.progress {

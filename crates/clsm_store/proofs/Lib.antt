@@ -2,4 +2,4 @@ pub mod Starts
 mod SeatPlaces
 mod Chained
 mod Joint
-mod Swept
+mod SweepParts

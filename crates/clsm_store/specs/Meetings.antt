@@ -1,5 +1,5 @@
 -- What meetings make of seats.
-use Rattle.std.specs.Prelude.{◌≡◌, ℕ, ◌+◌, ◌≤◌, List, length}
+use Rattle.std.specs.Prelude.{◌≡◌, ℕ, ◌+◌, ◌≤◌, List, length, Some}
 use Rattle.std.specs.List.{All}
 use Rattle.clsm_model.specs.History.{History, IsBeginning, end_of}
 use Rattle.clsm_words.specs.Knowing.{Agrees}
@@ -8,13 +8,15 @@ use Rattle.clsm_store.specs.Headline.{IsAt}
 use Rattle.clsm_calls.specs.Seats.{IsLawfulAlone, IsSameSeat, SeatState, StoreId, known_by}
 use Rattle.clsm_calls.specs.Tally.{TakesNoLock}
 
--- the seat read with no record, at the time that is its due from then on: the same calls and
--- snapshot, and no lock taken; the time is not below its old due, and the seat knows all below it
+-- the seat read with no record, at the time that is its due from then on, which is the clock as it
+-- looked at it then: the same calls and snapshot, and no lock taken; the time is not below its old
+-- due, and the seat knows all below it
 pub record IsUnrecorded (old new : SeatState) : Type 0 where
   pub same : IsSameSeat old new
   pub calls : new.calls ≡ old.calls
   pub snapshot : new.snapshot ≡ old.snapshot
   pub unlocked : TakesNoLock old.tally new.tally
+  pub read : new.clock ≡ Some new.due
   pub above : old.due ≤ new.due
   pub reaches : new.due ≤ end_of (known_by new)
 

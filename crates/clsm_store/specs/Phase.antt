@@ -1,5 +1,6 @@
 -- What the merger's commands make of its token, and what they answer.
-use Rattle.std.specs.Prelude.{◌≡◌, ℕ, ◌+◌, ◌*◌, ◌^◌, ◌<◌, ⊤, Result, Ok, Err}
+use Rattle.std.specs.Prelude.{◌≡◌, ℕ, ◌+◌, ◌*◌, ◌^◌, ◌<◌, ⊤, replicate, Result, Ok, Err}
+use Rattle.clsm_law.specs.Merging.{unseen}
 use Rattle.clsm_law.specs.Views.{next_word}
 use Rattle.clsm_calls.specs.Seats.{MergerState}
 use Rattle.clsm_calls.specs.Merging.{IsRunFull, TakesFloor}
@@ -15,39 +16,43 @@ use Rattle.clsm_store.specs.declared.phase.ReclaimError.TheVariants.{NotRetired,
 
 -- the merger, in whichever phase it is
 abbrev pub merger_in : Phase → MergerState
-merger_in (Clean merger) = merger
+merger_in (Clean clean) = clean.merger
 merger_in (Frozen frozen) = frozen.merger
 merger_in (Retired retired) = retired.merger
 
--- where the merger is clean, the epoch is frozen under the lock, or the next limit would pass 2^62;
--- else nothing is done
+-- where the merger is clean, the epoch is frozen under the lock, with the floor and the rounds of
+-- before, or the next limit would pass 2^62; else nothing is done
 abbrev pub Freezes : Phase → Phase → Result ℕ FreezeError → Type 0
 Freezes (Clean old) (Frozen new) (Ok epoch) =
-    (new.merger ≡ record old { holds = next_word old.holds }) × (epoch ≡ old.merges)
+    (new.merger ≡ record old.merger { holds = next_word old.merger.holds })
+    × (new.floor ≡ old.floor)
+    × (new.rounds ≡ old.rounds)
+    × (epoch ≡ old.merger.merges)
 Freezes (Clean old) (Clean new) (Err (Worn _)) =
-    (new ≡ old) × (2 ^ 62 < (old.merges + 2) * old.store.layout.cells)
+    (new ≡ old) × (2 ^ 62 < (old.merger.merges + 2) * old.merger.store.layout.cells)
 Freezes (Clean _) _ _ = ⊥
 Freezes old new answer = (new ≡ old) × (answer ≡ Err NotClean)
 
--- where an epoch is frozen, a floor is taken, and it is merged by it, or there is no room for what
--- is kept by it; else nothing is done
+-- where an epoch is frozen, a floor is taken, and it is merged by it, so that no seat was looked at
+-- yet, or there is no room for what is kept by it; else nothing is done
 abbrev pub Merges : Phase → Phase → Result ℕ MergeError → Type 0
 Merges (Frozen old) (Retired new) (Ok merges) =
     (new.merger ≡ record old.merger { merges = old.merger.merges + 1 })
     × (merges ≡ old.merger.merges + 1)
-    × TakesFloor old new.floor new.rounds
+    × (new.readers ≡ replicate old.merger.store.layout.seats unseen)
+    × TakesFloor old new.floor new.rounds new.noted
     × (¬ IsRunFull old new.floor)
 Merges (Frozen old) (Frozen new) (Err (RunFull _)) =
-    (new ≡ record old { floor = new.floor; rounds = new.rounds })
-    × TakesFloor old new.floor new.rounds
+    (new ≡ record old { floor = new.floor; rounds = new.rounds; noted = new.noted })
+    × TakesFloor old new.floor new.rounds new.noted
     × IsRunFull old new.floor
 Merges (Frozen _) _ _ = ⊥
 Merges old new answer = (new ≡ old) × (answer ≡ Err NotFrozen)
 
--- where a component is retired, it is given up, or the lowest seat that is looked at and not found
+-- where a component is retired, it is given up, with its floor and rounds, or the lowest seat that is looked at and not found
 -- quiet is named; else nothing is done
 abbrev pub Reclaims : Phase → Phase → Result ⊤ ReclaimError → Type 0
-Reclaims (Retired old) (Clean new) (Ok _) = new ≡ old.merger
+Reclaims (Retired old) (Clean new) (Ok _) = new ≡ record { merger = old.merger; floor = old.floor; rounds = old.rounds; clock = new.clock }
 Reclaims (Retired old) (Retired new) (Err (Pinned pinned)) =
     (new ≡ record old { readers = new.readers })
     × IsLowestLoud old.readers new.readers pinned.0

@@ -1,8 +1,9 @@
 -- A sweep: a freeze, a merge and a reclaim, as far as these go. What it comes to is said by what
 -- these come to: where one is done the next goes on from it, and where one is refused the sweep
 -- stops there, for the same reason.
-use Rattle.std.specs.Prelude.{◌+◌, ⊤, Result, Ok, Err}
-use Rattle.clsm_calls.specs.Seats.{FrozenState, MergerState, RetiredState}
+use Rattle.std.specs.Prelude.{ℕ, ◌+◌, ◌<◌, ◌≤◌, ⊤, min, Result, Ok, Err}
+use Rattle.clsm_calls.specs.Looking.{LooksAtClock, drawn_of}
+use Rattle.clsm_calls.specs.Seats.{CleanState, FrozenState, RetiredState}
 use Rattle.clsm_store.specs.declared.phase.Phase.{Phase}
 use Rattle.clsm_store.specs.declared.phase.Phase.TheVariants.{Clean, Frozen, Retired}
 use Rattle.clsm_store.specs.declared.phase.FreezeError.TheVariants.{Worn as FreezeWorn}
@@ -10,6 +11,8 @@ use Rattle.clsm_store.specs.declared.phase.MergeError.TheVariants.{RunFull as Me
 use Rattle.clsm_store.specs.declared.phase.ReclaimError.TheVariants.{Pinned as ReclaimPinned}
 use Rattle.clsm_store.specs.declared.sweeping.Stopped.{Stopped}
 use Rattle.clsm_store.specs.declared.sweeping.Stopped.TheVariants.{Worn, RunFull, Pinned}
+use Rattle.clsm_store.specs.declared.sweeping.Swept.{Swept}
+use Rattle.clsm_store.specs.declared.sweeping.Swept.TheVariants.{Done, Waited}
 use Rattle.clsm_store.specs.Phase.{Freezes, Merges, Reclaims}
 
 -- from a retired component on: a reclaim
@@ -27,11 +30,11 @@ SweepsFrozen old new answer =
     × SweepsRetired retired new answer
 
 -- from where nothing is frozen: a freeze that is refused, or one freeze and a sweep of the epoch
-abbrev pub SweepsClean : MergerState → Phase → Result ⊤ Stopped → Type 0
+abbrev pub SweepsClean : CleanState → Phase → Result ⊤ Stopped → Type 0
 SweepsClean old new (Err (Worn worn)) = Freezes (Clean old) new (Err (FreezeWorn worn))
 SweepsClean old new answer =
     (frozen : FrozenState)
-    × Freezes (Clean old) (Frozen frozen) (Ok old.merges)
+    × Freezes (Clean old) (Frozen frozen) (Ok old.merger.merges)
     × SweepsFrozen frozen new answer
 
 -- what a sweep comes to, from the phase in which the merger is
@@ -39,3 +42,40 @@ abbrev pub Sweeps : Phase → Phase → Result ⊤ Stopped → Type 0
 Sweeps (Clean old) new answer = SweepsClean old new answer
 Sweeps (Frozen old) new answer = SweepsFrozen old new answer
 Sweeps (Retired old) new answer = SweepsRetired old new answer
+
+-- ---- a sweep that freezes an epoch only once enough of it is used
+
+-- so many times of the epoch are enough: as many as are asked for, or all that it has
+abbrev pub enough : ℕ → CleanState → ℕ
+enough used s = min used s.merger.store.layout.cells
+
+-- fewer were drawn at the look at the clock, and but for that look the merger is as it was
+abbrev pub Waits : ℕ → CleanState → Phase → Type 0
+Waits used old (Clean new) = LooksAtClock old new × (drawn_of new < enough used new)
+Waits used old _ = ⊥
+
+-- enough were drawn at the look at the clock, and it swept
+abbrev pub SweepsUsed : ℕ → CleanState → Phase → Result ⊤ Stopped → Type 0
+SweepsUsed used old new answer =
+    (looked : CleanState)
+    × LooksAtClock old looked
+    × (enough used looked ≤ drawn_of looked)
+    × SweepsClean looked new answer
+
+-- from where nothing is frozen: it waits, or it sweeps
+abbrev pub SweepsCleanIf : ℕ → CleanState → Phase → Result Swept Stopped → Type 0
+SweepsCleanIf used old new (Ok Waited) = Waits used old new
+SweepsCleanIf used old new (Ok Done) = SweepsUsed used old new (Ok tt)
+SweepsCleanIf used old new (Err stopped) = SweepsUsed used old new (Err stopped)
+
+-- the answer where it did not wait
+abbrev pub done_of : Result ⊤ Stopped → Result Swept Stopped
+done_of (Ok _) = Ok Done
+done_of (Err stopped) = Err stopped
+
+-- what such a sweep comes to: in the other phases it never waits
+abbrev pub SweepsIf : ℕ → Phase → Phase → Result Swept Stopped → Type 0
+SweepsIf used (Clean old) new answer = SweepsCleanIf used old new answer
+SweepsIf used old new (Ok Waited) = ⊥
+SweepsIf used old new (Ok Done) = Sweeps old new (Ok tt)
+SweepsIf used old new (Err stopped) = Sweeps old new (Err stopped)

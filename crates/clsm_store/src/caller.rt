@@ -3,6 +3,7 @@ ghost use Rattle.std.specs.Prelude.{◌≡◌, ◌≢◌, None, Some, IfNone, If
 ghost use Rattle.clsm_model.specs.declared.record.Deed.TheVariants.{Batch as Group, Close, Get, GetAt, Page as PageOf, Put, Remove, Rmw as ChangeOf, Scan as ScanOf, Snapshot};
 ghost use Rattle.clsm_model.specs.Seats.{FitsDeed};
 ghost use Rattle.clsm_calls.specs.Batching.{CountsBatch, IsRefusedBatch};
+ghost use Rattle.clsm_calls.specs.Looking.{FindsRoom};
 ghost use Rattle.clsm_calls.specs.Seats.{Answers, GivesUpForWrites, IsFull, Refuses};
 ghost use Rattle.clsm_calls.specs.Tally.{CancelsNone, CountsTry, TakesLockOnce, TakesNoLock};
 ghost use Rattle.clsm_calls.specs.Trying.{RefusesTry};
@@ -140,6 +141,13 @@ impl<'a, P: Pace> Caller<'a, P> {
         ensures refused { IfErr result (λ refusal. Refuses self.old.seat self.new.seat) }
     {
         self.store.page(alloc, &mut self.seat, from, hi, max)
+    }
+
+    /// As `Store::room`.
+    pub fn room(&mut self) -> u64
+        ensures { FindsRoom self.old.seat self.new.seat result }
+    {
+        self.store.room(&mut self.seat)
     }
 
     /// As `Seat::snapshot_time`.

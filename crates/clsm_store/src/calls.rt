@@ -3,6 +3,7 @@ ghost use Rattle.std.specs.Prelude.{◌≡◌, ◌≢◌, None, Some, IfNone, If
 ghost use Rattle.clsm_model.specs.declared.record.Deed.TheVariants.{Batch as Group, Close, Get, GetAt, Put, Remove, Rmw as ChangeOf, Snapshot};
 ghost use Rattle.clsm_model.specs.Seats.{FitsDeed};
 ghost use Rattle.clsm_calls.specs.Batching.{CountsBatch, IsRefusedBatch};
+ghost use Rattle.clsm_calls.specs.Looking.{FindsRoom};
 ghost use Rattle.clsm_calls.specs.Seats.{Answers, GivesUpForWrites, IsFull};
 ghost use Rattle.clsm_calls.specs.Tally.{CancelsNone, CountsTry, TakesLockOnce, TakesNoLock};
 ghost use Rattle.clsm_calls.specs.Trying.{RefusesTry};
@@ -11,7 +12,7 @@ use crate::seat::Seat;
 use crate::store::Store;
 use clsm_calls::{
     BatchError, Full, Got, Open, Rmw, TryPutError, batch, change, open_at, read, read_under,
-    try_write, write,
+    room_at, try_write, write,
 };
 use clsm_model::{Change, Time, Value};
 use clsm_pins::close_snapshot;
@@ -190,5 +191,15 @@ impl<P: Pace> Store<P> {
         let got = read_under(&self.words, &mut seat.raw, seat.pin, time, key);
         seat.pin = seat.pin.wrapping_add(2);
         got
+    }
+    /// How many timestamps are left in the epoch, as one look at its limit and then one at the clock
+    /// find it, or 0 where the clock has passed that limit. The answer may be old at once: others
+    /// draw timestamps, and a freeze makes room. It records nothing, costs two looks, takes no lock,
+    /// never waits and is never refused.
+    pub fn room(&self, seat: &mut Seat) -> u64
+        requires { seat.old.store ≡ self.now }
+        ensures { FindsRoom seat.old seat.new result }
+    {
+        room_at(&self.words, &mut seat.raw)
     }
 }

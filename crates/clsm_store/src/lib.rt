@@ -28,4 +28,4 @@ pub use opening::{Opened, open, open_paced};
 pub use phase::{FreezeError, MergeError, Phase, ReclaimError};
 pub use seat::Seat;
 pub use store::Store;
-pub use sweeping::Stopped;
+pub use sweeping::{Stopped, Swept};

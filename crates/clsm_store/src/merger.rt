@@ -3,11 +3,11 @@
 ghost use Rattle.std.specs.Prelude.{◌≡◌, IfOk};
 ghost use Rattle.clsm_store.specs.declared.phase.Phase.TheVariants.{Clean as CleanPhase};
 ghost use Rattle.clsm_store.specs.Phase.{Freezes, Merges, Reclaims, merger_in};
-ghost use Rattle.clsm_store.specs.Sweeping.{Sweeps};
+ghost use Rattle.clsm_store.specs.Sweeping.{Sweeps, SweepsIf};
 
 use crate::phase::{FreezeError, MergeError, Phase, ReclaimError};
 use crate::store::Store;
-use crate::sweeping::{Stopped, sweep};
+use crate::sweeping::{Stopped, Swept, sweep, sweep_if_used};
 use clsm_words::Pace;
 use std::sync::Wait;
 
@@ -27,7 +27,7 @@ pub struct Merger<'a, P: Pace + Drop> {
 impl<'a, P: Pace + Drop> Merger<'a, P> {
     /// The merger that has this token, which is the store's.
     pub fn new(store: &'a Store<P>, clean: Clean) -> Merger<'a, P>
-        requires { clean.store ≡ store.now }
+        requires { clean.merger.store ≡ store.now }
         ensures { result.phase ≡ CleanPhase clean }
     {
         let phase = Phase::Clean(clean);
@@ -73,6 +73,23 @@ impl<'a, P: Pace + Drop> Merger<'a, P> {
     {
         let store = self.store;
         let (phase, answer) = sweep(rt, store, self.phase);
+        (Merger { store, phase }, answer)
+    }
+
+    /// As `sweep`, but where nothing is frozen it looks at the clock first, and freezes the epoch
+    /// only if at least `used` of its timestamps are drawn, or all that it has. Else it answers
+    /// `Waited`: nothing was done then, at the cost of one look. Where an epoch is frozen or a
+    /// component is retired it goes on as `sweep`. So a merger that never rests makes runs of a
+    /// size that is worth a merge. More may be drawn by the time that it answers.
+    pub fn sweep_if_used<R: Wait>(
+        self,
+        rt: &R,
+        used: u64,
+    ) -> (Merger<'a, P>, Result<Swept, Stopped>)
+        ensures { SweepsIf used self.entry.phase result.0.phase result.1 }
+    {
+        let store = self.store;
+        let (phase, answer) = sweep_if_used(rt, store, self.phase, used);
         (Merger { store, phase }, answer)
     }
 }

@@ -3,7 +3,7 @@ ghost use Rattle.std.specs.Prelude.{◌≡◌, ◌<◌, ◌+◌, vec_len, All, I
 ghost use Rattle.clsm_model.specs.Config.{IsSound};
 ghost use Rattle.clsm_words.specs.Plays.{AreFreshFrom, IsFreshMerger};
 ghost use Rattle.clsm_calls.specs.Freezing.{IsClean};
-ghost use Rattle.clsm_calls.specs.Merging.{IsReady, merger_of};
+ghost use Rattle.clsm_calls.specs.Merging.{IsReady, clean_of};
 ghost use Rattle.clsm_calls.specs.Seats.{AreNew, HasSizes, IsNewMerger};
 ghost use Rattle.clsm_store.specs.Opening.{IsRefusal};
 ghost use Rattle.clsm_calls.specs.Resting.{store_of};
@@ -102,7 +102,7 @@ fn unseen(alloc: Global, seats: usize) -> Result<Vec<Reader>, AllocError>
 fn seat_merger(alloc: Global, layout: &Layout, raw: RawMerger) -> Result<MergerSeat, AllocError>
     requires fresh { IsFreshMerger raw }
     requires layout { raw.knows.layout ≡ layout.now }
-    ensures new { IfOk result (λ merger. merger_of merger ≡ record { store = record { table = raw.table; layout = raw.knows.layout }; merges = 0; holds = raw.knows.merger.holds }) }
+    ensures new { IfOk result (λ merger. clean_of merger ≡ record { merger = record { store = record { table = raw.table; layout = raw.knows.layout }; merges = 0; holds = 0 }; floor = 0; rounds = 0; clock = (clean_of merger).clock }) }
     ensures clean { IfOk result (λ merger. IsClean merger.raw.knows merger.merges) }
     ensures ready { IfOk result IsReady }
 {
@@ -110,6 +110,7 @@ fn seat_merger(alloc: Global, layout: &Layout, raw: RawMerger) -> Result<MergerS
         raw,
         merges: 0,
         floor: 0,
+        noted: None,
         walk: FrozenWalk::new(alloc, layout.cells)?,
         seen: unseen(alloc, layout.seats as usize)?,
     })

@@ -1,7 +1,7 @@
 //! The merger's sweep: it freezes, merges and reclaims, from the phase in which the merger is.
 ghost use Rattle.std.specs.Prelude.{◌≡◌};
 ghost use Rattle.clsm_store.specs.Phase.{merger_in};
-ghost use Rattle.clsm_store.specs.Sweeping.{Sweeps, SweepsClean, SweepsFrozen, SweepsRetired};
+ghost use Rattle.clsm_store.specs.Sweeping.{Sweeps, SweepsClean, SweepsCleanIf, SweepsFrozen, SweepsIf, SweepsRetired, done_of};
 
 use crate::merger::{Clean, Frozen, Retired};
 use crate::phase::Phase;
@@ -25,6 +25,15 @@ pub enum Stopped {
     /// The seat with this number may still read what is retired.
     #[error(transparent)]
     Pinned(Pinned),
+}
+
+/// What a sweep did that freezes an epoch only once enough of it is used.
+#[derive(Clone, Copy, PartialEq, Eq, Debug)]
+pub enum Swept {
+    /// It went on to the end: nothing is frozen or retired.
+    Done,
+    /// It found too few timestamps of the epoch drawn, and did nothing.
+    Waited,
 }
 
 /// Gives the retired component up.
@@ -57,7 +66,7 @@ fn sweep_clean<P: Pace + Drop, R: Wait>(
     store: &Store<P>,
     clean: Clean,
 ) -> (Phase, Result<(), Stopped>)
-    requires { clean.store ≡ store.now }
+    requires { clean.merger.store ≡ store.now }
     ensures sweeps { SweepsClean clean result.0 result.1 }
     ensures store { (merger_in result.0).store ≡ store.now }
 {
@@ -81,5 +90,57 @@ pub(crate) fn sweep<P: Pace + Drop, R: Wait>(
         Phase::Clean(clean) => sweep_clean(rt, store, clean),
         Phase::Frozen(frozen) => sweep_frozen(store, frozen),
         Phase::Retired(retired) => sweep_retired(store, retired),
+    }
+}
+
+/// The answer of a sweep that did not wait.
+fn done(answer: Result<(), Stopped>) -> Result<Swept, Stopped>
+    ensures { result ≡ done_of answer }
+{
+    match answer {
+        Ok(()) => Ok(Swept::Done),
+        Err(stopped) => Err(stopped),
+    }
+}
+
+/// Freezes, merges and reclaims, if so many timestamps of the epoch are drawn, or all.
+fn sweep_clean_if<P: Pace + Drop, R: Wait>(
+    rt: &R,
+    store: &Store<P>,
+    mut clean: Clean,
+    used: u64,
+) -> (Phase, Result<Swept, Stopped>)
+    requires { clean.merger.store ≡ store.now }
+    ensures sweeps { SweepsCleanIf used clean result.0 result.1 }
+    ensures store { (merger_in result.0).store ≡ store.now }
+{
+    if clean.drawn(store) < used.min(store.words.cells()) {
+        return (Phase::Clean(clean), Ok(Swept::Waited));
+    }
+    let (phase, answer) = sweep_clean(rt, store, clean);
+    (phase, done(answer))
+}
+
+/// As `sweep`, but freezes an epoch only if so many of its timestamps are drawn, or all.
+pub(crate) fn sweep_if_used<P: Pace + Drop, R: Wait>(
+    rt: &R,
+    store: &Store<P>,
+    phase: Phase,
+    used: u64,
+) -> (Phase, Result<Swept, Stopped>)
+    requires { (merger_in phase).store ≡ store.now }
+    ensures sweeps { SweepsIf used phase result.0 result.1 }
+    ensures store { (merger_in result.0).store ≡ store.now }
+{
+    match phase {
+        Phase::Clean(clean) => sweep_clean_if(rt, store, clean, used),
+        Phase::Frozen(frozen) => {
+            let (phase, answer) = sweep_frozen(store, frozen);
+            (phase, done(answer))
+        }
+        Phase::Retired(retired) => {
+            let (phase, answer) = sweep_retired(store, retired);
+            (phase, done(answer))
+        }
     }
 }

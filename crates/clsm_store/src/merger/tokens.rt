@@ -1,39 +1,43 @@
 //! The merger's tokens, one for each phase, and what it does in each.
-ghost use Rattle.std.specs.Prelude.{◌≡◌, ◌+◌, ◌*◌, ◌^◌, ◌<◌, IfOk, IfErr};
+ghost use Rattle.std.specs.Prelude.{◌≡◌, ◌+◌, ◌*◌, ◌^◌, ◌<◌, replicate, IfOk, IfErr};
+ghost use Rattle.clsm_law.specs.Merging.{unseen};
 ghost use Rattle.clsm_law.specs.Views.{next_word};
+ghost use Rattle.clsm_calls.specs.Looking.{LooksAtClock, drawn_of};
 ghost use Rattle.clsm_calls.specs.Merging.{IsRunFull, TakesFloor};
 
 use crate::store::Store;
-use clsm_calls::{MergerSeat, Pinned, Worn, freeze, merge, reclaim};
+use clsm_calls::{MergerSeat, Pinned, Worn, drawn_at, freeze, merge, reclaim};
 use clsm_law::LAST_LIMIT;
+use clsm_model::Time;
 use clsm_runs::RunFull;
 use clsm_words::Pace;
 use std::marker::Model;
 use std::sync::Wait;
 
 /// The merger's token, where nothing is frozen. It may be moved to another thread. Contracts see
-/// its store and the number of merges.
+/// its store and the number of merges; the floor of the last try to merge, and how many rounds of
+/// looks at the snapshot words were made; and the clock as it was at the merger's last step.
 #[derive(Drop)]
 pub struct Clean {
     pub(crate) merger: MergerSeat,
 }
 
 impl Model for Clean {
-    ghost use Rattle.clsm_calls.specs.Seats.{MergerState};
+    ghost use Rattle.clsm_calls.specs.Seats.{CleanState};
     ghost use Rattle.clsm_calls.specs.Freezing.{IsClean};
-    ghost use Rattle.clsm_calls.specs.Merging.{IsReady, merger_of};
+    ghost use Rattle.clsm_calls.specs.Merging.{IsReady, clean_of};
 
-    ghost Value = { MergerState };
+    ghost Value = { CleanState };
 
-    ghost view = { λ c. merger_of c.merger };
+    ghost view = { λ c. clean_of c.merger };
 
     ghost invariant = { λ c. IsClean c.merger.raw.knows c.merger.merges × IsReady c.merger };
 }
 
 /// The merger's token, where an epoch is frozen. It may be moved to another thread. Contracts see
 /// its store and the number of merges, which is also the number of the frozen epoch; the floor of
-/// the last try to merge, and how many rounds of looks at the snapshot words were made; the epoch's
-/// writes; and the runs.
+/// the last try to merge, how many rounds of looks at the snapshot words were made, and the least
+/// time that the last one found noted; the epoch's writes; and the runs.
 #[derive(Drop)]
 pub struct Frozen {
     pub(crate) merger: MergerSeat,
@@ -53,7 +57,8 @@ impl Model for Frozen {
 
 /// The merger's token, where a component is retired. It may be moved to another thread. Contracts
 /// see its store and the number of merges, the one that retired the component among them; the floor
-/// of that merge, and the rounds; and what was noted of each seat since.
+/// of that merge, the rounds, and the least time that its round found noted; and what was noted of
+/// each seat since.
 #[derive(Drop)]
 pub struct Retired {
     pub(crate) merger: MergerSeat,
@@ -74,9 +79,19 @@ impl Clean {
     /// The number of merges so far.
     #[inline]
     pub fn merges(&self) -> u64
-        ensures { result ≡ self.now.merges }
+        ensures { result ≡ self.now.merger.merges }
     {
         self.merger.merges()
+    }
+
+    /// How many timestamps of the current epoch are drawn, as one look at the clock finds it. More
+    /// may be drawn by the time that it answers. It never waits.
+    pub fn drawn<P: Pace>(&mut self, store: &Store<P>) -> u64
+        requires { self.old.merger.store ≡ store.now }
+        ensures looks { LooksAtClock self.old self.new }
+        ensures drawn { result ≡ drawn_of self.new }
+    {
+        drawn_at(&store.words, &mut self.merger)
     }
 
     /// Freezes the current epoch: waits until no caller holds the lock, cancels the epoch's cells
@@ -89,9 +104,10 @@ impl Clean {
         rt: &R,
         store: &Store<P>,
     ) -> Result<Frozen, (Clean, Worn)>
-        requires { self.store ≡ store.now }
-        ensures frozen { IfOk result (λ frozen. frozen.merger ≡ record self { holds = next_word self.holds }) }
-        ensures worn { IfErr result (λ refused. (refused.0 ≡ self) × (2 ^ 62 < (self.merges + 2) * self.store.layout.cells)) }
+        requires { self.merger.store ≡ store.now }
+        ensures frozen { IfOk result (λ frozen. frozen.merger ≡ record self.merger { holds = next_word self.merger.holds }) }
+        ensures floor { IfOk result (λ frozen. (frozen.floor ≡ self.floor) × (frozen.rounds ≡ self.rounds)) }
+        ensures worn { IfErr result (λ refused. (refused.0 ≡ self) × (2 ^ 62 < (self.merger.merges + 2) * self.merger.store.layout.cells)) }
     {
         let merges = self.merger.merges;
         if merges > LAST_LIMIT / store.words.cells() - 2 {
@@ -117,6 +133,15 @@ impl Frozen {
         self.merger.merges()
     }
 
+    /// The least time that the last round of looks found noted in the snapshot words: where that is
+    /// below the end of the epoch, a snapshot of that time keeps old versions.
+    #[inline]
+    pub fn noted(&self) -> Option<Time>
+        ensures { result ≡ self.now.noted }
+    {
+        self.merger.noted
+    }
+
     /// Shows what holds while an epoch is frozen: there is a history whose writes in the epoch are
     /// those that the token carries, and which the runs answer for exactly from the floor on. It
     /// does nothing when it runs.
@@ -139,10 +164,11 @@ impl Frozen {
     pub fn merge<P: Pace>(mut self, store: &Store<P>) -> Result<Retired, (Frozen, RunFull)>
         requires { self.merger.store ≡ store.now }
         ensures retired { IfOk result (λ retired. retired.merger ≡ record self.merger { merges = self.merger.merges + 1 }) }
-        ensures floor { IfOk result (λ retired. TakesFloor self retired.floor retired.rounds) }
+        ensures unseen { IfOk result (λ retired. retired.readers ≡ replicate self.merger.store.layout.seats unseen) }
+        ensures floor { IfOk result (λ retired. TakesFloor self retired.floor retired.rounds retired.noted) }
         ensures fits { IfOk result (λ retired. IsRunFull self retired.floor → ⊥) }
-        ensures frozen { IfErr result (λ refused. refused.0 ≡ record self { floor = refused.0.floor; rounds = refused.0.rounds }) }
-        ensures refloored { IfErr result (λ refused. TakesFloor self refused.0.floor refused.0.rounds) }
+        ensures frozen { IfErr result (λ refused. refused.0 ≡ record self { floor = refused.0.floor; rounds = refused.0.rounds; noted = refused.0.noted }) }
+        ensures refloored { IfErr result (λ refused. TakesFloor self refused.0.floor refused.0.rounds refused.0.noted) }
         ensures full { IfErr result (λ refused. IsRunFull self refused.0.floor) }
     {
         match merge(&store.words, &mut self.merger) {
@@ -172,7 +198,7 @@ impl Retired {
     /// for the next try. It never waits.
     pub fn reclaim<P: Pace>(mut self, store: &Store<P>) -> Result<Clean, (Retired, Pinned)>
         requires { self.merger.store ≡ store.now }
-        ensures clean { IfOk result (λ clean. clean ≡ self.merger) }
+        ensures clean { IfOk result (λ clean. clean ≡ record { merger = self.merger; floor = self.floor; rounds = self.rounds; clock = clean.clock }) }
         ensures retired { IfErr result (λ refused. refused.0 ≡ record self { readers = refused.0.readers }) }
         ensures pinned { IfErr result (λ refused. IsLowestLoud self.readers refused.0.readers refused.1.0) }
     {

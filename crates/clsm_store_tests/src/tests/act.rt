@@ -29,6 +29,10 @@ pub(super) enum Act {
     Merge,
     Reclaim,
     Sweep,
+    /// A sweep that freezes an epoch only where so many of its timestamps are drawn.
+    SweepIfUsed(u64),
+    /// How many timestamps the caller finds left in the epoch.
+    Room,
     /// Calls by chance.
     Calls(&'static Load),
     /// A get of each key of a scan, and a scan.
@@ -85,6 +89,8 @@ pub(super) enum Answer {
     Merged(u64),
     RunFull,
     Clean,
+    /// The sweep waits until more timestamps are drawn.
+    Waited,
     Pinned(u32),
     /// Whether the seat is held at the gate.
     Held(bool),

@@ -4,7 +4,7 @@ use super::drawn::{Load, Mix, after, draw, next};
 use super::gate::Gates;
 use clsm_store::{
     BatchError, CallRecord, Caller, Change, Deed, Full, Got, Members, MergeError, Merger, Page,
-    ReclaimError, Rmw, Scan, Stopped, Time, Value,
+    ReclaimError, Rmw, Scan, Stopped, Swept, Time, Value,
 };
 use std::alloc::Global;
 use std::process::Abort;
@@ -48,11 +48,26 @@ fn answer_of_reclaim(reclaimed: &Result<(), ReclaimError>) -> Answer {
     }
 }
 
+fn answer_of_stop(stopped: &Stopped) -> Answer {
+    match stopped {
+        Stopped::Pinned(seat) => Answer::Pinned(seat.0),
+        Stopped::RunFull(_) => Answer::RunFull,
+        Stopped::Worn(_) => Answer::Other,
+    }
+}
+
 fn answer_of_sweep(swept: &Result<(), Stopped>) -> Answer {
     match swept {
         Ok(()) => Answer::Clean,
-        Err(Stopped::Pinned(seat)) => Answer::Pinned(seat.0),
-        Err(_) => Answer::Other,
+        Err(stopped) => answer_of_stop(stopped),
+    }
+}
+
+fn answer_of_sweep_if(swept: &Result<Swept, Stopped>) -> Answer {
+    match swept {
+        Ok(Swept::Done) => Answer::Clean,
+        Ok(Swept::Waited) => Answer::Waited,
+        Err(stopped) => answer_of_stop(stopped),
     }
 }
 
@@ -231,6 +246,10 @@ impl<'a> Actor<'a> {
                 let (merger, reclaimed) = merger.reclaim();
                 (merger, answer_of_reclaim(&reclaimed))
             }
+            Act::SweepIfUsed(used) => {
+                let (merger, swept) = merger.sweep_if_used(rt, *used);
+                (merger, answer_of_sweep_if(&swept))
+            }
             _ => {
                 let (merger, swept) = merger.sweep(rt);
                 (merger, answer_of_sweep(&swept))
@@ -303,7 +322,10 @@ impl<'a> Actor<'a> {
         for (place, (act, expected)) in steps.iter().enumerate() {
             let gates = self.caller.store.pace();
             let answer = match act {
-                Act::Freeze | Act::Merge | Act::Reclaim | Act::Sweep => self.command(rt, act),
+                Act::Freeze | Act::Merge | Act::Reclaim | Act::Sweep | Act::SweepIfUsed(_) => {
+                    self.command(rt, act)
+                }
+                Act::Room => Answer::Count(self.caller.room()),
                 Act::Sweeps(sweeps) => self.sweep_on(rt, *sweeps),
                 Act::Calls(load) => self.call_on(rt, alloc, load),
                 Act::ReadAll => self.read_all(rt, alloc),

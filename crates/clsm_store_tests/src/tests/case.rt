@@ -49,7 +49,7 @@ fn seat_all<'a>(
     merger: Clean,
 ) -> Vec<Actor<'a>>
     requires seats { All (λ seat. seat.store ≡ store.now) seats.items }
-    requires merger { merger.store ≡ store.now }
+    requires merger { merger.merger.store ≡ store.now }
 {
     let mut merger = Some(Merger::new(store, merger));
     let mut actors = Vec::with_capacity(alloc, seats.len()).expect(rt, "memory");

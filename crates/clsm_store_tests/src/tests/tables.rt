@@ -81,6 +81,38 @@ const SCANS: &[Step] = &[
     (Act::Page(0, 1), Answer::Page(12, 1, Some(8))),
 ];
 
+/// An epoch has four timestamps. A sweep waits below so many of them, and where more are asked for
+/// than there are it waits for all; an epoch that is frozen already, or a component that is retired,
+/// is swept in any case. A caller finds fewer timestamps left after each write, and all four again
+/// after a freeze.
+const USES: &[Step] = &[
+    (Act::Room, Answer::Count(4)),
+    (Act::SweepIfUsed(1), Answer::Waited),
+    (Act::Put(7, 70), Answer::At(0)),
+    (Act::Room, Answer::Count(3)),
+    (Act::SweepIfUsed(2), Answer::Waited),
+    (Act::Put(8, 80), Answer::At(1)),
+    (Act::Room, Answer::Count(2)),
+    (Act::SweepIfUsed(2), Answer::Clean),
+    (Act::Room, Answer::Count(4)),
+    (Act::SweepIfUsed(1), Answer::Waited),
+    (Act::SweepIfUsed(0), Answer::Clean),
+    (Act::BatchTwo(1, 10), Answer::At(8)),
+    (Act::Put(3, 30), Answer::At(10)),
+    (Act::SweepIfUsed(4), Answer::Waited),
+    (Act::Put(4, 40), Answer::At(11)),
+    (Act::Room, Answer::Count(0)),
+    (Act::Put(5, 50), Answer::Full(12)),
+    (Act::SweepIfUsed(u64::MAX), Answer::Clean),
+    (Act::Room, Answer::Count(4)),
+    (Act::Freeze, Answer::Frozen(3)),
+    (Act::SweepIfUsed(4), Answer::Clean),
+    (Act::Freeze, Answer::Frozen(4)),
+    (Act::Merge, Answer::Merged(5)),
+    (Act::SweepIfUsed(4), Answer::Clean),
+    (Act::SweepIfUsed(4), Answer::Waited),
+];
+
 const SMALL_RUN: Config = Config {
     run: 4,
     ..FOUR_CELLS
@@ -108,6 +140,14 @@ const ALONE: &[Case] = &[
         config: SMALL_RUN,
         gates: [NOWHERE, NOWHERE],
         phases: &[[MERGES, NONE, NONE, NONE, NONE]],
+        rounds: 0,
+        round: &[],
+    },
+    Case {
+        name: "a sweep waits until enough of an epoch is used, and the room of an epoch is told",
+        config: FOUR_CELLS,
+        gates: [NOWHERE, NOWHERE],
+        phases: &[[USES, NONE, NONE, NONE, NONE]],
         rounds: 0,
         round: &[],
     },

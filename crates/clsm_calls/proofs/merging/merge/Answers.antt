@@ -29,7 +29,7 @@ returns-in_err-merge-clause-stays g c =
     let k' = c.merge.new.merger.knows in
     let stays = c.renew_floor.ensures.stays in
     let changes = c.in_err-merge.ensures.changes in
-    let left : MergerSeat = record { raw = c.merge.new.merger; merges = ready.merges; floor = ready.floor; walk = c.merge.new.walk; seen = ready.seen } in
+    let left : MergerSeat = record { raw = c.merge.new.merger; merges = ready.merges; floor = ready.floor; noted = ready.noted; walk = c.merge.new.walk; seen = ready.seen } in
     where_refused (StaysFrozen c.args.merger.now left) c.from_residual.result (record {
       frozen = still_frozen k k' ready.merges (changes.view ∙ ap (λ (m : MergerView). record k.merger { floor = m.floor; round = m.round; rounds = m.rounds }) (sym changes.view)) stays.frozen;
       ready = record {
@@ -40,7 +40,7 @@ returns-in_err-merge-clause-stays g c =
       };
       same = same_frozen ready left (c.in_err-merge.ensures.of.0 ∙ sym c.renew_floor.ensures.of.0) changes.layout refl (ap (λ (m : MergerView). m.holds) changes.view)
           (epoch_same k k' c.show_invariant.ensures stays.frozen.frozen stays.frozen.out.free changes)
-          (runs_same k k' c.show_invariant.ensures stays.frozen.frozen stays.frozen.out.free changes) ∙ ap (λ (s : FrozenState). record s { floor = ready.floor; rounds = k'.merger.rounds }) stays.same;
+          (runs_same k k' c.show_invariant.ensures stays.frozen.frozen stays.frozen.out.free changes) ∙ ap (λ (s : FrozenState). record s { floor = ready.floor; rounds = k'.merger.rounds; noted = ready.noted }) stays.same;
     })
 
 pub returns-in_err-merge-clause-full : goal.returns-in_err-merge-clause-full
