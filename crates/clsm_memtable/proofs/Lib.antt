@@ -17,5 +17,6 @@ pub mod Walks
 pub mod Shown
 pub mod Turns
 pub mod EpochWrites
+pub mod LastSpots
 pub mod FrozenLists
 pub mod FrozenWalks

@@ -7,3 +7,4 @@ pub mod Staying
 pub mod Ordering
 pub mod Seeking
 pub mod Inserting
+pub mod Versions

@@ -20,6 +20,7 @@ mod scale;
 mod searching;
 mod settling;
 mod staging;
+mod versions;
 
 pub use buckets::Guess;
 pub use deciding::{Decided, decide, give_up};

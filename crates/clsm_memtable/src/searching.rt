@@ -1,15 +1,21 @@
 //! The newest write of a key below a time, in the two epochs of a held component.
-ghost use Rattle.std.specs.Prelude.{◌≡◌, ◌+◌, ◌*◌, ◌%◌, ◌<◌, ◌≤◌, ◌≢◌, Some, None, length};
+ghost use Rattle.std.specs.Prelude.{◌≡◌, ◌+◌, ◌*◌, ◌%◌, ◌<◌, ◌≤◌, ◌≢◌, Some, [], length, IfOk};
 ghost use Rattle.clsm_law.specs.Memory.{cell_of};
 ghost use Rattle.clsm_words.specs.Keeping.{Looks, LooksAside};
 ghost use Rattle.clsm_words.specs.Plays.{IsSeatOf};
-ghost use Rattle.clsm_memtable.specs.Searching.{GoesOn, IsOnChain, IsWalked, MaySearch, MayLookInto, IsNewest, IsNewestIn, IsNewestTime, better, is_later, is_write, slot_in};
+ghost use Rattle.clsm_memtable.specs.Ordering.{MayWalk};
+ghost use Rattle.clsm_memtable.specs.Searching.{GoesOn, IsOnChain, IsWalked, MayLookInto, IsNewest, IsNewestIn, IsNewestTime, better, is_later, is_write, slot_in};
 
 use crate::found::Found;
+use crate::ordering::{Epoch, time_at};
 use crate::reading::{found, is_write};
+use crate::versions::{Unsure, newest_version};
 use clsm_law::{Part, Word};
 use clsm_model::Time;
 use clsm_words::{Pace, RawSeat, Words};
+
+/// A walk along a chain passes so many cells before a search by the ordered list takes its place.
+const FEW: u64 = 8;
 
 fn is_later(best: Option<Time>, time: Time) -> bool
     ensures { result ≡ is_later best time }
@@ -20,40 +26,45 @@ fn is_later(best: Option<Time>, time: Time) -> bool
     }
 }
 
-/// The best so far, or the time of this cell in the epoch that begins at `first`, where that is
-/// below `until`, later, and a write of the key.
+/// How far the chain of a key was walked.
+#[derive(Clone, Copy)]
+struct ChainWalk {
+    key: u64,
+    /// The place of the next cell, or 0 at the chain's end.
+    next: u64,
+    /// The newest write of the key among the cells that were passed.
+    best: Option<Time>,
+}
+
+/// The best so far, or the time of this cell in the epoch, where that is below the epoch's bound,
+/// later, and a write of the key.
 fn better<P: Pace>(
     words: &Words<P>,
     seat: &mut RawSeat,
-    component: u64,
-    first: Time,
-    until: Time,
-    key: u64,
+    epoch: &Epoch,
+    walk: &ChainWalk,
     cell: u64,
-    best: Option<Time>,
 ) -> Option<Time>
     requires of { IsSeatOf words.now seat.old }
-    requires held { seat.old.knows.view.held ≡ Some component }
-    requires from { component * seat.old.knows.layout.cells ≤ first }
-    requires begun { first < until }
-    requires settled { until ≤ length seat.old.knows.past }
-    requires place { cell_of seat.old.knows.layout (first + cell % seat.old.knows.layout.cells) ≡ cell }
+    requires may { MayWalk seat.old.knows epoch.now }
+    requires begun { epoch.now.first < epoch.now.until }
+    requires place { cell_of seat.old.knows.layout (epoch.now.first + cell % seat.old.knows.layout.cells) ≡ cell }
     ensures of { IsSeatOf words.now seat.new }
     ensures looks { LooksAside seat.old.knows seat.new.knows }
-    ensures better { result ≡ better best (first + cell % seat.old.knows.layout.cells) until (is_write key (slot_in seat.old.knows (first + cell % seat.old.knows.layout.cells))) }
+    ensures better { result ≡ better walk.now.best (epoch.now.first + cell % seat.old.knows.layout.cells) epoch.now.until (is_write walk.now.key (slot_in seat.old.knows (epoch.now.first + cell % seat.old.knows.layout.cells))) }
 {
     let offset = words.number_in_region(cell);
-    if offset >= until - first {
-        return best;
+    if offset >= epoch.until - epoch.first {
+        return walk.best;
     }
-    let time = first + offset;
-    if !is_later(best, time) {
-        return best;
+    let time = epoch.first + offset;
+    if !is_later(walk.best, time) {
+        return walk.best;
     }
-    if is_write(words, seat, component, time, cell, key) {
+    if is_write(words, seat, epoch.component, time, cell, walk.key) {
         Some(time)
     } else {
-        best
+        walk.best
     }
 }
 
@@ -72,95 +83,117 @@ fn next_of<P: Pace>(words: &Words<P>, seat: &mut RawSeat, cell: u64) -> u64
     words.look(seat, Word::Cell { cell, part })
 }
 
-/// Walks along the chain of the epoch that begins at `first`, of which `next` leads to the first
-/// cell: the time of the newest write of the key below `until`.
-fn newest_ahead<P: Pace>(
+/// Walks on along the key's chain of the epoch, past so many cells or to its end.
+fn walk_chain<P: Pace>(
     words: &Words<P>,
     seat: &mut RawSeat,
-    component: u64,
-    first: Time,
-    until: Time,
-    key: u64,
-    head: u64,
-) -> Option<Time>
+    epoch: &Epoch,
+    mut walk: ChainWalk,
+    most: u64,
+) -> ChainWalk
     requires of { IsSeatOf words.now seat.old }
-    requires held { seat.old.knows.view.held ≡ Some component }
-    requires from { component * seat.old.knows.layout.cells ≤ first }
-    requires begun { first < until }
-    requires settled { until ≤ length seat.old.knows.past }
-    requires chain { IsOnChain seat.old.knows first head }
-    requires ahead { IsWalked seat.old.knows.past seat.old.knows.layout.cells first key until None seat.old.knows.trail }
+    requires may { MayWalk seat.old.knows epoch.now }
+    requires begun { epoch.now.first < epoch.now.until }
+    requires chain { IsOnChain seat.old.knows epoch.now.first walk.next }
+    requires walked { IsWalked seat.old.knows.past seat.old.knows.layout.cells epoch.now.first walk.key epoch.now.until walk.best seat.old.knows.trail }
     ensures of { IsSeatOf words.now seat.new }
     ensures looks { Looks seat.old.knows seat.new.knows }
-    ensures newest { IsNewestTime seat.old.knows first key until result }
+    ensures key { result.key ≡ walk.key }
+    ensures chain { IsOnChain seat.new.knows epoch.now.first result.next }
+    ensures walked { IsWalked seat.old.knows.past seat.old.knows.layout.cells epoch.now.first walk.key epoch.now.until result.best seat.new.knows.trail }
+    ensures ended { length seat.old.knows.trail ≤ most → seat.new.knows.trail ≡ [] }
 {
-    let mut next = head;
-    let mut best = None;
-    for _ in 0..words.cells() {
-        if next == 0 {
-            return best;
+    for _ in 0..most {
+        if walk.next == 0 {
+            return walk;
         }
-        let cell = next - 1;
-        best = better(words, seat, component, first, until, key, cell, best);
-        next = next_of(words, seat, cell);
+        let cell = walk.next - 1;
+        walk.best = better(words, seat, epoch, &walk, cell);
+        walk.next = next_of(words, seat, cell);
     }
-    best
+    walk
 }
 
-/// The time of the newest write of the key in the epoch that begins at `first`, below `until`.
+/// The time of the newest write of the key in the epoch, by its ordered list.
+fn newest_listed<P: Pace>(
+    words: &Words<P>,
+    seat: &mut RawSeat,
+    epoch: &Epoch,
+    key: u64,
+) -> Result<Option<Time>, Unsure>
+    requires of { IsSeatOf words.now seat.old }
+    requires may { MayWalk seat.old.knows epoch.now }
+    ensures of { IsSeatOf words.now seat.new }
+    ensures looks { LooksAside seat.old.knows seat.new.knows }
+    ensures newest { IfOk result (IsNewestTime seat.old.knows epoch.now.first key epoch.now.until) }
+{
+    match newest_version(words, seat, epoch, key) {
+        Ok(Some(spot)) => Ok(Some(time_at(words, epoch, spot))),
+        Ok(None) => Ok(None),
+        Err(unsure) => Err(unsure),
+    }
+}
+
+/// The time of the newest write of the key in the epoch, which is begun: by the key's chain or,
+/// where that has many cells, by the ordered list. A walk along a chain passes every version of the
+/// key, since links do not stand in it by time.
 fn newest_time<P: Pace>(
     words: &Words<P>,
     seat: &mut RawSeat,
-    component: u64,
-    epoch: u64,
-    first: Time,
-    until: Time,
+    epoch: &Epoch,
     key: u64,
 ) -> Option<Time>
     requires of { IsSeatOf words.now seat.old }
-    requires held { seat.old.knows.view.held ≡ Some component }
-    requires may { MaySearch seat.old.knows epoch first until }
+    requires may { MayWalk seat.old.knows epoch.now }
+    requires begun { epoch.now.first < epoch.now.until }
     ensures of { IsSeatOf words.now seat.new }
     ensures looks { Looks seat.old.knows seat.new.knows }
-    ensures newest { IsNewestTime seat.old.knows first key until result }
+    ensures newest { IsNewestTime seat.old.knows epoch.now.first key epoch.now.until result }
 {
     seat.show_invariant();
     let chain = words.chain_of(key);
-    let region = epoch % 2;
-    let head = words.look(seat, Word::Head { region, chain });
-    newest_ahead(words, seat, component, first, until, key, head)
+    let region = epoch.number % 2;
+    let next = words.look(seat, Word::Head { region, chain });
+    let best = None;
+    let walk = walk_chain(words, seat, epoch, ChainWalk { key, next, best }, FEW);
+    if walk.next == 0 {
+        return walk.best;
+    }
+    if let Ok(newest) = newest_listed(words, seat, epoch, key) {
+        return newest;
+    }
+    walk_chain(words, seat, epoch, walk, words.cells()).best
 }
 
-/// The newest write of the key in the epoch that begins at `first`, below `until`.
+/// The newest write of the key in the epoch. Its bound may be behind its end, or before it begins.
 fn newest_in<P: Pace>(
     words: &Words<P>,
     seat: &mut RawSeat,
-    component: u64,
-    epoch: u64,
-    first: Time,
-    until: Time,
+    epoch: &Epoch,
     key: u64,
 ) -> Option<Found>
     requires of { IsSeatOf words.now seat.old }
-    requires held { seat.old.knows.view.held ≡ Some component }
-    requires may { MayLookInto seat.old.knows epoch first until }
+    requires held { seat.old.knows.view.held ≡ Some epoch.now.component }
+    requires may { MayLookInto seat.old.knows epoch.now.number epoch.now.first epoch.now.until }
     ensures of { IsSeatOf words.now seat.new }
     ensures looks { Looks seat.old.knows seat.new.knows }
-    ensures newest { IsNewestIn seat.old.knows first key until result }
+    ensures newest { IsNewestIn seat.old.knows epoch.now.first key epoch.now.until result }
 {
-    if first >= until {
+    if epoch.first >= epoch.until {
         return None;
     }
-    let time = newest_time(words, seat, component, epoch, first, until, key)?;
+    let end = epoch.first.saturating_add(words.cells());
+    let until = epoch.until.min(end);
+    let time = newest_time(words, seat, &Epoch { until, ..*epoch }, key)?;
     let cell = words.cell_of(time);
-    Some(found(words, seat, component, time, cell))
+    Some(found(words, seat, epoch.component, time, cell))
 }
 
-/// The newest write of the key below `until` in the two epochs of the held component: by the key's
-/// chain of the later epoch, which is walked only where it begins below `until`, and then by that
-/// of the earlier one. With `None` no write of the key below `until` is at or above the component's
-/// first time; it may be in the runs. Each time below `until` has to be settled. It never waits,
-/// takes no memory and is never refused. A walk of a chain that the seat had begun is ended.
+/// The newest write of the key below `until` in the two epochs of the held component: in the later
+/// one, which is searched only where it begins below `until`, and then in the earlier one. With
+/// `None` no write of the key below `until` is at or above the component's first time; it may be in
+/// the runs. Each time below `until` has to be settled. It never waits, takes no memory and is never
+/// refused. A walk of a chain that the seat had begun is ended.
 pub fn newest<P: Pace>(
     words: &Words<P>,
     seat: &mut RawSeat,
@@ -179,9 +212,20 @@ pub fn newest<P: Pace>(
     let cells = words.cells();
     let first = component.saturating_mul(cells);
     let second = first.saturating_add(cells);
-    let later = component.saturating_add(1);
-    match newest_in(words, seat, component, later, second, until, key) {
+    let later = Epoch {
+        component,
+        number: component.saturating_add(1),
+        first: second,
+        until,
+    };
+    let earlier = Epoch {
+        component,
+        number: component,
+        first,
+        until,
+    };
+    match newest_in(words, seat, &later, key) {
         Some(found) => Some(found),
-        None => newest_in(words, seat, component, component, first, until, key),
+        None => newest_in(words, seat, &earlier, key),
     }
 }

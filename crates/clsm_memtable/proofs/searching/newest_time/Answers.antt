@@ -1,33 +1,70 @@
-use Rattle.std.proofs.Common.{◌%◌, ℕ, sym, ap, refl, ◌∙◌, subst}
+use Rattle.std.proofs.Common.{◌≡◌, ◌≤◌, ◌%◌, ℕ, length, sym, ap, refl, ◌∙◌, subst, arith}
 use Rattle.clsm_law.specs.declared.layout.Layout.{Layout}
 use Rattle.clsm_words.specs.Knowing.{IsTrail}
 use Rattle.clsm_words.proofs.Keeps.{looks_trans}
+use Rattle.clsm_memtable.specs.Searching.{IsWalked, MaySearch}
 use Rattle.clsm_memtable.proofs.Looking.{looks_at_head}
-use Rattle.clsm_memtable.proofs.Chains.{on_chain, walked_nothing}
+use Rattle.clsm_memtable.proofs.Chains.{chain_short, chain_stays, on_chain, walked_all, walked_nothing}
 use Rattle.clsm_memtable.proofs.searching.newest_time.Goals as goal
 
-pub newest_ahead-requires-clause-chain : goal.newest_ahead-requires-clause-chain
-newest_ahead-requires-clause-chain g c =
+pub walk_chain-walk-requires-clause-chain : goal.walk_chain-walk-requires-clause-chain
+walk_chain-walk-requires-clause-chain g c =
     let k = c.args.seat.now.knows in
-    let k' = c.look-head.new.seat.knows in
-    let follows = c.look-head.ensures.1 in
-    let looks = looks_at_head k k' (c.args.epoch % 2) c.chain_of-chain.result c.look-head.result c.show_invariant.ensures follows in
+    let k' = c.look-next.new.seat.knows in
+    let e = c.args.epoch.now in
+    let follows = c.look-next.ensures.1 in
+    let looks = looks_at_head k k' (e.number % 2) c.chain_of-chain.result c.look-next.result c.show_invariant.ensures follows in
     let chain = c.chain_of-chain.ensures ∙ ap (λ (z : Layout). c.args.key % z.chains) (sym c.requires.of.1 ∙ sym looks.reads.seat.layout) in
-    let trail = subst (λ (n : ℕ). IsTrail k' c.args.epoch n c.look-head.result) chain (follows.walks c.args.epoch c.requires.may.held refl) in
-    on_chain k k' c.args.epoch c.args.first c.args.until c.args.key c.look-head.result c.requires.may looks trail
+    let trail = subst (λ (n : ℕ). IsTrail k' e.number n c.look-next.result) chain (follows.walks e.number c.requires.may.walked refl) in
+    let may : MaySearch k e.number e.first e.until = record { held = c.requires.may.walked; begins = c.requires.may.begins; begun = c.requires.begun; settled = c.requires.may.settled } in
+    on_chain k k' e.number e.first e.until c.args.key c.look-next.result may looks trail
 
-pub newest_ahead-requires-clause-ahead : goal.newest_ahead-requires-clause-ahead
-newest_ahead-requires-clause-ahead g c =
+pub walk_chain-walk-requires-clause-walked : goal.walk_chain-walk-requires-clause-walked
+walk_chain-walk-requires-clause-walked g c =
     let k = c.args.seat.now.knows in
-    let k' = c.look-head.new.seat.knows in
-    let follows = c.look-head.ensures.1 in
-    let looks = looks_at_head k k' (c.args.epoch % 2) c.chain_of-chain.result c.look-head.result c.show_invariant.ensures follows in
+    let k' = c.look-next.new.seat.knows in
+    let e = c.args.epoch.now in
+    let follows = c.look-next.ensures.1 in
+    let looks = looks_at_head k k' (e.number % 2) c.chain_of-chain.result c.look-next.result c.show_invariant.ensures follows in
     let chain = c.chain_of-chain.ensures ∙ ap (λ (z : Layout). c.args.key % z.chains) (sym c.requires.of.1 ∙ sym looks.reads.seat.layout) in
-    let trail = subst (λ (n : ℕ). IsTrail k' c.args.epoch n c.look-head.result) chain (follows.walks c.args.epoch c.requires.may.held refl) in
-    walked_nothing k k' c.args.epoch c.args.first c.args.until c.args.key c.look-head.result c.requires.may looks trail
+    let trail = subst (λ (n : ℕ). IsTrail k' e.number n c.look-next.result) chain (follows.walks e.number c.requires.may.walked refl) in
+    let may : MaySearch k e.number e.first e.until = record { held = c.requires.may.walked; begins = c.requires.may.begins; begun = c.requires.begun; settled = c.requires.may.settled } in
+    walked_nothing k k' e.number e.first e.until c.args.key c.look-next.result may looks trail
+
+pub returns-in-Ok-clause-looks : goal.returns-in-Ok-clause-looks
+returns-in-Ok-clause-looks g c =
+    let k = c.args.seat.now.knows in
+    let k1 = c.look-next.new.seat.knows in
+    let k2 = c.walk_chain-walk.new.seat.knows in
+    let first = looks_at_head k k1 (c.args.epoch.now.number % 2) c.chain_of-chain.result c.look-next.result c.show_invariant.ensures c.look-next.ensures.1 in
+    looks_trans k k2 c.newest_listed.new.seat.knows (looks_trans k k1 k2 first c.walk_chain-walk.ensures.looks) c.newest_listed.ensures.looks.looks
+
+pub walk_chain-requires-clause-chain : goal.walk_chain-requires-clause-chain
+walk_chain-requires-clause-chain g c = chain_stays c.walk_chain-walk.new.seat.knows c.newest_listed.new.seat.knows c.args.epoch.now.first c.walk_chain-walk.result.next c.newest_listed.ensures.looks c.walk_chain-walk.ensures.chain
 
 pub returns-clause-looks : goal.returns-clause-looks
 returns-clause-looks g c =
     let k = c.args.seat.now.knows in
-    let k' = c.look-head.new.seat.knows in
-    looks_trans k k' c.newest_ahead.new.seat.knows (looks_at_head k k' (c.args.epoch % 2) c.chain_of-chain.result c.look-head.result c.show_invariant.ensures c.look-head.ensures.1) c.newest_ahead.ensures.looks
+    let k1 = c.look-next.new.seat.knows in
+    let k2 = c.walk_chain-walk.new.seat.knows in
+    let k3 = c.newest_listed.new.seat.knows in
+    let first = looks_at_head k k1 (c.args.epoch.now.number % 2) c.chain_of-chain.result c.look-next.result c.show_invariant.ensures c.look-next.ensures.1 in
+    let before = looks_trans k k2 k3 (looks_trans k k1 k2 first c.walk_chain-walk.ensures.looks) c.newest_listed.ensures.looks.looks in
+    looks_trans k k3 c.walk_chain.new.seat.knows before c.walk_chain.ensures.looks
+
+pub returns-clause-newest : goal.returns-clause-newest
+returns-clause-newest g c =
+    let k = c.args.seat.now.knows in
+    let k1 = c.look-next.new.seat.knows in
+    let k2 = c.walk_chain-walk.new.seat.knows in
+    let k3 = c.newest_listed.new.seat.knows in
+    let k4 = c.walk_chain.new.seat.knows in
+    let e = c.args.epoch.now in
+    let best = c.walk_chain.result.best in
+    let first = looks_at_head k k1 (e.number % 2) c.chain_of-chain.result c.look-next.result c.show_invariant.ensures c.look-next.ensures.1 in
+    let before = looks_trans k k2 k3 (looks_trans k k1 k2 first c.walk_chain-walk.ensures.looks) c.newest_listed.ensures.looks.looks in
+    let chain = chain_stays k2 k3 e.first c.walk_chain-walk.result.next c.newest_listed.ensures.looks c.walk_chain-walk.ensures.chain in
+    let cells : c.args.words.now.layout.cells ≡ k3.layout.cells = sym (ap (λ (z : Layout). z.cells) c.newest_listed.ensures.of.1) in
+    let short : length k3.trail ≤ c.cells.result = let few = chain_short k3 e.first c.walk_chain-walk.result.next chain in let all = c.cells.ensures in omega arith in
+    let walked = subst (λ (key : ℕ). IsWalked k3.past k3.layout.cells e.first key e.until best k4.trail) c.walk_chain-walk.ensures.key c.walk_chain.ensures.walked in
+    walked_all k k3 k4 e.first c.args.key e.until best before (c.walk_chain.ensures.ended short) walked
