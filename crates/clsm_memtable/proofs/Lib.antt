@@ -18,5 +18,6 @@ pub mod Shown
 pub mod Turns
 pub mod EpochWrites
 pub mod LastSpots
+pub mod Leaps
 pub mod FrozenLists
 pub mod FrozenWalks
