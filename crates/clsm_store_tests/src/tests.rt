@@ -8,6 +8,7 @@ mod drawn;
 mod gate;
 mod held;
 mod hints;
+mod hot;
 mod model;
 mod settled;
 mod tables;

@@ -15,6 +15,8 @@ pub(super) enum Act {
     Batch(&'static [Write]),
     /// A batch of this word at the key and at the next one.
     BatchTwo(u64, u64),
+    /// Puts each number from the second on and below the third, at so many keys in turn.
+    PutInTurn(u64, u64, u64),
     /// A read-modify-write, which makes of the value what `drawn::next` says.
     Change(u64),
     Get(u64),
@@ -64,6 +66,8 @@ pub(super) enum Turn {
     /// Waits until the seat is held there.
     Wait,
     LetGo,
+    /// Lets it go, and holds it again at its next such step.
+    LetPass,
     /// Lets it go, and waits until its call is answered.
     LetEnd,
     /// The call that was held there is answered.
@@ -95,9 +99,21 @@ pub(super) enum Answer {
     /// Whether the seat is held at the gate.
     Held(bool),
     Count(u64),
+    /// What is expected of a count that is below this number.
+    Fewer(u64),
     Done,
     /// No act is answered so.
     Other,
+}
+
+impl Answer {
+    /// Whether this is the answer that is expected.
+    pub(super) fn is(&self, expected: &Answer) -> bool {
+        match (self, expected) {
+            (Answer::Count(count), Answer::Fewer(bound)) => count < bound,
+            _ => self == expected,
+        }
+    }
 }
 
 /// An act, and how it has to be answered.

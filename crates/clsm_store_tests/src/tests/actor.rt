@@ -7,6 +7,7 @@ use clsm_store::{
     ReclaimError, Rmw, Scan, Stopped, Swept, Time, Value,
 };
 use std::alloc::Global;
+use std::ops::Range;
 use std::process::Abort;
 use std::sync::Wait;
 use std::thread;
@@ -279,6 +280,24 @@ impl<'a> Actor<'a> {
         Answer::Other
     }
 
+    /// Puts the words from the first on, at so many keys in turn.
+    fn put_in_turn<R: Abort + Wait>(
+        &mut self,
+        rt: &R,
+        alloc: Global,
+        keys: u64,
+        words: Range<u64>,
+    ) -> Answer {
+        for word in words {
+            let key = word.checked_rem(keys).expect(rt, "a key");
+            match self.call(rt, alloc, &Act::Put(key, word)) {
+                Answer::At(_) => (),
+                refused => return refused,
+            }
+        }
+        Answer::Done
+    }
+
     /// Gets each key of a scan, and scans again. The audit tells whether these are right.
     fn read_all<R: Abort + Wait>(&mut self, rt: &R, alloc: Global) -> Answer {
         let lo = 0;
@@ -328,6 +347,9 @@ impl<'a> Actor<'a> {
                 Act::Room => Answer::Count(self.caller.room()),
                 Act::Sweeps(sweeps) => self.sweep_on(rt, *sweeps),
                 Act::Calls(load) => self.call_on(rt, alloc, load),
+                Act::PutInTurn(keys, first, end) => {
+                    self.put_in_turn(rt, alloc, *keys, *first..*end)
+                }
                 Act::ReadAll => self.read_all(rt, alloc),
                 Act::First(turn) => gates.first.take_turn(turn),
                 Act::Second(turn) => gates.second.take_turn(turn),
@@ -335,7 +357,7 @@ impl<'a> Actor<'a> {
             };
             let is_refused = answer == Answer::NoMemory && !self.refused;
             self.refused = self.refused || is_refused;
-            assert!(rt; is_refused || answer == *expected, "{case}, act {place}");
+            assert!(rt; is_refused || answer.is(expected), "{case}, act {place}");
         }
     }
 }

@@ -8,7 +8,7 @@ use std::thread;
 /// How often a thread looks for its turn before it goes on without it.
 const TURNS: u64 = 10_000_000;
 
-/// Where a gate holds a seat, once: when it is about to make a step of this kind, or of any. So
+/// Where a gate holds a seat, once, or again where it is told so: when it is about to make a step of this kind, or of any. So
 /// many such steps it lets pass first, counted since it is watched.
 #[derive(Drop)]
 pub(super) struct Hold {
@@ -92,6 +92,10 @@ impl Gate {
                 Answer::Held(self.wait_while(NOBODY))
             }
             Turn::LetGo => Answer::Held(self.pass(HELD, LET_GO)),
+            Turn::LetPass => {
+                self.taken.store(0, SeqCst);
+                Answer::Held(self.pass(HELD, NOBODY))
+            }
             Turn::LetEnd => {
                 let held = self.pass(HELD, LET_GO);
                 self.wait_while(LET_GO);

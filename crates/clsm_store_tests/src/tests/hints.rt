@@ -116,18 +116,27 @@ impl Alone {
     }
 }
 
-#[test]
-fn hints_may_hold_anything(rt: HostRuntime) -> Result<(), Fail> {
-    let mut alone = opened(&rt, rt.alloc());
-    let mut map = PlainMap::new(rt.alloc());
+/// Writes and reads between rubbish, at many keys, or at few that have many versions each.
+fn play<R: Abort + Wait>(rt: &R, alloc: Global, few: bool) {
+    let mut alone = opened(rt, alloc);
+    let mut map = PlainMap::new(alloc);
     let mut word = 0;
     for _ in 0..CELLS {
         word = after(word);
+        let drawn = (word >> 32) % 40;
+        let key = if few { drawn % 3 } else { drawn };
         alone.store_hints(word);
-        alone.put(&rt, &mut map, (word >> 32) % 40, word);
+        alone.put(rt, &mut map, key, word);
         alone.store_hints(word.wrapping_add(1));
-        alone.compare(&rt, rt.alloc(), &map, (word >> 40) % 40);
-        alone.compare(&rt, rt.alloc(), &map, 0);
+        alone.compare(rt, alloc, &map, (word >> 40) % 40);
+        alone.compare(rt, alloc, &map, key);
+        alone.compare(rt, alloc, &map, 0);
     }
+}
+
+#[test]
+fn hints_may_hold_anything(rt: HostRuntime) -> Result<(), Fail> {
+    play(&rt, rt.alloc(), false);
+    play(&rt, rt.alloc(), true);
     Ok(())
 }

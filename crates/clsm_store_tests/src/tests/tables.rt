@@ -3,7 +3,7 @@ use super::act::{Act, Answer, Step, Turn};
 use super::case::{Case, FOUR_CELLS, NONE, Phase, check};
 use super::drawn::{Load, Mix};
 use super::gate::{ALL, Hold, NOBODY, NOWHERE, OPEN};
-use super::{batches, held};
+use super::{batches, held, hot};
 use clsm_law::Word;
 use clsm_store::Config;
 use clsm_words::Kind;
@@ -431,7 +431,15 @@ const ORDERED: &[Case] = &[
 
 #[test]
 fn cases_are_answered(rt: HostRuntime) -> Result<(), Fail> {
-    for cases in [ALONE, batches::CASES, held::CASES, LOOKS, THREADS, ORDERED] {
+    for cases in [
+        ALONE,
+        batches::CASES,
+        held::CASES,
+        hot::CASES,
+        LOOKS,
+        THREADS,
+        ORDERED,
+    ] {
         for case in cases {
             check(&rt, rt.alloc(), case);
         }
