@@ -7,7 +7,8 @@ ghost use Rattle.clsm_law.specs.SeatBounds.{IsSmallLook};
 use crate::reaches::reached_by_state;
 use crate::words::{or_zero, own_place, own_region};
 use clsm_law::{
-    EXCLUSIVE_HOLD, Layout, Mode, Part, REMOVAL_CELL, SnapshotState, VALUE_CELL, View, Word,
+    EXCLUSIVE_HOLD, FreshLink, Layout, Mode, Part, REMOVAL_CELL, SnapshotState, VALUE_CELL, View,
+    Word,
 };
 use clsm_model::Time;
 
@@ -64,7 +65,7 @@ fn note_merged(layout: &Layout, view: &mut View, found: u64)
 }
 
 /// Whether the link is behind this place of the region's list.
-fn is_link_at(link: u64, region: u64, place: u64) -> bool
+pub(crate) fn is_link_at(link: u64, region: u64, place: u64) -> bool
     ensures { result ≡ link == link_at region place }
 {
     if place == 0 {
@@ -90,6 +91,7 @@ fn note_order(layout: &Layout, view: &mut View, link: u64, found: u64)
 {
     if is_listed(layout, view, link) {
         view.met = found;
+        view.fresh_link = Some(FreshLink { link, next: found });
     }
 }
 

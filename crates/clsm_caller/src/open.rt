@@ -1,17 +1,19 @@
-ghost use Rattle.std.specs.Prelude.{◌≡◌, ◌≢◌, ◌↔◌, IsTrue, false, [], ℕ, take};
+ghost use Rattle.std.specs.Prelude.{◌≡◌, ◌≢◌, ◌↔◌, IsTrue, false, [], ℕ, take, Some};
 ghost use Rattle.clsm_model.specs.History.{History};
 ghost use Rattle.clsm_law.specs.declared.layout.Layout.{Layout};
 ghost use Rattle.clsm_law.specs.declared.step.Step.{Step};
-ghost use Rattle.clsm_law.specs.Views.{is_all_some, or_zero};
+ghost use Rattle.clsm_law.specs.Memory.{link_at};
+ghost use Rattle.clsm_law.specs.Views.{is_all_some, or_zero, own_region};
 ghost use Rattle.clsm_law.specs.Relation.{IsNextMember, IsOpen};
 ghost use Rattle.clsm_law.specs.Worlds.{open_past};
 
 use crate::batches::is_uncut;
 use crate::drawn::{fresh_head, is_all_some, says_write};
 use crate::ends::{is_ending, is_read_below};
+use crate::looks::is_link_at;
 use crate::reaches::is_below;
 use crate::visits::{holds_from, is_lookable};
-use crate::words::{or_zero, write_by};
+use crate::words::{or_zero, own_region, write_by};
 use clsm_law::{EXCLUSIVE_HOLD, Layout, Mode, Part, SnapshotState, Step, View, Word};
 use clsm_model::{Batch, Deed, Members, Slot, Time};
 
@@ -63,14 +65,27 @@ fn is_outside(view: &View) -> bool
     view.drawn.is_some() && !view.inserted
 }
 
-fn may_insert(view: &View, pred: u64, next: u64) -> bool
-    ensures { (z : Layout) (h : History) → IsTrue result ↔ IsOpen z h view.now (Step.Insert pred next) }
+/// Whether the fresh look at a link found this one behind this place of the drawn cell's list.
+fn is_fresh(layout: &Layout, view: &View, pred: u64, next: u64) -> bool
+    ensures { IsTrue result ↔ (view.now.fresh_link ≡ Some (record { link = link_at (own_region layout.now view.now) pred; next = next })) }
+{
+    match view.fresh_link {
+        Some(fresh) => {
+            is_link_at(fresh.link, own_region(layout, view), pred) && fresh.next == next
+        }
+        None => false,
+    }
+}
+
+fn may_insert(layout: &Layout, view: &View, pred: u64, next: u64) -> bool
+    ensures { (h : History) → IsTrue result ↔ IsOpen layout.now h view.now (Step.Insert pred next) }
 {
     is_outside(view)
         && view.linked
         && view.order_next == Some(next)
         && (pred == 0 || pred == view.low)
         && (next == 0 || next == view.high)
+        && is_fresh(layout, view, pred, next)
 }
 
 fn may_decide(
@@ -161,7 +176,7 @@ pub fn is_open(
         Step::Fill(part, _) => may_fill(layout, view, *part),
         Step::Link(head) => may_link(layout, view, *head),
         Step::FillOrder(_) => is_outside(view),
-        Step::Insert(pred, next) => may_insert(view, *pred, *next),
+        Step::Insert(pred, next) => may_insert(layout, view, *pred, *next),
         Step::StoreHint { cell, hint, .. } => layout.is_word(Word::Hint {
             cell: *cell,
             hint: *hint,

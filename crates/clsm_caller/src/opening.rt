@@ -28,6 +28,7 @@ pub fn idle(alloc: Global, layout: &Layout) -> Result<View, AllocError>
         linked: false,
         order_next: None,
         inserted: false,
+        fresh_link: None,
         met: 0,
         low: 0,
         high: 0,

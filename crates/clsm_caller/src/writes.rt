@@ -67,6 +67,7 @@ pub(crate) fn note_draw(view: &mut View, time: Time, found: u64) -> Result<(), A
         view.linked = false;
         view.order_next = None;
         view.inserted = false;
+        view.fresh_link = None;
         view.low = 0;
         view.high = 0;
     } else {
@@ -109,6 +110,7 @@ pub(crate) fn note_stage(view: &mut View, time: Time, key: u64) -> Result<(), Al
     view.linked = false;
     view.order_next = None;
     view.inserted = false;
+    view.fresh_link = None;
     view.low = 0;
     view.high = 0;
     view.fresh_clock = None;
@@ -166,6 +168,7 @@ pub(crate) fn note_link(layout: &Layout, view: &mut View, head: u64, found: u64)
 pub(crate) fn note_insert(view: &mut View, pred: u64, next: u64, found: u64)
     ensures { (z : Layout) (i : ℕ) → view.new ≡ view_after z i view.old (Step.Insert pred next) found }
 {
+    view.fresh_link = None;
     if found == next {
         view.inserted = true;
     } else {

@@ -45,7 +45,7 @@ full_at_last a b c t h k = record {
 
 -- the view with the time drawn
 abbrev with_drawn : View → ℕ → Option ℕ → Option ℕ → ℕ → View
-with_drawn v t limit pin raced = record v { drawn = Some t; key = None; length = None; words = blank 8; next = None; linked = false; order_next = None; inserted = false; low = 0; high = 0; fresh_clock = None; hold_limit = limit; hold_clock = Some t; clock = Some t; pin_clock = pin; raced = raced }
+with_drawn v t limit pin raced = record v { drawn = Some t; key = None; length = None; words = blank 8; next = None; linked = false; order_next = None; inserted = false; fresh_link = None; low = 0; high = 0; fresh_clock = None; hold_limit = limit; hold_clock = Some t; clock = Some t; pin_clock = pin; raced = raced }
 
 pub draws_at_last : (a b c : Known) (t : ℕ) → LosesDraws a b → Draws b c t → DrawsAtLast a c t
 draws_at_last a b c t h k = record {

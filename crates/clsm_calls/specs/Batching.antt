@@ -52,6 +52,7 @@ with_staged v w members = record v {
   linked = w.linked;
   order_next = w.order_next;
   inserted = w.inserted;
+  fresh_link = w.fresh_link;
   fresh_clock = w.fresh_clock;
   fresh_heads = w.fresh_heads;
   reached = w.reached;

@@ -54,7 +54,7 @@ pub record LosesDraws (old new : Known) : Type 0 where
 -- it drew the time, whatever draws it lost before
 pub record DrawsAtLast (old new : Known) (t : ℕ) : Type 0 where
   pub place : KeepsPlace old new
-  pub view : new.view ≡ record old.view { drawn = Some t; key = None; length = None; words = blank 8; next = None; linked = false; order_next = None; inserted = false; low = 0; high = 0; fresh_clock = None; hold_limit = new.view.hold_limit; hold_clock = Some t; clock = Some t; pin_clock = new.view.pin_clock; raced = new.view.raced }
+  pub view : new.view ≡ record old.view { drawn = Some t; key = None; length = None; words = blank 8; next = None; linked = false; order_next = None; inserted = false; fresh_link = None; low = 0; high = 0; fresh_clock = None; hold_limit = new.view.hold_limit; hold_clock = Some t; clock = Some t; pin_clock = new.view.pin_clock; raced = new.view.raced }
   pub looked : new.view.hold_limit ≢ None
   pub below : IsBelow t new.view.hold_limit
   pub due : old.view.due ≤ t

@@ -9,11 +9,14 @@ use Rattle.std.specs.Option.{option_eq}
 use Rattle.clsm_model.proofs.Equals.{Decides-by_same, option_eq-Decides}
 use Rattle.clsm_model.proofs.EqualRecords.{CallRecord-Decides, Members-Decides}
 use Rattle.clsm_law.specs.Same.{uncounted}
+use Rattle.clsm_law.specs.declared.view.FreshLink.{FreshLink}
 use Rattle.clsm_law.specs.declared.view.Mode.{Mode}
 use Rattle.clsm_law.specs.declared.view.Mode.TheVariants.{Free, Shared, Exclusive}
 use Rattle.clsm_law.specs.declared.view.SnapshotState.{SnapshotState}
 use Rattle.clsm_law.specs.declared.view.SnapshotState.TheVariants.{Absent, Noted, Timed, Open}
 use Rattle.clsm_law.specs.declared.view.View.{View}
+use Rattle.clsm_law.specs.contracts.view.FreshLinkPartialEq.TheImpl as of_links
+use Rattle.clsm_law.specs.contracts.view.FreshLinkEq.TheImpl.Laws as link_laws
 use Rattle.clsm_law.specs.contracts.view.ModePartialEq.TheImpl as of_modes
 use Rattle.clsm_law.specs.contracts.view.ModeEq.TheImpl.Laws as mode_laws
 use Rattle.clsm_law.specs.contracts.view.SnapshotStatePartialEq.TheImpl as of_states
@@ -40,8 +43,17 @@ state-same _ _ h = absurd (true≢false (sym h))
 pub SnapshotState-Decides : (a b : SnapshotState) → Decides (of_states.ghosts.eq a b) (a ≡ b)
 SnapshotState-Decides = Decides-by_same state_laws.laws-law state-same
 
+link-same : (a b : FreshLink) → of_links.ghosts.eq a b ≡ true → a ≡ b
+link-same a b h = let e = (Decides-and _ _ (unsigned_Decides a.link b.link) (unsigned_Decides a.next b.next)).0 h in λ i. record { link = e.0 i; next = e.1 i }
+
+pub FreshLink-Decides : (a b : FreshLink) → Decides (of_links.ghosts.eq a b) (a ≡ b)
+FreshLink-Decides = Decides-by_same link_laws.laws-law link-same
+
 word : (o p : Option ℕ) → Decides (option_eq ◌==◌ o p) (o ≡ p)
 word = option_eq-Decides unsigned_Decides
+
+link : (o p : Option FreshLink) → Decides (option_eq of_links.ghosts.eq o p) (o ≡ p)
+link = option_eq-Decides FreshLink-Decides
 
 words : (xs ys : List (Option ℕ)) → Decides (pointwise (option_eq ◌==◌) xs ys) (xs ≡ ys)
 words = pointwise_decides word
@@ -64,6 +76,7 @@ view-same v w h =
     Decides-and _ _ (booleans_Decides v.linked w.linked) (
     Decides-and _ _ (word v.order_next w.order_next) (
     Decides-and _ _ (booleans_Decides v.inserted w.inserted) (
+    Decides-and _ _ (link v.fresh_link w.fresh_link) (
     Decides-and _ _ (unsigned_Decides v.met w.met) (
     Decides-and _ _ (unsigned_Decides v.low w.low) (
     Decides-and _ _ (unsigned_Decides v.high w.high) (
@@ -78,7 +91,7 @@ view-same v w h =
     Decides-and _ _ (unsigned_Decides v.reached w.reached) (
     Decides-and _ _ (unsigned_Decides v.past w.past) (
     Decides-and _ _ (unsigned_Decides v.due w.due) (
-    pointwise_decides CallRecord-Decides v.calls w.calls))))))))))))))))))))))))))))).0 h in
+    pointwise_decides CallRecord-Decides v.calls w.calls)))))))))))))))))))))))))))))).0 h in
     cc
 
 -- two views are equal where they are the same without their counts

@@ -38,14 +38,14 @@ by_seat s y P here other = let p = puts_each s.z (λ (u : View). u) s.views s.me
 
 -- the view after a Draw that won, and one that lost
 abbrev pub drew : Setting → ℕ → View
-drew s t = record (v s) { drawn = Some t; key = None; length = None; words = blank 8; next = None; linked = false; order_next = None; inserted = false; low = 0; high = 0; fresh_clock = None }
+drew s t = record (v s) { drawn = Some t; key = None; length = None; words = blank 8; next = None; linked = false; order_next = None; inserted = false; fresh_link = None; low = 0; high = 0; fresh_clock = None }
 
 abbrev pub missed : Setting → View
 missed s = record (v s) { fresh_clock = None; raced = next_word (v s).raced }
 
 -- a clause over the views after a Draw
 pub by_draw : (s : Setting) (P : Bool → List View → Type 0) (t : ℕ) → (v s).mode ≡ Shared → (length s.slots ≡ t → P true (set s.views s.me (drew s t))) → (P false (set s.views s.me (missed s))) → P (x s (Draw t) == t) (V s (Draw t))
-by_draw s P t shared hit miss = by_test (λ b. P b (set s.views s.me (record (v s) { drawn = cond b (Some t) (v s).drawn; key = cond b None (v s).key; length = cond b None (v s).length; words = cond b (blank 8) (v s).words; next = cond b None (v s).next; linked = cond b false (v s).linked; order_next = cond b None (v s).order_next; inserted = cond b false (v s).inserted; low = cond b 0 (v s).low; high = cond b 0 (v s).high; fresh_clock = None; raced = one_more_if (not b) (v s).raced }))) (x s (Draw t)) t
+by_draw s P t shared hit miss = by_test (λ b. P b (set s.views s.me (record (v s) { drawn = cond b (Some t) (v s).drawn; key = cond b None (v s).key; length = cond b None (v s).length; words = cond b (blank 8) (v s).words; next = cond b None (v s).next; linked = cond b false (v s).linked; order_next = cond b None (v s).order_next; inserted = cond b false (v s).inserted; fresh_link = cond b None (v s).fresh_link; low = cond b 0 (v s).low; high = cond b 0 (v s).high; fresh_clock = None; raced = one_more_if (not b) (v s).raced }))) (x s (Draw t)) t
     (λ e. hit (sym (clock_shared (ground s) s.me shared) ∙ e)) (λ _. miss)
 
 -- all but a Draw that wins leave a seat no more than it had drawn

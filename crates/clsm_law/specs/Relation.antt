@@ -23,6 +23,7 @@ use Rattle.clsm_law.specs.declared.step.End.{End}
 use Rattle.clsm_law.specs.declared.step.End.TheVariants.{Neither, Meeting, Recorded}
 use Rattle.clsm_law.specs.declared.step.Answer.{Answer}
 use Rattle.clsm_law.specs.declared.step.Answer.TheVariants as answers
+use Rattle.clsm_law.specs.declared.view.FreshLink.{FreshLink}
 use Rattle.clsm_law.specs.declared.view.View.{View}
 use Rattle.clsm_law.specs.declared.view.Mode.TheVariants.{Free, Shared, Exclusive}
 use Rattle.clsm_law.specs.declared.view.SnapshotState.{SnapshotState}
@@ -210,8 +211,9 @@ IsOpen z h v (Link head) = (v.drawn ≢ None) × (v.linked ≡ false) × (v.key 
 -- it has a drawn time whose cell does not stand in the ordered list
 IsOpen z h v (FillOrder w) = (v.drawn ≢ None) × (v.inserted ≡ false)
 -- the same; the cell is linked, so that its key stays; the place is the list's head, or one found
--- before the cell, and the link behind the cell is filled with none, or one found behind it
-IsOpen z h v (Insert p next) = (v.drawn ≢ None) × (v.inserted ≡ false) × (v.linked ≡ true) × (v.order_next ≡ Some next) × ((p ≡ 0) ⊎ (p ≡ v.low)) × ((next ≡ 0) ⊎ (next ≡ v.high))
+-- before the cell, and the link behind the cell is filled with none, or one found behind it; and
+-- that is what the fresh look found at the link behind the place
+IsOpen z h v (Insert p next) = (v.drawn ≢ None) × (v.inserted ≡ false) × (v.linked ≡ true) × (v.order_next ≡ Some next) × ((p ≡ 0) ⊎ (p ≡ v.low)) × ((next ≡ 0) ⊎ (next ≡ v.high)) × (v.fresh_link ≡ Some (record { link = link_at (own_region z v) p; next = next }))
 -- there is such a hint
 IsOpen z h v (StoreHint cell i w) = is_word z (Hint cell i) ≡ true
 -- t is drawn and its cell linked; what the parts say is the write that the deed makes; what a
@@ -418,8 +420,8 @@ looked z v (Head region chain) x = record v { fresh_heads = cond (holds_lock v) 
 -- where it is not empty, and is that of the time reached, and the component and the clock cover
 -- this, one time more is reached; and a written cell is met
 looked z v (State cell) x = record v { reached = reached_by_state z v cell x; met = cond (is_met_by_state z v cell x) (cell + 1) v.met }
--- what follows in the list of the drawn cell is met
-looked z v (Order k) x = record v { met = cond (is_listed z v k) x v.met }
+-- what follows in the list of the drawn cell is met, and the look is fresh
+looked z v (Order k) x = record v { met = cond (is_listed z v k) x v.met; fresh_link = cond (is_listed z v k) (Some (record { link = k; next = x })) v.fresh_link }
 -- the cell met is before the drawn one, or behind it
 looked z v (Cell cell part) x = record v { low = low_seen z v cell part x; high = high_seen z v cell part x }
 -- of other words nothing is noted
@@ -433,9 +435,9 @@ filled v (Value j) w = record v { words = slice_set v.words j (Some w) }
 filled v Next w = record v { next = Some w }
 
 -- the time is drawn: no part of its cell is filled, the cell is neither linked nor inserted, and no
--- place is before or behind it; no look at the clock is fresh
+-- place is before or behind it; no look at the clock or at a link is fresh
 abbrev pub taken : View → ℕ → View
-taken v t = record v { drawn = Some t; key = None; length = None; words = blank 8; next = None; linked = false; order_next = None; inserted = false; low = 0; high = 0; fresh_clock = None }
+taken v t = record v { drawn = Some t; key = None; length = None; words = blank 8; next = None; linked = false; order_next = None; inserted = false; fresh_link = None; low = 0; high = 0; fresh_clock = None }
 
 -- The view of the seat i after a step that found x. An exchange is won where it finds the word that
 -- it names, and else lost.
@@ -456,7 +458,7 @@ view_after z i v (EnterShared l) x = let won = x == l in record v {
 -- are known still
 view_after z i v LeaveShared x = record v { mode = Free; fresh_lock = None; fresh_clock = None; fresh_heads = blank (2 * z.chains); met = 0; low = 0; high = 0 }
 -- The look is fresh no more. Won: t is drawn, no part is filled, the cell is neither linked nor
--- inserted, and no place is before or behind it; lost: it is counted.
+-- inserted, no place is before or behind it, and no look at a link is fresh; lost: it is counted.
 view_after z i v (Draw t) x = let won = x == t in record v {
   drawn = cond won (Some t) v.drawn;
   key = cond won None v.key;
@@ -466,6 +468,7 @@ view_after z i v (Draw t) x = let won = x == t in record v {
   linked = cond won false v.linked;
   order_next = cond won None v.order_next;
   inserted = cond won false v.inserted;
+  fresh_link = cond won None v.fresh_link;
   low = cond won 0 v.low;
   high = cond won 0 v.high;
   fresh_clock = None;
@@ -481,8 +484,8 @@ view_after z i v (Link head) x = let won = x == head in record v {
 }
 -- the link is filled
 view_after z i v (FillOrder w) x = record v { order_next = Some w }
--- Won: the cell stands in the list; lost: it is counted.
-view_after z i v (Insert p next) x = let won = x == next in record v { inserted = cond won true v.inserted; raced = one_more_if (not won) v.raced }
+-- The look is fresh no more. Won: the cell stands in the list; lost: it is counted.
+view_after z i v (Insert p next) x = let won = x == next in record v { inserted = cond won true v.inserted; fresh_link = None; raced = one_more_if (not won) v.raced }
 -- of a hint nothing is noted
 view_after z i v (StoreHint cell j w) x = v
 -- Nothing is drawn, and t is found decided. Won: the call is recorded, and the due is behind it, or

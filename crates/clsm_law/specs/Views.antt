@@ -33,6 +33,7 @@ idle z = record {
   linked = false;
   order_next = None;
   inserted = false;
+  fresh_link = None;
   met = 0;
   low = 0;
   high = 0;

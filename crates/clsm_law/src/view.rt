@@ -24,6 +24,13 @@ pub enum SnapshotState {
     Open { noted: Time, time: Time },
 }
 
+/// A look at a link of an ordered list: the link's number, and the place that it led to, or 0.
+#[derive(Clone, Copy, PartialEq, Eq, Hash, Debug)]
+pub struct FreshLink {
+    pub link: u64,
+    pub next: u64,
+}
+
 /// What one caller's seat knows and has done.
 #[derive(Drop)]
 #[derive_where(PartialEq, Eq, Hash)]
@@ -49,6 +56,9 @@ pub struct View {
     /// list.
     pub order_next: Option<u64>,
     pub inserted: bool,
+    /// The last look at a link of that list for the drawn cell, while it is fresh: no try to insert
+    /// the cell since.
+    pub fresh_link: Option<FreshLink>,
     /// Cells of that list, plus 1: the last that it met in this hold of the lock, and the last that
     /// it found before and behind the drawn one; 0 for none.
     pub met: u64,

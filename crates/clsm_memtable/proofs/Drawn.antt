@@ -93,6 +93,7 @@ module _ (k k1 k2 : Known) (limit time : ℕ) (sound : Sound k) (holds : k.view.
     linked = cond won false v.linked;
     order_next = cond won None v.order_next;
     inserted = cond won false v.inserted;
+    fresh_link = cond won None v.fresh_link;
     low = cond won 0 v.low;
     high = cond won 0 v.high;
     fresh_clock = None;
@@ -112,7 +113,7 @@ module _ (k k1 k2 : Known) (limit time : ℕ) (sound : Sound k) (holds : k.view.
     pub draws : time < limit → (x == time) ≡ true → Draws k k3 time
     draws lt won = record {
       place = place;
-      view = subst (λ (v : View). v ≡ record k.view { drawn = Some time; key = None; length = None; words = blank 8; next = None; linked = false; order_next = None; inserted = false; low = 0; high = 0; fresh_clock = None; hold_limit = v.hold_limit; hold_clock = Some time; clock = Some time; pin_clock = v.pin_clock }) (sym (after true won)) refl;
+      view = subst (λ (v : View). v ≡ record k.view { drawn = Some time; key = None; length = None; words = blank 8; next = None; linked = false; order_next = None; inserted = false; fresh_link = None; low = 0; high = 0; fresh_clock = None; hold_limit = v.hold_limit; hold_clock = Some time; clock = Some time; pin_clock = v.pin_clock }) (sym (after true won)) refl;
       looked = there true won;
       below = subst (IsBelow time) (sym (ap (λ (v : View). v.hold_limit) (after true won))) lt;
       due = let due = b.tells.0 in let e = ap (λ (v : View). v.due) both_seen in omega arith;

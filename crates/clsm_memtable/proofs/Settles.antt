@@ -102,7 +102,7 @@ found_passes k component t x may le some = elim (cases_eq t k.view.reached) [
 -- ---- a look at the time's state
 
 pub look_keeps : (k k' : Known) (cell x : ℕ) → Follows (Look (State cell)) k x k' → OnlyReads k k'
-look_keeps k k' cell x follows = reads_by (Look (State cell)) k k' x k.view.fresh_heads (cond (is_met_by_state k.layout k.view cell x) (cell + 1) k.view.met) k.view.low k.view.high (reached_by_state k.layout k.view cell x) k.view.past k.view.cancelled follows refl (grows_by_state k.layout k.view cell x)
+look_keeps k k' cell x follows = reads_by (Look (State cell)) k k' x k.view.fresh_heads (cond (is_met_by_state k.layout k.view cell x) (cell + 1) k.view.met) k.view.fresh_link k.view.low k.view.high (reached_by_state k.layout k.view cell x) k.view.past k.view.cancelled follows refl (grows_by_state k.layout k.view cell x)
 
 pub look_reaches : (k k' : Known) (component t x : ℕ) → MaySettle k component t → t ≤ k.view.reached → x ≢ 0 → Follows (Look (State (cell_of k.layout t))) k x k' → t + 1 ≤ k'.view.reached
 look_reaches k k' component t x may le some follows = let e = ap (λ (v : View). v.reached) follows.view in let p = found_passes k component t x may le some in omega arith
@@ -116,10 +116,10 @@ other_drawn (Some u) t own = let lt = own u refl in let ne : (u == t) ≡ false 
 pub cancel_keeps : (k k' : Known) (component t x : ℕ) → MaySettle k component t → Follows (Cancel t) k x k' → OnlyReads k k'
 cancel_keeps k k' component t x may follows =
     let other = other_drawn k.view.drawn t may.own in
-    let alike : view_after k.layout k.number k.view (Cancel t) x ≡ but_read k.view k.view.fresh_heads k.view.met k.view.low k.view.high (reached_after k.layout k.view t) k.view.past (one_more_if (x == 0) k.view.cancelled) =
+    let alike : view_after k.layout k.number k.view (Cancel t) x ≡ but_read k.view k.view.fresh_heads k.view.met k.view.fresh_link k.view.low k.view.high (reached_after k.layout k.view t) k.view.past (one_more_if (x == 0) k.view.cancelled) =
     ap (λ (drawn : Option ℕ). record (counted_cancel k.view t x) { drawn = drawn; reached = reached_after k.layout k.view t }) other.0
     ∙ ap (λ (own : Bool). record k.view { reached = reached_after k.layout k.view t; overtaken = one_more_if (own && not (x == 0)) k.view.overtaken; gave_up = one_more_if (own && x == 0) k.view.gave_up; cancelled = one_more_if (not own && x == 0) k.view.cancelled }) other.1 in
-    reads_by (Cancel t) k k' x k.view.fresh_heads k.view.met k.view.low k.view.high (reached_after k.layout k.view t) k.view.past (one_more_if (x == 0) k.view.cancelled) follows alike (grows k.layout k.view t)
+    reads_by (Cancel t) k k' x k.view.fresh_heads k.view.met k.view.fresh_link k.view.low k.view.high (reached_after k.layout k.view t) k.view.past (one_more_if (x == 0) k.view.cancelled) follows alike (grows k.layout k.view t)
 
 pub cancel_reaches : (k k' : Known) (component t x : ℕ) → MaySettle k component t → t ≤ k.view.reached → Follows (Cancel t) k x k' → t + 1 ≤ k'.view.reached
 cancel_reaches k k' component t x may le follows = let e = ap (λ (v : View). v.reached) follows.view in let p = passes k component t may le in omega arith
@@ -127,13 +127,13 @@ cancel_reaches k k' component t x may le follows = let e = ap (λ (v : View). v.
 -- ---- the front
 
 pub front_keeps : (k k' : Known) (x : ℕ) → Follows (Look Front) k x k' → OnlyReads k k'
-front_keeps k k' x follows = reads_by (Look Front) k k' x k.view.fresh_heads k.view.met k.view.low k.view.high (max k.view.reached x) k.view.past k.view.cancelled follows refl (omega arith)
+front_keeps k k' x follows = reads_by (Look Front) k k' x k.view.fresh_heads k.view.met k.view.fresh_link k.view.low k.view.high (max k.view.reached x) k.view.past k.view.cancelled follows refl (omega arith)
 
 pub front_reaches : (k k' : Known) (x : ℕ) → Follows (Look Front) k x k' → x ≤ k'.view.reached
 front_reaches k k' x follows = let e = ap (λ (v : View). v.reached) follows.view in omega arith
 
 pub raise_keeps : (k k' : Known) (s x : ℕ) → Follows (RaiseFront s) k x k' → OnlyReads k k'
-raise_keeps k k' s x follows = reads_by (RaiseFront s) k k' x k.view.fresh_heads k.view.met k.view.low k.view.high k.view.reached (max k.view.past s) k.view.cancelled follows refl (omega arith)
+raise_keeps k k' s x follows = reads_by (RaiseFront s) k k' x k.view.fresh_heads k.view.met k.view.fresh_link k.view.low k.view.high k.view.reached (max k.view.past s) k.view.cancelled follows refl (omega arith)
 
 pub raise_reaches : (k k' : Known) (s x : ℕ) → Follows (RaiseFront s) k x k' → s ≤ length k'.past
 raise_reaches k k' s x follows = let e = ap (λ (v : View). v.past) follows.view in let long = follows.sound.length_is in omega arith

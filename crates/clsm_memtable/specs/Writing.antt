@@ -26,7 +26,7 @@ IsUnnoted _ = Unit {0}
 -- of the ordered list is known before or behind it
 pub record Draws (old new : Known) (t : ℕ) : Type 0 where
   pub place : KeepsPlace old new
-  pub view : new.view ≡ record old.view { drawn = Some t; key = None; length = None; words = blank 8; next = None; linked = false; order_next = None; inserted = false; low = 0; high = 0; fresh_clock = None; hold_limit = new.view.hold_limit; hold_clock = Some t; clock = Some t; pin_clock = new.view.pin_clock }
+  pub view : new.view ≡ record old.view { drawn = Some t; key = None; length = None; words = blank 8; next = None; linked = false; order_next = None; inserted = false; fresh_link = None; low = 0; high = 0; fresh_clock = None; hold_limit = new.view.hold_limit; hold_clock = Some t; clock = Some t; pin_clock = new.view.pin_clock }
   pub looked : new.view.hold_limit ≢ None
   pub below : IsBelow t new.view.hold_limit
   pub due : old.view.due ≤ t

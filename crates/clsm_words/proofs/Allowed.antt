@@ -19,6 +19,7 @@ use Rattle.clsm_words.proofs.Played.{clock_rises, me_seated, found, next, slots'
 use Rattle.clsm_words.proofs.PastGrowth.{past_grows}
 use Rattle.clsm_words.proofs.Telling.{tells_of}
 use Rattle.clsm_words.proofs.Walking.{walks_of, runs_of_step}
+use Rattle.clsm_words.proofs.Along.{along_of, extends_of}
 use Rattle.clsm_words.proofs.Neighbours.{order_of, leaves_of, spots_of_step}
 
 module _ (s : State ℕ Known) (id : ℕ) (k : Known) (r : Ruled k.layout s) (at : get_elem? s.views id ≡ some k) (sits : k.seated ≡ true) (step : Step) (o : Opens k step) where
@@ -86,6 +87,8 @@ module _ (s : State ℕ Known) (id : ℕ) (k : Known) (r : Ruled k.layout s) (at
     order = order_of s id k r at sits step o;
     leaves = leaves_of s id k r at sits step o;
     spots = spots_of_step s id k r at sits step o;
+    extends = extends_of s id k r at sits step o;
+    along = along_of s id k r at sits step o;
     sound = sound';
   }
 

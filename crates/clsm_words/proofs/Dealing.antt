@@ -1,5 +1,5 @@
 -- How the table opens, a seat is dealt, and one tells another.
-use Rattle.std.proofs.Common.{◌≡◌, ◌≢◌, ℕ, zero, suc, ◌+◌, ◌%◌, ◌<◌, ◌≤◌, ◌⊎◌, true, false, List, [], ◌∷◌, ◌++◌, length, take, set, replicate, refl, ap, ◌∙◌, sym, subst, inl, inr, ⊎_elim, arith, Option, Some}
+use Rattle.std.proofs.Common.{◌≡◌, ◌≢◌, ℕ, zero, suc, ◌+◌, ◌%◌, ◌<◌, ◌≤◌, ◌⊎◌, true, false, List, [], ◌∷◌, ◌++◌, length, take, set, replicate, refl, ap, ◌∙◌, sym, subst, inl, inr, ⊎_elim, arith, Option, Some, None}
 use mathlib.Core.Option.{some, some-injective, some-ne-none}
 use lib.ListN.{get_elem?}
 use Rattle.atomic_table.specs.Table.{State, Splits, Joins, opening}
@@ -14,7 +14,7 @@ use Rattle.clsm_law.specs.declared.word.Word.{Word}
 use Rattle.clsm_law.specs.declared.view.View.{View}
 use Rattle.clsm_law.specs.declared.merger.MergerView.{MergerView}
 use Rattle.clsm_law.specs.Layout.{size_of, memory}
-use Rattle.clsm_law.specs.Views.{idle}
+use Rattle.clsm_law.specs.Views.{idle, own_region}
 use Rattle.clsm_law.specs.Relation.{Chains, Orders}
 use Rattle.clsm_law.specs.Merging.{opening as opening_merger}
 use Rattle.clsm_law.specs.Worlds.{view_at, settled}
@@ -23,7 +23,7 @@ use Rattle.clsm_law.proofs.Layouts.{is_layout}
 use Rattle.clsm_law.proofs.Opening.{opened_lawful, idle_at}
 use Rattle.clsm_words.specs.declared.known.Known.{Known}
 use Rattle.clsm_words.specs.declared.known.Spot.{Spot}
-use Rattle.clsm_words.specs.Knowing.{unplayed, new_merger, deals, known_of, told_of, messenger, learns, HasRows, HasSpot, IsHeldEpoch, IsNamedWord, Sound}
+use Rattle.clsm_words.specs.Knowing.{unplayed, new_merger, deals, known_of, told_of, messenger, learns, Extends, HasRows, HasSpot, IsHeldEpoch, IsNamedWord, Sound}
 use Rattle.clsm_words.specs.Merging.{IsOwn, known_end, IsSoundMerger}
 use Rattle.clsm_words.specs.Ruled.{world_of, HasFloor, IsEndOf, IsSpot, IsSeated, Begins, IsTold, IsMerging, IsDealing, AreSeats, Ruled}
 use Rattle.clsm_words.proofs.Trails.{end_none}
@@ -56,6 +56,7 @@ newcomer_seated z words m slots batches chains orders views number lt is = recor
   ends = end_none (chains 0 0);
   line = λ some. absurd (some refl);
   spots = λ p key none. absurd cc;
+  order = λ some. absurd (some refl);
 }
 
 -- the merger's seat at the opening
@@ -109,7 +110,7 @@ unfolding opens
 new_sound z = sound_merger (opening (opened z).words [] (new_merger z)) (new_merger z) (opens z (opened z).words refl) (new_merging z (opens z (opened z).words refl).lawful.orders) refl
 
 pub learns_sound : (k m : Known) → Sound k → Sound (learns k m)
-learns_sound k m s = record { seated = s.seated; inside = s.inside; there = s.there; small = s.small; small_for = s.small_for; unstaged = s.unstaged; rows = s.rows; length_is = s.length_is; in_turn = s.in_turn; agrees = s.agrees; right = s.right; fits = s.fits; rising = s.rising; in_time = s.in_time; own_region = s.own_region; own_places = λ p drawn some known. let h = s.own_places p drawn some known in record { inside = h.inside; region = h.region }; opened = s.opened; reads = λ c held. let h = s.reads c held in record { near = h.near; below_merged = h.below_merged; below_snapshot = h.below_snapshot; runs = h.runs }; keyed = s.keyed; spotted = λ p key has. let h = s.spotted p key has in record { epoch = h.epoch; walked = h.walked; some = h.some; inside = h.inside; region = h.region } }
+learns_sound k m s = record { seated = s.seated; inside = s.inside; there = s.there; small = s.small; small_for = s.small_for; unstaged = s.unstaged; rows = s.rows; length_is = s.length_is; in_turn = s.in_turn; agrees = s.agrees; right = s.right; fits = s.fits; rising = s.rising; in_time = s.in_time; own_region = s.own_region; own_places = λ p drawn some known. let h = s.own_places p drawn some known in record { inside = h.inside; region = h.region }; ranked = s.ranked; opened = s.opened; reads = λ c held. let h = s.reads c held in record { near = h.near; below_merged = h.below_merged; below_snapshot = h.below_snapshot; runs = h.runs }; keyed = s.keyed; spotted = λ p key has. let h = s.spotted p key has in record { epoch = h.epoch; walked = h.walked; some = h.some; inside = h.inside; region = h.region } }
 
 -- ---- dealing
 
@@ -128,10 +129,11 @@ pub record Like (o j : Known) : Type 0 where
   pub region : o.region ≡ j.region
   pub chain : o.chain ≡ j.chain
   pub spots : o.spots ≡ j.spots
+  pub order : o.order ≡ j.order
   pub floor : o.floor ≡ j.floor
 
 alike : (k : Known) → Like k k
-alike k = record { seated = refl; merges = refl; number = refl; layout = refl; view = refl; merger = refl; row = refl; past = refl; batches = refl; trail = refl; region = refl; chain = refl; spots = refl; floor = refl }
+alike k = record { seated = refl; merges = refl; number = refl; layout = refl; view = refl; merger = refl; row = refl; past = refl; batches = refl; trail = refl; region = refl; chain = refl; spots = refl; order = refl; floor = refl }
 
 like_seated : (z : Layout) (words : List ℕ) (m : MergerView) (slots : List (Option Slot)) (batches : List Batch) (chains : Chains) (orders : Orders) (views : List View) (o j : Known) → Like o j → IsSeated z words m slots batches chains orders views o → IsSeated z words m slots batches chains orders views j
 like_seated z words m slots batches chains orders views o j l h = record {
@@ -146,6 +148,7 @@ like_seated z words m slots batches chains orders views o j l h = record {
   ends = subst (λ (y : List ℕ × ℕ × ℕ). IsEndOf y.0 (chains y.1 y.2)) (λ i. (l.trail i, l.region i, l.chain i)) h.ends;
   line = subst (λ (y : List ℕ × View × ℕ × ℕ). y.0 ≢ [] → (e : ℕ) × IsHeldEpoch z y.1.held y.1.past e × (y.2 ≡ e % 2) × (y.3 < z.chains)) (λ i. (l.trail i, l.view i, l.region i, l.chain i)) h.line;
   spots = subst (λ (y : View × List Spot). (p key : ℕ) → HasSpot y.1 p key → IsSpot z (memory z words) orders y.0.held y.0.past p key) (λ i. (l.view i, l.spots i)) h.spots;
+  order = subst (λ (y : View × List ℕ). y.0.drawn ≢ None → Extends y.1 (orders (own_region z y.0))) (λ i. (l.view i, l.order i)) h.order;
 }
 
 like_merging : (z : Layout) (words : List ℕ) (m : MergerView) (slots : List (Option Slot)) (orders : Orders) (o j : Known) → Like o j → IsMerging z words m slots orders o → IsMerging z words m slots orders j
@@ -173,7 +176,7 @@ module _ (id : ℕ) (k : Known) (merges : k.merges ≡ true) (room : k.dealt < k
   Old i j = (o : Known) × (get_elem? s.views i ≡ some o) × Like o j × (IsTold (memory k.layout s.words Clock) r.slots r.batches (told_of j) j.heard) × (j.merges ≡ true → j.dealt ≡ k.dealt + 1)
 
   dealt_like : Like k (deals k)
-  dealt_like = record { seated = refl; merges = refl; number = refl; layout = refl; view = refl; merger = refl; row = refl; past = refl; batches = refl; trail = refl; region = refl; chain = refl; spots = refl; floor = refl }
+  dealt_like = record { seated = refl; merges = refl; number = refl; layout = refl; view = refl; merger = refl; row = refl; past = refl; batches = refl; trail = refl; region = refl; chain = refl; spots = refl; order = refl; floor = refl }
 
   old : (i : ℕ) (j : Known) → get_elem? mid i ≡ some j → Old i j
   old i j e = ⊎_elim
@@ -306,7 +309,7 @@ module _ (z : Layout) (id other : ℕ) (k m : Known) (s : State ℕ Known) (r : 
   both = learns k m
 
   both_like : Like k both
-  both_like = record { seated = refl; merges = refl; number = refl; layout = refl; view = refl; merger = refl; row = refl; past = refl; batches = refl; trail = refl; region = refl; chain = refl; spots = refl; floor = refl }
+  both_like = record { seated = refl; merges = refl; number = refl; layout = refl; view = refl; merger = refl; row = refl; past = refl; batches = refl; trail = refl; region = refl; chain = refl; spots = refl; order = refl; floor = refl }
 
   abbrev spent : Known
   spent = messenger (plain []) 0

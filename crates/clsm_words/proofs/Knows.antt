@@ -27,7 +27,7 @@ use Rattle.clsm_law.specs.Views.{idle, or_zero, own_region}
 use Rattle.clsm_law.specs.Relation.{open_time, IsOpen, word_of}
 use Rattle.clsm_law.specs.Merging.{is_frozen}
 use Rattle.clsm_law.specs.Worlds.{view_at, outcome_at, past_of}
-use Rattle.clsm_law.specs.Law.{IsMember, IsSnapshot, first_free}
+use Rattle.clsm_law.specs.Law.{In, IsMember, IsSnapshot, first_free}
 use Rattle.clsm_model.specs.Seats.{FitsRecord, IsListedDeed, IsListedRecord, IsRightRecord, IsUncutDeed, IsUncutRecord, StandsAs, IsStandingRecord, HasWrite, IsRecordIn, IsRising}
 use Rattle.clsm_law.specs.SeatBounds.{IsSmall, IsSmallFor, IsSmallLook}
 use Rattle.clsm_law.specs.Machine.{WorldState}
@@ -42,12 +42,14 @@ use Rattle.clsm_law.proofs.Stepped.{seat_setting}
 use Rattle.clsm_law.proofs.Cases.{by_bool}
 use Rattle.clsm_law.proofs.Times.{cell_below, region_of_epoch}
 use Rattle.clsm_law.proofs.OrderFacts.{R, some_place, place_region, member_own}
+use Rattle.clsm_law.proofs.ReadingOrders.{order_short}
 use Rattle.clsm_law.proofs.WordsThere.{word_there}
 use Rattle.clsm_words.specs.declared.known.Known.{Known}
 use Rattle.clsm_law.specs.Layout.{memory}
-use Rattle.clsm_words.specs.Knowing.{row_of, HasSpot, IsHeldEpoch, IsReading, IsCellPlace, IsOwnPlace, IsListedWithin, Agrees, Opens, Sound, known_of}
+use Rattle.clsm_words.specs.Knowing.{row_of, rank_of, HasSpot, IsHeldEpoch, IsReading, IsCellPlace, IsOwnPlace, IsListedWithin, Agrees, Opens, Sound, known_of}
 use Rattle.clsm_words.specs.Ruled.{world_of, IsSeated, Begins, Ruled}
 use Rattle.clsm_words.proofs.Beginnings.{begins_at}
+use Rattle.clsm_words.proofs.Ranks.{rank_most}
 use Rattle.clsm_words.proofs.HeldRuns.{clock_near, snapshot_above, floor_below, floor_least, runs_held}
 
 -- where a step makes small numbers whatever it finds, it does so at 0
@@ -215,6 +217,14 @@ module _ (s : State ℕ Known) (k : Known) (r : Ruled k.layout s) (ok : IsSeated
           (λ (or : (p ≡ k.view.low) ⊎ (p ≡ k.view.high)). ⊎_elim (λ (e : p ≡ k.view.low). known_by (λ v. v.low) (r.lawful.law.lows k.number) e) (λ (e : p ≡ k.view.high). known_by (λ v. v.high) (r.lawful.law.highs k.number) e) or)
           known
 
+  -- the list of its drawn cell has no more places than an epoch cells
+  ranked_of : (p : ℕ) → k.view.drawn ≢ None → In p k.order → rank_of p k.order ≤ k.layout.cells
+  ranked_of p has i =
+      let now = (ok.order has).ranks p i in
+      let most = rank_most p (r.lawful.orders (own_region k.layout k.view)) in
+      let few = order_short (ground setting) (own_region k.layout k.view) in
+      omega arith
+
   -- what it may search while it holds the component c
   reads_of : (c : ℕ) → k.view.held ≡ Some c → IsReading k c
   reads_of c held =
@@ -260,6 +270,7 @@ module _ (s : State ℕ Known) (k : Known) (r : Ruled k.layout s) (ok : IsSeated
     rows = ok.rows;
     own_region = region_is;
     own_places = own_place_of;
+    ranked = ranked_of;
     opened = opened_of;
     reads = reads_of;
     spotted = cell_place;

@@ -4,6 +4,7 @@ pub mod Rows
 pub mod HeldRuns
 pub mod Trails
 pub mod Spots
+pub mod Ranks
 pub mod Owned
 pub mod Listed
 pub mod MergerFacts
@@ -17,6 +18,7 @@ pub mod Keeps
 pub mod Walking
 pub mod Links
 pub mod Neighbours
+pub mod Along
 pub mod Allowed
 pub mod Dealing
 pub mod May

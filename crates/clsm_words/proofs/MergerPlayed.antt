@@ -15,9 +15,10 @@ use Rattle.clsm_law.specs.declared.view.View.{View}
 use Rattle.clsm_law.specs.declared.merger.MergerView.{MergerView}
 use Rattle.clsm_law.specs.declared.merger.Phase.{Phase}
 use Rattle.clsm_law.specs.declared.merger.Phase.TheVariants.{Clean, Frozen, Retired}
-use Rattle.clsm_law.specs.Memory.{Memory, is_word, put}
+use Rattle.clsm_law.specs.Memory.{Memory, cell_of, region_of, is_word, put}
 use Rattle.clsm_law.specs.Layout.{index_of, memory}
 use Rattle.clsm_law.specs.Relation.{Chains, Orders}
+use Rattle.clsm_law.specs.Views.{or_zero, own_region}
 use Rattle.clsm_law.specs.Merging.{is_clean, is_frozen, is_retired, epoch_end, word_of_merger, changed_by_merger, merger_after, slots_after_merger, chains_after_merger, orders_after_merger}
 use Rattle.clsm_law.specs.Worlds.{outcome_at, settled, facts_of}
 use Rattle.clsm_law.specs.Law.{LawOf, each, held_of}
@@ -32,7 +33,7 @@ use Rattle.clsm_law.proofs.Kept.{kept'}
 use Rattle.clsm_law.proofs.Keeping.{holds_quiet, places_stay}
 use Rattle.clsm_law.proofs.Stepped.{lawful_ground}
 use Rattle.clsm_words.specs.declared.known.Known.{Known}
-use Rattle.clsm_words.specs.Knowing.{row_of, told_of, IsHeldEpoch, IsNamedWord}
+use Rattle.clsm_words.specs.Knowing.{row_of, told_of, Extends, IsHeldEpoch, IsNamedWord}
 use Rattle.clsm_words.specs.Merging.{facts_known, OpensToMerger, known_end}
 use Rattle.clsm_words.specs.Ruled.{world_of, HasFloor, IsSpot, IsSeated, Begins, IsMerging, AreSeats, Ruled, frozen_times}
 use Rattle.clsm_words.proofs.Beginnings.{HaveGrown, begins_stay, begins_length, decided_stay}
@@ -40,6 +41,7 @@ use Rattle.clsm_words.proofs.Listed.{trail_merged}
 use Rattle.clsm_words.proofs.MergerFacts.{after_known}
 use Rattle.clsm_words.proofs.Trails.{walked_apart, ends_walked}
 use Rattle.clsm_words.proofs.Spots.{spot_merged}
+use Rattle.clsm_words.proofs.Ranks.{extends_trans, grows_merged}
 use Rattle.clsm_words.proofs.MergerKnows.{world, setting, open_by_row, open_there}
 
 -- in a lawful world each time up to the end that a merger knows is decided
@@ -241,6 +243,13 @@ module _ (s : State ℕ Known) (id : ℕ) (k : Known) (r : Ruled k.layout s) (at
       by (Some c) is epoch = λ q.
           walked_apart before j.number c (h.line walks).0 j.view.past (held_there c is) past_inside epoch region chain clears (sym (h.line walks).2 ∙ q)
 
+    -- and the list of its drawn cell
+    order_stays : j.view.drawn ≢ None → Extends j.order (orders' (own_region k.layout j.view))
+    order_stays has = extends_trans j.order (r.lawful.orders (own_region k.layout j.view)) (orders' (own_region k.layout j.view)) (h.order has) (by j.view.drawn refl has) where
+      by : (drawn : Option ℕ) → j.view.drawn ≡ drawn → drawn ≢ None → Extends (r.lawful.orders (region_of k.layout (cell_of k.layout (or_zero drawn)))) (orders' (region_of k.layout (cell_of k.layout (or_zero drawn))))
+      by None is has = absurd (has refl)
+      by (Some t) is has = grows_merged before step opens j.number t (ap (λ (u : View). u.drawn) h.view ∙ is)
+
     seated_stays : IsSeated k.layout words' view' slots' r.batches chains' orders' r.views j
     seated_stays = record {
       layout = h.layout;
@@ -254,6 +263,7 @@ module _ (s : State ℕ Known) (id : ℕ) (k : Known) (r : Ruled k.layout s) (at
       ends = ends_walked before step opens j.region j.chain j.trail line_apart h.ends;
       line = h.line;
       spots = λ p key has. subst (λ (m : Memory). IsSpot k.layout m orders' j.view.held j.view.past p key) (sym there_memory) (spot_merged before step opens j.number j.view.held j.view.past p key (ap (λ (u : View). u.held) h.view) past_inside (h.spots p key has));
+      order = order_stays;
     }
 
   back : (i : ℕ) (j : Known) → get_elem? after.views i ≡ some j → ((i ≡ id) × (next ≡ j)) ⊎ ((i ≢ id) × (get_elem? s.views i ≡ some j))

@@ -12,7 +12,7 @@ use Rattle.clsm_law.specs.declared.word.Word.TheVariants.{Clock, Count, Entry}
 use Rattle.clsm_law.specs.declared.step.Step.{Step}
 use Rattle.clsm_law.specs.declared.view.View.{View}
 use Rattle.clsm_law.specs.Layout.{index_of, memory}
-use Rattle.clsm_law.specs.Views.{idle}
+use Rattle.clsm_law.specs.Views.{idle, own_region}
 use Rattle.clsm_law.specs.Relation.{Chains, Orders, word_of, changed, view_after, slots_after, batches_after, chains_after, orders_after}
 use Rattle.clsm_law.specs.Worlds.{view_at, outcome_at, settled}
 use Rattle.clsm_law.specs.Memory.{Memory, key_at, is_word}
@@ -28,7 +28,7 @@ use Rattle.clsm_law.proofs.Steps.{May, finds as found_by, memory_by, slots_by, o
 use Rattle.clsm_law.proofs.StepsKeep.{longer_by, slots_kept_by, ordered_by, keys_by, runs_by, batches_stay, clock_by}
 use Rattle.clsm_law.proofs.Stepped.{lawful_ground}
 use Rattle.clsm_words.specs.declared.known.Known.{Known}
-use Rattle.clsm_words.specs.Knowing.{Opens, told_of}
+use Rattle.clsm_words.specs.Knowing.{Extends, Opens, told_of}
 use Rattle.clsm_words.specs.Merging.{IsOwn, known_end}
 use Rattle.clsm_words.specs.Ruled.{world_of, IsSpot, IsSeated, Begins, IsMerging, AreSeats, Ruled, frozen_times}
 use Rattle.clsm_words.proofs.Beginnings.{HaveGrown, begins_stay, decided_stay}
@@ -36,6 +36,7 @@ use Rattle.clsm_words.proofs.Listed.{list_kept}
 use Rattle.clsm_words.proofs.Owned.{own_kept}
 use Rattle.clsm_words.proofs.Trails.{trail_after, region_after, chain_after, floor_after, ends_stay, own_ends, own_line, own_floor}
 use Rattle.clsm_words.proofs.Spots.{spots_after, own_spots, spot_kept}
+use Rattle.clsm_words.proofs.Ranks.{extends_self, extends_trans, grows_by}
 use Rattle.clsm_words.proofs.Rows.{rows_stay}
 use Rattle.clsm_words.proofs.Knows.{world, number_inside, setting, open_there}
 
@@ -81,6 +82,7 @@ module _ (s : State ℕ Known) (id : ℕ) (k : Known) (r : Ruled k.layout s) (at
     region = region_after k.region step;
     chain = chain_after k.chain step;
     spots = spots_after k.layout k.view (memory k.layout s.words) r.lawful.orders k.spots step found;
+    order = orders' (own_region k.layout view');
     floor = floor_after k.view r.merger.merged_floor k.floor step;
   }
 
@@ -136,6 +138,10 @@ module _ (s : State ℕ Known) (id : ℕ) (k : Known) (r : Ruled k.layout s) (at
   kept_spot held past p key = spot_kept k.layout (memory k.layout s.words) (memory k.layout words') r.lawful.orders orders' held past p key
       (λ e epoch stands. (subst (λ (lists : Orders). In p (lists (e % 2))) same_orders (ordered_by before step opens (e % 2) p stands), (λ i. key_at (same_memory i) p) ∙ keys_by before step opens (e % 2) p stands))
 
+  -- the lists only grow
+  pub grown_order : (region : ℕ) → Extends (r.lawful.orders region) (orders' region)
+  grown_order region = subst (λ (lists : Orders). Extends (r.lawful.orders region) (lists region)) same_orders (grows_by before step opens region)
+
   pub grown : HaveGrown r.slots slots'
   grown = subst (HaveGrown r.slots) same_slots record { longer = longer_by before step opens; stay = slots_kept_by before step opens }
 
@@ -184,6 +190,7 @@ module _ (s : State ℕ Known) (id : ℕ) (k : Known) (r : Ruled k.layout s) (at
     ends = ends_stay k.layout k.view r.lawful.chains step found (region_after k.region step) (chain_after k.chain step) next.trail (own_ends k.layout k.view r.lawful.chains k.trail k.region k.chain step me_seated.ends);
     line = own_line k.layout k.number k.view r.lawful.chains k.trail k.region k.chain step found word_there me_seated.line;
     spots = λ p key has. kept_spot view'.held view'.past p key (own_spots k.layout k.number k.view (memory k.layout s.words) r.lawful.orders k.spots step found me_seated.spots p key has);
+    order = λ _. extends_self (orders' (own_region k.layout view'));
   }
 
   -- the words of runs stay
@@ -209,6 +216,7 @@ module _ (s : State ℕ Known) (id : ℕ) (k : Known) (r : Ruled k.layout s) (at
         ends = ends_stay k.layout k.view r.lawful.chains step found j.region j.chain j.trail h.ends;
         line = h.line;
         spots = λ p key has. kept_spot j.view.held j.view.past p key (h.spots p key has);
+        order = λ has. extends_trans j.order (r.lawful.orders (own_region k.layout j.view)) (orders' (own_region k.layout j.view)) (h.order has) (grown_order (own_region k.layout j.view));
       }) (back i j e)
 
   -- what the merger knows of its own words stays

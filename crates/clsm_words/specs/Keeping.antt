@@ -36,11 +36,12 @@ pub record KeepsPlace (old new : Known) : Type 0 where
   pub trail : new.trail ≡ old.trail
 
 -- It only read: its view is as it was, but for the heads that it looked at, the places of the
--- ordered list that it met and found before and behind its drawn cell, what it reached, how far its
--- past goes, and how many times of others it cancelled; what it reached does not fall back
+-- ordered list that it met and found before and behind its drawn cell, its last look at a link
+-- there, what it reached, how far its past goes, and how many times of others it cancelled; what it
+-- reached does not fall back
 pub record OnlyReads (old new : Known) : Type 0 where
   pub seat : KeepsSeat old new
-  pub view : new.view ≡ record old.view { fresh_heads = new.view.fresh_heads; met = new.view.met; low = new.view.low; high = new.view.high; reached = new.view.reached; past = new.view.past; cancelled = new.view.cancelled }
+  pub view : new.view ≡ record old.view { fresh_heads = new.view.fresh_heads; met = new.view.met; fresh_link = new.view.fresh_link; low = new.view.low; high = new.view.high; reached = new.view.reached; past = new.view.past; cancelled = new.view.cancelled }
   pub reached : old.view.reached ≤ new.view.reached
 
 -- it read, and neither learned of a time more nor cancelled one

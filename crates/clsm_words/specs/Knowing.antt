@@ -1,6 +1,6 @@
 -- What a seat at the words knows: how it begins, what a step makes of it, and what each step tells
 -- it.
-use Rattle.std.specs.Prelude.{max, min, true, false, ◌≡◌, ◌≢◌, ℕ, ◌+◌, ◌-◌, ◌*◌, ◌%◌, ◌<◌, ◌≤◌, ◌==◌, ◌&&◌, ◌||◌, ◌⊎◌, Bool, List, [], ◌∷◌, length, slice_index, slice_index_or, Option, Some, None}
+use Rattle.std.specs.Prelude.{max, min, cond, true, false, ◌≡◌, ◌≢◌, ℕ, ◌+◌, ◌-◌, ◌*◌, ◌%◌, ◌<◌, ◌≤◌, ◌==◌, ◌&&◌, ◌||◌, ◌⊎◌, Bool, List, [], ◌∷◌, length, slice_index, slice_index_or, Option, Some, None}
 use Rattle.std.specs.List.{AllByRecursion}
 use Rattle.std.proofs.Common.{arith}
 use Rattle.clsm_model.specs.declared.slot.Slot.{Slot}
@@ -44,12 +44,12 @@ least_layout = record { cells = 4; seats = 1; chains = 1; run = 4; patience = 0;
 
 -- a caller's seat that has played nothing
 abbrev pub unplayed : Layout → ℕ → Known
-unplayed z number = record { seated = true; merges = false; number = number; dealt = 0; layout = z; view = idle z; merger = opening z; row = []; trail = []; spots = []; region = 0; chain = 0; floor = 0; past = []; batches = []; told = []; told_batches = []; heard = 0 }
+unplayed z number = record { seated = true; merges = false; number = number; dealt = 0; layout = z; view = idle z; merger = opening z; row = []; trail = []; spots = []; order = []; region = 0; chain = 0; floor = 0; past = []; batches = []; told = []; told_batches = []; heard = 0 }
 
 -- the merger's, which is the first of all and deals the others: its number is the number of the
 -- callers' seats
 abbrev pub new_merger : Layout → Known
-new_merger z = record { seated = false; merges = true; number = z.seats; dealt = 0; layout = z; view = idle z; merger = opening z; row = (opened z).words; trail = []; spots = []; region = 0; chain = 0; floor = 0; past = []; batches = []; told = []; told_batches = []; heard = 0 }
+new_merger z = record { seated = false; merges = true; number = z.seats; dealt = 0; layout = z; view = idle z; merger = opening z; row = (opened z).words; trail = []; spots = []; order = []; region = 0; chain = 0; floor = 0; past = []; batches = []; told = []; told_batches = []; heard = 0 }
 
 -- one seat more is dealt
 abbrev pub deals : Known → Known
@@ -64,7 +64,7 @@ told_of k = record { slots = k.told; batches = k.told_batches }
 
 -- one that only carries a past and a due
 abbrev pub messenger : History → ℕ → Known
-messenger told heard = record { seated = false; merges = false; number = 0; dealt = 0; layout = least_layout; view = idle least_layout; merger = opening least_layout; row = []; trail = []; spots = []; region = 0; chain = 0; floor = 0; past = []; batches = []; told = told.slots; told_batches = told.batches; heard = heard }
+messenger told heard = record { seated = false; merges = false; number = 0; dealt = 0; layout = least_layout; view = idle least_layout; merger = opening least_layout; row = []; trail = []; spots = []; order = []; region = 0; chain = 0; floor = 0; past = []; batches = []; told = told.slots; told_batches = told.batches; heard = heard }
 
 -- a seat that takes in what another carries: its beginning of the history, and its due where that
 -- is greater
@@ -153,14 +153,24 @@ pub record IsOwnPlace (k : Known) (p : ℕ) : Type 0 where
   pub inside : p - 1 < 2 * k.layout.cells
   pub region : region_of k.layout (p - 1) ≡ own_region k.layout k.view
 
+-- the place's number in the list, from 1 on
+abbrev pub rank_of : ℕ → List ℕ → ℕ
+rank_of p [] = 0
+rank_of p (q ∷ qs) = cond (q == p) 1 (rank_of p qs + 1)
+
+-- the places of the old list stand in the new one, none further ahead
+pub record Extends (old new : List ℕ) : Type 0 where
+  pub stays : (p : ℕ) → In p old → In p new
+  pub ranks : (p : ℕ) → In p old → rank_of p old ≤ rank_of p new
+
 -- what a seat knows of itself: the words of its open steps are there, the numbers that these make
 -- fit 64 bits, the batches of its past don't overlap, and none ends beyond it; its records are right
 -- in its past and agree with it, each batch that it recorded fits an epoch, and their times rise to
 -- its due, which is no time past the end; nothing is staged outside an exclusive hold of the lock;
 -- its drawn time is in the epoch of the limit that it looked at in this hold of the lock, and so is
--- each place of the ordered list that it met, or found before or behind its drawn cell; the time of
--- its open snapshot is within its past; what it may search; and that each spot is the place of a
--- cell, with one key
+-- each place of the ordered list that it met, or found before or behind its drawn cell; that list
+-- has no more places than an epoch cells; the time of its open snapshot is within its past; what it
+-- may search; and that each spot is the place of a cell, with one key
 pub record Sound (k : Known) : Type 0 where
   pub seated : k.seated ≡ true
   pub inside : k.number < k.layout.seats
@@ -178,6 +188,7 @@ pub record Sound (k : Known) : Type 0 where
   pub unstaged : k.view.mode ≢ Exclusive → k.view.staged ≡ []
   pub own_region : (t limit : ℕ) → k.view.drawn ≡ Some t → k.view.hold_limit ≡ Some limit → region_of k.layout (cell_of k.layout (limit - 1)) ≡ region_of k.layout (cell_of k.layout t)
   pub own_places : (p : ℕ) → k.view.drawn ≢ None → p ≢ 0 → (p ≡ k.view.met) ⊎ ((p ≡ k.view.low) ⊎ (p ≡ k.view.high)) → IsOwnPlace k p
+  pub ranked : (p : ℕ) → k.view.drawn ≢ None → In p k.order → rank_of p k.order ≤ k.layout.cells
   pub opened : (s : ℕ) → open_time k.view.snapshot ≡ Some s → s ≤ k.view.past
   pub reads : (c : ℕ) → k.view.held ≡ Some c → IsReading k c
   pub spotted : (p key : ℕ) → HasSpot k.spots p key → IsCellPlace k p
@@ -317,6 +328,17 @@ pub record HasSpotsOf (k k' : Known) : Type 0 where
 abbrev pub KeepsSpots : Known → Known → Type 0
 KeepsSpots k k' = (c : ℕ) → k.view.held ≡ Some c → k'.view.held ≡ Some c → HasSpotsOf k k'
 
+-- the place stands in the list of the drawn cell, behind the place p
+pub record IsAlong (k k' : Known) (p x : ℕ) : Type 0 where
+  pub stands : In x k'.order
+  pub behind : In p k.order → rank_of p k.order < rank_of x k'.order
+
+-- what a step that found x tells of the list of the drawn cell: a look at the link behind the last
+-- place before that cell, or at the list's head, leads on in the list
+abbrev pub TellsAlong : Step → Known → ℕ → Known → Type 0
+TellsAlong (Look (Order link)) k x k' = (p : ℕ) → k.view.drawn ≢ None → link ≡ link_at (own_region k.layout k.view) p → (p ≡ 0) ⊎ (p ≡ k.view.low) → x ≢ 0 → IsAlong k k' p x
+TellsAlong _ k x k' = Unit {0}
+
 -- the seat after a step that found x: its view is the machine's, and its past only grows, and stays
 -- where the view's past does. What it was told and its past are beginnings of one history, with
 -- which its records agree
@@ -339,6 +361,8 @@ pub record Follows (step : Step) (k : Known) (x : ℕ) (k' : Known) : Type 0 whe
   pub order : TellsOrder step k x k'
   pub leaves : LeavesSpots step k k'
   pub spots : KeepsSpots k k'
+  pub extends : k.view.drawn ≢ None → k'.view.drawn ≡ k.view.drawn → Extends k.order k'.order
+  pub along : TellsAlong step k x k'
   pub sound : Sound k'
 
 -- the same, whatever it found

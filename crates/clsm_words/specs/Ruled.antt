@@ -14,7 +14,7 @@ use Rattle.clsm_law.specs.declared.word.Word.{Word}
 use Rattle.clsm_law.specs.declared.word.Word.TheVariants.{Clock}
 use Rattle.clsm_law.specs.Layout.{memory, size_of}
 use Rattle.clsm_law.specs.Memory.{Memory, key_at}
-use Rattle.clsm_law.specs.Views.{idle}
+use Rattle.clsm_law.specs.Views.{idle, own_region}
 use Rattle.clsm_law.specs.Relation.{Chains, Orders}
 use Rattle.clsm_law.specs.Law.{In}
 use Rattle.clsm_law.specs.Reading.{time_in}
@@ -22,7 +22,7 @@ use Rattle.clsm_law.specs.Merging.{is_frozen, is_retired}
 use Rattle.clsm_law.specs.Worlds.{view_at, outcome_at, settled}
 use Rattle.clsm_law.specs.Machine.{WorldState, IsLawful}
 use Rattle.clsm_words.specs.declared.known.Known.{Known}
-use Rattle.clsm_words.specs.Knowing.{HasRows, HasSpot, IsHeldEpoch, IsNamedWord, told_of}
+use Rattle.clsm_words.specs.Knowing.{Extends, HasRows, HasSpot, IsHeldEpoch, IsNamedWord, told_of}
 use Rattle.clsm_words.specs.Merging.{IsOwn, known_end}
 
 -- the world with these words
@@ -51,7 +51,8 @@ pub record IsSpot (z : Layout) (memory : Memory) (orders : Orders) (held : Optio
 -- what is so of a seat in the world: its view is the one of its number, and its past is what the
 -- times below the view's past came to, with the batches that begin below it; while it holds a
 -- component it knows the words of its runs, and their floor; its trail is an end of a chain that it
--- may walk, and its spots stand in lists that it may walk
+-- may walk, and its spots stand in lists that it may walk; the list of its drawn cell has grown at
+-- most
 pub record IsSeated (z : Layout) (words : List ℕ) (m : MergerView) (slots : List (Option Slot)) (batches : List Batch) (chains : Chains) (orders : Orders) (views : List View) (k : Known) : Type 0 where
   pub layout : k.layout ≡ z
   pub inside : k.number < z.seats
@@ -64,6 +65,7 @@ pub record IsSeated (z : Layout) (words : List ℕ) (m : MergerView) (slots : Li
   pub ends : IsEndOf k.trail (chains k.region k.chain)
   pub line : k.trail ≢ [] → IsHeldLine z k
   pub spots : (p key : ℕ) → HasSpot k.spots p key → IsSpot z (memory z words) orders k.view.held k.view.past p key
+  pub order : k.view.drawn ≢ None → Extends k.order (orders (own_region z k.view))
 
 -- the list is what the times below some time came to, and all these are decided
 pub record Begins (slots : List (Option Slot)) (list : List Slot) : Type 0 where

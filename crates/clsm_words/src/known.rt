@@ -30,6 +30,8 @@ pub struct Known {
     pub chain: u64,
     /// The places of the ordered lists that it met while it holds its component.
     pub spots: LinkedList<Spot>,
+    /// The places of the ordered list that its drawn cell belongs to, as its last step left them.
+    pub order: LinkedList<u64>,
     /// The floor that the runs of the component that it holds were merged with.
     pub floor: Time,
     /// What each time below the view's past came to, and the batches that begin below it.

@@ -24,7 +24,7 @@ pub returns-in-Note : goal.returns-in-Note
 returns-in-Note c = rw c.in-Note.is (c.may_note.ensures c.args.layout.now (open_past c.args.slots.now c.args.batches.now c.args.view.now.past))
 
 pub returns-in-Insert : goal.returns-in-Insert
-returns-in-Insert c = rw c.in-Insert.is (c.may_insert.ensures c.args.layout.now (open_past c.args.slots.now c.args.batches.now c.args.view.now.past))
+returns-in-Insert c = rw c.in-Insert.is (c.may_insert.ensures (open_past c.args.slots.now c.args.batches.now c.args.view.now.past))
 
 pub returns-in-Stage : goal.returns-in-Stage
 returns-in-Stage c = rw c.in-Stage.is (c.may_stage.ensures c.args.layout.now (open_past c.args.slots.now c.args.batches.now c.args.view.now.past) c.in-Stage.field-1)
