@@ -2,16 +2,15 @@
 ghost use Rattle.std.specs.Prelude.{◌≡◌, All, IfOk};
 
 use crate::calls::{Lap, work_all};
-use crate::draws::{Call, FILLER, Series, key_of};
+use crate::draws::{Call, Draws, FILLER, Series, key_of};
 use crate::failure::Failure;
 use crate::lines::Line;
 use crate::options::Options;
 use crate::series::targets;
-use crate::target::Target;
+use crate::target::{Signals, Target};
 use clsm_model::{Change, Value};
 use clsm_store::{Opened, Seat, Store, open};
 use clsm_words::Free;
-use rand_pcg::Pcg32;
 use std::alloc::{AllocError, Global};
 use std::rt::Clock;
 use std::sync::Wait;
@@ -35,43 +34,34 @@ pub fn filled_members(alloc: Global, keys: u32) -> Result<Vec<(u64, Change)>, Al
     Ok(members)
 }
 
-/// Puts the writes of the series from this index on in the place of the members.
-fn draw_members(
-    series: &Series,
-    words: &mut Pcg32,
-    number: u32,
-    first: u32,
-    members: &mut [(u64, Change)],
-) {
+/// Puts the writes from this index on in the place of the members.
+fn draw_members(draws: &mut Draws, first: u32, members: &mut [(u64, Change)]) {
     let mut index = first;
     for member in members {
-        if let Call::Put { key, word } = series.call(words, number, index) {
+        if let Call::Put { key, word } = draws.call(index) {
             *member = (key, change_of(word));
         }
         index = index.wrapping_add(1);
     }
 }
 
-/// Makes so many writes of the series as the thread of the target, by batches of so many members.
-/// Refused where one is not answered.
+/// Makes so many of these writes at the target, by batches of so many members. Refused where one is
+/// not answered.
 pub fn work_batches<R: Wait + Clock>(
     rt: &R,
     alloc: Global,
     target: &mut Target,
-    series: &Series,
+    draws: &mut Draws,
     members: u32,
     writes: u32,
 ) -> Result<Lap, Failure>
     ensures { IfOk result (λ lap. lap.calls ≡ writes) }
 {
-    let (Target::Store(number, _) | Target::Map(number, _)) = target;
-    let number = *number;
-    let mut words = Pcg32::new(u64::from(number), 1);
     let mut row = vec![in alloc; (0, Change::Keep); members as usize]?;
     let mut first = 0_u32;
     let start = Instant::now(rt)?;
     for _ in 0..writes / members.max(1) {
-        draw_members(series, &mut words, number, first, &mut row);
+        draw_members(draws, first, &mut row);
         if !target.batch(rt, &row) {
             return Err(Failure::Unanswered);
         }
@@ -96,7 +86,8 @@ fn write_all<R: Threads + Sync + Clock + Wait>(
 ) -> Result<Lap, Failure>
     requires { All (λ seat. seat.store ≡ store.now) seats.items }
 {
-    let mut targets = targets(alloc, store, seats)?;
+    let signals = Signals::new();
+    let mut targets = targets(alloc, store, seats, &signals)?;
     let _ = targets.pop();
     work_all(rt, alloc, targets, series, writes)
 }

@@ -2,10 +2,9 @@
 ghost use Rattle.std.specs.Prelude.{◌≡◌, IfOk};
 
 use crate::batches::work_batches;
-use crate::draws::{Call, FILLER, Series, key_of};
+use crate::draws::{Call, Draws, FILLER, Series, key_of};
 use crate::failure::Failure;
 use crate::target::Target;
-use rand_pcg::Pcg32;
 use std::alloc::Global;
 use std::rt::Clock;
 use std::sync::Wait;
@@ -46,24 +45,21 @@ pub fn put_filled<R: Wait>(
     Ok(())
 }
 
-/// Makes so many calls of the series as the thread of the target, and counts those that are
-/// answered as they should be. Refused where one is not.
+/// Makes so many of these calls at the target, and counts those that are answered as they should
+/// be. Refused where one is not.
 fn work<R: Wait + Clock>(
     rt: &R,
     alloc: Global,
     target: &mut Target,
-    series: &Series,
+    draws: &mut Draws,
     calls: u32,
 ) -> Result<Lap, Failure>
     ensures { IfOk result (λ lap. lap.calls ≡ calls) }
 {
-    let (Target::Store(number, _) | Target::Map(number, _)) = target;
-    let number = *number;
-    let mut words = Pcg32::new(u64::from(number), 1);
     let mut answered = 0;
     let start = Instant::now(rt)?;
     for index in 0..calls {
-        if !target.make(rt, alloc, &series.call(&mut words, number, index)) {
+        if !target.make(rt, alloc, &draws.call(index)) {
             return Err(Failure::Unanswered);
         }
         answered += 1;
@@ -89,8 +85,8 @@ fn meet(come: &AtomicU64, threads: u64) {
 }
 
 /// Lets a thread at each target make so many calls of the series, by batches where it has members,
-/// all from the same moment on: the
-/// time is from when the first began to when the last ended. Refused where one is not answered.
+/// all from the same moment on: the time is from when the first began to when the last ended.
+/// Refused where one is not answered.
 pub fn work_all<R: Threads + Sync + Clock + Wait>(
     rt: &R,
     alloc: Global,
@@ -109,10 +105,11 @@ pub fn work_all<R: Threads + Sync + Clock + Wait>(
             ensures { IfOk result (λ lap. lap.calls ≡ calls) }
         {
             let mut target = target;
+            let mut draws = Draws::new(alloc, series, target.number(), calls)?;
             meet(&come, threads);
             match series.members {
-                Some(members) => work_batches(rt, alloc, &mut target, series, members, calls),
-                None => work(rt, alloc, &mut target, series, calls),
+                Some(members) => work_batches(rt, alloc, &mut target, &mut draws, members, calls),
+                None => work(rt, alloc, &mut target, &mut draws, calls),
             }
         },
     )?;

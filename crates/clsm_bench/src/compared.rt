@@ -46,7 +46,9 @@ fn lap<R: Threads + Sync + Clock + Wait>(
         (Role::Batches(_) | Role::HotBatches(_), _) => {
             batch_lap(rt, alloc, line, options, threads, is_second)
         }
-        (_, Beside::Nothing) if is_second => map_lap(rt, alloc, line, options, threads),
+        (Role::Several(..), _) | (_, Beside::Nothing) if is_second => map_lap(
+            rt, alloc, line, options, threads,
+        ),
         _ if is_second => store_lap(rt, alloc, line, &Beside::Nothing, options, threads),
         _ => store_lap(rt, alloc, line, beside, options, threads),
     }
@@ -64,6 +66,7 @@ pub fn compare<R: Threads + Sync + Clock + Wait + Print + AllocGlobal>(
 ) -> Result<(), Failure> {
     let alloc = rt.alloc();
     let name = line.1;
+    let options = &line.limit(options);
     let first = lap(rt, alloc, line, options, threads, false)?.calls;
     let second = lap(rt, alloc, line, options, threads, true)?.calls;
     print!(rt; "{name} threads {threads} ")?;

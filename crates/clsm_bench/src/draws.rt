@@ -1,5 +1,6 @@
 //! Which keys are called.
 use crate::lines::{Filling, Line, Role};
+use crate::mixes::{Draw, Kind, Mix, Ranks, below};
 use crate::options::Options;
 use rand_core::utils::NextWord;
 use rand_pcg::Pcg32;
@@ -17,10 +18,15 @@ pub const NEW_KEYS: u32 = 65_536;
 /// The keys at one of which nine in ten calls of a hot draw are.
 const HOT: u32 = 16;
 
+/// The rows of a scan in a mix.
+const ROWS: u32 = 16;
+
 /// A call, and what is to be answered.
-#[derive(Drop)]
+#[derive(Clone, Copy)]
 pub enum Call {
     Put { key: u64, word: u64 },
+    /// Adds one to the second word of the value, which counts as 0 where there is none.
+    Change { key: u64 },
     Get { key: u64, word: Option<u64> },
     Scan { lo: u64, hi: u64, rows: usize },
     Page { from: u64, rows: usize },
@@ -32,8 +38,19 @@ pub enum Call {
 pub struct Series<'a> {
     line: &'a Line,
     pub keys: u32,
+    pub cells: u32,
     sorted: Vec<u64>,
+    ranks: Ranks,
     pub members: Option<u32>,
+}
+
+/// The calls of one thread. Those of a mix are drawn before the time is taken.
+#[derive(Drop)]
+pub struct Draws<'a> {
+    series: &'a Series<'a>,
+    number: u32,
+    words: Pcg32,
+    drawn: Vec<Call>,
 }
 
 /// The key of a thread's write of this index: no other number or index has it, and near indices
@@ -44,35 +61,34 @@ pub fn key_of(number: u32, index: u32) -> u64 {
     number.wrapping_mul(0x9e37_79b9_7f4a_7c15).rotate_right(32)
 }
 
-/// A number below the bound, each about as often; 0 if there is none.
-#[inline]
-fn below(bound: u32, word: u32) -> u32 {
-    let wide = u64::from(word).wrapping_mul(u64::from(bound)) >> 32;
-    u32::try_from(wide).unwrap_or(0)
-}
-
 impl<'a> Series<'a> {
     pub fn new(alloc: Global, line: &'a Line, options: &Options) -> Result<Series<'a>, AllocError> {
         let keys = line.filled(options);
         let mut sorted = Vec::new(alloc);
-        if let Role::Scans(_) | Role::Pages(_) = line.4 {
+        if let Role::Scans(_) | Role::Pages(_) | Role::Several(..) = line.4 {
             for index in 0..keys {
                 sorted.push(key_of(FILLER, index))?;
             }
             sorted.sort()?;
         }
-        let members = None;
+        let draw = match &line.4 {
+            Role::Several(_, draw) => draw,
+            _ => &Draw::Uniform,
+        };
         Ok(Series {
             line,
             keys,
+            cells: options.cells,
             sorted,
-            members,
+            ranks: Ranks::new(alloc, draw, keys)?,
+            members: None,
         })
     }
 
     /// How many epochs are merged for the filling, how many keys are put at then before a freeze,
     /// and how many behind it.
-    pub fn puts(&self, cells: u32) -> (u32, u32, u32) {
+    pub fn puts(&self) -> (u32, u32, u32) {
+        let cells = self.cells;
         let merges = self.keys.div_ceil(cells.max(1));
         let merges = merges.div_ceil(4).saturating_mul(4);
         match self.line.5 {
@@ -97,9 +113,30 @@ impl<'a> Series<'a> {
         }
     }
 
+    /// The call of this index of the thread with this number in a mix, which draws these words.
+    fn mixed(&self, mix: &Mix, words: &mut Pcg32, number: u32, index: u32) -> Call {
+        let kind = mix.kind(below(100, words.next_word()));
+        let drawn = self.ranks.draw(words);
+        let (key, word) = (key_of(FILLER, drawn), u64::from(drawn));
+        match kind {
+            Kind::Get => Call::Get {
+                key,
+                word: Some(word),
+            },
+            Kind::Put => Call::Put { key, word },
+            Kind::Insert => Call::Put {
+                key: key_of(number, index % NEW_KEYS),
+                word: u64::from(index),
+            },
+            Kind::Change => Call::Change { key },
+            Kind::Scan => self.range(words.next_word(), ROWS, false),
+            Kind::Page => self.range(words.next_word(), ROWS, true),
+        }
+    }
+
     /// The call of this index of the thread with this number, which draws these words.
     #[inline]
-    pub fn call(&self, words: &mut Pcg32, number: u32, index: u32) -> Call {
+    fn call(&self, words: &mut Pcg32, number: u32, index: u32) -> Call {
         let word = words.next_word();
         let drawn = match self.line.4 {
             Role::HotGets | Role::HotMixed if word % 10 != 0 => below(HOT.min(self.keys), word),
@@ -136,6 +173,39 @@ impl<'a> Series<'a> {
                 key,
                 word: Some(old),
             },
+        }
+    }
+}
+
+impl<'a> Draws<'a> {
+    /// The calls of the thread with this number, of which there are so many.
+    pub fn new(
+        alloc: Global,
+        series: &'a Series<'a>,
+        number: u32,
+        calls: u32,
+    ) -> Result<Draws<'a>, AllocError> {
+        let mut words = Pcg32::new(u64::from(number), 1);
+        let mut drawn = Vec::new(alloc);
+        if let Role::Several(mix, _) = &series.line.4 {
+            for index in 0..calls {
+                drawn.push(series.mixed(mix, &mut words, number, index))?;
+            }
+        }
+        Ok(Draws {
+            series,
+            number,
+            words,
+            drawn,
+        })
+    }
+
+    /// The call of this index.
+    #[inline]
+    pub fn call(&mut self, index: u32) -> Call {
+        match self.drawn.get(index as usize) {
+            Some(call) => *call,
+            None => self.series.call(&mut self.words, self.number, index),
         }
     }
 }

@@ -1,10 +1,11 @@
 //! The lines that are printed, by their commands, and what is measured for each.
-use crate::draws::NEW_KEYS;
-use crate::lines::Beside::{Batcher, Merger, Nothing, Scanner};
+use crate::lines::Beside::{Batcher, Merger, Nothing, PacedMerger, Scanner};
 use crate::lines::Filling::{BothEpochs, Epoch, HalfEpoch, Runs};
 use crate::lines::Role::*;
-use crate::options::Options;
-use clsm_store::Config;
+use crate::mixes::Draw::{self, One, Uniform, Zipf};
+use crate::mixes::Mix::{
+    self, FewKeys, GetsAndPuts, MostlyGets, PagesAndInserts, ScansAndPuts, Sustained,
+};
 
 /// What is measured.
 pub enum Role {
@@ -27,6 +28,8 @@ pub enum Role {
     /// Nine calls in ten are gets, the others puts at filled keys.
     Mixed,
     HotMixed,
+    /// Calls of several kinds, with their filled keys drawn so.
+    Several(Mix, Draw),
     /// Scans of a range that has so many keys, or of all keys if they are fewer.
     Scans(u32),
     /// Pages of so many rows, or of all keys if they are fewer. A page of one row is a seek.
@@ -57,6 +60,8 @@ pub enum Beside {
     Nothing,
     /// The merger sweeps again and again.
     Merger,
+    /// The merger sweeps when a sweep is due.
+    PacedMerger,
     /// A seat scans all keys again and again.
     Scanner,
     /// A seat writes batches of 16 at a few of the filled keys again and again, and merges where
@@ -79,85 +84,7 @@ pub struct Line(
 /// All filled keys.
 const ALL: u32 = u32::MAX;
 
-/// The most entries that a run has room for.
-const MOST_ENTRIES: u32 = 4_194_304;
-
-/// The rows that a thread scans or pages through at most in one round, but for those of a single
-/// call.
-const MOST_ROWS: u32 = 200_000;
-
-impl Line {
-    /// The keys that are written before the time is taken.
-    pub fn filled(&self, options: &Options) -> u32 {
-        let Line(_, _, _, _, role, filling, _) = self;
-        match (role, filling) {
-            (Puts | RisingPuts | Batches(_) | HotBatches(_), Epoch) => 0,
-            (Mixed | HotMixed | OnePuts, Epoch) => options.keys.min(options.cells / 2),
-            (_, Epoch) => options.keys.min(options.cells),
-            _ => options.keys,
-        }
-    }
-
-    /// How many members a batch of each of so many threads has: as many as the line says, where the
-    /// thread's part of an epoch has room for them.
-    pub fn members(&self, options: &Options, threads: u32) -> u32 {
-        let room = options.cells / threads.max(1);
-        match &self.4 {
-            Batches(size) | HotBatches(size) => room.min(*size).max(1),
-            _ => 1,
-        }
-    }
-
-    /// The writes of the batches of each of so many threads: as many as the options say at most,
-    /// but for those of a single batch.
-    fn writes(&self, options: &Options, threads: u32) -> u32 {
-        let room = options.cells / threads.max(1);
-        let members = self.members(options, threads).max(1);
-        let batches = options.calls.min(room) / members;
-        batches.max(1).saturating_mul(members)
-    }
-
-    /// The calls for which each of so many threads has room, as many as the options say at most:
-    /// in one epoch, but for reads and beside a merger. Where others get or scan, or what is put has
-    /// a value, half of the times that are left are for puts: a reader may cancel one, and the put
-    /// then takes another.
-    pub fn calls(&self, is_merged: bool, options: &Options, threads: u32) -> u32 {
-        let room = match &self.4 {
-            _ if is_merged => options.calls,
-            Batches(_) | HotBatches(_) => return self.writes(options, threads),
-            Scans(rows) | Pages(rows) => {
-                let rows = options.keys.min(*rows);
-                (MOST_ROWS / rows.max(1)).max(1)
-            }
-            OnePuts => options.cells / 4,
-            Puts if matches!(self.6, Scanner) => options.cells / 4 / threads.max(1),
-            Puts | RisingPuts => options.cells / threads.max(1),
-            Mixed | HotMixed => options.cells / 4 / threads.max(1),
-            _ => options.calls,
-        };
-        options.calls.min(room)
-    }
-
-    /// The sizes of a store for so many threads, with one more seat. A run has room for the filled
-    /// keys, and beside a merger also for the new keys of the threads, and four epochs.
-    pub fn sizes(&self, is_merged: bool, options: &Options, threads: u32) -> Config {
-        let mut run = self.filled(options);
-        if is_merged {
-            let new = threads.saturating_mul(options.calls.min(NEW_KEYS));
-            let epochs = options.cells.saturating_mul(4);
-            run = run.saturating_add(new).saturating_add(epochs);
-        }
-        Config {
-            cells: options.cells as usize,
-            seats: threads.saturating_add(1) as usize,
-            shards: 1,
-            run: run.clamp(4, MOST_ENTRIES) as usize,
-            patience: 16,
-        }
-    }
-}
-
-pub const LINES: [Line; 53] = [
+pub const LINES: [Line; 64] = [
     Line("calls", "gets present epoch", 1, 4, Gets, Epoch, Nothing),
     Line("calls", "gets hot epoch", 1, 4, HotGets, Epoch, Nothing),
     Line(
@@ -178,6 +105,105 @@ pub const LINES: [Line; 53] = [
     Line("calls", "one puts runs", 2, 4, OnePuts, Runs, Nothing),
     Line("calls", "mixed epoch", 1, 4, Mixed, Epoch, Nothing),
     Line("calls", "mixed hot epoch", 1, 4, HotMixed, Epoch, Nothing),
+    Line(
+        "mixes",
+        "scans 95, puts 5",
+        1,
+        4,
+        Several(ScansAndPuts, Uniform),
+        HalfEpoch,
+        PacedMerger,
+    ),
+    Line(
+        "mixes",
+        "pages 95, inserts 5",
+        1,
+        4,
+        Several(PagesAndInserts, Uniform),
+        HalfEpoch,
+        PacedMerger,
+    ),
+    Line(
+        "mixes",
+        "gets 95, puts 5, uniform",
+        1,
+        4,
+        Several(MostlyGets, Uniform),
+        HalfEpoch,
+        PacedMerger,
+    ),
+    Line(
+        "mixes",
+        "gets 95, puts 5, Zipf",
+        1,
+        4,
+        Several(MostlyGets, Zipf),
+        HalfEpoch,
+        PacedMerger,
+    ),
+    Line(
+        "mixes",
+        "gets 50, puts 50, uniform",
+        1,
+        4,
+        Several(GetsAndPuts, Uniform),
+        HalfEpoch,
+        PacedMerger,
+    ),
+    Line(
+        "mixes",
+        "gets 50, puts 50, Zipf",
+        1,
+        4,
+        Several(GetsAndPuts, Zipf),
+        HalfEpoch,
+        PacedMerger,
+    ),
+    Line(
+        "mixes",
+        "gets 50, puts 50, one key",
+        1,
+        4,
+        Several(GetsAndPuts, One),
+        HalfEpoch,
+        PacedMerger,
+    ),
+    Line(
+        "mixes",
+        "all calls, 64 keys, 65,536 cells",
+        1,
+        4,
+        Several(FewKeys(65_536), Uniform),
+        HalfEpoch,
+        PacedMerger,
+    ),
+    Line(
+        "mixes",
+        "all calls, 64 keys, 4,096 cells",
+        1,
+        4,
+        Several(FewKeys(4_096), Uniform),
+        HalfEpoch,
+        PacedMerger,
+    ),
+    Line(
+        "mixes",
+        "puts sustained, uniform",
+        1,
+        4,
+        Several(Sustained, Uniform),
+        HalfEpoch,
+        PacedMerger,
+    ),
+    Line(
+        "mixes",
+        "puts sustained, Zipf",
+        1,
+        4,
+        Several(Sustained, Zipf),
+        HalfEpoch,
+        PacedMerger,
+    ),
     Line("beside", "gets runs, merger", 1, 4, Gets, Runs, Merger),
     Line("beside", "puts, merger", 1, 4, Puts, Epoch, Merger),
     Line(

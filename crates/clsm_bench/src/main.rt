@@ -11,8 +11,10 @@ mod draws;
 mod failure;
 mod lines;
 mod merges;
+mod mixes;
 mod options;
 mod series;
+mod sizes;
 mod target;
 
 use crate::compared::compare;
@@ -62,7 +64,8 @@ fn bench<R: Threads + Sync + Clock + Wait + Env + Print + AllocGlobal>(
 fn main(rt: HostRuntime) -> ExitCode {
     let text = match bench(&rt) {
         Ok(()) => return ExitCode::SUCCESS,
-        Err(Failure::Usage) => "usage: clsm_bench calls, beside, batches, merges, scans or audit",
+        Err(Failure::Usage) =>
+            "usage: clsm_bench calls, mixes, beside, batches, merges, scans or audit",
         Err(Failure::Device) => "device",
         Err(Failure::Refused) => "refused",
         Err(Failure::Unanswered) => "unanswered",

@@ -5,6 +5,9 @@
 pub struct Options {
     /// The calls of each thread, the puts of a merge, or the records of an audit.
     pub calls: u32,
+    /// The puts of all threads together where they are sustained; as many as the calls of each
+    /// thread if none are said.
+    pub puts: Option<u32>,
     /// The rounds that are kept. With none, times are not printed.
     pub repeat: u32,
     /// The keys that are written before the time is taken.
@@ -17,6 +20,7 @@ impl Options {
     /// What is measured where no option says otherwise.
     const USUAL: Options = Options {
         calls: 20_000,
+        puts: Some(1_000_000),
         repeat: 9,
         keys: 32_768,
         cells: 65_536,
@@ -25,6 +29,7 @@ impl Options {
     /// What is measured where little is.
     pub const FEW: Options = Options {
         calls: 40,
+        puts: Some(1_600),
         repeat: 0,
         keys: 40,
         cells: 256,
@@ -40,7 +45,7 @@ impl Options {
             };
             let number = number.parse().ok()?;
             match (name.as_str(), number) {
-                ("--calls", 1..=16_777_216) => options.calls = number,
+                ("--calls", 1..=16_777_216) => (options.calls, options.puts) = (number, None),
                 ("--repeat", 1..=999) => options.repeat = number,
                 ("--keys", 16..=4_194_304) => options.keys = number,
                 ("--cells", 256..=65_536) => options.cells = number,

@@ -7,28 +7,33 @@ use crate::draws::{Call, Series};
 use crate::failure::Failure;
 use crate::lines::{Beside, Line};
 use crate::options::Options;
-use crate::target::Target;
+use crate::target::{Signals, Target};
 use clsm_store::{Caller, Merger, Opened, Seat, Store, open};
 use clsm_words::Free;
 use std::alloc::Global;
 use std::collections::BTreeMap;
 use std::rt::Clock;
-use std::sync::atomic::AtomicBool;
 use std::sync::atomic::Ordering::SeqCst;
 use std::sync::{RwLock, Wait};
-use std::thread::{Threads, join};
+use std::thread::{self, Threads, join};
+use std::time::Duration;
+
+/// How long the merger rests in microseconds before it looks again whether a sweep is due.
+const REST: u64 = 20;
 
 /// The targets by these seats, numbered from 0.
-pub fn targets(
+pub fn targets<'a>(
     alloc: Global,
-    store: &Store<Free>,
+    store: &'a Store<Free>,
     seats: Vec<Seat>,
-) -> Result<Vec<Target<'_>>, Failure>
+    signals: &'a Signals,
+) -> Result<Vec<Target<'a>>, Failure>
     requires { All (λ seat. seat.store ≡ store.now) seats.items }
 {
     let mut targets = Vec::with_capacity(alloc, seats.len())?;
     for seat in seats {
-        targets.push(Target::Store(seat.number(), Caller::new(store, seat)))?;
+        let number = seat.number();
+        targets.push(Target::Store(number, Caller::new(store, seat), signals))?;
     }
     Ok(targets)
 }
@@ -41,10 +46,9 @@ fn fill<'a, R: Wait>(
     target: &mut Target,
     mut merger: Merger<'a, Free>,
     series: &Series,
-    cells: u32,
 ) -> Result<Merger<'a, Free>, Failure> {
-    let (merges, frozen, last) = series.puts(cells);
-    let keys = series.keys;
+    let (merges, frozen, last) = series.puts();
+    let (keys, cells) = (series.keys, series.cells);
     let mut first = 0_u32;
     for _ in 0..merges {
         let end = first.saturating_add(cells).min(keys);
@@ -64,15 +68,29 @@ fn fill<'a, R: Wait>(
     Ok(merger)
 }
 
+/// Sweeps where a sweep is due, which is when a write found no time left since the last look. Rests
+/// otherwise.
+fn sweep_when_due<'a, R: Wait + Clock>(
+    rt: &R,
+    merger: Merger<'a, Free>,
+    signals: &Signals,
+) -> Merger<'a, Free> {
+    if signals.full.swap(false, SeqCst) {
+        return merger.sweep(rt).0;
+    }
+    thread::sleep(rt, Duration::from_micros(REST));
+    merger
+}
+
 /// Does what is to go on beside the calls, until it is told to stop.
-fn disturb<R: Wait>(
+fn disturb<R: Wait + Clock>(
     rt: &R,
     alloc: Global,
     beside: &Beside,
     mut target: Target,
     mut merger: Merger<'_, Free>,
     keys: u32,
-    stop: &AtomicBool,
+    signals: &Signals,
 ) -> Result<(), Failure> {
     let all = Call::Scan {
         lo: 0,
@@ -81,12 +99,13 @@ fn disturb<R: Wait>(
     };
     let members = filled_members(alloc, keys)?;
     for _ in 0..u32::MAX {
-        if stop.load(SeqCst) {
+        if signals.stop.load(SeqCst) {
             return Ok(());
         }
         match beside {
             Beside::Nothing => return Ok(()),
             Beside::Merger => merger = merger.sweep(rt).0,
+            Beside::PacedMerger => merger = sweep_when_due(rt, merger, signals),
             Beside::Batcher => {
                 if !target.batch(rt, &members) {
                     merger = merger.sweep(rt).0;
@@ -107,19 +126,20 @@ fn work_beside<R: Threads + Sync + Clock + Wait>(
     beside: &Beside,
     mut targets: Vec<Target>,
     mut merger: Merger<'_, Free>,
+    signals: &Signals,
     series: &Series,
-    cells: u32,
     calls: u32,
 ) -> Result<Lap, Failure> {
     let mut extra = targets.pop().ok_or(Failure::Unanswered)?;
-    merger = fill(rt, alloc, &mut extra, merger, series, cells)?;
-    let stop = AtomicBool::new(false);
+    merger = fill(rt, alloc, &mut extra, merger, series)?;
     let (disturbed, lap) = join(
         rt,
-        || -> Result<(), Failure> { disturb(rt, alloc, beside, extra, merger, series.keys, &stop) },
+        || -> Result<(), Failure> {
+            disturb(rt, alloc, beside, extra, merger, series.keys, signals)
+        },
         || -> Result<Lap, Failure> {
             let lap = work_all(rt, alloc, targets, series, calls);
-            stop.store(true, SeqCst);
+            signals.stop.store(true, SeqCst);
             lap
         },
     );
@@ -138,7 +158,10 @@ pub fn store_lap<R: Threads + Sync + Clock + Wait>(
     threads: u32,
 ) -> Result<Lap, Failure> {
     let series = Series::new(alloc, line, options)?;
-    let is_merged = matches!(beside, Beside::Merger | Beside::Batcher);
+    let is_merged = matches!(
+        beside,
+        Beside::Merger | Beside::PacedMerger | Beside::Batcher
+    );
     let calls = line.calls(is_merged, options, threads);
     let Ok(opened) = open(alloc, line.sizes(is_merged, options, threads)) else {
         return Err(Failure::Refused);
@@ -148,10 +171,10 @@ pub fn store_lap<R: Threads + Sync + Clock + Wait>(
         seats,
         merger,
     } = opened;
-    let targets = targets(alloc, &store, seats)?;
+    let signals = Signals::new();
+    let targets = targets(alloc, &store, seats, &signals)?;
     let merger = Merger::new(&store, merger);
-    let cells = options.cells;
-    work_beside(rt, alloc, beside, targets, merger, &series, cells, calls)
+    work_beside(rt, alloc, beside, targets, merger, &signals, &series, calls)
 }
 
 /// The same calls of a map that is made and filled for them.

@@ -5,28 +5,62 @@ use clsm_store::Caller;
 use clsm_words::Free;
 use std::alloc::Global;
 use std::collections::BTreeMap;
+use std::sync::atomic::AtomicBool;
+use std::sync::atomic::Ordering::SeqCst;
 use std::sync::{RwLock, Wait};
 use std::thread;
 
-/// How often a put is tried while there is no time for it, before the thread gives up.
+/// How often a write is tried while there is no time for it, before the thread gives up.
 const MOST_TRIES: u32 = 1 << 24;
+
+/// What the threads at a store tell the one beside them.
+#[derive(Drop)]
+pub struct Signals {
+    /// All calls are made.
+    pub stop: AtomicBool,
+    /// A write found no time left in the epoch.
+    pub full: AtomicBool,
+}
+
+impl Signals {
+    pub fn new() -> Signals {
+        Signals {
+            stop: AtomicBool::new(false),
+            full: AtomicBool::new(false),
+        }
+    }
+}
 
 /// A thread, by its number, and its place at what is measured.
 #[derive(Drop)]
 pub enum Target<'a> {
-    Store(u32, Caller<'a, Free>),
+    Store(u32, Caller<'a, Free>, &'a Signals),
     Map(u32, &'a RwLock<BTreeMap<u64, Value>>),
 }
 
+/// The value with one more in its second word.
+fn increased(value: &Value) -> Value {
+    let words = value.words();
+    let count = *words.get(1).unwrap_or(&0);
+    Value::new(&[words[0], count.wrapping_add(1)]).unwrap()
+}
+
 impl Target<'_> {
-    /// Makes the call, a put again while there is no time for it. Answers whether it was answered
+    pub fn number(&self) -> u32 {
+        match self {
+            Target::Store(number, ..) | Target::Map(number, _) => *number,
+        }
+    }
+
+    /// Makes the call, a write again while there is no time for it. Answers whether it was answered
     /// as it should be.
     #[inline]
     pub fn make<R: Wait>(&mut self, rt: &R, alloc: Global, call: &Call) -> bool {
         match call {
-            Call::Put { key, word } => self.put(rt, *key, *word),
+            Call::Put { key, word } => self.write(rt, *key, Some(*word)),
+            Call::Change { key } => self.write(rt, *key, None),
             Call::Get { key, word } => match self {
-                Target::Store(_, caller) => match caller.get(*key).value {
+                Target::Store(_, caller, _) => match caller.get(*key).value {
                     Some(value) => Some(value.words()[0]) == *word,
                     None => word.is_none(),
                 },
@@ -46,25 +80,61 @@ impl Target<'_> {
     #[inline]
     pub fn batch<R: Wait>(&mut self, rt: &R, members: &[(u64, Change)]) -> bool {
         match self {
-            Target::Store(_, caller) => caller.batch(rt, members).is_ok(),
+            Target::Store(_, caller, _) => caller.batch(rt, members).is_ok(),
             Target::Map(..) => false,
         }
+    }
+
+    /// Puts the word, or changes the value that is there.
+    #[inline]
+    fn write<R: Wait>(&mut self, rt: &R, key: u64, word: Option<u64>) -> bool {
+        for _ in 0..MOST_TRIES {
+            let is_made = match word {
+                Some(word) => self.put(rt, key, word),
+                None => self.change(rt, key),
+            };
+            if is_made {
+                return true;
+            }
+            if let Target::Store(_, _, signals) = self {
+                signals.full.store(true, SeqCst);
+            }
+            thread::yield_now();
+        }
+        false
     }
 
     #[inline]
     fn put<R: Wait>(&mut self, rt: &R, key: u64, word: u64) -> bool {
         let value = Value::new(&[word]).unwrap();
-        for _ in 0..MOST_TRIES {
-            let is_put = match self {
-                Target::Store(_, caller) => caller.put(rt, key, value).is_ok(),
-                Target::Map(_, map) => map.write(rt).insert(key, value).is_ok(),
-            };
-            if is_put {
-                return true;
-            }
-            thread::yield_now();
+        match self {
+            Target::Store(_, caller, _) => caller.put(rt, key, value).is_ok(),
+            Target::Map(_, map) => map.write(rt).insert(key, value).is_ok(),
         }
-        false
+    }
+
+    #[inline]
+    fn change<R: Wait>(&mut self, rt: &R, key: u64) -> bool {
+        match self {
+            Target::Store(_, caller, _) => {
+                let changed = caller.rmw(
+                    rt,
+                    key,
+                    &|old: Option<Value>| match old {
+                        Some(value) => Change::Set(increased(&value)),
+                        None => Change::Keep,
+                    },
+                );
+                changed.is_ok()
+            }
+            Target::Map(_, map) => match map.write(rt).get_mut(&key) {
+                Some(value) => {
+                    *value = increased(value);
+                    true
+                }
+                None => false,
+            },
+        }
     }
 
     /// How many rows it reads of the range, or of its first so many.
@@ -77,11 +147,11 @@ impl Target<'_> {
         most: Option<usize>,
     ) -> Option<usize> {
         let map = match (self, most) {
-            (Target::Store(_, caller), Some(most)) => {
+            (Target::Store(_, caller, _), Some(most)) => {
                 let page = caller.page(alloc, lo, hi, most).ok()?;
                 return Some(page.rows.as_slice().len());
             }
-            (Target::Store(_, caller), None) => {
+            (Target::Store(_, caller, _), None) => {
                 let scan = caller.scan(alloc, lo, hi).ok()?;
                 return Some(scan.rows.as_slice().len());
             }

@@ -1,0 +1,106 @@
+//! How much is measured for a line, and how large its store is.
+use crate::draws::NEW_KEYS;
+use crate::lines::Beside::Scanner;
+use crate::lines::Filling::Epoch;
+use crate::lines::Line;
+use crate::lines::Role::*;
+use crate::mixes::Mix::FewKeys;
+use crate::options::Options;
+use clsm_store::Config;
+
+/// The most entries that a run has room for.
+const MOST_ENTRIES: u32 = 4_194_304;
+
+/// The rows that a thread scans or pages through at most in one round, but for those of a single
+/// call.
+const MOST_ROWS: u32 = 200_000;
+
+/// The keys of a mix of few.
+const FEW_KEYS: u32 = 64;
+
+impl Line {
+    /// The options, with as many keys and cells as the line has at most.
+    pub fn limit(&self, options: &Options) -> Options {
+        let (keys, cells) = match &self.4 {
+            Several(FewKeys(cells), _) => (FEW_KEYS, *cells),
+            _ => (u32::MAX, u32::MAX),
+        };
+        Options {
+            calls: options.calls,
+            puts: options.puts,
+            repeat: options.repeat,
+            keys: options.keys.min(keys),
+            cells: options.cells.min(cells),
+        }
+    }
+
+    /// The keys that are written before the time is taken.
+    pub fn filled(&self, options: &Options) -> u32 {
+        let Line(_, _, _, _, role, filling, _) = self;
+        match (role, filling) {
+            (Puts | RisingPuts | Batches(_) | HotBatches(_), Epoch) => 0,
+            (Mixed | HotMixed | OnePuts, Epoch) => options.keys.min(options.cells / 2),
+            (_, Epoch) => options.keys.min(options.cells),
+            _ => options.keys,
+        }
+    }
+
+    /// How many members a batch of each of so many threads has: as many as the line says, where the
+    /// thread's part of an epoch has room for them.
+    pub fn members(&self, options: &Options, threads: u32) -> u32 {
+        let room = options.cells / threads.max(1);
+        match &self.4 {
+            Batches(size) | HotBatches(size) => room.min(*size).max(1),
+            _ => 1,
+        }
+    }
+
+    /// The writes of the batches of each of so many threads: as many as the options say at most,
+    /// but for those of a single batch.
+    fn writes(&self, options: &Options, threads: u32) -> u32 {
+        let room = options.cells / threads.max(1);
+        let members = self.members(options, threads).max(1);
+        let batches = options.calls.min(room) / members;
+        batches.max(1).saturating_mul(members)
+    }
+
+    /// The calls for which each of so many threads has room, as many as the options say at most:
+    /// in one epoch, but for reads and beside a merger. Where others get or scan, or what is put has
+    /// a value, half of the times that are left are for puts: a reader may cancel one, and the put
+    /// then takes another.
+    pub fn calls(&self, is_merged: bool, options: &Options, threads: u32) -> u32 {
+        let room = match &self.4 {
+            Several(mix, _) => return mix.calls(options, threads),
+            _ if is_merged => options.calls,
+            Batches(_) | HotBatches(_) => return self.writes(options, threads),
+            Scans(rows) | Pages(rows) => {
+                let rows = options.keys.min(*rows);
+                (MOST_ROWS / rows.max(1)).max(1)
+            }
+            OnePuts => options.cells / 4,
+            Puts if matches!(self.6, Scanner) => options.cells / 4 / threads.max(1),
+            Puts | RisingPuts => options.cells / threads.max(1),
+            Mixed | HotMixed => options.cells / 4 / threads.max(1),
+            _ => options.calls,
+        };
+        options.calls.min(room)
+    }
+
+    /// The sizes of a store for so many threads, with one more seat. A run has room for the filled
+    /// keys, and beside a merger also for the new keys of the threads, and four epochs.
+    pub fn sizes(&self, is_merged: bool, options: &Options, threads: u32) -> Config {
+        let mut run = self.filled(options);
+        if is_merged {
+            let new = threads.saturating_mul(options.calls.min(NEW_KEYS));
+            let epochs = options.cells.saturating_mul(4);
+            run = run.saturating_add(new).saturating_add(epochs);
+        }
+        Config {
+            cells: options.cells as usize,
+            seats: threads.saturating_add(1) as usize,
+            shards: 1,
+            run: run.clamp(4, MOST_ENTRIES) as usize,
+            patience: 16,
+        }
+    }
+}
