@@ -1,8 +1,10 @@
 pub mod Applied
+pub mod Backs
 pub mod Batches
 pub mod Calls
 pub mod Indices
 pub mod Members
+pub mod Newest
 pub mod OneHistory
 pub mod Orders
 pub mod Parts
@@ -10,9 +12,11 @@ pub mod Passing
 pub mod Played
 pub mod Ranges
 pub mod Readings
+pub mod Searches
 pub mod Seconds
 pub mod Slots
 pub mod Times
 pub mod Turns
 pub mod Walks
 pub mod WholeHistory
+pub mod Wrongs

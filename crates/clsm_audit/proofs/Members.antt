@@ -1,13 +1,9 @@
 -- The members of a batch, one by one.
-use Rattle.std.proofs.Common.{◌≡◌, ◌↔◌, ℕ, ◌+◌, ◌<◌, zero, suc, Bool, true, false, IsTrue, List, [], ◌∷◌, length, get_or, Some, None, refl, sym, ap, ◌∙◌, subst, arith}
-use Rattle.std.proofs.lemmas.Bool.{and_from, and_parts, true≢false}
-use Rattle.std.specs.List.{list_all}
-use Rattle.clsm_model.specs.declared.slot.Change.{Change}
-use Rattle.clsm_model.specs.declared.slot.Change.TheVariants.{Keep, Set, Remove as Erase}
+use Rattle.std.proofs.Common.{◌≡◌, ℕ, ◌+◌, ◌<◌, zero, suc, List, [], ◌∷◌, length, get_or, Some, None, refl, sym, ap, ◌∙◌, subst, arith}
 use Rattle.clsm_model.specs.declared.slot.Slot.{Slot}
 use Rattle.clsm_model.specs.History.{History, slot_at}
 use Rattle.clsm_model.specs.Map.{IsMap, Pair}
-use Rattle.clsm_model.specs.Right.{AreWrites, Member, change_by, member_write}
+use Rattle.clsm_model.specs.Right.{Member, change_by, member_write}
 use Rattle.clsm_audit.specs.Replayed.{StandFrom}
 
 -- ---- played one after another

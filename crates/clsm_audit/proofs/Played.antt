@@ -2,6 +2,7 @@
 -- the turn's time, unless that is inside a batch.
 use Rattle.std.proofs.Common.{◌≡◌, ◌≢◌, ℕ, ◌+◌, ◌<◌, ◌≤◌, Bool, true, false, cond, List, length, get_or, Option, Some, None, IfSome, IsTrue, ◌↔◌, MatchOption, max, min, refl, sym, ap, ◌∙◌, subst, arith, ⊎_elim}
 use Rattle.std.proofs.lemmas.Bool.{cases_Bool, cases_eq, cases_lt, true≢false}
+use Rattle.std.specs.List.{slice_get}
 use Rattle.clsm_model.specs.declared.record.CallRecord.{CallRecord}
 use Rattle.clsm_model.specs.declared.slot.Slot.TheVariants.{Nothing}
 use Rattle.clsm_model.specs.History.{History, IsUncut, slot_at}
@@ -12,7 +13,7 @@ use Rattle.clsm_audit.specs.Faults.{HasNone, IsFirstNot, IsSecondAt}
 use Rattle.clsm_audit.specs.Lawful.{HasTimes, HaveTimes, IsRightAt}
 use Rattle.clsm_audit.specs.Order.{IsInTimeOrder}
 use Rattle.clsm_audit.specs.Replayed.{HasComeTo, StandsIn, until_by}
-use Rattle.clsm_audit.specs.Written.{WritesAt, history_of, is_write, time_past}
+use Rattle.clsm_audit.specs.Written.{WritesAt, batches_of, history_of, is_write, time_past}
 use Rattle.clsm_audit.proofs.Batches.{inside_record, record_outside, uncut_at, uncut_from}
 use Rattle.clsm_audit.proofs.Indices.{here_if, if_here, itself, nobody, past_end}
 use Rattle.clsm_audit.proofs.Seconds.{here_some, some_within, two_writes}
@@ -262,6 +263,16 @@ module _ (records : List CallRecord) (stamps : List Stamp) (order : IsInTimeOrde
         λ e. if_here (IsRightRecord (history_of records)) records i (at j) inside (itself records i inside) (is.0 e),
         λ e. is.1 (here_if (IsRightRecord (history_of records)) records i (at j) inside (itself records i inside) e),
       )
+
+  -- and its map
+  pub map_here : (j until index : ℕ) (pairs : List Pair) → j < length stamps → (get_or stamps j nowhere).index ≡ index → IsPlayed records stamps j until pairs
+      → IfSome (slice_get records index) (λ r. IsUncut (batches_of records) r.time → IsMap (history_of records) r.time pairs)
+  map_here j until index pairs within is played =
+      let i = (get_or stamps j nowhere).index in
+      let inside = index_in j within in
+      let come = comes_to j until pairs within played in
+      subst (λ (n : ℕ). IfSome (slice_get records n) (λ r. IsUncut (batches_of records) r.time → IsMap (history_of records) r.time pairs)) is
+      (if_here (λ r. IsUncut (batches_of records) r.time → IsMap (history_of records) r.time pairs) records i (at j) inside (itself records i inside) (λ uncut. come.map (come.uncut.0 uncut)))
 
 -- ---- what was found before a turn
 

@@ -1,8 +1,10 @@
+pub mod Explained
 pub mod Faults
 pub mod Lawful
 pub mod Numbers
 pub mod Order
 pub mod Replayed
+pub mod Sought
 pub mod States
 pub mod Whole
 pub mod Written

@@ -15,7 +15,7 @@ pub fn is_in_range(config: &Config, call: &CallRecord) -> bool
 }
 
 /// Whether a batch has no more members than a region has cells.
-fn fits_region(config: &Config, deed: &Deed) -> bool
+pub fn fits_region(config: &Config, deed: &Deed) -> bool
     ensures { IsTrue result ↔ FitsRegion config.now deed.now }
 {
     match deed {
@@ -32,7 +32,7 @@ fn has_times(call: &CallRecord) -> bool
 }
 
 /// Whether the times of the call are such that it may have.
-fn is_time(call: &CallRecord) -> bool
+pub fn is_time(call: &CallRecord) -> bool
     ensures { IsTrue result ↔ IsTime call.now }
 {
     if is_write(&call.deed) {
@@ -43,7 +43,7 @@ fn is_time(call: &CallRecord) -> bool
 }
 
 /// Whether a batch has a member, and no member that keeps its key.
-fn has_writes(deed: &Deed) -> bool
+pub fn has_writes(deed: &Deed) -> bool
     ensures { IsTrue result ↔ HasWrites deed.now }
 {
     match deed {

@@ -48,6 +48,13 @@ impl Replay {
         Ok(right)
     }
 
+    /// The map of the writes so far.
+    pub fn into_map(self) -> PlainMap
+        ensures { result ≡ self.map }
+    {
+        self.map
+    }
+
     /// Whether what the next call read is right: nothing, or what the map gives at a time inside
     /// no batch. Refused for want of memory.
     fn is_right(&self, call: &CallRecord) -> Result<bool, Memory>

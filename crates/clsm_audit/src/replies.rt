@@ -6,7 +6,7 @@ ghost use Rattle.clsm_model.specs.Right.{IsPage, Reads, first_key};
 use clsm_model::{Deed, Memory, PlainMap, Value};
 
 /// The key of the first row, if there is one.
-fn key_of_first(rows: &[(u64, Value)]) -> Option<u64>
+pub fn key_of_first(rows: &[(u64, Value)]) -> Option<u64>
     ensures { result ≡ first_key rows.now }
 {
     rows.first().map(|row| row.0)

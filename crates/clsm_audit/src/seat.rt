@@ -47,7 +47,7 @@ impl SeatState {
     }
 
     /// The snapshot that is open after a call at this time.
-    fn open_after(&self, time: Time, deed: &Deed) -> Option<Time>
+    pub fn open_after(&self, time: Time, deed: &Deed) -> Option<Time>
         ensures { result ≡ open_after self.now.snapshot time deed.now }
     {
         match deed {

@@ -1,0 +1,66 @@
+use crate::wanted::FoundWrite;
+use clsm_model::{Time, Value};
+
+/// What makes a record `Unknown`.
+#[derive(Clone, Copy)]
+pub enum Rule {
+    /// The seat is not below the number of seats.
+    Seat,
+    /// A batch has more members than a region has cells.
+    Size,
+    /// The times do not end at or below 2^62.
+    Time,
+    /// A batch has no member, or one that keeps its key.
+    Members,
+    /// The call does not suit the snapshot that its seat has open at this time, or that it has none
+    /// open.
+    Snapshot { opened: Option<Time> },
+}
+
+/// Why a record has its fault. An index is that of another record.
+#[derive(Clone, Copy)]
+pub enum Explanation {
+    /// It is `Unknown` by this rule.
+    Unknown {
+        rule: Rule,
+    },
+    /// A record with a lower index writes at this time of the record too.
+    TwoAtOneTime {
+        other: usize,
+        time: Time,
+    },
+    /// An earlier record of its seat reads at this time, or writes up to it, and the record stands
+    /// below.
+    TimeRanBack {
+        earlier: usize,
+        due: Time,
+    },
+    /// Its time is strictly inside this batch.
+    InsideBatch {
+        batch: usize,
+    },
+    /// It read `answered` at the key, where the map has `right`. The newest write of the key below
+    /// its time is `newest`, and `seen` is a write that left what it read.
+    WrongValue {
+        key: u64,
+        answered: Option<Value>,
+        right: Option<Value>,
+        newest: Option<FoundWrite>,
+        seen: Option<FoundWrite>,
+    },
+    /// The row with this number, from 0 on, is the first that differs from the map's. Either may be
+    /// missing. The key is the lower one of both, and the writes are its.
+    WrongRow {
+        number: usize,
+        answered: Option<(u64, Value)>,
+        right: Option<(u64, Value)>,
+        key: u64,
+        newest: Option<FoundWrite>,
+        seen: Option<FoundWrite>,
+    },
+    /// All rows of a page are right, and the next key is not.
+    WrongNext {
+        answered: Option<u64>,
+        right: Option<u64>,
+    },
+}
