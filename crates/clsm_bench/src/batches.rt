@@ -7,7 +7,7 @@ use crate::failure::Failure;
 use crate::lines::Line;
 use crate::options::Options;
 use crate::series::targets;
-use crate::target::{Signals, Target};
+use crate::target::Target;
 use clsm_model::{Change, Value};
 use clsm_store::{Opened, Seat, Store, open};
 use clsm_words::Free;
@@ -86,8 +86,7 @@ fn write_all<R: Threads + Sync + Clock + Wait>(
 ) -> Result<Lap, Failure>
     requires { All (λ seat. seat.store ≡ store.now) seats.items }
 {
-    let signals = Signals::new();
-    let mut targets = targets(alloc, store, seats, &signals)?;
+    let mut targets = targets(alloc, store, seats)?;
     let _ = targets.pop();
     work_all(rt, alloc, targets, series, writes)
 }

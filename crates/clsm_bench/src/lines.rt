@@ -60,7 +60,7 @@ pub enum Beside {
     Nothing,
     /// The merger sweeps again and again.
     Merger,
-    /// The merger sweeps when a sweep is due.
+    /// The merger sweeps when half of the epoch is drawn.
     PacedMerger,
     /// A seat scans all keys again and again.
     Scanner,

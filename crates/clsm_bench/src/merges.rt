@@ -3,7 +3,7 @@ use crate::calls::{Lap, put_filled};
 use crate::failure::Failure;
 use crate::lines::Role;
 use crate::options::Options;
-use crate::target::{Signals, Target};
+use crate::target::Target;
 use clsm_store::{Caller, Config, Merger, Opened, open};
 use clsm_words::Free;
 use std::alloc::Global;
@@ -73,8 +73,7 @@ pub fn merge_lap<R: Clock + Wait>(
         return Err(Failure::Unanswered);
     };
     let holder = Caller::new(&store, holder);
-    let signals = Signals::new();
-    let target = Target::Store(0, Caller::new(&store, writer), &signals);
+    let target = Target::Store(0, Caller::new(&store, writer));
     let merger = Merger::new(&store, merger);
     let sizes = (puts, options.keys);
     merge_often(rt, alloc, holder, target, merger, role, sizes, is_second)

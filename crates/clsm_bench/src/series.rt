@@ -7,18 +7,19 @@ use crate::draws::{Call, Series};
 use crate::failure::Failure;
 use crate::lines::{Beside, Line};
 use crate::options::Options;
-use crate::target::{Signals, Target};
-use clsm_store::{Caller, Merger, Opened, Seat, Store, open};
+use crate::target::Target;
+use clsm_store::{Caller, Merger, Opened, Seat, Store, Swept, open};
 use clsm_words::Free;
 use std::alloc::Global;
 use std::collections::BTreeMap;
 use std::rt::Clock;
+use std::sync::atomic::AtomicBool;
 use std::sync::atomic::Ordering::SeqCst;
 use std::sync::{RwLock, Wait};
 use std::thread::{self, Threads, join};
 use std::time::Duration;
 
-/// How long the merger rests in microseconds before it looks again whether a sweep is due.
+/// How long the merger rests in microseconds before it looks again how much of the epoch is drawn.
 const REST: u64 = 20;
 
 /// The targets by these seats, numbered from 0.
@@ -26,14 +27,13 @@ pub fn targets<'a>(
     alloc: Global,
     store: &'a Store<Free>,
     seats: Vec<Seat>,
-    signals: &'a Signals,
 ) -> Result<Vec<Target<'a>>, Failure>
     requires { All (λ seat. seat.store ≡ store.now) seats.items }
 {
     let mut targets = Vec::with_capacity(alloc, seats.len())?;
     for seat in seats {
         let number = seat.number();
-        targets.push(Target::Store(number, Caller::new(store, seat), signals))?;
+        targets.push(Target::Store(number, Caller::new(store, seat)))?;
     }
     Ok(targets)
 }
@@ -68,17 +68,16 @@ fn fill<'a, R: Wait>(
     Ok(merger)
 }
 
-/// Sweeps where a sweep is due, which is when a write found no time left since the last look. Rests
-/// otherwise.
-fn sweep_when_due<'a, R: Wait + Clock>(
+/// Sweeps where at least half of the epoch is drawn, and rests otherwise.
+fn sweep_from_half<'a, R: Wait + Clock>(
     rt: &R,
     merger: Merger<'a, Free>,
-    signals: &Signals,
+    cells: u32,
 ) -> Merger<'a, Free> {
-    if signals.full.swap(false, SeqCst) {
-        return merger.sweep(rt).0;
+    let (merger, swept) = merger.sweep_if_used(rt, u64::from(cells / 2));
+    if let Ok(Swept::Waited) = swept {
+        thread::sleep(rt, Duration::from_micros(REST));
     }
-    thread::sleep(rt, Duration::from_micros(REST));
     merger
 }
 
@@ -89,23 +88,23 @@ fn disturb<R: Wait + Clock>(
     beside: &Beside,
     mut target: Target,
     mut merger: Merger<'_, Free>,
-    keys: u32,
-    signals: &Signals,
+    series: &Series,
+    stop: &AtomicBool,
 ) -> Result<(), Failure> {
     let all = Call::Scan {
         lo: 0,
         hi: u64::MAX,
-        rows: keys as usize,
+        rows: series.keys as usize,
     };
-    let members = filled_members(alloc, keys)?;
+    let members = filled_members(alloc, series.keys)?;
     for _ in 0..u32::MAX {
-        if signals.stop.load(SeqCst) {
+        if stop.load(SeqCst) {
             return Ok(());
         }
         match beside {
             Beside::Nothing => return Ok(()),
             Beside::Merger => merger = merger.sweep(rt).0,
-            Beside::PacedMerger => merger = sweep_when_due(rt, merger, signals),
+            Beside::PacedMerger => merger = sweep_from_half(rt, merger, series.cells),
             Beside::Batcher => {
                 if !target.batch(rt, &members) {
                     merger = merger.sweep(rt).0;
@@ -126,20 +125,18 @@ fn work_beside<R: Threads + Sync + Clock + Wait>(
     beside: &Beside,
     mut targets: Vec<Target>,
     mut merger: Merger<'_, Free>,
-    signals: &Signals,
     series: &Series,
     calls: u32,
 ) -> Result<Lap, Failure> {
     let mut extra = targets.pop().ok_or(Failure::Unanswered)?;
     merger = fill(rt, alloc, &mut extra, merger, series)?;
+    let stop = AtomicBool::new(false);
     let (disturbed, lap) = join(
         rt,
-        || -> Result<(), Failure> {
-            disturb(rt, alloc, beside, extra, merger, series.keys, signals)
-        },
+        || -> Result<(), Failure> { disturb(rt, alloc, beside, extra, merger, series, &stop) },
         || -> Result<Lap, Failure> {
             let lap = work_all(rt, alloc, targets, series, calls);
-            signals.stop.store(true, SeqCst);
+            stop.store(true, SeqCst);
             lap
         },
     );
@@ -171,10 +168,9 @@ pub fn store_lap<R: Threads + Sync + Clock + Wait>(
         seats,
         merger,
     } = opened;
-    let signals = Signals::new();
-    let targets = targets(alloc, &store, seats, &signals)?;
+    let targets = targets(alloc, &store, seats)?;
     let merger = Merger::new(&store, merger);
-    work_beside(rt, alloc, beside, targets, merger, &signals, &series, calls)
+    work_beside(rt, alloc, beside, targets, merger, &series, calls)
 }
 
 /// The same calls of a map that is made and filled for them.

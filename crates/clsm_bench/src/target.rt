@@ -5,36 +5,16 @@ use clsm_store::Caller;
 use clsm_words::Free;
 use std::alloc::Global;
 use std::collections::BTreeMap;
-use std::sync::atomic::AtomicBool;
-use std::sync::atomic::Ordering::SeqCst;
 use std::sync::{RwLock, Wait};
 use std::thread;
 
 /// How often a write is tried while there is no time for it, before the thread gives up.
 const MOST_TRIES: u32 = 1 << 24;
 
-/// What the threads at a store tell the one beside them.
-#[derive(Drop)]
-pub struct Signals {
-    /// All calls are made.
-    pub stop: AtomicBool,
-    /// A write found no time left in the epoch.
-    pub full: AtomicBool,
-}
-
-impl Signals {
-    pub fn new() -> Signals {
-        Signals {
-            stop: AtomicBool::new(false),
-            full: AtomicBool::new(false),
-        }
-    }
-}
-
 /// A thread, by its number, and its place at what is measured.
 #[derive(Drop)]
 pub enum Target<'a> {
-    Store(u32, Caller<'a, Free>, &'a Signals),
+    Store(u32, Caller<'a, Free>),
     Map(u32, &'a RwLock<BTreeMap<u64, Value>>),
 }
 
@@ -48,7 +28,7 @@ fn increased(value: &Value) -> Value {
 impl Target<'_> {
     pub fn number(&self) -> u32 {
         match self {
-            Target::Store(number, ..) | Target::Map(number, _) => *number,
+            Target::Store(number, _) | Target::Map(number, _) => *number,
         }
     }
 
@@ -60,12 +40,12 @@ impl Target<'_> {
             Call::Put { key, word } => self.write(rt, *key, Some(*word)),
             Call::Change { key } => self.write(rt, *key, None),
             Call::Get { key, word } => match self {
-                Target::Store(_, caller, _) => match caller.get(*key).value {
-                    Some(value) => Some(value.words()[0]) == *word,
+                Target::Store(_, caller) => match caller.get(*key).value {
+                    Some(value) => Some(value.first()) == *word,
                     None => word.is_none(),
                 },
                 Target::Map(_, map) => match map.read(rt).get(key) {
-                    Some(value) => Some(value.words()[0]) == *word,
+                    Some(value) => Some(value.first()) == *word,
                     None => word.is_none(),
                 },
             },
@@ -80,7 +60,7 @@ impl Target<'_> {
     #[inline]
     pub fn batch<R: Wait>(&mut self, rt: &R, members: &[(u64, Change)]) -> bool {
         match self {
-            Target::Store(_, caller, _) => caller.batch(rt, members).is_ok(),
+            Target::Store(_, caller) => caller.batch(rt, members).is_ok(),
             Target::Map(..) => false,
         }
     }
@@ -96,9 +76,6 @@ impl Target<'_> {
             if is_made {
                 return true;
             }
-            if let Target::Store(_, _, signals) = self {
-                signals.full.store(true, SeqCst);
-            }
             thread::yield_now();
         }
         false
@@ -106,9 +83,9 @@ impl Target<'_> {
 
     #[inline]
     fn put<R: Wait>(&mut self, rt: &R, key: u64, word: u64) -> bool {
-        let value = Value::new(&[word]).unwrap();
+        let value = Value::from(word);
         match self {
-            Target::Store(_, caller, _) => caller.put(rt, key, value).is_ok(),
+            Target::Store(_, caller) => caller.put(rt, key, value).is_ok(),
             Target::Map(_, map) => map.write(rt).insert(key, value).is_ok(),
         }
     }
@@ -116,7 +93,7 @@ impl Target<'_> {
     #[inline]
     fn change<R: Wait>(&mut self, rt: &R, key: u64) -> bool {
         match self {
-            Target::Store(_, caller, _) => {
+            Target::Store(_, caller) => {
                 let changed = caller.rmw(
                     rt,
                     key,
@@ -147,11 +124,11 @@ impl Target<'_> {
         most: Option<usize>,
     ) -> Option<usize> {
         let map = match (self, most) {
-            (Target::Store(_, caller, _), Some(most)) => {
+            (Target::Store(_, caller), Some(most)) => {
                 let page = caller.page(alloc, lo, hi, most).ok()?;
                 return Some(page.rows.as_slice().len());
             }
-            (Target::Store(_, caller, _), None) => {
+            (Target::Store(_, caller), None) => {
                 let scan = caller.scan(alloc, lo, hi).ok()?;
                 return Some(scan.rows.as_slice().len());
             }
