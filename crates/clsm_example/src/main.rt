@@ -3,7 +3,7 @@
 
 ghost use Rattle.std.specs.Prelude.{◌≡◌};
 
-use clsm_store::{Caller, Config, Full, Merger, Opened, Pace, Seat, Store, Value, open};
+use clsm_store::{Caller, Config, Free, Full, Merger, Opened, Seat, Store, Value, open};
 use std::process::ExitCode;
 use std::sync::Wait;
 use std::thread::{self, Threads};
@@ -20,17 +20,17 @@ const SIZES: Config = Config {
 const KEYS: u64 = 20;
 
 /// Puts the squares of this thread's numbers, and adds up what it reads of them.
-fn squares<P: Pace, R: Wait>(rt: &R, store: &Store<P>, seat: Seat) -> Result<u64, Full>
+fn squares<R: Wait>(rt: &R, store: &Store<Free>, seat: Seat) -> Result<u64, Full>
     requires { seat.store ≡ store.now }
 {
     let first = u64::from(seat.number()) * KEYS;
     let mut caller = Caller::new(store, seat);
     let mut sum = 0_u64;
     for key in first..first + KEYS {
-        let square = Value::new(&[key.wrapping_mul(key)]).unwrap();
+        let square = Value::from(key.wrapping_mul(key));
         caller.put(rt, key, square)?;
         let found = caller.get(key).value;
-        sum = sum.wrapping_add(found.map_or(0, |value| value.words()[0]));
+        sum = sum.wrapping_add(found.map_or(0, |value| value.first()));
     }
     Ok(sum)
 }
