@@ -102,7 +102,7 @@ impl Planner for Wrong {
     }
 }
 
-/// Four cells, two callers, two chains.
+/// Four cells, two callers, three chains.
 const SMALL: Config = Config {
     cells: 4,
     seats: 2,
