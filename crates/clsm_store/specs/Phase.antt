@@ -49,8 +49,8 @@ Merges (Frozen old) (Frozen new) (Err (RunFull _)) =
 Merges (Frozen _) _ _ = ⊥
 Merges old new answer = (new ≡ old) × (answer ≡ Err NotFrozen)
 
--- where a component is retired, it is given up, with its floor and rounds, or the lowest seat that is looked at and not found
--- quiet is named; else nothing is done
+-- where a component is retired, it is given up, with its floor and rounds as they were, or the
+-- lowest seat that is looked at and not found quiet is named; else nothing is done
 abbrev pub Reclaims : Phase → Phase → Result ⊤ ReclaimError → Type 0
 Reclaims (Retired old) (Clean new) (Ok _) = new ≡ record { merger = old.merger; floor = old.floor; rounds = old.rounds; clock = new.clock }
 Reclaims (Retired old) (Retired new) (Err (Pinned pinned)) =
