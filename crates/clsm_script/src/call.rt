@@ -60,7 +60,9 @@ impl Call {
             Call::Remove { key } => Answer::Write(store.remove(rt, seat, *key)),
             Call::Try { key, value } => Answer::Try(store.try_put(seat, *key, *value)),
             Call::Add { key, by } => Answer::Change(store.add(rt, seat, *key, *by)),
-            Call::Claim { key, value } => Answer::Change(store.put_if_absent(rt, seat, *key, *value)),
+            Call::Claim { key, value } => Answer::Change(store.put_if_absent(
+                rt, seat, *key, *value,
+            )),
             Call::Get { key } => Answer::Read(store.get(seat, *key)),
             Call::Snap => Answer::Snapshot(store.snapshot(seat)),
             Call::Close => Answer::Close(store.close_snapshot(seat)),
