@@ -6,7 +6,7 @@ ghost use Rattle.clsm_options.specs.declared.options.Options.TheVariants.{Run};
 
 use clsm_model::Config;
 use clsm_options::{AuditOptions, ExploreOptions, Options, Refusal, RunOptions, parse};
-use clsm_records::audit_lines;
+use clsm_records::{AskedAudit, audit_lines};
 use clsm_run::{Load, Shows, run};
 use clsm_schedules::{Shows as ShowsOf, explore_scripts};
 use clsm_script::script;
@@ -60,7 +60,7 @@ where
     match options {
         Options::Script(config) => script(rt, alloc, config, input, output, faults),
         Options::Run(options) => call(rt, alloc, &options, output, faults),
-        Options::Audit(options) => { audit_lines(alloc, sizes(&options), input, output, faults) }
+        Options::Audit(options) => { audit_lines(alloc, asked(&options), input, output, faults) }
         Options::Explore(options) => try_orders(alloc, &options, output, faults),
     }
 }
@@ -115,14 +115,18 @@ where
     )
 }
 
-/// The sizes of the store that records are of. The audit asks for the first two alone.
-fn sizes(options: &AuditOptions) -> Config {
-    Config {
+/// What is asked of an audit. Of the sizes of the store it takes the first two alone.
+fn asked(options: &AuditOptions) -> AskedAudit {
+    let config = Config {
         cells: options.cells,
         seats: options.seats,
         shards: 1,
         run: 4,
         patience: 0,
+    };
+    AskedAudit {
+        config,
+        history: options.history,
     }
 }
 

@@ -76,6 +76,7 @@ abbrev pub audit : List Row → AuditOptions
 audit rows = record {
   seats = number_of (codes "seats") rows;
   cells = number_of (codes "cells") rows;
+  history = flag_of (codes "history") rows;
 }
 
 pub record IsExplore (rows : List Row) (options : ExploreOptions) : Type 0 where

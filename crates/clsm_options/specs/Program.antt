@@ -71,6 +71,7 @@ abbrev pub audit : Shape
 audit = command (codes "audit")
     (size (codes "seats") (codes "1")
     ∷ size (codes "cells") (codes "65536")
+    ∷ flag (codes "history")
     ∷ [])
 
 abbrev pub explore : Shape

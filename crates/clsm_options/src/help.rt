@@ -57,7 +57,9 @@ pub(crate) const AUDIT: &str =
 pub(crate) const AFTER_AUDIT: &str = "\
 Reads records of answered calls, one a line: SEAT TIME and then the call with its answer, as
 `0 0 put 7 70`, `1 1 get 7 70` or `1 1 scan 0 9 7=70`. `clsm run --records` prints such lines.
-Prints `audit ok`, or `audit fault KIND LINE` with the kind and the line of the first fault.
+Prints `audit ok`, or `audit fault KIND LINE` with the kind and the line of the first fault, and
+says on the standard error why it is one. With --history the records of writes follow `audit ok`,
+by their times.
 
 Exit status: 0 lawful; 1 a bad line, a failed read or write; 2 a fault was found; 3 want of
 memory.
@@ -112,6 +114,8 @@ pub(crate) const RECORDS: &str = "Print each answered call as a record, in place
 pub(crate) const AUDIT_SEATS: &str = "Seats that the records may be of, 1 to 64";
 
 pub(crate) const AUDIT_CELLS: &str = "Cells of the store that was called, 4 to 65,536";
+
+pub(crate) const HISTORY: &str = "Print the records of writes by their times, where all is lawful";
 
 pub(crate) const MERGE: &str = "Let the merger freeze, merge and reclaim once beside the scripts";
 

@@ -41,6 +41,8 @@ pub struct AuditOptions {
     pub seats: usize,
     /// The cells of a region of the store that they were made at.
     pub cells: usize,
+    /// `--history`
+    pub history: bool,
 }
 
 /// The options of `clsm explore`.

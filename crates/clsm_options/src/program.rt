@@ -103,7 +103,8 @@ fn audit<'a>(alloc: Global) -> Result<Command<'a>, AllocError>
 {
     named(alloc, "audit", help::AUDIT, help::AFTER_AUDIT)
         .arg(size(alloc, "seats", "1", help::AUDIT_SEATS))?
-        .arg(size(alloc, "cells", "65536", help::AUDIT_CELLS))
+        .arg(size(alloc, "cells", "65536", help::AUDIT_CELLS))?
+        .arg(flag(alloc, "history", help::HISTORY))
 }
 
 fn explore<'a>(alloc: Global) -> Result<Command<'a>, AllocError>

@@ -80,6 +80,7 @@ fn audit(matches: &ArgMatches<'_>) -> AuditOptions
     AuditOptions {
         seats: size(matches, "seats"),
         cells: size(matches, "cells"),
+        history: flag(matches, "history"),
     }
 }
 

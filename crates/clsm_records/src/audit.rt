@@ -5,8 +5,10 @@ ghost use Rattle.clsm_text.specs.declared.failure.Failure.TheVariants.{Memory};
 ghost use Rattle.clsm_records.specs.Audit.{AreLawful, HasFault, IsListOf, IsStatus, IsVerdict};
 ghost use Rattle.clsm_records.specs.Audit.{StopsLines, StopsAudit};
 
+use crate::history::write_history;
+use crate::reason::write_reason;
 use crate::record::parse_record;
-use clsm_audit::{AuditError, FaultKind, audit};
+use clsm_audit::{AuditError, Explanation, FaultKind, audit, explain};
 use clsm_model::{CallRecord, Config};
 use clsm_text::Failure;
 use std::alloc::Global;
@@ -45,23 +47,41 @@ impl fmt::Display for Verdict {
     }
 }
 
+/// What is asked of an audit: the sizes of the store that the records are of, and whether the
+/// history of lawful records is to be written.
+#[derive(Clone, Copy, Debug, PartialEq, Eq)]
+pub struct AskedAudit {
+    pub config: Config,
+    pub history: bool,
+}
+
 /// The records that lines say, and beside each the number of its line, counted from 1.
 #[derive(Drop)]
-struct Listed {
-    records: Vec<CallRecord>,
-    lines: Vec<u64>,
+pub struct Listed {
+    pub records: Vec<CallRecord>,
+    pub lines: Vec<u64>,
+}
+
+/// A verdict, and at a fault why the record with this index has it, if there was memory to find out.
+#[derive(Drop)]
+struct Judged {
+    verdict: Verdict,
+    index: usize,
+    explanation: Option<Explanation>,
 }
 
 /// Audits the records that the lines of an input say, as `clsm_audit::audit` does, and prints the
 /// verdict on the output: `audit ok`, with status 0, or `audit fault KIND LINE`, with status 2,
-/// where `LINE` is the line, counted from 1, of the record that has the fault. Where there is no
+/// where `LINE` is the line, counted from 1, of the record that has the fault. After a fault, lines
+/// on the faults say why it is one: what an explanation of `clsm_audit` says. Where a history is
+/// asked for, the records of writes follow `audit ok`, by their times. Where there is no
 /// verdict, a line on the faults says why: `bad line L`, or `device` for a failed read or write,
 /// with status 1, or `no memory`, with status 3. A write to the faults that fails changes no
 /// status. Of the sizes the audit uses only the number of seats: a record of another seat is
 /// `Unknown`. All records are kept, so memory limits how many there may be, and how long a line is.
 pub fn audit_lines<R, W, E>(
     alloc: Global,
-    config: Config,
+    asked: AskedAudit,
     input: R,
     mut output: W,
     mut faults: E,
@@ -71,10 +91,10 @@ where
     W: Write + Drop,
     E: Write + Drop,
     ensures status { IsStatus result }
-    ensures lawful { result ≡ 0 → IfSome (R.remaining input) (AreLawful config) }
-    ensures fault { result ≡ 2 → IfSome (R.remaining input) (HasFault config) }
+    ensures lawful { result ≡ 0 → IfSome (R.remaining input) (AreLawful asked.config) }
+    ensures fault { result ≡ 2 → IfSome (R.remaining input) (HasFault asked.config) }
 {
-    match print_verdict(alloc, &config, input, &mut output) {
+    match print_verdict(alloc, &asked, input, &mut output, &mut faults) {
         Ok(verdict) => verdict.status(),
         Err(failure) => {
             let _ = failure.report(&mut faults);
@@ -83,22 +103,30 @@ where
     }
 }
 
-/// Audits an input, and prints the verdict.
-fn print_verdict<R: Read + Drop, W: Write>(
+/// Audits an input, and prints the verdict, and on the faults why a fault is one.
+fn print_verdict<R: Read + Drop, W: Write, E: Write>(
     alloc: Global,
-    config: &Config,
+    asked: &AskedAudit,
     mut input: R,
     output: &mut W,
+    faults: &mut E,
 ) -> Result<Verdict, Failure>
     ensures verdict { IfOk result (λ verdict. IfSome (R.remaining input)
-        (λ bytes. IsVerdict config.now bytes verdict)) }
+        (λ bytes. IsVerdict asked.now.config bytes verdict)) }
     ensures stopped { IfErr result (StopsAudit (R.remaining input)) }
 {
     let text = read_input(alloc, &mut input)?;
     let listed = list_records(alloc, &text)?;
-    let verdict = audit_records(alloc, config, &listed)?;
+    let judged = audit_records(alloc, &asked.config, &listed)?;
+    let verdict = judged.verdict;
     writeln!(output, "{verdict}")?;
+    if asked.history && matches!(verdict, Verdict::Lawful) {
+        write_history(alloc, output, &listed.records)?;
+    }
     output.flush()?;
+    if let Some(explanation) = &judged.explanation {
+        let _ = write_reason(faults, &listed, judged.index, explanation);
+    }
     Ok(verdict)
 }
 
@@ -144,19 +172,29 @@ fn list_records(alloc: Global, text: &[u8]) -> Result<Listed, Failure>
 }
 
 /// The verdict of the audit of these records.
-fn audit_records(alloc: Global, config: &Config, listed: &Listed) -> Result<Verdict, Failure>
+fn audit_records(alloc: Global, config: &Config, listed: &Listed) -> Result<Judged, Failure>
     requires { vec_len listed.now.lines ≡ vec_len listed.now.records }
-    ensures verdict { IfOk result (λ verdict. (bytes : List ℕ) →
+    ensures verdict { IfOk result (λ judged. (bytes : List ℕ) →
         IsListOf (lines_of bytes) listed.now.records.items listed.now.lines.items →
-        IsVerdict config.now bytes verdict) }
+        IsVerdict config.now bytes judged.verdict) }
     ensures memory { IfErr result (λ failure. failure ≡ Memory) }
 {
-    match audit(alloc, config, &listed.records) {
-        Ok(()) => Ok(Verdict::Lawful),
-        Err(AuditError::Fault { kind, index }) => Ok(Verdict::Fault {
-            kind,
-            line: listed.lines[index],
+    let records = listed.records.as_slice();
+    match audit(alloc, config, records) {
+        Ok(()) => Ok(Judged {
+            verdict: Verdict::Lawful,
+            index: 0,
+            explanation: None,
         }),
+        Err(AuditError::Fault { kind, index }) => {
+            let line = listed.lines[index];
+            let explanation = explain(alloc, config, records, kind, index).ok();
+            Ok(Judged {
+                verdict: Verdict::Fault { kind, line },
+                index,
+                explanation,
+            })
+        }
         Err(AuditError::Memory) => Err(Failure::Memory),
     }
 }

@@ -3,10 +3,12 @@
 
 mod audit;
 mod deed;
+mod history;
+mod reason;
 mod record;
 mod words;
 mod written;
 
-pub use audit::audit_lines;
+pub use audit::{AskedAudit, audit_lines};
 pub use record::parse_record;
 pub use written::{Line, write_record};

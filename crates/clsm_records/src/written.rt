@@ -84,7 +84,7 @@ impl fmt::Display for Told<'_> {
 
 /// A value, or `none`.
 #[derive(Drop)]
-struct Reply<'a>(&'a Option<Value>);
+pub struct Reply<'a>(pub &'a Option<Value>);
 
 impl fmt::Display for Reply<'_> {
     ghost output = { λ reply. Some (reply_text reply.0.now) };

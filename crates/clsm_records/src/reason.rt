@@ -1,0 +1,214 @@
+use crate::audit::Listed;
+use crate::written::{Line, Reply};
+use clsm_audit::{Explanation, FoundWrite, Rule};
+use clsm_model::Value;
+use std::fmt;
+use std::io::{self, Write};
+
+/// Writes why the record with this index has its fault: its line, and then what the explanation
+/// says, a fact a line.
+pub fn write_reason<W: Write>(
+    output: &mut W,
+    listed: &Listed,
+    index: usize,
+    explanation: &Explanation,
+) -> io::Result<()> {
+    let line = Placed { listed, index };
+    let reason = Reason {
+        listed,
+        explanation,
+    };
+    write!(output, "{line}\n{reason}")?;
+    output.flush()
+}
+
+/// What an explanation says, a fact a line.
+#[derive(Drop)]
+struct Reason<'a> {
+    listed: &'a Listed,
+    explanation: &'a Explanation,
+}
+
+impl fmt::Display for Reason<'_> {
+    fn fmt<W: fmt::Write>(&self, f: &mut fmt::Formatter<W>) -> fmt::Result {
+        let listed = self.listed;
+        match self.explanation {
+            Explanation::Unknown { rule } => write_rule(f, rule),
+            Explanation::TwoAtOneTime { other, time } => {
+                let line = Placed {
+                    listed,
+                    index: *other,
+                };
+                writeln!(f, "time {time} is written by {line}")
+            }
+            Explanation::TimeRanBack { earlier, due } => {
+                let line = Placed {
+                    listed,
+                    index: *earlier,
+                };
+                writeln!(f, "the times of its seat are from {due} on, after {line}")
+            }
+            Explanation::InsideBatch { batch } => {
+                let line = Placed {
+                    listed,
+                    index: *batch,
+                };
+                writeln!(f, "its time is inside the batch of {line}")
+            }
+            reading => write_reading(f, listed, reading),
+        }
+    }
+}
+
+/// Writes which rule makes a record unknown.
+fn write_rule<W: fmt::Write>(f: &mut fmt::Formatter<W>, rule: &Rule) -> fmt::Result {
+    match rule {
+        Rule::Seat => writeln!(f, "the seat is out of range"),
+        Rule::Size => writeln!(f, "the batch is longer than --cells"),
+        Rule::Time => writeln!(f, "the time is out of range"),
+        Rule::Members => writeln!(f, "the batch has no member, or one that keeps its key"),
+        Rule::Snapshot { opened: Some(time) } => {
+            writeln!(f, "the seat has a snapshot open at time {time}")
+        }
+        Rule::Snapshot { opened: None } => writeln!(f, "the seat has no snapshot open"),
+    }
+}
+
+/// Writes what is wrong with what was read.
+fn write_reading<W: fmt::Write>(
+    f: &mut fmt::Formatter<W>,
+    listed: &Listed,
+    reading: &Explanation,
+) -> fmt::Result {
+    match reading {
+        Explanation::WrongValue {
+            key,
+            answered,
+            right,
+            newest,
+            seen,
+        } => {
+            let answered = Reply(answered);
+            let right = Reply(right);
+            writeln!(
+                f,
+                "read {answered} at key {key}, and the writes below its time give {right}"
+            )?;
+            write_sources(f, listed, *key, newest, seen)
+        }
+        Explanation::WrongRow {
+            number,
+            answered,
+            right,
+            key,
+            newest,
+            seen,
+        } => {
+            let answered = Row(answered);
+            let right = Row(right);
+            writeln!(
+                f,
+                "row {number}, counted from 0, is {answered}, and the writes below its time give {right}"
+            )?;
+            write_sources(f, listed, *key, newest, seen)
+        }
+        Explanation::WrongNext { answered, right } => {
+            let answered = Next(answered);
+            let right = Next(right);
+            writeln!(
+                f,
+                "the next key is {answered}, and the writes below its time give {right}"
+            )
+        }
+        _ => Ok(()),
+    }
+}
+
+/// Writes the newest write of a key, and the one that left what was read.
+fn write_sources<W: fmt::Write>(
+    f: &mut fmt::Formatter<W>,
+    listed: &Listed,
+    key: u64,
+    newest: &Option<FoundWrite>,
+    seen: &Option<FoundWrite>,
+) -> fmt::Result {
+    let newest = Source {
+        listed,
+        found: newest,
+    };
+    let seen = Source {
+        listed,
+        found: seen,
+    };
+    writeln!(
+        f,
+        "newest write of key {key}: {newest}\nwrite of what was read: {seen}"
+    )
+}
+
+/// A write by its time and line, or `none`.
+#[derive(Drop)]
+struct Source<'a> {
+    listed: &'a Listed,
+    found: &'a Option<FoundWrite>,
+}
+
+impl fmt::Display for Source<'_> {
+    fn fmt<W: fmt::Write>(&self, f: &mut fmt::Formatter<W>) -> fmt::Result {
+        let Some(found) = self.found else {
+            return write!(f, "none");
+        };
+        let time = found.time;
+        let line = Placed {
+            listed: self.listed,
+            index: found.index,
+        };
+        write!(f, "time {time}, {line}")
+    }
+}
+
+/// A record with the number of its line.
+#[derive(Drop)]
+struct Placed<'a> {
+    listed: &'a Listed,
+    index: usize,
+}
+
+impl fmt::Display for Placed<'_> {
+    fn fmt<W: fmt::Write>(&self, f: &mut fmt::Formatter<W>) -> fmt::Result {
+        if let Some(number) = self.listed.lines.get(self.index) {
+            write!(f, "line {number}")?;
+        }
+        if let Some(record) = self.listed.records.get(self.index) {
+            let record = Line(record);
+            write!(f, ": {record}")?;
+        }
+        Ok(())
+    }
+}
+
+/// A row, or `none`.
+#[derive(Drop)]
+struct Row<'a>(&'a Option<(u64, Value)>);
+
+impl fmt::Display for Row<'_> {
+    fn fmt<W: fmt::Write>(&self, f: &mut fmt::Formatter<W>) -> fmt::Result {
+        match self.0 {
+            Some((key, value)) => write!(f, "{key}={value}"),
+            None => write!(f, "none"),
+        }
+    }
+}
+
+/// The key of the next row, or `none`.
+#[derive(Drop)]
+struct Next<'a>(&'a Option<u64>);
+
+impl fmt::Display for Next<'_> {
+    fn fmt<W: fmt::Write>(&self, f: &mut fmt::Formatter<W>) -> fmt::Result {
+        match self.0 {
+            Some(key) => write!(f, "{key}"),
+            None => write!(f, "none"),
+        }
+    }
+}
