@@ -1,14 +1,14 @@
 ghost use Rattle.std.specs.Prelude.{◌≡◌, ◌==◌, ◌+◌, ◌<◌, ◌^◌};
 ghost use Rattle.clsm_law.specs.Memory.{link_at};
 ghost use Rattle.clsm_law.specs.declared.layout.Layout.{Layout};
-ghost use Rattle.clsm_law.specs.Relation.{holds_lock, is_listed, looked, takes_hold};
+ghost use Rattle.clsm_law.specs.Relation.{again_after, holds_lock, is_listed, looked, once_more, takes_hold, waited_after};
 ghost use Rattle.clsm_law.specs.SeatBounds.{IsSmallLook};
 
 use crate::reaches::reached_by_state;
 use crate::words::{or_zero, own_place, own_region};
 use clsm_law::{
-    EXCLUSIVE_HOLD, FreshLink, Layout, Mode, Part, REMOVAL_CELL, SnapshotState, VALUE_CELL, View,
-    Word,
+    EXCLUSIVE_HOLD, FreshLink, Layout, Mode, Part, REMOVAL_CELL, SnapshotState, UNDECIDED_CELL,
+    VALUE_CELL, View, Waiting, Word,
 };
 use clsm_model::Time;
 
@@ -95,6 +95,40 @@ fn note_order(layout: &Layout, view: &mut View, link: u64, found: u64)
     }
 }
 
+/// One look again, counted up to the layout's patience.
+fn once_more(layout: &Layout, again: u64) -> u64
+    ensures { result ≡ once_more layout.now again }
+{
+    if again < layout.patience {
+        again + 1
+    } else {
+        again
+    }
+}
+
+/// How often the seat looked again at the cell's state, after one more look that found it
+/// undecided.
+fn again_after(layout: &Layout, waited: Option<Waiting>, cell: u64) -> u64
+    ensures { result ≡ again_after layout.now waited cell }
+{
+    match waited {
+        Some(waiting) if waiting.cell == cell => once_more(layout, waiting.again),
+        _ => 0,
+    }
+}
+
+/// For which state the seat waits after a look at the cell's.
+fn waited_after(layout: &Layout, waited: Option<Waiting>, cell: u64, found: u64) -> Option<Waiting>
+    ensures { result ≡ waited_after layout.now waited cell found }
+{
+    if found == UNDECIDED_CELL {
+        let again = again_after(layout, waited, cell);
+        Some(Waiting { cell, again })
+    } else {
+        None
+    }
+}
+
 /// Notes a state; a written cell of the drawn one's region stands in its list.
 fn note_state(layout: &Layout, view: &mut View, cell: u64, found: u64)
     requires { cell + 1 < 2 ^ 64 }
@@ -105,6 +139,7 @@ fn note_state(layout: &Layout, view: &mut View, cell: u64, found: u64)
     if view.drawn.is_some() && layout.region_of(cell) == own_region(layout, view) && is_written {
         view.met = cell + 1;
     }
+    view.waited = waited_after(layout, view.waited, cell, found);
     view.reached = reached;
 }
 

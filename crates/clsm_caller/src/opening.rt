@@ -50,5 +50,7 @@ pub fn idle(alloc: Global, layout: &Layout) -> Result<View, AllocError>
         overtaken: 0,
         gave_up: 0,
         cancelled: 0,
+        waited: None,
+        hasty: 0,
     })
 }

@@ -1,13 +1,13 @@
 ghost use Rattle.std.specs.Prelude.{◌≡◌, ◌+◌, ◌<◌, ◌^◌, ◌++◌, ℕ, length, MatchResult};
 ghost use Rattle.clsm_law.specs.Views.{or_zero};
 ghost use Rattle.clsm_caller.specs.Settling.{listed};
-ghost use Rattle.clsm_law.specs.Relation.{counted_cancel, filled, given_up, is_own, member_of, view_after};
+ghost use Rattle.clsm_law.specs.Relation.{counted_cancel, filled, given_up, is_own, is_waited_for, member_of, view_after};
 ghost use Rattle.clsm_law.specs.declared.layout.Layout.{Layout};
 ghost use Rattle.clsm_law.specs.declared.step.Step.{Step};
 
 use crate::reaches::reached_after;
 use crate::words::{or_zero, own_line};
-use clsm_law::{Layout, Mode, Part, UNDECIDED_CELL, View};
+use clsm_law::{Layout, Mode, Part, UNDECIDED_CELL, View, Waiting};
 use clsm_model::{CallRecord, Change, Deed, Members, Time};
 use std::alloc::AllocError;
 
@@ -245,16 +245,36 @@ fn is_own(drawn: Option<Time>, time: Time) -> bool
     }
 }
 
-/// Counts a time given up, one of another seat cancelled, or an own one that another had cancelled.
-fn count_cancel(view: &mut View, time: Time, found: u64)
-    ensures { view.new ≡ counted_cancel view.old time found }
+/// Whether the last looks at states found this one undecided as often as the patience asks for.
+fn is_waited_for(layout: &Layout, waited: Option<Waiting>, cell: u64) -> bool
+    ensures { result ≡ is_waited_for layout.now waited cell }
 {
-    match (is_own(view.drawn, time), found) {
-        (true, UNDECIDED_CELL) => view.gave_up = view.gave_up.wrapping_add(1),
-        (true, _) => view.overtaken = view.overtaken.wrapping_add(1),
-        (false, UNDECIDED_CELL) => view.cancelled = view.cancelled.wrapping_add(1),
-        (false, _) => {}
+    match waited {
+        Some(waiting) => waiting.cell == cell && layout.patience <= waiting.again,
+        None => false,
     }
+}
+
+/// Counts a time given up, one of another seat cancelled, or an own one that another had cancelled;
+/// and whether that of another seat was cancelled too early.
+fn count_cancel(layout: &Layout, view: &mut View, time: Time, found: u64)
+    ensures { view.new ≡ counted_cancel layout.now view.old time found }
+{
+    if is_own(view.drawn, time) {
+        if found == UNDECIDED_CELL {
+            view.gave_up = view.gave_up.wrapping_add(1);
+        } else {
+            view.overtaken = view.overtaken.wrapping_add(1);
+        }
+        return;
+    }
+    if found == UNDECIDED_CELL {
+        view.cancelled = view.cancelled.wrapping_add(1);
+        if !is_waited_for(layout, view.waited, layout.cell_of(time)) {
+            view.hasty = view.hasty.wrapping_add(1);
+        }
+    }
+    view.waited = None;
 }
 
 /// Notes an exchange on the state of the time, to cancel it.
@@ -262,7 +282,7 @@ pub(crate) fn note_cancel(layout: &Layout, view: &mut View, time: Time, found: u
     ensures { (i : ℕ) → view.new ≡ view_after layout.now i view.old (Step.Cancel time) found }
 {
     let reached = reached_after(layout, view, time);
-    count_cancel(view, time, found);
+    count_cancel(layout, view, time, found);
     view.drawn = given_up(view.drawn, time);
     view.reached = reached;
 }

@@ -25,7 +25,7 @@ use Rattle.clsm_calls.proofs.Rest.{same_past, stays_open}
 
 -- what the view counts
 abbrev counted : View → Tally
-counted v = record { entries = v.entries; busy = v.busy; raced = v.raced; overtaken = v.overtaken; gave_up = v.gave_up; cancelled = v.cancelled; limit = v.hold_limit; clock = v.hold_clock }
+counted v = record { entries = v.entries; busy = v.busy; raced = v.raced; overtaken = v.overtaken; gave_up = v.gave_up; cancelled = v.cancelled; hasty = v.hasty; limit = v.hold_limit; clock = v.hold_clock }
 
 -- what holds whatever the refusal is
 pub if_err : {A E G : Type 0} (r : Result A E) → G → IfErr r (λ (e : E). G)

@@ -56,6 +56,7 @@ with_staged v w members = record v {
   fresh_clock = w.fresh_clock;
   fresh_heads = w.fresh_heads;
   reached = w.reached;
+  waited = w.waited;
   met = w.met;
   low = w.low;
   high = w.high;

@@ -81,6 +81,7 @@ pub record EndsDrawn (old new : Known) : Type 0 where
   pub pinned : new.view.pinned ≡ old.view.pinned
   pub held : new.view.held ≡ old.view.held
   pub entries : new.view.entries ≡ old.view.entries
+  pub hasty : new.view.hasty ≡ old.view.hasty
   pub gave_up : new.view.gave_up ≡ old.view.gave_up
   pub reached : old.view.reached ≤ new.view.reached
 

@@ -48,7 +48,7 @@ known_by s = record { slots = s.past; batches = s.batches }
 
 -- the seat with this number, which did nothing yet
 abbrev pub newcomer : StoreId → ℕ → SeatState
-newcomer store number = record { store = store; number = number; past = []; batches = []; calls = []; due = 0; snapshot = None; tally = record { entries = 0; busy = 0; raced = 0; overtaken = 0; gave_up = 0; cancelled = 0; limit = None; clock = None }; clock = None }
+newcomer store number = record { store = store; number = number; past = []; batches = []; calls = []; due = 0; snapshot = None; tally = record { entries = 0; busy = 0; raced = 0; overtaken = 0; gave_up = 0; cancelled = 0; hasty = 0; limit = None; clock = None }; clock = None }
 
 -- the seats of the store in order, none of which did anything
 pub record AreNew (store : StoreId) (count : ℕ) (seats : List SeatState) : Type 0 where

@@ -6,8 +6,9 @@ use Rattle.clsm_calls.specs.declared.refusal.TryPutError.{TryPutError}
 use Rattle.clsm_calls.specs.declared.refusal.TryPutError.TheVariants.{Full, Busy, Raced, Overtaken}
 
 -- Each modulo 2^64: its entries into the lock; the tries that it lost there, at draws and links,
--- and to readers that overtook it; the times of its own that it gave up, and those of others that
--- it cancelled. And the limit and the clock that it looked at in its last hold of the lock
+-- and to readers that overtook it; the times of its own that it gave up, those of others that it
+-- cancelled, and those among these for which it had not waited as its patience says. And the limit
+-- and the clock that it looked at in its last hold of the lock
 pub record Tally : Type 0 where
   pub entries : ℕ
   pub busy : ℕ
@@ -15,6 +16,7 @@ pub record Tally : Type 0 where
   pub overtaken : ℕ
   pub gave_up : ℕ
   pub cancelled : ℕ
+  pub hasty : ℕ
   pub limit : Option ℕ
   pub clock : Option ℕ
 
@@ -27,22 +29,26 @@ tally_of k = let v = k.view in record {
   overtaken = v.overtaken;
   gave_up = v.gave_up;
   cancelled = v.cancelled;
+  hasty = v.hasty;
   limit = v.hold_limit;
   clock = v.hold_clock;
 }
 
--- the call took no lock, lost no try, and gave up no time; it may have cancelled times of others
+-- the call took no lock, lost no try, and gave up no time; it may have cancelled times of others,
+-- each after as many looks as its patience says
 abbrev pub TakesNoLock : Tally → Tally → Type 0
 TakesNoLock old new = new ≡ record old { cancelled = new.cancelled }
 
--- the call took the lock once
-abbrev pub TakesLockOnce : Tally → Tally → Type 0
-TakesLockOnce old new = new.entries ≡ next_word old.entries
+-- the call took the lock once, and cancelled no time of others before it had waited for it
+pub record TakesLockOnce (old new : Tally) : Type 0 where
+  pub entries : new.entries ≡ next_word old.entries
+  pub hasty : new.hasty ≡ old.hasty
 
 -- the call cancelled no time: it gave up none of its own, and cancelled none of others
 pub record CancelsNone (old new : Tally) : Type 0 where
   pub own : new.gave_up ≡ old.gave_up
   pub others : new.cancelled ≡ old.cancelled
+  pub hasty : new.hasty ≡ old.hasty
 
 -- ---- a try
 

@@ -40,25 +40,20 @@ pub(crate) enum ChangeAttempt {
 }
 
 /// The value of the key at the clock, below which all is settled.
-fn value_now<P: Pace>(
-    words: &Words<P>,
-    seat: &mut RawSeat,
-    component: u64,
-    patience: u64,
-    key: u64,
-) -> Got
+fn value_now<P: Pace>(words: &Words<P>, seat: &mut RawSeat, component: u64, key: u64) -> Got
     requires of { IsSeatOf words.now seat.old }
     requires pinned { IsPinnedInHold seat.old.knows component }
     ensures of { IsSeatOf words.now seat.new }
     ensures pinned { IsPinnedInHold seat.new.knows component }
     ensures still { Still seat.old.knows seat.new.knows }
     ensures entered { seat.new.knows.view.entries ≡ seat.old.knows.view.entries }
+    ensures patient { seat.new.knows.view.hasty ≡ seat.old.knows.view.hasty }
     ensures spared { seat.new.knows.view.gave_up ≡ seat.old.knows.view.gave_up }
     ensures lost { seat.new.knows.view.overtaken ≡ seat.old.knows.view.overtaken }
     ensures reads { ReadsNow seat.new.knows component key result.time result.value }
 {
     let time = words.look(seat, Word::Clock);
-    settle_below(words, seat, component, time, patience);
+    settle_below(words, seat, component, time);
     let value = value_below(words, seat, component, key, time);
     Got { time, value }
 }
@@ -68,7 +63,6 @@ fn is_unchanged<P: Pace>(
     words: &Words<P>,
     seat: &mut RawSeat,
     component: u64,
-    patience: u64,
     key: u64,
     from: Time,
     until: Time,
@@ -83,7 +77,7 @@ fn is_unchanged<P: Pace>(
     ensures written { result ≡ false → IsWrittenFrom seat.new.knows.past key from }
     ensures unchanged { result ≡ true → value (plain seat.new.knows.past) key until ≡ value (plain seat.new.knows.past) key from }
 {
-    settle_below(words, seat, component, until, patience);
+    settle_below(words, seat, component, until);
     match newest(words, seat, component, key, until) {
         Some(found) => found.time < from,
         None => true,
@@ -160,7 +154,6 @@ fn write_later<P: Pace, R: Wait>(
     words: &Words<P>,
     seat: &mut RawSeat,
     component: u64,
-    patience: u64,
     key: u64,
     read: Rmw,
     value: &Option<Value>,
@@ -172,6 +165,7 @@ fn write_later<P: Pace, R: Wait>(
     ensures of { IsSeatOf words.now seat.new }
     ensures pinned { IsPinnedInHold seat.new.knows component }
     ensures entered { seat.new.knows.view.entries ≡ seat.old.knows.view.entries }
+    ensures patient { seat.new.knows.view.hasty ≡ seat.old.knows.view.hasty }
     ensures spared { GivesUpFor seat.old.knows seat.new.knows key }
     ensures writes { WritesLater seat.old.knows seat.new.knows key read.old read.change result }
 {
@@ -180,7 +174,7 @@ fn write_later<P: Pace, R: Wait>(
         Ok(time) => time,
         Err(attempt) => return attempt,
     };
-    if !is_unchanged(words, seat, component, patience, key, read.time, time) {
+    if !is_unchanged(words, seat, component, key, read.time, time) {
         give_up(words, seat, time);
         return ChangeAttempt::Lost;
     }
@@ -221,7 +215,6 @@ fn try_change<P: Pace, R: Wait, F: Fn(Option<Value>) -> Change>(
     words: &Words<P>,
     seat: &mut RawSeat,
     component: u64,
-    patience: u64,
     key: u64,
     f: &F,
 ) -> ChangeAttempt
@@ -231,17 +224,18 @@ fn try_change<P: Pace, R: Wait, F: Fn(Option<Value>) -> Change>(
     ensures of { IsSeatOf words.now seat.new }
     ensures pinned { IsPinnedInHold seat.new.knows component }
     ensures entered { seat.new.knows.view.entries ≡ seat.old.knows.view.entries }
+    ensures patient { seat.new.knows.view.hasty ≡ seat.old.knows.view.hasty }
     ensures spared { GivesUpFor seat.old.knows seat.new.knows key }
     ensures changes { TriesChange seat.old.knows seat.new.knows component key result }
     ensures answered { IsAnsweredBy (F.post f.now) result }
 {
-    let got = value_now(words, seat, component, patience, key);
+    let got = value_now(words, seat, component, key);
     let read = got.with(ask(f, &got.value));
     if is_keep(&read.change) {
         return ChangeAttempt::Done(read);
     }
     let value = value_set(&read.change);
-    write_later(rt, words, seat, component, patience, key, read, &value)
+    write_later(rt, words, seat, component, key, read, &value)
 }
 
 /// Changes the key, and tries until that is done or the clock is at the limit.
@@ -250,7 +244,6 @@ fn change_pinned<P: Pace, R: Wait, F: Fn(Option<Value>) -> Change>(
     words: &Words<P>,
     seat: &mut RawSeat,
     component: u64,
-    patience: u64,
     key: u64,
     f: &F,
 ) -> Result<Rmw, Full>
@@ -260,13 +253,14 @@ fn change_pinned<P: Pace, R: Wait, F: Fn(Option<Value>) -> Change>(
     ensures of { IsSeatOf words.now seat.new }
     ensures pinned { IsPinnedInHold seat.new.knows component }
     ensures entered { seat.new.knows.view.entries ≡ seat.old.knows.view.entries }
+    ensures patient { seat.new.knows.view.hasty ≡ seat.old.knows.view.hasty }
     ensures spared { GivesUpFor seat.old.knows seat.new.knows key }
     ensures changed { IfOk result (λ rmw. Does rmw.change seat.old.knows seat.new.knows component key rmw.time rmw.old) }
     ensures answered { IfOk result (λ rmw. F.post f.now rmw.old rmw.change) }
     ensures full { IfErr result (λ full. FindsFull seat.old.knows seat.new.knows full.time) }
 {
     for _ in rt.forever() {
-        match try_change(rt, words, seat, component, patience, key, f) {
+        match try_change(rt, words, seat, component, key, f) {
             ChangeAttempt::Done(rmw) => return Ok(rmw),
             ChangeAttempt::Full(time) => return Err(Full { time }),
             ChangeAttempt::Lost => {}
@@ -292,7 +286,6 @@ pub fn change<P: Pace, R: Wait, F: Fn(Option<Value>) -> Change>(
     words: &Words<P>,
     seat: &mut RawSeat,
     pin_word: u64,
-    patience: u64,
     key: u64,
     f: &F,
 ) -> Result<Rmw, Full>
@@ -304,6 +297,7 @@ pub fn change<P: Pace, R: Wait, F: Fn(Option<Value>) -> Change>(
     ensures rests { IsAtRest seat.new.knows }
     ensures pin { seat.new.knows.view.pin ≡ next_word (next_word pin_word) }
     ensures entered { seat.new.knows.view.entries ≡ next_word seat.old.knows.view.entries }
+    ensures patient { seat.new.knows.view.hasty ≡ seat.old.knows.view.hasty }
     ensures spared { GivesUpFor seat.old.knows seat.new.knows key }
     ensures changed { IfOk result (λ rmw. ChangesAt seat.old.knows seat.new.knows rmw.time key rmw.old rmw.change) }
     ensures answered { IfOk result (λ rmw. F.post f.now rmw.old rmw.change) }
@@ -311,7 +305,7 @@ pub fn change<P: Pace, R: Wait, F: Fn(Option<Value>) -> Change>(
 {
     lock_shared(rt, words, seat);
     let component = pin(words, seat, pin_word);
-    let answer = change_pinned(rt, words, seat, component, patience, key, f);
+    let answer = change_pinned(rt, words, seat, component, key, f);
     unpin(
         words,
         seat,

@@ -13,7 +13,7 @@ use clsm_pins::unpin;
 use clsm_words::{Pace, RawSeat, Words};
 
 /// Reads at a time of its own, with no search and no record: all below that time is settled.
-pub fn meet_at<P: Pace>(words: &Words<P>, seat: &mut RawSeat, pin_word: u64, patience: u64) -> Time
+pub fn meet_at<P: Pace>(words: &Words<P>, seat: &mut RawSeat, pin_word: u64) -> Time
     requires of { IsSeatOf words.now seat.old }
     requires rests { IsAtRest seat.old.knows }
     requires pin { pin_word ≡ seat.old.knows.view.pin }
@@ -23,7 +23,7 @@ pub fn meet_at<P: Pace>(words: &Words<P>, seat: &mut RawSeat, pin_word: u64, pat
     ensures meets { MeetsAt seat.old.knows seat.new.knows result }
 {
     let (component, time) = begin(words, seat, pin_word);
-    settle_below(words, seat, component, time, patience);
+    settle_below(words, seat, component, time);
     seat.show_invariant();
     unpin(words, seat, pin_word.wrapping_add(1), &End::Meeting);
     time

@@ -69,13 +69,7 @@ fn end_of(key: u64, got: &Got) -> End
 }
 
 /// Reads the key at a time of its own.
-pub fn read<P: Pace>(
-    words: &Words<P>,
-    seat: &mut RawSeat,
-    pin_word: u64,
-    patience: u64,
-    key: u64,
-) -> Got
+pub fn read<P: Pace>(words: &Words<P>, seat: &mut RawSeat, pin_word: u64, key: u64) -> Got
     requires of { IsSeatOf words.now seat.old }
     requires rests { IsAtRest seat.old.knows }
     requires pin { pin_word ≡ seat.old.knows.view.pin }
@@ -85,7 +79,7 @@ pub fn read<P: Pace>(
     ensures reads { ReadsAt seat.old.knows seat.new.knows result.time (Get key result.value) }
 {
     let (component, time) = begin(words, seat, pin_word);
-    settle_below(words, seat, component, time, patience);
+    settle_below(words, seat, component, time);
     let value = value_below(words, seat, component, key, time);
     let got = Got { time, value };
     unpin(words, seat, pin_word.wrapping_add(1), &end_of(key, &got));

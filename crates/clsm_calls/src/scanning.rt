@@ -142,7 +142,6 @@ pub fn scan_at<P: Pace>(
     seat: &mut RawSeat,
     alloc: Global,
     pin_word: u64,
-    patience: u64,
     asked: Asked,
 ) -> Result<(Time, Deed), Memory>
     requires of { IsSeatOf words.now seat.old }
@@ -157,7 +156,7 @@ pub fn scan_at<P: Pace>(
     ensures given_up { IfErr result (λ refusal. GivesUpRead seat.old.knows seat.new.knows) }
 {
     let (component, time) = begin(words, seat, pin_word);
-    settle_below(words, seat, component, time, patience);
+    settle_below(words, seat, component, time);
     let read = deed_below(words, seat, alloc, component, asked, time);
     let deed = end(words, seat, pin_word.wrapping_add(1), read)?;
     Ok((time, deed))

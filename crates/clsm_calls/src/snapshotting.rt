@@ -17,7 +17,7 @@ use clsm_pins::{open_snapshot, pin, unpin};
 use clsm_words::{Pace, RawSeat, Words};
 
 /// Opens a snapshot, at a time of its own: all below it is settled.
-pub fn open_at<P: Pace>(words: &Words<P>, seat: &mut RawSeat, pin_word: u64, patience: u64) -> Time
+pub fn open_at<P: Pace>(words: &Words<P>, seat: &mut RawSeat, pin_word: u64) -> Time
     requires of { IsSeatOf words.now seat.old }
     requires rests { IsAtRest seat.old.knows }
     requires pin { pin_word ≡ seat.old.knows.view.pin }
@@ -29,7 +29,7 @@ pub fn open_at<P: Pace>(words: &Words<P>, seat: &mut RawSeat, pin_word: u64, pat
 {
     let component = pin(words, seat, pin_word);
     let time = open_snapshot(words, seat);
-    settle_below(words, seat, component, time, patience);
+    settle_below(words, seat, component, time);
     unpin(
         words,
         seat,

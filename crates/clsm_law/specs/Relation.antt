@@ -25,6 +25,7 @@ use Rattle.clsm_law.specs.declared.step.Answer.{Answer}
 use Rattle.clsm_law.specs.declared.step.Answer.TheVariants as answers
 use Rattle.clsm_law.specs.declared.view.FreshLink.{FreshLink}
 use Rattle.clsm_law.specs.declared.view.View.{View}
+use Rattle.clsm_law.specs.declared.view.Waiting.{Waiting}
 use Rattle.clsm_law.specs.declared.view.Mode.TheVariants.{Free, Shared, Exclusive}
 use Rattle.clsm_law.specs.declared.view.SnapshotState.{SnapshotState}
 use Rattle.clsm_law.specs.declared.view.SnapshotState.TheVariants.{Absent, Noted, Timed, Open}
@@ -355,13 +356,34 @@ abbrev pub is_own : Option ℕ → ℕ → Bool
 is_own None t = false
 is_own (Some u) t = u == t
 
+-- one look again, counted up to the layout's patience
+abbrev pub once_more : Layout → ℕ → ℕ
+once_more z again = cond (nat_lt again z.patience) (again + 1) again
+
+-- how often the seat looked again at the cell's state, after one more look that found it undecided
+abbrev pub again_after : Layout → Option Waiting → ℕ → ℕ
+again_after z None cell = 0
+again_after z (Some w) cell = cond (w.cell == cell) (once_more z w.again) 0
+
+-- a look at a state: where it is undecided the seat waits for it, else for none
+abbrev pub waited_after : Layout → Option Waiting → ℕ → ℕ → Option Waiting
+waited_after z waited cell x = cond (x == undecided_cell) (Some (record { cell = cell; again = again_after z waited cell })) None
+
+-- the last looks at states found this one undecided: the first, and as many more as the layout's
+-- patience says
+abbrev pub is_waited_for : Layout → Option Waiting → ℕ → Bool
+is_waited_for z None cell = false
+is_waited_for z (Some w) cell = w.cell == cell && nat_le z.patience w.again
+
 -- a cancel of t that found x is counted: the own time is given up, or another had cancelled it, or
--- t is another's
-abbrev pub counted_cancel : View → ℕ → ℕ → View
-counted_cancel v t x = let own = is_own v.drawn t in record v {
+-- t is another's. That of another's time is hasty where it was not waited for; it ends the wait
+abbrev pub counted_cancel : Layout → View → ℕ → ℕ → View
+counted_cancel z v t x = let own = is_own v.drawn t in record v {
   overtaken = one_more_if (own && not (x == undecided_cell)) v.overtaken;
   gave_up = one_more_if (own && x == undecided_cell) v.gave_up;
   cancelled = one_more_if (not own && x == undecided_cell) v.cancelled;
+  waited = cond own v.waited None;
+  hasty = one_more_if (not own && x == undecided_cell && not (is_waited_for z v.waited (cell_of z t))) v.hasty;
 }
 
 -- the record of a call of the seat i
@@ -418,8 +440,8 @@ looked z v Merged x = record v { held = cond (takes_hold v) (Some x) v.held; rea
 -- in a hold of the lock it is fresh
 looked z v (Head region chain) x = record v { fresh_heads = cond (holds_lock v) (slice_set v.fresh_heads (line_of region chain) (Some x)) v.fresh_heads }
 -- where it is not empty, and is that of the time reached, and the component and the clock cover
--- this, one time more is reached; and a written cell is met
-looked z v (State cell) x = record v { reached = reached_by_state z v cell x; met = cond (is_met_by_state z v cell x) (cell + 1) v.met }
+-- this, one time more is reached; a written cell is met; and an undecided one is waited for
+looked z v (State cell) x = record v { reached = reached_by_state z v cell x; met = cond (is_met_by_state z v cell x) (cell + 1) v.met; waited = waited_after z v.waited cell x }
 -- what follows in the list of the drawn cell is met, and the look is fresh
 looked z v (Order k) x = record v { met = cond (is_listed z v k) x v.met; fresh_link = cond (is_listed z v k) (Some (record { link = k; next = x })) v.fresh_link }
 -- the cell met is before the drawn one, or behind it
@@ -499,7 +521,7 @@ view_after z i v (Decide t deed) x = let won = x == 0 in let alone = is_exclusiv
   overtaken = one_more_if (not won) v.overtaken;
 }
 -- t is found decided, and an own drawn time is given up; what was cancelled is counted
-view_after z i v (Cancel t) x = record (counted_cancel v t x) { drawn = given_up v.drawn t; reached = reached_after z v t }
+view_after z i v (Cancel t) x = record (counted_cancel z v t x) { drawn = given_up v.drawn t; reached = reached_after z v t }
 -- Won: the lock is held exclusively, no look before is fresh or of this hold, and nothing is
 -- committed in it. It is counted.
 view_after z i v EnterExclusive x = let won = x == 0 in record v {

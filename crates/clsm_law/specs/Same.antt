@@ -32,9 +32,9 @@ use Rattle.clsm_law.specs.declared.merger.Reader.{Reader}
 use Rattle.clsm_law.specs.declared.merger.MergerView.{MergerView}
 use Rattle.clsm_law.specs.Machine.{WorldState}
 
--- the view without its counts
+-- the view without its counts, and without how long it waited
 abbrev pub uncounted : View → View
-uncounted v = record v { entries = 0; busy = 0; raced = 0; overtaken = 0; gave_up = 0; cancelled = 0 }
+uncounted v = record v { entries = 0; busy = 0; raced = 0; overtaken = 0; gave_up = 0; cancelled = 0; waited = None; hasty = 0 }
 
 -- what is noted of a seat, without the count of looks
 abbrev pub uncounted_reader : Reader → Reader

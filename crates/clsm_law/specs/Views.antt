@@ -55,6 +55,8 @@ idle z = record {
   overtaken = 0;
   gave_up = 0;
   cancelled = 0;
+  waited = None;
+  hasty = 0;
 }
 
 -- ---- small words

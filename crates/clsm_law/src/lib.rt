@@ -19,5 +19,5 @@ pub use layout::Layout;
 pub use merger::{MergerView, Phase, Reader, Round};
 pub use places::{LEVEL_ONE, is_named, level_one_place, target_place};
 pub use step::{Answer, End, Event, Step, StepError};
-pub use view::{FreshLink, Mode, SnapshotState, View};
+pub use view::{FreshLink, Mode, SnapshotState, View, Waiting};
 pub use word::{Part, Word};

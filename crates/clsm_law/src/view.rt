@@ -31,6 +31,14 @@ pub struct FreshLink {
     pub next: u64,
 }
 
+/// Looks at the state of a cell, one after another, each of which found it undecided.
+#[derive(Clone, Copy, Debug)]
+pub struct Waiting {
+    pub cell: u64,
+    /// How often the seat looked again after the first of them, counted up to the patience.
+    pub again: u64,
+}
+
 /// What one caller's seat knows and has done.
 #[derive(Drop)]
 #[derive_where(PartialEq, Eq, Hash)]
@@ -98,6 +106,12 @@ pub struct View {
     pub gave_up: u64,
     #[derive_where(skip(EqHashOrd))]
     pub cancelled: u64,
+    /// The last looks at states, where they found one undecided; and the times of other seats that
+    /// it cancelled before it had looked again as often as the patience says, modulo 2^64.
+    #[derive_where(skip(EqHashOrd))]
+    pub waited: Option<Waiting>,
+    #[derive_where(skip(EqHashOrd))]
+    pub hasty: u64,
 }
 
 impl Clone for View {

@@ -1,5 +1,7 @@
 -- When a seat may settle the times below its own.
 use Rattle.std.specs.Prelude.{◌≡◌, ℕ, ◌+◌, ◌*◌, ◌<◌, ◌≤◌, Option, Some, None}
+use Rattle.clsm_law.specs.declared.view.Waiting.{Waiting}
+use Rattle.clsm_law.specs.Memory.{cell_of}
 use Rattle.clsm_law.specs.Raising.{MayRaise}
 use Rattle.clsm_words.specs.declared.known.Known.{Known}
 
@@ -26,3 +28,12 @@ pub record MaySettleBelow (k : Known) (component s : ℕ) : Type 0 where
   pub own : (u : ℕ) → k.view.drawn ≡ Some u → s ≤ u
   -- the front is raised to no time inside a batch
   pub raise : MayRaise k.view s
+
+-- the last looks at states found this one undecided: the first, and at least so many more
+abbrev pub HasLooked : Option Waiting → ℕ → ℕ → Type 0
+HasLooked None cell again = ⊥
+HasLooked (Some w) cell again = (w.cell ≡ cell) × (again ≤ w.again)
+
+-- so the seat waited for the time
+abbrev pub HasWaited : Known → ℕ → ℕ → Type 0
+HasWaited k t again = HasLooked k.view.waited (cell_of k.layout t) again

@@ -1,9 +1,9 @@
 //! Times below a read's own are settled before it reads: each is decided then, and none below
 //! changes any more.
-ghost use Rattle.std.specs.Prelude.{◌≡◌, ◌+◌, ◌*◌, ◌≤◌, true, length};
+ghost use Rattle.std.specs.Prelude.{◌≡◌, ◌+◌, ◌*◌, ◌<◌, ◌≤◌, ℕ, false, true, length};
 ghost use Rattle.clsm_words.specs.Plays.{IsSeatOf};
 ghost use Rattle.clsm_words.specs.Keeping.{OnlyReads};
-ghost use Rattle.clsm_memtable.specs.Settled.{MaySettle, MaySettleBelow};
+ghost use Rattle.clsm_memtable.specs.Settled.{HasWaited, MaySettle, MaySettleBelow};
 
 use clsm_law::Word;
 use clsm_model::Time;
@@ -17,19 +17,20 @@ fn is_decided<P: Pace>(words: &Words<P>, seat: &mut RawSeat, component: u64, tim
     ensures of { IsSeatOf words.now seat.new }
     ensures keeps { OnlyReads seat.old.knows seat.new.knows }
     ensures found { result ≡ true → time + 1 ≤ seat.new.knows.view.reached }
+    ensures first { result ≡ false → HasWaited seat.new.knows time 0 }
+    ensures again { (n : ℕ) → n < seat.old.knows.layout.patience → HasWaited seat.old.knows time n → result ≡ false → HasWaited seat.new.knows time (n + 1) }
 {
     let cell = words.cell_of(time);
     words.look(seat, Word::State(cell)) != 0
 }
 
-/// Looks at the time's state, and up to `patience` times more while it is undecided. Answers
-/// whether it is decided.
+/// Looks at the time's state, and as often again as the patience says while it is undecided.
+/// Answers whether it is decided.
 fn is_found_decided<P: Pace>(
     words: &Words<P>,
     seat: &mut RawSeat,
     component: u64,
     time: Time,
-    patience: u64,
 ) -> bool
     requires of { IsSeatOf words.now seat.old }
     requires may { MaySettle seat.old.knows component time }
@@ -37,11 +38,13 @@ fn is_found_decided<P: Pace>(
     ensures of { IsSeatOf words.now seat.new }
     ensures keeps { OnlyReads seat.old.knows seat.new.knows }
     ensures found { result ≡ true → time + 1 ≤ seat.new.knows.view.reached }
+    ensures waited { result ≡ false → HasWaited seat.new.knows time seat.new.knows.layout.patience }
 {
     if is_decided(words, seat, component, time) {
         return true;
     }
-    for _ in 0..patience {
+    let patience = words.patience();
+    for look in 0..patience {
         if is_decided(words, seat, component, time) {
             return true;
         }
@@ -49,8 +52,8 @@ fn is_found_decided<P: Pace>(
     false
 }
 
-/// Settles the time: waits for its writer so long, and cancels it then.
-fn settle<P: Pace>(words: &Words<P>, seat: &mut RawSeat, component: u64, time: Time, patience: u64)
+/// Settles the time: waits for its writer as long as the patience says, and cancels it then.
+fn settle<P: Pace>(words: &Words<P>, seat: &mut RawSeat, component: u64, time: Time)
     requires of { IsSeatOf words.now seat.old }
     requires may { MaySettle seat.old.knows component time }
     requires reached { time ≤ seat.old.knows.view.reached }
@@ -58,24 +61,18 @@ fn settle<P: Pace>(words: &Words<P>, seat: &mut RawSeat, component: u64, time: T
     ensures keeps { OnlyReads seat.old.knows seat.new.knows }
     ensures settled { time + 1 ≤ seat.new.knows.view.reached }
 {
-    if !is_found_decided(words, seat, component, time, patience) {
+    if !is_found_decided(words, seat, component, time) {
         words.cancel(seat, time);
     }
 }
 
 /// Settles each time from the one that FRONT and the component begin with up to `time`, and raises
-/// FRONT to `time`: each time below it is decided then, and the seat's past reaches it. A time
-/// whose writer is slower than `patience` looks is cancelled, and comes to nothing; its writer
-/// finds that out and writes again (the cLSM paper's readers wait for it instead). `component` is
-/// what the seat holds, and `time` at most the clock that it looked at in this read. It never
-/// waits, takes no memory and is never refused.
-pub fn settle_below<P: Pace>(
-    words: &Words<P>,
-    seat: &mut RawSeat,
-    component: u64,
-    time: Time,
-    patience: u64,
-)
+/// FRONT to `time`: each time below it is decided then, and the seat's past reaches it. A time that
+/// is undecided still when it was looked at again as often as the patience says is cancelled, and
+/// comes to nothing; its writer finds that out and writes again (the cLSM paper's readers wait for
+/// it instead). `component` is what the seat holds, and `time` at most the clock that it looked at
+/// in this read. It never waits, takes no memory and is never refused.
+pub fn settle_below<P: Pace>(words: &Words<P>, seat: &mut RawSeat, component: u64, time: Time)
     requires of { IsSeatOf words.now seat.old }
     requires may { MaySettleBelow seat.old.knows component time }
     ensures of { IsSeatOf words.now seat.new }
@@ -86,7 +83,7 @@ pub fn settle_below<P: Pace>(
     let merged = component.saturating_mul(words.cells());
     let first = front.max(merged);
     for next in first..time {
-        settle(words, seat, component, next, patience);
+        settle(words, seat, component, next);
     }
     words.raise_front(seat, time);
 }

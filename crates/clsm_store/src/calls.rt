@@ -99,13 +99,7 @@ impl<P: Pace> Store<P> {
         ensures answers { Answers seat.old seat.new result.time (Get key result.value) }
         ensures lock { TakesNoLock seat.old.tally seat.new.tally }
     {
-        let got = read(
-            &self.words,
-            &mut seat.raw,
-            seat.pin,
-            self.words.patience(),
-            key,
-        );
+        let got = read(&self.words, &mut seat.raw, seat.pin, key);
         seat.pin = seat.pin.wrapping_add(2);
         got
     }
@@ -130,15 +124,7 @@ impl<P: Pace> Store<P> {
         ensures answered { IfOk result (λ rmw. F.post f.now rmw.old rmw.change) }
         ensures full { IfErr result (λ full. IsFull seat.old seat.new full.time) }
     {
-        let answer = change(
-            rt,
-            &self.words,
-            &mut seat.raw,
-            seat.pin,
-            self.words.patience(),
-            key,
-            f,
-        );
+        let answer = change(rt, &self.words, &mut seat.raw, seat.pin, key, f);
         seat.pin = seat.pin.wrapping_add(2);
         answer
     }
@@ -157,7 +143,7 @@ impl<P: Pace> Store<P> {
         if let Some(time) = seat.snapshot {
             return Err(Open { time });
         }
-        let time = open_at(&self.words, &mut seat.raw, seat.pin, self.words.patience());
+        let time = open_at(&self.words, &mut seat.raw, seat.pin);
         seat.pin = seat.pin.wrapping_add(2);
         seat.snapshot = Some(time);
         Ok(time)

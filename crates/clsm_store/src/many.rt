@@ -26,9 +26,8 @@ impl<P: Pace> Store<P> {
         ensures lock { TakesNoLock seat.old.tally seat.new.tally }
         ensures refused { IfErr result (λ refusal. Refuses seat.old seat.new) }
     {
-        let patience = self.words.patience();
         let read = match seat.snapshot {
-            None => scan_at(&self.words, &mut seat.raw, alloc, seat.pin, patience, asked),
+            None => scan_at(&self.words, &mut seat.raw, alloc, seat.pin, asked),
             Some(time) => scan_under(&self.words, &mut seat.raw, alloc, seat.pin, time, asked),
         };
         seat.pin = seat.pin.wrapping_add(2);

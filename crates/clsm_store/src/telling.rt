@@ -39,12 +39,7 @@ pub(crate) fn follow<P: Pace>(store: &Store<P>, seat: &mut Seat, message: Messag
     ensures { Follows message result seat.old seat.new }
 {
     store.words.learn(&mut seat.raw, message);
-    let time = meet_at(
-        &store.words,
-        &mut seat.raw,
-        seat.pin,
-        store.words.patience(),
-    );
+    let time = meet_at(&store.words, &mut seat.raw, seat.pin);
     seat.pin = seat.pin.wrapping_add(2);
     time
 }

@@ -3,6 +3,7 @@ use Rattle.std.proofs.Common.{◌≡◌, ℕ, ◌≤◌, List, sym, ap, refl, �
 use Rattle.clsm_model.proofs.Batches.{begins_self, begins_trans}
 use Rattle.clsm_law.specs.declared.step.Step.{Step}
 use Rattle.clsm_law.specs.declared.view.FreshLink.{FreshLink}
+use Rattle.clsm_law.specs.declared.view.Waiting.{Waiting}
 use Rattle.clsm_law.specs.declared.view.View.{View}
 use Rattle.clsm_law.specs.Relation.{view_after}
 use Rattle.clsm_words.specs.declared.known.Known.{Known}
@@ -88,15 +89,15 @@ place_trans a b c h k between = record { seat = seat_trans a b c h.seat k.seat b
 -- ---- reads
 
 -- the view but for what reading changes
-abbrev pub but_read : View → List (Option ℕ) → ℕ → Option FreshLink → ℕ → ℕ → ℕ → ℕ → ℕ → View
-but_read v heads met link low high reached past cancelled = record v { fresh_heads = heads; met = met; fresh_link = link; low = low; high = high; reached = reached; past = past; cancelled = cancelled }
+abbrev pub but_read : View → List (Option ℕ) → ℕ → Option FreshLink → ℕ → ℕ → ℕ → ℕ → ℕ → Option Waiting → View
+but_read v heads met link low high reached past cancelled waited = record v { fresh_heads = heads; met = met; fresh_link = link; low = low; high = high; reached = reached; past = past; cancelled = cancelled; waited = waited }
 
 -- a step that changes nothing else of the view, and falls back in nothing, only reads
-pub reads_by : (step : Step) (k k' : Known) (x : ℕ) (heads : List (Option ℕ)) (met : ℕ) (link : Option FreshLink) (low high reached past cancelled : ℕ) → Follows step k x k' → view_after k.layout k.number k.view step x ≡ but_read k.view heads met link low high reached past cancelled → k.view.reached ≤ reached → OnlyReads k k'
-reads_by step k k' x heads met link low high reached past cancelled follows e le =
-    let is : k'.view ≡ but_read k.view heads met link low high reached past cancelled = follows.view ∙ e in record {
+pub reads_by : (step : Step) (k k' : Known) (x : ℕ) (heads : List (Option ℕ)) (met : ℕ) (link : Option FreshLink) (low high reached past cancelled : ℕ) (waited : Option Waiting) → Follows step k x k' → view_after k.layout k.number k.view step x ≡ but_read k.view heads met link low high reached past cancelled waited → k.view.reached ≤ reached → OnlyReads k k'
+reads_by step k k' x heads met link low high reached past cancelled waited follows e le =
+    let is : k'.view ≡ but_read k.view heads met link low high reached past cancelled waited = follows.view ∙ e in record {
       seat = seat_by step k k' x follows;
-      view = subst (λ (v : View). v ≡ but_read k.view v.fresh_heads v.met v.fresh_link v.low v.high v.reached v.past v.cancelled) (sym is) refl;
+      view = subst (λ (v : View). v ≡ but_read k.view v.fresh_heads v.met v.fresh_link v.low v.high v.reached v.past v.cancelled v.waited) (sym is) refl;
       reached = let r = ap (λ (v : View). v.reached) is in omega arith;
     }
 
@@ -106,7 +107,7 @@ reads_none k = record { seat = seat_stays k; view = refl; reached = omega arith 
 pub reads_trans : (a b c : Known) → OnlyReads a b → OnlyReads b c → OnlyReads a c
 reads_trans a b c h k = record {
   seat = seat_trans a b c h.seat k.seat (λ m held held'. ap (λ (v : View). v.held) h.view ∙ held);
-  view = k.view ∙ ap (λ (v : View). but_read v c.view.fresh_heads c.view.met c.view.fresh_link c.view.low c.view.high c.view.reached c.view.past c.view.cancelled) h.view;
+  view = k.view ∙ ap (λ (v : View). but_read v c.view.fresh_heads c.view.met c.view.fresh_link c.view.low c.view.high c.view.reached c.view.past c.view.cancelled c.view.waited) h.view;
   reached = let x = h.reached in let y = k.reached in omega arith;
 }
 

@@ -37,11 +37,12 @@ pub record KeepsPlace (old new : Known) : Type 0 where
 
 -- It only read: its view is as it was, but for the heads that it looked at, the places of the
 -- ordered list that it met and found before and behind its drawn cell, its last look at a link
--- there, what it reached, how far its past goes, and how many times of others it cancelled; what it
--- reached does not fall back
+-- there, what it reached, how far its past goes, how many times of others it cancelled, and for
+-- which state it waits. What it reached does not fall back, and the count of times that it
+-- cancelled too early stays
 pub record OnlyReads (old new : Known) : Type 0 where
   pub seat : KeepsSeat old new
-  pub view : new.view ≡ record old.view { fresh_heads = new.view.fresh_heads; met = new.view.met; fresh_link = new.view.fresh_link; low = new.view.low; high = new.view.high; reached = new.view.reached; past = new.view.past; cancelled = new.view.cancelled }
+  pub view : new.view ≡ record old.view { fresh_heads = new.view.fresh_heads; met = new.view.met; fresh_link = new.view.fresh_link; low = new.view.low; high = new.view.high; reached = new.view.reached; past = new.view.past; cancelled = new.view.cancelled; waited = new.view.waited }
   pub reached : old.view.reached ≤ new.view.reached
 
 -- it read, and neither learned of a time more nor cancelled one

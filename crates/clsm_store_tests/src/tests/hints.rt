@@ -101,11 +101,11 @@ impl Alone {
 
     /// The key's value, and all pairs from the key on, are those of the map.
     fn compare(&mut self, rt: &impl Abort, alloc: Global, map: &PlainMap, key: u64) {
-        let Got { value, .. } = read(&self.words, &mut self.seat, self.pin, 0, key);
+        let Got { value, .. } = read(&self.words, &mut self.seat, self.pin, key);
         self.pin = self.pin.wrapping_add(2);
         assert_eq!(rt; value, map.get(key));
         let asked = Asked::All(key, u64::MAX);
-        let scanned = scan_at(&self.words, &mut self.seat, alloc, self.pin, 0, asked);
+        let scanned = scan_at(&self.words, &mut self.seat, alloc, self.pin, asked);
         self.pin = self.pin.wrapping_add(2);
         let (_, deed) = scanned.expect(rt, "memory");
         let expected = map.range(key, u64::MAX).expect(rt, "memory");

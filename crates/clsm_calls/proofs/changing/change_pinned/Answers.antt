@@ -21,6 +21,7 @@ loop-preserved g c = record {
   pinned = c.try_change.ensures.pinned;
   still = still_trans c.args.seat.now.knows c.loop.seat.knows c.try_change.new.seat.knows c.loop.invariant.still c.in-Lost.ensures.changes.still;
   entered = c.try_change.ensures.entered ∙ c.loop.invariant.entered;
+  patient = c.try_change.ensures.patient ∙ c.loop.invariant.patient;
   spared = gives_tried c.args.seat.now.knows c.loop.seat.knows c.try_change.new.seat.knows c.args.component c.args.key Lost
       c.loop.invariant.still c.in-Lost.ensures.changes c.loop.invariant.spared c.try_change.ensures.spared;
   more = (tt, tt);
