@@ -1,5 +1,6 @@
 -- Records before another one: those that write at its times, and those of its seat.
-use Rattle.std.proofs.Common.{◌≡◌, ◌≢◌, ℕ, ◌+◌, ◌<◌, ◌≤◌, ◌==◌, ◌^◌, zero, suc, Bool, true, false, cond, List, [], ◌∷◌, length, get_or, take, max, Option, Some, None, IfSome, MatchBool, refl, sym, ap, ◌∙◌, subst, arith, ⊎_elim}
+use Rattle.std.proofs.Common.{◌≡◌, ◌≢◌, ℕ, ◌+◌, ◌<◌, ◌≤◌, ◌==◌, ◌^◌, zero, suc, Bool, true, false, cond, List, [], ◌∷◌, length, get_or, take, max, Option}
+use Rattle.std.proofs.Common.{Some, None, IfSome, MatchBool, refl, sym, ap, ◌∙◌, subst, arith, ⊎_elim}
 use Rattle.std.proofs.lemmas.Bool.{cases_lt, eqb-true}
 use Rattle.std.proofs.lemmas.List.{length-take-le, get_or-take}
 use Rattle.std.proofs.lemmas.Option.{slice_get_past}
@@ -31,19 +32,24 @@ not_within P records i not =
 
 -- ---- the snapshot that is open
 
-pub opened_own : (records : List CallRecord) (i seat : ℕ) (r : CallRecord) (before after : Option ℕ) → i < length records → r ≡ get_or records i r → r.seat ≡ seat → before ≡ open_of (take i records) seat → after ≡ open_after before r.time r.deed → after ≡ open_of (take (i + 1) records) seat
+pub opened_own : (records : List CallRecord) (i seat : ℕ) (r : CallRecord) (before after : Option ℕ) → i < length records → r ≡ get_or records i r → r.seat
+    ≡ seat → before ≡ open_of (take i records) seat → after ≡ open_after before r.time r.deed → after ≡ open_of (take (i + 1) records) seat
 opened_own records i seat r before after within is own was now =
     now ∙ ap (λ (o : Option ℕ). open_after o r.time r.deed) (was ∙ ap (open_of (take i records)) (sym own))
-    ∙ sym (ap (λ (rs : List CallRecord). open_of rs r.seat) (sym (taken_more records i r within is)) ∙ (rw (calls_of-own (take i records) r) (last_open-append None (calls_of (take i records) r.seat) r)))
+    ∙ sym (ap (λ (rs : List CallRecord). open_of rs r.seat) (sym (taken_more records i r within is))
+    ∙ (rw (calls_of-own (take i records) r) (last_open-append None (calls_of (take i records) r.seat) r)))
     ∙ ap (open_of (take (i + 1) records)) own
 
-pub opened_other : (records : List CallRecord) (i seat : ℕ) (r : CallRecord) (before : Option ℕ) → i < length records → r ≡ get_or records i r → r.seat ≢ seat → before ≡ open_of (take i records) seat → before ≡ open_of (take (i + 1) records) seat
+pub opened_other : (records : List CallRecord) (i seat : ℕ) (r : CallRecord) (before : Option ℕ) → i < length records → r ≡ get_or records i r
+    → r.seat ≢ seat → before ≡ open_of (take i records) seat → before ≡ open_of (take (i + 1) records) seat
 opened_other records i seat r before within is other was =
-    was ∙ sym (ap (λ (rs : List CallRecord). open_of rs seat) (sym (taken_more records i r within is)) ∙ (rw (calls_of-other (take i records) r seat other) refl))
+    was ∙ sym (ap (λ (rs : List CallRecord). open_of rs seat) (sym (taken_more records i r within is))
+    ∙ (rw (calls_of-other (take i records) r seat other) refl))
 
 -- ---- two writes at one time
 
-pub both_write : (q r : CallRecord) (t : ℕ) → HasTimes q → HasTimes r → is_write q.deed ≡ true → is_write r.deed ≡ true → t ≡ max q.time r.time → t < time_past q → t < time_past r → WritesAt t q × WritesAt t r
+pub both_write : (q r : CallRecord) (t : ℕ) → HasTimes q → HasTimes r → is_write q.deed ≡ true → is_write r.deed ≡ true → t ≡ max q.time r.time
+    → t < time_past q → t < time_past r → WritesAt t q × WritesAt t r
 both_write q r t has has' is is' at lt lt' = (writes_each q t has.writes is (omega arith) lt, writes_each r t has'.writes is' (omega arith) lt')
 
 pub none_write : (q r : CallRecord) (s t : ℕ) → s ≡ max q.time r.time → (s < time_past q → s < time_past r → ⊥) → WritesAt t q → WritesAt t r → ⊥
@@ -53,12 +59,14 @@ none_write q r s t at apart writes writes' =
     apart (omega (arith, at, a.1, a.2, b.1, b.2)) (omega (arith, at, a.1, a.2, b.1, b.2))
 
 -- where no earlier record shares a time with it, the record is no second one
-pub no_second : (records : List CallRecord) (i : ℕ) (r : CallRecord) → i < length records → r ≡ get_or records i r → ((k : ℕ) → k < i → (t : ℕ) → WritesAt t (get_or records k nobody) → ¬ WritesAt t r) → IsSecondAt records i → ⊥
+pub no_second : (records : List CallRecord) (i : ℕ) (r : CallRecord) → i < length records → r ≡ get_or records i r
+    → ((k : ℕ) → k < i → (t : ℕ) → WritesAt t (get_or records k nobody) → ¬ WritesAt t r) → IsSecondAt records i → ⊥
 no_second records i r within is none second =
     let here = here_second records i r within is second in
     let earlier = here.2 in
     let inside = some_within (WritesAt here.0) records earlier.0 earlier.2 in
-    none earlier.0 earlier.1 here.0 (here_some (WritesAt here.0) records earlier.0 (get_or records earlier.0 nobody) inside (itself records earlier.0 inside) earlier.2) here.1
+    none earlier.0 earlier.1 here.0 (here_some (WritesAt here.0) records earlier.0 (get_or records earlier.0 nobody) inside
+    (itself records earlier.0 inside) earlier.2) here.1
 
 -- ---- dues
 
@@ -82,12 +90,14 @@ due_low due t s snapshot (Group members) le own = own
 abbrev AreLow : List CallRecord → ℕ → ℕ → Type 0
 AreLow records seat t = (k : ℕ) → k < length records → (get_or records k nobody).seat ≡ seat → own_due (get_or records k nobody) ≤ t
 
-last_low : (records : List CallRecord) (seat t due : ℕ) (snapshot : Option ℕ) → due ≤ t → AreLow records seat t → last_due due snapshot (calls_of records seat) ≤ t
+last_low : (records : List CallRecord) (seat t due : ℕ) (snapshot : Option ℕ) → due ≤ t → AreLow records seat t
+    → last_due due snapshot (calls_of records seat) ≤ t
 last_low [] seat t due snapshot le low = le
 last_low (r ∷ rs) seat t due snapshot le low =
     let rest : AreLow rs seat t = λ k lt own. low (suc k) (omega arith) own in
     elim (r.seat == seat) as (λ (b : Bool). (r.seat == seat) ≡ b → last_due due snapshot (cond b (r ∷ calls_of rs seat) (calls_of rs seat)) ≤ t) [
-      | true ↦ λ e. last_low rs seat t (due_after due snapshot r.time r.deed) (open_after snapshot r.time r.deed) (due_low due t r.time snapshot r.deed le (low zero (omega arith) (eqb-true r.seat seat e))) rest
+      | true ↦ λ e. last_low rs seat t (due_after due snapshot r.time r.deed) (open_after snapshot r.time r.deed)
+          (due_low due t r.time snapshot r.deed le (low zero (omega arith) (eqb-true r.seat seat e))) rest
       | false ↦ λ e. last_low rs seat t due snapshot le rest
     ] refl
 
@@ -101,7 +111,8 @@ from_low due t (Some at) (Page from hi max rows more) le = tt
 from_low due t snapshot deed le = le
 
 -- where no earlier record of its seat has a due above its time, the record did not run back
-pub not_back : (records : List CallRecord) (i : ℕ) (r : CallRecord) → i < length records → r ≡ get_or records i r → ((k : ℕ) → k < i → (get_or records k nobody).seat ≡ r.seat → own_due (get_or records k nobody) ≤ r.time) → RanBackAt records i → ⊥
+pub not_back : (records : List CallRecord) (i : ℕ) (r : CallRecord) → i < length records → r ≡ get_or records i r
+    → ((k : ℕ) → k < i → (get_or records k nobody).seat ≡ r.seat → own_due (get_or records k nobody) ≤ r.time) → RanBackAt records i → ⊥
 not_back records i r within is low back =
     back (if_here (λ q. IsFromDue (due_of (take i records) q.seat) (open_of (take i records) q.seat) q.time q.deed) records i r within is
     (from_low (due_of (take i records) r.seat) r.time (open_of (take i records) r.seat) r.deed

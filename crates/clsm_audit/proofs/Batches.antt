@@ -1,6 +1,7 @@
 -- The batches of the records: each is listed, no two overlap, and a time is inside none where it is
 -- inside none of theirs.
-use Rattle.std.proofs.Common.{◌≡◌, ℕ, ◌+◌, ◌<◌, zero, suc, true, List, [], ◌∷◌, length, get_or, Option, Some, None, IfSome, refl, inl, inr, subst, arith, ◌≤◌, ◌⊎◌}
+use Rattle.std.proofs.Common.{◌≡◌, ℕ, ◌+◌, ◌<◌, zero, suc, true, List, [], ◌∷◌, length, get_or, Option, Some, None, IfSome, refl, inl, inr, subst, arith}
+use Rattle.std.proofs.Common.{◌≤◌, ◌⊎◌}
 use Rattle.std.proofs.lemmas.Bool.{cases_lt}
 use Rattle.std.proofs.lemmas.List.Elements.{All-cons, All-nil}
 use Rattle.std.proofs.lemmas.List.Kept.{AllPairs-cons}
@@ -32,7 +33,8 @@ cons_uncut s (Some b) rest uncut = (uncut.0, uncut.1)
 
 pub uncut_from : (records : List CallRecord) (s : ℕ) → ((i : ℕ) → i < length records → IsOutside s (get_or records i nobody)) → IsUncut (batches_of records) s
 uncut_from [] s each = tt
-uncut_from (r ∷ rs) s each = uncut_cons s (batch_by r.time r.deed) (batches_of rs) (each zero (omega arith)) (uncut_from rs s (λ i lt. each (suc i) (omega arith)))
+uncut_from (r ∷ rs) s each = uncut_cons s (batch_by r.time r.deed) (batches_of rs) (each zero (omega arith))
+    (uncut_from rs s (λ i lt. each (suc i) (omega arith)))
 
 pub uncut_at : (records : List CallRecord) (s i : ℕ) → IsUncut (batches_of records) s → i < length records → IsOutside s (get_or records i nobody)
 uncut_at [] s i uncut lt = absurd (omega arith)
@@ -71,7 +73,8 @@ listed_later o rest t deed listed = tt
 pub listed_at : (records : List CallRecord) (i : ℕ) → i < length records → IsListedRecord (batches_of records) (get_or records i nobody)
 listed_at [] i lt = absurd (omega arith)
 listed_at (r ∷ rs) zero lt = listed_first (batches_of rs) r.time r.deed
-listed_at (r ∷ rs) (suc i) lt = listed_later (batch_by r.time r.deed) (batches_of rs) (get_or rs i nobody).time (get_or rs i nobody).deed (listed_at rs i (omega arith))
+listed_at (r ∷ rs) (suc i) lt = listed_later (batch_by r.time r.deed) (batches_of rs) (get_or rs i nobody).time (get_or rs i nobody).deed
+    (listed_at rs i (omega arith))
 
 -- ---- inside a record's times
 
@@ -94,7 +97,8 @@ record_outside s r not_in = outside_from s r.time r.deed not_in
 -- ---- batches that do not overlap
 
 -- two writes with no time in common are apart
-spans_apart : (q r : CallRecord) → HasWrites q.deed → HasWrites r.deed → is_write q.deed ≡ true → is_write r.deed ≡ true → ((t : ℕ) → WritesAt t q → WritesAt t r → ⊥)
+spans_apart : (q r : CallRecord) → HasWrites q.deed → HasWrites r.deed → is_write q.deed ≡ true → is_write r.deed ≡ true
+    → ((t : ℕ) → WritesAt t q → WritesAt t r → ⊥)
     → (time_past q ≤ r.time) ⊎ (time_past r ≤ q.time)
 spans_apart q r has has' is is' alone =
     let past = past_time q has in
@@ -111,25 +115,32 @@ spans_apart q r has has' is is' alone =
     ]
 
 -- what holds of a record that is a batch holds of its batch
-batch_all : (P : Batch → Type 0) (t : ℕ) (deed : Deed) → (is_write deed ≡ true → P (record { first = t; size = span_of deed })) → (rest : List Batch) → All P rest → All P (cons_option (batch_by t deed) rest)
+batch_all : (P : Batch → Type 0) (t : ℕ) (deed : Deed) → (is_write deed ≡ true → P (record { first = t; size = span_of deed })) → (rest : List Batch)
+    → All P rest → All P (cons_option (batch_by t deed) rest)
 batch_all P t (Group members) holds rest all = All-cons P (record { first = t; size = length members }) rest (holds refl) all
 batch_all P t deed holds rest all = all
 
-all_apart : (q : CallRecord) (records : List CallRecord) → HasWrites q.deed → is_write q.deed ≡ true → ((i : ℕ) → i < length records → HasWrites (get_or records i nobody).deed)
-    → ((i t : ℕ) → i < length records → WritesAt t q → WritesAt t (get_or records i nobody) → ⊥) → All (AreApart (record { first = q.time; size = span_of q.deed })) (batches_of records)
+all_apart : (q : CallRecord) (records : List CallRecord) → HasWrites q.deed → is_write q.deed ≡ true
+    → ((i : ℕ) → i < length records → HasWrites (get_or records i nobody).deed)
+    → ((i t : ℕ) → i < length records → WritesAt t q → WritesAt t (get_or records i nobody) → ⊥)
+    → All (AreApart (record { first = q.time; size = span_of q.deed })) (batches_of records)
 all_apart q [] has is have alone = All-nil (AreApart (record { first = q.time; size = span_of q.deed }))
 all_apart q (r ∷ rs) has is have alone =
-    batch_all (AreApart (record { first = q.time; size = span_of q.deed })) r.time r.deed (λ is'. spans_apart q r has (have zero (omega arith)) is is' (λ t. alone zero t (omega arith))) (batches_of rs)
+    batch_all (AreApart (record { first = q.time; size = span_of q.deed })) r.time r.deed
+    (λ is'. spans_apart q r has (have zero (omega arith)) is is' (λ t. alone zero t (omega arith))) (batches_of rs)
     (all_apart q rs has is (λ i lt. have (suc i) (omega arith)) (λ i t lt. alone (suc i) t (omega arith)))
 
-batch_pairs : (t : ℕ) (deed : Deed) (rest : List Batch) → (is_write deed ≡ true → All (AreApart (record { first = t; size = span_of deed })) rest) → AllPairs AreApart rest → AllPairs AreApart (cons_option (batch_by t deed) rest)
+batch_pairs : (t : ℕ) (deed : Deed) (rest : List Batch) → (is_write deed ≡ true → All (AreApart (record { first = t; size = span_of deed })) rest)
+    → AllPairs AreApart rest → AllPairs AreApart (cons_option (batch_by t deed) rest)
 batch_pairs t (Group members) rest apart pairs = AllPairs-cons AreApart (record { first = t; size = length members }) rest (apart refl) pairs
 batch_pairs t deed rest apart pairs = pairs
 
 -- where no two records write at one time their batches do not overlap
 pub batches_apart : (records : List CallRecord) → ((i : ℕ) → i < length records → HasWrites (get_or records i nobody).deed)
-    → ((i j t : ℕ) → i < j → j < length records → WritesAt t (get_or records i nobody) → WritesAt t (get_or records j nobody) → ⊥) → AllPairs AreApart (batches_of records)
+    → ((i j t : ℕ) → i < j → j < length records → WritesAt t (get_or records i nobody) → WritesAt t (get_or records j nobody) → ⊥)
+    → AllPairs AreApart (batches_of records)
 batches_apart [] have alone = λ i j d lt within. absurd (omega arith)
 batches_apart (r ∷ rs) have alone =
-    batch_pairs r.time r.deed (batches_of rs) (λ is. all_apart r rs (have zero (omega arith)) is (λ i lt. have (suc i) (omega arith)) (λ i t lt. alone zero (suc i) t (omega arith) (omega arith)))
+    batch_pairs r.time r.deed (batches_of rs) (λ is. all_apart r rs (have zero (omega arith)) is (λ i lt. have (suc i) (omega arith))
+    (λ i t lt. alone zero (suc i) t (omega arith) (omega arith)))
     (batches_apart rs (λ i lt. have (suc i) (omega arith)) (λ i j t lt within. alone (suc i) (suc j) t (omega arith) (omega arith)))

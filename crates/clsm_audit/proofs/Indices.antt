@@ -1,5 +1,6 @@
 -- What holds of the record at an index, and of each record up to the end.
-use Rattle.std.proofs.Common.{◌≡◌, ℕ, ◌+◌, ◌<◌, ◌≤◌, List, [], ◌∷◌, ◌++◌, length, get_or, take, drop, Option, Some, None, IfSome, refl, sym, ap, ◌∙◌, subst, ⊎_elim, arith}
+use Rattle.std.proofs.Common.{◌≡◌, ℕ, ◌+◌, ◌<◌, ◌≤◌, List, [], ◌∷◌, ◌++◌, length, get_or, take, drop, Option, Some, None, IfSome, refl, sym, ap, ◌∙◌, subst}
+use Rattle.std.proofs.Common.{⊎_elim, arith}
 use Rattle.std.proofs.lemmas.Bool.{cases_lt}
 use Rattle.std.proofs.lemmas.List.{append-nil, drop_all, get_or_default, take_all, take_more}
 use Rattle.std.proofs.lemmas.Option.{slice_get_past, slice_get_read}
@@ -17,10 +18,12 @@ pub itself : (records : List CallRecord) (i : ℕ) → i < length records → ge
 itself records i within = get_or_default records i nobody (get_or records i nobody) within
 
 -- what holds of the record at the index, and back
-pub if_here : (P : CallRecord → Type 0) (records : List CallRecord) (i : ℕ) (r : CallRecord) → i < length records → r ≡ get_or records i r → P r → IfSome (slice_get records i) P
+pub if_here : (P : CallRecord → Type 0) (records : List CallRecord) (i : ℕ) (r : CallRecord) → i < length records → r ≡ get_or records i r → P r
+    → IfSome (slice_get records i) P
 if_here P records i r within is p = subst (λ (o : Option CallRecord). IfSome o P) (sym (slice_get_read records (length records) i r refl within is)) p
 
-pub here_if : (P : CallRecord → Type 0) (records : List CallRecord) (i : ℕ) (r : CallRecord) → i < length records → r ≡ get_or records i r → IfSome (slice_get records i) P → P r
+pub here_if : (P : CallRecord → Type 0) (records : List CallRecord) (i : ℕ) (r : CallRecord) → i < length records → r ≡ get_or records i r
+    → IfSome (slice_get records i) P → P r
 here_if P records i r within is p = subst (λ (o : Option CallRecord). IfSome o P) (slice_get_read records (length records) i r refl within is) p
 
 -- from the end on there is no record
@@ -28,16 +31,19 @@ pub past_end : (P : CallRecord → Type 0) (records : List CallRecord) (i : ℕ)
 past_end P records i past = subst (λ (o : Option CallRecord). IfSome o P) (sym (slice_get_past records i past)) tt
 
 -- what holds of each record below an index that the end does not pass holds of each
-pub each_index : (P : ℕ → CallRecord → Type 0) (records : List CallRecord) (n : ℕ) → length records ≤ n → ((i : ℕ) → i < n → IfSome (slice_get records i) (P i)) → (i : ℕ) → IfSome (slice_get records i) (P i)
+pub each_index : (P : ℕ → CallRecord → Type 0) (records : List CallRecord) (n : ℕ) → length records ≤ n
+    → ((i : ℕ) → i < n → IfSome (slice_get records i) (P i)) → (i : ℕ) → IfSome (slice_get records i) (P i)
 each_index P records n all below i = ⊎_elim (λ (lt : i < n). below i lt) (λ (le : n ≤ i). past_end (P i) records i (omega arith)) (cases_lt i n)
 
 -- the records up to one, and that one
-pub taken_more : (records : List CallRecord) (i : ℕ) (r : CallRecord) → i < length records → r ≡ get_or records i r → take i records ++ r ∷ [] ≡ take (i + 1) records
+pub taken_more : (records : List CallRecord) (i : ℕ) (r : CallRecord) → i < length records → r ≡ get_or records i r → take i records ++ r ∷ []
+    ≡ take (i + 1) records
 taken_more records i r within is = ap (λ (q : CallRecord). take i records ++ q ∷ []) is ∙ sym (take_more records i r within)
 
 -- a list that was written as a whole
 pub written_whole : {A : Type 0} (n : ℕ) (new old : List A) → length new ≡ n → length old ≡ n → take n (new ++ drop (length new) old) ≡ new
-written_whole n new old long long' = ap (λ (rest : List _). take n (new ++ rest)) (drop_all (length new) old (omega arith)) ∙ ap (take n) (append-nil new) ∙ take_all n new (omega arith)
+written_whole n new old long long' = ap (λ (rest : List _). take n (new ++ rest)) (drop_all (length new) old (omega arith)) ∙ ap (take n) (append-nil new)
+    ∙ take_all n new (omega arith)
 
 -- ---- what a search says where it found no index
 

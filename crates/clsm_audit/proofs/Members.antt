@@ -8,7 +8,8 @@ use Rattle.clsm_audit.specs.Replayed.{StandFrom}
 
 -- ---- played one after another
 
-member_at : (seat : ℕ) (members : List Member) (n : ℕ) (d : Member) → n < length members → member_write seat members n ≡ change_by seat (get_or members n d).0 (get_or members n d).1
+member_at : (seat : ℕ) (members : List Member) (n : ℕ) (d : Member) → n < length members → member_write seat members n
+    ≡ change_by seat (get_or members n d).0 (get_or members n d).1
 member_at seat [] n d lt = absurd (omega arith)
 member_at seat (m ∷ ms) zero d lt = refl
 member_at seat (m ∷ ms) (suc n) d lt = member_at seat ms n d (omega arith)
@@ -22,7 +23,8 @@ module _ (seat : ℕ) (members : List Member) (n : ℕ) (m : Member) (within : n
   stands h s stand = ap (λ (q : Member). change_by seat q.0 q.1) is ∙ sym (member_at seat members n m within) ∙ stand n within
 
   -- one more that is a write
-  pub played_more : (old now new : List Pair) (slot : Slot) → change_by seat m.0 m.1 ≡ Some slot → ArePlayed seat members n old now → ((h : History) (s : ℕ) → slot_at h s ≡ slot → IsMap h s now → IsMap h (s + 1) new) → ArePlayed seat members (n + 1) old new
+  pub played_more : (old now new : List Pair) (slot : Slot) → change_by seat m.0 m.1 ≡ Some slot → ArePlayed seat members n old now
+      → ((h : History) (s : ℕ) → slot_at h s ≡ slot → IsMap h s now → IsMap h (s + 1) new) → ArePlayed seat members (n + 1) old new
   played_more old now new slot writes before follows h s stand map =
       let same : Some (slot_at h (s + n)) ≡ Some slot = sym (stands h s stand) ∙ writes in
       let next = follows h (s + n) (let e : slot_at h (s + n) ≡ slot = cc same in e) (before h s stand map) in

@@ -1,5 +1,6 @@
 -- The newest write of a key, among all records.
-use Rattle.std.proofs.Common.{◌≡◌, ◌≢◌, ℕ, ◌<◌, ◌==◌, zero, suc, Bool, true, false, cond, List, [], ◌∷◌, get_or, Option, Some, None, IfSome, IsSome, is_some, unwrap_or, refl, sym, ap, ◌∙◌, subst, arith, ⊎_elim}
+use Rattle.std.proofs.Common.{◌≡◌, ◌≢◌, ℕ, ◌<◌, ◌==◌, zero, suc, Bool, true, false, cond, List, [], ◌∷◌, get_or, Option, Some, None, IfSome, IsSome}
+use Rattle.std.proofs.Common.{is_some, unwrap_or, refl, sym, ap, ◌∙◌, subst, arith, ⊎_elim}
 use Rattle.std.proofs.lemmas.Bool.{cases_eq, eq-eqb, ne_eqb, true≢false}
 use Rattle.std.specs.List.{slice_get}
 use Rattle.std.specs.Option.{IsSomeAnd}
@@ -19,7 +20,8 @@ use Rattle.clsm_audit.proofs.Slots.{slot_at-history_of, slot_written}
 
 -- ---- in a history
 
-newest_some : (h : History) (key t s : ℕ) (w : Write) → t < s → key_write key t (slot_at h t) ≡ Some w → ((u : ℕ) → t < u → u < s → key_write key u (slot_at h u) ≡ None) → newest h key s ≡ Some w
+newest_some : (h : History) (key t s : ℕ) (w : Write) → t < s → key_write key t (slot_at h t) ≡ Some w
+    → ((u : ℕ) → t < u → u < s → key_write key u (slot_at h u) ≡ None) → newest h key s ≡ Some w
 newest_some h key t zero w lt is later = absurd (omega arith)
 newest_some h key t (suc n) w lt is later =
     ⊎_elim
@@ -31,7 +33,8 @@ newest_some h key t (suc n) w lt is later =
 
 newest_none : (h : History) (key s : ℕ) → ((u : ℕ) → u < s → key_write key u (slot_at h u) ≡ None) → newest h key s ≡ None
 newest_none h key zero none = refl
-newest_none h key (suc n) none = ap (λ (o : Option Write). or_else o (newest h key n)) (none n (omega arith)) ∙ newest_none h key n (λ u lt. none u (omega arith))
+newest_none h key (suc n) none = ap (λ (o : Option Write). or_else o (newest h key n)) (none n (omega arith))
+    ∙ newest_none h key n (λ u lt. none u (omega arith))
 
 -- ---- of one slot
 
@@ -53,18 +56,22 @@ left_key key t (Wrote seat k written) is = tested (k == key) (record { time = t;
 
 -- ---- of all records
 
-not_here : (key t : ℕ) (o : Option Slot) (rest : Slot) → (IsSomeAnd o (Fits (OfKey key)) → ⊥) → key_write key t rest ≡ None → key_write key t (unwrap_or o rest) ≡ None
+not_here : (key t : ℕ) (o : Option Slot) (rest : Slot) → (IsSomeAnd o (Fits (OfKey key)) → ⊥) → key_write key t rest ≡ None
+    → key_write key t (unwrap_or o rest) ≡ None
 not_here key t None rest other none = none
 not_here key t (Some w) rest other none = not_fits key t w other
 
-not_written : (records : List CallRecord) (key t : ℕ) → ((i : ℕ) → IfSome (slice_get records i) (λ r. ¬ MakesAt (OfKey key) t r)) → key_write key t (slot_by records t) ≡ None
+not_written : (records : List CallRecord) (key t : ℕ) → ((i : ℕ) → IfSome (slice_get records i) (λ r. ¬ MakesAt (OfKey key) t r))
+    → key_write key t (slot_by records t) ≡ None
 not_written [] key t none = refl
 not_written (r ∷ rs) key t none = not_here key t (write_of r t) (slot_by rs t) (none zero) (not_written rs key t (λ i. none (suc i)))
 
-nothing_there : (records : List CallRecord) (key t : ℕ) → ((i : ℕ) → IfSome (slice_get records i) (λ r. ¬ MakesAt (OfKey key) t r)) → key_write key t (slot_at (history_of records) t) ≡ None
+nothing_there : (records : List CallRecord) (key t : ℕ) → ((i : ℕ) → IfSome (slice_get records i) (λ r. ¬ MakesAt (OfKey key) t r))
+    → key_write key t (slot_at (history_of records) t) ≡ None
 nothing_there records key t none = ap (key_write key t) (slot_at-history_of records t) ∙ not_written records key t none
 
-pub is_newest : (records : List CallRecord) (key s : ℕ) (found : Option FoundWrite) → HasNone (IsSecondAt records) → IsLastWrite records (OfKey key) s found → IsNewest records key s found
+pub is_newest : (records : List CallRecord) (key s : ℕ) (found : Option FoundWrite) → HasNone (IsSecondAt records) → IsLastWrite records (OfKey key) s found
+    → IsNewest records key s found
 is_newest records key s None alone last = newest_none (history_of records) key s (λ u lt. nothing_there records key u (λ i. last i u lt))
 is_newest records key s (Some found) alone last =
     let i = found.index in
@@ -83,6 +90,7 @@ is_newest records key s (Some found) alone last =
     }
 
 -- what it leaves is the value of the key
-pub left_value : (records : List CallRecord) (key s : ℕ) (found : Option FoundWrite) → IsNewest records key s found → value_left found ≡ value (history_of records) key s
+pub left_value : (records : List CallRecord) (key s : ℕ) (found : Option FoundWrite) → IsNewest records key s found → value_left found
+    ≡ value (history_of records) key s
 left_value records key s None is = sym (ap left_by is)
 left_value records key s (Some found) is = sym (ap left_by is.newest_is ∙ left_key key found.time found.slot is.of_key)

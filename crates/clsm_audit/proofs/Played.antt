@@ -1,6 +1,7 @@
 -- A walk over the stamps in the order of time: the map at each turn is the map of the history below
 -- the turn's time, unless that is inside a batch.
-use Rattle.std.proofs.Common.{◌≡◌, ◌≢◌, ℕ, ◌+◌, ◌<◌, ◌≤◌, Bool, true, false, cond, List, length, get_or, Option, Some, None, IfSome, IsTrue, ◌↔◌, MatchOption, max, min, refl, sym, ap, ◌∙◌, subst, arith, ⊎_elim}
+use Rattle.std.proofs.Common.{◌≡◌, ◌≢◌, ℕ, ◌+◌, ◌<◌, ◌≤◌, Bool, true, false, cond, List, length, get_or, Option, Some, None, IfSome, IsTrue, ◌↔◌}
+use Rattle.std.proofs.Common.{MatchOption, max, min, refl, sym, ap, ◌∙◌, subst, arith, ⊎_elim}
 use Rattle.std.proofs.lemmas.Bool.{cases_Bool, cases_eq, cases_lt, true≢false}
 use Rattle.std.specs.List.{slice_get}
 use Rattle.clsm_model.specs.declared.record.CallRecord.{CallRecord}
@@ -64,7 +65,8 @@ until_write until r writes = ap (λ (b : Bool). cond b (max until (time_past r))
 until_read : (until : ℕ) (r : CallRecord) → is_write r.deed ≡ false → until_by until r ≡ until
 until_read until r reads = ap (λ (b : Bool). cond b (max until (time_past r)) until) reads
 
-module _ (records : List CallRecord) (stamps : List Stamp) (order : IsInTimeOrder records stamps) (times : HaveTimes records) (alone : HasNone (IsSecondAt records)) where
+module _ (records : List CallRecord) (stamps : List Stamp) (order : IsInTimeOrder records stamps) (times : HaveTimes records)
+    (alone : HasNone (IsSecondAt records)) where
   abbrev at : ℕ → CallRecord
   at k = turn_of records stamps k
 
@@ -78,7 +80,8 @@ module _ (records : List CallRecord) (stamps : List Stamp) (order : IsInTimeOrde
 
   -- the record of an earlier turn is not later, and if it is a write at the time of a later turn, then
   -- that turn's record is a write too
-  in_order : (j k : ℕ) → j ≤ k → k < length stamps → ((at j).time ≤ (at k).time) × ((at j).time ≡ (at k).time → is_write (at j).deed ≡ true → is_write (at k).deed ≡ true)
+  in_order : (j k : ℕ) → j ≤ k → k < length stamps → ((at j).time ≤ (at k).time)
+      × ((at j).time ≡ (at k).time → is_write (at j).deed ≡ true → is_write (at k).deed ≡ true)
   in_order j k le within =
       let first = (stamp_in records stamps order j nowhere (omega arith)).1 in
       let second = (stamp_in records stamps order k nowhere within).1 in
@@ -86,7 +89,8 @@ module _ (records : List CallRecord) (stamps : List Stamp) (order : IsInTimeOrde
       let u = ap (λ (x : Stamp). x.time) second in
       let a = ap (λ (x : Stamp). x.is_write) first in
       let b = ap (λ (x : Stamp). x.is_write) second in
-      let rise = first_or_same (get_or stamps j nowhere).time (get_or stamps k nowhere).time (get_or stamps j nowhere).is_write (get_or stamps k nowhere).is_write (stamps_rise records stamps order j k nowhere le within) in
+      let rise = first_or_same (get_or stamps j nowhere).time (get_or stamps k nowhere).time (get_or stamps j nowhere).is_write
+      (get_or stamps k nowhere).is_write (stamps_rise records stamps order j k nowhere le within) in
       (omega (arith, rise.0), λ same writes. sym b ∙ rise.1 (t ∙ same ∙ sym u) (a ∙ writes))
 
   -- ---- two writes
@@ -101,7 +105,8 @@ module _ (records : List CallRecord) (stamps : List Stamp) (order : IsInTimeOrde
       ⊎_elim
       (λ (up : i < i'). two_writes records alone i i' t (at j) (at k) up inside inside' (itself records i inside) (itself records i' inside') writes writes')
       (λ (le : i' ≤ i). ⊎_elim
-      (λ (down : i' < i). two_writes records alone i' i t (at k) (at j) down inside' inside (itself records i' inside') (itself records i inside) writes' writes)
+      (λ (down : i' < i). two_writes records alone i' i t (at k) (at j) down inside' inside (itself records i' inside')
+      (itself records i inside) writes' writes)
       (λ (ge : i ≤ i'). stamps_apart records stamps order j k nowhere lt within (omega arith))
       (cases_lt i' i))
       (cases_lt i i')
@@ -113,7 +118,8 @@ module _ (records : List CallRecord) (stamps : List Stamp) (order : IsInTimeOrde
   later_here j within k le inside writes = (in_order j k le inside).0
 
   -- an earlier write that ends above the time of a turn is a batch, and the time is inside it
-  ends_inside : (j : ℕ) → j < length stamps → EndsAbove records stamps j (at j).time → (k : ℕ) × (k < length stamps) × ((at k).time < (at j).time) × ((at j).time < time_past (at k))
+  ends_inside : (j : ℕ) → j < length stamps → EndsAbove records stamps j (at j).time → (k : ℕ) × (k < length stamps) × ((at k).time < (at j).time)
+      × ((at j).time < time_past (at k))
   ends_inside j within above =
       let k = above.turn in
       let inside = above.inside in
@@ -133,20 +139,23 @@ module _ (records : List CallRecord) (stamps : List Stamp) (order : IsInTimeOrde
       )
 
   -- at a write no earlier write ends above its time
-  until_at_write : (j until : ℕ) (pairs : List Pair) → j < length stamps → is_write (at j).deed ≡ true → IsPlayed records stamps j until pairs → until ≤ (at j).time
+  until_at_write : (j until : ℕ) (pairs : List Pair) → j < length stamps → is_write (at j).deed ≡ true → IsPlayed records stamps j until pairs
+      → until ≤ (at j).time
   until_at_write j until pairs within writes played =
       ⊎_elim
       (λ (lt : (at j).time < until).
       let above = played.reached (at j).time lt in
       let inside = ends_inside j within above in
       absurd (apart above.turn j (at j).time above.before within
-      (writes_each (at above.turn) (at j).time (has_times above.turn above.inside).writes above.writes (in_order above.turn j (let lt = above.before in omega arith) within).0 above.above)
+      (writes_each (at above.turn) (at j).time (has_times above.turn above.inside).writes above.writes
+      (in_order above.turn j (let lt = above.before in omega arith) within).0 above.above)
       (writes_each (at j) (at j).time (has_times j within).writes writes (omega arith) (past_time (at j) (has_times j within).writes))))
       (λ (le : until ≤ (at j).time). le)
       (cases_lt (at j).time until)
 
   -- the time of a turn is inside no batch where no earlier write ends above it
-  uncut_here : (j until : ℕ) (pairs : List Pair) → j < length stamps → IsPlayed records stamps j until pairs → until ≤ (at j).time → IsUncut (history_of records).batches (at j).time
+  uncut_here : (j until : ℕ) (pairs : List Pair) → j < length stamps → IsPlayed records stamps j until pairs → until ≤ (at j).time
+      → IsUncut (history_of records).batches (at j).time
   uncut_here j until pairs within played le = uncut_from records (at j).time (λ i inside.
       record_outside (at j).time (get_or records i nobody) (λ writes low high.
       let found = stamp_for records stamps order i nowhere inside in
@@ -159,7 +168,8 @@ module _ (records : List CallRecord) (stamps : List Stamp) (order : IsInTimeOrde
       (λ (from : j ≤ k). let rise = (in_order j k from found.1).0 in omega arith)
       (cases_lt k j)))
 
-  here_uncut : (j until : ℕ) (pairs : List Pair) → j < length stamps → IsPlayed records stamps j until pairs → IsUncut (history_of records).batches (at j).time → until ≤ (at j).time
+  here_uncut : (j until : ℕ) (pairs : List Pair) → j < length stamps → IsPlayed records stamps j until pairs
+      → IsUncut (history_of records).batches (at j).time → until ≤ (at j).time
   here_uncut j until pairs within played uncut =
       ⊎_elim
       (λ (lt : (at j).time < until).
@@ -170,7 +180,8 @@ module _ (records : List CallRecord) (stamps : List Stamp) (order : IsInTimeOrde
       (cases_lt (at j).time until)
 
   -- so the replay has come there
-  pub comes_to : (j until : ℕ) (pairs : List Pair) → j < length stamps → IsPlayed records stamps j until pairs → HasComeTo (history_of records) (at j).time until pairs
+  pub comes_to : (j until : ℕ) (pairs : List Pair) → j < length stamps → IsPlayed records stamps j until pairs
+      → HasComeTo (history_of records) (at j).time until pairs
   comes_to j until pairs within played = record {
     reached = time_within records (get_or stamps j nowhere).index (index_in j within);
     uncut = (here_uncut j until pairs within played, uncut_here j until pairs within played);
@@ -180,12 +191,14 @@ module _ (records : List CallRecord) (stamps : List Stamp) (order : IsInTimeOrde
   -- ---- times with no write
 
   -- where no turn's record writes at the time, the history has nothing there
-  nothing_at : (t : ℕ) → ((k : ℕ) → k < length stamps → is_write (at k).deed ≡ true → (at k).time ≤ t → t < time_past (at k) → ⊥) → slot_at (history_of records) t ≡ Nothing
+  nothing_at : (t : ℕ) → ((k : ℕ) → k < length stamps → is_write (at k).deed ≡ true → (at k).time ≤ t → t < time_past (at k) → ⊥)
+      → slot_at (history_of records) t ≡ Nothing
   nothing_at t none = slot_at-none records t (λ i writes.
       let inside = some_within (WritesAt t) records i writes in
       let found = stamp_for records stamps order i nowhere inside in
       let is : get_or records i nobody ≡ at found.0 = ap (λ (n : ℕ). get_or records n nobody) (sym found.2) in
-      let here = writes_within (at found.0) t (subst (WritesAt t) is (here_some (WritesAt t) records i (get_or records i nobody) inside (itself records i inside) writes)) in
+      let here = writes_within (at found.0) t
+      (subst (WritesAt t) is (here_some (WritesAt t) records i (get_or records i nobody) inside (itself records i inside) writes)) in
       none found.0 found.1 here.0 here.1 here.2)
 
   -- ---- the walk
@@ -200,13 +213,20 @@ module _ (records : List CallRecord) (stamps : List Stamp) (order : IsInTimeOrde
   }
 
   -- a turn that does not write
-  played_read : (j until : ℕ) (pairs : List Pair) → j < length stamps → is_write (at j).deed ≡ false → IsPlayed records stamps j until pairs → IsPlayed records stamps (j + 1) until pairs
+  played_read : (j until : ℕ) (pairs : List Pair) → j < length stamps → is_write (at j).deed ≡ false → IsPlayed records stamps j until pairs
+      → IsPlayed records stamps (j + 1) until pairs
   played_read j until pairs within reads played = record {
     ends = λ k lt inside writes. ⊎_elim
         (λ (here : k ≡ j). absurd (not_here k here writes))
         (λ (ne : k ≢ j). played.ends k (omega arith) inside writes)
         (cases_eq k j);
-    reached = λ t lt. let above = played.reached t lt in record { turn = above.turn; before = let b = above.before in omega arith; inside = above.inside; writes = above.writes; above = above.above };
+    reached = λ t lt. let above = played.reached t lt in record {
+      turn = above.turn;
+      before = let b = above.before in omega arith;
+      inside = above.inside;
+      writes = above.writes;
+      above = above.above;
+    };
     map = λ s le later. played.map s le (λ k from inside writes. ⊎_elim
         (λ (here : k ≡ j). absurd (not_here k here writes))
         (λ (ne : k ≢ j). later k (omega arith) inside writes)
@@ -217,7 +237,8 @@ module _ (records : List CallRecord) (stamps : List Stamp) (order : IsInTimeOrde
       not_here k here writes = true≢false (sym writes ∙ ap (λ (n : ℕ). is_write (at n).deed) here ∙ reads)
 
   -- a turn that writes
-  played_write : (j until until' : ℕ) (old new : List Pair) → j < length stamps → is_write (at j).deed ≡ true → until' ≡ max until (time_past (at j)) → IsMap (history_of records) (time_past (at j)) new → IsPlayed records stamps j until old → IsPlayed records stamps (j + 1) until' new
+  played_write : (j until until' : ℕ) (old new : List Pair) → j < length stamps → is_write (at j).deed ≡ true → until' ≡ max until (time_past (at j))
+      → IsMap (history_of records) (time_past (at j)) new → IsPlayed records stamps j until old → IsPlayed records stamps (j + 1) until' new
   played_write j until until' old new within writes is now played =
       let before = until_at_write j until old within writes played in
       let past = past_time (at j) (has_times j within).writes in
@@ -243,11 +264,13 @@ module _ (records : List CallRecord) (stamps : List Stamp) (order : IsInTimeOrde
       slot_written records alone (get_or stamps j nowhere).index t w (index_in j within) is)
 
   -- a turn, as it is played
-  pub played_next : (j until until' : ℕ) (old new : List Pair) → j < length stamps → IsPlayed records stamps j until old → Plays (at j) until until' old new → IsPlayed records stamps (j + 1) until' new
+  pub played_next : (j until until' : ℕ) (old new : List Pair) → j < length stamps → IsPlayed records stamps j until old → Plays (at j) until until' old new
+      → IsPlayed records stamps (j + 1) until' new
   played_next j until until' old new within played plays = ⊎_elim
       (λ (writes : is_write (at j).deed ≡ true).
       played_write j until until' old new within writes (plays.until_is ∙ until_write until (at j) writes)
-      (plays.write (history_of records) (stands_here j within writes) (played.map (at j).time (until_at_write j until old within writes played) (later_here j within))) played)
+      (plays.write (history_of records) (stands_here j within writes) (played.map (at j).time (until_at_write j until old within writes played)
+      (later_here j within))) played)
       (λ (reads : is_write (at j).deed ≡ false).
       subst (λ (n : ℕ). IsPlayed records stamps (j + 1) n new) (sym (plays.until_is ∙ until_read until (at j) reads))
       (subst (IsPlayed records stamps (j + 1) until) (sym (plays.read reads)) (played_read j until old within reads played)))
@@ -255,7 +278,8 @@ module _ (records : List CallRecord) (stamps : List Stamp) (order : IsInTimeOrde
 
   -- and what is right at it
   pub right_here : (j until : ℕ) (pairs : List Pair) (right : Bool) → j < length stamps → IsPlayed records stamps j until pairs
-      → ((h : History) → HasComeTo h (at j).time until pairs → IsTrue right ↔ IsRightRecord h (at j)) → IsTrue right ↔ IsRightAt records (get_or stamps j nowhere).index
+      → ((h : History) → HasComeTo h (at j).time until pairs → IsTrue right ↔ IsRightRecord h (at j))
+      → IsTrue right ↔ IsRightAt records (get_or stamps j nowhere).index
   right_here j until pairs right within played tested =
       let i = (get_or stamps j nowhere).index in
       let inside = index_in j within in
@@ -272,7 +296,8 @@ module _ (records : List CallRecord) (stamps : List Stamp) (order : IsInTimeOrde
       let inside = index_in j within in
       let come = comes_to j until pairs within played in
       subst (λ (n : ℕ). IfSome (slice_get records n) (λ r. IsUncut (batches_of records) r.time → IsMap (history_of records) r.time pairs)) is
-      (if_here (λ r. IsUncut (batches_of records) r.time → IsMap (history_of records) r.time pairs) records i (at j) inside (itself records i inside) (λ uncut. come.map (come.uncut.0 uncut)))
+      (if_here (λ r. IsUncut (batches_of records) r.time → IsMap (history_of records) r.time pairs) records i (at j) inside (itself records i inside)
+      (λ uncut. come.map (come.uncut.0 uncut)))
 
 -- ---- what was found before a turn
 
@@ -281,7 +306,8 @@ pub record IsFoundBefore (records : List CallRecord) (stamps : List Stamp) (j : 
   pub wrong : IfSome found (λ i. ¬ IsRightAt records i)
   pub right : (k : ℕ) → k < j → IfSome found (λ first. (get_or stamps k nowhere).index < first) → IsRightAt records (get_or stamps k nowhere).index
 
-pub found_right : (records : List CallRecord) (stamps : List Stamp) (j : ℕ) (found : Option ℕ) → IsRightAt records (get_or stamps j nowhere).index → IsFoundBefore records stamps j found → IsFoundBefore records stamps (j + 1) found
+pub found_right : (records : List CallRecord) (stamps : List Stamp) (j : ℕ) (found : Option ℕ) → IsRightAt records (get_or stamps j nowhere).index
+    → IsFoundBefore records stamps j found → IsFoundBefore records stamps (j + 1) found
 found_right records stamps j found right before = record {
   wrong = before.wrong;
   right = λ k lt below.
@@ -292,7 +318,8 @@ found_right records stamps j found right before = record {
 }
 
 -- the lower one of two indices is at most each, and is one of them
-lower_wrong : (records : List CallRecord) (i lowest : ℕ) (found : Option ℕ) → MatchOption found (lowest ≡ i) (λ first. lowest ≡ min first i) → IfSome found (λ f. ¬ IsRightAt records f) → ¬ IsRightAt records i → ¬ IsRightAt records lowest
+lower_wrong : (records : List CallRecord) (i lowest : ℕ) (found : Option ℕ) → MatchOption found (lowest ≡ i) (λ first. lowest ≡ min first i)
+    → IfSome found (λ f. ¬ IsRightAt records f) → ¬ IsRightAt records i → ¬ IsRightAt records lowest
 lower_wrong records i lowest None is wrong here = subst (λ (n : ℕ). ¬ IsRightAt records n) (sym is) here
 lower_wrong records i lowest (Some first) is wrong here =
     ⊎_elim
@@ -300,23 +327,27 @@ lower_wrong records i lowest (Some first) is wrong here =
     (λ (le : i ≤ first). subst (λ (n : ℕ). ¬ IsRightAt records n) (let e : i ≡ lowest = omega arith in e) here)
     (cases_lt first i)
 
-lower_below : (i lowest k : ℕ) (found : Option ℕ) → MatchOption found (lowest ≡ i) (λ first. lowest ≡ min first i) → k < lowest → IfSome found (λ first. k < first) × (k < i)
+lower_below : (i lowest k : ℕ) (found : Option ℕ) → MatchOption found (lowest ≡ i) (λ first. lowest ≡ min first i) → k < lowest
+    → IfSome found (λ first. k < first) × (k < i)
 lower_below i lowest k None is lt = (tt, omega arith)
 lower_below i lowest k (Some first) is lt = (omega arith, omega arith)
 
-pub found_wrong : (records : List CallRecord) (stamps : List Stamp) (j lowest : ℕ) (found : Option ℕ) → ¬ IsRightAt records (get_or stamps j nowhere).index → MatchOption found (lowest ≡ (get_or stamps j nowhere).index) (λ first. lowest ≡ min first (get_or stamps j nowhere).index)
+pub found_wrong : (records : List CallRecord) (stamps : List Stamp) (j lowest : ℕ) (found : Option ℕ) → ¬ IsRightAt records (get_or stamps j nowhere).index
+    → MatchOption found (lowest ≡ (get_or stamps j nowhere).index) (λ first. lowest ≡ min first (get_or stamps j nowhere).index)
     → IsFoundBefore records stamps j found → IsFoundBefore records stamps (j + 1) (Some lowest)
 found_wrong records stamps j lowest found here is before = record {
   wrong = lower_wrong records (get_or stamps j nowhere).index lowest found is before.wrong here;
   right = λ k lt below.
       ⊎_elim
-      (λ (at : k ≡ j). let same = ap (λ (n : ℕ). (get_or stamps n nowhere).index) at in let above = (lower_below (get_or stamps j nowhere).index lowest (get_or stamps k nowhere).index found is below).1 in absurd (omega arith))
+      (λ (at : k ≡ j). let same = ap (λ (n : ℕ). (get_or stamps n nowhere).index) at in
+      let above = (lower_below (get_or stamps j nowhere).index lowest (get_or stamps k nowhere).index found is below).1 in absurd (omega arith))
       (λ (ne : k ≢ j). before.right k (omega arith) (lower_below (get_or stamps j nowhere).index lowest (get_or stamps k nowhere).index found is below).0)
       (cases_eq k j);
 }
 
 -- after the last turn each record was seen
-pub found_all : (records : List CallRecord) (stamps : List Stamp) (n : ℕ) (found : Option ℕ) → IsInTimeOrder records stamps → length stamps ≤ n → IsFoundBefore records stamps n found → IsFirstNot (IsRightAt records) found
+pub found_all : (records : List CallRecord) (stamps : List Stamp) (n : ℕ) (found : Option ℕ) → IsInTimeOrder records stamps → length stamps ≤ n
+    → IsFoundBefore records stamps n found → IsFirstNot (IsRightAt records) found
 found_all records stamps n found order all before = record {
   fails = before.wrong;
   below = λ i lower. ⊎_elim

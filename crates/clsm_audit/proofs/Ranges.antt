@@ -22,7 +22,8 @@ first_not_below : {Q : Type 0} (x y : Pair) (xs ys : List Pair) → KeysRise (y 
 first_not_below x y xs ys rise same lt = let clash : Some x.1 ≡ None = sym (value_at-here x xs) ∙ same ∙ none_before y ys x.0 rise lt in cc clash
 
 -- behind first pairs with one key the values are the same too
-same_behind : (x y : Pair) (xs ys : List Pair) → KeysRise (x ∷ xs) → KeysRise (y ∷ ys) → ((k : ℕ) → value_at (x ∷ xs) k ≡ value_at (y ∷ ys) k) → x.0 ≡ y.0 → (k : ℕ) → value_at xs k ≡ value_at ys k
+same_behind : (x y : Pair) (xs ys : List Pair) → KeysRise (x ∷ xs) → KeysRise (y ∷ ys) → ((k : ℕ) → value_at (x ∷ xs) k ≡ value_at (y ∷ ys) k) → x.0 ≡ y.0
+    → (k : ℕ) → value_at xs k ≡ value_at ys k
 same_behind x y xs ys rise rise' same e k =
     ⊎_elim
     (λ (here : k ≡ x.0). none_above x.0 k xs (omega arith) (rise_first x xs rise) ∙ sym (none_above y.0 k ys (omega arith) (rise_first y ys rise')))
@@ -46,7 +47,8 @@ same_pairs (x ∷ xs) (y ∷ ys) rise rise' same =
     (λ (lt : y.0 < x.0). first_not_below y x ys xs rise (sym (same y.0)) lt)
     (λ (ge : x.0 ≤ y.0).
     let e : x.0 ≡ y.0 = omega arith in
-    let rest = same_pairs xs ys (sorted_tail nat_cmp x.0 (keys_of xs) rise) (sorted_tail nat_cmp y.0 (keys_of ys) rise') (same_behind x y xs ys rise rise' same e) in
+    let rest = same_pairs xs ys (sorted_tail nat_cmp x.0 (keys_of xs) rise) (sorted_tail nat_cmp y.0 (keys_of ys) rise')
+    (same_behind x y xs ys rise rise' same e) in
     same_pairs_with x y xs ys e (same_words x y xs ys (same x.0) e) rest)
     (cases_lt y.0 x.0))
     (cases_lt x.0 y.0)

@@ -1,5 +1,6 @@
 -- Searches for the last write of a kind: in one record, and in all of them.
-use Rattle.std.proofs.Common.{◌≡◌, ℕ, ◌+◌, ◌<◌, ◌≤◌, zero, suc, List, [], ◌∷◌, length, get_or, Option, Some, None, IfSome, IsSome, MatchOption, refl, sym, ap, subst, arith, ⊎_elim}
+use Rattle.std.proofs.Common.{◌≡◌, ℕ, ◌+◌, ◌<◌, ◌≤◌, zero, suc, List, [], ◌∷◌, length, get_or, Option, Some, None, IfSome, IsSome, MatchOption, refl, sym}
+use Rattle.std.proofs.Common.{ap, subst, arith, ⊎_elim}
 use Rattle.std.proofs.lemmas.Bool.{cases_lt}
 use Rattle.std.specs.List.{slice_get}
 use Rattle.std.specs.Option.{IsSomeAnd}
@@ -16,7 +17,8 @@ use Rattle.clsm_audit.proofs.Times.{writes_within}
 
 -- ---- the members of a batch
 
-pub member_there : (seat : ℕ) (members : List Member) (n : ℕ) (m : Member) → n < length members → m ≡ get_or members n m → member_write seat members n ≡ change_by seat m.0 m.1
+pub member_there : (seat : ℕ) (members : List Member) (n : ℕ) (m : Member) → n < length members → m ≡ get_or members n m → member_write seat members n
+    ≡ change_by seat m.0 m.1
 member_there seat [] n m lt is = absurd (omega arith)
 member_there seat (x ∷ xs) zero m lt is = ap (λ (y : Member). change_by seat y.0 y.1) (sym is)
 member_there seat (x ∷ xs) (suc n) m lt is = member_there seat xs n m (omega arith) is
@@ -42,8 +44,10 @@ pub none_past : (wanted : Wanted) (r : CallRecord) (t : ℕ) → time_past r ≤
 none_past wanted r t le makes = let is = writes_within r t (makes_writes wanted t r makes) in omega (arith, is.2)
 
 -- what was found below a time is what is found below a later one, where there is none between
-pub found_until : (wanted : Wanted) (index : ℕ) (r : CallRecord) (from u v : ℕ) (last : Option FoundWrite) → u ≤ v → ((t : ℕ) → u ≤ t → t < v → ¬ MakesAt wanted t r)
-    → MatchOption last (HasNoneIn wanted r from u) (IsLastIn wanted index r from u) → MatchOption last (HasNoneIn wanted r from v) (IsLastIn wanted index r from v)
+pub found_until : (wanted : Wanted) (index : ℕ) (r : CallRecord) (from u v : ℕ) (last : Option FoundWrite) → u ≤ v
+    → ((t : ℕ) → u ≤ t → t < v → ¬ MakesAt wanted t r)
+    → MatchOption last (HasNoneIn wanted r from u) (IsLastIn wanted index r from u)
+    → MatchOption last (HasNoneIn wanted r from v) (IsLastIn wanted index r from v)
 found_until wanted index r from u v None le none before = λ t low high. ⊎_elim (λ (lt : t < u). before t low lt) (λ (ge : u ≤ t). none t ge high) (cases_lt t u)
 found_until wanted index r from u v (Some found) le none before = record {
   index_is = before.index_is;
@@ -53,7 +57,8 @@ found_until wanted index r from u v (Some found) le none before = record {
   last = λ t low high. ⊎_elim (λ (lt : t < u). before.last t low lt) (λ (ge : u ≤ t). none t ge high) (cases_lt t u);
 }
 
-pub found_next : (wanted : Wanted) (index : ℕ) (r : CallRecord) (from n v : ℕ) (slot : Slot) → from ≤ n → v ≡ n + 1 → IsMadeAt wanted n r (Some slot) → IsLastIn wanted index r from v (record { index = index; time = n; slot = slot })
+pub found_next : (wanted : Wanted) (index : ℕ) (r : CallRecord) (from n v : ℕ) (slot : Slot) → from ≤ n → v ≡ n + 1 → IsMadeAt wanted n r (Some slot)
+    → IsLastIn wanted index r from v (record { index = index; time = n; slot = slot })
 found_next wanted index r from n v slot le is made = record {
   index_is = refl;
   not_before = le;
@@ -78,30 +83,38 @@ abbrev pub IsSearched : List CallRecord → Wanted → ℕ → ℕ → ℕ → O
 IsSearched records wanted n below from None = (from ≡ 0) × ((i t : ℕ) → i < n → t < below → IfSome (slice_get records i) (λ r. ¬ MakesAt wanted t r))
 IsSearched records wanted n below from (Some found) = (from ≡ found.time) × IsLastBefore records wanted n below found
 
-quiet : (records : List CallRecord) (wanted : Wanted) (n below from : ℕ) (last : Option FoundWrite) → IsSearched records wanted n below from last → HasNoneBefore records wanted n from below
+quiet : (records : List CallRecord) (wanted : Wanted) (n below from : ℕ) (last : Option FoundWrite) → IsSearched records wanted n below from last
+    → HasNoneBefore records wanted n from below
 quiet records wanted n below from None before i t lt low high = before.1 i t lt high
 quiet records wanted n below from (Some found) before i t lt low high = before.1.last i t lt (let e = before.0 in omega arith) high
 
 module _ (records : List CallRecord) (wanted : Wanted) (n below : ℕ) (r : CallRecord) (within : n < length records) (is : r ≡ get_or records n r) where
   -- of the records before the next index
-  next_index : (t : ℕ) → ((i : ℕ) → i < n → IfSome (slice_get records i) (λ q. ¬ MakesAt wanted t q)) → ¬ MakesAt wanted t r → (i : ℕ) → i < n + 1 → IfSome (slice_get records i) (λ q. ¬ MakesAt wanted t q)
+  next_index : (t : ℕ) → ((i : ℕ) → i < n → IfSome (slice_get records i) (λ q. ¬ MakesAt wanted t q)) → ¬ MakesAt wanted t r → (i : ℕ) → i < n + 1
+      → IfSome (slice_get records i) (λ q. ¬ MakesAt wanted t q)
   next_index t earlier here i lt = ⊎_elim
       (λ (lt' : i < n). earlier i lt')
-      (λ (ge : n ≤ i). subst (λ (j : ℕ). IfSome (slice_get records j) (λ q. ¬ MakesAt wanted t q)) (let e : n ≡ i = omega arith in e) (if_here (λ q. ¬ MakesAt wanted t q) records n r within is here))
+      (λ (ge : n ≤ i). subst (λ (j : ℕ). IfSome (slice_get records j) (λ q. ¬ MakesAt wanted t q)) (let e : n ≡ i = omega arith in e)
+      (if_here (λ q. ¬ MakesAt wanted t q) records n r within is here))
       (cases_lt i n)
 
-  pub searched_found : (from : ℕ) (last : Option FoundWrite) (found : FoundWrite) → IsSearched records wanted n below from last → IsLastIn wanted n r from below found → IsSearched records wanted (n + 1) below found.time (Some found)
+  pub searched_found : (from : ℕ) (last : Option FoundWrite) (found : FoundWrite) → IsSearched records wanted n below from last
+      → IsLastIn wanted n r from below found → IsSearched records wanted (n + 1) below found.time (Some found)
   searched_found from last found before here = (
     refl,
     record {
       before = here.before;
-      made = subst (λ (i : ℕ). IsSomeAnd (slice_get records i) (IsMade wanted found)) (sym here.index_is) (some_here (IsMade wanted found) records n r within is here.made);
-      last = λ i t lt low high. next_index t (λ j lt'. quiet records wanted n below from last before j t lt' (let le = here.not_before in omega arith) high) (here.last t low high) i lt;
+      made = subst (λ (i : ℕ). IsSomeAnd (slice_get records i) (IsMade wanted found)) (sym here.index_is)
+          (some_here (IsMade wanted found) records n r within is here.made);
+      last = λ i t lt low high. next_index t (λ j lt'. quiet records wanted n below from last before j t lt' (let le = here.not_before in omega arith) high)
+          (here.last t low high) i lt;
     },
   )
 
-  pub searched_none : (from : ℕ) (last : Option FoundWrite) → IsSearched records wanted n below from last → HasNoneIn wanted r from below → IsSearched records wanted (n + 1) below from last
-  searched_none from None before here = (before.0, λ i t lt high. next_index t (λ j lt'. before.1 j t lt' high) (here t (let e = before.0 in omega arith) high) i lt)
+  pub searched_none : (from : ℕ) (last : Option FoundWrite) → IsSearched records wanted n below from last → HasNoneIn wanted r from below
+      → IsSearched records wanted (n + 1) below from last
+  searched_none from None before here =
+      (before.0, λ i t lt high. next_index t (λ j lt'. before.1 j t lt' high) (here t (let e = before.0 in omega arith) high) i lt)
   searched_none from (Some found) before here = (
     before.0,
     record {
@@ -111,7 +124,8 @@ module _ (records : List CallRecord) (wanted : Wanted) (n below : ℕ) (r : Call
     },
   )
 
-pub searched_all : (records : List CallRecord) (wanted : Wanted) (n below from : ℕ) (last : Option FoundWrite) → length records ≤ n → IsSearched records wanted n below from last → IsLastWrite records wanted below last
+pub searched_all : (records : List CallRecord) (wanted : Wanted) (n below from : ℕ) (last : Option FoundWrite) → length records ≤ n
+    → IsSearched records wanted n below from last → IsLastWrite records wanted below last
 searched_all records wanted n below from None all before = λ i t high. ⊎_elim
     (λ (lt : i < n). before.1 i t lt high)
     (λ (ge : n ≤ i). past_end (λ q. ¬ MakesAt wanted t q) records i (omega arith))

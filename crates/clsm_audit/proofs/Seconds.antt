@@ -1,5 +1,6 @@
 -- The times that are written before an index, with one record more.
-use Rattle.std.proofs.Common.{◌≡◌, ◌≢◌, ◌↔◌, ℕ, ◌+◌, ◌<◌, ◌≤◌, ◌==◌, Bool, true, false, cond, not, IsTrue, List, length, get_or, Option, refl, sym, ap, ◌∙◌, subst, arith, ◌⊎◌, inl, inr, ⊎_elim}
+use Rattle.std.proofs.Common.{◌≡◌, ◌≢◌, ◌↔◌, ℕ, ◌+◌, ◌<◌, ◌≤◌, ◌==◌, Bool, true, false, cond, not, IsTrue, List, length, get_or, Option, refl, sym, ap, ◌∙◌}
+use Rattle.std.proofs.Common.{subst, arith, ◌⊎◌, inl, inr, ⊎_elim}
 use Rattle.std.proofs.lemmas.Bool.{cases_eq, cases_lt, eq-eqb, ne_eqb, true≢false}
 use Rattle.std.proofs.lemmas.Option.{slice_get_past, slice_get_read}
 use Rattle.std.specs.List.{slice_get}
@@ -14,10 +15,12 @@ use Rattle.clsm_audit.proofs.Times.{writes_each, writes_within}
 
 -- ---- a record at an index, and what holds of it
 
-pub some_here : (P : CallRecord → Type 0) (records : List CallRecord) (i : ℕ) (r : CallRecord) → i < length records → r ≡ get_or records i r → P r → IsSomeAnd (slice_get records i) P
+pub some_here : (P : CallRecord → Type 0) (records : List CallRecord) (i : ℕ) (r : CallRecord) → i < length records → r ≡ get_or records i r → P r
+    → IsSomeAnd (slice_get records i) P
 some_here P records i r within is p = subst (λ (o : Option CallRecord). IsSomeAnd o P) (sym (slice_get_read records (length records) i r refl within is)) p
 
-pub here_some : (P : CallRecord → Type 0) (records : List CallRecord) (i : ℕ) (r : CallRecord) → i < length records → r ≡ get_or records i r → IsSomeAnd (slice_get records i) P → P r
+pub here_some : (P : CallRecord → Type 0) (records : List CallRecord) (i : ℕ) (r : CallRecord) → i < length records → r ≡ get_or records i r
+    → IsSomeAnd (slice_get records i) P → P r
 here_some P records i r within is p = subst (λ (o : Option CallRecord). IsSomeAnd o P) (slice_get_read records (length records) i r refl within is) p
 
 -- an index at which something holds is below the end
@@ -34,31 +37,39 @@ written_later : (records : List CallRecord) (i : ℕ) (t : ℕ) → IsWrittenBef
 written_later records i t h = (h.0, omega (arith, h.1), h.2)
 
 -- the last of the records wrote at the time, or an earlier one
-written_cases : {Q : Type 0} (records : List CallRecord) (i : ℕ) (r : CallRecord) (t : ℕ) → i < length records → r ≡ get_or records i r → (IsWrittenBefore records i t → Q) → (WritesAt t r → Q) → IsWrittenBefore records (i + 1) t → Q
+written_cases : {Q : Type 0} (records : List CallRecord) (i : ℕ) (r : CallRecord) (t : ℕ) → i < length records → r ≡ get_or records i r
+    → (IsWrittenBefore records i t → Q) → (WritesAt t r → Q) → IsWrittenBefore records (i + 1) t → Q
 written_cases records i r t within is earlier last h =
     ⊎_elim
     (λ (lt : h.0 < i). earlier (h.0, lt, h.2))
-    (λ (le : i ≤ h.0). last (here_some (WritesAt t) records i r within is (subst (λ (n : ℕ). IsSomeAnd (slice_get records n) (WritesAt t)) (omega (arith, h.1)) h.2)))
+    (λ (le : i ≤ h.0). last (here_some (WritesAt t) records i r within is
+    (subst (λ (n : ℕ). IsSomeAnd (slice_get records n) (WritesAt t)) (omega (arith, h.1)) h.2)))
     (cases_lt h.0 i)
 
 -- the times with those of one record more
-pub written_also : (records : List CallRecord) (i : ℕ) (r : CallRecord) (before after : ℕ → Bool) → i < length records → r ≡ get_or records i r → ((t : ℕ) → IsTrue (after t) ↔ (IsTrue (before t) ⊎ WritesAt t r))
+pub written_also : (records : List CallRecord) (i : ℕ) (r : CallRecord) (before after : ℕ → Bool) → i < length records → r ≡ get_or records i r
+    → ((t : ℕ) → IsTrue (after t) ↔ (IsTrue (before t) ⊎ WritesAt t r))
     → ((t : ℕ) → IsTrue (before t) ↔ IsWrittenBefore records i t) → (t : ℕ) → IsTrue (after t) ↔ IsWrittenBefore records (i + 1) t
 written_also records i r before after within is adds all t = (
-  λ h. ⊎_elim (λ (earlier : IsTrue (before t)). written_later records i t ((all t).0 earlier)) (λ (last : WritesAt t r). (i, (let lt : i < i + 1 = omega arith in lt), some_here (WritesAt t) records i r within is last)) ((adds t).0 h),
+  λ h. ⊎_elim (λ (earlier : IsTrue (before t)). written_later records i t ((all t).0 earlier))
+      (λ (last : WritesAt t r). (i, (let lt : i < i + 1 = omega arith in lt), some_here (WritesAt t) records i r within is last)) ((adds t).0 h),
   λ h. written_cases records i r t within is (λ earlier. (adds t).1 (inl ((all t).1 earlier))) (λ last. (adds t).1 (inr last)) h,
 )
 
 -- ---- the record at the index is a second write at a time, or not
 
-pub second_here : (records : List CallRecord) (i t : ℕ) (r : CallRecord) → i < length records → r ≡ get_or records i r → WritesAt t r → IsWrittenBefore records i t → IsSecondAt records i
-second_here records i t r within is writes earlier = some_here (λ q. (u : ℕ) × WritesAt u q × IsWrittenBefore records i u) records i r within is (t, writes, earlier)
+pub second_here : (records : List CallRecord) (i t : ℕ) (r : CallRecord) → i < length records → r ≡ get_or records i r → WritesAt t r
+    → IsWrittenBefore records i t → IsSecondAt records i
+second_here records i t r within is writes earlier = some_here (λ q. (u : ℕ) × WritesAt u q × IsWrittenBefore records i u) records i r within is
+    (t, writes, earlier)
 
-pub here_second : (records : List CallRecord) (i : ℕ) (r : CallRecord) → i < length records → r ≡ get_or records i r → IsSecondAt records i → (t : ℕ) × WritesAt t r × IsWrittenBefore records i t
+pub here_second : (records : List CallRecord) (i : ℕ) (r : CallRecord) → i < length records → r ≡ get_or records i r → IsSecondAt records i → (t : ℕ)
+    × WritesAt t r × IsWrittenBefore records i t
 here_second records i r within is second = here_some (λ q. (t : ℕ) × WritesAt t q × IsWrittenBefore records i t) records i r within is second
 
 -- of two records that write at one time, the one with the higher index is a second one
-pub two_writes : (records : List CallRecord) → HasNone (IsSecondAt records) → (i j t : ℕ) (q r : CallRecord) → i < j → i < length records → j < length records → q ≡ get_or records i q → r ≡ get_or records j r → WritesAt t q → WritesAt t r → ⊥
+pub two_writes : (records : List CallRecord) → HasNone (IsSecondAt records) → (i j t : ℕ) (q r : CallRecord) → i < j → i < length records
+    → j < length records → q ≡ get_or records i q → r ≡ get_or records j r → WritesAt t q → WritesAt t r → ⊥
 two_writes records alone i j t q r lt within within' is is' writes writes' =
     alone j (second_here records j t r within' is' writes' (i, lt, some_here (WritesAt t) records i q within is writes))
 
@@ -76,16 +87,19 @@ taken_first times from = record {
 }
 
 -- one more, which was not there
-pub taken_more : (old now new : ℕ → Bool) (from time : ℕ) → from ≤ time → now time ≡ false → ((t : ℕ) → new t ≡ cond (is_eq (nat_cmp time t)) true (now t)) → AreTaken old now from time → AreTaken old new from (time + 1)
+pub taken_more : (old now new : ℕ → Bool) (from time : ℕ) → from ≤ time → now time ≡ false → ((t : ℕ) → new t ≡ cond (is_eq (nat_cmp time t)) true (now t))
+    → AreTaken old now from time → AreTaken old new from (time + 1)
 taken_more old now new from time le absent updates before = record {
   taken = λ t. (
     λ h. ⊎_elim
         (λ (same : time ≡ t). inr (omega arith, omega arith))
-        (λ (ne : time ≢ t). ⊎_elim (λ (was : IsTrue (old t)). inl was) (λ (own : (from ≤ t) × (t < time)). inr (own.0, omega (arith, own.1))) ((before.taken t).0 (sym (other t ne) ∙ h)))
+        (λ (ne : time ≢ t). ⊎_elim (λ (was : IsTrue (old t)). inl was) (λ (own : (from ≤ t) × (t < time)). inr (own.0, omega (arith, own.1)))
+        ((before.taken t).0 (sym (other t ne) ∙ h)))
         (cases_eq time t),
     λ h. ⊎_elim
         (λ (same : time ≡ t). here t same)
-        (λ (ne : time ≢ t). other t ne ∙ (before.taken t).1 (⊎_elim (λ (was : IsTrue (old t)). inl was) (λ (own : (from ≤ t) × (t < time + 1)). inr (own.0, omega (arith, own.1))) h))
+        (λ (ne : time ≢ t). other t ne
+        ∙ (before.taken t).1 (⊎_elim (λ (was : IsTrue (old t)). inl was) (λ (own : (from ≤ t) × (t < time + 1)). inr (own.0, omega (arith, own.1))) h))
         (cases_eq time t),
   );
   free = λ t low high. ⊎_elim
@@ -129,6 +143,8 @@ module _ (old now : ℕ → Bool) (r : CallRecord) (has : HasWrites r.deed) (is 
 
   pub all_taken : (until : ℕ) → until ≡ time_past r → AreTaken old now r.time until → (t : ℕ) → IsTrue (now t) ↔ (IsTrue (old t) ⊎ WritesAt t r)
   all_taken until all taken t = (
-    λ h. ⊎_elim (λ (was : IsTrue (old t)). inl was) (λ (own : (r.time ≤ t) × (t < until)). inr (writes_each r t has is own.0 (omega (arith, own.1)))) ((taken.taken t).0 h),
-    λ h. (taken.taken t).1 (⊎_elim (λ (was : IsTrue (old t)). inl was) (λ (writes : WritesAt t r). let own = writes_within r t writes in inr (own.1, omega (arith, own.2))) h),
+    λ h. ⊎_elim (λ (was : IsTrue (old t)). inl was) (λ (own : (r.time ≤ t) × (t < until)). inr (writes_each r t has is own.0 (omega (arith, own.1))))
+        ((taken.taken t).0 h),
+    λ h. (taken.taken t).1 (⊎_elim (λ (was : IsTrue (old t)). inl was)
+        (λ (writes : WritesAt t r). let own = writes_within r t writes in inr (own.1, omega (arith, own.2))) h),
   )

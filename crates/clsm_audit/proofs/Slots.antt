@@ -1,5 +1,6 @@
 -- The history of all writes: what its slots are, and its map where no write is.
-use Rattle.std.proofs.Common.{◌≡◌, ℕ, ◌+◌, ◌-◌, ◌<◌, ◌≤◌, zero, suc, List, [], ◌∷◌, length, get_or, map, Option, Some, None, IsSome, is_some, unwrap_or, refl, sym, ap, ◌∙◌, subst, arith, ⊎_elim}
+use Rattle.std.proofs.Common.{◌≡◌, ℕ, ◌+◌, ◌-◌, ◌<◌, ◌≤◌, zero, suc, List, [], ◌∷◌, length, get_or, map, Option, Some, None, IsSome, is_some, unwrap_or}
+use Rattle.std.proofs.Common.{refl, sym, ap, ◌∙◌, subst, arith, ⊎_elim}
 use Rattle.std.proofs.lemmas.Bool.{cases_lt}
 use Rattle.std.proofs.lemmas.List.{get_or_past}
 use Rattle.std.proofs.lemmas.List.FromFn.{get_or-map-range_with_len, length-map-range_with_len}
@@ -31,7 +32,8 @@ slot_by-none [] t none = refl
 slot_by-none (r ∷ rs) t none = slot_by-other r t (slot_by rs t) (none zero) ∙ slot_by-none rs t (λ j. none (suc j))
 
 -- the first record that writes at the time gives the slot
-slot_by-first : (records : List CallRecord) (i t : ℕ) (w : Slot) → IsSomeAnd (slice_get records i) (λ r. write_of r t ≡ Some w) → ((j : ℕ) → j < i → IsSomeAnd (slice_get records j) (WritesAt t) → ⊥) → slot_by records t ≡ w
+slot_by-first : (records : List CallRecord) (i t : ℕ) (w : Slot) → IsSomeAnd (slice_get records i) (λ r. write_of r t ≡ Some w)
+    → ((j : ℕ) → j < i → IsSomeAnd (slice_get records j) (WritesAt t) → ⊥) → slot_by records t ≡ w
 slot_by-first [] i t w here before = absurd here
 slot_by-first (r ∷ rs) zero t w here before = ap (λ (o : Option Slot). unwrap_or o (slot_by rs t)) here
 slot_by-first (r ∷ rs) (suc i) t w here before =
@@ -61,7 +63,9 @@ slot_at-history_of records t =
     ⊎_elim
     (λ (lt : t < end_by records). get_or-map-range_with_len (slot_by records) 0 (end_by records) t t Nothing lt (omega arith))
     (λ (past : end_by records ≤ t).
-    get_or_past (map (slot_by records) (range_with_len 0 (end_by records))) t Nothing (let l : length (map (slot_by records) (range_with_len 0 (end_by records))) ≡ end_by records = length-map-range_with_len (slot_by records) 0 (end_by records) in omega arith)
+    get_or_past (map (slot_by records) (range_with_len 0 (end_by records))) t Nothing
+    (let l : length (map (slot_by records) (range_with_len 0 (end_by records))) ≡ end_by records = length-map-range_with_len (slot_by records) 0
+    (end_by records) in omega arith)
     ∙ sym (slot_by-none records t (λ j writes. let lt = within_end records t j writes in omega arith)))
     (cases_lt t (end_by records))
 
@@ -69,7 +73,8 @@ pub slot_at-none : (records : List CallRecord) (t : ℕ) → ((j : ℕ) → IsSo
 slot_at-none records t none = slot_at-history_of records t ∙ slot_by-none records t none
 
 -- a record's write is what its time came to, where it is the only one with that time
-pub slot_written : (records : List CallRecord) → HasNone (IsSecondAt records) → (i t : ℕ) (w : Slot) → i < length records → write_of (get_or records i nobody) t ≡ Some w → slot_at (history_of records) t ≡ w
+pub slot_written : (records : List CallRecord) → HasNone (IsSecondAt records) → (i t : ℕ) (w : Slot) → i < length records
+    → write_of (get_or records i nobody) t ≡ Some w → slot_at (history_of records) t ≡ w
 slot_written records alone i t w within writes =
     let r = get_or records i nobody in
     slot_at-history_of records t

@@ -1,5 +1,6 @@
 -- The times at which a record writes: a write writes at each of its times, and nothing else does.
-use Rattle.std.proofs.Common.{◌≡◌, ℕ, ◌+◌, ◌-◌, ◌<◌, ◌≤◌, ◌==◌, ◌^◌, zero, suc, Bool, true, false, cond, List, [], ◌∷◌, length, Option, Some, None, is_some, MatchBool, refl, sym, ap, ◌∙◌, arith}
+use Rattle.std.proofs.Common.{◌≡◌, ℕ, ◌+◌, ◌-◌, ◌<◌, ◌≤◌, ◌==◌, ◌^◌, zero, suc, Bool, true, false, cond, List, [], ◌∷◌, length, Option, Some, None, is_some}
+use Rattle.std.proofs.Common.{MatchBool, refl, sym, ap, ◌∙◌, arith}
 use Rattle.std.specs.Prelude.{nat_le}
 use Rattle.std.proofs.lemmas.Bool.{eq-eqb, eqb-true, le-leb, leb-true, true≢false}
 use Rattle.clsm_model.specs.declared.record.CallRecord.{CallRecord}
@@ -106,7 +107,8 @@ is_wrote seat key Keep w e = absurd cc
 is_wrote seat key (Set written) w e = (key, Some written, cc e)
 is_wrote seat key Erase w e = (key, None, cc e)
 
-member_wrote : (seat : ℕ) (members : List Member) (n : ℕ) (w : Slot) → member_write seat members n ≡ Some w → (k : ℕ) × (written : Option (List ℕ)) × (w ≡ Wrote seat k written)
+member_wrote : (seat : ℕ) (members : List Member) (n : ℕ) (w : Slot) → member_write seat members n ≡ Some w → (k : ℕ) × (written : Option (List ℕ))
+    × (w ≡ Wrote seat k written)
 member_wrote seat [] n w e = absurd cc
 member_wrote seat (m ∷ ms) zero w e = is_wrote seat m.0 m.1 w e
 member_wrote seat (m ∷ ms) (suc n) w e = member_wrote seat ms n w e
@@ -131,7 +133,8 @@ some_is None some = absurd cc
 some_is (Some w) some = (w, refl)
 
 -- a write whose times came to its writes stands there
-pub stands_in : (h : History) (r : CallRecord) → HasWrites r.deed → is_write r.deed ≡ true → ((t : ℕ) (w : Slot) → write_of r t ≡ Some w → slot_at h t ≡ w) → StandsIn h r
+pub stands_in : (h : History) (r : CallRecord) → HasWrites r.deed → is_write r.deed ≡ true → ((t : ℕ) (w : Slot) → write_of r t ≡ Some w → slot_at h t ≡ w)
+    → StandsIn h r
 stands_in h r has is came n lt =
     let w = some_is (write_of r (r.time + n)) (writes_each r (r.time + n) has is (omega arith) (omega arith)) in
     w.1 ∙ ap Some (sym (came (r.time + n) w.0 w.1))

@@ -24,7 +24,8 @@ length-stamps_of records = length-map (enumerate_from 0 records) (λ p. stamp_of
 
 stamp-here : (records : List CallRecord) (i : ℕ) (d : Stamp) → i < length records → get_or (stamps_of records) i d ≡ stamp_of i (get_or records i nobody)
 stamp-here records i d within =
-    get_or-map (λ (p : ℕ × CallRecord). stamp_of p.0 p.1) (enumerate_from 0 records) i (0, nobody) d (let l : length (enumerate_from 0 records) ≡ length records = length-enumerate_from 0 records in omega arith)
+    get_or-map (λ (p : ℕ × CallRecord). stamp_of p.0 p.1) (enumerate_from 0 records) i (0, nobody) d
+    (let l : length (enumerate_from 0 records) ≡ length records = length-enumerate_from 0 records in omega arith)
     ∙ ap (λ (p : ℕ × CallRecord). stamp_of p.0 p.1) (get_or-enumerate_from 0 records i (0, nobody) within)
     ∙ ap (λ (n : ℕ). stamp_of n (get_or records i nobody)) (zero-add i)
 
@@ -77,4 +78,6 @@ module _ (records : List CallRecord) (stamps : List Stamp) (order : IsInTimeOrde
   -- no two are those of one record
   pub stamps_apart : (j k : ℕ) (d : Stamp) → j < k → k < length stamps → (get_or stamps j d).index ≢ (get_or stamps k d).index
   stamps_apart j k d lt within e =
-      true≢false (sym (eq-eqb (get_or stamps j d).index (get_or stamps k d).index e) ∙ apart_from_distinct same_index stamps j k d (IsDistinct-IsPermutation same_index same_index-flips (stamps_of records) stamps order.same (all_apart records)) lt within)
+      true≢false (sym (eq-eqb (get_or stamps j d).index (get_or stamps k d).index e)
+      ∙ apart_from_distinct same_index stamps j k d (IsDistinct-IsPermutation same_index same_index-flips (stamps_of records) stamps order.same
+      (all_apart records)) lt within)

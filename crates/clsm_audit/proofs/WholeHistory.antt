@@ -1,5 +1,6 @@
 -- Records that have a history have no fault.
-use Rattle.std.proofs.Common.{◌≡◌, ℕ, ◌^◌, ◌<◌, ◌≤◌, ◌==◌, Bool, List, [], length, get_or, take, Option, Some, IfSome, is_some, MatchBool, refl, sym, ap, ◌∙◌, subst, arith, ⊎_elim}
+use Rattle.std.proofs.Common.{◌≡◌, ℕ, ◌^◌, ◌<◌, ◌≤◌, ◌==◌, Bool, List, [], length, get_or, take, Option, Some, IfSome, is_some, MatchBool, refl, sym, ap}
+use Rattle.std.proofs.Common.{◌∙◌, subst, arith, ⊎_elim}
 use Rattle.std.proofs.lemmas.Bool.{cases_lt, eq-eqb, eqb-true}
 use Rattle.std.proofs.lemmas.List.{get_or_past}
 use Rattle.std.specs.List.{slice_get}
@@ -35,7 +36,8 @@ module _ (config : Config) (records : List CallRecord) (has : HasHistory config 
   part seat = (has.parts seat).calls_in
 
   each_at : (P : CallRecord → Type 0) (i : ℕ) → (i < length records → P (at i)) → IfSome (slice_get records i) P
-  each_at P i holds = ⊎_elim (λ (lt : i < length records). if_here P records i (at i) lt (itself records i lt) (holds lt)) (λ (past : length records ≤ i). past_end P records i past) (cases_lt i (length records))
+  each_at P i holds = ⊎_elim (λ (lt : i < length records). if_here P records i (at i) lt (itself records i lt) (holds lt))
+      (λ (past : length records ≤ i). past_end P records i past) (cases_lt i (length records))
 
   -- ---- ranges and dues
 
@@ -66,7 +68,8 @@ module _ (config : Config) (records : List CallRecord) (has : HasHistory config 
   inside_history : (i t : ℕ) → i < length records → WritesAt t (at i) → t < end_of has.history
   inside_history i t within writes =
       let is = writes_within (at i) t writes in
-      let past : time_past (at i) ≤ end_of has.history = subst (λ (b : Bool). MatchBool b (time_past (at i) ≤ end_of has.history) ((at i).time ≤ end_of has.history)) is.0 (within_history i within) in
+      let past : time_past (at i) ≤ end_of has.history =
+      subst (λ (b : Bool). MatchBool b (time_past (at i) ≤ end_of has.history) ((at i).time ≤ end_of has.history)) is.0 (within_history i within) in
       omega (arith, is.2)
 
   -- each write stands at its time
@@ -95,7 +98,8 @@ module _ (config : Config) (records : List CallRecord) (has : HasHistory config 
       let own : (at j).seat ≡ n = let e : Wrote (at j).seat by.0 by.1 ≡ Wrote n by'.0 by'.1 = sym by.2 ∙ sym first ∙ second ∙ by'.2 in cc e in
       let one = (part n).each t by'.0 by'.1 (inside_history i t within (ap is_some writes')) (second ∙ by'.2) in
       let writes_there : write_at n (at j).time (at j).deed t ≡ Some v = ap (λ (m : ℕ). write_at m (at j).time (at j).deed t) (sym own) ∙ writes in
-      let two = two_in (λ q. q.seat == n) (λ q. is_some (write_at n q.time q.deed t)) records j i lt within (eq-eqb (at j).seat n own) (ap is_some writes_there) (eq-eqb n n refl) (ap is_some writes') in
+      let two = two_in (λ q. q.seat == n) (λ q. is_some (write_at n q.time q.deed t)) records j i lt within (eq-eqb (at j).seat n own)
+      (ap is_some writes_there) (eq-eqb n n refl) (ap is_some writes') in
       let count : length (writes_at n t (calls_of records n)) ≡ 1 = ap length one.1 in
       omega arith
 
@@ -128,7 +132,8 @@ module _ (config : Config) (records : List CallRecord) (has : HasHistory config 
         let one = (part n).each t key written inside e in
         let found = found_in (λ q. q.seat == n) (λ q. is_some (write_at n q.time q.deed t)) records one.0 [] one.1 in
         let own : one.0.seat ≡ n = eqb-true one.0.seat n found.first in
-        let writes : write_of (at found.index) t ≡ Some (Wrote n key written) = ap (λ (r : CallRecord). write_of r t) found.is ∙ ap (λ (m : ℕ). write_at m one.0.time one.0.deed t) own ∙ one.2 in
+        let writes : write_of (at found.index) t ≡ Some (Wrote n key written) = ap (λ (r : CallRecord). write_of r t) found.is
+        ∙ ap (λ (m : ℕ). write_at m one.0.time one.0.deed t) own ∙ one.2 in
         slot_written records alone found.index t (Wrote n key written) found.within writes)
         (λ (past : end_of has.history ≤ t).
         let clash : Nothing ≡ Wrote n key written = sym (get_or_past has.history.slots t Nothing past) ∙ e in
@@ -138,7 +143,8 @@ module _ (config : Config) (records : List CallRecord) (has : HasHistory config 
   -- a time inside no batch of the history is inside no batch of the records
   uncut : (s : ℕ) → IsUncut has.history.batches s → IsUncut (history_of records).batches s
   uncut s is = uncut_from records s (λ i within.
-      outside_record has.history.batches s (at i) is (of_each_call (IsListedRecord has.history.batches) records i (at i).seat within refl (part (at i).seat).listed))
+      outside_record has.history.batches s (at i) is (of_each_call (IsListedRecord has.history.batches) records i (at i).seat within refl
+      (part (at i).seat).listed))
 
   same_deed : (s : ℕ) (deed : Deed) → s ≤ end_of (history_of records) → IsRightDeed has.history s deed → IsRightDeed (history_of records) s deed
   same_deed s (Put key written) reached right = tt
@@ -151,7 +157,8 @@ module _ (config : Config) (records : List CallRecord) (has : HasHistory config 
 
   pub right : (i : ℕ) → IsRightAt records i
   right i = each_at (IsRightRecord (history_of records)) i (λ within.
-      same_deed (at i).time (at i).deed (time_within records i within) (of_each_call (IsRightRecord has.history) records i (at i).seat within refl (part (at i).seat).right))
+      same_deed (at i).time (at i).deed (time_within records i within)
+      (of_each_call (IsRightRecord has.history) records i (at i).seat within refl (part (at i).seat).right))
 
   -- ---- all of it
 
@@ -170,7 +177,8 @@ pub record IsSeated (config : Config) (r : CallRecord) : Type 0 where
   pub writes : HasWrites r.deed
 
 -- parts whose dues do not pass 2^62 have times in their ranges
-pub with_dues : (config : Config) (records : List CallRecord) (h : History) → ((i : ℕ) → IfSome (slice_get records i) (IsSeated config)) → ((seat : ℕ) → (part : IsPartOf h seat (calls_of records seat)) × (part.due ≤ 2 ^ 62)) → HasHistory config records
+pub with_dues : (config : Config) (records : List CallRecord) (h : History) → ((i : ℕ) → IfSome (slice_get records i) (IsSeated config))
+    → ((seat : ℕ) → (part : IsPartOf h seat (calls_of records seat)) × (part.due ≤ 2 ^ 62)) → HasHistory config records
 with_dues config records h seated parts = record {
   in_range = λ i. ⊎_elim
       (λ (within : i < length records).
@@ -181,7 +189,8 @@ with_dues config records h seated parts = record {
         seat = here.seat;
         size = here.size;
         times = record {
-          time = is_below (2 ^ 62) records i r.seat within refl part.0.calls_in.rising.rises (let due = part.0.calls_in.rising.due_is in let end = part.1 in omega arith);
+          time = is_below (2 ^ 62) records i r.seat within refl part.0.calls_in.rising.rises
+              (let due = part.0.calls_in.rising.due_is in let end = part.1 in omega arith);
           writes = here.writes;
         };
       }))

@@ -1,5 +1,6 @@
 -- What an explanation says of the record that has a fault.
-use Rattle.std.specs.Prelude.{◌≡◌, ◌≢◌, ℕ, ◌<◌, ◌≤◌, ◌==◌, ◌^◌, cond, if◌then◌else◌, min, take, List, [], Option, None, Some, IfSome, IsSome, IsSomeAnd, slice_get}
+use Rattle.std.specs.Prelude.{◌≡◌, ◌≢◌, ℕ, ◌<◌, ◌≤◌, ◌==◌, ◌^◌, cond, if◌then◌else◌, min, take, List, [], Option, None, Some, IfSome, IsSome, IsSomeAnd}
+use Rattle.std.specs.Prelude.{slice_get}
 use Rattle.clsm_model.specs.declared.slot.Slot.{Slot}
 use Rattle.clsm_model.specs.declared.slot.Slot.TheVariants.{Nothing, Wrote}
 use Rattle.clsm_model.specs.declared.config.Config.{Config}
@@ -112,7 +113,8 @@ pub record IsDifference (rows right : List Pair) (number : ℕ) : Type 0 where
   pub differs : slice_get rows number ≢ slice_get right number
 
 -- the rows first differ here, and the writes are those of the lower key
-pub record IsRightRow (records : List CallRecord) (s : ℕ) (rows right_rows : List Pair) (number : ℕ) (answered right : Option Pair) (key : ℕ) (named seen : Option FoundWrite) : Type 0 where
+pub record IsRightRow (records : List CallRecord) (s : ℕ) (rows right_rows : List Pair) (number : ℕ) (answered right : Option Pair) (key : ℕ)
+    (named seen : Option FoundWrite) : Type 0 where
   pub difference : IsDifference rows right_rows number
   pub answered_is : answered ≡ slice_get rows number
   pub right_is : right ≡ slice_get right_rows number

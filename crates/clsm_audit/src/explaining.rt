@@ -8,14 +8,14 @@ ghost use Rattle.clsm_audit.specs.Written.{WritesAt, time_past};
 use crate::explanation::{Explanation, Rule};
 use crate::fault::FaultKind;
 use crate::range::{fits_region, has_writes, is_time};
-use crate::reading::explain_wrong;
 use crate::seat::SeatState;
 use crate::write::{is_write, span_of};
+use crate::wrong_reply::explain_wrong;
 use clsm_model::{CallRecord, Config, Memory, Time};
 use std::alloc::Global;
 
 /// Explains the fault that an audit of these records found. What it shows as the right answer is
-/// what the writes below the record's time give. Refused for want of memory.
+/// what the writes below the record's time give. Refused if memory runs out.
 pub fn explain(
     alloc: Global,
     config: &Config,

@@ -6,7 +6,6 @@ mod explanation;
 mod fault;
 mod passes;
 mod range;
-mod reading;
 mod replay;
 mod replies;
 mod rows;
@@ -14,6 +13,7 @@ mod seat;
 mod stamp;
 mod wanted;
 mod write;
+mod wrong_reply;
 
 pub use explaining::explain;
 pub use explanation::{Explanation, Rule};

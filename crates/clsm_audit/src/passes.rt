@@ -16,7 +16,7 @@ use clsm_model::{CallRecord, Config, Memory, Time};
 use std::alloc::{AllocError, Global};
 use std::collections::BTreeSet;
 
-/// The lowest index of a record that is not known. Refused for want of memory.
+/// The lowest index of a record that is not known. Refused if memory runs out.
 fn first_unknown(
     alloc: Global,
     config: &Config,
@@ -36,7 +36,7 @@ fn first_unknown(
 }
 
 /// Whether the call writes at one of these times. If it does not, the times at which it writes are
-/// taken in. Refused for want of memory.
+/// taken in. Refused if memory runs out.
 fn is_second(times: &mut BTreeSet<Time>, call: &CallRecord) -> Result<bool, Memory>
     requires { HasTimes call.now }
     ensures second { IfOk result (λ second. IsTrue second ↔
@@ -56,8 +56,8 @@ fn is_second(times: &mut BTreeSet<Time>, call: &CallRecord) -> Result<bool, Memo
     Ok(false)
 }
 
-/// The lowest index of a write at a time at which an earlier record writes. Refused for want of
-/// memory.
+/// The lowest index of a write at a time at which an earlier record writes. Refused if memory
+/// runs out.
 fn first_second(alloc: Global, records: &[CallRecord]) -> Result<Option<usize>, Memory>
     requires { HaveTimes records.now }
     ensures { IfOk result (IsFirstOf (IsSecondAt records.now)) }
@@ -71,7 +71,7 @@ fn first_second(alloc: Global, records: &[CallRecord]) -> Result<Option<usize>, 
     Ok(None)
 }
 
-/// The lowest index of a record below the due of its seat. Refused for want of memory.
+/// The lowest index of a record below the due of its seat. Refused if memory runs out.
 fn first_back(
     alloc: Global,
     config: &Config,
@@ -99,7 +99,7 @@ fn lowest(found: Option<usize>, index: usize) -> usize
 }
 
 /// The lowest index of a record whose reading is not what the writes below its time give, or stands
-/// inside a batch. Refused for want of memory.
+/// inside a batch. Refused if memory runs out.
 fn first_wrong(
     alloc: Global,
     records: &[CallRecord],
@@ -135,12 +135,14 @@ fn first_wrong(
 /// 3. `TimeRanBack`: a record below the due of its seat, which is the time of a read, and one more
 ///    than the last time of a write. Closes and reads under an open snapshot are not held against
 ///    it.
-/// 4. `WrongReply`: what was read is not what the writes below the record's time give; or the record
+/// 4. `WrongReply`: what was read is not what the writes below the record's time give; or the
+/// record
 ///    read, or opened or closed a snapshot, at a time strictly inside a batch.
 ///
-/// Refused with `Memory` for want of memory, in place of any of these answers. Records whose seats,
+/// Refused with `Memory` if memory runs out, in place of any of these answers. Records whose seats,
 /// batches and times are in their ranges, and that are the calls of a history, are refused for
-/// nothing else. Beside the reading of ranges it costs as much as a sort of all records and members.
+/// nothing else. Beside the reading of ranges it costs as much as a sort of all records and
+/// members.
 pub fn audit(alloc: Global, config: &Config, records: &[CallRecord]) -> Result<(), AuditError>
     ensures ok { OnOk result (IsLawful config.now records.now) }
     ensures history { OnOk result (IsOneHistory records.now) }

@@ -31,7 +31,7 @@ impl Replay {
         }
     }
 
-    /// Plays the next call, and answers whether what it read is right. Refused for want of memory.
+    /// Plays the next call, and answers whether what it read is right. Refused if memory runs out.
     pub fn play(&mut self, call: &CallRecord) -> Result<bool, Memory>
         requires { time_past call.now < 2 ^ 64 }
         ensures right { IfOk result (λ right. (h : History) →
@@ -56,7 +56,7 @@ impl Replay {
     }
 
     /// Whether what the next call read is right: nothing, or what the map gives at a time inside
-    /// no batch. Refused for want of memory.
+    /// no batch. Refused if memory runs out.
     fn is_right(&self, call: &CallRecord) -> Result<bool, Memory>
         ensures { IfOk result (λ right. (h : History) →
             HasComeTo h call.now.time self.now.until self.now.map →
@@ -94,7 +94,7 @@ fn is_read(deed: &Deed) -> bool
     )
 }
 
-/// Applies all writes of the call to the map. Refused for want of memory.
+/// Applies all writes of the call to the map. Refused if memory runs out.
 fn apply(map: &mut PlainMap, call: &CallRecord) -> Result<(), Memory>
     ensures write { OnOk result ((h : History) → StandsIn h call.now →
         IsMap h call.now.time map.old → IsMap h (time_past call.now) map.new) }
@@ -109,7 +109,7 @@ fn apply(map: &mut PlainMap, call: &CallRecord) -> Result<(), Memory>
     Ok(())
 }
 
-/// Applies the members of a batch of the seat to the map. Refused for want of memory.
+/// Applies the members of a batch of the seat to the map. Refused if memory runs out.
 fn apply_members(map: &mut PlainMap, seat: u32, members: &[(u64, Change)]) -> Result<(), Memory>
     ensures { OnOk result ((h : History) (s : ℕ) → StandFrom h seat s members.now →
         IsMap h s map.old → IsMap h (s + length members.now) map.new) }

@@ -21,7 +21,7 @@ fn is_page(all: &[(u64, Value)], max: u64, rows: &[(u64, Value)], more: Option<u
     rows == front && more == key_of_first(rest)
 }
 
-/// Whether what the deed read is what the map gives. Refused for want of memory.
+/// Whether what the deed read is what the map gives. Refused if memory runs out.
 pub fn is_reply(map: &PlainMap, deed: &Deed) -> Result<bool, Memory>
     ensures { IfOk result (λ right. (h : History) (s : ℕ) →
         IsMap h s map.now → (IsTrue right ↔ Reads h s deed.now)) }

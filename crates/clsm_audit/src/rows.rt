@@ -11,15 +11,15 @@ ghost use Rattle.clsm_audit.specs.Order.{IsInTimeOrder};
 ghost use Rattle.clsm_audit.specs.Written.{batches_of, history_of};
 
 use crate::explanation::Explanation;
-use crate::reading::{newest_write, seen_write};
 use crate::replay::Replay;
 use crate::replies::key_of_first;
 use crate::stamp::{Stamp, in_time_order};
+use crate::wrong_reply::{newest_write, seen_write};
 use clsm_model::{CallRecord, Deed, Memory, PlainMap, Time, Value};
 use std::alloc::Global;
 
-/// Explains why the rows of a scan or a page, inside no batch, are wrong. Refused for want of
-/// memory.
+/// Explains why the rows of a scan or a page, inside no batch, are wrong. Refused if memory
+/// runs out.
 pub fn explain_rows(
     alloc: Global,
     records: &[CallRecord],

@@ -107,7 +107,7 @@ impl SeatState {
     }
 }
 
-/// The states of so many seats before any call. Refused for want of memory.
+/// The states of so many seats before any call. Refused if memory runs out.
 pub fn new_states(alloc: Global, seats: usize) -> Result<Vec<SeatState>, Memory>
     ensures len { IfOk result (λ states. vec_len states ≡ seats) }
     ensures states { IfOk result (λ states. AreStates [] states.items) }

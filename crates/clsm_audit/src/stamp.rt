@@ -34,7 +34,7 @@ fn stamp_at(index: usize, call: &CallRecord) -> Stamp
     }
 }
 
-/// The stamps of all records. Refused for want of memory.
+/// The stamps of all records. Refused if memory runs out.
 fn stamp_all(alloc: Global, records: &[CallRecord]) -> Result<Vec<Stamp>, AllocError>
     ensures { IfOk result (λ stamps. stamps.items ≡ stamps_of records.now) }
 {
@@ -45,7 +45,7 @@ fn stamp_all(alloc: Global, records: &[CallRecord]) -> Result<Vec<Stamp>, AllocE
         .collect(alloc)
 }
 
-/// The stamps of all records, in the order of time. Refused for want of memory.
+/// The stamps of all records, in the order of time. Refused if memory runs out.
 pub fn in_time_order(alloc: Global, records: &[CallRecord]) -> Result<Vec<Stamp>, Memory>
     ensures { IfOk result (λ stamps. IsInTimeOrder records.now stamps.items) }
 {

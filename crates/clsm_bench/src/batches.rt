@@ -1,16 +1,14 @@
 //! Writes of threads by batches, beside the same writes by puts.
-ghost use Rattle.std.specs.Prelude.{◌≡◌, All, IfOk};
+ghost use Rattle.std.specs.Prelude.{◌≡◌, IfOk};
 
 use crate::calls::{Lap, work_all};
 use crate::draws::{Call, Draws, FILLER, Series, key_of};
 use crate::failure::Failure;
-use crate::lines::Line;
-use crate::options::Options;
 use crate::series::targets;
+use crate::sizes::Work;
 use crate::target::Target;
 use clsm_model::{Change, Value};
-use clsm_store::{Opened, Seat, Store, open};
-use clsm_words::Free;
+use clsm_store::{Opened, open};
 use std::alloc::{AllocError, Global};
 use std::rt::Clock;
 use std::sync::Wait;
@@ -45,18 +43,24 @@ fn draw_members(draws: &mut Draws, first: u32, members: &mut [(u64, Change)]) {
     }
 }
 
-/// Makes so many of these writes at the target, by batches of so many members. Refused where one is
-/// not answered.
+/// So many writes, by batches of so many members.
+#[derive(Clone, Copy)]
+pub struct Batches {
+    pub members: u32,
+    pub writes: u32,
+}
+
+/// Makes these writes at the target. Refused where one is not answered.
 pub fn work_batches<R: Wait + Clock>(
     rt: &R,
     alloc: Global,
     target: &mut Target,
     draws: &mut Draws,
-    members: u32,
-    writes: u32,
+    batches: Batches,
 ) -> Result<Lap, Failure>
-    ensures { IfOk result (λ lap. lap.calls ≡ writes) }
+    ensures { IfOk result (λ lap. lap.calls ≡ batches.writes) }
 {
+    let Batches { members, writes } = batches;
     let mut row = vec![in alloc; (0, Change::Keep); members as usize]?;
     let mut first = 0_u32;
     let start = Instant::now(rt)?;
@@ -75,32 +79,19 @@ pub fn work_batches<R: Wait + Clock>(
     })
 }
 
-/// The writes of the series by the seats of the store but one.
-fn write_all<R: Threads + Sync + Clock + Wait>(
-    rt: &R,
-    alloc: Global,
-    store: &Store<Free>,
-    seats: Vec<Seat>,
-    series: &Series,
-    writes: u32,
-) -> Result<Lap, Failure>
-    requires { All (λ seat. seat.store ≡ store.now) seats.items }
-{
-    let mut targets = targets(alloc, store, seats)?;
-    let _ = targets.pop();
-    work_all(rt, alloc, targets, series, writes)
-}
-
 /// The writes of each of so many threads on a store that is opened for them: by batches, or in the
 /// second way by puts.
 pub fn batch_lap<R: Threads + Sync + Clock + Wait>(
     rt: &R,
     alloc: Global,
-    line: &Line,
-    options: &Options,
-    threads: u32,
+    work: &Work,
     is_second: bool,
 ) -> Result<Lap, Failure> {
+    let Work {
+        line,
+        options,
+        threads,
+    } = *work;
     let mut series = Series::new(alloc, line, options)?;
     if !is_second {
         series.members = Some(line.members(options, threads));
@@ -110,5 +101,7 @@ pub fn batch_lap<R: Threads + Sync + Clock + Wait>(
         return Err(Failure::Refused);
     };
     let Opened { store, seats, .. } = opened;
-    write_all(rt, alloc, &store, seats, &series, writes)
+    let mut targets = targets(alloc, &store, seats)?;
+    let _ = targets.pop();
+    work_all(rt, alloc, targets, &series, writes)
 }

@@ -1,11 +1,12 @@
 //! The calls of threads, that were all answered, and their time.
 ghost use Rattle.std.specs.Prelude.{◌≡◌, IfOk};
 
-use crate::batches::work_batches;
+use crate::batches::{Batches, work_batches};
 use crate::draws::{Call, Draws, FILLER, Series, key_of};
 use crate::failure::Failure;
 use crate::target::Target;
 use std::alloc::Global;
+use std::ops::Range;
 use std::rt::Clock;
 use std::sync::Wait;
 use std::sync::atomic::AtomicU64;
@@ -31,11 +32,10 @@ pub fn put_filled<R: Wait>(
     rt: &R,
     alloc: Global,
     target: &mut Target,
-    first: u32,
-    end: u32,
+    indices: Range<u32>,
     keys: u32,
 ) -> Result<(), Failure> {
-    for index in first..end {
+    for index in indices {
         let index = index % keys.max(1);
         let (key, word) = (key_of(FILLER, index), u64::from(index));
         if !target.make(rt, alloc, &Call::Put { key, word }) {
@@ -108,7 +108,13 @@ pub fn work_all<R: Threads + Sync + Clock + Wait>(
             let mut draws = Draws::new(alloc, series, target.number(), calls)?;
             meet(&come, threads);
             match series.members {
-                Some(members) => work_batches(rt, alloc, &mut target, &mut draws, members, calls),
+                Some(members) => {
+                    let batches = Batches {
+                        members,
+                        writes: calls,
+                    };
+                    work_batches(rt, alloc, &mut target, &mut draws, batches)
+                }
                 None => work(rt, alloc, &mut target, &mut draws, calls),
             }
         },

@@ -7,6 +7,7 @@ use crate::lines::{Beside, Line, Role};
 use crate::merges::merge_lap;
 use crate::options::Options;
 use crate::series::{map_lap, store_lap};
+use crate::sizes::Work;
 use std::alloc::{AllocError, Global};
 use std::rt::Clock;
 use std::sync::Wait;
@@ -21,43 +22,62 @@ fn picoseconds(lap: &Lap, threads: u32) -> u64 {
 }
 
 /// The median of numbers, with the least and the greatest of them.
-fn spread(alloc: Global, mut numbers: Vec<u64>) -> Result<String, AllocError> {
-    numbers.sort()?;
-    let median = numbers.get(numbers.len() / 2).unwrap_or(&0);
-    let least = numbers.first().unwrap_or(&0);
-    let greatest = numbers.last().unwrap_or(&0);
-    format!(in alloc; "{median} [{least} {greatest}]")
+#[derive(Drop)]
+struct Spread {
+    median: u64,
+    least: u64,
+    greatest: u64,
 }
+
+impl Spread {
+    fn new(mut numbers: Vec<u64>) -> Result<Spread, AllocError> {
+        numbers.sort()?;
+        Ok(Spread {
+            median: *numbers.get(numbers.len() / 2).unwrap_or(&0),
+            least: *numbers.first().unwrap_or(&0),
+            greatest: *numbers.last().unwrap_or(&0),
+        })
+    }
+
+    /// As a line shows it, or as three values of a row.
+    fn text(&self, alloc: Global, is_csv: bool) -> Result<String, AllocError> {
+        let (median, least, greatest) = (self.median, self.least, self.greatest);
+        if is_csv {
+            return format!(in alloc; "{median},{least},{greatest}");
+        }
+        format!(in alloc; "{median} [{least} {greatest}]")
+    }
+}
+
+/// The first row of comma-separated values: what stands in the others.
+pub const COLUMNS: &str =
+    "line,threads,first_ps,least,greatest,second_ps,least,greatest,percent,least,greatest";
 
 /// Does the work once: in the first of its ways, or in the second.
 fn lap<R: Threads + Sync + Clock + Wait>(
     rt: &R,
     alloc: Global,
-    line: &Line,
-    options: &Options,
-    threads: u32,
+    work: &Work,
     is_second: bool,
 ) -> Result<Lap, Failure> {
-    let Line(_, _, _, _, role, _, beside) = line;
+    let Line(_, _, _, _, role, _, beside) = work.line;
+    let options = work.options;
     match (role, beside) {
         (Role::Merges(_) | Role::Freeze, _) => merge_lap(rt, alloc, role, options, is_second),
         (Role::Audit, _) if is_second => audit_lap(rt, alloc, options.calls / 10),
         (Role::Audit, _) => audit_lap(rt, alloc, options.calls),
-        (Role::Batches(_) | Role::HotBatches(_), _) => {
-            batch_lap(rt, alloc, line, options, threads, is_second)
-        }
-        (Role::Several(..), _) | (_, Beside::Nothing) if is_second => map_lap(
-            rt, alloc, line, options, threads,
-        ),
-        _ if is_second => store_lap(rt, alloc, line, &Beside::Nothing, options, threads),
-        _ => store_lap(rt, alloc, line, beside, options, threads),
+        (Role::Batches(_) | Role::HotBatches(_), _) => batch_lap(rt, alloc, work, is_second),
+        (Role::Several(..), _) | (_, Beside::Nothing) if is_second => map_lap(rt, alloc, work),
+        _ if is_second => store_lap(rt, alloc, work, &Beside::Nothing),
+        _ => store_lap(rt, alloc, work, beside),
     }
 }
 
 /// Does the line's work by so many threads in two ways in turn, as often as the options say and
 /// once more before, to warm up. Prints the line: the picoseconds of a call of all threads
 /// together, in the first way and in the second, and how many hundredths of the first the second
-/// is. Of no round that is kept it prints the calls alone.
+/// is; as a row of comma-separated values if the options say so. Of no round that is kept it prints
+/// the calls alone.
 pub fn compare<R: Threads + Sync + Clock + Wait + Print + AllocGlobal>(
     rt: &R,
     line: &Line,
@@ -67,24 +87,33 @@ pub fn compare<R: Threads + Sync + Clock + Wait + Print + AllocGlobal>(
     let alloc = rt.alloc();
     let name = line.1;
     let options = &line.limit(options);
-    let first = lap(rt, alloc, line, options, threads, false)?.calls;
-    let second = lap(rt, alloc, line, options, threads, true)?.calls;
-    print!(rt; "{name} threads {threads} ")?;
+    let work = Work {
+        line,
+        options,
+        threads,
+    };
+    let first = lap(rt, alloc, &work, false)?.calls;
+    let second = lap(rt, alloc, &work, true)?.calls;
     if options.repeat == 0 {
-        println!(rt; "calls {first} and {second}")?;
+        println!(rt; "{name} threads {threads} calls {first} and {second}")?;
         return Ok(());
     }
     let (mut firsts, mut seconds) = (Vec::new(alloc), Vec::new(alloc));
     let mut percents = Vec::new(alloc);
     for _ in 0..options.repeat {
-        let first = picoseconds(&lap(rt, alloc, line, options, threads, false)?, threads);
-        let second = picoseconds(&lap(rt, alloc, line, options, threads, true)?, threads);
+        let first = picoseconds(&lap(rt, alloc, &work, false)?, threads);
+        let second = picoseconds(&lap(rt, alloc, &work, true)?, threads);
         firsts.push(first)?;
         seconds.push(second)?;
         percents.push(second.saturating_mul(100) / first.max(1))?;
     }
-    let (first, second) = (spread(alloc, firsts)?, spread(alloc, seconds)?);
-    let percent = spread(alloc, percents)?;
-    println!(rt; "ps {first} ps {second} percent {percent}")?;
+    let first = Spread::new(firsts)?.text(alloc, options.is_csv)?;
+    let second = Spread::new(seconds)?.text(alloc, options.is_csv)?;
+    let percent = Spread::new(percents)?.text(alloc, options.is_csv)?;
+    if options.is_csv {
+        println!(rt; "\"{name}\",{threads},{first},{second},{percent}")?;
+        return Ok(());
+    }
+    println!(rt; "{name} threads {threads} ps {first} ps {second} percent {percent}")?;
     Ok(())
 }

@@ -5,7 +5,7 @@ use std::io;
 /// Why a measurement does not end well.
 #[derive(Drop)]
 pub enum Failure {
-    /// The words on the command line are none of the program's.
+    /// The words on the command line are unknown.
     Usage,
     /// A write failed, or the clock or the words on the command line could not be read.
     Device,

@@ -17,7 +17,7 @@ mod series;
 mod sizes;
 mod target;
 
-use crate::compared::compare;
+use crate::compared::{COLUMNS, compare};
 use crate::failure::Failure;
 use crate::lines::{LINES, Line};
 use crate::options::Options;
@@ -27,7 +27,7 @@ use std::sync::Wait;
 use std::thread::Threads;
 
 /// Prints the lines of the command, or all: each for its numbers of threads, or for the last alone
-/// where little is measured. Refused where the command is none.
+/// where little is measured. Refused if the command is unknown.
 fn measure<R: Threads + Sync + Clock + Wait + Print + AllocGlobal>(
     rt: &R,
     command: Option<&str>,
@@ -58,6 +58,9 @@ fn bench<R: Threads + Sync + Clock + Wait + Env + Print + AllocGlobal>(
         return measure(rt, None, &Options::FEW);
     };
     let options = Options::parse(pairs).ok_or(Failure::Usage)?;
+    if options.is_csv {
+        println!(rt; "{COLUMNS}")?;
+    }
     measure(rt, Some(command.as_str()), &options)
 }
 
@@ -65,7 +68,7 @@ fn main(rt: HostRuntime) -> ExitCode {
     let text = match bench(&rt) {
         Ok(()) => return ExitCode::SUCCESS,
         Err(Failure::Usage) =>
-            "usage: clsm_bench calls, mixes, beside, batches, merges, scans or audit",
+            "usage: clsm_bench calls, mixes, beside, batches, merges, scans or audit, options, --csv",
         Err(Failure::Device) => "device",
         Err(Failure::Refused) => "refused",
         Err(Failure::Unanswered) => "unanswered",

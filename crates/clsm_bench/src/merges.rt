@@ -11,31 +11,49 @@ use std::rt::Clock;
 use std::sync::Wait;
 use std::time::Instant;
 
-/// Puts so often at so many of the filled keys, and takes a turn of the merger behind it. Answers
-/// the time of the last turn; of a merge in the second way under a snapshot that was opened before.
+/// The seats of a store: one that holds a snapshot, one that puts, and the merger's.
+struct Seats<'a> {
+    holder: Caller<'a, Free>,
+    target: Target<'a>,
+    merger: Merger<'a, Free>,
+}
+
+/// Turns of the merger, each behind so many puts at so many of the filled keys: so many merges, of
+/// which the last is timed, in the second way under a snapshot that was opened before; or a freeze,
+/// in the second way a reclaim.
+#[derive(Drop)]
+struct Turns<'a> {
+    role: &'a Role,
+    puts: u32,
+    keys: u32,
+    is_second: bool,
+}
+
+/// Takes these turns. Answers the time of the last one.
 fn merge_often<R: Clock + Wait>(
     rt: &R,
     alloc: Global,
-    mut holder: Caller<'_, Free>,
-    mut target: Target,
-    mut merger: Merger<'_, Free>,
-    role: &Role,
-    (puts, keys): (u32, u32),
-    is_second: bool,
+    seats: Seats,
+    turns: &Turns,
 ) -> Result<Lap, Failure> {
-    let (merges, is_merge) = match role {
+    let Seats {
+        mut holder,
+        mut target,
+        mut merger,
+    } = seats;
+    let (merges, is_merge) = match turns.role {
         Role::Merges(merges) => (*merges, true),
         _ => (1, false),
     };
-    if is_merge && is_second && holder.snapshot().is_err() {
+    if is_merge && turns.is_second && holder.snapshot().is_err() {
         return Err(Failure::Unanswered);
     }
     let mut lap = Err(Failure::Unanswered);
     for number in 0..merges {
-        let first = number.saturating_mul(puts);
-        let end = first.saturating_add(puts);
-        put_filled(rt, alloc, &mut target, first, end, keys)?;
-        let (next, last) = turn(rt, merger, is_merge, is_second)?;
+        let first = number.saturating_mul(turns.puts);
+        let end = first.saturating_add(turns.puts);
+        put_filled(rt, alloc, &mut target, first..end, turns.keys)?;
+        let (next, last) = turn(rt, merger, is_merge, turns.is_second)?;
         merger = next;
         lap = Ok(last);
     }
@@ -72,11 +90,18 @@ pub fn merge_lap<R: Clock + Wait>(
     let (Some(holder), Some(writer)) = (seats.pop(), seats.pop()) else {
         return Err(Failure::Unanswered);
     };
-    let holder = Caller::new(&store, holder);
-    let target = Target::Store(0, Caller::new(&store, writer));
-    let merger = Merger::new(&store, merger);
-    let sizes = (puts, options.keys);
-    merge_often(rt, alloc, holder, target, merger, role, sizes, is_second)
+    let seats = Seats {
+        holder: Caller::new(&store, holder),
+        target: Target::Store(0, Caller::new(&store, writer)),
+        merger: Merger::new(&store, merger),
+    };
+    let turns = Turns {
+        role,
+        puts,
+        keys: options.keys,
+        is_second,
+    };
+    merge_often(rt, alloc, seats, &turns)
 }
 
 /// Freezes the epoch, merges it and gives up what that retired. Answers the time of the merge, or

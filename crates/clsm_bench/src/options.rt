@@ -14,6 +14,8 @@ pub struct Options {
     pub keys: u32,
     /// The cells of a store: the times that it has for puts before a merge.
     pub cells: u32,
+    /// Whether each line is printed as comma-separated values.
+    pub is_csv: bool,
 }
 
 impl Options {
@@ -24,6 +26,7 @@ impl Options {
         repeat: 9,
         keys: 32_768,
         cells: 65_536,
+        is_csv: false,
     };
 
     /// What is measured where little is.
@@ -33,13 +36,19 @@ impl Options {
         repeat: 0,
         keys: 40,
         cells: 256,
+        is_csv: false,
     };
 
-    /// The options that the words give, each a name and its number. None where a name is unknown,
-    /// or a number is missing or out of its range.
+    /// The options that the words give, each a name and its number, and `--csv` as the last word.
+    /// None where a name is unknown, or a number is missing or out of its range.
     pub fn parse(words: &[String]) -> Option<Options> {
         let mut options = Options::USUAL;
-        for pair in words.chunks(2) {
+        let (pairs, last) = words.split_at(words.len() - words.len() % 2);
+        options.is_csv = last.iter().any(|word| word.as_str() == "--csv");
+        if options.is_csv != (last.len() == 1) {
+            return None;
+        }
+        for pair in pairs.chunks(2) {
             let [name, number] = pair else {
                 return None;
             };

@@ -5,8 +5,8 @@ use crate::batches::filled_members;
 use crate::calls::{Lap, put_filled, work_all};
 use crate::draws::{Call, Series};
 use crate::failure::Failure;
-use crate::lines::{Beside, Line};
-use crate::options::Options;
+use crate::lines::Beside;
+use crate::sizes::Work;
 use crate::target::Target;
 use clsm_store::{Caller, Merger, Opened, Seat, Store, Swept, open};
 use clsm_words::Free;
@@ -52,7 +52,7 @@ fn fill<'a, R: Wait>(
     let mut first = 0_u32;
     for _ in 0..merges {
         let end = first.saturating_add(cells).min(keys);
-        put_filled(rt, alloc, target, first, end, keys)?;
+        put_filled(rt, alloc, target, first..end, keys)?;
         first = end;
         let (next, swept) = merger.sweep(rt);
         merger = next;
@@ -61,10 +61,10 @@ fn fill<'a, R: Wait>(
         }
     }
     if frozen > 0 {
-        put_filled(rt, alloc, target, 0, frozen, keys)?;
+        put_filled(rt, alloc, target, 0..frozen, keys)?;
         merger = merger.freeze(rt).0;
     }
-    put_filled(rt, alloc, target, 0, last, keys)?;
+    put_filled(rt, alloc, target, 0..last, keys)?;
     Ok(merger)
 }
 
@@ -81,30 +81,38 @@ fn sweep_from_half<'a, R: Wait + Clock>(
     merger
 }
 
+/// What goes on beside so many calls of a series.
+#[derive(Drop)]
+struct Scene<'a> {
+    beside: &'a Beside,
+    series: &'a Series<'a>,
+    calls: u32,
+}
+
 /// Does what is to go on beside the calls, until it is told to stop.
 fn disturb<R: Wait + Clock>(
     rt: &R,
     alloc: Global,
-    beside: &Beside,
-    mut target: Target,
-    mut merger: Merger<'_, Free>,
-    series: &Series,
+    scene: &Scene,
+    extra: (Target, Merger<'_, Free>),
     stop: &AtomicBool,
 ) -> Result<(), Failure> {
+    let (mut target, mut merger) = extra;
+    let Series { keys, cells, .. } = *scene.series;
     let all = Call::Scan {
         lo: 0,
         hi: u64::MAX,
-        rows: series.keys as usize,
+        rows: keys as usize,
     };
-    let members = filled_members(alloc, series.keys)?;
+    let members = filled_members(alloc, keys)?;
     for _ in 0..u32::MAX {
         if stop.load(SeqCst) {
             return Ok(());
         }
-        match beside {
+        match scene.beside {
             Beside::Nothing => return Ok(()),
             Beside::Merger => merger = merger.sweep(rt).0,
-            Beside::PacedMerger => merger = sweep_from_half(rt, merger, series.cells),
+            Beside::PacedMerger => merger = sweep_from_half(rt, merger, cells),
             Beside::Batcher => {
                 if !target.batch(rt, &members) {
                     merger = merger.sweep(rt).0;
@@ -122,20 +130,19 @@ fn disturb<R: Wait + Clock>(
 fn work_beside<R: Threads + Sync + Clock + Wait>(
     rt: &R,
     alloc: Global,
-    beside: &Beside,
     mut targets: Vec<Target>,
-    mut merger: Merger<'_, Free>,
-    series: &Series,
-    calls: u32,
+    merger: Merger<'_, Free>,
+    scene: &Scene,
 ) -> Result<Lap, Failure> {
-    let mut extra = targets.pop().ok_or(Failure::Unanswered)?;
-    merger = fill(rt, alloc, &mut extra, merger, series)?;
+    let mut target = targets.pop().ok_or(Failure::Unanswered)?;
+    let merger = fill(rt, alloc, &mut target, merger, scene.series)?;
+    let extra = (target, merger);
     let stop = AtomicBool::new(false);
     let (disturbed, lap) = join(
         rt,
-        || -> Result<(), Failure> { disturb(rt, alloc, beside, extra, merger, series, &stop) },
+        || -> Result<(), Failure> { disturb(rt, alloc, scene, extra, &stop) },
         || -> Result<Lap, Failure> {
-            let lap = work_all(rt, alloc, targets, series, calls);
+            let lap = work_all(rt, alloc, targets, scene.series, scene.calls);
             stop.store(true, SeqCst);
             lap
         },
@@ -149,11 +156,14 @@ fn work_beside<R: Threads + Sync + Clock + Wait>(
 pub fn store_lap<R: Threads + Sync + Clock + Wait>(
     rt: &R,
     alloc: Global,
-    line: &Line,
+    work: &Work,
     beside: &Beside,
-    options: &Options,
-    threads: u32,
 ) -> Result<Lap, Failure> {
+    let Work {
+        line,
+        options,
+        threads,
+    } = *work;
     let series = Series::new(alloc, line, options)?;
     let is_merged = matches!(
         beside,
@@ -170,17 +180,25 @@ pub fn store_lap<R: Threads + Sync + Clock + Wait>(
     } = opened;
     let targets = targets(alloc, &store, seats)?;
     let merger = Merger::new(&store, merger);
-    work_beside(rt, alloc, beside, targets, merger, &series, calls)
+    let scene = Scene {
+        beside,
+        series: &series,
+        calls,
+    };
+    work_beside(rt, alloc, targets, merger, &scene)
 }
 
 /// The same calls of a map that is made and filled for them.
 pub fn map_lap<R: Threads + Sync + Clock + Wait>(
     rt: &R,
     alloc: Global,
-    line: &Line,
-    options: &Options,
-    threads: u32,
+    work: &Work,
 ) -> Result<Lap, Failure> {
+    let Work {
+        line,
+        options,
+        threads,
+    } = *work;
     let series = Series::new(alloc, line, options)?;
     let calls = line.calls(false, options, threads);
     let map = RwLock::new(BTreeMap::new(alloc));
@@ -189,7 +207,7 @@ pub fn map_lap<R: Threads + Sync + Clock + Wait>(
         targets.push(Target::Map(number, &map))?;
     }
     if let Some(target) = targets.first_mut() {
-        put_filled(rt, alloc, target, 0, series.keys, series.keys)?;
+        put_filled(rt, alloc, target, 0..series.keys, series.keys)?;
     }
     work_all(rt, alloc, targets, &series, calls)
 }

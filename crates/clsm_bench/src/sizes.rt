@@ -18,6 +18,14 @@ const MOST_ROWS: u32 = 200_000;
 /// The keys of a mix of few.
 const FEW_KEYS: u32 = 64;
 
+/// A line's work, by so many threads.
+#[derive(Clone, Copy)]
+pub struct Work<'a> {
+    pub line: &'a Line,
+    pub options: &'a Options,
+    pub threads: u32,
+}
+
 impl Line {
     /// The options, with as many keys and cells as the line has at most.
     pub fn limit(&self, options: &Options) -> Options {
@@ -26,11 +34,9 @@ impl Line {
             _ => (u32::MAX, u32::MAX),
         };
         Options {
-            calls: options.calls,
-            puts: options.puts,
-            repeat: options.repeat,
             keys: options.keys.min(keys),
             cells: options.cells.min(cells),
+            ..*options
         }
     }
 

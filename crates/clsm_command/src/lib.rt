@@ -26,8 +26,8 @@ const EXPLORED_RUN: usize = 4;
 /// the output, help too; why the program does not end well is written to the faults.
 ///
 /// The status is 0 where all was done; 1 for words that are refused, a bad line, or a failed read
-/// or write; 2 for a fault that an audit or an exploration found; 3 for a refused opening, want of
-/// memory or too many worlds.
+/// or write; 2 for a fault that an audit or an exploration found; 3 for a refused opening, if
+/// memory runs out, or for too many worlds.
 pub fn command<T, S, R, W, E>(
     rt: &T,
     alloc: Global,
@@ -115,7 +115,7 @@ where
     )
 }
 
-/// What is asked of an audit. Of the sizes of the store it takes the first two alone.
+/// What an audit is asked for. Of the sizes of the store it takes only the first two.
 fn asked(options: &AuditOptions) -> AskedAudit {
     let config = Config {
         cells: options.cells,

@@ -1,1 +1,2 @@
 pub mod MachineState
+pub mod StepWords

@@ -9,7 +9,8 @@ in_turn_more from [] n n' le h = omega arith
 in_turn_more from (b ∷ bs) n n' le h = (h.0, h.1, in_turn_more (b.first + b.size) bs n n' le h.2)
 
 -- a batch at the bound comes next
-pub in_turn_next : (from : ℕ) (bs : List Batch) (n size : ℕ) → 0 < size → AreInTurn from bs n → AreInTurn from (bs ++ record { first = n; size = size } ∷ []) (n + size)
+pub in_turn_next : (from : ℕ) (bs : List Batch) (n size : ℕ) → 0 < size → AreInTurn from bs n
+    → AreInTurn from (bs ++ record { first = n; size = size } ∷ []) (n + size)
 in_turn_next from [] n size some h = (h, some, omega arith)
 in_turn_next from (b ∷ bs) n size some h = (h.0, h.1, in_turn_next (b.first + b.size) bs n size some h.2)
 
@@ -21,7 +22,8 @@ turn_within from (b ∷ bs) n h = let a = h.0 in let c = turn_within (b.first + 
 -- so no time from the bound on is inside
 pub in_turn_uncut : (from : ℕ) (bs : List Batch) (n s : ℕ) → AreInTurn from bs n → n ≤ s → IsUncut bs s
 in_turn_uncut from [] n s h le = tt
-in_turn_uncut from (b ∷ bs) n s h le = let c = turn_within (b.first + b.size) bs n h.2 in ((λ i. let a = i.1 in absurd (omega arith)), in_turn_uncut (b.first + b.size) bs n s h.2 le)
+in_turn_uncut from (b ∷ bs) n s h le = let c = turn_within (b.first + b.size) bs n h.2 in
+    ((λ i. let a = i.1 in absurd (omega arith)), in_turn_uncut (b.first + b.size) bs n s h.2 le)
 
 -- nor is one up to the bound in the next batch
 pub uncut_next : (bs : List Batch) (n size s : ℕ) → s ≤ n → IsUncut bs s → IsUncut (bs ++ record { first = n; size = size } ∷ []) s

@@ -44,13 +44,41 @@ reader-same a b h =
     λ i. record { first_pin = fields.0 i; quiet = fields.1 i; looks = 0 }
 
 pub Reader-Decides : (a b : Reader) → Decides (of_readers.ghosts.eq a b) (uncounted_reader a ≡ uncounted_reader b)
-Reader-Decides a b = (reader-same a b, λ same. subst (λ r. of_readers.ghosts.eq (uncounted_reader a) r ≡ true) same (reader_laws.laws-law.refl (uncounted_reader a)))
+Reader-Decides a b = (
+  reader-same a b,
+  λ same. subst (λ r. of_readers.ghosts.eq (uncounted_reader a) r ≡ true) same
+      (reader_laws.laws-law.refl (uncounted_reader a)),
+)
 
 -- two mergers are equal where they are the same without their counts
 pub MergerView-Decides : (m n : MergerView) → Decides (of_mergers.ghosts.eq m n) (uncounted_merger m ≡ uncounted_merger n)
 MergerView-Decides m n = Decides-like _
     (λ e. cc)
-    (λ e. (ap (λ (v : MergerView). v.phase) e, (ap (λ (v : MergerView). v.merged) e, (ap (λ (v : MergerView). v.exclusive) e, (ap (λ (v : MergerView). v.padded) e, (ap (λ (v : MergerView). v.clock_extended) e, (ap (λ (v : MergerView). v.limit_extended) e, (ap (λ (v : MergerView). v.floor) e, (ap (λ (v : MergerView). v.round) e, (ap (λ (v : MergerView). v.merged_floor) e, (ap (λ (v : MergerView). v.former_floor) e, (ap (λ (v : MergerView). v.readers) e)))))))))))) (
+    (λ e. (
+      ap (λ (v : MergerView). v.phase) e,
+      (
+        ap (λ (v : MergerView). v.merged) e,
+        (
+          ap (λ (v : MergerView). v.exclusive) e,
+          (
+            ap (λ (v : MergerView). v.padded) e,
+            (
+              ap (λ (v : MergerView). v.clock_extended) e,
+              (
+                ap (λ (v : MergerView). v.limit_extended) e,
+                (
+                  ap (λ (v : MergerView). v.floor) e,
+                  (
+                    ap (λ (v : MergerView). v.round) e,
+                    (ap (λ (v : MergerView). v.merged_floor) e, (ap (λ (v : MergerView). v.former_floor) e, (ap (λ (v : MergerView). v.readers) e))),
+                  ),
+                ),
+              ),
+            ),
+          ),
+        ),
+      ),
+    )) (
     Decides-and _ _ (Phase-Decides m.phase n.phase) (
     Decides-and _ _ (unsigned_Decides m.merged n.merged) (
     Decides-and _ _ (booleans_Decides m.exclusive n.exclusive) (

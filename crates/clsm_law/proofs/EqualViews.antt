@@ -101,7 +101,8 @@ View-Decides v w = (view-same v w, λ same. subst (λ u. of_views.ghosts.eq (unc
 -- ---- lists of views
 
 -- a test of what a function makes of two values tests two lists for the same of each
-pub along-Decides : {A B : Type 0} (f : A → B) {E : A → A → Bool} → ((x y : A) → Decides (E x y) (f x ≡ f y)) → (xs ys : List A) → Decides (pointwise E xs ys) (map f xs ≡ map f ys)
+pub along-Decides : {A B : Type 0} (f : A → B) {E : A → A → Bool} → ((x y : A) → Decides (E x y) (f x ≡ f y)) → (xs ys : List A)
+    → Decides (pointwise E xs ys) (map f xs ≡ map f ys)
 along-Decides f each [] [] = (λ h. refl, λ e. refl)
 along-Decides f each [] (y ∷ ys) = (λ h. absurd (true≢false (sym h)), λ e. cc)
 along-Decides f each (x ∷ xs) [] = (λ h. absurd (true≢false (sym h)), λ e. cc)

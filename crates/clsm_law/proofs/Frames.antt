@@ -1,5 +1,6 @@
 -- What a step changes, and what it leaves as it was, of the functions that the clauses name.
-use Rattle.std.proofs.Common.{◌≡◌, ◌≢◌, ℕ, zero, suc, ◌<◌, cond, List, [], ◌∷◌, ◌++◌, length, set, sym, refl, ap, ◌∙◌, subst, arith, Option, Some, None, get_or-set_other, get_or-set_same}
+use Rattle.std.proofs.Common.{◌≡◌, ◌≢◌, ℕ, zero, suc, ◌<◌, cond, List, [], ◌∷◌, ◌++◌, length, set, sym, refl, ap, ◌∙◌, subst, arith, Option, Some, None}
+use Rattle.std.proofs.Common.{get_or-set_other, get_or-set_same}
 use mathlib.Core.Logic.{dite}
 use native.Mathlib.Decide.{ℕ_discrete}
 use Rattle.clsm_model.specs.declared.slot.Slot.{Slot}
@@ -35,7 +36,8 @@ keep3 {A = A} P {a} {a'} {b} {b'} {c} {c'} e f g h = subst (λ (x : A). P x b' c
 
 -- a word that is written as it was changes nothing
 pub put_same : (memory : Memory) (w : Word) → put memory w (memory w) ≡ memory
-put_same memory w k v = by_bool (λ b. is_same v w ≡ b → cond b (memory w) (memory v) ≡ memory v) (is_same v w) (λ _ e. ap memory (sym (same_word v w e))) (λ _ _. refl) refl k
+put_same memory w k v = by_bool (λ b. is_same v w ≡ b → cond b (memory w) (memory v) ≡ memory v) (is_same v w) (λ _ e. ap memory (sym (same_word v w e)))
+    (λ _ _. refl) refl k
 
 -- the written word
 pub put_here : (memory : Memory) (w : Word) (x : ℕ) → put memory w x w ≡ x
@@ -43,14 +45,17 @@ put_here memory w x = ap (λ b. cond b x (memory w)) (is_same-refl w)
 
 -- any other word
 pub put_other : (memory : Memory) (w v : Word) (x : ℕ) → v ≢ w → put memory w x v ≡ memory v
-put_other memory w v x ne = by_bool (λ b. is_same v w ≡ b → cond b x (memory v) ≡ memory v) (is_same v w) (λ _ e. absurd (ne (same_word v w e))) (λ _ _. refl) refl
+put_other memory w v x ne = by_bool (λ b. is_same v w ≡ b → cond b x (memory v) ≡ memory v) (is_same v w) (λ _ e. absurd (ne (same_word v w e)))
+    (λ _ _. refl) refl
 
 -- ---- views
 
-pub puts_each : {A : Type 0} (z : Layout) (f : View → A) (views : List View) (me : ℕ) (w : View) → me < length views → Puts (each z f views) (each z f (set views me w)) me (f w)
+pub puts_each : {A : Type 0} (z : Layout) (f : View → A) (views : List View) (me : ℕ) (w : View) → me < length views
+    → Puts (each z f views) (each z f (set views me w)) me (f w)
 puts_each z f views me w lt = record { here = ap f (get_or-set_same views me w (idle z) lt); other = λ i ne. ap f (get_or-set_other views me i w (idle z) ne) }
 
-pub same_each : {A : Type 0} (z : Layout) (f : View → A) (views : List View) (me : ℕ) (w : View) → me < length views → f w ≡ f (view_at z views me) → each z f (set views me w) ≡ each z f views
+pub same_each : {A : Type 0} (z : Layout) (f : View → A) (views : List View) (me : ℕ) (w : View) → me < length views → f w ≡ f (view_at z views me)
+    → each z f (set views me w) ≡ each z f views
 same_each z f views me w lt e = let p = puts_each z f views me w lt in
     let all = at_each (λ i. each z f (set views me w) i ≡ each z f views i) me (p.here ∙ e) p.other in λ k i. all i k
 

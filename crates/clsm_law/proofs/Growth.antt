@@ -1,6 +1,7 @@
 -- What an open step of a seat never takes back: decided slots stay, the history grows, and the
 -- pasts with it.
-use Rattle.std.proofs.Common.{◌≡◌, ℕ, ◌+◌, ◌<◌, ◌≤◌, cond, [], ◌∷◌, ◌++◌, length, set, refl, subst, ◌∙◌, arith, ⊎_elim, Option, Some, None, length-set, length-append}
+use Rattle.std.proofs.Common.{◌≡◌, ℕ, ◌+◌, ◌<◌, ◌≤◌, cond, [], ◌∷◌, ◌++◌, length, set, refl, subst, ◌∙◌, arith, ⊎_elim, Option, Some, None, length-set}
+use Rattle.std.proofs.Common.{length-append}
 use Rattle.clsm_model.specs.declared.slot.Slot.{Slot}
 use Rattle.clsm_model.specs.declared.slot.Slot.TheVariants.{Nothing}
 use Rattle.clsm_model.specs.Right.{write_by}
@@ -10,7 +11,7 @@ use Rattle.clsm_law.specs.declared.word.Word.TheVariants.{State}
 use Rattle.clsm_law.specs.declared.view.Mode.TheVariants.{Shared}
 use Rattle.clsm_law.specs.Memory.{cell_of}
 use Rattle.clsm_law.specs.Views.{IsBelow}
-use Rattle.clsm_law.specs.Relation.{HoldsFrom}
+use Rattle.clsm_law.specs.OpenSteps.{HoldsFrom}
 use Rattle.clsm_law.specs.Worlds.{outcome_at}
 use Rattle.clsm_law.specs.Law.{Shows, first_shown}
 use Rattle.clsm_law.proofs.Cases.{by_test}
@@ -20,7 +21,8 @@ use Rattle.clsm_law.proofs.Setting.{Setting, ground, v, x, S, Opens, undecided, 
 -- the time of an open Cancel is shown
 pub cancels_shown : (s : Setting) (t : ℕ) → Opens s (Cancel t) → (first_shown s.z s.merger ≤ t) × (t < length s.slots)
 cancels_shown s t o = ⊎_elim
-    (λ (e : ((v s).drawn ≡ Some t) × ((v s).mode ≡ Shared)). let p = drawn_shown (ground s) s.me t e.0 in (let a = shown_below_merged (ground s) in let b = p.0 in omega arith, p.1))
+    (λ (e : ((v s).drawn ≡ Some t) × ((v s).mode ≡ Shared)). let p = drawn_shown (ground s) s.me t e.0 in
+    (let a = shown_below_merged (ground s) in let b = p.0 in omega arith, p.1))
     (λ h. (from (v s).held refl h.0, until (v s).clock refl h.1)) o
   where
     from : (o : Option ℕ) → (v s).held ≡ o → HoldsFrom s.z o t → first_shown s.z s.merger ≤ t
@@ -33,21 +35,26 @@ cancels_shown s t o = ⊎_elim
 
 -- the slot of a Decide or a Cancel that wins was undecided
 pub decides_undecided : (s : Setting) (t : ℕ) → (v s).drawn ≡ Some t → s.memory (State (cell_of s.z t)) ≡ 0 → outcome_at s.slots t ≡ None
-decides_undecided s t e empty = let p = drawn_shown (ground s) s.me t e in undecided (ground s) t (let a = shown_below_merged (ground s) in let b = p.0 in omega arith) p.1 empty
+decides_undecided s t e empty = let p = drawn_shown (ground s) s.me t e in
+    undecided (ground s) t (let a = shown_below_merged (ground s) in let b = p.0 in omega arith) p.1 empty
 
 pub cancels_undecided : (s : Setting) (t : ℕ) → Opens s (Cancel t) → s.memory (State (cell_of s.z t)) ≡ 0 → outcome_at s.slots t ≡ None
 cancels_undecided s t o empty = let p = cancels_shown s t o in undecided (ground s) t p.0 p.1 empty
 
 -- and the state of an undecided drawn time is empty
 pub undecided_empty : (s : Setting) (t : ℕ) → (v s).drawn ≡ Some t → outcome_at s.slots t ≡ None → s.memory (State (cell_of s.z t)) ≡ 0
-undecided_empty s t e none = let p = drawn_shown (ground s) s.me t e in subst (Shows s.memory (cell_of s.z t)) none (s.law.shown t (let a = shown_below_merged (ground s) in let b = p.0 in omega arith) p.1)
+undecided_empty s t e none = let p = drawn_shown (ground s) s.me t e in
+    subst (Shows s.memory (cell_of s.z t)) none (s.law.shown t (let a = shown_below_merged (ground s) in let b = p.0 in omega arith) p.1)
 
-stays_but : (s : Setting) (t : ℕ) (a : Option Slot) → t < length s.slots → outcome_at s.slots t ≡ None → (u : ℕ) (b : Slot) → outcome_at s.slots u ≡ Some b → outcome_at (set s.slots t a) u ≡ Some b
-stays_but s t a lt none u b = at_each (λ u. outcome_at s.slots u ≡ Some b → outcome_at (set s.slots t a) u ≡ Some b) t (λ e. absurd (cc (e, none))) (λ u ne e. (puts_slot s.slots t a lt).other u ne ∙ e) u
+stays_but : (s : Setting) (t : ℕ) (a : Option Slot) → t < length s.slots → outcome_at s.slots t ≡ None → (u : ℕ) (b : Slot) → outcome_at s.slots u ≡ Some b
+    → outcome_at (set s.slots t a) u ≡ Some b
+stays_but s t a lt none u b = at_each (λ u. outcome_at s.slots u ≡ Some b → outcome_at (set s.slots t a) u ≡ Some b) t (λ e. absurd (cc (e, none)))
+    (λ u ne e. (puts_slot s.slots t a lt).other u ne ∙ e) u
 
 -- what is decided stays
 pub slots_stay : (s : Setting) (step : Step) → Opens s step → (u : ℕ) (b : Slot) → outcome_at s.slots u ≡ Some b → outcome_at (S s step) u ≡ Some b
-slots_stay s (Draw t) o = λ u b e. by_test (λ c. outcome_at (cond c (s.slots ++ None ∷ []) s.slots) u ≡ Some b) (x s (Draw t)) t (λ _. (λ k. slots_grown s.slots k u) ∙ e) (λ _. e)
+slots_stay s (Draw t) o = λ u b e. by_test (λ c. outcome_at (cond c (s.slots ++ None ∷ []) s.slots) u ≡ Some b) (x s (Draw t)) t
+    (λ _. (λ k. slots_grown s.slots k u) ∙ e) (λ _. e)
 slots_stay s (Decide t deed) o = λ u b e. by_test (λ c. outcome_at (cond c (set s.slots t (write_by s.me deed)) s.slots) u ≡ Some b) (x s (Decide t deed)) 0
     (λ z. stays_but s t _ (drawn_shown (ground s) s.me t o.0).1 (decides_undecided s t o.0 z) u b e) (λ _. e)
 slots_stay s (Cancel t) o = λ u b e. by_test (λ c. outcome_at (cond c (set s.slots t (Some Nothing)) s.slots) u ≡ Some b) (x s (Cancel t)) 0
@@ -56,7 +63,10 @@ slots_stay s step o = λ u b e. e
 
 -- and so does the length, or it grows by the drawn time
 pub longer : (s : Setting) (step : Step) → length s.slots ≤ length (S s step)
-longer s (Draw t) = by_test (λ c. length s.slots ≤ length (cond c (s.slots ++ None ∷ []) s.slots)) (x s (Draw t)) t (λ _. let l : length (s.slots ++ None ∷ []) ≡ length s.slots + 1 = length-append s.slots (None ∷ []) in omega arith) (λ _. omega arith)
-longer s (Decide t deed) = by_test (λ c. length s.slots ≤ length (cond c (set s.slots t (write_by s.me deed)) s.slots)) (x s (Decide t deed)) 0 (λ _. let l = length-set s.slots t (write_by s.me deed) in omega arith) (λ _. omega arith)
-longer s (Cancel t) = by_test (λ c. length s.slots ≤ length (cond c (set s.slots t (Some Nothing)) s.slots)) (x s (Cancel t)) 0 (λ _. let l = length-set s.slots t (Some Nothing) in omega arith) (λ _. omega arith)
+longer s (Draw t) = by_test (λ c. length s.slots ≤ length (cond c (s.slots ++ None ∷ []) s.slots)) (x s (Draw t)) t
+    (λ _. let l : length (s.slots ++ None ∷ []) ≡ length s.slots + 1 = length-append s.slots (None ∷ []) in omega arith) (λ _. omega arith)
+longer s (Decide t deed) = by_test (λ c. length s.slots ≤ length (cond c (set s.slots t (write_by s.me deed)) s.slots)) (x s (Decide t deed)) 0
+    (λ _. let l = length-set s.slots t (write_by s.me deed) in omega arith) (λ _. omega arith)
+longer s (Cancel t) = by_test (λ c. length s.slots ≤ length (cond c (set s.slots t (Some Nothing)) s.slots)) (x s (Cancel t)) 0
+    (λ _. let l = length-set s.slots t (Some Nothing) in omega arith) (λ _. omega arith)
 longer s step = omega arith

@@ -21,11 +21,13 @@ pub passed_before : (slots : List (Option Slot)) (t u : ℕ) → u < length slot
 passed_before slots t u lt = get_or_append_left slots (replicate (t - length slots) (Some Nothing)) None u lt
 
 pub passed_behind : (slots : List (Option Slot)) (t u : ℕ) → length slots ≤ u → u < t → outcome_at (passed_over slots t) u ≡ Some Nothing
-passed_behind slots t u le lt = get_or-append_right slots (replicate (t - length slots) (Some Nothing)) u None le ∙ get_or-replicate (t - length slots) (u - length slots) (Some Nothing) None (omega arith)
+passed_behind slots t u le lt = get_or-append_right slots (replicate (t - length slots) (Some Nothing)) u None le
+    ∙ get_or-replicate (t - length slots) (u - length slots) (Some Nothing) None (omega arith)
 
 -- so the length is t, where it was not longer
 pub length_over : (slots : List (Option Slot)) (t : ℕ) → length slots ≤ t → length (passed_over slots t) ≡ t
-length_over slots t le = let a : length (passed_over slots t) ≡ length slots + length (replicate (t - length slots) (Some Nothing)) = length-append slots (replicate (t - length slots) (Some Nothing)) in
+length_over slots t le = let a : length (passed_over slots t) ≡ length slots + length (replicate (t - length slots) (Some Nothing)) =
+    length-append slots (replicate (t - length slots) (Some Nothing)) in
     let b : length (replicate (t - length slots) (Some Nothing)) ≡ t - length slots = length-replicate (t - length slots) (Some Nothing) in omega arith
 
 -- a decided slot stays where it is
@@ -39,7 +41,9 @@ slots_stay' g step o = λ u b e. e
 
 -- and so does the length, or it grows to the end of the epoch
 pub longer' : (g : Ground) (step : Step) → length g.slots ≤ length (slots' g step)
-longer' g ExtendClock = let l : length (slots' g ExtendClock) ≡ length g.slots + length (replicate (epoch_end g.z g.merger - length g.slots) (Some Nothing)) = length-append g.slots (replicate (epoch_end g.z g.merger - length g.slots) (Some Nothing)) in omega arith
+longer' g ExtendClock = let l : length (slots' g ExtendClock) ≡ length g.slots + length
+    (replicate (epoch_end g.z g.merger - length g.slots) (Some Nothing)) =
+    length-append g.slots (replicate (epoch_end g.z g.merger - length g.slots) (Some Nothing)) in omega arith
 longer' g step = omega arith
 
 -- while the merger holds the lock the clock is at most at the end of the epoch

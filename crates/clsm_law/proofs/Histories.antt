@@ -55,7 +55,8 @@ IsRightDeed-right h s (Remove key) r = tt
 IsRightDeed-right h s (Group members) r = tt
 IsRightDeed-right h s deed r = r
 
-pub records_right-go_on : (h h' : History) (calls : List CallRecord) → GoesOn h h' → AllByRecursion (IsRightRecord h) calls → AllByRecursion (IsRightRecord h') calls
+pub records_right-go_on : (h h' : History) (calls : List CallRecord) → GoesOn h h' → AllByRecursion (IsRightRecord h) calls
+    → AllByRecursion (IsRightRecord h') calls
 records_right-go_on h h' [] on all = tt
 records_right-go_on h h' (r ∷ rs) on all = (IsRightDeed-goes_on h h' r.time r.deed on all.0, records_right-go_on h h' rs on all.1)
 
@@ -82,20 +83,26 @@ pub end_of-past : (slots : List (Option Slot)) (p : ℕ) → p ≤ length slots 
 end_of-past slots p le = let e = end_of-past_min slots p in omega arith
 
 -- slots that are the same below p have the same past there
-pub past-same : (slots slots' : List (Option Slot)) (p p' : ℕ) → p ≤ p' → ((t : ℕ) → t < p → outcome_at slots' t ≡ outcome_at slots t) → AreSameBelow (past_of slots p) (past_of slots' p') p
+pub past-same : (slots slots' : List (Option Slot)) (p p' : ℕ) → p ≤ p' → ((t : ℕ) → t < p → outcome_at slots' t ≡ outcome_at slots t)
+    → AreSameBelow (past_of slots p) (past_of slots' p') p
 past-same slots slots' p p' le same t lt = slot_of-past slots' p' t (omega arith) ∙ ap settle (same t lt) ∙ sym (slot_of-past slots p t lt)
 
 -- and where both reach p, they are one past
-pub past-equal : (slots slots' : List (Option Slot)) (p : ℕ) → p ≤ length slots → p ≤ length slots' → ((t : ℕ) → t < p → outcome_at slots' t ≡ outcome_at slots t) → past_of slots' p ≡ past_of slots p
+pub past-equal : (slots slots' : List (Option Slot)) (p : ℕ) → p ≤ length slots → p ≤ length slots'
+    → ((t : ℕ) → t < p → outcome_at slots' t ≡ outcome_at slots t) → past_of slots' p ≡ past_of slots p
 past-equal slots slots' p le le' same = ap plain (taken p le le' same) where
-  taken : (n : ℕ) → n ≤ length slots → n ≤ length slots' → ((t : ℕ) → t < n → outcome_at slots' t ≡ outcome_at slots t) → take n (settled slots') ≡ take n (settled slots)
+  taken : (n : ℕ) → n ≤ length slots → n ≤ length slots' → ((t : ℕ) → t < n → outcome_at slots' t ≡ outcome_at slots t) → take n (settled slots')
+      ≡ take n (settled slots)
   taken zero le le' same = refl
   taken (suc n) le le' same = let e = end_of-history slots in let e' = end_of-history slots' in
       subst (λ (k : ℕ). take k (settled slots') ≡ take k (settled slots)) (add-one n)
-      (take_more_same (settled slots') (settled slots) n Nothing (omega arith) (omega arith) (taken n (omega arith) (omega arith) (λ t lt. same t (omega arith))) (slot_of-history slots' n ∙ ap settle (same n (omega arith)) ∙ sym (slot_of-history slots n)))
+      (take_more_same (settled slots') (settled slots) n Nothing (omega arith) (omega arith)
+      (taken n (omega arith) (omega arith) (λ t lt. same t (omega arith)))
+      (slot_of-history slots' n ∙ ap settle (same n (omega arith)) ∙ sym (slot_of-history slots n)))
 
 -- a later past of slots that grew goes on, where the slots below the former are the same
-pub past-goes_on : (slots slots' : List (Option Slot)) (p p' : ℕ) → p ≤ p' → length slots ≤ length slots' → ((t : ℕ) → t < p → outcome_at slots' t ≡ outcome_at slots t) → GoesOn (past_of slots p) (past_of slots' p')
+pub past-goes_on : (slots slots' : List (Option Slot)) (p p' : ℕ) → p ≤ p' → length slots ≤ length slots'
+    → ((t : ℕ) → t < p → outcome_at slots' t ≡ outcome_at slots t) → GoesOn (past_of slots p) (past_of slots' p')
 past-goes_on slots slots' p p' le longer same = let e = end_of-past_min slots p in let e' = end_of-past_min slots' p' in record {
   plain = refl;
   longer = omega arith;
@@ -110,6 +117,8 @@ decided-same slot slot' t decided stays = is (slot t) decided stays where
   is (Some b) ne stays = stays b refl
 
 -- a later past goes on from a former one below which each slot is decided, where decided slots stay
-pub decided_past-goes_on : (slots slots' : List (Option Slot)) (p p' : ℕ) → p ≤ p' → length slots ≤ length slots' → ((t : ℕ) → t < p → outcome_at slots t ≢ None) → ((t : ℕ) (b : Slot) → outcome_at slots t ≡ Some b → outcome_at slots' t ≡ Some b)
+pub decided_past-goes_on : (slots slots' : List (Option Slot)) (p p' : ℕ) → p ≤ p' → length slots ≤ length slots'
+    → ((t : ℕ) → t < p → outcome_at slots t ≢ None) → ((t : ℕ) (b : Slot) → outcome_at slots t ≡ Some b → outcome_at slots' t ≡ Some b)
     → GoesOn (past_of slots p) (past_of slots' p')
-decided_past-goes_on slots slots' p p' le longer decided stays = past-goes_on slots slots' p p' le longer (λ t lt. decided-same (outcome_at slots) (outcome_at slots') t (decided t lt) (stays t))
+decided_past-goes_on slots slots' p p' le longer decided stays = past-goes_on slots slots' p p' le longer
+    (λ t lt. decided-same (outcome_at slots) (outcome_at slots') t (decided t lt) (stays t))

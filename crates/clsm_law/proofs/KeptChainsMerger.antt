@@ -1,5 +1,6 @@
 -- How a step of the merger keeps the clauses of the chains.
-use Rattle.std.proofs.Common.{◌≡◌, ◌≢◌, ℕ, ◌+◌, ◌-◌, ◌*◌, ◌<◌, ◌≤◌, ◌==◌, Bool, true, false, cond, List, [], length, sym, refl, ap, ◌∙◌, subst, arith, inl, inr, Option, Some}
+use Rattle.std.proofs.Common.{◌≡◌, ◌≢◌, ℕ, ◌+◌, ◌-◌, ◌*◌, ◌<◌, ◌≤◌, ◌==◌, Bool, true, false, cond, List, [], length, sym, refl, ap, ◌∙◌, subst, arith, inl}
+use Rattle.std.proofs.Common.{inr, Option, Some}
 use borrow.Author.Tests.{eqb-true}
 use Rattle.std.proofs.lemmas.Bool.{cases_lt}
 use Rattle.std.proofs.lemmas.Nat.{mod_below}
@@ -13,7 +14,8 @@ use Rattle.clsm_law.specs.declared.merger.Phase.TheVariants.{Clean, Frozen, Reti
 use Rattle.clsm_law.specs.Memory.{Memory, cell_of, region_of}
 use Rattle.clsm_law.specs.Merging.{is_clean, is_frozen, is_retired, is_all_quiet, retired_region, epoch_end}
 use Rattle.clsm_law.specs.Worlds.{outcome_at}
-use Rattle.clsm_law.specs.Law.{each, drawn_of, key_of, linked_of, In, Distinct, IsChain, AreChained, AreIn, AreOnce, AreStanding, AreLinked, AreLoose, first_live, first_shown}
+use Rattle.clsm_law.specs.Law.{each, drawn_of, key_of, linked_of, In, Distinct, IsChain, AreChained, AreIn, AreOnce, AreStanding, AreLinked, AreLoose}
+use Rattle.clsm_law.specs.Law.{first_live, first_shown}
 use Rattle.clsm_law.proofs.Cases.{by_bool}
 use Rattle.clsm_law.proofs.Frames.{keep1, slot_below}
 use Rattle.clsm_law.proofs.Times.{region_of_epoch, region_below}
@@ -43,7 +45,8 @@ module _ (g : Ground) (retired : is_retired g.merger.phase ≡ true) where
 
   -- a drawn time of the current epoch lies in the other region
   pub current_region : (t : ℕ) → g.merger.merged * g.z.cells ≤ t → t < length g.slots → region_of g.z (cell_of g.z t) ≢ retired_region g.merger
-  current_region t from until e = let a = limit_retired in let b = g.law.bounded in let r = region_of_epoch g.z g.merger.merged t from (omega arith) in omega arith
+  current_region t from until e = let a = limit_retired in let b = g.law.bounded in let r = region_of_epoch g.z g.merger.merged t from (omega arith) in
+      omega arith
 
   -- a live time of the epoch before lies in the retired one
   pub former_region : (t : ℕ) → first_live g.z g.merger ≤ t → t < g.merger.merged * g.z.cells → region_of g.z (cell_of g.z t) ≡ retired_region g.merger
@@ -61,10 +64,13 @@ module _ (g : Ground) (retired : is_retired g.merger.phase ≡ true) where
 -- ---- the words lead along the chains
 pub chained_merged : (g : Ground) (step : Step) → OpensTo g step → AreChained g.z (memory' g step) (chains' g step)
 chained_merged g (Look c) o = keep1 (λ (m : Memory). AreChained g.z m g.chains) (merger_looked_same g c) g.law.chained
-chained_merged g (WriteRun (Count p) y) o = λ r k a b. chain_same g.z g.memory (memory' g (WriteRun (Count p) y)) (g.memory (Head r k)) (g.chains r k) (λ t i. refl) (g.law.chained r k a b)
-chained_merged g (WriteRun (Entry p e i) y) o = λ r k a b. chain_same g.z g.memory (memory' g (WriteRun (Entry p e i) y)) (g.memory (Head r k)) (g.chains r k) (λ t i. refl) (g.law.chained r k a b)
+chained_merged g (WriteRun (Count p) y) o = λ r k a b. chain_same g.z g.memory (memory' g (WriteRun (Count p) y)) (g.memory (Head r k)) (g.chains r k)
+    (λ t i. refl) (g.law.chained r k a b)
+chained_merged g (WriteRun (Entry p e i) y) o = λ r k a b. chain_same g.z g.memory (memory' g (WriteRun (Entry p e i) y)) (g.memory (Head r k))
+    (g.chains r k) (λ t i. refl) (g.law.chained r k a b)
 chained_merged g (WriteRun word y) o = absurd o.1
-chained_merged g (ClearHead region chain) o = λ r k a b. by_line (λ t. IsChain g.z (memory' g (ClearHead region chain)) (cond t 0 (g.memory (Head r k))) (cond t [] (g.chains r k))) r k region chain
+chained_merged g (ClearHead region chain) o =
+    λ r k a b. by_line (λ t. IsChain g.z (memory' g (ClearHead region chain)) (cond t 0 (g.memory (Head r k))) (cond t [] (g.chains r k))) r k region chain
     (λ _ _. refl) (λ _. chain_same g.z g.memory (memory' g (ClearHead region chain)) (g.memory (Head r k)) (g.chains r k) (λ t i. refl) (g.law.chained r k a b))
 chained_merged g step o = λ r k a b. chain_same g.z g.memory (memory' g step) (g.memory (Head r k)) (g.chains r k) (λ t i. refl) (g.law.chained r k a b)
 
@@ -76,14 +82,19 @@ headless_from g cell o r k t i =
     elim (cases_lt t (g.merger.merged * g.z.cells)) [
       | inl lt ↦
           let there : r ≡ retired_region g.merger = sym l.region ∙ former_region g o.0 t l.live lt in
-          let inside : k < g.z.chains = let a = mod_below (g.memory (Cell (cell_of g.z t) Key)) g.z.chains (let s = g.sound.2.0 in omega arith) in let b = l.chain in omega arith in
-          let empty : g.memory (Head r k) ≡ 0 = eqb-true (g.memory (Head r k)) 0 (subst (λ (q : ℕ). (g.memory (Head q k) == 0) ≡ true) (sym there) (passes_at (λ chain. g.memory (Head (retired_region g.merger) chain) == 0) 0 g.z.chains k o.4 (omega arith) (omega arith))) in
-          absurd (none_behind_zero g.z g.memory (g.memory (Head r k)) t (g.chains r k) (g.law.chained r k (let a = region_below g.z (cell_of g.z t) in let b = l.region in omega arith) inside) empty i)
+          let inside : k < g.z.chains = let a = mod_below (g.memory (Cell (cell_of g.z t) Key)) g.z.chains (let s = g.sound.2.0 in omega arith) in let b =
+          l.chain in omega arith in
+          let empty : g.memory (Head r k) ≡ 0 = eqb-true (g.memory (Head r k)) 0
+          (subst (λ (q : ℕ). (g.memory (Head q k) == 0) ≡ true) (sym there)
+          (passes_at (λ chain. g.memory (Head (retired_region g.merger) chain) == 0) 0 g.z.chains k o.4 (omega arith) (omega arith))) in
+          absurd (none_behind_zero g.z g.memory (g.memory (Head r k)) t (g.chains r k)
+          (g.law.chained r k (let a = region_below g.z (cell_of g.z t) in let b = l.region in omega arith) inside) empty i)
       | inr le ↦ le
     ]
 
 -- at a clean or frozen phase the current epoch is the first that lives
-pub clean_live : (n merged : ℕ) (p : Phase) (b : Bool) → is_clean p ≡ true → cond (is_retired (cond b Frozen p)) ((merged - 1) * n) (merged * n) ≡ cond (is_retired p) ((merged - 1) * n) (merged * n)
+pub clean_live : (n merged : ℕ) (p : Phase) (b : Bool) → is_clean p ≡ true → cond (is_retired (cond b Frozen p)) ((merged - 1) * n) (merged * n)
+    ≡ cond (is_retired p) ((merged - 1) * n) (merged * n)
 clean_live n merged Clean true e = refl
 clean_live n merged Clean false e = refl
 clean_live n merged Frozen b e = absurd cc
@@ -96,17 +107,25 @@ frozen_live n merged Retired e = absurd cc
 
 -- no time in a chain falls out of the window
 pub in_window : (g : Ground) (step : Step) → OpensTo g step → (r k t : ℕ) → In t (g.chains r k) → first_live g.z (merger' g step) ≤ t
-in_window g LeaveExclusive o = λ r k t i. let a = clean_live g.z.cells g.merger.merged g.merger.phase g.merger.limit_extended (g.law.merger.clean o.0) in let l = (g.law.lies r k t i).live in omega arith
+in_window g LeaveExclusive o = λ r k t i. let a = clean_live g.z.cells g.merger.merged g.merger.phase g.merger.limit_extended (g.law.merger.clean o.0) in
+    let l = (g.law.lies r k t i).live in omega arith
 in_window g (Look (Pin p)) o = λ r k t i. (g.law.lies r k t i).live
 in_window g (Look word) o = λ r k t i. (g.law.lies r k t i).live
-in_window g (ClearState cell) o = λ r k t i. elim ((facts g).last cell) as (λ b. first_live g.z (record g.merger { phase = cond b Clean g.merger.phase }) ≤ t) [ true ↦ headless_from g cell o r k t i | false ↦ (g.law.lies r k t i).live ]
+in_window g (ClearState cell) o = λ r k t i. elim ((facts g).last cell) as
+    (λ b. first_live g.z (record g.merger { phase = cond b Clean g.merger.phase }) ≤ t) [
+      | true ↦ headless_from g cell o r k t i
+      | false ↦ (g.law.lies r k t i).live
+    ]
 in_window g Publish o = λ r k t i. let a = frozen_live g.z.cells g.merger.merged g.merger.phase o.0 in let l = (g.law.lies r k t i).live in omega arith
 in_window g step o = λ r k t i. (g.law.lies r k t i).live
 
-lies_as : (g : Ground) (step : Step) → OpensTo g step → ((c : ℕ) → memory' g step (Cell c Key) ≡ g.memory (Cell c Key)) → AreIn g.z (memory' g step) (first_live g.z (merger' g step)) (length (slots' g step)) g.chains
-lies_as g step o same r k t i = in_as g.z g.memory (memory' g step) _ _ _ _ r k t (g.law.lies r k t i) (in_window g step o r k t i) (longer' g step) (same (cell_of g.z t))
+lies_as : (g : Ground) (step : Step) → OpensTo g step → ((c : ℕ) → memory' g step (Cell c Key) ≡ g.memory (Cell c Key))
+    → AreIn g.z (memory' g step) (first_live g.z (merger' g step)) (length (slots' g step)) g.chains
+lies_as g step o same r k t i = in_as g.z g.memory (memory' g step) _ _ _ _ r k t (g.law.lies r k t i) (in_window g step o r k t i) (longer' g step)
+    (same (cell_of g.z t))
 
-pub lies_merged : (g : Ground) (step : Step) → OpensTo g step → AreIn g.z (memory' g step) (first_live g.z (merger' g step)) (length (slots' g step)) (chains' g step)
+pub lies_merged : (g : Ground) (step : Step) → OpensTo g step → AreIn g.z (memory' g step) (first_live g.z (merger' g step)) (length (slots' g step))
+    (chains' g step)
 lies_merged g (Look c) o = lies_as g (Look c) o (λ k j. merger_looked_same g c j (Cell k Key))
 lies_merged g (WriteRun (Count p) y) o = lies_as g (WriteRun (Count p) y) o (λ c. refl)
 lies_merged g (WriteRun (Entry p e i) y) o = lies_as g (WriteRun (Entry p e i) y) o (λ c. refl)
@@ -120,21 +139,27 @@ once_merged g (ClearHead region chain) o = λ r k. by_line (λ b. Distinct (cond
 once_merged g step o = g.law.once
 
 -- ---- a write stands in the chain of its key
--- a time that the moved clock passed over is no write
-pub passes_over_none : (g : Ground) → OpensTo g ExtendClock → (t i key : ℕ) (written : Option (List ℕ)) → outcome_at (slots' g ExtendClock) t ≡ Some (Wrote i key written) → outcome_at g.slots t ≡ Some (Wrote i key written)
+-- a time that the moved clock skipped is no write
+pub passes_over_none : (g : Ground) → OpensTo g ExtendClock → (t i key : ℕ) (written : Option (List ℕ)) → outcome_at (slots' g ExtendClock) t
+    ≡ Some (Wrote i key written) → outcome_at g.slots t ≡ Some (Wrote i key written)
 passes_over_none g o t i key written e = elim (cases_lt t (length g.slots)) [
   | inl lt ↦ sym (passed_before g.slots (epoch_end g.z g.merger) t lt) ∙ e
-  | inr le ↦ let below = slot_below (slots' g ExtendClock) t (λ none. absurd (cc (none, e))) in let l = length_passed g o in let is = passed_behind g.slots (epoch_end g.z g.merger) t le (omega arith) in absurd (cc (is, e))
+  | inr le ↦ let below = slot_below (slots' g ExtendClock) t (λ none. absurd (cc (none, e))) in let l = length_passed g o in let is =
+      passed_behind g.slots (epoch_end g.z g.merger) t le (omega arith) in absurd (cc (is, e))
 ]
 
-pub standing_merged : (g : Ground) (step : Step) → OpensTo g step → AreStanding g.z (first_shown g.z (merger' g step)) (outcome_at (slots' g step)) (chains' g step)
-standing_merged g ExtendClock o = λ t i key written le e. g.law.standing t i key written (let a = shown_rises g ExtendClock o in omega arith) (passes_over_none g o t i key written e)
+pub standing_merged : (g : Ground) (step : Step) → OpensTo g step → AreStanding g.z (first_shown g.z (merger' g step)) (outcome_at (slots' g step))
+    (chains' g step)
+standing_merged g ExtendClock o = λ t i key written le e. g.law.standing t i key written (let a = shown_rises g ExtendClock o in omega arith)
+    (passes_over_none g o t i key written e)
 standing_merged g (ClearHead region chain) o = λ t i key written le e. let first = quiet_shown g o.0 o.1 in
-    stays_emptied g.chains region chain _ _ t (λ same. current_region g o.0 t (omega arith) (slot_below g.slots t (λ none. absurd (cc (none, e)))) (same ∙ o.2)) (g.law.standing t i key written le e)
+    stays_emptied g.chains region chain _ _ t (λ same. current_region g o.0 t (omega arith) (slot_below g.slots t (λ none. absurd (cc (none, e))))
+    (same ∙ o.2)) (g.law.standing t i key written le e)
 standing_merged g step o = λ t i key written le e. g.law.standing t i key written (let a = shown_rises g step o in omega arith) e
 
 -- ---- a drawn time stands in a chain, its own, just where it is linked
-pub linked_merged : (g : Ground) (step : Step) → OpensTo g step → AreLinked g.z (each g.z drawn_of g.views) (each g.z key_of g.views) (each g.z linked_of g.views) (chains' g step)
+pub linked_merged : (g : Ground) (step : Step) → OpensTo g step → AreLinked g.z (each g.z drawn_of g.views) (each g.z key_of g.views)
+    (each g.z linked_of g.views) (chains' g step)
 linked_merged g (ClearHead region chain) o = λ i t d l. let n = g.law.linked i t d l in let p = drawn_shown g i t d in
     (n.0, n.1, stays_emptied g.chains region chain _ _ t (λ same. current_region g o.0 t p.0 p.1 (same ∙ o.2)) n.2)
 linked_merged g step o = g.law.linked

@@ -1,5 +1,6 @@
 -- How the clauses on the clock, its limit and the number of merges are kept.
-use Rattle.std.proofs.Common.{◌≡◌, ◌≢◌, ℕ, ◌+◌, ◌*◌, ◌<◌, ◌≤◌, ◌==◌, ◌||◌, ◌^◌, Bool, true, false, cond, List, [], ◌∷◌, ◌++◌, length, set, sum_by, sym, refl, ap, ◌∙◌, subst, arith, ⊎_elim, Option, Some, None, is_some, length-append}
+use Rattle.std.proofs.Common.{◌≡◌, ◌≢◌, ℕ, ◌+◌, ◌*◌, ◌<◌, ◌≤◌, ◌==◌, ◌||◌, ◌^◌, Bool, true, false, cond, List, [], ◌∷◌, ◌++◌, length, set, sum_by, sym}
+use Rattle.std.proofs.Common.{refl, ap, ◌∙◌, subst, arith, ⊎_elim, Option, Some, None, is_some, length-append}
 use prog.Atomic.{either}
 use Rattle.std.proofs.lemmas.List.Sums.{sum_by-set}
 use Rattle.clsm_model.specs.declared.record.Deed.{Deed}
@@ -11,7 +12,8 @@ use Rattle.clsm_law.specs.declared.word.Word.TheVariants.{Lock, Clock, Limit, Me
 use Rattle.clsm_law.specs.declared.word.Part.{Part}
 use Rattle.clsm_law.specs.declared.word.Part.TheVariants.{Key}
 use Rattle.clsm_law.specs.declared.step.Step.{Step}
-use Rattle.clsm_law.specs.declared.step.Step.TheVariants.{EnterShared, LeaveShared, EnterExclusive, LeaveExclusive, Draw, Fill, Decide, Cancel, Commit, Look, WriteRun, ClearState, Publish, ExtendClock, ExtendLimit}
+use Rattle.clsm_law.specs.declared.step.Step.TheVariants.{EnterShared, LeaveShared, EnterExclusive, LeaveExclusive, Draw, Fill, Decide, Cancel, Commit}
+use Rattle.clsm_law.specs.declared.step.Step.TheVariants.{Look, WriteRun, ClearState, Publish, ExtendClock, ExtendLimit}
 use Rattle.clsm_law.specs.declared.view.View.{View}
 use Rattle.clsm_law.specs.declared.view.Mode.{Mode}
 use Rattle.clsm_law.specs.declared.view.Mode.TheVariants.{Free, Shared, Exclusive}
@@ -24,7 +26,8 @@ use Rattle.clsm_law.specs.Relation.{looked, filled, given_up, member_of}
 use Rattle.clsm_law.specs.Merging.{is_frozen, is_retired, epoch_end, merger_looked}
 use Rattle.clsm_law.specs.Law.{first_free, taken_by}
 use Rattle.clsm_law.proofs.Cases.{by_test, by_bool}
-use Rattle.clsm_law.proofs.Setting.{Setting, ground, v, x, w, M, V, S, Opens, looked_same, Ground, facts, found, merger', memory', slots', OpensTo, merger_looked_same, merged_below_limit, clock_below, clock_shared, clock_merger}
+use Rattle.clsm_law.proofs.Setting.{Setting, ground, v, x, w, M, V, S, Opens, looked_same, Ground, facts, found, merger', memory', slots', OpensTo}
+use Rattle.clsm_law.proofs.Setting.{merger_looked_same, merged_below_limit, clock_below, clock_shared, clock_merger}
 use Rattle.clsm_law.proofs.Growth.{undecided_empty}
 use Rattle.clsm_law.proofs.GrowthMerger.{clock_held, length_passed}
 use Rattle.clsm_law.proofs.KeptDecided.{run_other}
@@ -88,7 +91,8 @@ module _ (s : Setting) where
 
   -- who does not hold the lock exclusively has taken nothing
   taken_else : (y : View) (m : Mode) → y.mode ≡ m → is_exclusive m ≡ false → taken_by y ≡ 0
-  taken_else y m e f = ap (λ (k : Mode). takes_by k (length y.staged + cond (is_some y.drawn) 1 0)) e ∙ ap (λ b. cond b (length y.staged + cond (is_some y.drawn) 1 0) 0) f
+  taken_else y m e f = ap (λ (k : Mode). takes_by k (length y.staged + cond (is_some y.drawn) 1 0)) e
+      ∙ ap (λ b. cond b (length y.staged + cond (is_some y.drawn) 1 0) 0) f
 
   -- an entry into the lock takes nothing yet
   pub free_staged : (v s).mode ≡ Free → (v s).staged ≡ []
@@ -109,9 +113,10 @@ module _ (s : Setting) where
 
   -- who holds the lock exclusively and writes no cell has taken those of the members
   pub taken_undrawn : (v s).mode ≡ Exclusive → (v s).drawn ≡ None → taken_by (v s) ≡ length (v s).staged
-  taken_undrawn m d = ap (λ (k : Mode). takes_by k (length (v s).staged + cond (is_some (v s).drawn) 1 0)) m ∙ ap (λ (o : Option ℕ). length (v s).staged + cond (is_some o) 1 0) d ∙ zero_more (length (v s).staged) where
-    zero_more : (n : ℕ) → n + 0 ≡ n
-    zero_more n = omega arith
+  taken_undrawn m d = ap (λ (k : Mode). takes_by k (length (v s).staged + cond (is_some (v s).drawn) 1 0)) m
+      ∙ ap (λ (o : Option ℕ). length (v s).staged + cond (is_some o) 1 0) d ∙ zero_more (length (v s).staged) where
+        zero_more : (n : ℕ) → n + 0 ≡ n
+        zero_more n = omega arith
 
   -- the clock that a commit moves is the one that it looked at
   pub commits_at : (members : List Member) → Opens s (Commit members) → or_zero (v s).hold_clock ≡ s.memory Clock
@@ -134,38 +139,50 @@ module _ (s : Setting) where
 
       stays : (d : Option ℕ) → (v s).drawn ≡ d → t < s.memory Clock → given_up d t ≡ d
       stays None d lt = refl
-      stays (Some u) d lt = let own = ((s.law.staging s.me).own e u d).0 in by_test (λ b. cond b None (Some u) ≡ Some u) u t (λ same. absurd (omega arith)) (λ _. refl)
+      stays (Some u) d lt = let own = ((s.law.staging s.me).own e u d).0 in
+          by_test (λ b. cond b None (Some u) ≡ Some u) u t (λ same. absurd (omega arith)) (λ _. refl)
 
-  taken_decided : (t : ℕ) (deed : Deed) → Opens s (Decide t deed) → (m : Mode) → (v s).mode ≡ m → takes_by m (length (cond (is_exclusive m) (cond (x s (Decide t deed) == 0) ((v s).staged ++ member_of deed) (v s).staged) (v s).staged) + 0) ≡ takes_by m (length (v s).staged + cond (is_some (v s).drawn) 1 0)
+  taken_decided : (t : ℕ) (deed : Deed) → Opens s (Decide t deed) → (m : Mode) → (v s).mode ≡ m
+      → takes_by m (length (cond (is_exclusive m) (cond (x s (Decide t deed) == 0) ((v s).staged ++ member_of deed) (v s).staged) (v s).staged) + 0)
+      ≡ takes_by m (length (v s).staged + cond (is_some (v s).drawn) 1 0)
   taken_decided t deed o Free e = refl
   taken_decided t deed o Shared e = refl
-  taken_decided t deed o Exclusive e = let won = alone_decides t deed o e in let one = one_member (v s) deed o.2 in let len = length-append (v s).staged (member_of deed) in
+  taken_decided t deed o Exclusive e = let won = alone_decides t deed o e in let one = one_member (v s) deed o.2 in let len =
+      length-append (v s).staged (member_of deed) in
       rw (won, o.0) (omega arith)
 
-  taken_cancelled : (t : ℕ) → Opens s (Cancel t) → (m : Mode) → (v s).mode ≡ m → takes_by m (length (v s).staged + cond (is_some (given_up (v s).drawn t)) 1 0) ≡ takes_by m (length (v s).staged + cond (is_some (v s).drawn) 1 0)
+  taken_cancelled : (t : ℕ) → Opens s (Cancel t) → (m : Mode) → (v s).mode ≡ m
+      → takes_by m (length (v s).staged + cond (is_some (given_up (v s).drawn t)) 1 0) ≡ takes_by m (length (v s).staged + cond (is_some (v s).drawn) 1 0)
   taken_cancelled t o Free e = refl
   taken_cancelled t o Shared e = refl
   taken_cancelled t o Exclusive e = ap (λ (d : Option ℕ). length (v s).staged + cond (is_some d) 1 0) (alone_keeps t o e)
 
 pub clock_kept : (s : Setting) (step : Step) → Opens s step → M s step Clock + sum_by taken_by (V s step) ≡ length (S s step)
-clock_kept s (Draw t) o = let a = counted s (w s (Draw t)) in let old = taken_else s (v s) Shared o.0 refl in let new = taken_else s (w s (Draw t)) Shared o.0 refl in let same = s.law.clock in
+clock_kept s (Draw t) o = let a = counted s (w s (Draw t)) in let old = taken_else s (v s) Shared o.0 refl in let new =
+    taken_else s (w s (Draw t)) Shared o.0 refl in let same = s.law.clock in
     by_test (λ b. either b (t + 1) (s.memory Clock) + sum_by taken_by (V s (Draw t)) ≡ length (cond b (s.slots ++ None ∷ []) s.slots)) (x s (Draw t)) t
     (λ e. let l : length (s.slots ++ None ∷ []) ≡ length s.slots + 1 = length-append s.slots (None ∷ []) in omega arith) (λ _. omega arith)
-clock_kept s (EnterShared l) o = clock_same s (w s (EnterShared l)) (taken_free s (cond (x s (EnterShared l) == l) Shared (v s).mode) o.0 ∙ sym (taken_else s (v s) Free o.0 refl))
-clock_kept s EnterExclusive o = clock_same s (w s EnterExclusive) (taken_free s (cond (x s EnterExclusive == 0) Exclusive (v s).mode) o ∙ sym (taken_else s (v s) Free o refl))
+clock_kept s (EnterShared l) o = clock_same s (w s (EnterShared l)) (taken_free s (cond (x s (EnterShared l) == l) Shared (v s).mode) o.0
+    ∙ sym (taken_else s (v s) Free o.0 refl))
+clock_kept s EnterExclusive o = clock_same s (w s EnterExclusive) (taken_free s (cond (x s EnterExclusive == 0) Exclusive (v s).mode) o
+    ∙ sym (taken_else s (v s) Free o refl))
 clock_kept s LeaveShared o = clock_same s (w s LeaveShared) (sym (taken_else s (v s) Shared o.0 refl))
 clock_kept s LeaveExclusive o = clock_same s (w s LeaveExclusive) (sym (taken_undrawn s o.0 o.1 ∙ ap (λ (l : List Member). length l) o.2))
-clock_kept s (Commit members) o = let a = counted s (w s (Commit members)) in let at = commits_at s members o in let old = taken_undrawn s o.0 o.1 in let len : length (v s).staged ≡ length members = ap (λ (l : List Member). length l) o.4 in
-    let new : taken_by (w s (Commit members)) ≡ 0 = ap (λ (o : Option ℕ). takes_by (v s).mode (0 + cond (is_some o) 1 0)) o.1 ∙ none (v s).mode in let b = s.law.clock in omega arith
+clock_kept s (Commit members) o = let a = counted s (w s (Commit members)) in let at = commits_at s members o in let old = taken_undrawn s o.0 o.1 in
+    let len : length (v s).staged ≡ length members = ap (λ (l : List Member). length l) o.4 in
+    let new : taken_by (w s (Commit members)) ≡ 0 = ap (λ (o : Option ℕ). takes_by (v s).mode (0 + cond (is_some o) 1 0)) o.1 ∙ none (v s).mode in let b =
+    s.law.clock in omega arith
   where
     none : (m : Mode) → takes_by m 0 ≡ 0
     none Free = refl
     none Shared = refl
     none Exclusive = refl
-clock_kept s (Decide t deed) o = let l = decide_length s t deed in let a = clock_same s (w s (Decide t deed)) (taken_decided s t deed o (v s).mode refl) in omega arith
+clock_kept s (Decide t deed) o = let l = decide_length s t deed in let a = clock_same s (w s (Decide t deed)) (taken_decided s t deed o (v s).mode refl) in
+    omega arith
 clock_kept s (Cancel t) o = let l = cancel_length s t in let a = clock_same s (w s (Cancel t)) (taken_cancelled s t o (v s).mode refl) in omega arith
 clock_kept s (Fill part n) o = clock_same s (w s (Fill part n)) (taken_filled (v s) part n)
-clock_kept s (Look word) o = ap (λ (m : Memory). m Clock + sum_by taken_by (V s (Look word))) (looked_same s word) ∙ clock_same s (w s (Look word)) (taken_looked s.z (v s) word (x s (Look word)))
+clock_kept s (Look word) o = ap (λ (m : Memory). m Clock + sum_by taken_by (V s (Look word))) (looked_same s word)
+    ∙ clock_same s (w s (Look word)) (taken_looked s.z (v s) word (x s (Look word)))
 clock_kept s step o = clock_same s (w s step) refl
 
 pub clock_merged : (g : Ground) (step : Step) → OpensTo g step → memory' g step Clock + sum_by taken_by g.views ≡ length (slots' g step)
@@ -235,11 +252,13 @@ frozen_clock g e = let a = frozen_limit g e in let b = g.law.current in omega ar
 
 -- the limit is not extended but in a hold
 frozen_not_extended : (g : Ground) → is_frozen g.merger.phase ≡ true → g.merger.limit_extended ≡ false
-frozen_not_extended g e = by_bool (λ b. g.merger.limit_extended ≡ b → b ≡ false) g.merger.limit_extended (λ _ f. let h = g.law.merger in absurd (frozen_not_clean g.merger.phase e (h.clean (h.extends (h.limit_after f))))) (λ _ _. refl) refl
+frozen_not_extended g e = by_bool (λ b. g.merger.limit_extended ≡ b → b ≡ false) g.merger.limit_extended
+    (λ _ f. let h = g.law.merger in absurd (frozen_not_clean g.merger.phase e (h.clean (h.extends (h.limit_after f))))) (λ _ _. refl) refl
 
 pub limit_merged : (g : Ground) (step : Step) → OpensTo g step → memory' g step Limit ≡ first_free g.z (merger' g step)
 limit_merged g LeaveExclusive o = g.law.limit ∙ free_leaves g.z.cells g.merger.merged g.merger.phase g.merger.limit_extended
-limit_merged g (Look word) o = ap (λ (m : Memory). m Limit) (merger_looked_same g word) ∙ g.law.limit ∙ sym (free_looked g.z g.merger word (found g (Look word)))
+limit_merged g (Look word) o = ap (λ (m : Memory). m Limit) (merger_looked_same g word) ∙ g.law.limit
+    ∙ sym (free_looked g.z g.merger word (found g (Look word)))
 limit_merged g (WriteRun word n) o = run_other g.memory word Limit n o.1 (λ r. r) ∙ g.law.limit
 limit_merged g (ClearState cell) o = g.law.limit ∙ free_clears g.z.cells g.merger.merged g.merger.phase g.merger.limit_extended ((facts g).last cell) o.0
 limit_merged g Publish o = let a = frozen_limit g o.0 in let b = frozen_not_extended g o.0 in rw b (omega arith)
@@ -253,7 +272,8 @@ begun_kept s step o = let a = s.law.begun in let b = clock_grows s step o in ome
 
 pub begun_merged : (g : Ground) (step : Step) → OpensTo g step → (merger' g step).merged * g.z.cells ≤ memory' g step Clock
 begun_merged g Publish o = frozen_clock g o.0
-begun_merged g (Look word) o = let a = ap (λ (k : ℕ). k * g.z.cells) (merged_looked g.z g.merger word (found g (Look word))) in let b = clock_grows' g (Look word) o in let c = g.law.begun in omega arith
+begun_merged g (Look word) o = let a = ap (λ (k : ℕ). k * g.z.cells) (merged_looked g.z g.merger word (found g (Look word))) in let b =
+    clock_grows' g (Look word) o in let c = g.law.begun in omega arith
 begun_merged g (WriteRun word n) o = let a = g.law.begun in let b = clock_grows' g (WriteRun word n) o in omega arith
 begun_merged g ExtendClock o = let a = g.law.begun in let b = clock_grows' g ExtendClock o in omega arith
 begun_merged g step o = g.law.begun
@@ -270,7 +290,8 @@ below_limit s t o = below (v s).hold_limit refl o.3
 
 pub bounded_kept : (s : Setting) (step : Step) → Opens s step → length (S s step) ≤ M s step Limit
 bounded_kept s (Draw t) o = by_test (λ b. length (cond b (s.slots ++ None ∷ []) s.slots) ≤ s.memory Limit) (x s (Draw t)) t
-    (λ e. let same = clock_shared (ground s) s.me o.0 in let l : length (s.slots ++ None ∷ []) ≡ length s.slots + 1 = length-append s.slots (None ∷ []) in let lt = below_limit s t o in omega arith) (λ _. s.law.bounded)
+    (λ e. let same = clock_shared (ground s) s.me o.0 in let l : length (s.slots ++ None ∷ []) ≡ length s.slots + 1 = length-append s.slots (None ∷ []) in
+    let lt = below_limit s t o in omega arith) (λ _. s.law.bounded)
 bounded_kept s (Decide t deed) o = let a = decide_length s t deed in let b = s.law.bounded in omega arith
 bounded_kept s (Cancel t) o = let a = cancel_length s t in let b = s.law.bounded in omega arith
 bounded_kept s (Look word) o = let a = limit_same s (Look word) in let b = s.law.bounded in omega arith
@@ -295,7 +316,8 @@ current_kept s step o = let a = limit_same s step in let b = clock_grows s step 
 pub current_merged : (g : Ground) (step : Step) → OpensTo g step → memory' g step Limit ≤ memory' g step Clock + g.z.cells
 current_merged g ExtendClock o = let a = clock_grows' g ExtendClock o in let b = g.law.current in omega arith
 current_merged g ExtendLimit o = let a = g.law.merger.at_end o.1 in let b = clock_merger g o.0 in omega arith
-current_merged g (Look word) o = let a = ap (λ (m : Memory). m Limit) (merger_looked_same g word) in let c = clock_grows' g (Look word) o in let b = g.law.current in omega arith
+current_merged g (Look word) o = let a = ap (λ (m : Memory). m Limit) (merger_looked_same g word) in let c = clock_grows' g (Look word) o in let b =
+    g.law.current in omega arith
 current_merged g (WriteRun word n) o = let a = limit_same' g word n o in let c = clock_grows' g (WriteRun word n) o in let b = g.law.current in omega arith
 current_merged g step o = g.law.current
 
@@ -316,7 +338,8 @@ pub merged_kept : (s : Setting) (step : Step) → Opens s step → M s step Merg
 merged_kept s step o = merged_same s step ∙ s.law.merged
 
 pub merged_merged : (g : Ground) (step : Step) → OpensTo g step → memory' g step Merged ≡ (merger' g step).merged
-merged_merged g (Look word) o = ap (λ (m : Memory). m Merged) (merger_looked_same g word) ∙ g.law.merged ∙ sym (merged_looked g.z g.merger word (found g (Look word)))
+merged_merged g (Look word) o = ap (λ (m : Memory). m Merged) (merger_looked_same g word) ∙ g.law.merged
+    ∙ sym (merged_looked g.z g.merger word (found g (Look word)))
 merged_merged g (WriteRun word n) o = run_other g.memory word Merged n o.1 (λ r. r) ∙ g.law.merged
 merged_merged g Publish o = refl
 merged_merged g step o = g.law.merged

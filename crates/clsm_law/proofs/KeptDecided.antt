@@ -1,6 +1,7 @@
 -- How the clauses on decided times are kept: times below FRONT, below the merges, and below what a
 -- seat reached and RaiseFront told.
-use Rattle.std.proofs.Common.{◌≡◌, ◌≢◌, ℕ, ◌+◌, ◌*◌, ◌<◌, ◌≤◌, ◌==◌, ◌&&◌, not, nat_lt, nat_le, true, cond, List, length, set, max, sym, refl, ap, ◌∙◌, subst, arith, inl, inr, Option, Some, None}
+use Rattle.std.proofs.Common.{◌≡◌, ◌≢◌, ℕ, ◌+◌, ◌*◌, ◌<◌, ◌≤◌, ◌==◌, ◌&&◌, not, nat_lt, nat_le, true, cond, List, length, set, max, sym, refl, ap, ◌∙◌}
+use Rattle.std.proofs.Common.{subst, arith, inl, inr, Option, Some, None}
 use Rattle.std.proofs.lemmas.Bool.{cases_lt, and_parts, ltb-true, leb-true, eqb-true, eqb-false, not-true}
 use Rattle.clsm_model.specs.declared.slot.Slot.{Slot}
 use Rattle.clsm_model.specs.declared.slot.Slot.TheVariants.{Nothing, Wrote}
@@ -25,7 +26,8 @@ use Rattle.clsm_law.specs.Worlds.{outcome_at}
 use Rattle.clsm_law.specs.Law.{each, past_time_of, reached_of, IsDecidedBelow, AreDecidedBelow, first_shown}
 use Rattle.clsm_law.proofs.Cases.{by_test, by_bool}
 use Rattle.clsm_law.proofs.Frames.{at_each, keep1, puts_each, puts_slot, put_other}
-use Rattle.clsm_law.proofs.Setting.{Setting, Ground, ground, v, x, w, M, V, S, Opens, OpensTo, found, memory', merger', slots', looked_same, merger_looked_same, decided, drawn_shown, held_shown, shown_below_merged, clock_below}
+use Rattle.clsm_law.proofs.Setting.{Setting, Ground, ground, v, x, w, M, V, S, Opens, OpensTo, found, memory', merger', slots', looked_same}
+use Rattle.clsm_law.proofs.Setting.{merger_looked_same, decided, drawn_shown, held_shown, shown_below_merged, clock_below}
 use Rattle.clsm_law.proofs.Growth.{cancels_shown, slots_stay}
 use Rattle.clsm_law.proofs.GrowthMerger.{slots_stay'}
 
@@ -81,7 +83,8 @@ frozen_decided g frozen t lt none =
     let p = (g.law.pending i.0 t i.1).0 in absurd (omega arith)
 
 pub merged_decided_merged : (g : Ground) (step : Step) → OpensTo g step → IsDecidedBelow (outcome_at (slots' g step)) ((merger' g step).merged * g.z.cells)
-merged_decided_merged g (Look c) o = keep1 (λ (n : ℕ). IsDecidedBelow (outcome_at g.slots) (n * g.z.cells)) (looked_merged g.z g.merger c (found g (Look c))) g.law.merged_decided
+merged_decided_merged g (Look c) o = keep1 (λ (n : ℕ). IsDecidedBelow (outcome_at g.slots) (n * g.z.cells))
+    (looked_merged g.z g.merger c (found g (Look c))) g.law.merged_decided
 merged_decided_merged g Publish o = frozen_decided g o.0
 merged_decided_merged g step o = λ u lt. decided_stay' g step o u (g.law.merged_decided u lt)
 
@@ -89,7 +92,8 @@ merged_decided_merged g step o = λ u lt. decided_stay' g step o u (g.law.merged
 module _ (s : Setting) (step : Step) (o : Opens s step) (bound : View → ℕ) (h : AreDecidedBelow (outcome_at s.slots) (each s.z bound s.views)) where
   -- the seat's own bound after the step is the one thing to be seen
   by_own : ((t : ℕ) → t < bound (w s step) → outcome_at (S s step) t ≢ None) → AreDecidedBelow (outcome_at (S s step)) (each s.z bound (V s step))
-  by_own own = let p = puts_each s.z bound s.views s.me (w s step) s.inside in at_each (λ i. (t : ℕ) → t < each s.z bound (V s step) i → outcome_at (S s step) t ≢ None) s.me
+  by_own own = let p = puts_each s.z bound s.views s.me (w s step) s.inside in
+      at_each (λ i. (t : ℕ) → t < each s.z bound (V s step) i → outcome_at (S s step) t ≢ None) s.me
       (λ t lt. own t (let a = p.here in omega arith))
       (λ i ne t lt. decided_stay s step o t (h i t (let a = p.other i ne in omega arith)))
 
@@ -142,8 +146,10 @@ module _ (s : Setting) (t : ℕ) where
   seen_shown = of_held (v s).held refl
 
 -- a seat reaches past the time t where it had come to t, which is decided by then
-reached_past : (s : Setting) (t : ℕ) (slots : List (Option Slot)) → ((u : ℕ) → outcome_at s.slots u ≢ None → outcome_at slots u ≢ None) → (is_seen s.z (v s) t ≡ true → outcome_at slots t ≢ None) → (u : ℕ) → u < reached_after s.z (v s) t → outcome_at slots u ≢ None
-reached_past s t slots stay here u lt = by_bool (λ b. (t == (v s).reached && is_seen s.z (v s) t) ≡ b → u < cond b ((v s).reached + 1) (v s).reached → outcome_at slots u ≢ None) (t == (v s).reached && is_seen s.z (v s) t)
+reached_past : (s : Setting) (t : ℕ) (slots : List (Option Slot)) → ((u : ℕ) → outcome_at s.slots u ≢ None → outcome_at slots u ≢ None)
+    → (is_seen s.z (v s) t ≡ true → outcome_at slots t ≢ None) → (u : ℕ) → u < reached_after s.z (v s) t → outcome_at slots u ≢ None
+reached_past s t slots stay here u lt = by_bool (λ b. (t == (v s).reached && is_seen s.z (v s) t) ≡ b → u < cond b ((v s).reached + 1) (v s).reached
+    → outcome_at slots u ≢ None) (t == (v s).reached && is_seen s.z (v s) t)
     (λ _ e lt. let both = and_parts (t == (v s).reached) (is_seen s.z (v s) t) e in let is : t ≡ (v s).reached = eqb-true t (v s).reached both.0 in
     elim (cases_lt u (v s).reached) [
       | inl old ↦ stay u (s.law.reached s.me u old)
@@ -152,7 +158,8 @@ reached_past s t slots stay here u lt = by_bool (λ b. (t == (v s).reached && is
     (λ _ _ lt. stay u (s.law.reached s.me u lt)) refl lt
 
 -- who decides a time knows that it is a write
-pub says_write : (y : View) (deed : Deed) (i : ℕ) → SaysWrite y (write_by 0 deed) → (key : ℕ) × (written : Option (List ℕ)) × (write_by 0 deed ≡ Some (Wrote 0 key written)) × (write_by i deed ≡ Some (Wrote i key written))
+pub says_write : (y : View) (deed : Deed) (i : ℕ) → SaysWrite y (write_by 0 deed) → (key : ℕ) × (written : Option (List ℕ))
+    × (write_by 0 deed ≡ Some (Wrote 0 key written)) × (write_by i deed ≡ Some (Wrote i key written))
 says_write y (Put key written) i says = (key, Some written, refl, refl)
 says_write y (Remove key) i says = (key, None, refl, refl)
 says_write y (Rmw key old Keep) i says = absurd says
@@ -162,7 +169,8 @@ says_write y deed i says = absurd says
 
 -- after a Decide or a Cancel, won or lost, the time is decided
 pub decide_settles : (s : Setting) (t : ℕ) (deed : Deed) → Opens s (Decide t deed) → outcome_at (S s (Decide t deed)) t ≢ None
-decide_settles s t deed o = let p = drawn_shown (ground s) s.me t o.0 in by_test (λ b. outcome_at (cond b (set s.slots t (write_by s.me deed)) s.slots) t ≢ None) (x s (Decide t deed)) 0
+decide_settles s t deed o = let p = drawn_shown (ground s) s.me t o.0 in
+    by_test (λ b. outcome_at (cond b (set s.slots t (write_by s.me deed)) s.slots) t ≢ None) (x s (Decide t deed)) 0
     (λ _ e. let write = says_write (v s) deed s.me o.2 in let here = (puts_slot s.slots t (write_by s.me deed) p.1).here in absurd (cc (write.3, here, e)))
     (λ ne. decided (ground s) t (let a = shown_below_merged (ground s) in let b = p.0 in omega arith) p.1 ne)
 
@@ -174,7 +182,9 @@ cancel_settles s t o = let p = cancels_shown s t o in by_test (λ b. outcome_at 
 
 -- a look at a state that is not 0
 state_reached : (s : Setting) (cell u : ℕ) → u < reached_by_state s.z (v s) cell (s.memory (State cell)) → outcome_at s.slots u ≢ None
-state_reached s cell u lt = by_bool (λ b. (not (s.memory (State cell) == 0) && cell == cell_of s.z (v s).reached) ≡ b → u < cond b (reached_after s.z (v s) (v s).reached) (v s).reached → outcome_at s.slots u ≢ None) (not (s.memory (State cell) == 0) && cell == cell_of s.z (v s).reached)
+state_reached s cell u lt = by_bool (λ b. (not (s.memory (State cell) == 0) && cell == cell_of s.z (v s).reached) ≡ b
+    → u < cond b (reached_after s.z (v s) (v s).reached) (v s).reached → outcome_at s.slots u ≢ None)
+    (not (s.memory (State cell) == 0) && cell == cell_of s.z (v s).reached)
     (λ _ e. let both = and_parts (not (s.memory (State cell) == 0)) (cell == cell_of s.z (v s).reached) e in
     let own : cell ≡ cell_of s.z (v s).reached = eqb-true cell (cell_of s.z (v s).reached) both.1 in
     let some : s.memory (State cell) ≢ 0 = eqb-false (s.memory (State cell)) 0 (not-true (s.memory (State cell) == 0) both.0) in
@@ -183,7 +193,8 @@ state_reached s cell u lt = by_bool (λ b. (not (s.memory (State cell) == 0) && 
     (λ _ _ lt. s.law.reached s.me u lt) refl lt
 
 -- the first look at MERGED under a pin
-merged_reached : (s : Setting) (u : ℕ) → u < cond (takes_hold (v s)) (max (v s).reached (s.memory Merged * s.z.cells)) (v s).reached → outcome_at s.slots u ≢ None
+merged_reached : (s : Setting) (u : ℕ) → u < cond (takes_hold (v s)) (max (v s).reached (s.memory Merged * s.z.cells)) (v s).reached
+    → outcome_at s.slots u ≢ None
 merged_reached s u = let e : s.memory Merged * s.z.cells ≡ s.merger.merged * s.z.cells = ap (λ (n : ℕ). n * s.z.cells) s.law.merged in
     by_bool (λ b. u < cond b (max (v s).reached (s.memory Merged * s.z.cells)) (v s).reached → outcome_at s.slots u ≢ None) (takes_hold (v s))
     (λ _ lt. elim (cases_lt u (v s).reached) [
@@ -204,8 +215,10 @@ reached_kept s (Look Front) o = by_own s (Look Front) o reached_of s.law.reached
 reached_kept s (Look Merged) o = by_own s (Look Merged) o reached_of s.law.reached (merged_reached s)
 reached_kept s (Look (State cell)) o = by_own s (Look (State cell)) o reached_of s.law.reached (state_reached s cell)
 reached_kept s (Look c) o = same_own s (Look c) o reached_of s.law.reached refl
-reached_kept s (Decide t deed) o = by_own s (Decide t deed) o reached_of s.law.reached (reached_past s t (S s (Decide t deed)) (decided_stay s (Decide t deed) o) (λ _. decide_settles s t deed o))
-reached_kept s (Cancel t) o = by_own s (Cancel t) o reached_of s.law.reached (reached_past s t (S s (Cancel t)) (decided_stay s (Cancel t) o) (λ _. cancel_settles s t o))
+reached_kept s (Decide t deed) o = by_own s (Decide t deed) o reached_of s.law.reached
+    (reached_past s t (S s (Decide t deed)) (decided_stay s (Decide t deed) o) (λ _. decide_settles s t deed o))
+reached_kept s (Cancel t) o = by_own s (Cancel t) o reached_of s.law.reached
+    (reached_past s t (S s (Cancel t)) (decided_stay s (Cancel t) o) (λ _. cancel_settles s t o))
 reached_kept s (Fill part y) o = same_own s (Fill part y) o reached_of s.law.reached (filled_reached (v s) part y)
 reached_kept s step o = same_own s step o reached_of s.law.reached refl
 

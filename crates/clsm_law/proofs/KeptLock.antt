@@ -1,5 +1,6 @@
 -- How the clauses on the lock, and on the merger's hold of it, are kept.
-use Rattle.std.proofs.Common.{◌≡◌, ◌≢◌, ℕ, zero, suc, ◌+◌, ◌%◌, ◌^◌, ◌*◌, ◌<◌, ◌≤◌, ◌⊎◌, inl, inr, ⊎_elim, Bool, true, false, cond, List, [], ◌∷◌, length, set, sym, refl, ap, ◌∙◌, arith, sum_by, Some, length-set}
+use Rattle.std.proofs.Common.{◌≡◌, ◌≢◌, ℕ, zero, suc, ◌+◌, ◌%◌, ◌^◌, ◌*◌, ◌<◌, ◌≤◌, ◌⊎◌, inl, inr, ⊎_elim, Bool, true, false, cond, List, [], ◌∷◌, length}
+use Rattle.std.proofs.Common.{set, sym, refl, ap, ◌∙◌, arith, sum_by, Some, length-set}
 use mathlib.Core.Logic.{dite}
 use native.Mathlib.Decide.{ℕ_discrete}
 use prog.Atomic.{either}
@@ -14,7 +15,8 @@ use Rattle.clsm_law.specs.declared.word.Word.TheVariants.{Lock, Snap, Pin as Pin
 use Rattle.clsm_law.specs.declared.word.Part.{Part}
 use Rattle.clsm_law.specs.declared.word.Part.TheVariants.{Key}
 use Rattle.clsm_law.specs.declared.step.Step.{Step}
-use Rattle.clsm_law.specs.declared.step.Step.TheVariants.{EnterShared, LeaveShared, EnterExclusive, LeaveExclusive, Draw, Fill, Decide, Cancel, Look, Pad, WriteRun, ClearState, Publish, ExtendClock, ExtendLimit}
+use Rattle.clsm_law.specs.declared.step.Step.TheVariants.{EnterShared, LeaveShared, EnterExclusive, LeaveExclusive, Draw, Fill, Decide, Cancel, Look, Pad}
+use Rattle.clsm_law.specs.declared.step.Step.TheVariants.{WriteRun, ClearState, Publish, ExtendClock, ExtendLimit}
 use Rattle.clsm_law.specs.declared.view.View.{View}
 use Rattle.clsm_law.specs.declared.view.Mode.{Mode}
 use Rattle.clsm_law.specs.declared.view.Mode.TheVariants.{Free, Shared, Exclusive}
@@ -104,7 +106,8 @@ holders_below (y ∷ ys) = let a = sum_by-cons holders y ys in let b = holders_b
 -- where no seat holds the lock the count is 0
 none_shared : (z : Layout) (views : List View) → ((i : ℕ) → each z mode_of views i ≡ Free) → sum_by holders views ≡ 0
 none_shared z [] h = refl
-none_shared z (y ∷ ys) h = let a = sum_by-cons holders y ys in let b = none_shared z ys (λ i. h (suc i)) in let c : holders y ≡ 0 = ap hold_by (h 0) in omega arith
+none_shared z (y ∷ ys) h = let a = sum_by-cons holders y ys in let b = none_shared z ys (λ i. h (suc i)) in let c : holders y ≡ 0 = ap hold_by (h 0) in
+    omega arith
 
 -- and where a seat counts for nothing it is no holder
 no_holder : (m : Mode) → hold_by m ≡ 0 → m ≡ Free
@@ -127,7 +130,8 @@ none_exclusive z (y ∷ ys) lt (suc i) e = let a = sum_by-cons holders y ys in n
 -- where none is exclusive they are no more than the seats
 holders_few : (z : Layout) (views : List View) → ((i : ℕ) → each z mode_of views i ≢ Exclusive) → sum_by holders views ≤ length views
 holders_few z [] none = omega arith
-holders_few z (y ∷ ys) none = let a = sum_by-cons holders y ys in let b = holders_few z ys (λ i. none (suc i)) in let c = one_most y.mode (none 0) in omega arith
+holders_few z (y ∷ ys) none = let a = sum_by-cons holders y ys in let b = holders_few z ys (λ i. none (suc i)) in let c = one_most y.mode (none 0) in
+    omega arith
   where
     one_most : (m : Mode) → m ≢ Exclusive → hold_by m ≤ 1
     one_most Free ne = omega arith
@@ -139,14 +143,19 @@ holders_most : (z : Layout) (views : List View) → AreSole (each z mode_of view
 holders_most z [] sole = inl (omega arith)
 holders_most z (y ∷ ys) sole = head y.mode refl (holders_most z ys (λ i j f ne. sole (suc i) (suc j) f (λ same. ne (omega arith))))
   where
-    head : (m : Mode) → y.mode ≡ m → (sum_by holders ys ≤ 4294967296) ⊎ (sum_by holders ys ≤ length ys) → (sum_by holders (y ∷ ys) ≤ 4294967296) ⊎ (sum_by holders (y ∷ ys) ≤ length (y ∷ ys))
-    head Exclusive e rest = let a = sum_by-cons holders y ys in let b = none_shared z ys (λ i. sole 0 (suc i) e (λ same. absurd (omega arith))) in let c : holders y ≡ 4294967296 = ap hold_by e in inl (omega arith)
-    head Free e rest = let a = sum_by-cons holders y ys in let c : holders y ≡ 0 = ap hold_by e in ⊎_elim (λ (le : sum_by holders ys ≤ 4294967296). inl (omega arith)) (λ (le : sum_by holders ys ≤ length ys). inr (omega arith)) rest
-    head Shared e rest = let a = sum_by-cons holders y ys in let c : holders y ≡ 1 = ap hold_by e in let b = holders_few z ys (λ i f. absurd (let free = sole (suc i) 0 f (λ same. absurd (omega arith)) in cc)) in inr (omega arith)
+    head : (m : Mode) → y.mode ≡ m → (sum_by holders ys ≤ 4294967296) ⊎ (sum_by holders ys ≤ length ys) → (sum_by holders (y ∷ ys) ≤ 4294967296)
+        ⊎ (sum_by holders (y ∷ ys) ≤ length (y ∷ ys))
+    head Exclusive e rest = let a = sum_by-cons holders y ys in let b = none_shared z ys (λ i. sole 0 (suc i) e (λ same. absurd (omega arith))) in
+        let c : holders y ≡ 4294967296 = ap hold_by e in inl (omega arith)
+    head Free e rest = let a = sum_by-cons holders y ys in let c : holders y ≡ 0 = ap hold_by e in
+        ⊎_elim (λ (le : sum_by holders ys ≤ 4294967296). inl (omega arith)) (λ (le : sum_by holders ys ≤ length ys). inr (omega arith)) rest
+    head Shared e rest = let a = sum_by-cons holders y ys in let c : holders y ≡ 1 = ap hold_by e in let b =
+        holders_few z ys (λ i f. absurd (let free = sole (suc i) 0 f (λ same. absurd (omega arith)) in cc)) in inr (omega arith)
 
 -- a holder keeps the merger out
 pub held_free : (g : Ground) (i : ℕ) → each g.z mode_of g.views i ≢ Free → g.merger.exclusive ≡ false
-held_free g i ne = by_bool (λ b. g.merger.exclusive ≡ b → g.merger.exclusive ≡ false) g.merger.exclusive (λ _ h. absurd (ne (g.law.locked_out h i))) (λ _ h. h) refl
+held_free g i ne = by_bool (λ b. g.merger.exclusive ≡ b → g.merger.exclusive ≡ false) g.merger.exclusive (λ _ h. absurd (ne (g.law.locked_out h i)))
+    (λ _ h. h) refl
 
 pub shared_free : (g : Ground) (i : ℕ) → each g.z mode_of g.views i ≡ Shared → g.merger.exclusive ≡ false
 shared_free g i e = held_free g i (λ free. absurd cc)
@@ -156,7 +165,8 @@ exclusive_free g i e = held_free g i (λ free. absurd cc)
 
 -- where LOCK is 0 nobody holds it
 unlocked : (g : Ground) → g.memory Lock ≡ 0 → g.merger.exclusive ≡ false
-unlocked g e = by_bool (λ b. g.merger.exclusive ≡ b → g.merger.exclusive ≡ false) g.merger.exclusive (λ _ h. let a = lock_held g h in absurd (omega arith)) (λ _ h. h) refl
+unlocked g e = by_bool (λ b. g.merger.exclusive ≡ b → g.merger.exclusive ≡ false) g.merger.exclusive (λ _ h. let a = lock_held g h in absurd (omega arith))
+    (λ _ h. h) refl
 
 pub all_free : (g : Ground) → g.memory Lock ≡ 0 → (i : ℕ) → each g.z mode_of g.views i ≡ Free
 all_free g e = let a = lock_shared g (unlocked g e) in shared_none g.z g.views (omega arith)
@@ -164,7 +174,9 @@ all_free g e = let a = lock_shared g (unlocked g e) in shared_none g.z g.views (
 -- LOCK is no greater than an exclusive hold
 pub lock_most : (g : Ground) → g.memory Lock ≤ 4294967296
 lock_most g = by_bool (λ b. g.merger.exclusive ≡ b → g.memory Lock ≤ 4294967296) g.merger.exclusive (λ _ h. let a = lock_held g h in omega arith)
-    (λ _ h. let a = lock_shared g h in let c = g.law.seated in let d = g.sound.1.1 in ⊎_elim (λ (b : sum_by holders g.views ≤ 4294967296). omega arith) (λ (b : sum_by holders g.views ≤ length g.views). omega arith) (holders_most g.z g.views g.law.sole)) refl
+    (λ _ h. let a = lock_shared g h in let c = g.law.seated in let d = g.sound.1.1 in
+    ⊎_elim (λ (b : sum_by holders g.views ≤ 4294967296). omega arith) (λ (b : sum_by holders g.views ≤ length g.views). omega arith)
+    (holders_most g.z g.views g.law.sole)) refl
 
 -- ---- the lock's word
 module _ (s : Setting) where
@@ -173,48 +185,64 @@ module _ (s : Setting) where
   counted y = sum_by-set holders s.views s.me y (idle s.z) s.inside
 
   -- a step that leaves the mode leaves the count
-  pub same_count : (y : View) → y.mode ≡ (v s).mode → cond s.merger.exclusive 4294967296 (sum_by holders s.views) ≡ cond s.merger.exclusive 4294967296 (sum_by holders (set s.views s.me y))
-  same_count y e = let a = counted y in let b : holders y ≡ holders (v s) = ap hold_by e in let c : sum_by holders s.views ≡ sum_by holders (set s.views s.me y) = omega arith in ap (cond s.merger.exclusive 4294967296) c
+  pub same_count : (y : View) → y.mode ≡ (v s).mode → cond s.merger.exclusive 4294967296 (sum_by holders s.views)
+      ≡ cond s.merger.exclusive 4294967296 (sum_by holders (set s.views s.me y))
+  same_count y e = let a = counted y in let b : holders y ≡ holders (v s) = ap hold_by e in let c : sum_by holders s.views
+      ≡ sum_by holders (set s.views s.me y) = omega arith in ap (cond s.merger.exclusive 4294967296) c
 
   -- who enters finds no exclusive holder
   pub enters_free : (l : ℕ) → Opens s (EnterShared l) → x s (EnterShared l) ≡ l → s.merger.exclusive ≡ false
-  enters_free l o e = by_bool (λ b. s.merger.exclusive ≡ b → s.merger.exclusive ≡ false) s.merger.exclusive (λ _ h. let a = lock_held (ground s) h in let b = o.2 in absurd (omega arith)) (λ _ h. h) refl
+  enters_free l o e = by_bool (λ b. s.merger.exclusive ≡ b → s.merger.exclusive ≡ false) s.merger.exclusive
+      (λ _ h. let a = lock_held (ground s) h in let b = o.2 in absurd (omega arith)) (λ _ h. h) refl
 
   -- among the callers neither
   pub enters_beside : (l : ℕ) → Opens s (EnterShared l) → x s (EnterShared l) ≡ l → (i : ℕ) → each s.z mode_of s.views i ≢ Exclusive
   enters_beside l o e = let a = lock_shared (ground s) (enters_free l o e) in let b = o.2 in none_exclusive s.z s.views (omega arith)
 
   -- an entry that wins adds the seat to the count, and one that loses leaves it
-  lock_enters : (l n : ℕ) → Opens s (EnterShared l) → (b : Bool) → (b ≡ true → x s (EnterShared l) ≡ l) → n + holders (v s) ≡ sum_by holders s.views + hold_by (cond b Shared (v s).mode)
+  lock_enters : (l n : ℕ) → Opens s (EnterShared l) → (b : Bool) → (b ≡ true → x s (EnterShared l) ≡ l) → n + holders (v s)
+      ≡ sum_by holders s.views + hold_by (cond b Shared (v s).mode)
       → either b (l + 1) (s.memory Lock) ≡ cond s.merger.exclusive 4294967296 n
-  lock_enters l n o true won e = let free = enters_free l o (won refl) in let found = lock_shared (ground s) free in let here = won refl in let none : holders (v s) ≡ 0 = ap hold_by o.0 in rw free (omega arith)
+  lock_enters l n o true won e = let free = enters_free l o (won refl) in let found = lock_shared (ground s) free in let here = won refl in
+      let none : holders (v s) ≡ 0 = ap hold_by o.0 in rw free (omega arith)
   lock_enters l n o false won e = let same : sum_by holders s.views ≡ n = omega arith in s.law.lock ∙ ap (cond s.merger.exclusive 4294967296) same
 
   -- so does one that takes it alone
-  lock_takes : (n : ℕ) → Opens s EnterExclusive → (b : Bool) → (b ≡ true → x s EnterExclusive ≡ 0) → n + holders (v s) ≡ sum_by holders s.views + hold_by (cond b Exclusive (v s).mode)
+  lock_takes : (n : ℕ) → Opens s EnterExclusive → (b : Bool) → (b ≡ true → x s EnterExclusive ≡ 0) → n + holders (v s)
+      ≡ sum_by holders s.views + hold_by (cond b Exclusive (v s).mode)
       → either b 4294967296 (s.memory Lock) ≡ cond s.merger.exclusive 4294967296 n
-  lock_takes n o true won e = let free = unlocked (ground s) (won refl) in let found = lock_shared (ground s) free in let here = won refl in let none : holders (v s) ≡ 0 = ap hold_by o in rw free (omega arith)
+  lock_takes n o true won e = let free = unlocked (ground s) (won refl) in let found = lock_shared (ground s) free in let here = won refl in
+      let none : holders (v s) ≡ 0 = ap hold_by o in rw free (omega arith)
   lock_takes n o false won e = let same : sum_by holders s.views ≡ n = omega arith in s.law.lock ∙ ap (cond s.merger.exclusive 4294967296) same
 
   -- a holder that leaves takes 1 from the word and from the count
-  lock_leaves : (n : ℕ) → Opens s LeaveShared → n + holders (v s) ≡ sum_by holders s.views + 0 → (s.memory Lock + 18446744073709551615) % 2 ^ 64 ≡ cond s.merger.exclusive 4294967296 n
-  lock_leaves n o e = let free = shared_free (ground s) s.me o.0 in let found = lock_shared (ground s) free in let one : holders (v s) ≡ 1 = ap hold_by o.0 in let few = holders_below s.views in let seats = s.law.seated in let most = s.sound.1.1 in
+  lock_leaves : (n : ℕ) → Opens s LeaveShared → n + holders (v s) ≡ sum_by holders s.views + 0 → (s.memory Lock + 18446744073709551615) % 2 ^ 64
+      ≡ cond s.merger.exclusive 4294967296 n
+  lock_leaves n o e = let free = shared_free (ground s) s.me o.0 in let found = lock_shared (ground s) free in let one : holders (v s) ≡ 1 =
+      ap hold_by o.0 in let few = holders_below s.views in let seats = s.law.seated in let most = s.sound.1.1 in
       rw free (omega arith)
 
   -- and one that held it alone takes its hold
-  lock_gives : (n : ℕ) → Opens s LeaveExclusive → n + holders (v s) ≡ sum_by holders s.views + 0 → (s.memory Lock + 18446744069414584320) % 2 ^ 64 ≡ cond s.merger.exclusive 4294967296 n
-  lock_gives n o e = let free = exclusive_free (ground s) s.me o.0 in let found = lock_shared (ground s) free in let one : holders (v s) ≡ 4294967296 = ap hold_by o.0 in let few = holders_below s.views in let seats = s.law.seated in let most = s.sound.1.1 in
+  lock_gives : (n : ℕ) → Opens s LeaveExclusive → n + holders (v s) ≡ sum_by holders s.views + 0 → (s.memory Lock + 18446744069414584320) % 2 ^ 64
+      ≡ cond s.merger.exclusive 4294967296 n
+  lock_gives n o e = let free = exclusive_free (ground s) s.me o.0 in let found = lock_shared (ground s) free in let one : holders (v s) ≡ 4294967296 =
+      ap hold_by o.0 in let few = holders_below s.views in let seats = s.law.seated in let most = s.sound.1.1 in
       rw free (omega arith)
 
 pub lock_kept : (s : Setting) (step : Step) → Opens s step → M s step Lock ≡ cond s.merger.exclusive 4294967296 (sum_by holders (V s step))
-lock_kept s (EnterShared l) o = by_test (λ b. (n : ℕ) → n + holders (v s) ≡ sum_by holders s.views + hold_by (cond b Shared (v s).mode) → either b (l + 1) (s.memory Lock) ≡ cond s.merger.exclusive 4294967296 n) (x s (EnterShared l)) l
-    (λ e n. lock_enters s l n o true (λ _. e)) (λ _ n. lock_enters s l n o false (λ f. absurd cc)) (sum_by holders (V s (EnterShared l))) (counted s (w s (EnterShared l)))
-lock_kept s EnterExclusive o = by_test (λ b. (n : ℕ) → n + holders (v s) ≡ sum_by holders s.views + hold_by (cond b Exclusive (v s).mode) → either b 4294967296 (s.memory Lock) ≡ cond s.merger.exclusive 4294967296 n) (x s EnterExclusive) 0
-    (λ e n. lock_takes s n o true (λ _. e)) (λ _ n. lock_takes s n o false (λ f. absurd cc)) (sum_by holders (V s EnterExclusive)) (counted s (w s EnterExclusive))
+lock_kept s (EnterShared l) o = by_test (λ b. (n : ℕ) → n + holders (v s) ≡ sum_by holders s.views + hold_by (cond b Shared (v s).mode)
+    → either b (l + 1) (s.memory Lock) ≡ cond s.merger.exclusive 4294967296 n) (x s (EnterShared l)) l
+    (λ e n. lock_enters s l n o true (λ _. e)) (λ _ n. lock_enters s l n o false (λ f. absurd cc)) (sum_by holders (V s (EnterShared l)))
+    (counted s (w s (EnterShared l)))
+lock_kept s EnterExclusive o = by_test (λ b. (n : ℕ) → n + holders (v s) ≡ sum_by holders s.views + hold_by (cond b Exclusive (v s).mode)
+    → either b 4294967296 (s.memory Lock) ≡ cond s.merger.exclusive 4294967296 n) (x s EnterExclusive) 0
+    (λ e n. lock_takes s n o true (λ _. e)) (λ _ n. lock_takes s n o false (λ f. absurd cc)) (sum_by holders (V s EnterExclusive))
+    (counted s (w s EnterExclusive))
 lock_kept s LeaveShared o = lock_leaves s (sum_by holders (V s LeaveShared)) o (counted s (w s LeaveShared))
 lock_kept s LeaveExclusive o = lock_gives s (sum_by holders (V s LeaveExclusive)) o (counted s (w s LeaveExclusive))
 lock_kept s (Fill part n) o = s.law.lock ∙ same_count s (w s (Fill part n)) (mode_filled (v s) part n)
-lock_kept s (Look word) o = ap (λ (m : Memory). m Lock) (looked_same s word) ∙ s.law.lock ∙ same_count s (w s (Look word)) (mode_looked s.z (v s) word (x s (Look word)))
+lock_kept s (Look word) o = ap (λ (m : Memory). m Lock) (looked_same s word) ∙ s.law.lock
+    ∙ same_count s (w s (Look word)) (mode_looked s.z (v s) word (x s (Look word)))
 lock_kept s step o = s.law.lock ∙ same_count s (w s step) refl
 
 -- the merger leaves the word at 0, and no seat holds the lock
@@ -222,9 +250,12 @@ lock_frees : (g : Ground) → OpensTo g LeaveExclusive → (g.memory Lock + 1844
 lock_frees g o = let found = lock_held g o.0 in let none = none_shared g.z g.views (g.law.locked_out o.0) in omega arith
 
 pub lock_merged : (g : Ground) (step : Step) → OpensTo g step → memory' g step Lock ≡ cond (merger' g step).exclusive 4294967296 (sum_by holders g.views)
-lock_merged g EnterExclusive o = by_test (λ b. either b 4294967296 (g.memory Lock) ≡ cond (cond b true g.merger.exclusive) 4294967296 (sum_by holders g.views)) (found g EnterExclusive) 0 (λ _. refl) (λ _. g.law.lock)
+lock_merged g EnterExclusive o =
+    by_test (λ b. either b 4294967296 (g.memory Lock) ≡ cond (cond b true g.merger.exclusive) 4294967296 (sum_by holders g.views))
+    (found g EnterExclusive) 0 (λ _. refl) (λ _. g.law.lock)
 lock_merged g LeaveExclusive o = lock_frees g o
-lock_merged g (Look word) o = ap (λ (m : Memory). m Lock) (merger_looked_same g word) ∙ g.law.lock ∙ ap (λ b. cond b 4294967296 (sum_by holders g.views)) (sym (exclusive_looked g.z g.merger word (found g (Look word))))
+lock_merged g (Look word) o = ap (λ (m : Memory). m Lock) (merger_looked_same g word) ∙ g.law.lock
+    ∙ ap (λ b. cond b 4294967296 (sum_by holders g.views)) (sym (exclusive_looked g.z g.merger word (found g (Look word))))
 lock_merged g (WriteRun word n) o = run_other g.memory word Lock n o.1 (λ r. r) ∙ g.law.lock
 lock_merged g step o = g.law.lock
 
@@ -243,19 +274,23 @@ locked_out_kept s LeaveShared o = λ e. let p = puts_each s.z mode_of s.views s.
     at_each (λ i. each s.z mode_of (V s LeaveShared) i ≡ Free) s.me p.here (λ i ne. p.other i ne ∙ s.law.locked_out e i)
 locked_out_kept s LeaveExclusive o = λ e. let p = puts_each s.z mode_of s.views s.me (w s LeaveExclusive) s.inside in
     at_each (λ i. each s.z mode_of (V s LeaveExclusive) i ≡ Free) s.me p.here (λ i ne. p.other i ne ∙ s.law.locked_out e i)
-locked_out_kept s (Fill part n) o = keep1 (IsLockedOut s.merger.exclusive) (same_each s.z mode_of s.views s.me (w s (Fill part n)) s.inside (mode_filled (v s) part n)) s.law.locked_out
-locked_out_kept s (Look word) o = keep1 (IsLockedOut s.merger.exclusive) (same_each s.z mode_of s.views s.me (w s (Look word)) s.inside (mode_looked s.z (v s) word (x s (Look word)))) s.law.locked_out
+locked_out_kept s (Fill part n) o = keep1 (IsLockedOut s.merger.exclusive)
+    (same_each s.z mode_of s.views s.me (w s (Fill part n)) s.inside (mode_filled (v s) part n)) s.law.locked_out
+locked_out_kept s (Look word) o = keep1 (IsLockedOut s.merger.exclusive)
+    (same_each s.z mode_of s.views s.me (w s (Look word)) s.inside (mode_looked s.z (v s) word (x s (Look word)))) s.law.locked_out
 locked_out_kept s step o = keep1 (IsLockedOut s.merger.exclusive) (same_each s.z mode_of s.views s.me (w s step) s.inside refl) s.law.locked_out
 
 pub locked_out_merged : (g : Ground) (step : Step) → OpensTo g step → IsLockedOut (merger' g step).exclusive (each g.z mode_of g.views)
 locked_out_merged g EnterExclusive o = by_test (λ b. IsLockedOut (cond b true g.merger.exclusive) (each g.z mode_of g.views)) (found g EnterExclusive) 0
     (λ e _. let a = lock_shared g o.1 in shared_none g.z g.views (omega arith)) (λ _. g.law.locked_out)
 locked_out_merged g LeaveExclusive o = λ e. absurd cc
-locked_out_merged g (Look word) o = keep1 (λ b. IsLockedOut b (each g.z mode_of g.views)) (exclusive_looked g.z g.merger word (found g (Look word))) g.law.locked_out
+locked_out_merged g (Look word) o = keep1 (λ b. IsLockedOut b (each g.z mode_of g.views))
+    (exclusive_looked g.z g.merger word (found g (Look word))) g.law.locked_out
 locked_out_merged g step o = g.law.locked_out
 
 -- from the seat's own hold after the step, and from what another's exclusive hold leaves it
-sole_by : (s : Setting) (y : View) → (y.mode ≡ Exclusive → (j : ℕ) → j ≢ s.me → each s.z mode_of s.views j ≡ Free) → ((i : ℕ) → i ≢ s.me → each s.z mode_of s.views i ≡ Exclusive → y.mode ≡ Free) → AreSole (each s.z mode_of (set s.views s.me y))
+sole_by : (s : Setting) (y : View) → (y.mode ≡ Exclusive → (j : ℕ) → j ≢ s.me → each s.z mode_of s.views j ≡ Free)
+    → ((i : ℕ) → i ≢ s.me → each s.z mode_of s.views i ≡ Exclusive → y.mode ≡ Free) → AreSole (each s.z mode_of (set s.views s.me y))
 sole_by s y own other i j e ne = let p = puts_each s.z mode_of s.views s.me y s.inside in let f = each s.z mode_of (set s.views s.me y) in
     dite (ℕ_discrete i s.me)
     (λ (a : i ≡ s.me). dite (ℕ_discrete j s.me)
@@ -271,10 +306,12 @@ sole_same s y e = keep1 AreSole (same_each s.z mode_of s.views s.me y s.inside e
 
 pub sole_kept : (s : Setting) (step : Step) → Opens s step → AreSole (each s.z mode_of (V s step))
 sole_kept s (EnterShared l) o = sole_by s (w s (EnterShared l))
-    (by_test (λ b. cond b Shared (v s).mode ≡ Exclusive → (j : ℕ) → j ≢ s.me → each s.z mode_of s.views j ≡ Free) (x s (EnterShared l)) l (λ _ e. absurd cc) (λ _ e. absurd (let free = o.0 in cc)))
+    (by_test (λ b. cond b Shared (v s).mode ≡ Exclusive → (j : ℕ) → j ≢ s.me → each s.z mode_of s.views j ≡ Free) (x s (EnterShared l)) l (λ _ e. absurd cc)
+    (λ _ e. absurd (let free = o.0 in cc)))
     (λ i ne e. by_test (λ b. cond b Shared (v s).mode ≡ Free) (x s (EnterShared l)) l (λ won. absurd (enters_beside s l o won i e)) (λ _. o.0))
 sole_kept s EnterExclusive o = sole_by s (w s EnterExclusive)
-    (by_test (λ b. cond b Exclusive (v s).mode ≡ Exclusive → (j : ℕ) → j ≢ s.me → each s.z mode_of s.views j ≡ Free) (x s EnterExclusive) 0 (λ won _ j _. all_free (ground s) won j) (λ _ e. absurd cc))
+    (by_test (λ b. cond b Exclusive (v s).mode ≡ Exclusive → (j : ℕ) → j ≢ s.me → each s.z mode_of s.views j ≡ Free) (x s EnterExclusive) 0
+    (λ won _ j _. all_free (ground s) won j) (λ _ e. absurd cc))
     (λ i ne e. by_test (λ b. cond b Exclusive (v s).mode ≡ Free) (x s EnterExclusive) 0 (λ won. absurd (let free = all_free (ground s) won i in cc)) (λ _. o))
 sole_kept s LeaveShared o = sole_by s (w s LeaveShared) (λ e. absurd cc) (λ i ne e. refl)
 sole_kept s LeaveExclusive o = sole_by s (w s LeaveExclusive) (λ e. absurd cc) (λ i ne e. refl)
@@ -289,10 +326,12 @@ sole_merged g step o = g.law.sole
 
 -- a decide and a cancel leave the clock
 pub decide_length : (s : Setting) (t : ℕ) (deed : Deed) → length (S s (Decide t deed)) ≡ length s.slots
-decide_length s t deed = by_test (λ b. length (cond b (set s.slots t (write_by s.me deed)) s.slots) ≡ length s.slots) (x s (Decide t deed)) 0 (λ _. length-set s.slots t (write_by s.me deed)) (λ _. refl)
+decide_length s t deed = by_test (λ b. length (cond b (set s.slots t (write_by s.me deed)) s.slots) ≡ length s.slots) (x s (Decide t deed)) 0
+    (λ _. length-set s.slots t (write_by s.me deed)) (λ _. refl)
 
 pub cancel_length : (s : Setting) (t : ℕ) → length (S s (Cancel t)) ≡ length s.slots
-cancel_length s t = by_test (λ b. length (cond b (set s.slots t (Some Nothing)) s.slots) ≡ length s.slots) (x s (Cancel t)) 0 (λ _. length-set s.slots t (Some Nothing)) (λ _. refl)
+cancel_length s t = by_test (λ b. length (cond b (set s.slots t (Some Nothing)) s.slots) ≡ length s.slots) (x s (Cancel t)) 0
+    (λ _. length-set s.slots t (Some Nothing)) (λ _. refl)
 
 pub merger_kept : (s : Setting) (step : Step) → Opens s step → IsMerger s.z s.merger (length (S s step))
 merger_kept s (Draw t) o = let m = s.law.merger in record {
@@ -346,7 +385,8 @@ merger_merged g (Look (Snap i)) o = let h = g.law.merger in record {
   top = h.top;
 }
 merger_merged g (Look (PinOf i)) o = let h = g.law.merger in let n = found g (Look (PinOf i)) in record {
-  seats = by_bool (λ b. length (cond b (set g.merger.readers i (reader_by (reader_at g.merger.readers i) n)) g.merger.readers) ≡ g.z.seats) (is_retired g.merger.phase)
+  seats = by_bool (λ b. length (cond b (set g.merger.readers i (reader_by (reader_at g.merger.readers i) n)) g.merger.readers) ≡ g.z.seats)
+      (is_retired g.merger.phase)
       (λ _. length-set g.merger.readers i (reader_by (reader_at g.merger.readers i) n) ∙ h.seats) (λ _. h.seats);
   some_merged = h.some_merged;
   clean = h.clean;
@@ -377,16 +417,17 @@ merger_merged g (ClearState cell) o = let h = g.law.merger in record {
   at_end = h.at_end;
   top = h.top;
 }
-merger_merged g Publish o = let h = g.law.merger in let not_held : g.merger.exclusive ≡ true → ⊥ = λ e. frozen_not_clean g.merger.phase o.0 (h.clean e) in record {
-  seats = length-replicate g.z.seats unseen;
-  some_merged = λ _. omega arith;
-  clean = λ e. absurd (not_held e);
-  pads = h.pads;
-  extends = h.extends;
-  limit_after = h.limit_after;
-  at_end = λ e. absurd (not_held (h.extends e));
-  top = λ e. absurd (not_held (h.extends e));
-}
+merger_merged g Publish o = let h = g.law.merger in let not_held : g.merger.exclusive ≡ true → ⊥ = λ e. frozen_not_clean g.merger.phase o.0 (h.clean e) in
+    record {
+      seats = length-replicate g.z.seats unseen;
+      some_merged = λ _. omega arith;
+      clean = λ e. absurd (not_held e);
+      pads = h.pads;
+      extends = h.extends;
+      limit_after = h.limit_after;
+      at_end = λ e. absurd (not_held (h.extends e));
+      top = λ e. absurd (not_held (h.extends e));
+    }
 merger_merged g ExtendClock o = let h = g.law.merger in record {
   seats = h.seats;
   some_merged = h.some_merged;

@@ -20,13 +20,17 @@ use Rattle.clsm_law.proofs.Setting.{Setting, Ground, ground, v, x, S, Opens, Ope
 use Rattle.clsm_law.proofs.Growth.{cancels_shown}
 
 -- one slot more
-short_with : (slots : List (Option Slot)) (t : ℕ) (a : Option Slot) → t < length slots → ((i key : ℕ) (written : Option (List ℕ)) → a ≡ Some (Wrote i key written) → IsShort written) → AreShort (outcome_at slots) → AreShort (outcome_at (set slots t a))
-short_with slots t a lt now h = let p = puts_slot slots t a lt in at_each (λ u. (i key : ℕ) (written : Option (List ℕ)) → outcome_at (set slots t a) u ≡ Some (Wrote i key written) → IsShort written) t
+short_with : (slots : List (Option Slot)) (t : ℕ) (a : Option Slot) → t < length slots
+    → ((i key : ℕ) (written : Option (List ℕ)) → a ≡ Some (Wrote i key written) → IsShort written) → AreShort (outcome_at slots)
+    → AreShort (outcome_at (set slots t a))
+short_with slots t a lt now h = let p = puts_slot slots t a lt in at_each
+    (λ u. (i key : ℕ) (written : Option (List ℕ)) → outcome_at (set slots t a) u ≡ Some (Wrote i key written) → IsShort written) t
     (λ i key written e. now i key written (sym p.here ∙ e))
     (λ u ne i key written e. h u i key written (sym (p.other u ne) ∙ e))
 
 -- what is decided is what the filled parts say
-says_short : (y : View) (deed : Deed) (me : ℕ) → SaysWrite y (write_by 0 deed) → (i key : ℕ) (written : Option (List ℕ)) → write_by me deed ≡ Some (Wrote i key written) → IsShort written
+says_short : (y : View) (deed : Deed) (me : ℕ) → SaysWrite y (write_by 0 deed) → (i key : ℕ) (written : Option (List ℕ)) → write_by me deed
+    ≡ Some (Wrote i key written) → IsShort written
 says_short y (Put k words) me says i key written e = let same : Some words ≡ written = cc in subst IsShort same says.3
 says_short y (Remove k) me says i key written e = let same : None ≡ written = cc in subst IsShort same says.3
 says_short y (Rmw k old Keep) me says i key written e = absurd says
@@ -35,24 +39,27 @@ says_short y (Rmw k old Erase) me says i key written e = let same : None ≡ wri
 says_short y deed me says i key written e = absurd says
 
 pub short_kept : (s : Setting) (step : Step) → Opens s step → AreShort (outcome_at (S s step))
-short_kept s (Draw t) o = by_test (λ b. AreShort (outcome_at (cond b (s.slots ++ None ∷ []) s.slots))) (x s (Draw t)) t (λ _. keep1 AreShort (slots_grown s.slots) s.law.short) (λ _. s.law.short)
+short_kept s (Draw t) o = by_test (λ b. AreShort (outcome_at (cond b (s.slots ++ None ∷ []) s.slots))) (x s (Draw t)) t
+    (λ _. keep1 AreShort (slots_grown s.slots) s.law.short) (λ _. s.law.short)
 short_kept s (Decide t deed) o = by_test (λ b. AreShort (outcome_at (cond b (set s.slots t (write_by s.me deed)) s.slots))) (x s (Decide t deed)) 0
     (λ _. short_with s.slots t (write_by s.me deed) (drawn_shown (ground s) s.me t o.0).1 (says_short (v s) deed s.me o.2) s.law.short) (λ _. s.law.short)
 short_kept s (Cancel t) o = by_test (λ b. AreShort (outcome_at (cond b (set s.slots t (Some Nothing)) s.slots))) (x s (Cancel t)) 0
     (λ _. short_with s.slots t (Some Nothing) (cancels_shown s t o).1 (λ i key written e. absurd cc) s.law.short) (λ _. s.law.short)
 short_kept s step o = s.law.short
 
--- times that are passed over are no writes
+-- times that are skipped are no writes
 none_passed : (n u i key : ℕ) (written : Option (List ℕ)) → outcome_at (replicate n (Some Nothing)) u ≢ Some (Wrote i key written)
 none_passed zero u i key written e = absurd cc
 none_passed (suc n) zero i key written e = absurd cc
 none_passed (suc n) (suc u) i key written e = none_passed n u i key written e
 
-passed_write : (slots : List (Option Slot)) (n u i key : ℕ) (written : Option (List ℕ)) → outcome_at (slots ++ replicate n (Some Nothing)) u ≡ Some (Wrote i key written) → outcome_at slots u ≡ Some (Wrote i key written)
+passed_write : (slots : List (Option Slot)) (n u i key : ℕ) (written : Option (List ℕ)) → outcome_at (slots ++ replicate n (Some Nothing)) u
+    ≡ Some (Wrote i key written) → outcome_at slots u ≡ Some (Wrote i key written)
 passed_write [] n u i key written e = absurd (none_passed n u i key written e)
 passed_write (a ∷ slots) n zero i key written e = e
 passed_write (a ∷ slots) n (suc u) i key written e = passed_write slots n u i key written e
 
 pub short_merged : (g : Ground) (step : Step) → OpensTo g step → AreShort (outcome_at (slots' g step))
-short_merged g ExtendClock o = λ t i key written e. g.law.short t i key written (passed_write g.slots (epoch_end g.z g.merger - length g.slots) t i key written e)
+short_merged g ExtendClock o = λ t i key written e. g.law.short t i key written
+    (passed_write g.slots (epoch_end g.z g.merger - length g.slots) t i key written e)
 short_merged g step o = g.law.short

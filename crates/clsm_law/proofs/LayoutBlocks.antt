@@ -16,7 +16,8 @@ pub block_inside : (lengths : List ℕ) (k x : ℕ) → k < length lengths → x
 block_inside lengths k x within lt = let e = sum_by_more_le (λ x. x) lengths k 0 within in omega arith
 
 -- one place in the row is in one block
-pub same_block : (lengths : List ℕ) (j k x y : ℕ) → j < length lengths → k < length lengths → x < get_or lengths j 0 → y < get_or lengths k 0 → sum (take j lengths) + x ≡ sum (take k lengths) + y → (j ≡ k) × (x ≡ y)
+pub same_block : (lengths : List ℕ) (j k x y : ℕ) → j < length lengths → k < length lengths → x < get_or lengths j 0 → y < get_or lengths k 0
+    → sum (take j lengths) + x ≡ sum (take k lengths) + y → (j ≡ k) × (x ≡ y)
 same_block lengths j k x y p q a b e =
     elim (cases_order j k) [
       | inl same ↦ (same, let f : sum (take j lengths) ≡ sum (take k lengths) = rw same refl in omega arith)

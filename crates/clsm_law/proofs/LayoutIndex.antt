@@ -265,5 +265,6 @@ same_place z _ _ h k b e = absurd (omega arith)
 pub index_apart : (z : Layout) (v w : Word) → is_word z v ≡ true → is_word z w ≡ true → index_of z v ≡ index_of z w → v ≡ w
 unfolding index_of start_of
 index_apart z v w h k e =
-    let s = same_block (blocks z) (block_of v) (block_of w) (offset_of z v) (offset_of z w) (block_below z v h) (block_below z w k) (offset_below z v h) (offset_below z w k) e in
+    let s = same_block (blocks z) (block_of v) (block_of w) (offset_of z v) (offset_of z w) (block_below z v h) (block_below z w k) (offset_below z v h)
+    (offset_below z w k) e in
     same_place z v w h k s.0 s.1

@@ -31,12 +31,14 @@ pub memory-none : (z : Layout) (words : List ℕ) (w : Word) → is_word z w ≡
 unfolding memory
 memory-none z words w h = ap (λ b. cond b (get_or words (index_of z w) 0) 0) h
 
-set_here : (z : Layout) (words : List ℕ) (w : Word) (x : ℕ) (v : Word) → is_word z w ≡ true → length words ≡ size_of z → v ≡ w → memory z (slice_set words (index_of z w) x) v ≡ x
+set_here : (z : Layout) (words : List ℕ) (w : Word) (x : ℕ) (v : Word) → is_word z w ≡ true → length words ≡ size_of z → v ≡ w
+    → memory z (slice_set words (index_of z w) x) v ≡ x
 set_here z words w x v h sized e =
     let lt = index_inside z w h in
     rw e (memory-at z (slice_set words (index_of z w) x) w h ∙ get_or-set_same words (index_of z w) x 0 (omega arith))
 
-set_elsewhere : (z : Layout) (words : List ℕ) (w : Word) (x : ℕ) (v : Word) → is_word z w ≡ true → is_same v w ≡ false → memory z (slice_set words (index_of z w) x) v ≡ memory z words v
+set_elsewhere : (z : Layout) (words : List ℕ) (w : Word) (x : ℕ) (v : Word) → is_word z w ≡ true → is_same v w ≡ false
+    → memory z (slice_set words (index_of z w) x) v ≡ memory z words v
 set_elsewhere z words w x v h other =
     elim (cases_Bool (is_word z v)) [
       | inr none ↦ memory-none z (slice_set words (index_of z w) x) v none ∙ sym (memory-none z words v none)
@@ -45,7 +47,8 @@ set_elsewhere z words w x v h other =
           ∙ sym (memory-at z words v some)
     ]
 
-set_at : (z : Layout) (words : List ℕ) (w : Word) (x : ℕ) (v : Word) → is_word z w ≡ true → length words ≡ size_of z → memory z (slice_set words (index_of z w) x) v ≡ put (memory z words) w x v
+set_at : (z : Layout) (words : List ℕ) (w : Word) (x : ℕ) (v : Word) → is_word z w ≡ true → length words ≡ size_of z
+    → memory z (slice_set words (index_of z w) x) v ≡ put (memory z words) w x v
 set_at z words w x v h sized =
     elim (cases_Bool (is_same v w)) [
       | inl same ↦ rw same (set_here z words w x v h sized (same_word v w same))
@@ -53,7 +56,8 @@ set_at z words w x v h sized =
     ]
 
 -- a write at a word's place puts into that word, and leaves each other word
-pub memory-set : (z : Layout) (words : List ℕ) (w : Word) (x : ℕ) → is_word z w ≡ true → length words ≡ size_of z → memory z (slice_set words (index_of z w) x) ≡ put (memory z words) w x
+pub memory-set : (z : Layout) (words : List ℕ) (w : Word) (x : ℕ) → is_word z w ≡ true → length words ≡ size_of z
+    → memory z (slice_set words (index_of z w) x) ≡ put (memory z words) w x
 memory-set z words w x h sized k v = set_at z words w x v h sized k
 
 zero_at : (z : Layout) (n : ℕ) (w : Word) → memory z (replicate n 0) w ≡ 0

@@ -17,7 +17,7 @@ use Rattle.clsm_law.specs.declared.step.End.{End}
 use Rattle.clsm_law.specs.declared.step.End.TheVariants.{Neither, Meeting, Recorded}
 use Rattle.clsm_law.specs.declared.view.SnapshotState.{SnapshotState}
 use Rattle.clsm_law.specs.declared.view.SnapshotState.TheVariants.{Absent, Noted, Timed, Open}
-use Rattle.clsm_law.specs.Relation.{IsOpen, IsReadBelow, IsRightAt, IsEndingWith, open_time, time_of_read}
+use Rattle.clsm_law.specs.OpenSteps.{IsOpen, IsReadBelow, IsRightAt, IsEndingWith, open_time, time_of_read}
 use Rattle.clsm_law.specs.Worlds.{outcome_at, past_of, open_past}
 use Rattle.clsm_law.specs.Batches.{IsWritten, snapshot_time}
 use Rattle.clsm_law.specs.Raising.{MayRaise, IsRaise}
@@ -25,10 +25,12 @@ use Rattle.clsm_law.proofs.Setting.{Setting, v}
 use Rattle.clsm_law.proofs.Steps.{May}
 
 -- a time that came to no write is inside no batch
-unwritten_uncut : (slot : ℕ → Option Slot) (bs : List Batch) (t : ℕ) → (slot t ≡ None) ⊎ (slot t ≡ Some Nothing) → AllByRecursion (IsWritten slot) bs → IsUncut bs t
+unwritten_uncut : (slot : ℕ → Option Slot) (bs : List Batch) (t : ℕ) → (slot t ≡ None) ⊎ (slot t ≡ Some Nothing) → AllByRecursion (IsWritten slot) bs
+    → IsUncut bs t
 unwritten_uncut slot [] t none all = tt
 unwritten_uncut slot (b ∷ bs) t none all = (
-  λ i. let low = i.0 in let high = i.1 in let written = all.0 t (omega arith) high in ⊎_elim (λ (e : slot t ≡ None). written.0 e) (λ (e : slot t ≡ Some Nothing). written.1 e) none,
+  λ i. let low = i.0 in let high = i.1 in let written = all.0 t (omega arith) high in
+      ⊎_elim (λ (e : slot t ≡ None). written.0 e) (λ (e : slot t ≡ Some Nothing). written.1 e) none,
   unwritten_uncut slot bs t none all.1,
 )
 
@@ -63,18 +65,25 @@ module _ (s : Setting) where
   read_uncut (Group members) t e = absurd cc
 
   -- what is right by the slots is right at a time that is uncut
-  right_open : (t : ℕ) (deed : Deed) → IsUncut s.batches t → IsRight (past_of s.slots (v s).past) t deed → IsRight (open_past s.slots s.batches (v s).past) t deed
-  right_open t deed uncut r = record { readable = record { reached = r.readable.reached; uncut = uncut }; reads = Reads-same (past_of s.slots (v s).past) (open_past s.slots s.batches (v s).past) t deed (λ u lt. refl) r.reads }
+  right_open : (t : ℕ) (deed : Deed) → IsUncut s.batches t → IsRight (past_of s.slots (v s).past) t deed
+      → IsRight (open_past s.slots s.batches (v s).past) t deed
+  right_open t deed uncut r = record {
+    readable = record { reached = r.readable.reached; uncut = uncut };
+    reads = Reads-same (past_of s.slots (v s).past) (open_past s.slots s.batches (v s).past) t deed (λ u lt. refl) r.reads;
+  }
 
-  below_open : (t : ℕ) (deed : Deed) → (v s).drawn ≡ Some t → IsReadBelow (past_of s.slots (v s).past) (v s) t deed → IsReadBelow (open_past s.slots s.batches (v s).past) (v s) t deed
+  below_open : (t : ℕ) (deed : Deed) → (v s).drawn ≡ Some t → IsReadBelow (past_of s.slots (v s).past) (v s) t deed
+      → IsReadBelow (open_past s.slots s.batches (v s).past) (v s) t deed
   below_open t (Rmw key old change) e r = (r.0, right_open t (Rmw key old change) (drawn_uncut t e) r.1)
   below_open t deed e r = tt
 
-  at_open : (deed : Deed) (o : Option ℕ) → time_of_read (v s) deed ≡ o → IsRightAt (past_of s.slots (v s).past) (v s) deed o → IsRightAt (open_past s.slots s.batches (v s).past) (v s) deed o
+  at_open : (deed : Deed) (o : Option ℕ) → time_of_read (v s) deed ≡ o → IsRightAt (past_of s.slots (v s).past) (v s) deed o
+      → IsRightAt (open_past s.slots s.batches (v s).past) (v s) deed o
   at_open deed None e r = absurd r
   at_open deed (Some t) e r = (r.0, right_open t deed (read_uncut deed t e) r.1)
 
-  ending_open : (n : SnapshotState) (end : End) → (v s).snapshot ≡ n → IsEndingWith (past_of s.slots (v s).past) (v s) n end → IsEndingWith (open_past s.slots s.batches (v s).past) (v s) n end
+  ending_open : (n : SnapshotState) (end : End) → (v s).snapshot ≡ n → IsEndingWith (past_of s.slots (v s).past) (v s) n end
+      → IsEndingWith (open_past s.slots s.batches (v s).past) (v s) n end
   ending_open (Noted b) end is p = absurd p
   ending_open (Timed b t) Neither is p = absurd p
   ending_open (Timed b t) Meeting is p = absurd p
@@ -86,7 +95,8 @@ module _ (s : Setting) where
 
   raise_uncut : (t : ℕ) → MayRaise (v s) t → IsUncut s.batches t
   raise_uncut t may = ⊎_elim (λ (e : (v s).pin_clock ≡ Some t). s.law.uncut_pins s.me t e)
-      (λ (or : (snapshot_time (v s).snapshot ≡ Some t) ⊎ ((v s).drawn ≡ Some t)). ⊎_elim (λ (e : snapshot_time (v s).snapshot ≡ Some t). s.law.uncut_snapshots s.me t e) (λ (e : (v s).drawn ≡ Some t). drawn_uncut t e) or) may
+      (λ (or : (snapshot_time (v s).snapshot ≡ Some t) ⊎ ((v s).drawn ≡ Some t)). ⊎_elim
+      (λ (e : snapshot_time (v s).snapshot ≡ Some t). s.law.uncut_snapshots s.me t e) (λ (e : (v s).drawn ≡ Some t). drawn_uncut t e) or) may
 
   pub lifted : (step : Step) → IsOpen s.z (past_of s.slots (v s).past) (v s) step → IsRaise (v s) step → May s step
   lifted (Decide t deed) o may = (o.0, o.1, o.2, below_open t deed o.0 o.3, o.4)

@@ -16,10 +16,13 @@ end_before_limit : (frozen : Bool) (m n : ℕ) → (m + 1) * n ≤ cond frozen (
 end_before_limit true m n = omega arith
 end_before_limit false m n = omega arith
 
-pub lawful_is_small : (z : Layout) (words : List ℕ) (views : List View) (m : MergerView) (slots : List (Option Slot)) (batches : List Batch) (chains : Chains) (orders : Orders) → LawOf z (memory z words) views m slots batches chains orders → IsMergerSmall z m
-lawful_is_small z words views m slots batches chains orders law = let e = end_before_limit (is_frozen m.phase || m.limit_extended) m.merged z.cells in record { merged = omega (arith, law.limit, law.top, e) }
+pub lawful_is_small : (z : Layout) (words : List ℕ) (views : List View) (m : MergerView) (slots : List (Option Slot)) (batches : List Batch)
+    (chains : Chains) (orders : Orders) → LawOf z (memory z words) views m slots batches chains orders → IsMergerSmall z m
+lawful_is_small z words views m slots batches chains orders law = let e = end_before_limit (is_frozen m.phase || m.limit_extended) m.merged z.cells in
+    record { merged = omega (arith, law.limit, law.top, e) }
 
-pub lawful_is_mergeable : (z : Layout) (words : List ℕ) (views : List View) (m : MergerView) (slots : List (Option Slot)) (batches : List Batch) (chains : Chains) (orders : Orders) → length words ≡ size_of z → LawOf z (memory z words) views m slots batches chains orders → IsMergeable z words m
+pub lawful_is_mergeable : (z : Layout) (words : List ℕ) (views : List View) (m : MergerView) (slots : List (Option Slot)) (batches : List Batch)
+    (chains : Chains) (orders : Orders) → length words ≡ size_of z → LawOf z (memory z words) views m slots batches chains orders → IsMergeable z words m
 lawful_is_mergeable z words views m slots batches chains orders sized law = record {
   size = sized;
   small = lawful_is_small z words views m slots batches chains orders law;

@@ -1,5 +1,6 @@
 -- The opening world is lawful.
-use Rattle.std.proofs.Common.{◌≡◌, ◌≢◌, ℕ, zero, suc, ◌*◌, ◌%◌, ◌≤◌, cond, List, [], replicate, sym, refl, ap, ◌∙◌, subst, arith, inl, Option, Some, None, length-set}
+use Rattle.std.proofs.Common.{◌≡◌, ◌≢◌, ℕ, zero, suc, ◌*◌, ◌%◌, ◌≤◌, cond, List, [], replicate, sym, refl, ap, ◌∙◌, subst, arith, inl, Option, Some, None}
+use Rattle.std.proofs.Common.{length-set}
 use Rattle.std.specs.List.{AllByRecursion, sum_by}
 use Rattle.std.proofs.lemmas.List.{length-replicate}
 use Rattle.std.proofs.lemmas.List.Sums.{sum_by-cons}
@@ -10,10 +11,11 @@ use Rattle.clsm_law.specs.declared.view.View.{View}
 use Rattle.clsm_law.specs.Memory.{Memory, put}
 use Rattle.clsm_law.specs.Layout.{IsLayout, index_of, size_of}
 use Rattle.clsm_law.specs.Views.{idle}
-use Rattle.clsm_law.specs.Relation.{open_time}
+use Rattle.clsm_law.specs.OpenSteps.{open_time}
 use Rattle.clsm_law.specs.Merging.{opening, unseen}
 use Rattle.clsm_law.specs.Worlds.{view_at, outcome_at, past_of, history_of, runs_of}
-use Rattle.clsm_law.specs.Law.{LawOf, IsSnapshot, taken_by, note_of, each, mode_of, drawn_of, holders, met_of, low_of, high_of, hold_limit_of, fresh_clock_of, hold_clock_of, clock_of, pin_clock_of, past_time_of, reached_of, pin_of, held_of}
+use Rattle.clsm_law.specs.Law.{LawOf, IsSnapshot, taken_by, note_of, each, mode_of, drawn_of, holders, met_of, low_of, high_of, hold_limit_of}
+use Rattle.clsm_law.specs.Law.{fresh_clock_of, hold_clock_of, clock_of, pin_clock_of, past_time_of, reached_of, pin_of, held_of}
 use Rattle.clsm_law.specs.Batches.{IsStaging}
 use Rattle.clsm_model.specs.Seats.{IsRightRecord, IsStandingRecord, IsUncutRecord, IsListedRecord, FitsRecord, IsRising}
 use Rattle.clsm_law.specs.Machine.{IsLawful, opened}
@@ -121,8 +123,21 @@ module _ (z : Layout) where
     notes = λ i lt. all_idle (λ (v : View). 0 ≡ note_of v.snapshot) refl n i;
     snapshots = λ i. all_idle (λ (v : View). IsSnapshot 0 0 v.past v.pinned v.snapshot) tt n i;
     passed = tt;
-    floors = record { below_end = omega arith; at_rest = λ e. omega arith; merged = omega arith; former = omega arith; below_merged = omega arith; below_former = omega arith };
-    runs = let none : 0 * z.cells ≡ 0 = omega arith in record { content = subst (λ (a : ℕ). IsContent (history_of []) (runs_of fresh 0) 0 a) (sym none) empty_runs; within = (tt, tt); counts = λ p e. omega arith; canonical = λ p e. refl };
+    floors = record {
+      below_end = omega arith;
+      at_rest = λ e. omega arith;
+      merged = omega arith;
+      former = omega arith;
+      below_merged = omega arith;
+      below_former = omega arith;
+    };
+    runs = let none : 0 * z.cells ≡ 0 = omega arith in
+        record {
+          content = subst (λ (a : ℕ). IsContent (history_of []) (runs_of fresh 0) 0 a) (sym none) empty_runs;
+          within = (tt, tt);
+          counts = λ p e. omega arith;
+          canonical = λ p e. refl;
+        };
     former_runs = λ e. absurd cc;
     right = λ i. all_idle (λ (v : View). AllByRecursion (IsRightRecord (past_of [] v.past)) v.calls) tt n i;
     stand = λ i. all_idle (λ (v : View). AllByRecursion (IsStandingRecord (outcome_at []) i) v.calls) tt n i;
@@ -133,7 +148,8 @@ module _ (z : Layout) where
     front_clock = omega arith;
     past_clock = λ i. all_idle (λ (v : View). v.past ≤ 0) (omega arith) n i;
     reached_clock = λ i. all_idle (λ (v : View). v.reached ≤ 0) (omega arith) n i;
-    staging = λ i. all_idle (λ (v : View). IsStaging 0 i (outcome_at []) v.mode v.drawn v.staged v.committed v.hold_clock) (record { shut = λ e. refl; own = λ e. absurd cc; same = λ e. absurd cc; members = λ k lt. absurd (omega arith) }) n i;
+    staging = λ i. all_idle (λ (v : View). IsStaging 0 i (outcome_at []) v.mode v.drawn v.staged v.committed v.hold_clock)
+        (record { shut = λ e. refl; own = λ e. absurd cc; same = λ e. absurd cc; members = λ k lt. absurd (omega arith) }) n i;
     in_turn = omega arith;
     written = tt;
     uncut_front = tt;
@@ -153,6 +169,7 @@ module _ (z : Layout) where
     chains = λ r s. [];
     orders = λ r. [];
     law = subst (λ (m : Memory). LawOf z m (vs z.seats) (opening z) [] [] (λ r s. []) (λ r. []))
-        (sym (memory-set z (replicate (size_of z) 0) Limit z.cells refl (length-replicate (size_of z) 0) ∙ ap (λ (m : Memory). put m Limit z.cells) (memory-zeros z (size_of z))))
+        (sym (memory-set z (replicate (size_of z) 0) Limit z.cells refl (length-replicate (size_of z) 0)
+        ∙ ap (λ (m : Memory). put m Limit z.cells) (memory-zeros z (size_of z))))
         (opening_law sound);
   }

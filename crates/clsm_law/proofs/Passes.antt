@@ -12,4 +12,5 @@ passes_at test a (suc n) k e le lt = let p = and_parts (test a) (passes_from tes
 
 pub passes_if : (test : ℕ → Bool) (a n : ℕ) → ((k : ℕ) → a ≤ k → k < a + n → test k ≡ true) → passes_from test a n ≡ true
 passes_if test a zero h = refl
-passes_if test a (suc n) h = and_from (test a) (passes_from test (a + 1) n) (h a (omega arith) (omega arith)) (passes_if test (a + 1) n (λ k le lt. h k (omega arith) (omega arith)))
+passes_if test a (suc n) h = and_from (test a) (passes_from test (a + 1) n) (h a (omega arith) (omega arith))
+    (passes_if test (a + 1) n (λ k le lt. h k (omega arith) (omega arith)))

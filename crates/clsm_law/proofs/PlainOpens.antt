@@ -10,7 +10,7 @@ use Rattle.clsm_law.specs.declared.step.End.TheVariants.{Neither, Meeting, Recor
 use Rattle.clsm_law.specs.declared.view.View.{View}
 use Rattle.clsm_law.specs.declared.view.SnapshotState.{SnapshotState}
 use Rattle.clsm_law.specs.declared.view.SnapshotState.TheVariants.{Noted, Timed}
-use Rattle.clsm_law.specs.Relation.{IsReadBelow, IsRightAt, IsEndingWith, time_of_read}
+use Rattle.clsm_law.specs.OpenSteps.{IsReadBelow, IsRightAt, IsEndingWith, time_of_read}
 use Rattle.clsm_law.specs.Worlds.{past_of, open_past}
 use Rattle.clsm_law.proofs.Setting.{Setting, v, Opens, Allows}
 use Rattle.clsm_law.proofs.Histories.{GoesOn, IsRight-goes_on}
@@ -39,7 +39,12 @@ plain_on : (s : Setting) → GoesOn (open_past s.slots s.batches (v s).past) (pa
 plain_on s = record { plain = refl; longer = omega arith; same = λ t lt. refl }
 
 pub opens_plain : (s : Setting) (step : Step) → Allows s step → Opens s step
-opens_plain s (Decide t deed) o = (o.0, o.1, o.2, below_plain (open_past s.slots s.batches (v s).past) (past_of s.slots (v s).past) (plain_on s) (v s) t deed o.3, o.4)
-opens_plain s (Unpin end) o = (o.0, ending_plain (open_past s.slots s.batches (v s).past) (past_of s.slots (v s).past) (plain_on s) (v s) (v s).snapshot end o.1)
+opens_plain s (Decide t deed) o =
+    (o.0, o.1, o.2, below_plain (open_past s.slots s.batches (v s).past) (past_of s.slots (v s).past) (plain_on s) (v s) t deed o.3, o.4)
+opens_plain s (Unpin end) o = (
+  o.0,
+  ending_plain (open_past s.slots s.batches (v s).past) (past_of s.slots (v s).past) (plain_on s) (v s)
+      (v s).snapshot end o.1,
+)
 opens_plain s (RaiseFront t) o = (o.0, tt)
 opens_plain s step o = o

@@ -1,6 +1,7 @@
 -- A seat's records by themselves: one record more, what a read's end adds, and how far the due
 -- moves.
-use Rattle.std.proofs.Common.{◌≡◌, ◌≢◌, ℕ, zero, suc, ◌+◌, ◌-◌, ◌<◌, ◌≤◌, ◌==◌, Bool, true, false, cond, List, [], ◌∷◌, ◌++◌, length, set, sym, refl, ap, ◌∙◌, subst, eq-eqb, arith, inl, inr, Option, Some, None, get_or-set_other, get_or-set_same}
+use Rattle.std.proofs.Common.{◌≡◌, ◌≢◌, ℕ, zero, suc, ◌+◌, ◌-◌, ◌<◌, ◌≤◌, ◌==◌, Bool, true, false, cond, List, [], ◌∷◌, ◌++◌, length, set, sym, refl, ap}
+use Rattle.std.proofs.Common.{◌∙◌, subst, eq-eqb, arith, inl, inr, Option, Some, None, get_or-set_other, get_or-set_same}
 use Rattle.std.specs.List.{AllByRecursion}
 use Rattle.clsm_model.specs.declared.slot.Slot.{Slot}
 use Rattle.clsm_model.specs.declared.slot.Slot.TheVariants.{Nothing, Wrote}
@@ -19,7 +20,8 @@ use Rattle.clsm_law.specs.declared.view.View.{View}
 use Rattle.clsm_law.specs.declared.view.SnapshotState.{SnapshotState}
 use Rattle.clsm_law.specs.declared.view.SnapshotState.TheVariants.{Noted, Timed}
 use Rattle.clsm_law.specs.Views.{idle, or_zero, SaysWrite}
-use Rattle.clsm_law.specs.Relation.{IsReadBelow, member_of, timed, time_of_read, is_old, IsRightAt, IsMetAt, IsEndingWith, ended_calls, ended_due}
+use Rattle.clsm_law.specs.OpenSteps.{IsReadBelow, timed, time_of_read, is_old, IsRightAt, IsMetAt, IsEndingWith}
+use Rattle.clsm_law.specs.Relation.{member_of, ended_calls, ended_due}
 use Rattle.clsm_law.specs.Worlds.{view_at}
 use Rattle.clsm_model.specs.Seats.{IsRightDeed, IsRightRecord, StandsAs, IsStandingRecord, HasWrite}
 use Rattle.clsm_law.proofs.Cases.{by_test}
@@ -27,7 +29,8 @@ use Rattle.clsm_law.proofs.Frames.{at_each}
 use Rattle.clsm_law.proofs.Histories.{GoesOn, IsRightDeed-right, IsRight-goes_on}
 
 -- ---- a fact of each seat's view, from that of the seat that made the step and of the others
-pub at_views : (z : Layout) (views : List View) (me : ℕ) (w : View) → me < length views → (P : ℕ → View → Type 0) → P me w → ((i : ℕ) → i ≢ me → P i (view_at z views i)) → (i : ℕ) → P i (view_at z (set views me w) i)
+pub at_views : (z : Layout) (views : List View) (me : ℕ) (w : View) → me < length views → (P : ℕ → View → Type 0) → P me w
+    → ((i : ℕ) → i ≢ me → P i (view_at z views i)) → (i : ℕ) → P i (view_at z (set views me w) i)
 at_views z views me w lt P here other = at_each (λ i. P i (view_at z (set views me w) i)) me
     (subst (P me) (sym (get_or-set_same views me w (idle z) lt)) here)
     (λ i ne. subst (P i) (sym (get_or-set_other views me i w (idle z) ne)) (other i ne))
@@ -64,14 +67,19 @@ stands_stays None slot slot' stays h = tt
 stands_stays (Some write) slot slot' stays h = stays write h
 
 -- records that stand go on standing where decided slots stay
-pub all_stand_stay : (slot slot' : ℕ → Option Slot) (i : ℕ) (calls : List CallRecord) → ((t : ℕ) (b : Slot) → slot t ≡ Some b → slot' t ≡ Some b) → AllByRecursion (IsStandingRecord slot i) calls → AllByRecursion (IsStandingRecord slot' i) calls
+pub all_stand_stay : (slot slot' : ℕ → Option Slot) (i : ℕ) (calls : List CallRecord) → ((t : ℕ) (b : Slot) → slot t ≡ Some b → slot' t ≡ Some b)
+    → AllByRecursion (IsStandingRecord slot i) calls → AllByRecursion (IsStandingRecord slot' i) calls
 all_stand_stay slot slot' i [] stays all = tt
-all_stand_stay slot slot' i (r ∷ rs) stays all = ((all.0.0, λ t. stands_stays (write_at i r.time r.deed t) (slot t) (slot' t) (stays t) (all.0.1 t)), all_stand_stay slot slot' i rs stays all.1)
+all_stand_stay slot slot' i (r ∷ rs) stays all = (
+  (all.0.0, λ t. stands_stays (write_at i r.time r.deed t) (slot t) (slot' t) (stays t) (all.0.1 t)),
+  all_stand_stay slot slot' i rs stays all.1,
+)
 
 -- ---- a deed that writes
 
 -- what a Decide writes is right where its read is
-pub decided_right : (h h' : History) (u : View) (t : ℕ) (deed : Deed) → GoesOn h h' → SaysWrite u (write_by 0 deed) → IsReadBelow h u t deed → IsRightDeed h' t deed
+pub decided_right : (h h' : History) (u : View) (t : ℕ) (deed : Deed) → GoesOn h h' → SaysWrite u (write_by 0 deed) → IsReadBelow h u t deed
+    → IsRightDeed h' t deed
 decided_right h h' u t (Put key written) on says below = tt
 decided_right h h' u t (Remove key) on says below = tt
 decided_right h h' u t (Rmw key old change) on says below = IsRight-goes_on h h' t (Rmw key old change) on below.1
@@ -85,12 +93,14 @@ writes_once u i s t (Rmw key old change) says = refl
 writes_once u i s t deed says = absurd says
 
 -- so it stands where its write is the slot
-pub once_stands : (u : View) (i s : ℕ) (deed : Deed) (slot : ℕ → Option Slot) → SaysWrite u (write_by 0 deed) → slot s ≡ write_by i deed → (t : ℕ) → StandsAs (write_at i s deed t) (slot t)
+pub once_stands : (u : View) (i s : ℕ) (deed : Deed) (slot : ℕ → Option Slot) → SaysWrite u (write_by 0 deed) → slot s ≡ write_by i deed → (t : ℕ)
+    → StandsAs (write_at i s deed t) (slot t)
 once_stands u i s deed slot says here t = subst (λ (o : Option Slot). StandsAs o (slot t)) (sym (writes_once u i s t deed says))
     (by_test (λ b. StandsAs (cond b (write_by i deed) None) (slot t)) s t (λ e. stands_itself (write_by i deed) (slot t) (ap slot (sym e) ∙ here)) (λ _. tt))
 
 -- and there its record has it
-pub once_written : (u : View) (i s : ℕ) (deed : Deed) (write : Slot) → SaysWrite u (write_by 0 deed) → write_by i deed ≡ Some write → write_at i s deed s ≡ Some write
+pub once_written : (u : View) (i s : ℕ) (deed : Deed) (write : Slot) → SaysWrite u (write_by 0 deed) → write_by i deed ≡ Some write → write_at i s deed s
+    ≡ Some write
 once_written u i s deed write says is = writes_once u i s s deed says ∙ ap (λ b. cond b (write_by i deed) None) (eq-eqb s s refl) ∙ is
 
 -- ---- members of a batch
@@ -128,7 +138,8 @@ member_before i [] more n lt = absurd (omega arith)
 member_before i (m ∷ ms) more zero lt = refl
 member_before i (m ∷ ms) more (suc n) lt = member_before i ms more n (omega arith)
 
-pub member_last : (u : View) (i : ℕ) (ms : List Member) (deed : Deed) (n : ℕ) → SaysWrite u (write_by 0 deed) → n ≡ length ms → member_write i (ms ++ member_of deed) n ≡ write_by i deed
+pub member_last : (u : View) (i : ℕ) (ms : List Member) (deed : Deed) (n : ℕ) → SaysWrite u (write_by 0 deed) → n ≡ length ms
+    → member_write i (ms ++ member_of deed) n ≡ write_by i deed
 member_last u i [] (Put key written) zero says e = refl
 member_last u i [] (Remove key) zero says e = refl
 member_last u i [] (Rmw key old change) zero says e = refl
@@ -141,7 +152,8 @@ member_last u i (m ∷ ms) deed (suc n) says e = member_last u i ms deed n says 
 pub batch_at : (i c t : ℕ) (ms : List Member) → c ≤ t → write_at i c (Group ms) t ≡ member_write i ms (t - c)
 batch_at i c t ms le = ap (λ b. cond b (member_write i ms (t - c)) None) (le-leb c t le)
 
-pub batch_stands : (i c : ℕ) (ms : List Member) (slot : ℕ → Option Slot) → ((n : ℕ) → n < length ms → slot (c + n) ≡ member_write i ms n) → (t : ℕ) → StandsAs (write_at i c (Group ms) t) (slot t)
+pub batch_stands : (i c : ℕ) (ms : List Member) (slot : ℕ → Option Slot) → ((n : ℕ) → n < length ms → slot (c + n) ≡ member_write i ms n) → (t : ℕ)
+    → StandsAs (write_at i c (Group ms) t) (slot t)
 batch_stands i c ms slot stand t = elim (cases_lt t c) [
   | inl lt ↦ subst (λ (o : Option Slot). StandsAs o (slot t)) (sym (ap (λ b. cond b (member_write i ms (t - c)) None) (lt-leb c t lt))) tt
   | inr le ↦ subst (λ (o : Option Slot). StandsAs o (slot t)) (sym (batch_at i c t ms le)) (elim (cases_lt (t - c) (length ms)) [
@@ -171,7 +183,8 @@ pub nothing_stands : (b : Bool) (slot : Option Slot) → StandsAs (cond b None N
 nothing_stands true slot = tt
 nothing_stands false slot = tt
 
-read_stands : (h : History) (i : ℕ) (u : View) (slot : Option Slot) (s t : ℕ) (deed : Deed) → IsRightAt h u deed (time_of_read u deed) → StandsAs (write_at i s deed t) slot
+read_stands : (h : History) (i : ℕ) (u : View) (slot : Option Slot) (s t : ℕ) (deed : Deed) → IsRightAt h u deed (time_of_read u deed)
+    → StandsAs (write_at i s deed t) slot
 read_stands h i u slot s t (Put key written) r = absurd r
 read_stands h i u slot s t (Remove key) r = absurd r
 read_stands h i u slot s t (Rmw key old Keep) r = nothing_stands (s == t) slot
@@ -194,7 +207,8 @@ module _ (h : History) (i : ℕ) (u : View) where
   ended_right n (Recorded deed) e p = (read_right h u deed (time_of_read u deed) p, tt)
 
   -- and write nothing
-  pub ended_stands : (slot : ℕ → Option Slot) (n : SnapshotState) (end : End) → IsEndingWith h u n end → AllByRecursion (IsStandingRecord slot i) (ended_calls i u end)
+  pub ended_stands : (slot : ℕ → Option Slot) (n : SnapshotState) (end : End) → IsEndingWith h u n end
+      → AllByRecursion (IsStandingRecord slot i) (ended_calls i u end)
   ended_stands slot (Noted b) end p = absurd p
   ended_stands slot (Timed b s) Neither p = absurd p
   ended_stands slot (Timed b s) Meeting p = absurd p
@@ -222,7 +236,8 @@ module _ (h : History) (i : ℕ) (u : View) where
     ended_within (Noted b) end e p = absurd p
     ended_within (Timed b s) Neither e p = absurd p
     ended_within (Timed b s) Meeting e p = absurd p
-    ended_within (Timed b s) (Recorded Snapshot) e p = let le = p.1.readable.reached in subst (λ (n : SnapshotState). or_zero (timed n) ≤ bound) (sym e) (omega arith)
+    ended_within (Timed b s) (Recorded Snapshot) e p = let le = p.1.readable.reached in
+        subst (λ (n : SnapshotState). or_zero (timed n) ≤ bound) (sym e) (omega arith)
     ended_within (Timed b s) (Recorded deed) e p = absurd p
     ended_within n Neither e p = due
     ended_within n Meeting e p = met_within u.pin_clock p

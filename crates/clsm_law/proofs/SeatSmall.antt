@@ -20,8 +20,10 @@ look_small s (Head region chain) there =
     let low : region < 2 = ltb-true region 2 parts.0 in
     let inside : chain < s.z.chains = ltb-true chain s.z.chains parts.1 in
     let few = s.sound.2.1 in omega arith
-look_small s Merged there = let begun = s.law.begun in let below = clock_below (ground s) in let bounded = s.law.bounded in let top = s.law.top in rw s.law.merged (omega arith)
-look_small s (Cell c part) there = let inside = ltb-true c (2 * s.z.cells) (and_parts (nat_lt c (2 * s.z.cells)) (is_part part) there).0 in let few = s.sound.0.1 in omega arith
+look_small s Merged there = let begun = s.law.begun in let below = clock_below (ground s) in let bounded = s.law.bounded in let top = s.law.top in
+    rw s.law.merged (omega arith)
+look_small s (Cell c part) there = let inside = ltb-true c (2 * s.z.cells) (and_parts (nat_lt c (2 * s.z.cells)) (is_part part) there).0 in let few =
+    s.sound.0.1 in omega arith
 look_small s (State c) there = let inside = ltb-true c (2 * s.z.cells) there in let few = s.sound.0.1 in omega arith
 look_small s word there = tt
 
@@ -34,5 +36,6 @@ step_small s (Look word) o = look_small s word o.0
 step_small s step o = tt
 
 pub commit_small : (s : Setting) (step : Step) → May s step → IsSmallFor (v s) step
-commit_small s (Commit members) o = let after = kept_by s (Commit members) o in let clock = after.clock in let bounded = after.bounded in let top = after.top in omega arith
+commit_small s (Commit members) o = let after = kept_by s (Commit members) o in let clock = after.clock in let bounded = after.bounded in let top =
+    after.top in omega arith
 commit_small s step o = tt

@@ -1,5 +1,6 @@
 -- A lawful world and a step of one caller's seat; and a lawful world and a step of the merger.
-use Rattle.std.proofs.Common.{◌≡◌, ◌≢◌, ℕ, zero, suc, ◌+◌, ◌-◌, ◌*◌, ◌<◌, ◌≤◌, ◌||◌, ◌&&◌, not, Bool, true, false, cond, List, [], ◌∷◌, length, set, sym, refl, ap, ◌∙◌, subst, arith, inl, inr, ⊎_elim, Option, Some, None, sum_by, is_some}
+use Rattle.std.proofs.Common.{◌≡◌, ◌≢◌, ℕ, zero, suc, ◌+◌, ◌-◌, ◌*◌, ◌<◌, ◌≤◌, ◌||◌, ◌&&◌, not, Bool, true, false, cond, List, [], ◌∷◌, length, set, sym}
+use Rattle.std.proofs.Common.{refl, ap, ◌∙◌, subst, arith, inl, inr, ⊎_elim, Option, Some, None, sum_by, is_some}
 use mathlib.Core.Logic.{dite}
 use native.Mathlib.Decide.{ℕ_discrete}
 use Rattle.std.proofs.lemmas.Bool.{cases_lt}
@@ -22,10 +23,13 @@ use Rattle.clsm_law.specs.declared.merger.Phase.TheVariants.{Clean, Frozen, Reti
 use Rattle.clsm_law.specs.Memory.{Memory, cell_of, put}
 use Rattle.clsm_law.specs.Layout.{IsLayout}
 use Rattle.clsm_law.specs.Views.{is_exclusive, or_zero, own_time}
-use Rattle.clsm_law.specs.Relation.{Chains, Orders, IsOpen, word_of, changed, view_after, slots_after, batches_after, chains_after, orders_after}
-use Rattle.clsm_law.specs.Merging.{is_clean, Facts, IsOpenToMerger, word_of_merger, changed_by_merger, merger_after, slots_after_merger, chains_after_merger, orders_after_merger, is_retired, is_frozen, is_all_quiet, reader_at}
+use Rattle.clsm_law.specs.OpenSteps.{IsOpen}
+use Rattle.clsm_law.specs.Relation.{Chains, Orders, word_of, changed, view_after, slots_after, batches_after, chains_after, orders_after}
+use Rattle.clsm_law.specs.Merging.{is_clean, Facts, IsOpenToMerger, word_of_merger, changed_by_merger, merger_after, slots_after_merger}
+use Rattle.clsm_law.specs.Merging.{chains_after_merger, orders_after_merger, is_retired, is_frozen, is_all_quiet, reader_at}
 use Rattle.clsm_law.specs.Worlds.{view_at, outcome_at, past_of, open_past, facts_of}
-use Rattle.clsm_law.specs.Law.{LawOf, Shows, each, mode_of, taken_by, drawn_of, held_of, pin_of, past_time_of, IsRetiredFor, first_shown, first_live, is_held_back}
+use Rattle.clsm_law.specs.Law.{LawOf, Shows, each, mode_of, taken_by, drawn_of, held_of, pin_of, past_time_of, IsRetiredFor, first_shown, first_live}
+use Rattle.clsm_law.specs.Law.{is_held_back}
 use Rattle.clsm_law.proofs.Frames.{put_same, past_end}
 use Rattle.clsm_law.proofs.Cases.{by_bool}
 use Rattle.clsm_law.proofs.Times.{Live}
@@ -117,7 +121,18 @@ pub record Ground : Type 0 where
   pub law : LawOf z memory views merger slots batches chains orders
 
 abbrev pub ground : Setting → Ground
-ground s = record { z = s.z; sound = s.sound; memory = s.memory; views = s.views; merger = s.merger; slots = s.slots; batches = s.batches; chains = s.chains; orders = s.orders; law = s.law }
+ground s = record {
+  z = s.z;
+  sound = s.sound;
+  memory = s.memory;
+  views = s.views;
+  merger = s.merger;
+  slots = s.slots;
+  batches = s.batches;
+  chains = s.chains;
+  orders = s.orders;
+  law = s.law;
+}
 
 -- ---- a step of the merger
 
@@ -190,9 +205,13 @@ module _ (n merged : ℕ) (extended quiet : Bool) where
   turn some = let e : merged - 1 + 1 ≡ merged = omega arith in subst (λ (k : ℕ). (k + 1) * n ≤ (merged - 1) * n + 2 * n) e (omega arith)
 
   free_live : (p : Phase) → (is_retired p ≡ true → 1 ≤ merged) → (extended ≡ true → is_clean p ≡ true) → free p ≤ live p + 2 * n
-  free_live Clean some clean = elim extended as (λ e. cond e ((merged + 2) * n) ((merged + 1) * n) ≤ merged * n + 2 * n) [ true ↦ omega arith | false ↦ omega arith ]
+  free_live Clean some clean = elim extended as (λ e. cond e ((merged + 2) * n) ((merged + 1) * n) ≤ merged * n + 2 * n) [
+    | true ↦ omega arith
+    | false ↦ omega arith
+  ]
   free_live Frozen some clean = omega arith
-  free_live Retired some clean = by_bool (λ e. cond e ((merged + 2) * n) ((merged + 1) * n) ≤ (merged - 1) * n + 2 * n) extended (λ e. absurd (let f = clean e in cc)) (λ _. turn (some refl))
+  free_live Retired some clean = by_bool (λ e. cond e ((merged + 2) * n) ((merged + 1) * n) ≤ (merged - 1) * n + 2 * n) extended
+      (λ e. absurd (let f = clean e in cc)) (λ _. turn (some refl))
 
 module _ (g : Ground) where
   -- what is shown is live
@@ -205,7 +224,8 @@ module _ (g : Ground) where
   -- the limit, and so the clock, is within the live times
   pub limit_live : g.memory Limit ≤ first_live g.z g.merger + 2 * g.z.cells
   limit_live = subst (λ (n : ℕ). n ≤ first_live g.z g.merger + 2 * g.z.cells) (sym g.law.limit)
-      (free_live g.z.cells g.merger.merged g.merger.limit_extended (is_all_quiet g.merger.readers) g.merger.phase g.law.merger.some_merged (λ e. g.law.merger.clean (g.law.merger.extends (g.law.merger.limit_after e))))
+      (free_live g.z.cells g.merger.merged g.merger.limit_extended (is_all_quiet g.merger.readers) g.merger.phase g.law.merger.some_merged
+      (λ e. g.law.merger.clean (g.law.merger.extends (g.law.merger.limit_after e))))
 
   pub clock_live : length g.slots ≤ first_live g.z g.merger + 2 * g.z.cells
   clock_live = let a = limit_live in let b = g.law.bounded in omega arith
@@ -216,7 +236,8 @@ module _ (g : Ground) where
   -- a drawn time is of the current epoch
   pub merged_below_limit : g.merger.merged * g.z.cells + g.z.cells ≤ g.memory Limit
   merged_below_limit = subst (λ (n : ℕ). g.merger.merged * g.z.cells + g.z.cells ≤ n) (sym g.law.limit)
-      (elim (is_frozen g.merger.phase || g.merger.limit_extended) as (λ b. g.merger.merged * g.z.cells + g.z.cells ≤ cond b ((g.merger.merged + 2) * g.z.cells) ((g.merger.merged + 1) * g.z.cells)) [ true ↦ omega arith | false ↦ omega arith ])
+      (elim (is_frozen g.merger.phase || g.merger.limit_extended) as (λ b. g.merger.merged * g.z.cells + g.z.cells
+      ≤ cond b ((g.merger.merged + 2) * g.z.cells) ((g.merger.merged + 1) * g.z.cells)) [ true ↦ omega arith | false ↦ omega arith ])
 
   pub drawn_shown : (i t : ℕ) → each g.z drawn_of g.views i ≡ Some t → (g.merger.merged * g.z.cells ≤ t) × (t < length g.slots)
   drawn_shown i t e = let p = g.law.pending i t e in let a = p.0 in let b = merged_below_limit in (omega arith, p.1)
@@ -284,7 +305,8 @@ module _ (g : Ground) where
   held_shown i c lt e = ⊎_elim
       (λ (same : c ≡ g.merger.merged). let a = shown_below_merged in subst (λ (k : ℕ). first_shown g.z g.merger ≤ k * g.z.cells) (sym same) a)
       (λ (r : IsRetiredFor g.merger i (each g.z pin_of g.views i) c).
-      let loud : is_all_quiet g.merger.readers ≡ false = not_all_quiet g.merger.readers i (let a = g.law.merger.seats in let b = g.law.seated in omega arith) r.loud in
+      let loud : is_all_quiet g.merger.readers ≡ false = not_all_quiet g.merger.readers i
+      (let a = g.law.merger.seats in let b = g.law.seated in omega arith) r.loud in
       let back : is_held_back g.merger ≡ true = rw (r.retired, loud) refl in
       let before : g.merger.merged - 1 ≡ c = let a = r.before in omega arith in
       rw (back, before) (omega arith))

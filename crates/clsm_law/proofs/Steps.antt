@@ -10,7 +10,8 @@ use Rattle.clsm_law.specs.declared.step.Step.TheVariants.{Stage, Fill}
 use Rattle.clsm_law.specs.declared.view.View.{View}
 use Rattle.clsm_law.specs.Memory.{Memory, cell_of, is_part, put}
 use Rattle.clsm_law.specs.Views.{own_time}
-use Rattle.clsm_law.specs.Relation.{Chains, Orders, IsOpen, word_of, changed, view_after, slots_after, batches_after, chains_after, orders_after, filled}
+use Rattle.clsm_law.specs.OpenSteps.{IsOpen}
+use Rattle.clsm_law.specs.Relation.{Chains, Orders, word_of, changed, view_after, slots_after, batches_after, chains_after, orders_after, filled}
 use Rattle.clsm_law.specs.Worlds.{open_past}
 use Rattle.clsm_law.specs.Law.{LawOf}
 use Rattle.clsm_law.proofs.Setting.{Setting, v, Allows}
@@ -46,12 +47,17 @@ orders_by s step = orders_after s.z (v s) s.orders step (finds s step)
 
 -- the fill of a stage is open where its time is taken
 pub fills : (s : Setting) (t key : ℕ) (o : Stages s t key) → Allows (taking s t key o) (Fill Key key)
-fills s t key o = subst (λ (y : View). (y.drawn ≢ None) × (y.linked ≡ false) × (is_part Key ≡ true)) (sym (taking_view s t key o)) ((λ e. absurd cc), refl, refl)
+fills s t key o = subst (λ (y : View). (y.drawn ≢ None) × (y.linked ≡ false) × (is_part Key ≡ true)) (sym (taking_view s t key o))
+    ((λ e. absurd cc), refl, refl)
 
 -- a lawful world stays lawful
-pub kept_by : (s : Setting) (step : Step) → May s step → LawOf s.z (memory_by s step) (views_by s step) s.merger (slots_by s step) (batches_by s step) (chains_by s step) (orders_by s step)
+pub kept_by : (s : Setting) (step : Step) → May s step → LawOf s.z (memory_by s step) (views_by s step) s.merger (slots_by s step) (batches_by s step)
+    (chains_by s step) (orders_by s step)
 kept_by s (Stage t key) o =
     let a = kept (taking s t key o) (Fill Key key) (fills s t key o) in
-    let b = subst (λ (y : View). LawOf s.z (put s.memory (Cell (cell_of s.z (own_time y)) Key) key) (set (set s.views s.me (u s t key o)) s.me (filled y Key key)) s.merger (s.slots ++ None ∷ []) s.batches s.chains s.orders) (taking_view s t key o) a in
-    subst (λ (l : List View). LawOf s.z (put s.memory (Cell (cell_of s.z t) Key) key) l s.merger (s.slots ++ None ∷ []) s.batches s.chains s.orders) (set-set s.views s.me (u s t key o) (filled (u s t key o) Key key)) b
+    let b = subst (λ (y : View). LawOf s.z (put s.memory (Cell (cell_of s.z (own_time y)) Key) key)
+    (set (set s.views s.me (u s t key o)) s.me (filled y Key key)) s.merger (s.slots ++ None ∷ []) s.batches s.chains s.orders)
+    (taking_view s t key o) a in
+    subst (λ (l : List View). LawOf s.z (put s.memory (Cell (cell_of s.z t) Key) key) l s.merger (s.slots ++ None ∷ []) s.batches s.chains s.orders)
+    (set-set s.views s.me (u s t key o) (filled (u s t key o) Key key)) b
 kept_by s step o = kept s step o

@@ -25,7 +25,8 @@ apart z first t u l m e = elim (cases_lt t u) [
 ]
 
 -- a fact of each live time, from the one at t and those in other cells
-pub at_live : (z : Layout) (first : ℕ) (P : ℕ → Type 0) (t : ℕ) → Live z first t → P t → ((u : ℕ) → Live z first u → u ≢ t → cell_of z u ≢ cell_of z t → P u) → (u : ℕ) → Live z first u → P u
+pub at_live : (z : Layout) (first : ℕ) (P : ℕ → Type 0) (t : ℕ) → Live z first t → P t
+    → ((u : ℕ) → Live z first u → u ≢ t → cell_of z u ≢ cell_of z t → P u) → (u : ℕ) → Live z first u → P u
 at_live z first P t l here other u m = dite (ℕ_discrete u t) (λ e. subst P (sym e) here) (λ ne. other u m ne (λ e. ne (apart z first u t m l e)))
 
 -- ---- the region of a time of the epoch e is e mod 2
@@ -45,9 +46,11 @@ region_of_epoch z epoch t from until =
     let is : epoch * z.cells + d ≡ t = omega arith in
     elim (cases_eq (epoch % 2) 0) [
       | inl even ↦ let two : q * 2 ≡ epoch = omega arith in
-          ap (λ (y : ℕ). region_of z (cell_of z y)) (sym (ap (λ (y : ℕ). y * z.cells + d) two ∙ is)) ∙ ap (region_of z) (even_cell z.cells q d lt) ∙ ap (λ b. cond b 0 1) (lt-ltb d z.cells lt) ∙ sym even
+          ap (λ (y : ℕ). region_of z (cell_of z y)) (sym (ap (λ (y : ℕ). y * z.cells + d) two ∙ is)) ∙ ap (region_of z) (even_cell z.cells q d lt)
+          ∙ ap (λ b. cond b 0 1) (lt-ltb d z.cells lt) ∙ sym even
       | inr odd ↦ let two : q * 2 + 1 ≡ epoch = omega arith in let one : epoch % 2 ≡ 1 = omega arith in
-          ap (λ (y : ℕ). region_of z (cell_of z y)) (sym (ap (λ (y : ℕ). y * z.cells + d) two ∙ is)) ∙ ap (region_of z) (odd_cell z.cells q d lt) ∙ ap (λ b. cond b 0 1) (le-ltb (z.cells + d) z.cells (omega arith)) ∙ sym one
+          ap (λ (y : ℕ). region_of z (cell_of z y)) (sym (ap (λ (y : ℕ). y * z.cells + d) two ∙ is)) ∙ ap (region_of z) (odd_cell z.cells q d lt)
+          ∙ ap (λ b. cond b 0 1) (le-ltb (z.cells + d) z.cells (omega arith)) ∙ sym one
     ]
 
 pub region_below : (z : Layout) (c : ℕ) → region_of z c < 2

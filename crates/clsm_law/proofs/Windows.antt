@@ -1,5 +1,6 @@
 -- The window of the live and of the shown times never falls back under a step of the merger.
-use Rattle.std.proofs.Common.{◌≡◌, ℕ, zero, suc, ◌+◌, ◌-◌, ◌*◌, ◌≤◌, ◌&&◌, not, Bool, true, false, cond, List, [], ◌∷◌, set, replicate, sym, refl, ap, subst, arith}
+use Rattle.std.proofs.Common.{◌≡◌, ℕ, zero, suc, ◌+◌, ◌-◌, ◌*◌, ◌≤◌, ◌&&◌, not, Bool, true, false, cond, List, [], ◌∷◌, set, replicate, sym, refl, ap}
+use Rattle.std.proofs.Common.{subst, arith}
 use Rattle.std.proofs.lemmas.Bool.{and_parts}
 use Rattle.clsm_law.specs.declared.word.Word.TheVariants.{Pin}
 use Rattle.clsm_law.specs.declared.step.Step.{Step}
@@ -83,13 +84,16 @@ one_back merged n = let e : merged + 1 - 1 ≡ merged = omega arith in ap (λ (k
 
 pub shown_rises : (g : Ground) (step : Step) → OpensTo g step → first_shown g.z g.merger ≤ first_shown g.z (merger' g step)
 shown_rises g LeaveExclusive o = frozen_shown g.z.cells g.merger.merged g.merger.limit_extended g.merger.phase (is_all_quiet g.merger.readers)
-shown_rises g (Look (Pin i)) o = elim (is_retired g.merger.phase) as (λ b. first_shown g.z g.merger ≤ first_shown g.z (record g.merger { readers = cond b (set g.merger.readers i (reader_by (reader_at g.merger.readers i) (found g (Look (Pin i))))) g.merger.readers })) [
-  | true ↦ quieter g.z.cells g.merger.merged g.merger.phase (is_all_quiet g.merger.readers) _ (all_quiet_stays g.merger.readers i (found g (Look (Pin i))))
-  | false ↦ omega arith
-]
+shown_rises g (Look (Pin i)) o =
+    elim (is_retired g.merger.phase) as (λ b. first_shown g.z g.merger ≤ first_shown g.z
+    (record g.merger { readers = cond b (set g.merger.readers i (reader_by (reader_at g.merger.readers i) (found g (Look (Pin i))))) g.merger.readers })) [
+      | true ↦ quieter g.z.cells g.merger.merged g.merger.phase (is_all_quiet g.merger.readers) _ (all_quiet_stays g.merger.readers i (found g (Look (Pin i))))
+      | false ↦ omega arith
+    ]
 shown_rises g (Look word) o = omega arith
 shown_rises g (ClearState cell) o = cleaned_shown g.z.cells g.merger.merged ((facts g).last cell) g.merger.phase (is_all_quiet g.merger.readers)
-shown_rises g Publish o = rw (none_quiet g.z.seats g.sound.1.0, one_back g.merger.merged g.z.cells) (shown_most g.z.cells g.merger.merged g.merger.phase (is_all_quiet g.merger.readers))
+shown_rises g Publish o = rw (none_quiet g.z.seats g.sound.1.0, one_back g.merger.merged g.z.cells)
+    (shown_most g.z.cells g.merger.merged g.merger.phase (is_all_quiet g.merger.readers))
 shown_rises g step o = omega arith
 
 pub live_rises : (g : Ground) (step : Step) → OpensTo g step → first_live g.z g.merger ≤ first_live g.z (merger' g step)

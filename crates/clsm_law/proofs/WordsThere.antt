@@ -3,7 +3,8 @@ use Rattle.std.proofs.Common.{◌≡◌, ℕ, ◌+◌, ◌*◌, ◌%◌, ◌<◌
 use Rattle.std.proofs.lemmas.Bool.{lt-ltb}
 use Rattle.std.proofs.lemmas.Nat.{mod_below}
 use Rattle.clsm_law.specs.declared.step.Step.{Step}
-use Rattle.clsm_law.specs.declared.step.Step.TheVariants.{Fill, Link, Insert, StoreHint, FillOrder, Decide, Cancel, Stage, Pin, Unpin, Look, Note, CloseSnapshot, Pad, WriteRun, ClearHead, ClearState, ClearOrder}
+use Rattle.clsm_law.specs.declared.step.Step.TheVariants.{Fill, Link, Insert, StoreHint, FillOrder, Decide, Cancel, Stage, Pin, Unpin, Look, Note}
+use Rattle.clsm_law.specs.declared.step.Step.TheVariants.{CloseSnapshot, Pad, WriteRun, ClearHead, ClearState, ClearOrder}
 use Rattle.clsm_law.specs.Memory.{cell_of, link_at, is_word, is_part}
 use Rattle.clsm_law.specs.Views.{own_time, own_region, or_zero}
 use Rattle.clsm_law.specs.Relation.{word_of}
@@ -27,7 +28,8 @@ module _ (g : Ground) where
   word_there' (Look word) o = o
   word_there' (Pad t) o = cell_there t
   word_there' (WriteRun word x) o = o.2
-  word_there' (ClearHead region chain) o = both (nat_lt region 2) (nat_lt chain g.z.chains) (lt-ltb region 2 (let a = o.2 in omega arith)) (lt-ltb chain g.z.chains o.3)
+  word_there' (ClearHead region chain) o = both (nat_lt region 2) (nat_lt chain g.z.chains) (lt-ltb region 2 (let a = o.2 in omega arith))
+      (lt-ltb chain g.z.chains o.3)
   word_there' (ClearOrder region) o = lt-ltb region (2 + 2 * g.z.cells) (let a = o.2 in omega arith)
   word_there' (ClearState cell) o = lt-ltb cell (2 * g.z.cells) o.2
   word_there' step o = refl
@@ -41,8 +43,10 @@ link_there s p o = lt-ltb _ _ (by_test (λ b. cond b (own_region s.z (v s)) (p +
     let same : p ≡ (v s).low = ⊎_elim (λ (a : p ≡ 0). absurd (ne a)) (λ (a : p ≡ (v s).low). a) o in omega arith))
 
 pub word_there : (s : Setting) (step : Step) → May s step → is_word s.z (word_of s.z s.me (v s) step) ≡ true
-word_there s (Fill part w) o = both (nat_lt (cell_of s.z (own_time (v s))) (2 * s.z.cells)) (is_part part) (lt-ltb _ _ (cell_below s.z (own_time (v s)) (some_cells s))) o.2
-word_there s (Link head) o = both _ _ (lt-ltb _ 2 (region_below s.z (cell_of s.z (own_time (v s))))) (lt-ltb (or_zero (v s).key % s.z.chains) s.z.chains (mod_below (or_zero (v s).key) s.z.chains (omega (arith, s.sound.2.0))))
+word_there s (Fill part w) o = both (nat_lt (cell_of s.z (own_time (v s))) (2 * s.z.cells)) (is_part part)
+    (lt-ltb _ _ (cell_below s.z (own_time (v s)) (some_cells s))) o.2
+word_there s (Link head) o = both _ _ (lt-ltb _ 2 (region_below s.z (cell_of s.z (own_time (v s)))))
+    (lt-ltb (or_zero (v s).key % s.z.chains) s.z.chains (mod_below (or_zero (v s).key) s.z.chains (omega (arith, s.sound.2.0))))
 word_there s (FillOrder w) o = lt-ltb _ _ (let a = cell_below s.z (own_time (v s)) (some_cells s) in omega arith)
 word_there s (Insert p next) o = link_there s p o.4
 word_there s (StoreHint cell i w) o = o

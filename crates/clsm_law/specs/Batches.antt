@@ -17,7 +17,8 @@ use Rattle.clsm_law.specs.declared.view.SnapshotState.TheVariants.{Timed, Open}
 -- what the seat i takes for its batch: only in an exclusive hold of the lock, in which the clock is
 -- as it looked at it until it commits; the times from the clock on are those of the members that it
 -- decided, and the next is that of the one that it writes
-pub record IsStaging (clock i : ℕ) (slot : ℕ → Option Slot) (mode : Mode) (drawn : Option ℕ) (staged : List Member) (committed : Bool) (noted : Option ℕ) : Type 0 where
+pub record IsStaging (clock i : ℕ) (slot : ℕ → Option Slot) (mode : Mode) (drawn : Option ℕ) (staged : List Member) (committed : Bool)
+    (noted : Option ℕ) : Type 0 where
   pub shut : mode ≢ Exclusive → staged ≡ []
   pub own : mode ≡ Exclusive → (t : ℕ) → drawn ≡ Some t → (t ≡ clock + length staged) × (slot t ≡ None)
   pub same : mode ≡ Exclusive → committed ≡ false → (c : ℕ) → noted ≡ Some c → c ≡ clock

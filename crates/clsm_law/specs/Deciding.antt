@@ -64,7 +64,8 @@ searched_total memory component (p ∷ ps) = searched_count memory component p +
 unfoldable pub searched_entry : Memory → ℕ → List ℕ → ℕ → Option Entry
 searched_entry memory component [] number = None
 searched_entry memory component (p ∷ ps) number =
-    cond (nat_lt number (searched_count memory component p)) (Some (entry_in memory p number)) (searched_entry memory component ps (number - searched_count memory component p))
+    cond (nat_lt number (searched_count memory component p)) (Some (entry_in memory p number))
+    (searched_entry memory component ps (number - searched_count memory component p))
 
 -- the numbers of the sources: those of the times of the epoch, and behind them those of the entries
 -- of all runs, where these are merged

@@ -1,6 +1,7 @@
 -- The law of a world: what every open step keeps. Each clause is stated over the few functions that
 -- it names.
-use Rattle.std.specs.Prelude.{◌≡◌, ◌≢◌, ℕ, ◌+◌, ◌-◌, ◌*◌, ◌%◌, ◌<◌, ◌≤◌, ◌&&◌, ◌||◌, ◌⊎◌, Bool, true, false, not, cond, List, [], ◌∷◌, length, slice_index, slice_index_or, Option, Some, None, is_some}
+use Rattle.std.specs.Prelude.{◌≡◌, ◌≢◌, ℕ, ◌+◌, ◌-◌, ◌*◌, ◌%◌, ◌<◌, ◌≤◌, ◌&&◌, ◌||◌, ◌⊎◌, Bool, true, false, not, cond, List, [], ◌∷◌, length, slice_index}
+use Rattle.std.specs.Prelude.{slice_index_or, Option, Some, None, is_some}
 use Rattle.std.specs.List.{AllByRecursion, sum_by}
 use Rattle.clsm_model.specs.declared.batch.Batch.{Batch}
 use Rattle.clsm_model.specs.declared.slot.Slot.{Slot}
@@ -25,7 +26,8 @@ use Rattle.clsm_law.specs.Codes.{exclusive_hold, last_limit}
 use Rattle.clsm_law.specs.Memory.{Memory, cell_of, region_of, link_of, key_at, room_of}
 use Rattle.clsm_law.specs.Places.{is_named, held_at}
 use Rattle.clsm_law.specs.Views.{IsShort, is_shared, is_exclusive, length_of, words_of, state_of}
-use Rattle.clsm_law.specs.Relation.{Chains, Orders, Before, open_time}
+use Rattle.clsm_law.specs.OpenSteps.{open_time}
+use Rattle.clsm_law.specs.Relation.{Chains, Orders, Before}
 use Rattle.clsm_law.specs.Merging.{is_clean, is_frozen, is_retired, is_all_quiet, reader_at, epoch_end}
 use Rattle.clsm_model.specs.Seats.{IsRightRecord, IsStandingRecord, HasWrite, IsRising}
 use Rattle.clsm_law.specs.Batches.{AreFitting, AreListed, AreStaging, AreUncut, AreUncutNotes, AreUncutPasts, AreUncutSnapshots, IsWritten}
@@ -115,7 +117,7 @@ reached_of v = v.reached
 abbrev pub past_time_of : View → ℕ
 past_time_of v = v.past
 
--- the time below which it makes no later call, those under an open snapshot apart
+-- the time below which it makes no later call, except those under an open snapshot
 abbrev pub due_of : View → ℕ
 due_of v = v.due
 
@@ -222,7 +224,8 @@ AreShort slot = (t i key : ℕ) (written : Option (List ℕ)) → slot t ≡ Som
 abbrev pub Shows : Memory → ℕ → Option Slot → Type 0
 Shows memory c None = memory (State c) ≡ 0
 Shows memory c (Some Nothing) = memory (State c) ≡ 1
-Shows memory c (Some (Wrote i key written)) = (memory (State c) ≡ state_of written) × (memory (Cell c Key) ≡ key) × (memory (Cell c Length) ≡ length_of written) × ((j : ℕ) → j < length_of written → memory (Cell c (Value j)) ≡ slice_index (words_of written) j)
+Shows memory c (Some (Wrote i key written)) = (memory (State c) ≡ state_of written) × (memory (Cell c Key) ≡ key)
+    × (memory (Cell c Length) ≡ length_of written) × ((j : ℕ) → j < length_of written → memory (Cell c (Value j)) ≡ slice_index (words_of written) j)
 
 -- each cell from the first time shown on shows what its time came to
 abbrev pub AreShown : Layout → Memory → ℕ → ℕ → (ℕ → Option Slot) → Type 0
@@ -230,7 +233,8 @@ AreShown z memory first clock slot = (t : ℕ) → first ≤ t → t < clock →
 
 -- the cell of an undrawn time is empty; a freeze cancels those of its epoch
 abbrev pub AreEmpty : Layout → Memory → Bool → ℕ → ℕ → ℕ → Type 0
-AreEmpty z memory padded clock epoch_end end = (t : ℕ) → clock ≤ t → t < end → (memory (State (cell_of z t)) ≡ 0) ⊎ ((padded ≡ true) × (t < epoch_end) × (memory (State (cell_of z t)) ≡ 1))
+AreEmpty z memory padded clock epoch_end end = (t : ℕ) → clock ≤ t → t < end → (memory (State (cell_of z t)) ≡ 0)
+    ⊎ ((padded ≡ true) × (t < epoch_end) × (memory (State (cell_of z t)) ≡ 1))
 
 -- from the word h on, the words NEXT lead through the cells of these times, and end
 abbrev pub IsChain : Layout → Memory → ℕ → List ℕ → Type 0
@@ -349,7 +353,8 @@ AreLower z memory drawn key low = (i t k : ℕ) → drawn i ≡ Some t → key i
 
 -- and the one found behind it is behind it
 abbrev pub AreHigher : Layout → Memory → (ℕ → Option ℕ) → (ℕ → Option ℕ) → (ℕ → Bool) → (ℕ → ℕ) → Type 0
-AreHigher z memory drawn key inserted high = (i t k : ℕ) → drawn i ≡ Some t → key i ≡ Some k → inserted i ≡ false → high i ≢ 0 → Before k (place_of_time z t) (key_at memory (high i)) (high i)
+AreHigher z memory drawn key inserted high = (i t k : ℕ) → drawn i ≡ Some t → key i ≡ Some k → inserted i ≡ false → high i ≢ 0
+    → Before k (place_of_time z t) (key_at memory (high i)) (high i)
 
 -- a number noted is at most the bound
 abbrev pub AreNotedBelow : (ℕ → Option ℕ) → ℕ → Type 0
@@ -458,7 +463,8 @@ AreRecordsStanding slot calls = (i : ℕ) → AllByRecursion (IsStandingRecord s
 
 -- each written slot below the clock is in the records of its seat
 abbrev pub AreRecorded : ℕ → (ℕ → Option Slot) → (ℕ → List CallRecord) → Type 0
-AreRecorded clock slot calls = (t i key : ℕ) (written : Option (List ℕ)) → t < clock → slot t ≡ Some (Wrote i key written) → HasWrite i t (Wrote i key written) (calls i)
+AreRecorded clock slot calls = (t i key : ℕ) (written : Option (List ℕ)) → t < clock → slot t ≡ Some (Wrote i key written)
+    → HasWrite i t (Wrote i key written) (calls i)
 
 -- each seat's times rise to its due, and its calls leave its snapshot open or closed
 abbrev pub AreRising : (ℕ → List CallRecord) → (ℕ → ℕ) → (ℕ → SnapshotState) → Type 0
@@ -476,7 +482,8 @@ AreDuesBelowOwn drawn slot due = (i t : ℕ) → drawn i ≡ Some t → slot t �
 
 -- the law of a world with these words, views, merger, slots and batches, and with these chains of
 -- times and ordered lists: one field a clause
-pub record LawOf (z : Layout) (memory : Memory) (views : List View) (m : MergerView) (slots : List (Option Slot)) (batches : List Batch) (chains : Chains) (orders : Orders) : Type 0 where
+pub record LawOf (z : Layout) (memory : Memory) (views : List View) (m : MergerView) (slots : List (Option Slot)) (batches : List Batch) (chains : Chains)
+    (orders : Orders) : Type 0 where
   -- the lock
   pub seated : length views ≡ z.seats
   pub lock : memory Lock ≡ cond m.exclusive exclusive_hold (sum_by holders views)
@@ -553,7 +560,8 @@ pub record LawOf (z : Layout) (memory : Memory) (views : List View) (m : MergerV
   pub dues : AreAtMost (each z due_of views) (memory Clock)
   pub own_dues : AreDuesBelowOwn (each z drawn_of views) (outcome_at slots) (each z due_of views)
   -- batches
-  pub staging : AreStaging (memory Clock) (outcome_at slots) (each z mode_of views) (each z drawn_of views) (each z staged_of views) (each z committed_of views) (each z hold_clock_of views)
+  pub staging : AreStaging (memory Clock) (outcome_at slots) (each z mode_of views) (each z drawn_of views) (each z staged_of views)
+      (each z committed_of views) (each z hold_clock_of views)
   pub in_turn : AreInTurn 0 batches (memory Clock)
   pub written : AllByRecursion (IsWritten (outcome_at slots)) batches
   pub uncut_front : IsUncut batches (memory Front)

@@ -13,8 +13,8 @@ use Rattle.clsm_law.specs.Memory.{Memory, is_word, room_of}
 abbrev pub IsLayout : Layout → Type 0
 IsLayout z = IsBetween 4 65536 z.cells × IsBetween 1 64 z.seats × IsBetween 1 65536 z.chains × IsBetween 4 4194304 z.run
 
--- the greatest odd number that is not above this one: an odd number of chains parts keys that are
--- alike in their last bits
+-- the greatest odd number that is not above this one: an odd number of chains separates keys that
+-- have the same last bits
 abbrev pub odd_below : ℕ → ℕ
 odd_below n = n - 1 + n % 2
 
@@ -57,7 +57,9 @@ place_size z p = 1 + entry_words * room_of z p
 -- of the five places. What could push the cells off their lines stands behind them
 abbrev pub blocks : Layout → List ℕ
 blocks z =
-    (to_line + spacing) ∷ spacing ∷ spacing ∷ spacing ∷ spacing ∷ (spacing * z.seats) ∷ (spacing * z.seats) ∷ (cell_words * (2 + 2 * z.cells)) ∷ (far_words * (2 * z.cells)) ∷ (3 * (2 * z.cells)) ∷ (2 * z.chains) ∷ (place_size z 0) ∷ (place_size z 1) ∷ (place_size z 2) ∷ (place_size z 3) ∷ (place_size z 4) ∷ []
+    (to_line + spacing) ∷ spacing ∷ spacing ∷ spacing ∷ spacing ∷ (spacing * z.seats) ∷ (spacing * z.seats)
+    ∷ (cell_words * (2 + 2 * z.cells)) ∷ (far_words * (2 * z.cells)) ∷ (3 * (2 * z.cells)) ∷ (2 * z.chains)
+    ∷ (place_size z 0) ∷ (place_size z 1) ∷ (place_size z 2) ∷ (place_size z 3) ∷ (place_size z 4) ∷ []
 
 -- the block that a part of a cell stands in
 abbrev pub part_block : Part → ℕ

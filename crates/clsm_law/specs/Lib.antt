@@ -3,6 +3,7 @@ pub mod Memory
 pub mod Layout
 pub mod Places
 pub mod Views
+pub mod OpenSteps
 pub mod Relation
 pub mod Merging
 pub mod Worlds

@@ -1,6 +1,7 @@
 -- The steps of the merger, by cases in the order of the step's members. Beside its view, a step of
 -- the merger knows some facts of the world.
-use Rattle.std.specs.Prelude.{◌≡◌, ℕ, ◌+◌, ◌-◌, ◌*◌, ◌%◌, ◌^◌, ◌<◌, ◌≤◌, ◌==◌, ◌&&◌, ◌||◌, Bool, true, false, not, cond, max, min, List, [], ◌++◌, length, replicate, slice_index_or, slice_set, Option, Some, None}
+use Rattle.std.specs.Prelude.{◌≡◌, ℕ, ◌+◌, ◌-◌, ◌*◌, ◌%◌, ◌^◌, ◌<◌, ◌≤◌, ◌==◌, ◌&&◌, ◌||◌, Bool, true, false, not, cond, max, min, List, [], ◌++◌, length}
+use Rattle.std.specs.Prelude.{replicate, slice_index_or, slice_set, Option, Some, None}
 use Rattle.std.specs.List.{list_all}
 use prog.Atomic.{either}
 use Rattle.clsm_model.specs.declared.slot.Slot.{Slot}
@@ -11,7 +12,8 @@ use Rattle.clsm_law.specs.declared.layout.Layout.{Layout}
 use Rattle.clsm_law.specs.declared.word.Word.{Word}
 use Rattle.clsm_law.specs.declared.word.Word.TheVariants.{Lock, Clock, Limit, Merged, Pin, Snap, Head, Order, State, Count, Entry as EntryWord}
 use Rattle.clsm_law.specs.declared.step.Step.{Step}
-use Rattle.clsm_law.specs.declared.step.Step.TheVariants.{EnterExclusive, LeaveExclusive, Look, Pad, WriteRun, ClearHead, ClearState, ClearOrder, Publish, ExtendClock, ExtendLimit}
+use Rattle.clsm_law.specs.declared.step.Step.TheVariants.{EnterExclusive, LeaveExclusive, Look, Pad, WriteRun, ClearHead, ClearState, ClearOrder, Publish}
+use Rattle.clsm_law.specs.declared.step.Step.TheVariants.{ExtendClock, ExtendLimit}
 use Rattle.clsm_law.specs.declared.merger.MergerView.{MergerView}
 use Rattle.clsm_law.specs.declared.merger.Phase.{Phase}
 use Rattle.clsm_law.specs.declared.merger.Phase.TheVariants.{Clean, Frozen, Retired}
@@ -134,7 +136,8 @@ IsOpenToMerger z f m (ClearHead region chain) = (is_retired m.phase ≡ true) ×
 -- the same; the region is that one
 IsOpenToMerger z f m (ClearOrder region) = (is_retired m.phase ≡ true) × (is_all_quiet m.readers ≡ true) × (region ≡ retired_region m)
 -- the same; the cell is one of its region, whose heads are all 0, that of its list too
-IsOpenToMerger z f m (ClearState cell) = (is_retired m.phase ≡ true) × (is_all_quiet m.readers ≡ true) × (cell < 2 * z.cells) × (region_of z cell ≡ retired_region m) × (f.headless ≡ true) × (f.orderless ≡ true)
+IsOpenToMerger z f m (ClearState cell) = (is_retired m.phase ≡ true) × (is_all_quiet m.readers ≡ true) × (cell < 2 * z.cells)
+    × (region_of z cell ≡ retired_region m) × (f.headless ≡ true) × (f.orderless ≡ true)
 -- an epoch is frozen, and its run is written: the entries that are wanted, within the room of the
 -- place, and no word that says more
 IsOpenToMerger z f m Publish = (is_frozen m.phase ≡ true) × (f.count ≤ room_of z (target_of m)) × (f.written ≡ f.wanted) × (f.canonical ≡ true)
@@ -213,7 +216,7 @@ abbrev pub round_on : Option Round → ℕ → ℕ → Option Round
 round_on None i x = None
 round_on (Some r) i x = cond (r.next == i) (Some (record { next = i + 1; least = least r.least (noted_time x) })) None
 
--- the same; a look at the word of seat 0 begins a round anew
+-- the same; a look at the word of seat 0 begins a new round
 abbrev pub round_by : Option Round → ℕ → ℕ → Option Round
 round_by round i x = cond (i == 0) (Some (record { next = 1; least = noted_time x })) (round_on round i x)
 

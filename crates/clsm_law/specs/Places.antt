@@ -18,7 +18,8 @@ is_named m p = cond (nat_lt p 3) (nat_lt p (m % 4)) (p == 3 + m / 4 % 2)
 
 -- the words of an entry's value
 abbrev pub value_words : Memory → ℕ → ℕ → List ℕ
-value_words memory p i = memory (EntryWord p i 3) ∷ memory (EntryWord p i 4) ∷ memory (EntryWord p i 5) ∷ memory (EntryWord p i 6) ∷ memory (EntryWord p i 7) ∷ memory (EntryWord p i 8) ∷ memory (EntryWord p i 9) ∷ memory (EntryWord p i 10) ∷ []
+value_words memory p i = memory (EntryWord p i 3) ∷ memory (EntryWord p i 4) ∷ memory (EntryWord p i 5) ∷ memory (EntryWord p i 6) ∷ memory
+    (EntryWord p i 7) ∷ memory (EntryWord p i 8) ∷ memory (EntryWord p i 9) ∷ memory (EntryWord p i 10) ∷ []
 
 -- the entry i of the place p: its time word is twice the time, plus 1 for a removal
 abbrev pub entry_in : Memory → ℕ → ℕ → Entry

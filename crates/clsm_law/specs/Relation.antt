@@ -1,50 +1,52 @@
--- The steps of a caller's seat, by cases in the order of the step's members: where each is open,
--- its word, what it makes of the word, the view after it, the slots and chains after it, and its
--- answer. `x` is the word that the step finds.
-use Rattle.std.specs.Prelude.{◌≡◌, ◌≢◌, ℕ, ◌+◌, ◌-◌, ◌*◌, ◌%◌, ◌^◌, ◌<◌, ◌≤◌, ◌==◌, ◌&&◌, ◌||◌, ◌⊎◌, Bool, true, false, not, cond, nat_lt, nat_le, max, List, [], ◌∷◌, ◌++◌, length, take, slice_index_or, slice_set, Option, Some, None, is_some}
+-- The steps of a caller's seat, by cases in the order of the step's members: the word of each, what
+-- it makes of the word, the view after it, the slots and chains after it, and its answer. Where each
+-- is open is in `OpenSteps`. `x` is the word that the step finds.
+use Rattle.std.specs.Prelude.{◌≡◌, ℕ, ◌+◌, ◌*◌, ◌%◌, ◌^◌, ◌<◌, ◌≤◌, ◌==◌, ◌&&◌, ◌||◌, Bool, true, false, not, cond, nat_lt, nat_le, max, List, [], ◌∷◌}
+use Rattle.std.specs.Prelude.{◌++◌, length, slice_set, Option, Some, None, is_some}
 use prog.Atomic.{either}
 use Rattle.clsm_model.specs.declared.batch.Batch.{Batch}
 use Rattle.clsm_model.specs.declared.slot.Slot.{Slot}
 use Rattle.clsm_model.specs.declared.slot.Slot.TheVariants.{Nothing, Wrote}
-use Rattle.clsm_model.specs.declared.slot.Change.TheVariants.{Keep, Set, Remove as Erase}
+use Rattle.clsm_model.specs.declared.slot.Change.TheVariants.{Set, Remove as Erase}
 use Rattle.clsm_model.specs.declared.record.Deed.{Deed}
-use Rattle.clsm_model.specs.declared.record.Deed.TheVariants.{Put, Remove, Rmw, Get, Snapshot, Close, GetAt, Scan, Page, Batch as Group}
+use Rattle.clsm_model.specs.declared.record.Deed.TheVariants.{Put, Remove, Rmw, Snapshot, Close, Batch as Group}
 use Rattle.clsm_model.specs.declared.record.CallRecord.{CallRecord}
-use Rattle.clsm_model.specs.History.{History, or_else, IsUncut}
-use Rattle.clsm_model.specs.Right.{IsRight, Member, write_by}
+use Rattle.clsm_model.specs.Right.{Member, write_by}
 use Rattle.clsm_law.specs.declared.layout.Layout.{Layout}
 use Rattle.clsm_law.specs.declared.word.Word.{Word}
-use Rattle.clsm_law.specs.declared.word.Word.TheVariants.{Lock, Clock, Limit, Front, Merged, Pin as PinOf, Snap, Head, Cell, Order, Hint, State, Count, Entry}
+use Rattle.clsm_law.specs.declared.word.Word.TheVariants.{Lock, Clock, Limit, Front, Merged, Pin as PinOf, Snap, Head, Cell, Order, Hint, State}
 use Rattle.clsm_law.specs.declared.word.Part.{Part}
 use Rattle.clsm_law.specs.declared.word.Part.TheVariants.{Key, Length, Value, Next}
 use Rattle.clsm_law.specs.declared.step.Step.{Step}
-use Rattle.clsm_law.specs.declared.step.Step.TheVariants.{EnterShared, LeaveShared, EnterExclusive, LeaveExclusive, Draw, Fill, Link, FillOrder, Insert, StoreHint, Decide, Cancel, Stage, Commit, Pin, Unpin, Look, RaiseFront, Note, CloseSnapshot}
+use Rattle.clsm_law.specs.declared.step.Step.TheVariants.{EnterShared, LeaveShared, EnterExclusive, LeaveExclusive, Draw, Fill, Link, FillOrder, Insert}
+use Rattle.clsm_law.specs.declared.step.Step.TheVariants.{StoreHint, Decide, Cancel, Stage, Commit, Pin, Unpin, Look, RaiseFront, Note, CloseSnapshot}
 use Rattle.clsm_law.specs.declared.step.End.{End}
 use Rattle.clsm_law.specs.declared.step.End.TheVariants.{Neither, Meeting, Recorded}
 use Rattle.clsm_law.specs.declared.step.Answer.{Answer}
 use Rattle.clsm_law.specs.declared.step.Answer.TheVariants as answers
-use Rattle.clsm_law.specs.declared.view.FreshLink.{FreshLink}
 use Rattle.clsm_law.specs.declared.view.View.{View}
 use Rattle.clsm_law.specs.declared.view.Waiting.{Waiting}
 use Rattle.clsm_law.specs.declared.view.Mode.TheVariants.{Free, Shared, Exclusive}
 use Rattle.clsm_law.specs.declared.view.SnapshotState.{SnapshotState}
 use Rattle.clsm_law.specs.declared.view.SnapshotState.TheVariants.{Absent, Noted, Timed, Open}
 use Rattle.clsm_law.specs.Codes.{exclusive_hold, undecided_cell, cancelled_cell, value_cell, removal_cell}
-use Rattle.clsm_law.specs.Memory.{cell_of, region_of, region_of_link, link_at, head_of, is_part, is_word}
-use Rattle.clsm_law.specs.Views.{blank, or_zero, next_word, IsBelow, is_below, is_free, is_exclusive, line_of, own_time, own_line, own_region, own_place, is_all_some, state_of, SaysWrite}
-use Rattle.clsm_law.specs.Places.{is_named}
+use Rattle.clsm_law.specs.Memory.{cell_of, region_of, link_at, head_of}
+use Rattle.clsm_law.specs.Views.{blank, or_zero, next_word, is_below, is_free, is_exclusive, line_of, own_time, own_line, own_region, own_place, state_of}
+use Rattle.clsm_law.specs.OpenSteps.{open_time, time_of_read, is_old, timed}
 
--- ---- what a decide takes and writes
-
--- a read-modify-write has read what stands below its time
-abbrev pub IsReadBelow : History → View → ℕ → Deed → Type 0
-IsReadBelow h v t (Rmw key old change) = (t ≤ v.past) × IsRight h t (Rmw key old change)
-IsReadBelow h v t _ = Unit {0}
+-- ---- what a decide writes
 
 -- the state that a decide to this slot writes; undecided where the slot is no write
 abbrev pub state_by : Option Slot → ℕ
 state_by (Some (Wrote seat key written)) = state_of written
 state_by _ = undecided_cell
+
+-- the member that a deed's write is
+abbrev pub member_of : Deed → List Member
+member_of (Put key written) = (key, Set written) ∷ []
+member_of (Remove key) = (key, Erase) ∷ []
+member_of (Rmw key old change) = (key, change) ∷ []
+member_of _ = []
 
 -- ---- the ordered list
 
@@ -83,7 +85,7 @@ abbrev pub high_seen : Layout → View → ℕ → Part → ℕ → ℕ
 high_seen z v cell Key x = cond (cell + 1 == v.met && not (is_lower z v cell x)) (cell + 1) v.high
 high_seen z v cell _ x = v.high
 
--- ---- the component held
+-- ---- the times that a seat sees decided
 
 -- a time of the held component, below a clock that the seat looked at
 abbrev pub is_seen_of : Layout → Option ℕ → Option ℕ → ℕ → Bool
@@ -93,162 +95,6 @@ is_seen_of z (Some m) clock t = nat_le (m * z.cells) t && nat_lt t ((m + 2) * z.
 -- the same, by what the seat holds and looked at last
 abbrev pub is_seen : Layout → View → ℕ → Bool
 is_seen z v t = is_seen_of z v.held v.clock t
-
--- the held component reaches down to t
-abbrev pub HoldsFrom : Layout → Option ℕ → ℕ → Type 0
-HoldsFrom z None t = ⊥
-HoldsFrom z (Some m) t = m * z.cells ≤ t
-
--- the region of the current epoch, by the limit looked at in this hold of the lock
-abbrev pub IsCurrentRegion : Layout → Option ℕ → ℕ → Type 0
-IsCurrentRegion z None region = ⊥
-IsCurrentRegion z (Some limit) region = region_of z (cell_of z (limit - 1)) ≡ region
-
--- the seat may look into the region: it holds a component, or it holds the lock and the region is
--- the current epoch's
-abbrev pub MayVisit : Layout → View → ℕ → Type 0
-MayVisit z v region = (v.held ≢ None) ⊎ ((v.mode ≢ Free) × IsCurrentRegion z v.hold_limit region)
-
--- the held component names the place
-abbrev pub IsNamedBy : Option ℕ → ℕ → Type 0
-IsNamedBy None place = ⊥
-IsNamedBy (Some m) place = is_named m place ≡ true
-
--- the word may be looked at by the seat
-abbrev pub IsLookable : Layout → View → Word → Type 0
-IsLookable z v (Head region chain) = MayVisit z v region
-IsLookable z v (Cell cell part) = MayVisit z v (region_of z cell)
-IsLookable z v (Order k) = MayVisit z v (region_of_link z k)
-IsLookable z v (Hint cell i) = MayVisit z v (region_of z cell)
-IsLookable z v (State cell) = MayVisit z v (region_of z cell)
-IsLookable z v (Count place) = IsNamedBy v.held place
-IsLookable z v (Entry place entry part) = IsNamedBy v.held place
-IsLookable z v _ = Unit {0}
-
--- ---- how a read ends
-
--- the time of the open snapshot
-abbrev pub open_time : SnapshotState → Option ℕ
-open_time (Open noted time) = Some time
-open_time _ = None
-
--- the time at which a read with this deed stands: the open snapshot's, or the clock looked at under
--- this pin
-abbrev pub time_of_read : View → Deed → Option ℕ
-time_of_read v (Get key reply) = v.pin_clock
-time_of_read v (Rmw key old Keep) = v.pin_clock
-time_of_read v (GetAt key reply) = open_time v.snapshot
-time_of_read v (Scan lo hi rows) = or_else (open_time v.snapshot) v.pin_clock
-time_of_read v (Page from hi max rows more) = or_else (open_time v.snapshot) v.pin_clock
-time_of_read v _ = None
-
--- a read under an open snapshot: it may stand below the due, and leaves it
-abbrev pub is_old : View → Deed → Bool
-is_old v (GetAt key reply) = true
-is_old v (Scan lo hi rows) = is_some (open_time v.snapshot)
-is_old v (Page from hi max rows more) = is_some (open_time v.snapshot)
-is_old v _ = false
-
--- the time of the snapshot that this pin noted
-abbrev pub timed : SnapshotState → Option ℕ
-timed (Timed noted time) = Some time
-timed _ = None
-
--- the deed is right at the time, where there is one, and that is not below the due, reads under an
--- open snapshot apart
-abbrev pub IsRightAt : History → View → Deed → Option ℕ → Type 0
-IsRightAt h v deed None = ⊥
-IsRightAt h v deed (Some s) = (is_old v deed ≡ false → v.due ≤ s) × IsRight h s deed
-
--- a meeting may be at the time: it is not below the due, and within the seat's past
-abbrev pub IsMetAt : View → Option ℕ → Type 0
-IsMetAt v None = ⊥
-IsMetAt v (Some s) = (v.due ≤ s) × (s ≤ v.past)
-
--- where a snapshot was noted under this pin, the read ends with it
-abbrev pub IsEndingWith : History → View → SnapshotState → End → Type 0
-IsEndingWith h v (Noted noted) end = ⊥
-IsEndingWith h v (Timed noted time) (Recorded Snapshot) = (v.due ≤ time) × IsRight h time Snapshot
-IsEndingWith h v (Timed noted time) end = ⊥
-IsEndingWith h v _ Neither = Unit {0}
-IsEndingWith h v _ Meeting = IsMetAt v v.pin_clock
-IsEndingWith h v _ (Recorded deed) = IsRightAt h v deed (time_of_read v deed)
-
--- ---- batches
-
--- the time is that of the next member of the seat's batch: behind the clock as looked at in this
--- hold, and behind the members that are decided
-abbrev pub IsNextMember : View → Option ℕ → ℕ → Type 0
-IsNextMember v None t = ⊥
-IsNextMember v (Some c) t = t ≡ c + length v.staged
-
--- the member that a deed's write is
-abbrev pub member_of : Deed → List Member
-member_of (Put key written) = (key, Set written) ∷ []
-member_of (Remove key) = (key, Erase) ∷ []
-member_of (Rmw key old change) = (key, change) ∷ []
-member_of _ = []
-
--- the snapshot is recorded and open
-abbrev pub IsOpenSnapshot : SnapshotState → Type 0
-IsOpenSnapshot (Open noted time) = Unit {0}
-IsOpenSnapshot _ = ⊥
-
--- ---- where a step is open to a seat: h is the seat's past, with all batches
-
--- a caller's seat with this view may make the step
-abbrev pub IsOpen : Layout → History → View → Step → Type 0
--- the seat does not hold the lock, and its fresh look found l there, which is no exclusive hold
-IsOpen z h v (EnterShared l) = (v.mode ≡ Free) × (v.fresh_lock ≡ Some l) × (l < exclusive_hold)
--- it holds the lock shared, and has no drawn time
-IsOpen z h v LeaveShared = (v.mode ≡ Shared) × (v.drawn ≡ None)
--- the same; its fresh look found the clock at t, and t is below the limit that it looked at in this
--- hold
-IsOpen z h v (Draw t) = (v.mode ≡ Shared) × (v.drawn ≡ None) × (v.fresh_clock ≡ Some t) × IsBelow t v.hold_limit
--- it has a drawn time whose cell is not linked, and a cell has that part
-IsOpen z h v (Fill part w) = (v.drawn ≢ None) × (v.linked ≡ false) × (is_part part ≡ true)
--- the same; all parts are filled, and NEXT is the head, as the fresh look found it
-IsOpen z h v (Link head) = (v.drawn ≢ None) × (v.linked ≡ false) × (v.key ≢ None) × (v.length ≢ None) × (is_all_some (take (or_zero v.length) v.words) ≡ true) × (v.next ≡ Some head) × (slice_index_or v.fresh_heads (own_line z v) None ≡ Some head)
--- it has a drawn time whose cell does not stand in the ordered list
-IsOpen z h v (FillOrder w) = (v.drawn ≢ None) × (v.inserted ≡ false)
--- the same; the cell is linked, so that its key stays; the place is the list's head, or one found
--- before the cell, and the link behind the cell is filled with none, or one found behind it; and
--- that is what the fresh look found at the link behind the place
-IsOpen z h v (Insert p next) = (v.drawn ≢ None) × (v.inserted ≡ false) × (v.linked ≡ true) × (v.order_next ≡ Some next) × ((p ≡ 0) ⊎ (p ≡ v.low)) × ((next ≡ 0) ⊎ (next ≡ v.high)) × (v.fresh_link ≡ Some (record { link = link_at (own_region z v) p; next = next }))
--- there is such a hint
-IsOpen z h v (StoreHint cell i w) = is_word z (Hint cell i) ≡ true
--- t is drawn and its cell linked; what the parts say is the write that the deed makes; what a
--- read-modify-write read is right at t, which the past of the seat has reached; and the cell stands
--- in the ordered list
-IsOpen z h v (Decide t deed) = (v.drawn ≡ Some t) × (v.linked ≡ true) × SaysWrite v (write_by 0 deed) × IsReadBelow h v t deed × (v.inserted ≡ true)
--- t is drawn by the seat in a shared hold of the lock, or it is not before the held component and
--- below the clock as the seat last looked at it
-IsOpen z h v (Cancel t) = ((v.drawn ≡ Some t) × (v.mode ≡ Shared)) ⊎ (HoldsFrom z v.held t × IsBelow t v.clock)
--- the seat does not hold the lock
-IsOpen z h v EnterExclusive = v.mode ≡ Free
--- it holds the lock exclusively, and has written nothing that is not committed
-IsOpen z h v LeaveExclusive = (v.mode ≡ Exclusive) × (v.drawn ≡ None) × (v.staged ≡ [])
--- it holds the lock exclusively, has committed nothing in this hold, and has decided all members
--- before; t is the time of the next one, below the limit that it looked at in this hold
-IsOpen z h v (Stage t key) = (v.mode ≡ Exclusive) × (v.drawn ≡ None) × (v.committed ≡ false) × IsNextMember v v.hold_clock t × IsBelow t v.hold_limit
--- the same; these are the members that it decided, and there is one
-IsOpen z h v (Commit members) = (v.mode ≡ Exclusive) × (v.drawn ≡ None) × (v.committed ≡ false) × (v.hold_clock ≢ None) × (v.staged ≡ members) × (members ≢ [])
--- no read runs
-IsOpen z h v Pin = v.pinned ≡ false
--- a read runs, and may end so: with a right record, a meeting or neither, and with a snapshot
--- exactly where one was noted under this pin
-IsOpen z h v (Unpin end) = (v.pinned ≡ true) × IsEndingWith h v v.snapshot end
--- there is such a word; cells and heads ask for a component, or a hold of the lock for the current
--- region; runs for a component that names them
-IsOpen z h v (Look word) = (is_word z word ≡ true) × IsLookable z v word
--- the seat has found each time below s decided, and s is inside no batch
-IsOpen z h v (RaiseFront s) = (s ≤ v.reached) × IsUncut h.batches s
--- there is no snapshot, a read runs, and its look at the clock found b
-IsOpen z h v (Note b) = (v.snapshot ≡ Absent) × (v.pinned ≡ true) × (v.pin_clock ≡ Some b)
--- a snapshot is open
-IsOpen z h v CloseSnapshot = IsOpenSnapshot v.snapshot
--- the merger's steps are open to no caller
-IsOpen z h v _ = ⊥
 
 -- ---- the word that the step is on, of the seat i
 
@@ -430,7 +276,13 @@ abbrev pub looked : Layout → View → Word → ℕ → View
 looked z v Lock x = record v { fresh_lock = cond (x == exclusive_hold) None (Some x); busy = one_more_if (is_free v.mode && x == exclusive_hold) v.busy }
 -- it is fresh and the last of all, and that of the hold and of the pin, where there are such; and a
 -- noted snapshot gets its time
-looked z v Clock x = record v { fresh_clock = Some x; hold_clock = cond (holds_lock v) (Some x) v.hold_clock; clock = Some x; pin_clock = cond v.pinned (Some x) v.pin_clock; snapshot = timed_by v.snapshot x }
+looked z v Clock x = record v {
+  fresh_clock = Some x;
+  hold_clock = cond (holds_lock v) (Some x) v.hold_clock;
+  clock = Some x;
+  pin_clock = cond v.pinned (Some x) v.pin_clock;
+  snapshot = timed_by v.snapshot x;
+}
 -- the limit of the hold, where there is one
 looked z v Limit x = record v { hold_limit = cond (holds_lock v) (Some x) v.hold_limit }
 -- each time below it is decided
@@ -441,9 +293,16 @@ looked z v Merged x = record v { held = cond (takes_hold v) (Some x) v.held; rea
 looked z v (Head region chain) x = record v { fresh_heads = cond (holds_lock v) (slice_set v.fresh_heads (line_of region chain) (Some x)) v.fresh_heads }
 -- where it is not empty, and is that of the time reached, and the component and the clock cover
 -- this, one time more is reached; a written cell is met; and an undecided one is waited for
-looked z v (State cell) x = record v { reached = reached_by_state z v cell x; met = cond (is_met_by_state z v cell x) (cell + 1) v.met; waited = waited_after z v.waited cell x }
+looked z v (State cell) x = record v {
+  reached = reached_by_state z v cell x;
+  met = cond (is_met_by_state z v cell x) (cell + 1) v.met;
+  waited = waited_after z v.waited cell x;
+}
 -- what follows in the list of the drawn cell is met, and the look is fresh
-looked z v (Order k) x = record v { met = cond (is_listed z v k) x v.met; fresh_link = cond (is_listed z v k) (Some (record { link = k; next = x })) v.fresh_link }
+looked z v (Order k) x = record v {
+  met = cond (is_listed z v k) x v.met;
+  fresh_link = cond (is_listed z v k) (Some (record { link = k; next = x })) v.fresh_link;
+}
 -- the cell met is before the drawn one, or behind it
 looked z v (Cell cell part) x = record v { low = low_seen z v cell part x; high = high_seen z v cell part x }
 -- of other words nothing is noted
@@ -459,13 +318,26 @@ filled v Next w = record v { next = Some w }
 -- the time is drawn: no part of its cell is filled, the cell is neither linked nor inserted, and no
 -- place is before or behind it; no look at the clock or at a link is fresh
 abbrev pub taken : View → ℕ → View
-taken v t = record v { drawn = Some t; key = None; length = None; words = blank 8; next = None; linked = false; order_next = None; inserted = false; fresh_link = None; low = 0; high = 0; fresh_clock = None }
+taken v t = record v {
+  drawn = Some t;
+  key = None;
+  length = None;
+  words = blank 8;
+  next = None;
+  linked = false;
+  order_next = None;
+  inserted = false;
+  fresh_link = None;
+  low = 0;
+  high = 0;
+  fresh_clock = None;
+}
 
 -- The view of the seat i after a step that found x. An exchange is won where it finds the word that
 -- it names, and else lost.
 abbrev pub view_after : Layout → ℕ → View → Step → ℕ → View
--- The look is fresh no more. Won: the lock is held shared, and no look before is fresh or of this
--- hold. Both are counted.
+-- The look is no longer fresh. Won: the lock is held shared, and no earlier look is fresh or of
+-- this hold. Both are counted.
 view_after z i v (EnterShared l) x = let won = x == l in record v {
   mode = cond won Shared v.mode;
   fresh_lock = None;
@@ -479,7 +351,7 @@ view_after z i v (EnterShared l) x = let won = x == l in record v {
 -- the lock is given back, no look is fresh, and no place of the list is known; the looks of the hold
 -- are known still
 view_after z i v LeaveShared x = record v { mode = Free; fresh_lock = None; fresh_clock = None; fresh_heads = blank (2 * z.chains); met = 0; low = 0; high = 0 }
--- The look is fresh no more. Won: t is drawn, no part is filled, the cell is neither linked nor
+-- The look is no longer fresh. Won: t is drawn, no part is filled, the cell is neither linked nor
 -- inserted, no place is before or behind it, and no look at a link is fresh; lost: it is counted.
 view_after z i v (Draw t) x = let won = x == t in record v {
   drawn = cond won (Some t) v.drawn;
@@ -498,7 +370,7 @@ view_after z i v (Draw t) x = let won = x == t in record v {
 }
 -- the part is filled
 view_after z i v (Fill part w) x = filled v part w
--- The look is fresh no more. Won: the cell is linked; lost: it is counted.
+-- The look is no longer fresh. Won: the cell is linked; lost: it is counted.
 view_after z i v (Link head) x = let won = x == head in record v {
   linked = cond won true v.linked;
   fresh_heads = slice_set v.fresh_heads (own_line z v) None;
@@ -506,8 +378,12 @@ view_after z i v (Link head) x = let won = x == head in record v {
 }
 -- the link is filled
 view_after z i v (FillOrder w) x = record v { order_next = Some w }
--- The look is fresh no more. Won: the cell stands in the list; lost: it is counted.
-view_after z i v (Insert p next) x = let won = x == next in record v { inserted = cond won true v.inserted; fresh_link = None; raced = one_more_if (not won) v.raced }
+-- The look is no longer fresh. Won: the cell is in the list; lost: it is counted.
+view_after z i v (Insert p next) x = let won = x == next in record v {
+  inserted = cond won true v.inserted;
+  fresh_link = None;
+  raced = one_more_if (not won) v.raced;
+}
 -- of a hint nothing is noted
 view_after z i v (StoreHint cell j w) x = v
 -- Nothing is drawn, and t is found decided. Won: the call is recorded, and the due is behind it, or
@@ -535,7 +411,15 @@ view_after z i v EnterExclusive x = let won = x == 0 in record v {
   entries = one_more_if won v.entries;
 }
 -- the lock is given back, as after a shared hold
-view_after z i v LeaveExclusive x = record v { mode = Free; fresh_lock = None; fresh_clock = None; fresh_heads = blank (2 * z.chains); met = 0; low = 0; high = 0 }
+view_after z i v LeaveExclusive x = record v {
+  mode = Free;
+  fresh_lock = None;
+  fresh_clock = None;
+  fresh_heads = blank (2 * z.chains);
+  met = 0;
+  low = 0;
+  high = 0;
+}
 -- the member's time is taken as a draw takes one, and then its key is filled
 view_after z i v (Stage t key) x = filled (taken v t) Key key
 -- the batch is recorded at its first time, and the due is behind it

@@ -50,11 +50,16 @@ uncounted_world w = record w { views = map uncounted w.views; merger = uncounted
 
 -- the test: field by field, the counts left out
 abbrev pub is_same_world : WorldState → WorldState → Bool
-is_same_world a b = of_layouts.ghosts.eq a.layout b.layout && (pointwise ◌==◌ a.words b.words && (pointwise of_views.ghosts.eq a.views b.views && (of_mergers.ghosts.eq a.merger b.merger && (pointwise (option_eq of_slots.ghosts.eq) a.slots b.slots && pointwise of_batches.ghosts.eq a.batches b.batches))))
+is_same_world a b = of_layouts.ghosts.eq a.layout b.layout && (pointwise ◌==◌ a.words
+    b.words && (pointwise of_views.ghosts.eq a.views b.views && (of_mergers.ghosts.eq a.merger
+    b.merger && (pointwise (option_eq of_slots.ghosts.eq) a.slots b.slots && pointwise of_batches.ghosts.eq a.batches b.batches))))
 
 -- what the hash of a world is fed: what the test compares, field by field
 abbrev pub writes_of : WorldState → HashWrites
-writes_of w = layouts_hash.ghosts.hash_input w.layout ++ (slice u64 w.words ++ (slice views_hash.ghosts.hash_input w.views ++ (mergers_hash.ghosts.hash_input w.merger ++ (slice (option slots_hash.ghosts.hash_input) w.slots ++ slice batches_hash.ghosts.hash_input w.batches))))
+writes_of w = layouts_hash.ghosts.hash_input
+    w.layout ++ (slice u64 w.words ++ (slice views_hash.ghosts.hash_input
+    w.views ++ (mergers_hash.ghosts.hash_input w.merger ++ (slice (option slots_hash.ghosts.hash_input) w.slots ++ slice batches_hash.ghosts.hash_input
+    w.batches))))
 
 -- ---- the laws of both
 

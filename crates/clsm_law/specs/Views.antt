@@ -1,5 +1,6 @@
 -- A seat's view: at its beginning, and what its fields say.
-use Rattle.std.specs.Prelude.{◌≡◌, ℕ, ◌+◌, ◌*◌, ◌%◌, ◌^◌, ◌<◌, ◌≤◌, ◌&&◌, Bool, true, false, nat_lt, List, [], ◌∷◌, length, take, map, replicate, Option, Some, None, is_some}
+use Rattle.std.specs.Prelude.{◌≡◌, ℕ, ◌+◌, ◌*◌, ◌%◌, ◌^◌, ◌<◌, ◌≤◌, ◌&&◌, Bool, true, false, nat_lt, List, [], ◌∷◌, length, take, map, replicate, Option}
+use Rattle.std.specs.Prelude.{Some, None, is_some}
 use Rattle.clsm_model.specs.declared.slot.Slot.{Slot}
 use Rattle.clsm_model.specs.declared.slot.Slot.TheVariants.{Wrote}
 use Rattle.clsm_law.specs.declared.layout.Layout.{Layout}
@@ -143,5 +144,6 @@ state_of (Some words) = value_cell
 
 -- the filled parts say this write
 abbrev pub SaysWrite : View → Option Slot → Type 0
-SaysWrite v (Some (Wrote seat key written)) = (v.key ≡ Some key) × (v.length ≡ Some (length_of written)) × (take (length_of written) v.words ≡ map (λ w. Some w) (words_of written)) × IsShort written
+SaysWrite v (Some (Wrote seat key written)) = (v.key ≡ Some key) × (v.length ≡ Some (length_of written))
+    × (take (length_of written) v.words ≡ map (λ w. Some w) (words_of written)) × IsShort written
 SaysWrite v _ = ⊥

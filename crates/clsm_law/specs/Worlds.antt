@@ -1,5 +1,6 @@
 -- What the law and the steps say of a world's slots, views and words.
-use Rattle.std.specs.Prelude.{ℕ, zero, suc, ◌+◌, ◌-◌, ◌*◌, ◌%◌, ◌==◌, ◌&&◌, ◌||◌, Bool, true, cond, nat_lt, List, map, take, slice_index_or, Option, None, unwrap_or}
+use Rattle.std.specs.Prelude.{ℕ, zero, suc, ◌+◌, ◌-◌, ◌*◌, ◌%◌, ◌==◌, ◌&&◌, ◌||◌, Bool, true, cond, nat_lt, List, map, take, slice_index_or, Option, None}
+use Rattle.std.specs.Prelude.{unwrap_or}
 use Rattle.clsm_model.specs.declared.batch.Batch.{Batch}
 use Rattle.clsm_model.specs.declared.slot.Slot.{Slot}
 use Rattle.clsm_model.specs.declared.slot.Slot.TheVariants.{Nothing}
@@ -64,7 +65,7 @@ is_headless z memory m = passes_from (λ chain. memory (Head (retired_region m) 
 abbrev pub is_orderless : Memory → MergerView → Bool
 is_orderless memory m = memory (Order (retired_region m)) == 0
 
--- the states of the retired region are 0, the cell's own apart
+-- the states of the retired region are 0, except the cell's own
 abbrev pub is_last : Layout → Memory → MergerView → ℕ → Bool
 is_last z memory m cell = passes_from (λ other. other == cell || memory (State other) == 0) (retired_region m * z.cells) z.cells
 

@@ -47,7 +47,7 @@ impl<T> Items<T> {
 }
 
 impl<T: Drop> Items<T> {
-    /// Puts the item behind the others. Refused for want of memory, they stay as they were.
+    /// Puts the item behind the others. Refused if memory runs out; they then stay as they were.
     pub fn push(&mut self, item: T) -> Result<(), AllocError>
         ensures { MatchResult result (λ _. self.new ≡ self.old ++ item ∷ []) (λ _. self.new ≡ self.old) }
     {
@@ -66,7 +66,7 @@ impl<T: Drop> Items<T> {
 }
 
 impl Items<Option<u64>> {
-    /// Makes them so many places with nothing. Refused for want of memory, they stay as they were.
+    /// Makes them so many places with nothing. Refused if memory runs out: they stay as they were.
     pub fn blank(&mut self, count: usize) -> Result<(), AllocError>
         ensures { MatchResult result (λ _. self.new ≡ replicate count None) (λ _. self.new ≡ self.old) }
     {
@@ -105,7 +105,7 @@ impl<T: Hash> Hash for Items<T> {
 impl<T: Clone> Clone for Items<T> {
     ghost is_clone = { AllZip T.is_clone };
 
-    /// A clone of each value, in its place. Refused for want of memory.
+    /// A clone of each value, in its place. Refused if memory runs out.
     fn clone(&self) -> Result<Items<T>, AllocError> {
         let items = self.items.clone()?;
         Ok(Items { items })

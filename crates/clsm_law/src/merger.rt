@@ -67,7 +67,7 @@ pub struct MergerView {
 impl Clone for MergerView {
     ghost is_clone = { λ original copy. copy ≡ original };
 
-    /// The same view. Refused for want of memory.
+    /// The same view. Refused if memory runs out.
     fn clone(&self) -> Result<MergerView, AllocError> {
         Ok(MergerView {
             readers: self.readers.clone()?,

@@ -88,7 +88,7 @@ pub struct Event {
 impl Clone for Event {
     ghost is_clone = { λ original copy. copy ≡ original };
 
-    /// The same event. Refused for want of memory.
+    /// The same event. Refused if memory runs out.
     fn clone(&self) -> Result<Event, AllocError> {
         Ok(Event {
             step: self.step.clone()?,

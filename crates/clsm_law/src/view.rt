@@ -72,8 +72,8 @@ pub struct View {
     pub met: u64,
     pub low: u64,
     pub high: u64,
-    /// The members of a batch that it decided and has not committed, at the times from the clock on,
-    /// and whether it committed one in this hold of the lock.
+    /// The members of a batch that it decided and has not committed, at the times from the clock
+    /// on, and whether it committed one in this hold of the lock.
     pub staged: Members,
     pub committed: bool,
     /// Its pin word, which is odd while it is pinned.
@@ -117,7 +117,7 @@ pub struct View {
 impl Clone for View {
     ghost is_clone = { λ original copy. copy ≡ original };
 
-    /// The same view, with its counts. Refused for want of memory.
+    /// The same view, with its counts. Refused if memory runs out.
     fn clone(&self) -> Result<View, AllocError> {
         Ok(View {
             fresh_heads: self.fresh_heads.clone()?,

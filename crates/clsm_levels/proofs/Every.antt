@@ -23,7 +23,8 @@ pub every_both : {X : Type 0} (P Q : X → Type 0) (xs : List X) → AllByRecurs
 every_both P Q [] h g = tt
 every_both P Q (x ∷ xs) h g = ((h.0, g.0), every_both P Q xs h.1 g.1)
 
-pub every-cond : {X : Type 0} (P : X → Type 0) (b : Bool) (xs ys : List X) → (b ≡ true → AllByRecursion P xs) → (b ≡ false → AllByRecursion P ys) → AllByRecursion P (cond b xs ys)
+pub every-cond : {X : Type 0} (P : X → Type 0) (b : Bool) (xs ys : List X) → (b ≡ true → AllByRecursion P xs) → (b ≡ false → AllByRecursion P ys)
+    → AllByRecursion P (cond b xs ys)
 every-cond P true xs ys h g = h refl
 every-cond P false xs ys h g = g refl
 

@@ -1,5 +1,6 @@
 -- Entries by rising key: those of each key stay as they were.
-use Rattle.std.proofs.Common.{◌≡◌, ℕ, ◌≤◌, ◌==◌, nat_lt, Bool, true, false, cond, suc, List, [], ◌∷◌, ◌++◌, map, length, refl, sym, ap, ◌∙◌, arith, append-nil, append_assoc}
+use Rattle.std.proofs.Common.{◌≡◌, ℕ, ◌≤◌, ◌==◌, nat_lt, Bool, true, false, cond, suc, List, [], ◌∷◌, ◌++◌, map, length, refl, sym, ap, ◌∙◌, arith}
+use Rattle.std.proofs.Common.{append-nil, append_assoc}
 use Rattle.std.proofs.lemmas.Bool.Decides.{nat_tests}
 use Rattle.std.proofs.lemmas.Bool.{ltb-true, ltb-false}
 use Rattle.std.specs.List.{AllByRecursion}
@@ -42,7 +43,12 @@ keys_rise-merged (e ∷ es) = keys_rise-insert e (merged es) (keys_rise-merged e
 
 length-insert_entry : (e : Entry) (xs : List Entry) → length (insert_entry e xs) ≡ suc (length xs)
 length-insert_entry e [] = refl
-length-insert_entry e (x ∷ xs) = elim (nat_lt x.key e.key) as (λ (t : Bool). length (cond t (x ∷ insert_entry e xs) (e ∷ x ∷ xs)) ≡ suc (suc (length xs))) [ true ↦ ap suc (length-insert_entry e xs) | false ↦ refl ]
+length-insert_entry e (x ∷ xs) =
+    elim (nat_lt x.key e.key) as (λ (t : Bool). length (cond t (x ∷ insert_entry e xs) (e ∷ x ∷ xs)) ≡ suc (suc (length xs))) [
+      | true ↦ ap suc
+          (length-insert_entry e xs)
+      | false ↦ refl
+    ]
 
 pub length-merged : (xs : List Entry) → length (merged xs) ≡ length xs
 length-merged [] = refl
@@ -51,13 +57,18 @@ length-merged (e ∷ es) = length-insert_entry e (merged es) ∙ ap suc (length-
 -- ---- what a merge reads
 
 -- one run more stands behind the others
-pub all_of-push : {V : Type 0} (entries : V → List Entry) (runs : List V) (run : V) → all_of (map entries (runs ++ run ∷ [])) ≡ all_of (map entries runs) ++ entries run
+pub all_of-push : {V : Type 0} (entries : V → List Entry) (runs : List V) (run : V) → all_of (map entries (runs ++ run ∷ []))
+    ≡ all_of (map entries runs) ++ entries run
 all_of-push entries [] run = append-nil (entries run)
-all_of-push entries (first ∷ runs) run = ap (λ (l : List Entry). entries first ++ l) (all_of-push entries runs run) ∙ sym (append_assoc (entries first) (all_of (map entries runs)) (entries run))
+all_of-push entries (first ∷ runs) run = ap (λ (l : List Entry). entries first ++ l) (all_of-push entries runs run)
+    ∙ sym (append_assoc (entries first) (all_of (map entries runs)) (entries run))
 
 -- what is kept of the sources by rising key is what is wanted
-pub wanted_from_sources : (m floor : ℕ) (epoch : List Entry) (runs : List (List Entry)) (es run : List Entry) → es ≡ merged (sources m epoch runs) → run ≡ kept floor (is_to_level_one m) es → run ≡ wanted m floor epoch runs
+pub wanted_from_sources : (m floor : ℕ) (epoch : List Entry) (runs : List (List Entry)) (es run : List Entry) → es ≡ merged (sources m epoch runs) → run
+    ≡ kept floor (is_to_level_one m) es → run ≡ wanted m floor epoch runs
 wanted_from_sources m floor epoch runs es run sorted made =
     let all = all_of (epoch ∷ runs) in
-    let both : kept floor (is_to_level_one m) (merged (sources m epoch runs)) ≡ wanted m floor epoch runs = elim (is_to_level_one m) as (λ (b : Bool). kept floor b (merged (cond b all epoch)) ≡ cond b (kept floor true (merged all)) (kept floor false (merged epoch))) [ true ↦ refl | false ↦ refl ] in
+    let both : kept floor (is_to_level_one m) (merged (sources m epoch runs)) ≡ wanted m floor epoch runs =
+    elim (is_to_level_one m) as (λ (b : Bool). kept floor b (merged (cond b all epoch)) ≡ cond b (kept floor true (merged all))
+    (kept floor false (merged epoch))) [ true ↦ refl | false ↦ refl ] in
     made ∙ ap (kept floor (is_to_level_one m)) sorted ∙ both

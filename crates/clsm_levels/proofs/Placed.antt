@@ -34,7 +34,8 @@ places_next m = ⊎_elim
     (λ (ne : m % 4 ≡ 3 → ⊥).
     let r : (m + 1) % 4 ≡ suc (m % 4) = omega arith in
     let q : (m + 1) / 4 ≡ m / 4 = omega arith in
-    ap (λ (j : ℕ). level_zero_places j ++ LevelOne ((m + 1) / 4 % 2) ∷ []) r ∙ ap (λ (n : ℕ). LevelZero (m % 4) ∷ (level_zero_places (m % 4) ++ LevelOne (n % 2) ∷ [])) q ∙ cc (target_zero m ne, staying_all m ne))
+    ap (λ (j : ℕ). level_zero_places j ++ LevelOne ((m + 1) / 4 % 2) ∷ []) r
+    ∙ ap (λ (n : ℕ). LevelZero (m % 4) ∷ (level_zero_places (m % 4) ++ LevelOne (n % 2) ∷ [])) q ∙ cc (target_zero m ne, staying_all m ne))
     (cases_eq (m % 4) 3)
 
 pub level_zero_free : (j i q : ℕ) → j ≤ i → IsFree (LevelZero i) (level_zero_places j ++ LevelOne q ∷ [])
@@ -48,7 +49,8 @@ level_one_free (suc j) p q ne = (λ e. cc, level_one_free j p q ne)
 -- the place to be written is none that m names
 pub target_free : (m : ℕ) → IsFree (target m) (places m)
 target_free m = ⊎_elim
-    (λ (e : m % 4 ≡ 3). subst (λ (t : Place). IsFree t (places m)) (sym (target_one m e)) (level_one_free (m % 4) ((m / 4 + 1) % 2) (m / 4 % 2) (λ x. omega arith)))
+    (λ (e : m % 4 ≡ 3). subst (λ (t : Place). IsFree t (places m)) (sym (target_one m e))
+    (level_one_free (m % 4) ((m / 4 + 1) % 2) (m / 4 % 2) (λ x. omega arith)))
     (λ (ne : m % 4 ≡ 3 → ⊥). subst (λ (t : Place). IsFree t (places m)) (sym (target_zero m ne)) (level_zero_free (m % 4) (m % 4) (m / 4 % 2) (omega arith)))
     (cases_eq (m % 4) 3)
 
@@ -56,8 +58,10 @@ target_free m = ⊎_elim
 -- 1
 pub target_free_before : (m : ℕ) → ((m + 1) % 4 ≡ 0 → ⊥) → IsFree (target (m + 1)) (places m)
 target_free_before m first = ⊎_elim
-    (λ (e : (m + 1) % 4 ≡ 3). subst (λ (t : Place). IsFree t (places m)) (sym (target_one (m + 1) e)) (level_one_free (m % 4) (((m + 1) / 4 + 1) % 2) (m / 4 % 2) (λ x. omega arith)))
-    (λ (ne : (m + 1) % 4 ≡ 3 → ⊥). subst (λ (t : Place). IsFree t (places m)) (sym (target_zero (m + 1) ne)) (level_zero_free (m % 4) ((m + 1) % 4) (m / 4 % 2) (omega arith)))
+    (λ (e : (m + 1) % 4 ≡ 3). subst (λ (t : Place). IsFree t (places m)) (sym (target_one (m + 1) e))
+    (level_one_free (m % 4) (((m + 1) / 4 + 1) % 2) (m / 4 % 2) (λ x. omega arith)))
+    (λ (ne : (m + 1) % 4 ≡ 3 → ⊥). subst (λ (t : Place). IsFree t (places m)) (sym (target_zero (m + 1) ne))
+    (level_zero_free (m % 4) ((m + 1) % 4) (m / 4 % 2) (omega arith)))
     (cases_eq ((m + 1) % 4) 3)
 
 -- a place among others is not one that is free of them

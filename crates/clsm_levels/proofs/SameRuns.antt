@@ -11,22 +11,26 @@ not_before_itself x b = grind arith
 not_both_before : (x y : Entry) → ComesBefore x y → ComesBefore y x → ⊥
 not_both_before x y b c = grind arith
 
-same_first : (x y : Entry) (xs ys : List Entry) → AllByRecursion (ComesBefore x) xs → AllByRecursion (ComesBefore y) ys → Contains (y ∷ ys) x → Contains (x ∷ xs) y → x ≡ y
+same_first : (x y : Entry) (xs ys : List Entry) → AllByRecursion (ComesBefore x) xs → AllByRecursion (ComesBefore y) ys → Contains (y ∷ ys) x
+    → Contains (x ∷ xs) y → x ≡ y
 same_first x y xs ys before_x before_y c d = ⊎_elim (λ (e : y ≡ x). sym e)
     (λ (x_behind : Contains ys x). ⊎_elim (λ (e : x ≡ y). e)
-    (λ (y_behind : Contains xs y). absurd (not_both_before x y (every_contains (ComesBefore x) xs y before_x y_behind) (every_contains (ComesBefore y) ys x before_y x_behind)))
+    (λ (y_behind : Contains xs y). absurd (not_both_before x y (every_contains (ComesBefore x) xs y before_x y_behind)
+    (every_contains (ComesBefore y) ys x before_y x_behind)))
     (contains_cases x y xs d))
     (contains_cases y x ys c)
 
 -- what stands behind the first is no less in the other run behind its first
-behind_first : (x : Entry) (xs ys : List Entry) → AllByRecursion (ComesBefore x) xs → ((e : Entry) → Contains (x ∷ xs) e → Contains (x ∷ ys) e) → (e : Entry) → Contains xs e → Contains ys e
+behind_first : (x : Entry) (xs ys : List Entry) → AllByRecursion (ComesBefore x) xs → ((e : Entry) → Contains (x ∷ xs) e → Contains (x ∷ ys) e)
+    → (e : Entry) → Contains xs e → Contains ys e
 behind_first x xs ys before into e c = ⊎_elim
     (λ (same : x ≡ e). absurd (not_before_itself x (subst (ComesBefore x) (sym same) (every_contains (ComesBefore x) xs e before c))))
     (λ (later : Contains ys e). later)
     (contains_cases x e ys (into e (contains_later x e xs c)))
 
 -- two runs with the same entries are equal
-pub same_runs : (xs ys : List Entry) → IsRun xs → IsRun ys → ((e : Entry) → Contains xs e → Contains ys e) → ((e : Entry) → Contains ys e → Contains xs e) → xs ≡ ys
+pub same_runs : (xs ys : List Entry) → IsRun xs → IsRun ys → ((e : Entry) → Contains xs e → Contains ys e) → ((e : Entry) → Contains ys e → Contains xs e)
+    → xs ≡ ys
 same_runs [] [] r q into back = refl
 same_runs [] (y ∷ ys) r q into back = absurd (contains_none y (back y (contains_here y ys)))
 same_runs (x ∷ xs) [] r q into back = absurd (contains_none x (into x (contains_here x xs)))

@@ -16,7 +16,8 @@ SameByKey xs ys = (k : ℕ) → of_key k xs ≡ of_key k ys
 pub first_below-append : (xs ys : List Entry) (k s : ℕ) → first_below (xs ++ ys) k s ≡ or_else (first_below xs k s) (first_below ys k s)
 first_below-append [] ys k s = refl
 first_below-append (e ∷ es) ys k s =
-    elim (e.key == k && nat_lt e.time s) as (λ (b : Bool). cond b (Some e) (first_below (es ++ ys) k s) ≡ or_else (cond b (Some e) (first_below es k s)) (first_below ys k s)) [ true ↦ refl | false ↦ first_below-append es ys k s ]
+    elim (e.key == k && nat_lt e.time s) as (λ (b : Bool). cond b (Some e) (first_below (es ++ ys) k s) ≡ or_else (cond b (Some e) (first_below es k s))
+    (first_below ys k s)) [ true ↦ refl | false ↦ first_below-append es ys k s ]
 
 -- a search of several runs is one of all their entries
 pub first_in_runs-all_of : (runs : List (List Entry)) (k s : ℕ) → first_in_runs runs k s ≡ first_below (all_of runs) k s

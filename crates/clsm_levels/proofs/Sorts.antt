@@ -20,7 +20,10 @@ every_at P (e ∷ es) h = (h 0 e (omega arith), every_at P es (λ j d lt. h (suc
 
 keys_rise-sorted : (es : List Entry) → IsNonDecreasingBy (λ e. e.key) es → RisesByKey es
 keys_rise-sorted [] h = tt
-keys_rise-sorted (e ∷ es) h = (every_at (λ x. e.key ≤ x.key) es (λ j d lt. h 0 (suc j) d (omega arith) (omega arith)), keys_rise-sorted es (λ i j d le lt. h (suc i) (suc j) d (omega arith) (omega arith)))
+keys_rise-sorted (e ∷ es) h = (
+  every_at (λ x. e.key ≤ x.key) es (λ j d lt. h 0 (suc j) d (omega arith) (omega arith)),
+  keys_rise-sorted es (λ i j d le lt. h (suc i) (suc j) d (omega arith) (omega arith)),
+)
 
 -- entries tie exactly where their keys are equal
 ties_by_key : (k : ℕ) (e : Entry) → ties (λ (x y : Entry). is_lt (nat_cmp x.key y.key)) (record { key = k; time = 0; value = None }) e ≡ (e.key == k)
@@ -30,7 +33,8 @@ of_key-stable : (xs ys : List Entry) → IsStableByKey (λ e. e.key) nat_cmp xs 
 of_key-stable xs ys stable k =
     let lt : Entry → Entry → Bool = λ x y. is_lt (nat_cmp x.key y.key) in
     let x : Entry = record { key = k; time = 0; value = None } in
-    filter_agree (λ (e : Entry). e.key == k) (ties lt x) (λ e. sym (ties_by_key k e)) ys ∙ stable x ∙ filter_agree (ties lt x) (λ (e : Entry). e.key == k) (ties_by_key k) xs
+    filter_agree (λ (e : Entry). e.key == k) (ties lt x) (λ e. sym (ties_by_key k e)) ys ∙ stable x
+    ∙ filter_agree (ties lt x) (λ (e : Entry). e.key == k) (ties_by_key k) xs
 
 none_of_key : (k : ℕ) (es : List Entry) → AllByRecursion (λ e. k < e.key) es → of_key k es ≡ []
 none_of_key k [] h = refl
@@ -43,7 +47,8 @@ of_key_here e es = ap (λ (b : Bool). cond b (e ∷ of_key e.key es) (of_key e.k
 first_key : (x y : Entry) (xs ys : List Entry) → RisesByKey (y ∷ ys) → SameByKey (x ∷ xs) (y ∷ ys) → y.key ≤ x.key
 first_key x y xs ys rise same = ⊎_elim
     (λ (lt : x.key < y.key).
-    let none : of_key x.key (y ∷ ys) ≡ [] = none_of_key x.key (y ∷ ys) (lt, every_weaker (λ e. y.key ≤ e.key) (λ e. x.key < e.key) (λ e l. omega arith) ys rise.0) in
+    let none : of_key x.key (y ∷ ys) ≡ [] = none_of_key x.key (y ∷ ys)
+    (lt, every_weaker (λ e. y.key ≤ e.key) (λ e. x.key < e.key) (λ e l. omega arith) ys rise.0) in
     let clash : x ∷ of_key x.key xs ≡ [] = sym (of_key_here x xs) ∙ same x.key ∙ none in
     absurd (cc clash))
     (λ (ge : y.key ≤ x.key). ge)
@@ -58,15 +63,18 @@ same_by_key_equal (x ∷ xs) (y ∷ ys) r q same =
     let up : y.key ≤ x.key = first_key x y xs ys q same in
     let down : x.key ≤ y.key = first_key y x ys xs r (λ k. sym (same k)) in
     let key : y.key ≡ x.key = omega arith in
-    let both : x ∷ of_key x.key xs ≡ y ∷ of_key x.key ys = sym (of_key_here x xs) ∙ same x.key ∙ ap (λ (b : Bool). cond b (y ∷ of_key x.key ys) (of_key x.key ys)) (eq-eqb y.key x.key key) in
+    let both : x ∷ of_key x.key xs ≡ y ∷ of_key x.key ys = sym (of_key_here x xs) ∙ same x.key
+    ∙ ap (λ (b : Bool). cond b (y ∷ of_key x.key ys) (of_key x.key ys)) (eq-eqb y.key x.key key) in
     let first : x ≡ y = cc both in
     let rest : xs ≡ ys = same_by_key_equal xs ys r.1 q.1 (λ k. behind x y xs ys k first (same k)) in
     cc (first, rest) where
       behind : (x y : Entry) (xs ys : List Entry) (k : ℕ) → x ≡ y → of_key k (x ∷ xs) ≡ of_key k (y ∷ ys) → of_key k xs ≡ of_key k ys
       behind x y xs ys k is same =
           let at_x : of_key k (x ∷ xs) ≡ of_key k (x ∷ ys) = same ∙ ap (λ (e : Entry). of_key k (e ∷ ys)) (sym is) in
-          elim (x.key == k) as (λ (b : Bool). cond b (x ∷ of_key k xs) (of_key k xs) ≡ cond b (x ∷ of_key k ys) (of_key k ys) → of_key k xs ≡ of_key k ys) [ true ↦ λ s. cc s | false ↦ λ s. s ] at_x
+          elim (x.key == k) as (λ (b : Bool). cond b (x ∷ of_key k xs) (of_key k xs) ≡ cond b (x ∷ of_key k ys) (of_key k ys)
+          → of_key k xs ≡ of_key k ys) [ true ↦ λ s. cc s | false ↦ λ s. s ] at_x
 
 -- what a stable sort by key makes
 pub sorted_merged : (xs ys : List Entry) → IsNonDecreasingBy (λ e. e.key) ys → IsStableByKey (λ e. e.key) nat_cmp xs ys → ys ≡ merged xs
-sorted_merged xs ys sorted stable = same_by_key_equal ys (merged xs) (keys_rise-sorted ys sorted) (keys_rise-merged xs) (λ k. of_key-stable xs ys stable k ∙ sym (of_key-merged xs k))
+sorted_merged xs ys sorted stable = same_by_key_equal ys (merged xs) (keys_rise-sorted ys sorted) (keys_rise-merged xs)
+    (λ k. of_key-stable xs ys stable k ∙ sym (of_key-merged xs k))

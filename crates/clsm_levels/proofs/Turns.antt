@@ -20,7 +20,8 @@ use Rattle.clsm_levels.proofs.Placed.{places_next, staying_none, staying_all, ta
 -- ---- which runs are where
 
 -- a write elsewhere changes none of these runs
-pub runs_same : (held held' : Place → List Entry) (place : Place) (run : List Entry) (ps : List Place) → WritesRun held held' place run → IsFree place ps → runs_at held' ps ≡ runs_at held ps
+pub runs_same : (held held' : Place → List Entry) (place : Place) (run : List Entry) (ps : List Place) → WritesRun held held' place run → IsFree place ps
+    → runs_at held' ps ≡ runs_at held ps
 runs_same held held' place run [] w free = refl
 runs_same held held' place run (p ∷ ps) w free =
     let here : held' p ≡ held p = w.others p free.0 in
@@ -28,23 +29,28 @@ runs_same held held' place run (p ∷ ps) w free =
     cc (here, rest)
 
 -- readers of m see what they saw
-pub runs_stay : (held held' : Place → List Entry) (m : ℕ) (run : List Entry) → WritesRun held held' (target m) run → runs_at held' (places m) ≡ runs_at held (places m)
+pub runs_stay : (held held' : Place → List Entry) (m : ℕ) (run : List Entry) → WritesRun held held' (target m) run → runs_at held' (places m)
+    ≡ runs_at held (places m)
 runs_stay held held' m run w = runs_same held held' (target m) run (places m) w (target_free m)
 
 -- and readers of the component before it too, but where m + 1 is the first after a merge into level
 -- 1
-pub runs_stay_before : (held held' : Place → List Entry) (m : ℕ) (run : List Entry) → ((m + 1) % 4 ≡ 0 → ⊥) → WritesRun held held' (target (m + 1)) run → runs_at held' (places m) ≡ runs_at held (places m)
+pub runs_stay_before : (held held' : Place → List Entry) (m : ℕ) (run : List Entry) → ((m + 1) % 4 ≡ 0 → ⊥) → WritesRun held held' (target (m + 1)) run
+    → runs_at held' (places m) ≡ runs_at held (places m)
 runs_stay_before held held' m run first w = runs_same held held' (target (m + 1)) run (places m) w (target_free_before m first)
 
 -- readers of m + 1 search the place that was written, and then what stays
 runs_next : (held : Place → List Entry) (m : ℕ) → runs_at held (places (m + 1)) ≡ held (target m) ∷ runs_at held (staying m)
 runs_next held m = ap (runs_at held) (places_next m)
 
-pub wanted_one : (m floor : ℕ) (epoch : List Entry) (runs : List (List Entry)) → m % 4 ≡ 3 → wanted m floor epoch runs ≡ kept floor true (merged (all_of (epoch ∷ runs)))
-wanted_one m floor epoch runs e = ap (λ (b : Bool). cond b (kept floor true (merged (all_of (epoch ∷ runs)))) (kept floor false (merged epoch))) (eq-eqb (m % 4) 3 e)
+pub wanted_one : (m floor : ℕ) (epoch : List Entry) (runs : List (List Entry)) → m % 4 ≡ 3 → wanted m floor epoch runs
+    ≡ kept floor true (merged (all_of (epoch ∷ runs)))
+wanted_one m floor epoch runs e = ap (λ (b : Bool). cond b (kept floor true (merged (all_of (epoch ∷ runs)))) (kept floor false (merged epoch)))
+    (eq-eqb (m % 4) 3 e)
 
 pub wanted_zero : (m floor : ℕ) (epoch : List Entry) (runs : List (List Entry)) → (m % 4 ≡ 3 → ⊥) → wanted m floor epoch runs ≡ kept floor false (merged epoch)
-wanted_zero m floor epoch runs ne = ap (λ (b : Bool). cond b (kept floor true (merged (all_of (epoch ∷ runs)))) (kept floor false (merged epoch))) (ne_eqb (m % 4) 3 ne)
+wanted_zero m floor epoch runs ne = ap (λ (b : Bool). cond b (kept floor true (merged (all_of (epoch ∷ runs)))) (kept floor false (merged epoch)))
+    (ne_eqb (m % 4) 3 ne)
 
 -- ---- the turn from m to m + 1
 
@@ -54,30 +60,40 @@ module _ (h : History) (held : Place → List Entry) (m n f floor : ℕ) where
 
   -- where the target holds what is wanted of the epoch and of the runs of m, the runs of m + 1 are
   -- a content up to the epoch's end
-  pub turn_in_place : held (target m) ≡ wanted m floor (entries_of h.slots (m * n) ((m + 1) * n)) (runs_at held (places m)) → f ≤ floor → f ≤ m * n → IsContent h (runs_at held (places m)) f (m * n) → IsContent h (runs_at held (places (m + 1))) floor ((m + 1) * n)
+  pub turn_in_place : held (target m) ≡ wanted m floor (entries_of h.slots (m * n) ((m + 1) * n)) (runs_at held (places m)) → f ≤ floor → f ≤ m * n
+      → IsContent h (runs_at held (places m)) f (m * n) → IsContent h (runs_at held (places (m + 1))) floor ((m + 1) * n)
   turn_in_place made up low c =
       let epoch = entries_of h.slots (m * n) ((m + 1) * n) in
       let runs = runs_at held (places m) in
       ⊎_elim
       (λ (e : m % 4 ≡ 3).
-      let is : runs_at held (places (m + 1)) ≡ kept floor true (merged (all_of (epoch ∷ runs))) ∷ [] = runs_next held m ∙ ap (λ (ps : List Place). held (target m) ∷ runs_at held ps) (staying_none m e) ∙ ap (λ (r : List Entry). r ∷ []) (made ∙ wanted_one m floor epoch runs e) in
+      let is : runs_at held (places (m + 1)) ≡ kept floor true (merged (all_of (epoch ∷ runs))) ∷ [] = runs_next held m
+      ∙ ap (λ (ps : List Place). held (target m) ∷ runs_at held ps) (staying_none m e)
+      ∙ ap (λ (r : List Entry). r ∷ []) (made ∙ wanted_one m floor epoch runs e) in
       subst (λ (l : List (List Entry)). IsContent h l floor ((m + 1) * n)) (sym is) (content_level_one h runs f floor (m * n) ((m + 1) * n) low longer up c))
       (λ (ne : m % 4 ≡ 3 → ⊥).
-      let is : runs_at held (places (m + 1)) ≡ kept floor false (merged epoch) ∷ runs = runs_next held m ∙ ap (λ (ps : List Place). held (target m) ∷ runs_at held ps) (staying_all m ne) ∙ ap (λ (r : List Entry). r ∷ runs) (made ∙ wanted_zero m floor epoch runs ne) in
+      let is : runs_at held (places (m + 1)) ≡ kept floor false (merged epoch) ∷ runs = runs_next held m
+      ∙ ap (λ (ps : List Place). held (target m) ∷ runs_at held ps) (staying_all m ne)
+      ∙ ap (λ (r : List Entry). r ∷ runs) (made ∙ wanted_zero m floor epoch runs ne) in
       subst (λ (l : List (List Entry)). IsContent h l floor ((m + 1) * n)) (sym is) (content_level_zero h runs f floor (m * n) ((m + 1) * n) low longer up c))
       (cases_eq (m % 4) 3)
 
 -- a merge writes what is wanted into its target: the runs of m + 1 are then a content up to the
 -- epoch's end
-pub turn : (h : History) (held held' : Place → List Entry) (m n f floor : ℕ) → WritesRun held held' (target m) (wanted m floor (entries_of h.slots (m * n) ((m + 1) * n)) (runs_at held (places m))) → f ≤ floor → f ≤ m * n → IsContent h (runs_at held (places m)) f (m * n) → IsContent h (runs_at held' (places (m + 1))) floor ((m + 1) * n)
+pub turn : (h : History) (held held' : Place → List Entry) (m n f floor : ℕ)
+    → WritesRun held held' (target m) (wanted m floor (entries_of h.slots (m * n) ((m + 1) * n)) (runs_at held (places m))) → f ≤ floor → f ≤ m * n
+    → IsContent h (runs_at held (places m)) f (m * n) → IsContent h (runs_at held' (places (m + 1))) floor ((m + 1) * n)
 turn h held held' m n f floor w up low c =
     let epoch = entries_of h.slots (m * n) ((m + 1) * n) in
     let stay : runs_at held' (places m) ≡ runs_at held (places m) = runs_stay held held' m _ w in
-    turn_in_place h held' m n f floor (w.written ∙ ap (wanted m floor epoch) (sym stay)) up low (subst (λ (l : List (List Entry)). IsContent h l f (m * n)) (sym stay) c)
+    turn_in_place h held' m n f floor (w.written ∙ ap (wanted m floor epoch) (sym stay)) up low
+    (subst (λ (l : List (List Entry)). IsContent h l f (m * n)) (sym stay) c)
 
 -- so what is wanted makes the next component
 pub wanted_makes_next : (m floor : ℕ) (epoch : List Entry) (runs : List (List Entry)) → MakesNext m floor epoch runs (wanted m floor epoch runs)
-wanted_makes_next m floor epoch runs h held held' n f new old w up low c = turn h held held' m n f floor (subst (WritesRun held held' (target m)) (ap (λ (es : List Entry). wanted m floor es runs) new ∙ ap (wanted m floor (entries_of h.slots (m * n) ((m + 1) * n))) old) w) up low c
+wanted_makes_next m floor epoch runs h held held' n f new old w up low c =
+    turn h held held' m n f floor (subst (WritesRun held held' (target m))
+    (ap (λ (es : List Entry). wanted m floor es runs) new ∙ ap (wanted m floor (entries_of h.slots (m * n) ((m + 1) * n))) old) w) up low c
 
 -- ---- level 0 is never full
 
@@ -86,7 +102,8 @@ pub length-wanted : (m floor : ℕ) (epoch : List Entry) (runs : List (List Entr
 length-wanted m floor epoch runs ne = omega (arith, ap length (wanted_zero m floor epoch runs ne), length-kept floor false (merged epoch), length-merged epoch)
 
 -- so no more than it has times
-pub at_most_n : (slots : List Slot) (m n floor : ℕ) (runs : List (List Entry)) → (m % 4 ≡ 3 → ⊥) → length (wanted m floor (entries_of slots (m * n) ((m + 1) * n)) runs) ≤ n
+pub at_most_n : (slots : List Slot) (m n floor : ℕ) (runs : List (List Entry)) → (m % 4 ≡ 3 → ⊥)
+    → length (wanted m floor (entries_of slots (m * n) ((m + 1) * n)) runs) ≤ n
 at_most_n slots m n floor runs ne =
     let epoch = entries_of slots (m * n) ((m + 1) * n) in
     let size : (m + 1) * n ≡ m * n + n = grind arith in

@@ -36,7 +36,8 @@ rests (row ∷ rows) (c ∷ cs) = drop c.position row ++ rests rows cs
 
 -- of the cursors below n, the first with the least key is at i, and v is its head
 abbrev pub IsLeast : List Cursor → ℕ → ℕ → Version → Type 0
-IsLeast cursors n i v = (i < n) × ((cursor_at cursors i).head ≡ Some v) × ((j : ℕ) (x : Version) → j < n → (cursor_at cursors j).head ≡ Some x → (v.key ≤ x.key) × (j < i → v.key < x.key))
+IsLeast cursors n i v = (i < n) × ((cursor_at cursors i).head ≡ Some v)
+    × ((j : ℕ) (x : Version) → j < n → (cursor_at cursors j).head ≡ Some x → (v.key ≤ x.key) × (j < i → v.key < x.key))
 
 -- no cursor below n has a head
 abbrev pub IsEmptied : List Cursor → ℕ → Type 0

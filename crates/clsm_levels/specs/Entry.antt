@@ -1,5 +1,6 @@
 -- The writes of a history as entries, and the search of entries for a key.
-use Rattle.std.specs.Prelude.{◌≡◌, ℕ, ◌<◌, ◌==◌, nat_lt, nat_le, ◌&&◌, zero, suc, Bool, cond, List, [], ◌∷◌, ◌++◌, filter, map, unwrap_or, slice_index_or, Option, Some, None, is_none}
+use Rattle.std.specs.Prelude.{◌≡◌, ℕ, ◌<◌, ◌==◌, nat_lt, nat_le, ◌&&◌, zero, suc, Bool, cond, List, [], ◌∷◌, ◌++◌, filter, map, unwrap_or, slice_index_or}
+use Rattle.std.specs.Prelude.{Option, Some, None, is_none}
 use Rattle.std.specs.List.{AllByRecursion}
 use Rattle.clsm_model.specs.declared.slot.Slot.{Slot}
 use Rattle.clsm_model.specs.declared.slot.Slot.TheVariants.{Nothing, Wrote}

@@ -23,7 +23,7 @@ target m = cond (is_to_level_one m) (LevelOne ((m / 4 + 1) % 2)) (LevelZero (m %
 abbrev pub staying : ℕ → List Place
 staying m = cond (is_to_level_one m) [] (places m)
 
--- the place is none of these
+-- the place is not one of these
 abbrev pub IsFree : Place → List Place → Type 0
 IsFree place places = AllByRecursion (λ named. named ≢ place) places
 

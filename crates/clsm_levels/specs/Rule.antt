@@ -31,9 +31,12 @@ sources m epoch runs = cond (is_to_level_one m) (all_of (epoch ∷ runs)) epoch
 -- of what the merge from m reads, where that falls in each key, the run has exactly the entries
 -- that stay
 abbrev pub KeepsByRule : ℕ → ℕ → List Entry → List (List Entry) → List Entry → Type 0
-KeepsByRule m floor epoch runs run = TimesFallByKey (sources m epoch runs) → (e : Entry) → Contains run e ↔ (Contains (sources m epoch runs) e × Stays floor (is_to_level_one m) (sources m epoch runs) e)
+KeepsByRule m floor epoch runs run = TimesFallByKey (sources m epoch runs) → (e : Entry)
+    → Contains run e ↔ (Contains (sources m epoch runs) e × Stays floor (is_to_level_one m) (sources m epoch runs) e)
 
 -- Written into its target, the run makes the component m + 1 of the component m:
 -- a content from the floor to the end of the epoch, which has n times.
 abbrev pub MakesNext : ℕ → ℕ → List Entry → List (List Entry) → List Entry → Type 0
-MakesNext m floor epoch runs run = (h : History) (held held' : Place → List Entry) (n f : ℕ) → epoch ≡ entries_of h.slots (m * n) ((m + 1) * n) → runs ≡ runs_at held (places m) → WritesRun held held' (target m) run → f ≤ floor → f ≤ m * n → IsContent h (runs_at held (places m)) f (m * n) → IsContent h (runs_at held' (places (m + 1))) floor ((m + 1) * n)
+MakesNext m floor epoch runs run = (h : History) (held held' : Place → List Entry) (n f : ℕ) → epoch ≡ entries_of h.slots (m * n) ((m + 1) * n) → runs
+    ≡ runs_at held (places m) → WritesRun held held' (target m) run → f ≤ floor → f ≤ m * n → IsContent h (runs_at held (places m)) f (m * n)
+    → IsContent h (runs_at held' (places (m + 1))) floor ((m + 1) * n)

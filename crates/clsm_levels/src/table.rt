@@ -42,7 +42,7 @@ pub fn places(alloc: Global, merges: u64) -> Result<Vec<Place>, AllocError>
     Ok(named)
 }
 
-/// The place that the next merge after so many writes. It is none of those that hold the runs.
+/// The place that the next merge writes, after this many merges. No run is there.
 pub fn target(merges: u64) -> Place
     ensures place { result ≡ target merges }
     ensures free { IsFree result (places merges) }

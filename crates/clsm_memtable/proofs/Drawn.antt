@@ -49,14 +49,16 @@ clock_seen z v x holds unnoted =
     ap (λ (b : Bool). record (with_clock v x) { hold_clock = cond (not b) (Some x) v.hold_clock; snapshot = timed_by v.snapshot x }) (unfree v.mode holds)
     ∙ ap (λ (s : SnapshotState). record (with_clock v x) { snapshot = s }) (unnoted_same v.snapshot x unnoted)
 
-module _ (k k1 k2 : Known) (limit time : ℕ) (sound : Sound k) (holds : k.view.mode ≢ Free) (unnoted : IsUnnoted k.view.snapshot) (a : Follows (Look Limit) k limit k1) (b : Follows (Look Clock) k1 time k2) where
+module _ (k k1 k2 : Known) (limit time : ℕ) (sound : Sound k) (holds : k.view.mode ≢ Free) (unnoted : IsUnnoted k.view.snapshot)
+    (a : Follows (Look Limit) k limit k1) (b : Follows (Look Clock) k1 time k2) where
   both_seen : k2.view ≡ with_clock (with_limit k.view limit) time
   both_seen = b.view
       ∙ ap (λ (v : View). looked k1.layout v Clock time) (a.view ∙ limit_seen k.layout k.view limit holds)
       ∙ clock_seen k1.layout (with_limit k.view limit) time holds unnoted
 
   both_place : KeepsPlace k k2
-  both_place = place_trans k k1 k2 (place_by (Look Limit) k k1 limit a refl a.walks) (place_by (Look Clock) k1 k2 time b refl b.walks) (λ m held held'. ap (λ (v : View). v.held) a.view ∙ held)
+  both_place = place_trans k k1 k2 (place_by (Look Limit) k k1 limit a refl a.walks) (place_by (Look Clock) k1 k2 time b refl b.walks)
+      (λ m held held'. ap (λ (v : View). v.held) a.view ∙ held)
 
   -- the clock is at most the limit, and not below the due and the past
   within : time ≤ limit
@@ -65,7 +67,9 @@ module _ (k k1 k2 : Known) (limit time : ℕ) (sound : Sound k) (holds : k.view.
   pub finds_room : FindsRoom k k2 time limit
   finds_room = record {
     place = both_place;
-    view = subst (λ (v : View). v ≡ record k.view { fresh_clock = Some time; hold_limit = Some limit; hold_clock = Some time; clock = Some time; pin_clock = v.pin_clock }) (sym both_seen) refl;
+    view = subst (λ (v : View). v
+        ≡ record k.view { fresh_clock = Some time; hold_limit = Some limit; hold_clock = Some time; clock = Some time; pin_clock = v.pin_clock })
+        (sym both_seen) refl;
     within = within;
     due = let due = b.tells.0 in let e = ap (λ (v : View). v.due) both_seen in omega arith;
     passed = let past = b.tells.5 in let e = ap (λ (v : View). v.past) both_seen in omega arith;
@@ -77,7 +81,8 @@ module _ (k k1 k2 : Known) (limit time : ℕ) (sound : Sound k) (holds : k.view.
   pub finds_limit : limit ≤ time → FindsLimit k k2 time
   finds_limit le = let is = both_seen ∙ ap (λ (n : ℕ). with_clock (with_limit k.view n) time) (at_limit le) in record {
     place = both_place;
-    view = subst (λ (v : View). v ≡ record k.view { fresh_clock = Some time; hold_limit = Some time; hold_clock = Some time; clock = Some time; pin_clock = v.pin_clock }) (sym is) refl;
+    view = subst (λ (v : View). v
+        ≡ record k.view { fresh_clock = Some time; hold_limit = Some time; hold_clock = Some time; clock = Some time; pin_clock = v.pin_clock }) (sym is) refl;
   }
 
   -- ---- the exchange
@@ -113,17 +118,44 @@ module _ (k k1 k2 : Known) (limit time : ℕ) (sound : Sound k) (holds : k.view.
     pub draws : time < limit → (x == time) ≡ true → Draws k k3 time
     draws lt won = record {
       place = place;
-      view = subst (λ (v : View). v ≡ record k.view { drawn = Some time; key = None; length = None; words = blank 8; next = None; linked = false; order_next = None; inserted = false; fresh_link = None; low = 0; high = 0; fresh_clock = None; hold_limit = v.hold_limit; hold_clock = Some time; clock = Some time; pin_clock = v.pin_clock }) (sym (after true won)) refl;
+      view = subst (λ (v : View). v
+          ≡ record k.view {
+            drawn = Some time;
+            key = None;
+            length = None;
+            words = blank 8;
+            next = None;
+            linked = false;
+            order_next = None;
+            inserted = false;
+            fresh_link = None;
+            low = 0;
+            high = 0;
+            fresh_clock = None;
+            hold_limit = v.hold_limit;
+            hold_clock = Some time;
+            clock = Some time;
+            pin_clock = v.pin_clock;
+          }) (sym (after true won)) refl;
       looked = there true won;
       below = subst (IsBelow time) (sym (ap (λ (v : View). v.hold_limit) (after true won))) lt;
       due = let due = b.tells.0 in let e = ap (λ (v : View). v.due) both_seen in omega arith;
-      near = subst (λ (z : Layout). IsNearHeld z k.view.held time) both_place.seat.layout (subst (λ (o : Option ℕ). IsNearHeld k2.layout o time) (ap (λ (v : View). v.held) both_seen) b.tells.3);
+      near = subst (λ (z : Layout). IsNearHeld z k.view.held time) both_place.seat.layout
+          (subst (λ (o : Option ℕ). IsNearHeld k2.layout o time) (ap (λ (v : View). v.held) both_seen) b.tells.3);
       passed = let past = b.tells.5 in let e = ap (λ (v : View). v.past) both_seen in omega arith;
     }
 
     pub loses_draw : (x == time) ≡ false → LosesDraw k k3
     loses_draw lost = record {
       place = place;
-      view = subst (λ (v : View). v ≡ record k.view { fresh_clock = None; hold_limit = v.hold_limit; hold_clock = v.hold_clock; clock = v.clock; pin_clock = v.pin_clock; raced = next_word k.view.raced }) (sym (after false lost)) refl;
+      view = subst (λ (v : View). v
+          ≡ record k.view {
+            fresh_clock = None;
+            hold_limit = v.hold_limit;
+            hold_clock = v.hold_clock;
+            clock = v.clock;
+            pin_clock = v.pin_clock;
+            raced = next_word k.view.raced;
+          }) (sym (after false lost)) refl;
       looked = there false lost;
     }

@@ -10,10 +10,10 @@ use Rattle.clsm_law.specs.Relation.{reached_after, call_of, member_of}
 use Rattle.clsm_words.specs.declared.known.Known.{Known}
 use Rattle.clsm_words.specs.Knowing.{IsNearHeld}
 use Rattle.clsm_words.specs.Keeping.{KeepsPlace}
-use Rattle.clsm_memtable.specs.declared.drawing.DrawError.{DrawError}
-use Rattle.clsm_memtable.specs.declared.drawing.DrawError.TheVariants.{Full, Raced}
-use Rattle.clsm_memtable.specs.declared.deciding.Decided.{Decided}
-use Rattle.clsm_memtable.specs.declared.deciding.Decided.TheVariants.{Done, Overtaken}
+use Rattle.clsm_memtable.specs.declared.clock.DrawError.{DrawError}
+use Rattle.clsm_memtable.specs.declared.clock.DrawError.TheVariants.{Full, Raced}
+use Rattle.clsm_memtable.specs.declared.cell_state.Decided.{Decided}
+use Rattle.clsm_memtable.specs.declared.cell_state.Decided.TheVariants.{Done, Overtaken}
 
 -- no snapshot is being noted: a look at the clock gives none its time
 abbrev pub IsUnnoted : SnapshotState → Type 0
@@ -26,7 +26,24 @@ IsUnnoted _ = Unit {0}
 -- of the ordered list is known before or behind it
 pub record Draws (old new : Known) (t : ℕ) : Type 0 where
   pub place : KeepsPlace old new
-  pub view : new.view ≡ record old.view { drawn = Some t; key = None; length = None; words = blank 8; next = None; linked = false; order_next = None; inserted = false; fresh_link = None; low = 0; high = 0; fresh_clock = None; hold_limit = new.view.hold_limit; hold_clock = Some t; clock = Some t; pin_clock = new.view.pin_clock }
+  pub view : new.view ≡ record old.view {
+    drawn = Some t;
+    key = None;
+    length = None;
+    words = blank 8;
+    next = None;
+    linked = false;
+    order_next = None;
+    inserted = false;
+    fresh_link = None;
+    low = 0;
+    high = 0;
+    fresh_clock = None;
+    hold_limit = new.view.hold_limit;
+    hold_clock = Some t;
+    clock = Some t;
+    pin_clock = new.view.pin_clock;
+  }
   pub looked : new.view.hold_limit ≢ None
   pub below : IsBelow t new.view.hold_limit
   pub due : old.view.due ≤ t
@@ -37,7 +54,13 @@ pub record Draws (old new : Known) (t : ℕ) : Type 0 where
 -- and each below the limit may be
 pub record FindsRoom (old new : Known) (clock limit : ℕ) : Type 0 where
   pub place : KeepsPlace old new
-  pub view : new.view ≡ record old.view { fresh_clock = Some clock; hold_limit = Some limit; hold_clock = Some clock; clock = Some clock; pin_clock = new.view.pin_clock }
+  pub view : new.view ≡ record old.view {
+    fresh_clock = Some clock;
+    hold_limit = Some limit;
+    hold_clock = Some clock;
+    clock = Some clock;
+    pin_clock = new.view.pin_clock;
+  }
   pub within : clock ≤ limit
   pub due : old.view.due ≤ clock
   pub passed : old.view.past ≤ clock
@@ -50,7 +73,14 @@ pub record FindsLimit (old new : Known) (t : ℕ) : Type 0 where
 -- another seat drew the time that it looked at
 pub record LosesDraw (old new : Known) : Type 0 where
   pub place : KeepsPlace old new
-  pub view : new.view ≡ record old.view { fresh_clock = None; hold_limit = new.view.hold_limit; hold_clock = new.view.hold_clock; clock = new.view.clock; pin_clock = new.view.pin_clock; raced = next_word old.view.raced }
+  pub view : new.view ≡ record old.view {
+    fresh_clock = None;
+    hold_limit = new.view.hold_limit;
+    hold_clock = new.view.hold_clock;
+    clock = new.view.clock;
+    pin_clock = new.view.pin_clock;
+    raced = next_word old.view.raced;
+  }
   pub looked : new.view.hold_limit ≢ None
 
 -- why no time was drawn: the clock was at the limit, or another seat drew the time first
@@ -63,7 +93,12 @@ RefusesDraw old new Raced = LosesDraw old new
 -- the deed stands at the time, and is recorded so
 pub record Records (old new : Known) (t : ℕ) (deed : Deed) : Type 0 where
   pub place : KeepsPlace old new
-  pub view : new.view ≡ record old.view { drawn = None; reached = reached_after old.layout old.view t; due = t + 1; calls = old.view.calls ++ call_of old.number t deed ∷ [] }
+  pub view : new.view ≡ record old.view {
+    drawn = None;
+    reached = reached_after old.layout old.view t;
+    due = t + 1;
+    calls = old.view.calls ++ call_of old.number t deed ∷ [];
+  }
 
 -- somebody had cancelled the time: nothing is recorded
 pub record LosesTime (old new : Known) (t : ℕ) : Type 0 where
@@ -85,7 +120,13 @@ pub record DecidesMember (old new : Known) (t : ℕ) (deed : Deed) : Type 0 wher
 -- the members are recorded as one batch at this time, and the due is behind them
 pub record Commits (old new : Known) (first : ℕ) (members : List Member) : Type 0 where
   pub place : KeepsPlace old new
-  pub view : new.view ≡ record old.view { staged = []; committed = true; fresh_clock = None; due = first + length members; calls = old.view.calls ++ call_of old.number first (Group members) ∷ [] }
+  pub view : new.view ≡ record old.view {
+    staged = [];
+    committed = true;
+    fresh_clock = None;
+    due = first + length members;
+    calls = old.view.calls ++ call_of old.number first (Group members) ∷ [];
+  }
 
 -- ---- times given up
 
@@ -93,5 +134,11 @@ pub record Commits (old new : Known) (first : ℕ) (members : List Member) : Typ
 -- somebody had done so first
 pub record GivesUp (old new : Known) (t : ℕ) : Type 0 where
   pub place : KeepsPlace old new
-  pub view : new.view ≡ record old.view { drawn = None; reached = reached_after old.layout old.view t; overtaken = new.view.overtaken; gave_up = new.view.gave_up }
-  pub counted : ((new.view.gave_up ≡ next_word old.view.gave_up) × (new.view.overtaken ≡ old.view.overtaken)) ⊎ ((new.view.gave_up ≡ old.view.gave_up) × (new.view.overtaken ≡ next_word old.view.overtaken))
+  pub view : new.view ≡ record old.view {
+    drawn = None;
+    reached = reached_after old.layout old.view t;
+    overtaken = new.view.overtaken;
+    gave_up = new.view.gave_up;
+  }
+  pub counted : ((new.view.gave_up ≡ next_word old.view.gave_up) × (new.view.overtaken ≡ old.view.overtaken))
+      ⊎ ((new.view.gave_up ≡ old.view.gave_up) × (new.view.overtaken ≡ next_word old.view.overtaken))

@@ -25,7 +25,7 @@ pub(crate) fn fill_words<P: Pace>(words: &Words<P>, seat: &mut RawSeat, time: Ti
     }
 }
 
-/// Fills the parts of the drawn cell, its next apart.
+/// Fills the parts of the drawn cell, except its next.
 fn fill_cell<P: Pace>(words: &Words<P>, seat: &mut RawSeat, time: Time, key: u64, value: &[u64])
     requires of { IsSeatOf words.now seat.old }
     requires drawn { seat.old.knows.view.drawn ≡ Some time }

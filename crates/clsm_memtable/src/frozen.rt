@@ -71,7 +71,11 @@ impl Load<RawMerger> for FrozenCell {
         part(words, merger, self.time, self.cell, wanted)
     }
 
-    ghost stands_on = { λ words a b at is looks. (looks.0, frozen_stays NoWord a.knows b.knows at.time at.cell looks.1 is.1, ap code_of (slot_on NoWord a.knows b.knows at.time looks.1 is.1.known) ∙ is.2) };
+    ghost stands_on = { λ words a b at is looks. (
+      looks.0,
+      frozen_stays NoWord a.knows b.knows at.time at.cell looks.1 is.1,
+      ap code_of (slot_on NoWord a.knows b.knows at.time looks.1 is.1.known) ∙ is.2,
+    ) };
 
     ghost value_stays = { λ words a b at is looks. ap value_in (slot_on NoWord a.knows b.knows at.time looks.1 is.1.known) };
 

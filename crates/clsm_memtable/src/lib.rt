@@ -3,8 +3,10 @@
 #![tactic(auto)]
 
 mod buckets;
-mod deciding;
-mod drawing;
+mod cell_state;
+mod cells;
+mod chain;
+mod clock;
 mod entering;
 mod filling;
 mod foreseeing;
@@ -13,9 +15,7 @@ mod frozen;
 mod frozen_walk;
 mod hints;
 mod inserting;
-mod linking;
-mod ordering;
-mod reading;
+mod list;
 mod scale;
 mod searching;
 mod settling;
@@ -23,8 +23,9 @@ mod staging;
 mod versions;
 
 pub use buckets::Guess;
-pub use deciding::{Decided, decide, give_up};
-pub use drawing::{DrawError, Room, draw, look_room};
+pub use cell_state::{Decided, decide, give_up};
+pub use chain::Raced;
+pub use clock::{DrawError, Room, draw, look_room};
 pub use entering::{enter, prefetch, try_enter};
 pub use filling::fill;
 pub use foreseeing::Lookahead;
@@ -33,8 +34,7 @@ pub use frozen::frozen_value;
 pub use frozen_walk::{FrozenWalk, next_write};
 pub use hints::leave_hints;
 pub use inserting::Trace;
-pub use linking::Raced;
-pub use ordering::{Epoch, has_value, newest_from, seek, value};
+pub use list::{Epoch, has_value, newest_from, seek, value};
 pub use searching::newest;
 pub use settling::settle_below;
 pub use staging::{commit, decide_member, stage};

@@ -4,11 +4,12 @@ ghost use Rattle.clsm_law.specs.Memory.{cell_of};
 ghost use Rattle.clsm_words.specs.Keeping.{Looks, LooksAside};
 ghost use Rattle.clsm_words.specs.Plays.{IsSeatOf};
 ghost use Rattle.clsm_memtable.specs.Ordering.{MayWalk};
-ghost use Rattle.clsm_memtable.specs.Searching.{GoesOn, IsOnChain, IsWalked, MayLookInto, IsNewest, IsNewestIn, IsNewestTime, better, is_later, is_write, slot_in};
+ghost use Rattle.clsm_memtable.specs.Searching.{GoesOn, IsOnChain, IsWalked, MayLookInto, IsNewest, IsNewestIn, IsNewestTime, better, is_later, is_write};
+ghost use Rattle.clsm_memtable.specs.Searching.{slot_in};
 
+use crate::cells::{KnownCell, found, is_write};
 use crate::found::Found;
-use crate::ordering::{Epoch, time_at};
-use crate::reading::{found, is_write};
+use crate::list::{Epoch, time_at};
 use crate::versions::{Unsure, newest_version};
 use clsm_law::{Part, Word};
 use clsm_model::Time;
@@ -51,7 +52,8 @@ fn better<P: Pace>(
     requires place { cell_of seat.old.knows.layout (epoch.now.first + cell % seat.old.knows.layout.cells) ≡ cell }
     ensures of { IsSeatOf words.now seat.new }
     ensures looks { LooksAside seat.old.knows seat.new.knows }
-    ensures better { result ≡ better walk.now.best (epoch.now.first + cell % seat.old.knows.layout.cells) epoch.now.until (is_write walk.now.key (slot_in seat.old.knows (epoch.now.first + cell % seat.old.knows.layout.cells))) }
+    ensures better { result ≡ better walk.now.best (epoch.now.first + cell % seat.old.knows.layout.cells) epoch.now.until
+        (is_write walk.now.key (slot_in seat.old.knows (epoch.now.first + cell % seat.old.knows.layout.cells))) }
 {
     let offset = words.number_in_region(cell);
     if offset >= epoch.until - epoch.first {
@@ -61,7 +63,13 @@ fn better<P: Pace>(
     if !is_later(walk.best, time) {
         return walk.best;
     }
-    if is_write(words, seat, epoch.component, time, cell, walk.key) {
+    let component = epoch.component;
+    let at = KnownCell {
+        component,
+        time,
+        cell,
+    };
+    if is_write(words, seat, &at, walk.key) {
         Some(time)
     } else {
         walk.best
@@ -185,8 +193,12 @@ fn newest_in<P: Pace>(
     let end = epoch.first.saturating_add(words.cells());
     let until = epoch.until.min(end);
     let time = newest_time(words, seat, &Epoch { until, ..*epoch }, key)?;
-    let cell = words.cell_of(time);
-    Some(found(words, seat, epoch.component, time, cell))
+    let at = KnownCell {
+        component: epoch.component,
+        time,
+        cell: words.cell_of(time),
+    };
+    Some(found(words, seat, &at))
 }
 
 /// The newest write of the key below `until` in the two epochs of the held component: in the later

@@ -1,5 +1,6 @@
 -- Lists of batches, and the beginnings of histories that list some.
-use Rattle.std.proofs.Common.{◌≡◌, ℕ, ◌+◌, ◌<◌, ◌≤◌, cond, List, [], ◌∷◌, ◌++◌, length, refl, sym, ap, ◌∙◌, subst, arith, inl, inr, lt-ltb, le-ltb, length-append, append_assoc, append-nil}
+use Rattle.std.proofs.Common.{◌≡◌, ℕ, ◌+◌, ◌<◌, ◌≤◌, cond, List, [], ◌∷◌, ◌++◌, length, refl, sym, ap, ◌∙◌, subst, arith, inl, inr, lt-ltb, le-ltb}
+use Rattle.std.proofs.Common.{length-append, append_assoc, append-nil}
 use Rattle.std.proofs.lemmas.Bool.{cases_lt}
 use mathlib.Core.List.{IsPrefix}
 use Rattle.clsm_model.specs.declared.batch.Batch.{Batch}
@@ -50,7 +51,8 @@ below_uncut p s (b ∷ bs) h = elim (cases_lt b.first p) [
 -- one that begins below the time is among them
 pub below_listed : (p : ℕ) (bs : List Batch) (b : Batch) → b.first < p → IsListed bs b → IsListed (batches_below p bs) b
 below_listed p [] b lt h = absurd h
-below_listed p (a ∷ bs) b lt (inl same) = let early = ap (λ (x : Batch). x.first) same in subst (λ l. IsListed l b) (sym (below_more p a bs (omega arith))) (inl same)
+below_listed p (a ∷ bs) b lt (inl same) = let early = ap (λ (x : Batch). x.first) same in
+    subst (λ l. IsListed l b) (sym (below_more p a bs (omega arith))) (inl same)
 below_listed p (a ∷ bs) b lt (inr rest) = elim (cases_lt a.first p) [
   | inl early ↦ subst (λ l. IsListed l b) (sym (below_more p a bs early)) (inr (below_listed p bs b lt rest))
   | inr late ↦ subst (λ l. IsListed l b) (sym (below_less p a bs late)) (below_listed p bs b lt rest)
@@ -89,14 +91,15 @@ in_turn_all from bs n h = all from bs h where
 
   all : (from : ℕ) (bs : List Batch) → AreInTurn from bs n → batches_below n bs ≡ bs
   all from [] h = refl
-  all from (b ∷ bs) h = let some = h.1 in let rest = within (b.first + b.size) bs h.2 in below_more n b bs (omega arith) ∙ ap (λ l. b ∷ l) (all (b.first + b.size) bs h.2)
+  all from (b ∷ bs) h = let some = h.1 in let rest = within (b.first + b.size) bs h.2 in below_more n b bs (omega arith)
+      ∙ ap (λ l. b ∷ l) (all (b.first + b.size) bs h.2)
 
 -- ---- beginnings
 
 pub prefix_trans : (a b c : List Slot) → IsPrefix a b → IsPrefix b c → IsPrefix a c
 prefix_trans a b c h k = (h.0 ++ k.0, sym (append_assoc a h.0 k.0) ∙ ap (λ (l : List Slot). l ++ k.0) h.1 ∙ k.1)
 
-prefix_length : (a b : List Slot) → IsPrefix a b → length a ≤ length b
+pub prefix_length : (a b : List Slot) → IsPrefix a b → length a ≤ length b
 prefix_length a b h = let both = length-append a h.0 in let same = ap (λ (l : List Slot). length l) h.1 in omega arith
 
 -- each history is a beginning of itself
@@ -108,10 +111,12 @@ begins_trans a b c h k = record {
   slots = prefix_trans a.slots b.slots c.slots h.slots k.slots;
   batches =
       let le = prefix_length a.slots b.slots h.slots in
-      h.batches ∙ sym (below_below (end_of a) (end_of b) b.batches le) ∙ ap (batches_below (end_of a)) k.batches ∙ below_below (end_of a) (end_of b) c.batches le;
+      h.batches ∙ sym (below_below (end_of a) (end_of b) b.batches le) ∙ ap (batches_below (end_of a)) k.batches
+      ∙ below_below (end_of a) (end_of b) c.batches le;
 }
 
 -- two beginnings of one length, whose batches all begin below its end, list the same batches
-pub begins_same : (a b : History) → IsBeginning a b → end_of b ≡ end_of a → AreInTurn 0 a.batches (end_of a) → AreInTurn 0 b.batches (end_of b) → b.batches ≡ a.batches
+pub begins_same : (a b : History) → IsBeginning a b → end_of b ≡ end_of a → AreInTurn 0 a.batches (end_of a) → AreInTurn 0 b.batches (end_of b) → b.batches
+    ≡ a.batches
 begins_same a b h e turn turn' =
     sym (in_turn_all 0 b.batches (end_of b) turn') ∙ ap (λ (n : ℕ). batches_below n b.batches) e ∙ sym h.batches ∙ in_turn_all 0 a.batches (end_of a) turn

@@ -49,7 +49,8 @@ deed-same (Scan lo hi rows) (Scan lo' hi' rows') h =
     let e = (Decides-and _ _ (unsigned_Decides lo lo') (Decides-and _ _ (unsigned_Decides hi hi') (Rows-Decides rows rows'))).0 h in
     λ i. Scan (e.0 i) (e.1.0 i) (e.1.1 i)
 deed-same (Page from hi max rows more) (Page from' hi' max' rows' more') h =
-    let e = (Decides-and _ _ (unsigned_Decides from from') (Decides-and _ _ (unsigned_Decides hi hi') (Decides-and _ _ (unsigned_Decides max max') (Decides-and _ _ (Rows-Decides rows rows') (option_eq-Decides unsigned_Decides more more'))))).0 h in
+    let e = (Decides-and _ _ (unsigned_Decides from from') (Decides-and _ _ (unsigned_Decides hi hi')
+    (Decides-and _ _ (unsigned_Decides max max') (Decides-and _ _ (Rows-Decides rows rows') (option_eq-Decides unsigned_Decides more more'))))).0 h in
     λ i. Page (e.0 i) (e.1.0 i) (e.1.1.0 i) (e.1.1.1.0 i) (e.1.1.1.1 i)
 deed-same (Group members) (Group members') h = ap Group ((Members-Decides members members').0 h)
 deed-same _ _ h = absurd (true≢false (sym h))

@@ -26,7 +26,8 @@ option_eq-Decides each (Some x) None = (λ h. absurd (true≢false (sym h)), λ 
 option_eq-Decides each (Some x) (Some y) = (λ h. ap Some ((each x y).0 h), λ e. (each x y).1 cc)
 
 -- two pairs are the same where both parts are
-pub pair-Decides : {A B : Type 0} {E : A → A → Bool} {F : B → B → Bool} → ((x y : A) → Decides (E x y) (x ≡ y)) → ((x y : B) → Decides (F x y) (x ≡ y)) → (p q : A × B) → Decides (E p.0 q.0 && F p.1 q.1) (p ≡ q)
+pub pair-Decides : {A B : Type 0} {E : A → A → Bool} {F : B → B → Bool} → ((x y : A) → Decides (E x y) (x ≡ y)) → ((x y : B) → Decides (F x y) (x ≡ y))
+    → (p q : A × B) → Decides (E p.0 q.0 && F p.1 q.1) (p ≡ q)
 pair-Decides first second p q =
     Decides-like _ (λ e i. (e.0 i, e.1 i)) (λ e. (ap (λ pair. pair.0) e, ap (λ pair. pair.1) e)) (Decides-and _ _ (first p.0 q.0) (second p.1 q.1))
 

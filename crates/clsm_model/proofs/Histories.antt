@@ -26,7 +26,12 @@ value-same h h' k s same = ap left_by (newest-same h h' k s same)
 
 -- the rows of a range
 pub IsRange-same : (h h' : History) (s lo hi : ℕ) (rows : List Pair) → AreSameBelow h h' s → IsRange h s lo hi rows → IsRange h' s lo hi rows
-IsRange-same h h' s lo hi rows same r = record { rise = r.rise; inside = λ k a b. r.inside k a b ∙ sym (value-same h h' k s same); below = r.below; above = r.above }
+IsRange-same h h' s lo hi rows same r = record {
+  rise = r.rise;
+  inside = λ k a b. r.inside k a b ∙ sym (value-same h h' k s same);
+  below = r.below;
+  above = r.above;
+}
 
 -- and what a deed read
 pub Reads-same : (h h' : History) (s : ℕ) (deed : Deed) → AreSameBelow h h' s → Reads h s deed → Reads h' s deed
@@ -54,7 +59,8 @@ value-take : (h : History) (k s : ℕ) → value (plain (take s h.slots)) k s �
 value-take h k s = value-same h (plain (take s h.slots)) k s (λ t lt. get_or-take s h.slots t Nothing lt)
 
 -- their map is the history's
-pub IsMap-begins : (h : History) (s i : ℕ) (slots : List Slot) (pairs : List Pair) → slots ≡ take s h.slots → i ≡ s → IsMap (plain slots) i pairs → IsMap h s pairs
+pub IsMap-begins : (h : History) (s i : ℕ) (slots : List Slot) (pairs : List Pair) → slots ≡ take s h.slots → i ≡ s → IsMap (plain slots) i pairs
+    → IsMap h s pairs
 IsMap-begins h s i slots pairs is end map = record {
   rise = map.rise;
   values = λ k. rw (← value-take h k s, ← is, ← end) (map.values k);

@@ -26,14 +26,16 @@ KeysRise-between lo hi pairs rise = rw (keys_of-filter (is_inside lo hi) pairs) 
 value_at-between : (lo hi k : ℕ) (pairs : List Pair) → value_at (between lo hi pairs) k ≡ cond (is_inside lo hi k) (value_at pairs k) None
 value_at-between lo hi k pairs =
     rw (value_at-lookup (between lo hi pairs) k, value_at-lookup pairs k)
-    (lookup-filter-keys (is_at (nat_cmp k)) (is_inside lo hi) (is_inside lo hi k) (λ q found. ap (is_inside lo hi) (sym (eqb-true k q (sym (is_eq-nat_cmp k q) ∙ found)))) pairs)
+    (lookup-filter-keys (is_at (nat_cmp k)) (is_inside lo hi) (is_inside lo hi k)
+    (λ q found. ap (is_inside lo hi) (sym (eqb-true k q (sym (is_eq-nat_cmp k q) ∙ found)))) pairs)
 
 pub IsRange-between : (h : History) (s lo hi : ℕ) (pairs : List Pair) → IsMap h s pairs → IsRange h s lo hi (between lo hi pairs)
 IsRange-between h s lo hi pairs map = record {
   rise = KeysRise-between lo hi pairs map.rise;
   inside = λ k above below. value_at-between lo hi k pairs ∙ rw (le-leb lo k above, le-leb k hi below) (map.values k);
   below = λ k under. value_at-between lo hi k pairs ∙ rw (lt-leb lo k under) refl;
-  above = λ k over. value_at-between lo hi k pairs ∙ elim (nat_le lo k) as (λ b. cond (b && nat_le k hi) (value_at pairs k) None ≡ None) [ true ↦ rw (lt-leb k hi over) refl | false ↦ refl ];
+  above = λ k over. value_at-between lo hi k pairs ∙ elim (nat_le lo k) as
+      (λ b. cond (b && nat_le k hi) (value_at pairs k) None ≡ None) [ true ↦ rw (lt-leb k hi over) refl | false ↦ refl ];
 }
 
 -- the same of rows that a call gives

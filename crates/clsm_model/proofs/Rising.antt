@@ -36,15 +36,19 @@ last_grows due snapshot (r ∷ rs) rises =
 
 -- ---- one record more
 
-pub rises_append : (due : ℕ) (snapshot : Option ℕ) (cs : List CallRecord) (r : CallRecord) → Rises due snapshot cs → IsNext (last_due due snapshot cs) (last_open snapshot cs) r.time r.deed → Rises due snapshot (cs ++ r ∷ [])
+pub rises_append : (due : ℕ) (snapshot : Option ℕ) (cs : List CallRecord) (r : CallRecord) → Rises due snapshot cs
+    → IsNext (last_due due snapshot cs) (last_open snapshot cs) r.time r.deed → Rises due snapshot (cs ++ r ∷ [])
 rises_append due snapshot [] r rises next = (next, tt)
-rises_append due snapshot (c ∷ cs) r rises next = (rises.0, rises_append (due_after due snapshot c.time c.deed) (open_after snapshot c.time c.deed) cs r rises.1 next)
+rises_append due snapshot (c ∷ cs) r rises next =
+    (rises.0, rises_append (due_after due snapshot c.time c.deed) (open_after snapshot c.time c.deed) cs r rises.1 next)
 
-pub last_due-append : (due : ℕ) (snapshot : Option ℕ) (cs : List CallRecord) (r : CallRecord) → last_due due snapshot (cs ++ r ∷ []) ≡ due_after (last_due due snapshot cs) (last_open snapshot cs) r.time r.deed
+pub last_due-append : (due : ℕ) (snapshot : Option ℕ) (cs : List CallRecord) (r : CallRecord) → last_due due snapshot (cs ++ r ∷ [])
+    ≡ due_after (last_due due snapshot cs) (last_open snapshot cs) r.time r.deed
 last_due-append due snapshot [] r = refl
 last_due-append due snapshot (c ∷ cs) r = last_due-append (due_after due snapshot c.time c.deed) (open_after snapshot c.time c.deed) cs r
 
-pub last_open-append : (snapshot : Option ℕ) (cs : List CallRecord) (r : CallRecord) → last_open snapshot (cs ++ r ∷ []) ≡ open_after (last_open snapshot cs) r.time r.deed
+pub last_open-append : (snapshot : Option ℕ) (cs : List CallRecord) (r : CallRecord) → last_open snapshot (cs ++ r ∷ [])
+    ≡ open_after (last_open snapshot cs) r.time r.deed
 last_open-append snapshot [] r = refl
 last_open-append snapshot (c ∷ cs) r = last_open-append (open_after snapshot c.time c.deed) cs r
 
@@ -55,9 +59,11 @@ pub record Follows (due : ℕ) (snapshot : Option ℕ) (r : CallRecord) (due' : 
   pub within : (d : ℕ) → d ≤ due → due_after d snapshot r.time r.deed ≤ due'
   pub opens : open_after snapshot r.time r.deed ≡ snapshot'
 
-pub rising_next : (cs : List CallRecord) (due due' : ℕ) (snapshot snapshot' : Option ℕ) (r : CallRecord) → IsRising cs due snapshot → Follows due snapshot r due' snapshot' → IsRising (cs ++ r ∷ []) due' snapshot'
+pub rising_next : (cs : List CallRecord) (due due' : ℕ) (snapshot snapshot' : Option ℕ) (r : CallRecord) → IsRising cs due snapshot
+    → Follows due snapshot r due' snapshot' → IsRising (cs ++ r ∷ []) due' snapshot'
 rising_next cs due due' snapshot snapshot' r is follows = record {
-  rises = rises_append 0 None cs r is.rises (subst (λ (o : Option ℕ). IsNext (last_due 0 None cs) o r.time r.deed) (sym is.open_is) (follows.next (last_due 0 None cs) is.due_is));
+  rises = rises_append 0 None cs r is.rises (subst (λ (o : Option ℕ). IsNext (last_due 0 None cs) o r.time r.deed) (sym is.open_is)
+      (follows.next (last_due 0 None cs) is.due_is));
   due_is = subst (λ (d : ℕ). d ≤ due') (sym (last_due-append 0 None cs r))
       (subst (λ (o : Option ℕ). due_after (last_due 0 None cs) o r.time r.deed ≤ due') (sym is.open_is) (follows.within (last_due 0 None cs) is.due_is));
   open_is = last_open-append None cs r ∙ ap (λ (o : Option ℕ). open_after o r.time r.deed) is.open_is ∙ follows.opens;
@@ -65,4 +71,5 @@ rising_next cs due due' snapshot snapshot' r is follows = record {
 
 -- with no record more the due may rise
 pub rising_later : (cs : List CallRecord) (due due' : ℕ) (snapshot : Option ℕ) → IsRising cs due snapshot → due ≤ due' → IsRising (cs ++ []) due' snapshot
-rising_later cs due due' snapshot is le = subst (λ (l : List CallRecord). IsRising l due' snapshot) (sym (append-nil cs)) (record { rises = is.rises; due_is = let a = is.due_is in omega arith; open_is = is.open_is })
+rising_later cs due due' snapshot is le = subst (λ (l : List CallRecord). IsRising l due' snapshot) (sym (append-nil cs))
+    (record { rises = is.rises; due_is = let a = is.due_is in omega arith; open_is = is.open_is })

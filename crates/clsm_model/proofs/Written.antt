@@ -1,5 +1,6 @@
 -- Each write of a seat is the write of exactly one of its records, since their times rise.
-use Rattle.std.proofs.Common.{◌≡◌, ℕ, zero, suc, ◌-◌, ◌<◌, ◌≤◌, ◌==◌, inl, inr, Bool, true, false, true≢false, cond, List, [], ◌∷◌, length, Option, Some, None, refl, sym, ap, ◌∙◌, arith, ⊎_elim}
+use Rattle.std.proofs.Common.{◌≡◌, ℕ, zero, suc, ◌-◌, ◌<◌, ◌≤◌, ◌==◌, inl, inr, Bool, true, false, true≢false, cond, List, [], ◌∷◌, length, Option, Some}
+use Rattle.std.proofs.Common.{None, refl, sym, ap, ◌∙◌, arith, ⊎_elim}
 use Rattle.std.specs.Prelude.{is_some, nat_le}
 use Rattle.std.proofs.lemmas.Bool.{cases_Bool, eqb-true, leb-true}
 use Rattle.clsm_model.specs.declared.slot.Slot.{Slot}
@@ -29,7 +30,8 @@ at_time : (i s t : ℕ) (deed : Deed) → is_some (cond (s == t) (write_by i dee
 at_time i s t deed is = let both = tested (s == t) (write_by i deed) is in (eqb-true s t both.0, both.1)
 
 -- no write of a deed is before its due, and the due moves past it
-writes_due : (i due s t : ℕ) (snapshot : Option ℕ) (deed : Deed) → IsNext due snapshot s deed → is_some (write_at i s deed t) ≡ true → (due ≤ t) × (t < due_after due snapshot s deed)
+writes_due : (i due s t : ℕ) (snapshot : Option ℕ) (deed : Deed) → IsNext due snapshot s deed → is_some (write_at i s deed t) ≡ true → (due ≤ t)
+    × (t < due_after due snapshot s deed)
 writes_due i due s t snapshot (Put key written) next is = let a = (at_time i s t (Put key written) is).0 in (omega arith, omega arith)
 writes_due i due s t snapshot (Remove key) next is = let a = (at_time i s t (Remove key) is).0 in (omega arith, omega arith)
 writes_due i due s t snapshot (Rmw key old Keep) next is = absurd (true≢false (sym (at_time i s t (Rmw key old Keep) is).1))
@@ -55,22 +57,26 @@ is_at i t r = is_some (write_at i r.time r.deed t)
 none_below : (i t due : ℕ) (snapshot : Option ℕ) (calls : List CallRecord) → Rises due snapshot calls → t < due → writes_at i t calls ≡ []
 none_below i t due snapshot [] rises lt = refl
 none_below i t due snapshot (r ∷ rs) rises lt =
-    let rest = none_below i t (due_after due snapshot r.time r.deed) (open_after snapshot r.time r.deed) rs rises.1 (let grows = due_grows due r.time snapshot r.deed rises.0 in omega arith) in
+    let rest = none_below i t (due_after due snapshot r.time r.deed) (open_after snapshot r.time r.deed) rs rises.1
+    (let grows = due_grows due r.time snapshot r.deed rises.0 in omega arith) in
     ⊎_elim
     (λ (is : is_at i t r ≡ true). absurd (let p = writes_due i due r.time t snapshot r.deed rises.0 is in omega arith))
     (λ (no : is_at i t r ≡ false). ap (λ (b : Bool). cond b (r ∷ writes_at i t rs) (writes_at i t rs)) no ∙ rest)
     (cases_Bool (is_at i t r))
 
-pub one_write : (i t due : ℕ) (write : Slot) (snapshot : Option ℕ) (calls : List CallRecord) → Rises due snapshot calls → HasWrite i t write calls → (r : CallRecord) × (writes_at i t calls ≡ r ∷ []) × (write_at i r.time r.deed t ≡ Some write)
+pub one_write : (i t due : ℕ) (write : Slot) (snapshot : Option ℕ) (calls : List CallRecord) → Rises due snapshot calls → HasWrite i t write calls
+    → (r : CallRecord) × (writes_at i t calls ≡ r ∷ []) × (write_at i r.time r.deed t ≡ Some write)
 one_write i t due write snapshot [] rises has = absurd has
 one_write i t due write snapshot (r ∷ rs) rises (inl is) =
     let here : is_at i t r ≡ true = ap is_some is in
-    let rest = none_below i t (due_after due snapshot r.time r.deed) (open_after snapshot r.time r.deed) rs rises.1 (writes_due i due r.time t snapshot r.deed rises.0 here).1 in
+    let rest = none_below i t (due_after due snapshot r.time r.deed) (open_after snapshot r.time r.deed) rs rises.1
+    (writes_due i due r.time t snapshot r.deed rises.0 here).1 in
     (r, ap (λ (b : Bool). cond b (r ∷ writes_at i t rs) (writes_at i t rs)) here ∙ ap (λ (l : List CallRecord). r ∷ l) rest, is)
 one_write i t due write snapshot (r ∷ rs) rises (inr has) =
     let later = one_write i t (due_after due snapshot r.time r.deed) write (open_after snapshot r.time r.deed) rs rises.1 has in
     ⊎_elim
-    (λ (is : is_at i t r ≡ true). absurd (let none = none_below i t (due_after due snapshot r.time r.deed) (open_after snapshot r.time r.deed) rs rises.1 (writes_due i due r.time t snapshot r.deed rises.0 is).1 in some_not_none (sym later.1 ∙ none)))
+    (λ (is : is_at i t r ≡ true). absurd (let none = none_below i t (due_after due snapshot r.time r.deed) (open_after snapshot r.time r.deed) rs rises.1
+    (writes_due i due r.time t snapshot r.deed rises.0 is).1 in some_not_none (sym later.1 ∙ none)))
     (λ (no : is_at i t r ≡ false). (later.0, ap (λ (b : Bool). cond b (r ∷ writes_at i t rs) (writes_at i t rs)) no ∙ later.1, later.2))
     (cases_Bool (is_at i t r))
   where

@@ -1,5 +1,6 @@
 -- The history of a store, and what it answers: one list of writes indexed by timestamp.
-use Rattle.std.specs.Prelude.{◌≡◌, ℕ, ◌+◌, ◌<◌, ◌≤◌, ◌==◌, ◌⊎◌, zero, suc, cond, nat_lt, List, [], ◌∷◌, length, take, filter, Option, Some, None, slice_index_or}
+use Rattle.std.specs.Prelude.{◌≡◌, ℕ, ◌+◌, ◌<◌, ◌≤◌, ◌==◌, ◌⊎◌, zero, suc, cond, nat_lt, List, [], ◌∷◌, length, take, filter, Option, Some, None}
+use Rattle.std.specs.Prelude.{slice_index_or}
 use Rattle.std.specs.List.{AllByRecursion}
 use mathlib.Core.List.{IsPrefix}
 use Rattle.clsm_model.specs.declared.batch.Batch.{Batch}

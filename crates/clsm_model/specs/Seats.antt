@@ -34,7 +34,8 @@ IsStandingRecord slot i r = (r.seat ≡ i) × ((t : ℕ) → StandsAs (write_at 
 
 -- the record is the seat's, and its writes stand at their times, as far as the slots go
 abbrev pub IsRecordIn : List Slot → ℕ → CallRecord → Type 0
-IsRecordIn slots number r = (r.seat ≡ number) × ((t : ℕ) → t < length slots → StandsAs (write_at number r.time r.deed t) (Some (slice_index_or slots t Nothing)))
+IsRecordIn slots number r = (r.seat ≡ number) × ((t : ℕ) → t < length slots
+    → StandsAs (write_at number r.time r.deed t) (Some (slice_index_or slots t Nothing)))
 
 -- the times of the batch that the deed is, if it is one, are listed as a batch
 abbrev pub IsListedDeed : List Batch → ℕ → Deed → Type 0

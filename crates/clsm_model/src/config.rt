@@ -6,15 +6,15 @@ use thiserror::Error;
 /// The sizes of a store.
 #[derive(Clone, Copy, PartialEq, Eq, Debug)]
 pub struct Config {
-    /// The cells of one region, 4 to 65,536: so many writes fit between two freezes.
+    /// The cells of one region, 4 to 65,536: as many writes fit between two freezes.
     pub cells: usize,
     /// The callers' seats, 1 to 64.
     pub seats: usize,
-    /// The hash chains of one region, 1 to 1,024.
+    /// The least number of hash chains of one region, 1 to 1,024; there are about as many as cells.
     pub shards: usize,
     /// The entries that a place of level 1 has room for, 4 to 4,194,304.
     pub run: usize,
-    /// How often a reader looks again at an empty cell before it cancels it, 0 to 64.
+    /// How often a reader looks again at an undecided write before it cancels it, 0 to 64.
     pub patience: usize,
 }
 

@@ -4,6 +4,7 @@
 
 mod batch;
 mod config;
+mod deal;
 mod members;
 mod plain_map;
 mod record;
@@ -13,6 +14,7 @@ mod value;
 
 pub use batch::Batch;
 pub use config::{Config, OpenError};
+pub use deal::Deal;
 pub use members::{Members, are_writes};
 pub use plain_map::{Memory, PlainMap};
 pub use record::{CallRecord, Deed};

@@ -46,7 +46,7 @@ impl Members {
 }
 
 impl Members {
-    /// Puts the pair behind the others. Refused for want of memory, they stay as they were.
+    /// Puts the pair behind the others. Refused if memory runs out; they then stay as they were.
     pub fn push(&mut self, member: (u64, Change)) -> Result<(), AllocError>
         ensures { MatchResult result (λ _. self.new ≡ self.old ++ member ∷ []) (λ _. self.new ≡ self.old) }
     {
@@ -65,7 +65,8 @@ impl Members {
 impl PartialEq for Members {
     ghost eq = { pointwise (eq_of_both (on (λ member. member.0) ◌==◌) (on (λ member. member.1) ⟦<Change as PartialEq>⟧.eq)) };
 
-    ghost laws = { partial_equiv_from_equiv (lists_equiv (and_equiv (on_equiv (λ member. member.0) nat_eq_equiv) (on_equiv (λ member. member.1) change_laws.laws-law))) };
+    ghost laws = { partial_equiv_from_equiv
+        (lists_equiv (and_equiv (on_equiv (λ member. member.0) nat_eq_equiv) (on_equiv (λ member. member.1) change_laws.laws-law))) };
 
     /// Whether the pairs are the same, in the same order.
     fn eq(&self, other: &Members) -> bool {
@@ -80,7 +81,8 @@ impl Eq for Members {
 impl Hash for Members {
     ghost hash_input = { fed.slice (λ member. fed.u64 member.0 ++ ⟦<Change as Hash>⟧.hash_input member.1) };
 
-    ghost respects_eq = { (items_Alike (and-Alike (on_Alike (λ member. member.0) (same_Alike fed.u64 unsigned_Decides)) (on_Alike (λ member. member.1) (record { fed = change_hash_laws.respects_eq-law })))).fed };
+    ghost respects_eq = { (items_Alike (and-Alike (on_Alike (λ member. member.0) (same_Alike fed.u64 unsigned_Decides))
+        (on_Alike (λ member. member.1) (record { fed = change_hash_laws.respects_eq-law })))).fed };
 
     fn hash<H: Hasher>(&self, state: &mut H) {
         self.items.hash(state);
@@ -90,7 +92,7 @@ impl Hash for Members {
 impl Clone for Members {
     ghost is_clone = { λ original copy. copy ≡ original };
 
-    /// The same members. Refused for want of memory.
+    /// The same members. Refused if memory runs out.
     fn clone(&self) -> Result<Members, AllocError> {
         let items = self.items.clone()?;
         Ok(Members { items })

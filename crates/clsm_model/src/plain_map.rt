@@ -9,7 +9,7 @@ use std::collections::BTreeMap;
 use std::marker::Model;
 use thiserror::Error;
 
-/// The refusal for want of memory.
+/// The refusal if memory runs out.
 #[derive(Clone, Copy, Debug, PartialEq, Eq, Error)]
 #[error("memory")]
 pub struct Memory;
@@ -49,7 +49,7 @@ impl PlainMap {
     }
 
     /// The map of these slots, played in order from time 0 on. It is the map of each history that
-    /// begins with them, below the time that is their number. Refused for want of memory.
+    /// begins with them, below the time that is their number. Refused if memory runs out.
     pub fn replay(alloc: Global, slots: &[Slot]) -> Result<PlainMap, Memory>
         ensures map { IfOk result (IsMap (plain slots.now) (length slots.now)) }
         ensures begins { IfOk result (λ map.
@@ -64,7 +64,7 @@ impl PlainMap {
 
     /// Applies one slot. The map of a history below a time becomes its map below the next time,
     /// where the slot is the history's at that time. Only a value for a key that had none can be
-    /// refused for want of memory, and the map is then as it was.
+    /// refused if memory runs out, and the map is then as it was.
     pub fn apply(&mut self, slot: &Slot) -> Result<(), Memory>
         ensures plays { OnOk result (Applies slot.now self.old self.new) }
         ensures follows { OnOk result (
@@ -100,8 +100,8 @@ impl PlainMap {
         self.values.get(&key).copied()
     }
 
-    /// All pairs with `lo <= key <= hi` by rising key; none where `lo > hi`. Refused for want of
-    /// memory. Of the map of a history below a time they are all keys from `lo` to `hi` with a
+    /// All pairs with `lo <= key <= hi` by rising key; none where `lo > hi`. Refused if memory
+    /// runs out. Of the map of a history below a time they are all keys from `lo` to `hi` with a
     /// value below that time.
     pub fn range(&self, lo: u64, hi: u64) -> Result<Vec<(u64, Value)>, Memory>
         ensures rows { IfOk result (λ rows. rows.items ≡ between lo hi self.now) }

@@ -68,7 +68,7 @@ pub struct CallRecord {
 impl Clone for CallRecord {
     ghost is_clone = { λ original copy. copy ≡ original };
 
-    /// The same record. Refused for want of memory.
+    /// The same record. Refused if memory runs out.
     fn clone(&self) -> Result<CallRecord, AllocError> {
         Ok(CallRecord {
             deed: self.deed.clone()?,

@@ -60,7 +60,8 @@ impl Eq for Rows {
 impl Hash for Rows {
     ghost hash_input = { fed.slice (λ row. fed.u64 row.0 ++ ⟦<Value as Hash>⟧.hash_input row.1) };
 
-    ghost respects_eq = { (items_Alike (and-Alike (on_Alike (λ row. row.0) (same_Alike fed.u64 unsigned_Decides)) (on_Alike (λ row. row.1) (same_Alike ⟦<Value as Hash>⟧.hash_input bytes_decides)))).fed };
+    ghost respects_eq = { (items_Alike (and-Alike (on_Alike (λ row. row.0) (same_Alike fed.u64 unsigned_Decides))
+        (on_Alike (λ row. row.1) (same_Alike ⟦<Value as Hash>⟧.hash_input bytes_decides)))).fed };
 
     fn hash<H: Hasher>(&self, state: &mut H) {
         self.items.hash(state);
@@ -70,7 +71,7 @@ impl Hash for Rows {
 impl Clone for Rows {
     ghost is_clone = { λ original copy. copy ≡ original };
 
-    /// The same rows. Refused for want of memory.
+    /// The same rows. Refused if memory runs out.
     fn clone(&self) -> Result<Rows, AllocError> {
         let items = self.items.clone()?;
         Ok(Rows { items })

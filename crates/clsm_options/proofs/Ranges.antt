@@ -1,5 +1,6 @@
 -- After words in which clap finds no fault, the numbers of `clsm run` are in their ranges.
-use Rattle.std.proofs.Common.{◌≡◌, ◌∷◌, [], ℕ, List, Option, Some, None, refl, ap, drop, arith, inl, inr, is_some, option_map, slice_index_or, sym, subst, take, true≢false, codes, false}
+use Rattle.std.proofs.Common.{◌≡◌, ◌∷◌, [], ℕ, List, Option, Some, None, refl, ap, drop, arith, inl, inr, is_some, option_map, slice_index_or, sym, subst}
+use Rattle.std.proofs.Common.{take, true≢false, codes, false}
 use Rattle.std.specs.Prelude.{find}
 use Rattle.std.specs.Option.{option_map_or}
 use Rattle.clap.specs.Words.{Row, Rule, Shape, Text, fault_of, subcommand_of}

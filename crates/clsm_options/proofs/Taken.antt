@@ -1,13 +1,15 @@
 -- After words in which clap finds no fault, each argument with a default has a value that its
 -- parser takes.
-use Rattle.std.proofs.Common.{◌≡◌, ◌∙◌, ◌⊎◌, ◌∷◌, ◌&&◌, ◌||◌, ◌++◌, [], ℕ, Bool, true, false, not, List, Option, Some, None, refl, ap, sym, subst, cond, length, inl, inr, option_map, true≢false}
+use Rattle.std.proofs.Common.{◌≡◌, ◌∙◌, ◌⊎◌, ◌∷◌, ◌&&◌, ◌||◌, ◌++◌, [], ℕ, Bool, true, false, not, List, Option, Some, None, refl, ap, sym, subst, cond}
+use Rattle.std.proofs.Common.{length, inl, inr, option_map, true≢false}
 use Rattle.std.specs.Prelude.{find, fold, nat_lt, if◌then◌else◌}
 use Rattle.std.specs.Str.{bytes_eq}
 use Rattle.clap.specs.Facts.{unwrap_or_range}
 use Rattle.clap.specs.Words.{Kinds, Row, Rule, Shape, Text}
 use Rattle.clap.specs.Kinds.{range_kinds}
 use Rattle.clap.specs.Faults.{action_fault, level_fault, repeat_fault, set_fault, values_fault}
-use Rattle.clap.specs.Walk.{Names, action_of, arg_by_id, at_row, default_rows, has_row, more_values, most_values, nothing_held, reading_by, rows_after, used, used_as, values_or_missing, with_default, with_values, without}
+use Rattle.clap.specs.Walk.{Names, action_of, arg_by_id, at_row, default_rows, has_row, more_values, most_values, nothing_held, reading_by, rows_after}
+use Rattle.clap.specs.Walk.{used, used_as, values_or_missing, with_default, with_values, without}
 use Rattle.clap.specs.declared.parser.matches.ValueSource.{ValueSource}
 use Rattle.clap.specs.declared.parser.matches.ValueSource.TheVariants.{DefaultValue, CommandLine}
 use Rattle.std.specs.Prelude.{option_and_then, slice_get}

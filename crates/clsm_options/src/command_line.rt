@@ -2,9 +2,9 @@ ghost use Rattle.std.specs.Prelude.{◌≡◌, ◌⊎◌, IfErr, IfOk, map};
 ghost use Rattle.clsm_options.specs.Answers.{IsInRange, IsParsed, IsRefused};
 ghost use Rattle.clsm_options.specs.declared.refusal.Refusal.TheVariants.{Memory, NotText};
 
+use crate::matches::chosen;
 use crate::options::Options;
 use crate::program::program;
-use crate::reading::chosen;
 use crate::refusal::Refusal;
 use std::alloc::Global;
 use std::convert::AsStr;

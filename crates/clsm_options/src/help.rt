@@ -10,7 +10,7 @@ Exit status:
   0  done
   1  refused words, a bad line, a failed read or write
   2  a fault was found
-  3  the store was not opened, or there was want of memory or too many worlds
+  3  the store was not opened, memory ran out, or there were too many worlds
 
 `clsm COMMAND --help` says what a command reads and prints, with an example.";
 
@@ -33,7 +33,7 @@ FROM are keys, numbers of 64 bits; V is 1 to 8 such words, joined by commas.
 An empty line and one that begins with # are passed over.
 
 Exit status: 0 done; 1 a bad line, a failed read or write; 2 an audit found a fault; 3 the
-sizes were refused or there was want of memory.
+sizes were refused or memory ran out.
 
 Example:
   printf 'put 7 1\\nget 7\\n' | clsm script --cells 64";
@@ -46,7 +46,7 @@ Reads nothing. Prints `calls N`, refused ones too, and `audit ok` or `audit faul
 With --records it prints each answered call as a line that `clsm audit` reads, in their place.
 
 Exit status: 0 done; 1 refused words or a failed write; 2 a fault was found; 3 the sizes were
-refused or there was want of memory.
+refused or memory ran out.
 
 Example:
   clsm run --threads 8 --ops 10000 --stats";
@@ -61,8 +61,8 @@ Prints `audit ok`, or `audit fault KIND LINE` with the kind and the line of the 
 says on the standard error why it is one. With --history the records of writes follow `audit ok`,
 by their times.
 
-Exit status: 0 lawful; 1 a bad line, a failed read or write; 2 a fault was found; 3 want of
-memory.
+Exit status: 0 lawful; 1 a bad line, a failed read or write; 2 a fault was found; 3 memory
+ran out.
 
 Example:
   clsm run --threads 4 --records | clsm audit --seats 4 --cells 1024";
@@ -71,15 +71,15 @@ pub(crate) const EXPLORE: &str =
     "Try every order in which the steps of one to three scripts can fall";
 
 pub(crate) const AFTER_EXPLORE: &str = "\
-Takes a script for each seat: commands of `clsm script`, parted by semicolons, of put, remove,
+Takes a script for each seat: commands of `clsm script`, separated by semicolons, of put, remove,
 get, add, claim, snap, close, getat and scan. Tries each step that comes next in each world that
 the steps lead to, and audits the answers wherever all scripts are at their end. Prints
 `explore ok`, `explore fault`, or `explore too many` where there are more than a million worlds.
 With --answers it first prints what the calls can answer: each different end is a line of records
-as `clsm audit` reads them, parted by semicolons, or `no record`.
+as `clsm audit` reads them, separated by semicolons, or `no record`.
 
 Exit status: 0 no fault; 1 refused words, `bad script S`, a failed write; 2 a fault was found; 3
-the sizes were refused, or there was want of memory or too many worlds.
+the sizes were refused, memory ran out, or there were too many worlds.
 
 Example:
   clsm explore --answers \"put 1 1\" \"get 1\"";

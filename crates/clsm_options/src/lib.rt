@@ -4,9 +4,9 @@
 
 mod command_line;
 mod help;
+mod matches;
 mod options;
 mod program;
-mod reading;
 mod refusal;
 
 pub use command_line::{parse, words};

@@ -9,7 +9,8 @@ use Rattle.clsm_law.specs.declared.view.Mode.TheVariants.{Free}
 use Rattle.clsm_law.specs.declared.view.SnapshotState.TheVariants.{Absent, Noted, Timed, Open}
 use Rattle.clsm_law.specs.declared.view.SnapshotState.{SnapshotState}
 use Rattle.clsm_law.specs.Views.{is_free, or_zero}
-use Rattle.clsm_law.specs.Relation.{IsOpenSnapshot, call_of, looked, open_time, timed}
+use Rattle.clsm_law.specs.OpenSteps.{IsOpenSnapshot, open_time, timed}
+use Rattle.clsm_law.specs.Relation.{call_of, looked}
 use Rattle.clsm_model.specs.declared.record.Deed.TheVariants.{Close}
 use Rattle.clsm_words.specs.declared.known.Known.{Known}
 use Rattle.clsm_words.specs.Knowing.{Sound, Follows, IsNearHeld}
@@ -18,7 +19,8 @@ use Rattle.clsm_pins.specs.Snapshots.{ClosesSnapshot, NotesSnapshot}
 
 -- two looks at the clock and a note between them, in a read outside the lock
 noted_view : (z : Layout) (v : View) (b t : ℕ) → v.mode ≡ Free → v.pinned ≡ true
-    → looked z (record (looked z v Clock b) { snapshot = Noted b }) Clock t ≡ record v { fresh_clock = Some t; clock = Some t; pin_clock = Some t; snapshot = Timed b t }
+    → looked z (record (looked z v Clock b) { snapshot = Noted b }) Clock t
+    ≡ record v { fresh_clock = Some t; clock = Some t; pin_clock = Some t; snapshot = Timed b t }
 noted_view z v b t free pinned =
     let held = ap (λ (m : Mode). cond (not (is_free m)) (Some t) (cond (not (is_free m)) (Some b) v.hold_clock)) free in
     let under = ap (λ (p : Bool). cond p (Some t) (cond p (Some b) v.pin_clock)) pinned in
@@ -34,7 +36,8 @@ notes_of old first noted new b x t sound free pinned one two three =
     let kept = past_trans old first noted (past_by (Look Clock) old first b one refl) (past_by (Note b) first noted x two refl) in
     record {
       keeps = past_trans old noted new kept (past_by (Look Clock) noted new t three refl);
-      view = is ∙ ap (λ (s : SnapshotState). record old.view { fresh_clock = Some t; clock = Some t; pin_clock = Some t; snapshot = s }) (sym (ap (λ (v : View). v.snapshot) is));
+      view = is ∙ ap (λ (s : SnapshotState). record old.view { fresh_clock = Some t; clock = Some t; pin_clock = Some t; snapshot = s })
+          (sym (ap (λ (v : View). v.snapshot) is));
       timed = ap (λ (v : View). timed v.snapshot) is;
       due = let tells = three.tells.0 in let d = ap (λ (v : View). v.due) is in omega arith;
       past = let tells = three.tells.5 in let p = ap (λ (v : View). v.past) is in omega arith;

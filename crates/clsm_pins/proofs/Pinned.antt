@@ -13,7 +13,8 @@ use Rattle.clsm_pins.specs.Pinning.{Pins, Unpins}
 
 pub pins_of : (old mid new : Known) (x c : ℕ) → Sound old → Follows Pin old x mid → Follows (Look Merged) mid c new → Pins old new c
 pins_of old mid new x c sound one two =
-    let e : new.view ≡ looked old.layout (view_after old.layout old.number old.view Pin x) Merged c = two.view ∙ (λ i. looked (one.layout i) (one.view i) Merged c) in
+    let e : new.view ≡ looked old.layout (view_after old.layout old.number old.view Pin x) Merged c = two.view
+    ∙ (λ i. looked (one.layout i) (one.view i) Merged c) in
     let reached = ap (λ (v : View). v.reached) e in
     record {
       keeps = past_trans old mid new (past_by Pin old mid x one refl) (past_by (Look Merged) mid new c two refl);

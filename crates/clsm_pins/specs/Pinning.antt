@@ -20,5 +20,13 @@ pub record Pins (old new : Known) (component : ℕ) : Type 0 where
 -- that is as long
 pub record Unpins (old new : Known) (end : End) : Type 0 where
   pub keeps : KeepsPast old new
-  pub view : new.view ≡ record old.view { pin = next_word old.view.pin; pinned = false; held = None; pin_clock = None; snapshot = ended_snapshot old.view.snapshot; due = ended_due old.view end; calls = old.view.calls ++ ended_calls old.number old.view end }
+  pub view : new.view ≡ record old.view {
+    pin = next_word old.view.pin;
+    pinned = false;
+    held = None;
+    pin_clock = None;
+    snapshot = ended_snapshot old.view.snapshot;
+    due = ended_due old.view end;
+    calls = old.view.calls ++ ended_calls old.number old.view end;
+  }
   pub has_told : length old.told ≤ length new.past → IsBeginning (told_of old) (known_of new)

@@ -18,7 +18,8 @@ pub record LooksAtPin (old new : Known) (seat : ℕ) (seen : Reader) : Type 0 wh
 -- in each world that may be, with this view of the merger, the seat with this number holds no
 -- component but the newest
 abbrev pub HoldsNothingRetired : MergerView → ℕ → Type 0
-HoldsNothingRetired m seat = (w : WorldState) (component : ℕ) → IsLawful w → w.merger ≡ m → each w.layout held_of w.views seat ≡ Some component → component ≡ m.merged
+HoldsNothingRetired m seat = (w : WorldState) (component : ℕ) → IsLawful w → w.merger ≡ m → each w.layout held_of w.views seat ≡ Some component → component
+    ≡ m.merged
 
 -- a word was noted, and it was odd, as a read ran
 abbrev pub IsNotedOdd : Option ℕ → Type 0

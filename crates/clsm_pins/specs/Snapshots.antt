@@ -2,7 +2,8 @@
 use Rattle.std.specs.Prelude.{◌≡◌, ℕ, ◌≤◌, ◌++◌, ◌∷◌, [], Some}
 use Rattle.clsm_model.specs.declared.record.Deed.TheVariants.{Close}
 use Rattle.clsm_law.specs.declared.view.SnapshotState.TheVariants.{Absent}
-use Rattle.clsm_law.specs.Relation.{call_of, timed}
+use Rattle.clsm_law.specs.OpenSteps.{timed}
+use Rattle.clsm_law.specs.Relation.{call_of}
 use Rattle.clsm_words.specs.declared.known.Known.{Known}
 use Rattle.clsm_words.specs.Knowing.{IsNearHeld}
 use Rattle.clsm_words.specs.Keeping.{KeepsPast}

@@ -2,7 +2,7 @@
 ghost use Rattle.std.specs.Prelude.{◌≡◌, true, Some};
 ghost use Rattle.clsm_law.specs.declared.view.Mode.TheVariants.{Free};
 ghost use Rattle.clsm_law.specs.declared.view.SnapshotState.TheVariants.{Absent};
-ghost use Rattle.clsm_law.specs.Relation.{open_time};
+ghost use Rattle.clsm_law.specs.OpenSteps.{open_time};
 ghost use Rattle.clsm_words.specs.Plays.{IsSeatOf};
 ghost use Rattle.clsm_pins.specs.Snapshots.{ClosesSnapshot, NotesSnapshot};
 

@@ -1,9 +1,8 @@
 //! The parts of batches.
-use crate::deal::Deal;
 use crate::made::{Made, Stop};
 use crate::place::{Place, Setting, Stage};
 use clsm_law::{Step, Word};
-use clsm_model::{Change, Members};
+use clsm_model::{Change, Deal, Members};
 use std::alloc::{AllocError, Global};
 
 /// How many members a batch has.

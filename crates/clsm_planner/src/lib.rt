@@ -8,7 +8,7 @@ mod cells;
 mod deal;
 mod inserting;
 mod made;
-mod merging;
+mod merger;
 mod place;
 mod planner;
 mod reading;
@@ -17,7 +17,6 @@ mod scanning;
 mod writing;
 
 pub use caller::Caller;
-pub use deal::Deal;
-pub use merging::{MergeStage, Merging};
+pub use merger::{MergeStage, Merging};
 pub use place::{Place, Stage};
-pub use planner::{AsCalled, Planner};
+pub use planner::{AsCalled, PlanError, Planner};

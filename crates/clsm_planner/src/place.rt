@@ -1,7 +1,6 @@
 //! Where a seat stands in a call.
-use crate::deal::Deal;
 use clsm_law::Layout;
-use clsm_model::{Time, Value};
+use clsm_model::{Deal, Time, Value};
 
 /// The parts of calls. Each begins where no step of it was made, and has at least one step.
 #[derive(Clone, Copy, PartialEq, Eq, Hash)]

@@ -1,5 +1,14 @@
-use crate::merging::MergeStage;
+use crate::merger::MergeStage;
 use crate::place::Place;
+
+/// Why a next step cannot be told.
+#[derive(Clone, Copy, PartialEq, Eq, Debug)]
+pub enum PlanError {
+    /// Not all calls are played, and no step comes next.
+    Stuck,
+    /// Memory ran out.
+    Memory,
+}
 
 /// What chooses the parts of calls: the calls' own order, or a wrong one.
 pub trait Planner {

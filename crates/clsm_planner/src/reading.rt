@@ -1,12 +1,12 @@
 //! The parts of reads.
 use crate::cells::{newest, settle};
-use crate::deal::Deal;
+use crate::deal::{is_change, key_of};
 use crate::made::{Made, Stop};
 use crate::place::{Place, Setting, Stage};
 use crate::runs::search;
 use crate::scanning::rows_below;
 use clsm_law::{End, Layout, Step, Word};
-use clsm_model::{Change, Deed, Time, Value};
+use clsm_model::{Change, Deal, Deed, Time, Value};
 use std::alloc::Global;
 
 /// The value of the key below the time: by the cells of the component's epochs, and else by its
@@ -57,7 +57,7 @@ fn sum_of(old: &Option<Value>, by: u64) -> Change {
 
 /// The deed of a read of one key that found this.
 fn read_of(deal: &Deal, reply: Option<Value>) -> Deed {
-    let key = deal.key();
+    let key = key_of(deal);
     match deal {
         Deal::GetAt { .. } => Deed::GetAt { key, reply },
         _ => Deed::Get { key, reply },
@@ -139,7 +139,7 @@ impl Place {
     }
 
     fn compare(&self, made: &mut Made, setting: &Setting, drawn: Time) -> Result<Place, Stop> {
-        let key = setting.deal.key();
+        let key = key_of(setting.deal);
         let found = newest(made, setting.layout, self.component, drawn, key)?;
         if found.is_none_or(|version| version.time < self.time) {
             return Ok(self.at(Stage::Fill));
@@ -177,9 +177,9 @@ impl Place {
 
     /// The same, of a call about one key.
     fn answer_key(&self, made: &mut Made, setting: &Setting) -> Result<Place, Stop> {
-        let key = setting.deal.key();
+        let key = key_of(setting.deal);
         let reply = value_below(made, setting.layout, self.component, self.time, key)?;
-        if setting.deal.is_change() {
+        if is_change(setting.deal) {
             return self.change(made, setting.deal, reply);
         }
         record(made, read_of(setting.deal, reply))?;
@@ -188,7 +188,7 @@ impl Place {
 
     /// A change that keeps what it read ends its read with the record; another goes on to draw.
     fn change(&self, made: &mut Made, deal: &Deal, old: Option<Value>) -> Result<Place, Stop> {
-        let key = deal.key();
+        let key = key_of(deal);
         if change_of(deal, &old) == Change::Keep {
             let change = Change::Keep;
             record(made, Deed::Rmw { key, old, change })?;
@@ -206,14 +206,14 @@ impl Place {
     pub(crate) fn key_of(&self, deal: &Deal) -> u64 {
         match self.member(deal) {
             Some((key, _)) => key,
-            None => deal.key(),
+            None => key_of(deal),
         }
     }
 
     /// What is written, as a record of one write says it.
     pub(crate) fn deed_of(&self, deal: &Deal) -> Deed {
         let key = self.key_of(deal);
-        if deal.is_change() {
+        if is_change(deal) {
             let change = change_of(deal, &self.old);
             let old = self.old;
             return Deed::Rmw { key, old, change };

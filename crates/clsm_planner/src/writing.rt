@@ -1,4 +1,5 @@
 //! The parts of writes.
+use crate::deal::{is_batch, is_change};
 use crate::made::{Made, Stop};
 use crate::place::{Place, Setting, Stage};
 use clsm_law::{EXCLUSIVE_HOLD, End, Layout, Part, Step, Word};
@@ -28,21 +29,21 @@ impl Place {
     /// Takes the lock shared; where it is held exclusively, or another seat was first, it looks
     /// again. A batch takes it alone.
     pub(crate) fn enter(&self, made: &mut Made, setting: &Setting) -> Result<Place, Stop> {
-        if setting.deal.is_batch() {
+        if is_batch(setting.deal) {
             return self.enter_alone(made);
         }
         let holders = made.look(Word::Lock)?;
         if holders >= EXCLUSIVE_HOLD || !made.wins(Step::EnterShared(holders))? {
             return Err(Stop::Again);
         }
-        let is_change = setting.deal.is_change();
+        let is_change = is_change(setting.deal);
         Ok(self.at(if is_change { Stage::Begin } else { Stage::Draw }))
     }
 
     /// Draws the time that the clock says, if it is below the limit; where another seat was first,
     /// it looks again.
     pub(crate) fn draw(&self, made: &mut Made, setting: &Setting) -> Result<Place, Stop> {
-        let is_change = setting.deal.is_change();
+        let is_change = is_change(setting.deal);
         let limit = made.look(Word::Limit)?;
         let time = made.look(Word::Clock)?;
         if time >= limit {
@@ -68,7 +69,7 @@ impl Place {
     /// Fills the drawn cell, but for its link. The cell of a batch's member is taken with its key.
     pub(crate) fn fill(&self, made: &mut Made, setting: &Setting) -> Result<Place, Stop> {
         let key = self.key_of(setting.deal);
-        made.step(if setting.deal.is_batch() {
+        made.step(if is_batch(setting.deal) {
             Step::Stage(self.drawn.unwrap_or(0), key)
         } else {
             Step::Fill(Part::Key, key)
@@ -93,11 +94,11 @@ impl Place {
     /// Decides the drawn time. Where it was cancelled a change reads again, and another write draws
     /// again. No one cancels a time of a batch.
     pub(crate) fn decide(&self, made: &mut Made, setting: &Setting) -> Result<Place, Stop> {
-        let is_change = setting.deal.is_change();
+        let is_change = is_change(setting.deal);
         let time = self.drawn.unwrap_or(0);
         let deed: Deed = self.deed_of(setting.deal);
         let is_won = made.wins(Step::Decide(time, deed))?;
-        if setting.deal.is_batch() {
+        if is_batch(setting.deal) {
             return Ok(self.after_member());
         }
         Ok(match (is_change, is_won) {
@@ -115,7 +116,7 @@ impl Place {
     }
 
     pub(crate) fn leave(&self, made: &mut Made, setting: &Setting) -> Result<Place, Stop> {
-        made.step(if setting.deal.is_batch() {
+        made.step(if is_batch(setting.deal) {
             Step::LeaveExclusive
         } else {
             Step::LeaveShared

@@ -89,8 +89,8 @@ StopsAudit input _ = ⊥
 
 -- ---- the status
 
--- 0 where the records are lawful; 1 for a bad line, or a failed read or write; 2 for a fault; 3 for
--- want of memory
+-- 0 where the records are lawful; 1 for a bad line, or a failed read or write; 2 for a fault; 3 if
+-- memory runs out
 abbrev pub IsStatus : ℕ → Type 0
 IsStatus status = Contains (0 ∷ 1 ∷ 2 ∷ 3 ∷ []) status
 

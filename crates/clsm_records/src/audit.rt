@@ -47,7 +47,7 @@ impl fmt::Display for Verdict {
     }
 }
 
-/// What is asked of an audit: the sizes of the store that the records are of, and whether the
+/// What an audit is asked for: the sizes of the store that the records are of, and whether the
 /// history of lawful records is to be written.
 #[derive(Clone, Copy, Debug, PartialEq, Eq)]
 pub struct AskedAudit {
@@ -55,7 +55,8 @@ pub struct AskedAudit {
     pub history: bool,
 }
 
-/// The records that lines say, and beside each the number of its line, counted from 1.
+/// The records that lines say, and beside each the number of its line, counted from 1; or records
+/// that stand on no lines, with no numbers.
 #[derive(Drop)]
 pub struct Listed {
     pub records: Vec<CallRecord>,

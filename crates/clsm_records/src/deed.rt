@@ -8,7 +8,7 @@ use clsm_model::Deed;
 use clsm_text::{parse_change, parse_members, parse_number, parse_value};
 use std::alloc::{AllocError, Global};
 
-/// The deed that words say: its name, and what follows it. Refused for want of memory.
+/// The deed that words say: its name, and what follows it. Refused if memory runs out.
 pub fn parse_deed(alloc: Global, words: &[&str]) -> Result<Option<Deed>, AllocError>
     ensures { IfOk result (Finds (SayDeed (texts_of words.now))) }
 {

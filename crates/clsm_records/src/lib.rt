@@ -9,6 +9,7 @@ mod record;
 mod words;
 mod written;
 
-pub use audit::{AskedAudit, audit_lines};
+pub use audit::{AskedAudit, Listed, audit_lines};
+pub use reason::write_reason;
 pub use record::parse_record;
 pub use written::{Line, write_record};

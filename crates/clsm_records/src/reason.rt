@@ -5,8 +5,9 @@ use clsm_model::Value;
 use std::fmt;
 use std::io::{self, Write};
 
-/// Writes why the record with this index has its fault: its line, and then what the explanation
-/// says, a fact a line.
+/// Writes why the record with this index has its fault: its place, and then what the explanation
+/// says, a fact a line. A place is the number of a line, or that of the record, counted from 0,
+/// where it stands on none.
 pub fn write_reason<W: Write>(
     output: &mut W,
     listed: &Listed,
@@ -146,7 +147,7 @@ fn write_sources<W: fmt::Write>(
     )
 }
 
-/// A write by its time and line, or `none`.
+/// A write by its time and place, or `none`.
 #[derive(Drop)]
 struct Source<'a> {
     listed: &'a Listed,
@@ -167,7 +168,7 @@ impl fmt::Display for Source<'_> {
     }
 }
 
-/// A record with the number of its line.
+/// A record with its place.
 #[derive(Drop)]
 struct Placed<'a> {
     listed: &'a Listed,
@@ -176,8 +177,10 @@ struct Placed<'a> {
 
 impl fmt::Display for Placed<'_> {
     fn fmt<W: fmt::Write>(&self, f: &mut fmt::Formatter<W>) -> fmt::Result {
-        if let Some(number) = self.listed.lines.get(self.index) {
-            write!(f, "line {number}")?;
+        let index = self.index;
+        match self.listed.lines.get(index) {
+            Some(number) => write!(f, "line {number}")?,
+            None => write!(f, "record {index}")?,
         }
         if let Some(record) = self.listed.records.get(self.index) {
             let record = Line(record);

@@ -12,8 +12,8 @@ use std::alloc::{AllocError, Global};
 
 /// What a line says, given without its line feed: a record, or `None` where it has no words or is
 /// a comment, which begins with `#`. It is refused as bad where it is not UTF-8 or says no record,
-/// and else only for want of memory. A line may be as long as memory allows, since a scan reads
-/// any number of rows.
+/// and otherwise only if memory runs out. A line may be as long as memory allows, since a scan
+/// reads any number of rows.
 pub fn parse_record(alloc: Global, line: &[u8]) -> Result<Option<CallRecord>, LineError>
     ensures { Reads line.now result }
 {
@@ -26,7 +26,7 @@ pub fn parse_record(alloc: Global, line: &[u8]) -> Result<Option<CallRecord>, Li
     }
 }
 
-/// The record that words say. Refused for want of memory.
+/// The record that words say. Refused if memory runs out.
 fn parse_words(alloc: Global, words: &[&str]) -> Result<Option<CallRecord>, AllocError>
     ensures { IfOk result (Finds (Say (texts_of words.now))) }
 {

@@ -39,7 +39,7 @@ fn parse_row(text: &str) -> Option<(u64, Value)>
     Some((key, value))
 }
 
-/// The rows that words write, one each. Refused for want of memory.
+/// The rows that words write, one each. Refused if memory runs out.
 pub fn parse_rows(alloc: Global, words: &[&str]) -> Result<Option<Rows>, AllocError>
     ensures { IfOk result (Finds (WriteRows (texts_of words.now))) }
 {
@@ -53,8 +53,8 @@ pub fn parse_rows(alloc: Global, words: &[&str]) -> Result<Option<Rows>, AllocEr
     Ok(Some(Rows::new(rows)))
 }
 
-/// The rows that words write, one each, and the key behind a `more` that follows them. Refused for
-/// want of memory.
+/// The rows that words write, one each, and the key behind a `more` that follows them. Refused if
+/// memory runs out.
 pub fn parse_page_rows(
     alloc: Global,
     words: &[&str],

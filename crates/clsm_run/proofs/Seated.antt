@@ -3,7 +3,7 @@
 use Rattle.std.proofs.Common.{◌≡◌, ℕ, zero, suc, ◌<◌, List, [], ◌∷◌, length, get_or, refl, sym, ap, ◌∙◌, arith}
 use Rattle.std.proofs.lemmas.List.{get_or_default, length-map}
 use Rattle.std.specs.Prelude.{All}
-use Rattle.clsm_calls.specs.Seats.{StoreId, SeatState, AreNew, newcomer}
+use Rattle.clsm_store_calls.specs.Seats.{StoreId, SeatState, AreNew, newcomer}
 use Rattle.clsm_run.specs.Audit.{AreSeatsOf}
 use Rattle.clsm_run.specs.Work.{AreWorked, Works}
 use Rattle.clsm_run.specs.declared.worker.Worked.{Worked}

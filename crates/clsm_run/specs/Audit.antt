@@ -3,7 +3,7 @@ use Rattle.std.specs.Prelude.{◌≡◌, ℕ, ◌<◌, List, length, slice_index
 use Rattle.std.specs.List.{flat_map}
 use Rattle.clsm_model.specs.declared.config.Config.{Config}
 use Rattle.clsm_model.specs.declared.record.CallRecord.{CallRecord}
-use Rattle.clsm_calls.specs.Seats.{SeatState, StoreId}
+use Rattle.clsm_store_calls.specs.Seats.{SeatState, StoreId}
 use Rattle.clsm_audit.specs.declared.fault.AuditError.{AuditError}
 use Rattle.clsm_audit.specs.Faults.{IsLawful, IsOneHistory, IsRefusal}
 

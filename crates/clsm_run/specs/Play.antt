@@ -3,11 +3,11 @@ use Rattle.std.specs.Prelude.{◌≡◌, ℕ, [], ◌∷◌, ◌++◌, Option, S
 use Rattle.clsm_model.specs.declared.record.Deed.{Deed}
 use Rattle.clsm_model.specs.declared.record.Deed.TheVariants as deeds
 use Rattle.clsm_model.specs.declared.record.CallRecord.{CallRecord}
-use Rattle.clsm_calls.specs.Seats.{IsFull, IsSameSeat, SeatState}
-use Rattle.clsm_calls.specs.Batching.{IsRefusedBatch}
-use Rattle.clsm_calls.specs.declared.refusal.BatchError.{BatchError}
-use Rattle.clsm_planner.specs.declared.deal.Deal.{Deal}
-use Rattle.clsm_planner.specs.declared.deal.Deal.TheVariants.{Put, Remove, Get, Add, Claim, Snap, Close, GetAt, Scan, Batch}
+use Rattle.clsm_store_calls.specs.Seats.{IsFull, IsSameSeat, SeatState}
+use Rattle.clsm_store_calls.specs.Batching.{IsRefusedBatch}
+use Rattle.clsm_store_calls.specs.declared.refusal.BatchError.{BatchError}
+use Rattle.clsm_model.specs.declared.deal.Deal.{Deal}
+use Rattle.clsm_model.specs.declared.deal.Deal.TheVariants.{Put, Remove, Get, Add, Claim, Snap, Close, GetAt, Scan, Batch}
 use Rattle.clsm_store.specs.Changes.{added, put_if_absent}
 
 -- the deed is what the deal asks for, whatever it read

@@ -1,7 +1,7 @@
 -- What a worker keeps of its calls.
 use Rattle.std.specs.Prelude.{◌≡◌, ℕ, ◌<◌, List, [], ◌∷◌, ◌++◌, length, slice_index_or, Option, Some, None}
 use Rattle.clsm_model.specs.declared.record.CallRecord.{CallRecord}
-use Rattle.clsm_calls.specs.Seats.{SeatState}
+use Rattle.clsm_store_calls.specs.Seats.{SeatState}
 use Rattle.clsm_run.specs.declared.worker.Worked.{Worked}
 use Rattle.clsm_run.specs.declared.worker.Worker.{Worker}
 

@@ -4,8 +4,8 @@ use Rattle.rand_pcg.specs.Lcg.{Lcg}
 use Rattle.rand_pcg.specs.Pcg.{pcg32}
 use Rattle.clsm_model.specs.declared.slot.Change.TheVariants.{Set}
 use Rattle.clsm_run.specs.declared.workload.Draw.{Draw}
-use Rattle.clsm_planner.specs.declared.deal.Deal.{Deal}
-use Rattle.clsm_planner.specs.declared.deal.Deal.TheVariants.{Put, Remove, Get, Add, Claim, Snap, Close, GetAt, Scan, Batch}
+use Rattle.clsm_model.specs.declared.deal.Deal.{Deal}
+use Rattle.clsm_model.specs.declared.deal.Deal.TheVariants.{Put, Remove, Get, Add, Claim, Snap, Close, GetAt, Scan, Batch}
 
 -- where the words come from, the number of keys, and whether there are batches
 pub record Source : Type 0 where

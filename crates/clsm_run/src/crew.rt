@@ -1,6 +1,6 @@
 //! The threads of a run: a worker for each seat of one store, the merger, and the line that moves.
 ghost use Rattle.std.specs.Prelude.{◌≡◌, All, IfErr, IfOk};
-ghost use Rattle.clsm_calls.specs.Seats.{AreNew, IsNewMerger};
+ghost use Rattle.clsm_store_calls.specs.Seats.{AreNew, IsNewMerger};
 ghost use Rattle.clsm_store.specs.Phase.{merger_in};
 ghost use Rattle.clsm_run.specs.Audit.{IsAudited};
 ghost use Rattle.clsm_run.specs.Run.{StopsWork};
@@ -10,7 +10,7 @@ use crate::auditing::verdict_of;
 use crate::board::Board;
 use crate::gathering::{Gathered, gather};
 use crate::load::{Load, Shows};
-use crate::merging::{merge_beside, merges_of};
+use crate::merger::{merge_beside, merges_of};
 use crate::progress::show_progress;
 use crate::watch::Note;
 use crate::worker::{Worked, work};
@@ -96,7 +96,7 @@ where
 }
 
 /// Lets the workers work while the merger merges and the line moves. Answers what they gave back,
-/// and the number of merges. Refused for want of memory.
+/// and the number of merges. Refused if memory runs out.
 pub fn work_merging<P, R, E>(
     rt: &R,
     alloc: Global,

@@ -17,7 +17,7 @@ pub struct Gathered {
 }
 
 /// What all workers gave back: their seats in their order, and all calls of these seats. Refused
-/// for want of memory.
+/// if memory runs out.
 pub fn gather(alloc: Global, worked: Vec<Worked>) -> Result<Gathered, AllocError>
     requires { All (λ w. w.seat.calls ≡ w.records.items) worked.items }
     ensures seats { IfOk result (λ all. all.seats.items ≡ map (λ w. w.seat) worked.items) }
@@ -35,7 +35,7 @@ pub fn gather(alloc: Global, worked: Vec<Worked>) -> Result<Gathered, AllocError
 }
 
 impl Gathered {
-    /// Takes in what one worker gave back. Refused for want of memory.
+    /// Takes in what one worker gave back. Refused if memory runs out.
     fn take(&mut self, one: Worked) -> Result<(), AllocError>
         ensures seats { OnOk result (self.new.seats.items ≡ self.old.seats.items ++ one.seat ∷ []) }
         ensures records { OnOk result (self.new.records.items ≡ self.old.records.items ++ one.records.items) }

@@ -1,5 +1,5 @@
 //! The kinds of calls.
-use clsm_planner::Deal;
+use clsm_model::Deal;
 
 /// A kind of call.
 #[derive(Clone, Copy, PartialEq, Eq, Debug)]

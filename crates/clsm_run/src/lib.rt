@@ -8,7 +8,7 @@ mod crew;
 mod gathering;
 mod kind;
 mod load;
-mod merging;
+mod merger;
 mod opening;
 mod playing;
 mod progress;

@@ -1,19 +1,18 @@
 //! One deal, played on a seat.
 ghost use Rattle.std.specs.Prelude.{◌≡◌, IfErr, IfOk};
-ghost use Rattle.clsm_calls.specs.Seats.{Refuses};
+ghost use Rattle.clsm_store_calls.specs.Seats.{Refuses};
 ghost use Rattle.clsm_law.specs.Relation.{call_of};
-ghost use Rattle.clsm_planner.specs.declared.deal.Deal.TheVariants.{Add, Batch as BatchOf, Claim, Close, Get, GetAt, Put, Remove, Scan as ScanOf, Snap};
+ghost use Rattle.clsm_model.specs.declared.deal.Deal.TheVariants.{Add, Batch as BatchOf, Claim, Close, Get, GetAt, Put, Remove, Scan as ScanOf, Snap};
 ghost use Rattle.clsm_run.specs.Play.{Plays};
 
-use clsm_model::{CallRecord, Change, Deed, Members, Memory, Time, Value};
-use clsm_planner::Deal;
+use clsm_model::{CallRecord, Change, Deal, Deed, Members, Memory, Time, Value};
 use clsm_store::{Got, Pace, Rmw, Scan, Seat, Store};
 use std::alloc::Global;
 use std::sync::Wait;
 
 /// Plays a deal on one of the store's seats, and answers the record of it; none where it was
 /// refused, which is a write with `Full`, a `Snap` where a snapshot is open, and a `Close` and a
-/// `GetAt` where none is. A scan and a batch may be refused for want of memory: the seat is as
+/// `GetAt` where none is. A scan and a batch may be refused if memory runs out: the seat is as
 /// before then.
 pub fn play<P: Pace + Drop, R: Wait>(
     rt: &R,
@@ -155,7 +154,7 @@ fn get_at<P: Pace + Drop>(store: &Store<P>, seat: &mut Seat, key: u64) -> Option
     Some(recorded(seat, time, deed))
 }
 
-/// Refused for want of memory.
+/// Refused if memory runs out.
 fn scan<P: Pace + Drop>(
     alloc: Global,
     store: &Store<P>,
@@ -172,7 +171,7 @@ fn scan<P: Pace + Drop>(
     Ok(Some(recorded(seat, time, deed)))
 }
 
-/// Refused for want of memory, before anything is written: the record has the members.
+/// Refused if memory runs out, before anything is written: the record has the members.
 fn batch<P: Pace + Drop, R: Wait>(
     rt: &R,
     alloc: Global,

@@ -27,7 +27,7 @@ pub fn write_stats<E: Write>(alloc: Global, faults: &mut E, ran: &Ran) -> Result
     Ok(())
 }
 
-/// The times of the answered calls of a kind, by rising length. Refused for want of memory.
+/// The times of the answered calls of a kind, by rising length. Refused if memory runs out.
 fn times_of(alloc: Global, notes: &[Note], kind: Kind) -> Result<Vec<u64>, Memory> {
     let mut times = Vec::new(alloc);
     for note in notes {

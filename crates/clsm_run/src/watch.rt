@@ -36,7 +36,7 @@ impl Watch {
         Instant::now(rt).ok()
     }
 
-    /// Notes a call that began then and has ended. Refused for want of memory.
+    /// Notes a call that began then and has ended. Refused if memory runs out.
     pub fn note<R: Clock>(
         &mut self,
         rt: &R,

@@ -71,7 +71,7 @@ pub fn work<P: Pace + Drop, R: Clock + Wait>(
 }
 
 impl Worker {
-    /// Makes the next call, and keeps its record if it was answered. Refused for want of memory; no
+    /// Makes the next call, and keeps its record if it was answered. Refused if memory runs out; no
     /// call was made then, or its record is kept too.
     fn step<P: Pace + Drop, R: Clock + Wait>(
         &mut self,

@@ -4,8 +4,7 @@ ghost use Rattle.rand_pcg.specs.Lcg.{started, increment_of};
 ghost use Rattle.rand_pcg.specs.Pcg.{multiplier_64};
 ghost use Rattle.clsm_run.specs.Workload.{after_draw, deal_from, deal_of, drawn, pair_of, words_by};
 
-use clsm_model::{Change, Value};
-use clsm_planner::Deal;
+use clsm_model::{Change, Deal, Value};
 use rand_core::utils::NextWord;
 use rand_pcg::Lcg64Xsh32;
 use std::marker::Model;

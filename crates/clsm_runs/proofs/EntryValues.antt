@@ -1,5 +1,6 @@
 -- The value that an entry of a run holds, read word by word.
-use Rattle.std.proofs.Common.{◌≡◌, ◌≢◌, ℕ, zero, suc, ◌+◌, ◌%◌, ◌<◌, ◌≤◌, ◌==◌, Bool, true, cond, nat_lt, List, take, refl, ap, sym, ◌∙◌, arith, subst, Option, Some, None}
+use Rattle.std.proofs.Common.{◌≡◌, ◌≢◌, ℕ, zero, suc, ◌+◌, ◌%◌, ◌<◌, ◌≤◌, ◌==◌, Bool, true, cond, nat_lt, List, take, refl, ap, sym, ◌∙◌, arith, subst}
+use Rattle.std.proofs.Common.{Option, Some, None}
 use Rattle.std.specs.Prelude.{slice_index}
 use Rattle.std.proofs.lemmas.Bool.{ltb-true, ne_eqb, and_parts}
 use Rattle.std.proofs.lemmas.List.{get_or-take, length-take}
@@ -37,7 +38,8 @@ module _ (memory : Memory) (place entry : ℕ) (valued : memory (EntryWord place
   at_most_eight canonical inside =
       let here = passes_at (is_canonical memory place) 0 (memory (Count place)) entry canonical (omega arith) (omega arith) in
       let both = and_parts (is_length (memory (EntryWord place entry 1)) count) (is_ended memory place entry) here in
-      let few : nat_lt count 9 ≡ true = subst (λ (b : Bool). cond b (count == 0) (nat_lt count 9) ≡ true) (ne_eqb (memory (EntryWord place entry 1) % 2) 1 valued) both.0 in
+      let few : nat_lt count 9
+      ≡ true = subst (λ (b : Bool). cond b (count == 0) (nat_lt count 9) ≡ true) (ne_eqb (memory (EntryWord place entry 1) % 2) 1 valued) both.0 in
       let lt = ltb-true count 9 few in omega arith
 
   -- and at least 1 where its value has words
@@ -55,8 +57,10 @@ module _ (memory : Memory) (place entry : ℕ) (valued : memory (EntryWord place
   pub few_there : length_of (entry_in memory place entry).value ≤ 8
   few_there = let long = length-take count (value_words memory place entry) in let same = ap length_of value_there in omega arith
 
-  pub word_there : (j : ℕ) → j < length_of (entry_in memory place entry).value → memory (EntryWord place entry (3 + j)) ≡ slice_index (words_of (entry_in memory place entry).value) j
+  pub word_there : (j : ℕ) → j < length_of (entry_in memory place entry).value
+      → memory (EntryWord place entry (3 + j)) ≡ slice_index (words_of (entry_in memory place entry).value) j
   word_there j lt =
       let long = length-take count (value_words memory place entry) in
       let same = ap length_of value_there in
-      sym (ap (λ (v : Option (List ℕ)). slice_index (words_of v) j) value_there ∙ get_or-take count (value_words memory place entry) j 0 (omega arith) ∙ word_at memory place entry j (omega arith))
+      sym (ap (λ (v : Option (List ℕ)). slice_index (words_of v) j) value_there ∙ get_or-take count (value_words memory place entry) j 0 (omega arith)
+      ∙ word_at memory place entry j (omega arith))

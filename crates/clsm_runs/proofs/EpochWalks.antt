@@ -15,7 +15,8 @@ use Rattle.clsm_runs.specs.Outputs.{IsWalkedTo}
 
 -- ---- one entry more
 
-pub yields_first : (k : Known) (walk : FrozenWalk) (all : List Entry) (result : Option Version) → IsNextWrite k walk all result → result ≡ version_in (first_of all)
+pub yields_first : (k : Known) (walk : FrozenWalk) (all : List Entry) (result : Option Version) → IsNextWrite k walk all result
+    → result ≡ version_in (first_of all)
 yields_first k walk all None next = ap (λ (es : List Entry). version_in (first_of es)) (sym next.0)
 yields_first k walk all (Some v) next = ap (λ (w : Version). Some w) (sym next.3) ∙ ap (λ (es : List Entry). version_in (first_of es)) (sym next.2)
 
@@ -31,12 +32,17 @@ drop_some zero (x ∷ xs) e rest is = cc is
 drop_some (suc n) [] e rest is = absurd (cc is)
 drop_some (suc n) (x ∷ xs) e rest is = drop_some n xs e rest is
 
-pub yields_on : (k : Known) (walk : FrozenWalk) (row : List Entry) (n : ℕ) (result : Option Version) → epoch_row k ≡ row → IsNextWrite k walk (drop n row) result → IsWalkedTo k walk (n + 1)
-yields_on k walk row n None same next = let more : n + 1 ≡ suc n = omega arith in subst (IsAhead k walk) (sym (ap (drop (n + 1)) same ∙ ap (λ (m : ℕ). drop m row) more ∙ drop_none n row next.0)) next.1
-yields_on k walk row n (Some v) same next = let more : n + 1 ≡ suc n = omega arith in subst (IsAhead k walk) (sym (ap (drop (n + 1)) same ∙ ap (λ (m : ℕ). drop m row) more ∙ drop_some n row next.0 next.1 next.2)) next.4
+pub yields_on : (k : Known) (walk : FrozenWalk) (row : List Entry) (n : ℕ) (result : Option Version) → epoch_row k ≡ row
+    → IsNextWrite k walk (drop n row) result → IsWalkedTo k walk (n + 1)
+yields_on k walk row n None same next = let more : n + 1 ≡ suc n = omega arith in
+    subst (IsAhead k walk) (sym (ap (drop (n + 1)) same ∙ ap (λ (m : ℕ). drop m row) more ∙ drop_none n row next.0)) next.1
+yields_on k walk row n (Some v) same next = let more : n + 1 ≡ suc n = omega arith in
+    subst (IsAhead k walk) (sym (ap (drop (n + 1)) same ∙ ap (λ (m : ℕ). drop m row) more ∙ drop_some n row next.0 next.1 next.2)) next.4
 
 -- ---- what changes of runs leaves the walk
 
-pub walked_on : (Those : Word → Type 0) (k k' : Known) (walk : FrozenWalk) (n : ℕ) → Changes Those k k' → IsSoundMerger k → IsWalkedTo k walk n → IsWalkedTo k' walk n
+pub walked_on : (Those : Word → Type 0) (k k' : Known) (walk : FrozenWalk) (n : ℕ) → Changes Those k k' → IsSoundMerger k → IsWalkedTo k walk n
+    → IsWalkedTo k' walk n
 walked_on Those k k' walk n changes sound walked =
-    subst (λ (row : List Entry). IsAhead k' walk (drop n row)) (sym (epoch_row_stays Those k k' changes walk.merges walked.frozen sound)) (ahead_on Those k k' changes sound walk (drop n (epoch_row k)) walked)
+    subst (λ (row : List Entry). IsAhead k' walk (drop n row)) (sym (epoch_row_stays Those k k' changes walk.merges walked.frozen sound))
+    (ahead_on Those k k' changes sound walk (drop n (epoch_row k)) walked)

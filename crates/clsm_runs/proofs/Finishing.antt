@@ -30,7 +30,9 @@ use Rattle.clsm_words.proofs.Changing.{writes_only}
 use Rattle.clsm_runs.proofs.Taking.{entries_under}
 
 -- nothing is written yet
-pub left_at_first : (k : Known) (o : Output) (rows : List (List Entry)) (cursors : List Cursor) (floor m : ℕ) → (o.count ≡ 0) × (o.settled ≡ None) → (o.floor ≡ floor) × (o.to_level_one ≡ is_to_level_one m) → ((i : ℕ) → i < length cursors → (cursor_at cursors i).position ≡ 0) → LeavesOff k o (merged (rests rows cursors)) (kept floor (is_to_level_one m) (merged (all_of rows)))
+pub left_at_first : (k : Known) (o : Output) (rows : List (List Entry)) (cursors : List Cursor) (floor m : ℕ) → (o.count ≡ 0) × (o.settled ≡ None)
+    → (o.floor ≡ floor) × (o.to_level_one ≡ is_to_level_one m) → ((i : ℕ) → i < length cursors → (cursor_at cursors i).position ≡ 0)
+    → LeavesOff k o (merged (rests rows cursors)) (kept floor (is_to_level_one m) (merged (all_of rows)))
 left_at_first k o rows cursors floor m begins rule first = record {
   split =
       ap (λ (n : ℕ). entries_from (row_of k) o.place 0 n ++ kept_after o.settled o.floor o.to_level_one (merged (rests rows cursors))) begins.0
@@ -45,11 +47,15 @@ left_at_first k o rows cursors floor m begins rule first = record {
 -- a look changes nothing of it
 pub left_looked : (k k' : Known) (o : Output) (rest all : List Entry) → Changes NoWord k k' → LeavesOff k o rest all → LeavesOff k' o rest all
 left_looked k k' o rest all looks left = record {
-  split = ap (λ (l : List Entry). l ++ kept_after o.settled o.floor o.to_level_one rest) (entries_under (row_of k) (row_of k') o.place 0 o.count (λ e part lt. looks.stays (EntryWord o.place e part) tt (λ no. no))) ∙ left.split;
-  canonical = passes_if (is_canonical (row_of k') o.place) 0 o.count (λ i from until. entry_canonical (row_of k) (row_of k') o.place i (λ part. looks.stays (EntryWord o.place i part) tt (λ no. no)) ∙ passes_at (is_canonical (row_of k) o.place) 0 o.count i left.canonical from until);
+  split = ap (λ (l : List Entry). l ++ kept_after o.settled o.floor o.to_level_one rest)
+      (entries_under (row_of k) (row_of k') o.place 0 o.count (λ e part lt. looks.stays (EntryWord o.place e part) tt (λ no. no))) ∙ left.split;
+  canonical = passes_if (is_canonical (row_of k') o.place) 0 o.count
+      (λ i from until. entry_canonical (row_of k) (row_of k') o.place i (λ part. looks.stays (EntryWord o.place i part) tt (λ no. no))
+      ∙ passes_at (is_canonical (row_of k) o.place) 0 o.count i left.canonical from until);
 }
 
-module _ (k k' : Known) (o : Output) (all : List Entry) (x : ℕ) (left : LeavesOff k o [] all) (output : IsOutput k o) (at : o.place ≡ target_of k.merger) (follows : FollowsMerger (WriteRun (Count o.place) o.count) k x k') where
+module _ (k k' : Known) (o : Output) (all : List Entry) (x : ℕ) (left : LeavesOff k o [] all) (output : IsOutput k o) (at : o.place ≡ target_of k.merger)
+    (follows : FollowsMerger (WriteRun (Count o.place) o.count) k x k') where
   stays : (e part : ℕ) → row_of k' (EntryWord o.place e part) ≡ row_of k (EntryWord o.place e part)
   stays e part = (writes_only k k' (Count o.place) o.count x follows).stays (EntryWord o.place e part) tt (λ same. absurd (cc same))
 
@@ -62,7 +68,9 @@ module _ (k k' : Known) (o : Output) (all : List Entry) (x : ℕ) (left : Leaves
   canonical_there : are_canonical (row_of k') o.place ≡ true
   canonical_there =
       ap (passes_from (is_canonical (row_of k') o.place) 0) follows.made
-      ∙ passes_if (is_canonical (row_of k') o.place) 0 o.count (λ i from until. entry_canonical (row_of k) (row_of k') o.place i (λ part. stays i part) ∙ passes_at (is_canonical (row_of k) o.place) 0 o.count i left.canonical from until)
+      ∙ passes_if (is_canonical (row_of k') o.place) 0 o.count
+      (λ i from until. entry_canonical (row_of k) (row_of k') o.place i (λ part. stays i part)
+      ∙ passes_at (is_canonical (row_of k) o.place) 0 o.count i left.canonical from until)
 
   target_now : o.place ≡ target_of k'.merger
   target_now = at ∙ ap (λ (m : MergerView). target_of m) (sym follows.view)
@@ -70,6 +78,8 @@ module _ (k k' : Known) (o : Output) (all : List Entry) (x : ℕ) (left : Leaves
   pub has_written : HasWritten k' all
   has_written = record {
     written = subst (λ (p : ℕ). entries_in (row_of k') p ≡ all) target_now written_there;
-    fits = subst (λ (p : ℕ). row_of k' (Count p) ≤ room_of k'.layout p) target_now (let count = follows.made in let few = output.few in let room = output.room in let same = ap (λ (z : Layout). room_of z o.place) follows.layout in omega arith);
+    fits = subst (λ (p : ℕ). row_of k' (Count p) ≤ room_of k'.layout p) target_now
+        (let count = follows.made in let few = output.few in let room = output.room in let same = ap (λ (z : Layout). room_of z o.place) follows.layout in
+        omega arith);
     canonical = subst (λ (p : ℕ). are_canonical (row_of k') p ≡ true) target_now canonical_there;
   }

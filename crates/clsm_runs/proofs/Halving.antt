@@ -24,7 +24,8 @@ earlier_before key until x y before earlier = grind arith
 
 -- no search for the key or a greater one finds an entry that is of a smaller key, or not of a time
 -- below until
-pub not_found : (from until : ℕ) (x : Entry) (xs : List Entry) → (x.key < from) ⊎ (until ≤ x.time) → (key : ℕ) → from ≤ key → first_below (x ∷ xs) key until ≡ first_below xs key until
+pub not_found : (from until : ℕ) (x : Entry) (xs : List Entry) → (x.key < from) ⊎ (until ≤ x.time) → (key : ℕ) → from ≤ key
+    → first_below (x ∷ xs) key until ≡ first_below xs key until
 not_found from until x xs is key le = grind (arith, nat_tests)
 
 -- as is one that comes earlier
@@ -48,7 +49,8 @@ module _ (memory : Memory) (p n : ℕ) where
   rest_none : (i : ℕ) → n ≤ i → rest_from memory p n i ≡ []
   rest_none i le = let e : n - i ≡ 0 = omega arith in ap (entries_from memory p i) e
 
-  run_more : (i : ℕ) → i < n → IsRun (rest_from memory p n i) → AllByRecursion (ComesBefore (entry_in memory p i)) (rest_from memory p n (i + 1)) × IsRun (rest_from memory p n (i + 1))
+  run_more : (i : ℕ) → i < n → IsRun (rest_from memory p n i)
+      → AllByRecursion (ComesBefore (entry_in memory p i)) (rest_from memory p n (i + 1)) × IsRun (rest_from memory p n (i + 1))
   run_more i lt run = subst IsRun (rest_more i lt) run
 
   -- of a run they are a run
@@ -60,7 +62,8 @@ module _ (memory : Memory) (p n : ℕ) where
   ]
 
   -- no entry up to the d-th behind i, which comes earlier, is found for the key or a greater one
-  skips_by : (key until i d : ℕ) → IsRun (rest_from memory p n i) → i + d < n → ComesEarlier key until (entry_in memory p (i + d)) → (wanted : ℕ) → key ≤ wanted → first_below (rest_from memory p n i) wanted until ≡ first_below (rest_from memory p n (i + d + 1)) wanted until
+  skips_by : (key until i d : ℕ) → IsRun (rest_from memory p n i) → i + d < n → ComesEarlier key until (entry_in memory p (i + d)) → (wanted : ℕ) → key ≤ wanted
+      → first_below (rest_from memory p n i) wanted until ≡ first_below (rest_from memory p n (i + d + 1)) wanted until
   skips_by key until i zero run lt earlier wanted from =
       let here : i + 0 ≡ i = omega arith in
       let first = subst (λ (j : ℕ). ComesEarlier key until (entry_in memory p j)) here earlier in
@@ -70,7 +73,8 @@ module _ (memory : Memory) (p n : ℕ) where
   skips_by key until i (suc d) run lt earlier wanted from =
       let more = run_more i (omega arith) run in
       let same : i + 1 + d ≡ i + suc d = omega arith in
-      let before : ComesBefore (entry_in memory p i) (entry_in memory p (i + suc d)) = at_entry (ComesBefore (entry_in memory p i)) memory p (i + 1) (n - (i + 1)) (i + suc d) (omega arith) (omega arith) more.0 in
+      let before : ComesBefore (entry_in memory p i) (entry_in memory p (i + suc d)) = at_entry (ComesBefore (entry_in memory p i)) memory p (i + 1)
+      (n - (i + 1)) (i + suc d) (omega arith) (omega arith) more.0 in
       let first = earlier_before key until (entry_in memory p i) (entry_in memory p (i + suc d)) before earlier in
       ap (λ (es : List Entry). first_below es wanted until) (rest_more i (omega arith))
       ∙ not_found key until (entry_in memory p i) (rest_from memory p n (i + 1)) (earlier_not key until (entry_in memory p i) first) wanted from
@@ -78,31 +82,47 @@ module _ (memory : Memory) (p n : ℕ) where
       ∙ ap (λ (j : ℕ). first_below (rest_from memory p n (j + 1)) wanted until) same
 
   -- from an entry of a greater key on there is none of the key
-  pub behind : (key until middle : ℕ) → IsRun (rest_from memory p n 0) → middle < n → key < memory (EntryWord p middle 0) → first_below (rest_from memory p n middle) key until ≡ None
+  pub behind : (key until middle : ℕ) → IsRun (rest_from memory p n 0) → middle < n → key < memory (EntryWord p middle 0)
+      → first_below (rest_from memory p n middle) key until ≡ None
   behind key until middle run lt greater =
       let more = run_more middle lt (run_rest middle run) in
       ap (λ (es : List Entry). first_below es key until) (rest_more middle lt)
-      ∙ none_of_key key until (entry_in memory p middle ∷ rest_from memory p n (middle + 1)) (greater, every_weaker (ComesBefore (entry_in memory p middle)) (λ (e : Entry). key < e.key) (λ y before. later_key key (entry_in memory p middle) y greater before) (rest_from memory p n (middle + 1)) more.0)
+      ∙ none_of_key key until (entry_in memory p middle ∷ rest_from memory p n (middle + 1)) (
+        greater,
+        every_weaker (ComesBefore (entry_in memory p middle)) (λ (e : Entry). key < e.key)
+            (λ y before. later_key key (entry_in memory p middle) y greater before) (rest_from memory p n (middle + 1)) more.0,
+      )
 
   -- an entry of the key with a time below until is the first such from there on
-  pub hit_here : (key until i spelled : ℕ) → i < n → IsSide memory p i key until (Hit spelled) → first_below (rest_from memory p n i) key until ≡ Some (entry_in memory p i)
+  pub hit_here : (key until i spelled : ℕ) → i < n → IsSide memory p i key until (Hit spelled)
+      → first_below (rest_from memory p n i) key until ≡ Some (entry_in memory p i)
   hit_here key until i spelled lt side =
-      ap (λ (es : List Entry). first_below es key until) (rest_more i lt) ∙ first_below_here (entry_in memory p i) (rest_from memory p n (i + 1)) key until (eq-eqb (memory (EntryWord p i 0)) key side.0) side.2
+      ap (λ (es : List Entry). first_below es key until) (rest_more i lt)
+      ∙ first_below_here (entry_in memory p i) (rest_from memory p n (i + 1)) key until (eq-eqb (memory (EntryWord p i 0)) key side.0) side.2
 
 -- ---- where the halves meet
 
 -- what is at the entry where they meet is the first
-position_by : (k : Known) (place key until at : ℕ) (hit : Option (ℕ × ℕ)) → first_below (run_at k place) key until ≡ first_below (rest_from (row_of k) place (count_of k place) at) key until → IsHitAt (row_of k) place (count_of k place) key until at hit → IsPosition k place key until hit
+position_by : (k : Known) (place key until at : ℕ) (hit : Option (ℕ × ℕ))
+    → first_below (run_at k place) key until ≡ first_below (rest_from (row_of k) place (count_of k place) at) key until
+    → IsHitAt (row_of k) place (count_of k place) key until at hit → IsPosition k place key until hit
 position_by k place key until at None skipped is = skipped ∙ is
 position_by k place key until at (Some hit) skipped is =
     let side = subst (λ (j : ℕ). IsSide (row_of k) place j key until (Hit hit.1)) (sym is.0) is.2 in
-    let inside : hit.0 < count_of k place = subst (λ (j : ℕ). j < count_of k place) (sym is.0) is.1 in
-    (inside, side.0, side.1, skipped ∙ ap (λ (j : ℕ). first_below (rest_from (row_of k) place (count_of k place) j) key until) (sym is.0) ∙ hit_here (row_of k) place (count_of k place) key until hit.0 hit.1 inside side)
+    let inside : hit.0 < count_of k place = subst (λ (j : ℕ). j < count_of k place) (sym is.0) is.1 in (
+      inside,
+      side.0,
+      side.1,
+      skipped ∙ ap (λ (j : ℕ). first_below (rest_from (row_of k) place (count_of k place) j) key until) (sym is.0)
+          ∙ hit_here (row_of k) place (count_of k place) key until hit.0 hit.1 inside side,
+    )
 
-pub position_at : (k : Known) (place key until low high : ℕ) (hit : Option (ℕ × ℕ)) → low ≡ high → StandsFrom k place until key low → IsHitAt (row_of k) place (count_of k place) key until high hit → IsPosition k place key until hit
+pub position_at : (k : Known) (place key until low high : ℕ) (hit : Option (ℕ × ℕ)) → low ≡ high → StandsFrom k place until key low
+    → IsHitAt (row_of k) place (count_of k place) key until high hit → IsPosition k place key until hit
 position_at k place key until low high hit met stands is =
     let skipped = stands.passed key (omega arith) in
-    position_by k place key until high hit (subst (λ (j : ℕ). first_below (run_at k place) key until ≡ first_below (rest_from (row_of k) place (count_of k place) j) key until) met skipped) is
+    position_by k place key until high hit
+    (subst (λ (j : ℕ). first_below (run_at k place) key until ≡ first_below (rest_from (row_of k) place (count_of k place) j) key until) met skipped) is
 
 -- ---- a run
 
@@ -111,7 +131,8 @@ pub run_of_all : (k : Known) (place : ℕ) → IsRun (run_at k place) → IsRun 
 run_of_all k place run = let all : count_of k place ≡ count_of k place - 0 = omega arith in subst (λ (n : ℕ). IsRun (entries_from (row_of k) place 0 n)) all run
 
 -- no entry up to one that comes too early is found
-pub skips : (k : Known) (place key until low middle : ℕ) → IsRun (run_at k place) → StandsFrom k place until key low → low ≤ middle → middle < count_of k place → ComesEarlier key until (entry_in (row_of k) place middle) → StandsFrom k place until key (middle + 1)
+pub skips : (k : Known) (place key until low middle : ℕ) → IsRun (run_at k place) → StandsFrom k place until key low → low ≤ middle → middle < count_of k place
+    → ComesEarlier key until (entry_in (row_of k) place middle) → StandsFrom k place until key (middle + 1)
 skips k place key until low middle run stands le lt earlier =
     let memory = row_of k in
     let n = count_of k place in

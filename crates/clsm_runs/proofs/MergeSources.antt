@@ -45,16 +45,24 @@ module _ (k : Known) (sound : IsSoundMerger k) where
   runs_rise = every_weaker IsRun RisesByKey keys_rise-run runs sound.runs.content.order
 
   runs_early : AllByRecursion (AreBelow (2 ^ 62)) runs
-  runs_early = each_run (λ (e : Entry). e.time < 2 ^ 62) runs (every_weaker (λ (e : Entry). e.time < k.merger.merged * k.layout.cells) (λ e. e.time < 2 ^ 62) (λ e older. let small = sound.mergeable.small.merged in omega arith) (all_of runs) sound.runs.content.older)
+  runs_early = each_run (λ (e : Entry). e.time < 2 ^ 62) runs
+      (every_weaker (λ (e : Entry). e.time < k.merger.merged * k.layout.cells) (λ e. e.time < 2 ^ 62)
+      (λ e older. let small = sound.mergeable.small.merged in omega arith) (all_of runs) sound.runs.content.older)
 
   runs_few : AllByRecursion (λ (run : List Entry). length run < 2 ^ 62) runs
-  runs_few = every-map (held_at (row_of k)) (λ (run : List Entry). length run < 2 ^ 62) (places k.merger.merged) (every_weaker (λ (place : Place). is_named k.merger.merged (number_of place) ≡ true) (λ place. length (held_at (row_of k) place) < 2 ^ 62)
-      (λ place named. let p = number_of place in let count = sound.mergeable.counts p named in let small = small_room k.layout p in let long = length-entries (row_of k) p 0 (row_of k (Count p)) in omega arith)
+  runs_few = every-map (held_at (row_of k)) (λ (run : List Entry). length run < 2 ^ 62) (places k.merger.merged)
+      (every_weaker (λ (place : Place). is_named k.merger.merged (number_of place) ≡ true) (λ place. length (held_at (row_of k) place) < 2 ^ 62)
+      (λ place named. let p = number_of place in let count = sound.mergeable.counts p named in let small = small_room k.layout p in
+      let long = length-entries (row_of k) p 0 (row_of k (Count p)) in omega arith)
       (places k.merger.merged) (all_named k.merger.merged))
 
   pub are_sources : AreSources (rows_of k)
   are_sources = record {
     rise = (keys_rise-run (epoch_row k) (row_run k), every-cond RisesByKey (is_to_level_one k.merger.merged) runs [] (λ one. runs_rise) (λ zero_level. tt));
     early = (row_early k sound, every-cond (AreBelow (2 ^ 62)) (is_to_level_one k.merger.merged) runs [] (λ one. runs_early) (λ zero_level. tt));
-    few = (let few = row_few k in let small = k.layout.cells_in_range.1 in omega arith, every-cond (λ (run : List Entry). length run < 2 ^ 62) (is_to_level_one k.merger.merged) runs [] (λ one. runs_few) (λ zero_level. tt));
+    few = (
+      let few = row_few k in let small = k.layout.cells_in_range.1 in
+          omega arith,
+      every-cond (λ (run : List Entry). length run < 2 ^ 62) (is_to_level_one k.merger.merged) runs [] (λ one. runs_few) (λ zero_level. tt),
+    );
   }

@@ -1,5 +1,6 @@
 -- What the law says of the runs of a component, at each place that it names.
-use Rattle.std.proofs.Common.{◌≡◌, ℕ, zero, suc, ◌+◌, ◌*◌, ◌/◌, ◌%◌, ◌<◌, ◌≤◌, ◌==◌, inl, inr, Bool, true, cond, nat_lt, List, [], ◌∷◌, ◌++◌, length, map, refl, sym, subst, arith}
+use Rattle.std.proofs.Common.{◌≡◌, ℕ, zero, suc, ◌+◌, ◌*◌, ◌/◌, ◌%◌, ◌<◌, ◌≤◌, ◌==◌, inl, inr, Bool, true, cond, nat_lt, List, [], ◌∷◌, ◌++◌, length, map}
+use Rattle.std.proofs.Common.{refl, sym, subst, arith}
 use Rattle.std.specs.List.{AllByRecursion}
 use Rattle.std.proofs.lemmas.Bool.{lt-ltb, le-ltb, ltb-true, eqb-true, eq-eqb, cases_lt, cases_eq}
 use Rattle.clsm_model.specs.History.{plain}
@@ -40,14 +41,16 @@ names_one m = rw (le-ltb (3 + m / 4 % 2) 3 (omega arith)) (eq-eqb (3 + m / 4 % 2
 
 -- ---- what holds of each run of a component holds at each place
 
-at_level_zero : (P : List Entry → Type 0) (memory : Memory) (j p : ℕ) (rest : List Place) → p < j → AllByRecursion P (map (held_at memory) (level_zero_places j ++ rest)) → P (entries_in memory p)
+at_level_zero : (P : List Entry → Type 0) (memory : Memory) (j p : ℕ) (rest : List Place) → p < j
+    → AllByRecursion P (map (held_at memory) (level_zero_places j ++ rest)) → P (entries_in memory p)
 at_level_zero P memory zero p rest lt every = absurd (omega arith)
 at_level_zero P memory (suc j) p rest lt every = elim (cases_eq p j) [
   | inl same ↦ subst (λ (n : ℕ). P (entries_in memory n)) (sym same) every.0
   | inr other ↦ at_level_zero P memory j p rest (omega arith) every.1
 ]
 
-at_level_one : (P : List Entry → Type 0) (memory : Memory) (j q : ℕ) → AllByRecursion P (map (held_at memory) (level_zero_places j ++ LevelOne q ∷ [])) → P (entries_in memory (3 + q))
+at_level_one : (P : List Entry → Type 0) (memory : Memory) (j q : ℕ) → AllByRecursion P (map (held_at memory) (level_zero_places j ++ LevelOne q ∷ []))
+    → P (entries_in memory (3 + q))
 at_level_one P memory zero q every = every.0
 at_level_one P memory (suc j) q every = at_level_one P memory j q every.1
 
@@ -73,23 +76,29 @@ pub record IsRunAt (k : Known) (component place : ℕ) : Type 0 where
 pub run_there : (k : Known) (component place : ℕ) → Sound k → IsSearchable k component place → IsRunAt k component place
 run_there k component place sound run = let runs = (sound.reads component run.held).runs in record {
   order = at_named IsRun (row_of k) component place run.named runs.order;
-  short = at_named (AllByRecursion (λ (e : Entry). IsShort e.value)) (row_of k) component place run.named (each_run (λ (e : Entry). IsShort e.value) (runs_of (row_of k) component) runs.short);
+  short = at_named (AllByRecursion (λ (e : Entry). IsShort e.value)) (row_of k) component place run.named
+      (each_run (λ (e : Entry). IsShort e.value) (runs_of (row_of k) component) runs.short);
   canonical = runs.canonical place run.named;
 }
 
 -- what the merger reads: its past reaches the end of the merged epochs
-merged_write : (k : Known) → IsSoundMerger k → (e : Entry) → (e.time < k.merger.merged * k.layout.cells) × IsWriteOf (plain k.past) e → k.merger.merged * k.layout.cells ≤ length k.past → IsShort e.value
+merged_write : (k : Known) → IsSoundMerger k → (e : Entry) → (e.time < k.merger.merged * k.layout.cells) × IsWriteOf (plain k.past) e
+    → k.merger.merged * k.layout.cells ≤ length k.past → IsShort e.value
 merged_write k sound e is reached = sound.short e.time is.1.0 e.key e.value (let older = is.0 in omega arith) is.1.1
 
-merged_run : (k : Known) (place : ℕ) → IsSoundMerger k → k.merger.merged * k.layout.cells ≤ length k.past → is_named k.merger.merged place ≡ true → IsRunAt k k.merger.merged place
+merged_run : (k : Known) (place : ℕ) → IsSoundMerger k → k.merger.merged * k.layout.cells ≤ length k.past → is_named k.merger.merged place ≡ true
+    → IsRunAt k k.merger.merged place
 merged_run k place sound reached named =
     let m = k.merger.merged in
     let content = sound.runs.content in
-    let both = every_both (λ (e : Entry). e.time < m * k.layout.cells) (IsWriteOf (plain k.past)) (all_of (runs_of (row_of k) m)) content.older content.writes in
+    let both = every_both (λ (e : Entry). e.time < m * k.layout.cells) (IsWriteOf (plain k.past))
+    (all_of (runs_of (row_of k) m)) content.older content.writes in
     record {
       order = at_named IsRun (row_of k) m place named content.order;
-      short = at_named (AllByRecursion (λ (e : Entry). IsShort e.value)) (row_of k) m place named (each_run (λ (e : Entry). IsShort e.value) (runs_of (row_of k) m)
-          (every_weaker (λ (e : Entry). (e.time < m * k.layout.cells) × IsWriteOf (plain k.past) e) (λ (e : Entry). IsShort e.value) (λ e is. merged_write k sound e is reached) (all_of (runs_of (row_of k) m)) both));
+      short = at_named (AllByRecursion (λ (e : Entry). IsShort e.value)) (row_of k) m place named
+          (each_run (λ (e : Entry). IsShort e.value) (runs_of (row_of k) m)
+          (every_weaker (λ (e : Entry). (e.time < m * k.layout.cells) × IsWriteOf (plain k.past) e) (λ (e : Entry). IsShort e.value)
+          (λ e is. merged_write k sound e is reached) (all_of (runs_of (row_of k) m)) both));
       canonical = sound.runs.canonical place named;
     }
 
@@ -106,7 +115,8 @@ at_entry P memory p i (suc n) e le lt every = elim (cases_eq e i) [
 -- ---- a value of an entry is a removal or has one to eight words
 
 is_short_at : (k : Known) (component place entry : ℕ) → IsRunAt k component place → entry < count_of k place → IsShort (entry_in (row_of k) place entry).value
-is_short_at k component place entry run inside = at_entry (λ (e : Entry). IsShort e.value) (row_of k) place 0 (count_of k place) entry (omega arith) (omega arith) run.short
+is_short_at k component place entry run inside =
+    at_entry (λ (e : Entry). IsShort e.value) (row_of k) place 0 (count_of k place) entry (omega arith) (omega arith) run.short
 
 pub short_there : (k : Known) (component place entry : ℕ) → Sound k → HasEntry k component place entry → IsShort (entry_in (row_of k) place entry).value
 short_there k component place entry sound has = is_short_at k component place entry (run_there k component place sound has.run) has.inside
@@ -116,5 +126,8 @@ pub merged_short : (k : Known) (place entry : ℕ) → IsSoundMerger k → IsMer
 merged_short k place entry sound has = is_short_at k k.merger.merged place entry (merged_run k place sound reached has.named) has.inside where
   reached : k.merger.merged * k.layout.cells ≤ length k.past
   reached =
-      let end : epoch_end k.layout k.merger ≤ length k.past = subst (λ b. cond b (epoch_end k.layout k.merger) (k.merger.merged * k.layout.cells) ≤ length k.past) has.frozen
-      (subst (λ b. cond b (row_of k Clock) (cond (is_frozen k.merger.phase) (epoch_end k.layout k.merger) (k.merger.merged * k.layout.cells)) ≤ length k.past) has.free sound.reaches) in omega arith
+      let end : epoch_end k.layout k.merger ≤ length k.past = subst
+      (λ b. cond b (epoch_end k.layout k.merger) (k.merger.merged * k.layout.cells) ≤ length k.past) has.frozen
+      (subst (λ b. cond b (row_of k Clock)
+      (cond (is_frozen k.merger.phase) (epoch_end k.layout k.merger)
+      (k.merger.merged * k.layout.cells)) ≤ length k.past) has.free sound.reaches) in omega arith

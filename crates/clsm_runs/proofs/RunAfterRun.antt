@@ -10,19 +10,28 @@ use Rattle.clsm_law.specs.Places.{entries_in}
 use Rattle.clsm_runs.specs.Searching.{runs_below}
 
 -- the newest run of level 0 is searched first
-newest_first : (memory : Memory) (m key until j : ℕ) → 0 < j → first_in_runs (runs_below memory m j) key until ≡ or_else (first_below (entries_in memory (j - 1)) key until) (first_in_runs (runs_below memory m (j - 1)) key until)
+newest_first : (memory : Memory) (m key until j : ℕ) → 0 < j
+    → first_in_runs (runs_below memory m j) key until
+    ≡ or_else (first_below (entries_in memory (j - 1)) key until) (first_in_runs (runs_below memory m (j - 1)) key until)
 newest_first memory m key until zero some = absurd (omega arith)
-newest_first memory m key until (suc j) some = let same : j ≡ suc j - 1 = omega arith in ap (λ (i : ℕ). or_else (first_below (entries_in memory i) key until) (first_in_runs (runs_below memory m i) key until)) same
+newest_first memory m key until (suc j) some = let same : j ≡ suc j - 1 = omega arith in
+    ap (λ (i : ℕ). or_else (first_below (entries_in memory i) key until) (first_in_runs (runs_below memory m i) key until)) same
 
-module _ (memory : Memory) (m key until j : ℕ) (all : List (List Entry)) (searched : first_in_runs all key until ≡ first_in_runs (runs_below memory m j) key until) where
+module _ (memory : Memory) (m key until j : ℕ) (all : List (List Entry))
+    (searched : first_in_runs all key until ≡ first_in_runs (runs_below memory m j) key until) where
   -- what it has is found
   pub found_here : (e : Entry) → 0 < j → Some e ≡ first_below (entries_in memory (j - 1)) key until → Some e ≡ first_in_runs all key until
-  found_here e some is = sym (searched ∙ newest_first memory m key until j some ∙ ap (λ o. or_else o (first_in_runs (runs_below memory m (j - 1)) key until)) (sym is))
+  found_here e some is = sym
+      (searched ∙ newest_first memory m key until j some ∙ ap (λ o. or_else o (first_in_runs (runs_below memory m (j - 1)) key until)) (sym is))
 
   -- where it has none the search goes on behind it
-  pub found_behind : 0 < j → None ≡ first_below (entries_in memory (j - 1)) key until → first_in_runs all key until ≡ first_in_runs (runs_below memory m (j - 1)) key until
-  found_behind some is = searched ∙ newest_first memory m key until j some ∙ ap (λ o. or_else o (first_in_runs (runs_below memory m (j - 1)) key until)) (sym is)
+  pub found_behind : 0 < j → None ≡ first_below (entries_in memory (j - 1)) key until
+      → first_in_runs all key until ≡ first_in_runs (runs_below memory m (j - 1)) key until
+  found_behind some is = searched ∙ newest_first memory m key until j some
+      ∙ ap (λ o. or_else o (first_in_runs (runs_below memory m (j - 1)) key until)) (sym is)
 
   -- the run of level 1 is searched last
   pub found_last : (o : Option Entry) → j ≡ 0 → o ≡ first_below (entries_in memory (3 + m / 4 % 2)) key until → o ≡ first_in_runs all key until
-  found_last o none is = is ∙ sym (searched ∙ ap (λ (i : ℕ). first_in_runs (runs_below memory m i) key until) none ∙ or_none (first_below (entries_in memory (3 + m / 4 % 2)) key until))
+  found_last o none is = is
+      ∙ sym (searched ∙ ap (λ (i : ℕ). first_in_runs (runs_below memory m i) key until) none
+      ∙ or_none (first_below (entries_in memory (3 + m / 4 % 2)) key until))

@@ -27,9 +27,11 @@ entries_more : (memory : Memory) (p i n : ℕ) → entries_from memory p i (suc 
 entries_more memory p i zero = let same : i ≡ i + 0 = omega arith in ap (λ (j : ℕ). entry_in memory p j ∷ []) same
 entries_more memory p i (suc n) =
     let same : i + 1 + n ≡ i + suc n = omega arith in
-    ap (λ (l : List Entry). entry_in memory p i ∷ l) (entries_more memory p (i + 1) n ∙ ap (λ (j : ℕ). entries_from memory p (i + 1) n ++ entry_in memory p j ∷ []) same)
+    ap (λ (l : List Entry). entry_in memory p i ∷ l)
+    (entries_more memory p (i + 1) n ∙ ap (λ (j : ℕ). entries_from memory p (i + 1) n ++ entry_in memory p j ∷ []) same)
 
-pub entries_under : (memory memory' : Memory) (p i n : ℕ) → ((e part : ℕ) → e < i + n → memory' (EntryWord p e part) ≡ memory (EntryWord p e part)) → entries_from memory' p i n ≡ entries_from memory p i n
+pub entries_under : (memory memory' : Memory) (p i n : ℕ) → ((e part : ℕ) → e < i + n → memory' (EntryWord p e part) ≡ memory (EntryWord p e part))
+    → entries_from memory' p i n ≡ entries_from memory p i n
 entries_under memory memory' p i zero same = refl
 entries_under memory memory' p i (suc n) same =
     let here = entry_same memory memory' p i (λ part. same i part (omega arith)) in
@@ -47,35 +49,44 @@ module _ (k k' : Known) (p n : ℕ) (e : Entry) (changes : Changes (IsOfEntry p 
       let more : n + 1 ≡ suc n = omega arith in
       let at : 0 + n ≡ n = omega arith in
       ap (entries_from (row_of k') p 0) more ∙ entries_more (row_of k') p 0 n
-      ∙ ap (λ (l : List Entry). l ++ entry_in (row_of k') p (0 + n) ∷ []) (entries_under (row_of k) (row_of k') p 0 n (λ i part lt. stays_under i part (omega arith)))
+      ∙ ap (λ (l : List Entry). l ++ entry_in (row_of k') p (0 + n) ∷ [])
+      (entries_under (row_of k) (row_of k') p 0 n (λ i part lt. stays_under i part (omega arith)))
       ∙ ap (λ (j : ℕ). entries_from (row_of k) p 0 n ++ entry_in (row_of k') p j ∷ []) at
       ∙ ap (λ (x : Entry). entries_from (row_of k) p 0 n ++ x ∷ []) made
 
-  canonical_now : is_canonical (row_of k') p n ≡ true → passes_from (is_canonical (row_of k) p) 0 n ≡ true → passes_from (is_canonical (row_of k') p) 0 (n + 1) ≡ true
+  canonical_now : is_canonical (row_of k') p n ≡ true → passes_from (is_canonical (row_of k) p) 0 n ≡ true
+      → passes_from (is_canonical (row_of k') p) 0 (n + 1) ≡ true
   canonical_now here before = passes_if (is_canonical (row_of k') p) 0 (n + 1) (λ i from until. elim (cases_eq i n) [
     | inl last ↦ ap (is_canonical (row_of k') p) last ∙ here
-    | inr other ↦ entry_canonical (row_of k) (row_of k') p i (λ part. stays_under i part (omega arith)) ∙ passes_at (is_canonical (row_of k) p) 0 n i before (omega arith) (omega arith)
+    | inr other ↦ entry_canonical (row_of k) (row_of k') p i (λ part. stays_under i part (omega arith))
+        ∙ passes_at (is_canonical (row_of k) p) 0 n i before (omega arith) (omega arith)
   ])
 
 -- ---- what is left after it
 
 module _ (k : Known) (o : Output) (e : Entry) (rest all : List Entry) (is_kept : Bool) (settled : Option ℕ)
-    (keeps : (rest : List Entry) → kept_after o.settled o.floor o.to_level_one (e ∷ rest) ≡ cond is_kept (e ∷ kept_after settled o.floor o.to_level_one rest) (kept_after settled o.floor o.to_level_one rest))
+    (keeps : (rest : List Entry)
+    → kept_after o.settled o.floor o.to_level_one (e ∷ rest)
+    ≡ cond is_kept (e ∷ kept_after settled o.floor o.to_level_one rest) (kept_after settled o.floor o.to_level_one rest))
     (before : LeavesOff k o (e ∷ rest) all) where
   pub left_out : is_kept ≡ false → LeavesOff k (record o { settled = settled }) rest all
   left_out not = record {
-    split = rest_dropped o.settled settled o.floor o.to_level_one is_kept e (e ∷ rest) rest (entries_from (row_of k) o.place 0 o.count) (entries_from (row_of k) o.place 0 o.count) all refl keeps before.split not refl;
+    split = rest_dropped o.settled settled o.floor o.to_level_one is_kept e (e ∷ rest) rest (entries_from (row_of k) o.place 0 o.count)
+        (entries_from (row_of k) o.place 0 o.count) all refl keeps before.split not refl;
     canonical = before.canonical;
   }
 
   pub more_to_keep : is_kept ≡ true → o.count < length all
   more_to_keep kept =
       let n = length-entries (row_of k) o.place 0 o.count in
-      let more = more_than o.settled settled o.floor o.to_level_one is_kept e (e ∷ rest) rest (entries_from (row_of k) o.place 0 o.count) (entries_from (row_of k) o.place 0 o.count) all refl keeps before.split kept in
+      let more = more_than o.settled settled o.floor o.to_level_one is_kept e (e ∷ rest) rest (entries_from (row_of k) o.place 0 o.count)
+      (entries_from (row_of k) o.place 0 o.count) all refl keeps before.split kept in
       omega arith
 
-  pub put_behind : (k' : Known) → Changes (IsOfEntry o.place o.count) k k' → entry_in (row_of k') o.place o.count ≡ e → is_canonical (row_of k') o.place o.count ≡ true → is_kept ≡ true → LeavesOff k' (record o { count = o.count + 1; settled = settled }) rest all
+  pub put_behind : (k' : Known) → Changes (IsOfEntry o.place o.count) k k' → entry_in (row_of k') o.place o.count ≡ e
+      → is_canonical (row_of k') o.place o.count ≡ true → is_kept ≡ true → LeavesOff k' (record o { count = o.count + 1; settled = settled }) rest all
   put_behind k' changes made canonical kept = record {
-    split = rest_kept o.settled settled o.floor o.to_level_one is_kept e (e ∷ rest) rest (entries_from (row_of k) o.place 0 o.count) (entries_from (row_of k') o.place 0 (o.count + 1)) all refl keeps before.split kept (entries_now k k' o.place o.count e changes made);
+    split = rest_kept o.settled settled o.floor o.to_level_one is_kept e (e ∷ rest) rest (entries_from (row_of k) o.place 0 o.count)
+        (entries_from (row_of k') o.place 0 (o.count + 1)) all refl keeps before.split kept (entries_now k k' o.place o.count e changes made);
     canonical = canonical_now k k' o.place o.count e changes made canonical before.canonical;
   }

@@ -16,7 +16,8 @@ part_stays : (k k' : Known) (p i a b : ℕ) → (a ≡ b → ⊥) → Changes (I
 part_stays k k' p i a b ne changes = changes.stays (EntryWord p i b) tt (other_part p i a b ne)
 
 -- the words of the value, then its length, the time and the key
-module _ (valued sized timed keyed : Known) (p i : ℕ) (e : Entry) (words : (j : ℕ) → j < 8 → row_of valued (EntryWord p i (3 + j)) ≡ get_or (value_list e.value) j 0) (few : length (value_list e.value) ≤ 8)
+module _ (valued sized timed keyed : Known) (p i : ℕ) (e : Entry)
+    (words : (j : ℕ) → j < 8 → row_of valued (EntryWord p i (3 + j)) ≡ get_or (value_list e.value) j 0) (few : length (value_list e.value) ≤ 8)
     (size : Changes (IsPart p i 2) valued sized) (length_made : row_of sized (EntryWord p i 2) ≡ length (value_list e.value))
     (time : Changes (IsPart p i 1) sized timed) (time_made : row_of timed (EntryWord p i 1) ≡ spelling e)
     (key : Changes (IsPart p i 0) timed keyed) (key_made : row_of keyed (EntryWord p i 0) ≡ e.key) where
@@ -25,6 +26,7 @@ module _ (valued sized timed keyed : Known) (p i : ℕ) (e : Entry) (words : (j 
     key = key_made;
     time = part_stays timed keyed p i 0 1 (λ e. omega arith) key ∙ time_made;
     counted = part_stays timed keyed p i 0 2 (λ e. omega arith) key ∙ part_stays sized timed p i 1 2 (λ e. omega arith) time ∙ length_made;
-    words = λ j lt. part_stays timed keyed p i 0 (3 + j) (λ e. omega arith) key ∙ part_stays sized timed p i 1 (3 + j) (λ e. omega arith) time ∙ part_stays valued sized p i 2 (3 + j) (λ e. omega arith) size ∙ words j lt;
+    words = λ j lt. part_stays timed keyed p i 0 (3 + j) (λ e. omega arith) key ∙ part_stays sized timed p i 1 (3 + j) (λ e. omega arith) time
+        ∙ part_stays valued sized p i 2 (3 + j) (λ e. omega arith) size ∙ words j lt;
     few = few;
   }

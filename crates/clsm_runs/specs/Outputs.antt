@@ -45,7 +45,8 @@ pub record IsTaken (rows : List (List Entry)) (w : Winner) (e : Entry) : Type 0 
 -- the next entry of the rows by rising key is taken, or there is none
 abbrev pub IsNextOf : List (List Entry) → List Cursor → List Cursor → Option Winner → Type 0
 IsNextOf rows before after None = rests rows before ≡ []
-IsNextOf rows before after (Some w) = (e : Entry) × (merged (rests rows before) ≡ e ∷ merged (rests rows after)) × IsTaken rows w e × (e.time < 2 ^ 62) × (w.row < 5)
+IsNextOf rows before after (Some w) = (e : Entry) × (merged (rests rows before) ≡ e ∷ merged (rests rows after)) × IsTaken rows w e × (e.time < 2 ^ 62)
+    × (w.row < 5)
 
 -- the walk has yielded so many of the epoch's writes
 abbrev pub IsWalkedTo : Known → FrozenWalk → ℕ → Type 0

@@ -61,7 +61,8 @@ ComesEarlier key until e = (e.key < key) ⊎ ((e.key ≡ key) × (until ≤ e.ti
 -- with this time word, or behind each of the key
 abbrev pub IsSide : Memory → ℕ → ℕ → ℕ → ℕ → Side → Type 0
 IsSide memory place entry key until (Before found) = ComesEarlier key until (entry_in memory place entry)
-IsSide memory place entry key until (Hit spelled) = (memory (EntryWord place entry 0) ≡ key) × (memory (EntryWord place entry 1) ≡ spelled) × ((entry_in memory place entry).time < until)
+IsSide memory place entry key until (Hit spelled) = (memory (EntryWord place entry 0) ≡ key) × (memory (EntryWord place entry 1) ≡ spelled)
+    × ((entry_in memory place entry).time < until)
 IsSide memory place entry key until (Behind found) = key < memory (EntryWord place entry 0)
 
 -- the entry high is of the key, and this is its time word, or no entry from there on is
@@ -80,7 +81,8 @@ pub record IsSpan (k : Known) (place key until : ℕ) (span : Span) : Type 0 whe
 -- the first entry of the key with a time below until, by its number and its time word
 abbrev pub IsPosition : Known → ℕ → ℕ → ℕ → Option (ℕ × ℕ) → Type 0
 IsPosition k place key until None = first_below (run_at k place) key until ≡ None
-IsPosition k place key until (Some hit) = (hit.0 < count_of k place) × (entry_word k place hit.0 0 ≡ key) × (entry_word k place hit.0 1 ≡ hit.1) × (first_below (run_at k place) key until ≡ Some (entry_in (row_of k) place hit.0))
+IsPosition k place key until (Some hit) = (hit.0 < count_of k place) × (entry_word k place hit.0 0 ≡ key) × (entry_word k place hit.0 1 ≡ hit.1)
+    × (first_below (run_at k place) key until ≡ Some (entry_in (row_of k) place hit.0))
 
 -- ---- a search of run after run
 

@@ -16,8 +16,10 @@ use Rattle.clsm_runs.specs.Searching.{HasEntry, IsSearchable, entry_word}
 
 -- ---- what a caller's seat reads
 
-word_stays : (k k' : Known) (component place : ℕ) (word : Word) → Looks k k' → IsSearchable k component place → IsNamedWord component word → row_of k' word ≡ row_of k word
-word_stays k k' component place word looks run named = (looks.reads.seat.runs component run.held (ap (λ (v : View). v.held) looks.reads.view ∙ run.held)).1 word named
+word_stays : (k k' : Known) (component place : ℕ) (word : Word) → Looks k k' → IsSearchable k component place → IsNamedWord component word
+    → row_of k' word ≡ row_of k word
+word_stays k k' component place word looks run named =
+    (looks.reads.seat.runs component run.held (ap (λ (v : View). v.held) looks.reads.view ∙ run.held)).1 word named
 
 pub place_stays : (k k' : Known) (component place : ℕ) → Looks k k' → IsSearchable k component place → SamePlace (row_of k) (row_of k') place
 place_stays k k' component place looks run = record {
@@ -25,7 +27,8 @@ place_stays k k' component place looks run = record {
   words = λ entry part. word_stays k k' component place (EntryWord place entry part) looks run (tt, run.named);
 }
 
-pub entry_in_stays : (k k' : Known) (component place entry : ℕ) → Looks k k' → IsSearchable k component place → entry_in (row_of k') place entry ≡ entry_in (row_of k) place entry
+pub entry_in_stays : (k k' : Known) (component place entry : ℕ) → Looks k k' → IsSearchable k component place
+    → entry_in (row_of k') place entry ≡ entry_in (row_of k) place entry
 entry_in_stays k k' component place entry looks run = entry_same (row_of k) (row_of k') place entry ((place_stays k k' component place looks run).words entry)
 
 pub has_stays : (k k' : Known) (component place entry : ℕ) → Looks k k' → HasEntry k component place entry → HasEntry k' component place entry
@@ -34,8 +37,10 @@ has_stays k k' component place entry looks has = record {
   inside = subst (λ (n : ℕ). entry < n) (sym (place_stays k k' component place looks has.run).count) has.inside;
 }
 
-pub valued_stays : (k k' : Known) (component place entry : ℕ) → Looks k k' → IsSearchable k component place → entry_word k place entry 1 % 2 ≢ 1 → entry_word k' place entry 1 % 2 ≢ 1
-valued_stays k k' component place entry looks run valued = subst (λ (x : ℕ). x % 2 ≢ 1) (sym ((place_stays k k' component place looks run).words entry 1)) valued
+pub valued_stays : (k k' : Known) (component place entry : ℕ) → Looks k k' → IsSearchable k component place → entry_word k place entry 1 % 2 ≢ 1
+    → entry_word k' place entry 1 % 2 ≢ 1
+valued_stays k k' component place entry looks run valued =
+    subst (λ (x : ℕ). x % 2 ≢ 1) (sym ((place_stays k k' component place looks run).words entry 1)) valued
 
 -- ---- what the merger reads
 

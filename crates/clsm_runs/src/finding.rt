@@ -7,7 +7,7 @@ ghost use Rattle.clsm_words.specs.Keeping.{LooksAside};
 ghost use Rattle.clsm_words.specs.Plays.{IsSeatOf};
 ghost use Rattle.clsm_runs.specs.Searching.{HasEntry, IsPosition, IsSearchable, IsSide, StandsFrom};
 
-use crate::reading::{KEY, TIME, count, entry, part};
+use crate::entry::{HeldEntry, HeldRun, KEY, TIME, count, entry, part};
 use crate::side::{Side, Span, Turn};
 use clsm_levels::Entry;
 use clsm_model::Time;
@@ -18,26 +18,24 @@ use clsm_words::{Pace, RawSeat, Words};
 fn compare<P: Pace>(
     words: &Words<P>,
     seat: &mut RawSeat,
-    component: u64,
-    place: u64,
-    entry: u64,
+    at: HeldEntry,
     key: u64,
     until: Time,
 ) -> Side
     requires of { IsSeatOf words.now seat.old }
-    requires has { HasEntry seat.old.knows component place entry }
+    requires has { HasEntry seat.old.knows at.run.component at.run.place at.entry }
     ensures of { IsSeatOf words.now seat.new }
     ensures looks { LooksAside seat.old.knows seat.new.knows }
-    ensures side { IsSide (row_of seat.old.knows) place entry key until result }
+    ensures side { IsSide (row_of seat.old.knows) at.run.place at.entry key until result }
 {
-    let found = part(words, seat, component, place, entry, KEY);
+    let found = part(words, seat, at, KEY);
     if found < key {
         return Side::Before(found);
     }
     if found > key {
         return Side::Behind(found);
     }
-    let spelled = part(words, seat, component, place, entry, TIME);
+    let spelled = part(words, seat, at, TIME);
     if spelled / 2 < until {
         Side::Hit(spelled)
     } else {
@@ -50,25 +48,24 @@ fn compare<P: Pace>(
 pub(crate) fn bound<P: Pace>(
     words: &Words<P>,
     seat: &mut RawSeat,
-    component: u64,
-    place: u64,
+    run: HeldRun,
     key: u64,
     until: Time,
 ) -> Span
     requires of { IsSeatOf words.now seat.old }
-    requires run { IsSearchable seat.old.knows component place }
+    requires run { IsSearchable seat.old.knows run.component run.place }
     ensures of { IsSeatOf words.now seat.new }
     ensures looks { LooksAside seat.old.knows seat.new.knows }
-    ensures stands { StandsFrom seat.old.knows place until key result.low }
-    ensures found { IsPosition seat.old.knows place key until result.hit }
+    ensures stands { StandsFrom seat.old.knows run.place until key result.low }
+    ensures found { IsPosition seat.old.knows run.place key until result.hit }
 {
     seat.show_invariant();
-    let mut span = Span::whole(count(words, seat, component, place));
+    let mut span = Span::whole(count(words, seat, run));
     let mut turn = Turn::Last;
     while span.low < span.high {
         let at = span.next(key, turn);
         turn = turn.next();
-        match compare(words, seat, component, place, at, key, until) {
+        match compare(words, seat, HeldEntry { run, entry: at }, key, until) {
             Side::Before(found) => (span.low, span.low_key) = (at + 1, found),
             Side::Hit(spelled) => {
                 (span.high, span.high_key, span.hit) = (at, key, Some((at, spelled)));
@@ -79,27 +76,26 @@ pub(crate) fn bound<P: Pace>(
     span
 }
 
-/// The first entry of the key with a time below `until` in the run at the place, which the held
-/// component names. The run's last and first keys may exclude the key; else the search guesses by
-/// how evenly the keys stand, and halves in turn. As in LevelDB the newest entry of a key stands
-/// first, so it is the newest version below `until`; a removal is found as an entry without a
-/// value. Only the found entry's value is read. It never waits, takes no memory and is never
-/// refused.
+/// The first entry of the key with a time below `until` in the run, which the held component
+/// names. The run's last and first keys may exclude the key; else the search guesses by how evenly
+/// the keys stand, and halves in turn. As in LevelDB the newest entry of a key stands first, so it
+/// is the newest version below `until`; a removal is found as an entry without a value. Only the
+/// found entry's value is read. It never waits, takes no memory and is never refused.
 pub fn find<P: Pace>(
     words: &Words<P>,
     seat: &mut RawSeat,
-    component: u64,
-    place: u64,
+    run: HeldRun,
     key: u64,
     until: Time,
 ) -> Option<Entry>
     requires of { IsSeatOf words.now seat.old }
-    requires held { seat.old.knows.view.held ≡ Some component }
-    requires named { is_named component place ≡ true }
+    requires held { seat.old.knows.view.held ≡ Some run.component }
+    requires named { is_named run.component run.place ≡ true }
     ensures of { IsSeatOf words.now seat.new }
     ensures looks { LooksAside seat.old.knows seat.new.knows }
-    ensures found { result ≡ first_below (entries_in (row_of seat.old.knows) place) key until }
+    ensures found { result ≡ first_below (entries_in (row_of seat.old.knows) run.place) key until }
 {
-    let (number, spelled) = bound(words, seat, component, place, key, until).hit?;
-    Some(entry(words, seat, component, place, number, key, spelled))
+    let (number, spelled) = bound(words, seat, run, key, until).hit?;
+    let at = HeldEntry { run, entry: number };
+    Some(entry(words, seat, at, key, spelled))
 }

@@ -2,17 +2,18 @@
 //! and merged.
 #![tactic(auto)]
 
+mod entry;
 mod finding;
 mod merging;
 mod output;
 mod passing;
-mod reading;
 mod rows;
 mod searching;
 mod side;
 mod sources;
 mod writing;
 
+pub use entry::HeldRun;
 pub use finding::find;
 pub use merging::{RunFull, merge};
 pub use passing::{Passed, next, seek, value};

@@ -11,6 +11,7 @@ ghost use Rattle.clsm_runs.specs.Outputs.{HasWritten, IsOutput, IsSameOutput, Is
 ghost use Rattle.clsm_words.specs.Changing.{Changes};
 ghost use Rattle.clsm_runs.specs.Placing.{IsOfPlace, rows_of};
 
+use crate::entry::PlacedEntry;
 use crate::output::Output;
 use crate::rows::{Winner, next, open_cursors, value};
 use crate::writing::write_entry;
@@ -78,8 +79,12 @@ fn take<P: Pace>(
     ensures changes { Changes (IsOfPlace output.old.place) merger.old.knows merger.new.knows }
     ensures output { IsOutput merger.new.knows output.new }
     ensures same { IsSameOutput output.old output.new }
-    ensures goes_on { OnOk result ((e : Entry) (rest all : List Entry) → IsTaken (rows_of merger.old.knows) winner.now e → LeavesOff merger.old.knows output.old (e ∷ rest) all → LeavesOff merger.new.knows output.new rest all) }
-    ensures full { IfErr result (λ refusal. (e : Entry) (rest all : List Entry) → IsTaken (rows_of merger.old.knows) winner.now e → LeavesOff merger.old.knows output.old (e ∷ rest) all → output.old.room < length all) }
+    ensures goes_on { OnOk result
+        ((e : Entry) (rest all : List Entry) → IsTaken (rows_of merger.old.knows) winner.now e → LeavesOff merger.old.knows output.old (e ∷ rest) all
+        → LeavesOff merger.new.knows output.new rest all) }
+    ensures full { IfErr result
+        (λ refusal. (e : Entry) (rest all : List Entry) → IsTaken (rows_of merger.old.knows) winner.now e → LeavesOff merger.old.knows output.old (e ∷ rest) all
+        → output.old.room < length all) }
 {
     let version = winner.version;
     let (is_kept, settled) = judge(output.settled, version, output.floor, output.to_level_one);
@@ -92,7 +97,11 @@ fn take<P: Pace>(
     }
     let value = value(words, merger, merges, winner);
     let entry = entry_with(&version, value);
-    write_entry(words, merger, output.place, output.count, &entry);
+    let at = PlacedEntry {
+        place: output.place,
+        entry: output.count,
+    };
+    write_entry(words, merger, at, &entry);
     output.count += 1;
     output.settled = settled;
     Ok(())

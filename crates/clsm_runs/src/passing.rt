@@ -10,31 +10,30 @@ ghost use Rattle.clsm_words.specs.declared.known.Known.{Known};
 ghost use Rattle.clsm_runs.specs.Passing.{IsPassed, passed_entry};
 ghost use Rattle.clsm_runs.specs.Searching.{StandsFrom, run_at};
 
+use crate::entry::{HeldEntry, HeldRun, KEY, TIME, count, part};
 use crate::finding::bound;
-use crate::reading::{HeldEntry, KEY, TIME, count, part};
 use clsm_model::{Time, Value};
 use clsm_words::{Pace, RawSeat, Words, load_value};
 
-/// Where a passage of the run at the place begins, which the held component names: at the first
-/// entry of the key with a time below `until`; where there is none, at the first of a greater key,
-/// or at the run's end. The search is that of `find`, and no value is read. It never waits, takes
+/// Where a passage of the run begins, which the held component names: at the first entry of the key
+/// with a time below `until`; where there is none, at the first of a greater key, or at the run's
+/// end. The search is that of `find`, and no value is read. It never waits, takes
 /// no memory and is never refused.
 pub fn seek<P: Pace>(
     words: &Words<P>,
     seat: &mut RawSeat,
-    component: u64,
-    place: u64,
+    run: HeldRun,
     key: u64,
     until: Time,
 ) -> u64
     requires of { IsSeatOf words.now seat.old }
-    requires held { seat.old.knows.view.held ≡ Some component }
-    requires named { is_named component place ≡ true }
+    requires held { seat.old.knows.view.held ≡ Some run.component }
+    requires named { is_named run.component run.place ≡ true }
     ensures of { IsSeatOf words.now seat.new }
     ensures looks { LooksAside seat.old.knows seat.new.knows }
-    ensures stands { StandsFrom seat.old.knows place until key result }
+    ensures stands { StandsFrom seat.old.knows run.place until key result }
 {
-    bound(words, seat, component, place, key, until).low
+    bound(words, seat, run, key, until).low
 }
 
 /// An entry of a run that a passage came by: its number, its key and its time word.
@@ -62,32 +61,32 @@ impl Passed {
 pub fn next<P: Pace>(
     words: &Words<P>,
     seat: &mut RawSeat,
-    component: u64,
-    place: u64,
+    run: HeldRun,
     position: &mut u64,
     from: u64,
     until: Time,
 ) -> Option<Passed>
     requires of { IsSeatOf words.now seat.old }
-    requires held { seat.old.knows.view.held ≡ Some component }
-    requires named { is_named component place ≡ true }
-    requires stands { StandsFrom seat.old.knows place until from position.old }
+    requires held { seat.old.knows.view.held ≡ Some run.component }
+    requires named { is_named run.component run.place ≡ true }
+    requires stands { StandsFrom seat.old.knows run.place until from position.old }
     ensures of { IsSeatOf words.now seat.new }
     ensures looks { LooksAside seat.old.knows seat.new.knows }
-    ensures passed { IfSome result (IsPassed seat.new.knows component place) }
-    ensures next { IsNextFrom (λ key. first_below (run_at seat.old.knows place) key until) from (passed_entry seat.new.knows place result) }
-    ensures stands { StandsFrom seat.old.knows place until (behind from (passed_entry seat.new.knows place result)) position.new }
+    ensures passed { IfSome result (IsPassed seat.new.knows run.component run.place) }
+    ensures next { IsNextFrom (λ key. first_below (run_at seat.old.knows run.place) key until) from (passed_entry seat.new.knows run.place result) }
+    ensures stands { StandsFrom seat.old.knows run.place until (behind from (passed_entry seat.new.knows run.place result)) position.new }
 {
     seat.show_invariant();
-    let count = count(words, seat, component, place);
+    let count = count(words, seat, run);
     while *position < count {
         let number = *position;
         *position += 1;
-        let key = part(words, seat, component, place, number, KEY);
+        let at = HeldEntry { run, entry: number };
+        let key = part(words, seat, at, KEY);
         if key < from {
             continue;
         }
-        let spelled = part(words, seat, component, place, number, TIME);
+        let spelled = part(words, seat, at, TIME);
         if spelled / 2 < until {
             return Some(Passed {
                 number,
@@ -101,25 +100,14 @@ pub fn next<P: Pace>(
 
 /// The value of an entry that was passed, which is no removal. It never waits, takes no memory and
 /// is never refused.
-pub fn value<P: Pace>(
-    words: &Words<P>,
-    seat: &mut RawSeat,
-    component: u64,
-    place: u64,
-    passed: &Passed,
-) -> Value
+pub fn value<P: Pace>(words: &Words<P>, seat: &mut RawSeat, run: HeldRun, passed: &Passed) -> Value
     requires of { IsSeatOf words.now seat.old }
-    requires passed { IsPassed seat.old.knows component place passed.now }
-    requires sets { is_some (entry_in (row_of seat.old.knows) place passed.now.number).value ≡ true }
+    requires passed { IsPassed seat.old.knows run.component run.place passed.now }
+    requires sets { is_some (entry_in (row_of seat.old.knows) run.place passed.now.number).value ≡ true }
     ensures of { IsSeatOf words.now seat.new }
     ensures looks { LooksAside seat.old.knows seat.new.knows }
-    ensures told { (entry_in (row_of seat.old.knows) place passed.now.number).value ≡ Some result }
+    ensures told { (entry_in (row_of seat.old.knows) run.place passed.now.number).value ≡ Some result }
 {
     let entry = passed.number;
-    let at = HeldEntry {
-        component,
-        place,
-        entry,
-    };
-    load_value(words, seat, &at)
+    load_value(words, seat, &HeldEntry { run, entry })
 }

@@ -12,6 +12,7 @@ ghost use Rattle.clsm_words.specs.Changing.{Changes, NoWord};
 ghost use Rattle.clsm_runs.specs.Placing.{rows_of};
 ghost use Rattle.clsm_runs.specs.Searching.{run_at};
 
+use crate::entry::PlacedEntry;
 use crate::sources::{value as entry_value, version};
 use clsm_law::{Word, level_one_place};
 use clsm_levels::{Cursor, Version, is_to_level_one, least};
@@ -31,26 +32,25 @@ pub(crate) struct Winner {
     pub(crate) version: Version,
 }
 
-/// The entry with this number of the run at the place without its value, if it has so many.
+/// The entry there without its value, if the run has so many.
 fn version_at<P: Pace>(
     words: &Words<P>,
     merger: &mut RawMerger,
     merges: u64,
-    place: u64,
-    number: u64,
+    at: PlacedEntry,
 ) -> Option<Version>
     requires of { IsSeatOf words.now merger.old }
     requires merging { IsFrozenBehind merger.old.knows merges }
-    requires named { is_named merger.old.knows.merger.merged place ≡ true }
-    requires there { place < 5 }
+    requires named { is_named merger.old.knows.merger.merged at.place ≡ true }
+    requires there { at.place < 5 }
     ensures of { IsSeatOf words.now merger.new }
     ensures looks { Changes NoWord merger.old.knows merger.new.knows }
-    ensures head { result ≡ version_in (first_of (drop number (run_at merger.old.knows place))) }
+    ensures head { result ≡ version_in (first_of (drop at.entry (run_at merger.old.knows at.place))) }
 {
     merger.show_invariant();
-    let count = words.look_as_merger(merger, Word::Count(place));
-    if number < count {
-        Some(version(words, merger, place, number))
+    let count = words.look_as_merger(merger, Word::Count(at.place));
+    if at.entry < count {
+        Some(version(words, merger, at))
     } else {
         None
     }
@@ -88,7 +88,8 @@ fn run_head<P: Pace>(
     ensures head { result ≡ version_in (first_of (drop position (row_at (rows_of merger.old.knows) row))) }
 {
     let place = place_of_row(merges, row)?;
-    version_at(words, merger, merges, place, position)
+    let entry = position;
+    version_at(words, merger, merges, PlacedEntry { place, entry })
 }
 
 /// A cursor at the position of a row behind the first.
@@ -244,5 +245,6 @@ pub(crate) fn value<P: Pace>(
     }
     let place = place_of_row(merges, winner.row)?;
     let removes = winner.version.is_removal;
-    entry_value(words, merger, place, winner.position, removes)
+    let entry = winner.position;
+    entry_value(words, merger, PlacedEntry { place, entry }, removes)
 }

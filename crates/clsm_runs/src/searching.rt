@@ -6,6 +6,7 @@ ghost use Rattle.clsm_words.specs.Knowing.{row_of};
 ghost use Rattle.clsm_words.specs.Keeping.{LooksAside};
 ghost use Rattle.clsm_words.specs.Plays.{IsSeatOf};
 
+use crate::entry::HeldRun;
 use crate::finding::find;
 use clsm_law::level_one_place;
 use clsm_levels::{Entry, level_zero_runs};
@@ -30,10 +31,11 @@ pub fn search<P: Pace>(
     ensures found { result ≡ first_in_runs (runs_of (row_of seat.old.knows) component) key until }
 {
     for place in (0..level_zero_runs(component)).rev() {
-        if let Some(entry) = find(words, seat, component, place, key, until) {
+        let run = HeldRun { component, place };
+        if let Some(entry) = find(words, seat, run, key, until) {
             return Some(entry);
         }
     }
     let place = level_one_place(component);
-    find(words, seat, component, place, key, until)
+    find(words, seat, HeldRun { component, place }, key, until)
 }

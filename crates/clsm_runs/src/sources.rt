@@ -13,34 +13,30 @@ ghost use Rattle.clsm_runs.specs.Placing.{IsMergedEntry};
 ghost use Rattle.clsm_runs.specs.Searching.{entry_word};
 ghost use Rattle.clsm_runs.specs.Staying.{merged_entry_stays, merged_stays, merged_valued_stays};
 
-use crate::reading::{KEY, LENGTH, TIME, VALUE};
+use crate::entry::{KEY, LENGTH, PlacedEntry, TIME, VALUE};
 use clsm_law::Word;
 use clsm_levels::Version;
 use clsm_model::Value;
 use clsm_words::{Load, Pace, RawMerger, Words, load_value};
 
 /// One of the words of the entry.
-fn part<P: Pace>(words: &Words<P>, merger: &mut RawMerger, place: u64, entry: u64, part: u64) -> u64
+fn part<P: Pace>(words: &Words<P>, merger: &mut RawMerger, at: PlacedEntry, part: u64) -> u64
     requires of { IsSeatOf words.now merger.old }
-    requires has { IsMergedEntry merger.old.knows place entry }
+    requires has { IsMergedEntry merger.old.knows at.place at.entry }
     requires inside { part < 11 }
     ensures of { IsSeatOf words.now merger.new }
     ensures looks { Changes NoWord merger.old.knows merger.new.knows }
-    ensures told { result ≡ entry_word merger.old.knows place entry part }
+    ensures told { result ≡ entry_word merger.old.knows at.place at.entry part }
 {
     merger.show_invariant();
+    let PlacedEntry { place, entry } = at;
     words.look_as_merger(merger, Word::Entry { place, entry, part })
 }
 
-/// An entry that is no removal, of a merged run.
-#[derive(Clone, Copy)]
-struct MergedEntry {
-    place: u64,
-    entry: u64,
-}
-
-impl Load<RawMerger> for MergedEntry {
-    ghost stands = { λ words merger at. IsSeatOf words merger × IsMergedEntry merger.knows at.place at.entry × (entry_word merger.knows at.place at.entry 1 % 2 ≢ 1) };
+/// The value of an entry that is no removal, of a merged run.
+impl Load<RawMerger> for PlacedEntry {
+    ghost stands = { λ words merger at. IsSeatOf words merger × IsMergedEntry merger.knows at.place at.entry
+        × (entry_word merger.knows at.place at.entry 1 % 2 ≢ 1) };
 
     ghost value = { λ merger at. (entry_in (row_of merger.knows) at.place at.entry).value };
 
@@ -49,36 +45,35 @@ impl Load<RawMerger> for MergedEntry {
     #[inline]
     fn length<P: Pace>(&self, words: &Words<P>, merger: &mut RawMerger) -> usize {
         merger.show_invariant();
-        part(words, merger, self.place, self.entry, LENGTH) as usize
+        part(words, merger, *self, LENGTH) as usize
     }
 
     #[inline]
     fn word<P: Pace>(&self, words: &Words<P>, merger: &mut RawMerger, index: usize) -> u64 {
-        part(words, merger, self.place, self.entry, VALUE + index as u64)
+        part(words, merger, *self, VALUE + index as u64)
     }
 
-    ghost stands_on = { λ words a b at is looks. (looks.0, merged_stays a.knows b.knows at.place at.entry looks.1 is.1, merged_valued_stays a.knows b.knows at.place at.entry looks.1 is.2) };
+    ghost stands_on = { λ words a b at is looks. (
+      looks.0,
+      merged_stays a.knows b.knows at.place at.entry looks.1 is.1,
+      merged_valued_stays a.knows b.knows at.place at.entry looks.1 is.2,
+    ) };
 
     ghost value_stays = { λ words a b at is looks. ap (λ (e : Entry). e.value) (merged_entry_stays a.knows b.knows at.place at.entry looks.1) };
 
     ghost looks_on = { λ words a b c first then. (then.0, changes_trans NoWord a.knows b.knows c.knows first.1 then.1) };
 }
 
-/// The entry with this number of the run at the place, without its value.
-pub(crate) fn version<P: Pace>(
-    words: &Words<P>,
-    merger: &mut RawMerger,
-    place: u64,
-    entry: u64,
-) -> Version
+/// The entry there, without its value.
+pub(crate) fn version<P: Pace>(words: &Words<P>, merger: &mut RawMerger, at: PlacedEntry) -> Version
     requires of { IsSeatOf words.now merger.old }
-    requires has { IsMergedEntry merger.old.knows place entry }
+    requires has { IsMergedEntry merger.old.knows at.place at.entry }
     ensures of { IsSeatOf words.now merger.new }
     ensures looks { Changes NoWord merger.old.knows merger.new.knows }
-    ensures told { result ≡ version_of (entry_in (row_of merger.old.knows) place entry) }
+    ensures told { result ≡ version_of (entry_in (row_of merger.old.knows) at.place at.entry) }
 {
-    let key = part(words, merger, place, entry, KEY);
-    let spelled = part(words, merger, place, entry, TIME);
+    let key = part(words, merger, at, KEY);
+    let spelled = part(words, merger, at, TIME);
     Version {
         key,
         time: spelled / 2,
@@ -90,19 +85,18 @@ pub(crate) fn version<P: Pace>(
 pub(crate) fn value<P: Pace>(
     words: &Words<P>,
     merger: &mut RawMerger,
-    place: u64,
-    entry: u64,
+    at: PlacedEntry,
     removes: bool,
 ) -> Option<Value>
     requires of { IsSeatOf words.now merger.old }
-    requires has { IsMergedEntry merger.old.knows place entry }
-    requires removes { is_removal (entry_in (row_of merger.old.knows) place entry) ≡ removes }
+    requires has { IsMergedEntry merger.old.knows at.place at.entry }
+    requires removes { is_removal (entry_in (row_of merger.old.knows) at.place at.entry) ≡ removes }
     ensures of { IsSeatOf words.now merger.new }
     ensures looks { Changes NoWord merger.old.knows merger.new.knows }
-    ensures told { result ≡ (entry_in (row_of merger.old.knows) place entry).value }
+    ensures told { result ≡ (entry_in (row_of merger.old.knows) at.place at.entry).value }
 {
     if removes {
         return None;
     }
-    Some(load_value(words, merger, &MergedEntry { place, entry }))
+    Some(load_value(words, merger, &at))
 }

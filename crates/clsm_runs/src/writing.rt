@@ -8,7 +8,7 @@ ghost use Rattle.clsm_words.specs.Plays.{IsSeatOf};
 ghost use Rattle.clsm_words.specs.Changing.{Changes, NoWord};
 ghost use Rattle.clsm_runs.specs.Placing.{MayWriteInto, IsOfEntry, IsPart, spelling, value_list};
 
-use crate::reading::{KEY, LENGTH, TIME, VALUE};
+use crate::entry::{KEY, LENGTH, PlacedEntry, TIME, VALUE};
 use clsm_law::Word;
 use clsm_levels::Entry;
 use clsm_words::{Pace, RawMerger, Words};
@@ -17,33 +17,34 @@ use clsm_words::{Pace, RawMerger, Words};
 fn write_part<P: Pace>(
     words: &Words<P>,
     merger: &mut RawMerger,
-    place: u64,
-    entry: u64,
+    at: PlacedEntry,
     part: u64,
     word: u64,
 )
     requires of { IsSeatOf words.now merger.old }
-    requires free { MayWriteInto merger.old.knows place entry }
+    requires free { MayWriteInto merger.old.knows at.place at.entry }
     requires inside { part < 11 }
     ensures of { IsSeatOf words.now merger.new }
-    ensures changes { Changes (IsPart place entry part) merger.old.knows merger.new.knows }
-    ensures made { row_of merger.new.knows (EntryWord place entry part) ≡ word }
+    ensures changes { Changes (IsPart at.place at.entry part) merger.old.knows merger.new.knows }
+    ensures made { row_of merger.new.knows (EntryWord at.place at.entry part) ≡ word }
 {
+    let PlacedEntry { place, entry } = at;
     words.write_run(merger, Word::Entry { place, entry, part }, word);
 }
 
 /// One of the words of the entry.
-fn part<P: Pace>(words: &Words<P>, merger: &mut RawMerger, place: u64, entry: u64, part: u64) -> u64
+fn part<P: Pace>(words: &Words<P>, merger: &mut RawMerger, at: PlacedEntry, part: u64) -> u64
     requires of { IsSeatOf words.now merger.old }
-    requires free { MayWriteInto merger.old.knows place entry }
+    requires free { MayWriteInto merger.old.knows at.place at.entry }
     requires inside { part < 11 }
     ensures of { IsSeatOf words.now merger.new }
     ensures looks { Changes NoWord merger.old.knows merger.new.knows }
-    ensures free { MayWriteInto merger.new.knows place entry }
-    ensures told { result ≡ row_of merger.old.knows (EntryWord place entry part) }
-    ensures still { result ≡ row_of merger.new.knows (EntryWord place entry part) }
+    ensures free { MayWriteInto merger.new.knows at.place at.entry }
+    ensures told { result ≡ row_of merger.old.knows (EntryWord at.place at.entry part) }
+    ensures still { result ≡ row_of merger.new.knows (EntryWord at.place at.entry part) }
 {
     merger.show_invariant();
+    let PlacedEntry { place, entry } = at;
     words.look_as_merger(merger, Word::Entry { place, entry, part })
 }
 
@@ -51,41 +52,34 @@ fn part<P: Pace>(words: &Words<P>, merger: &mut RawMerger, place: u64, entry: u6
 fn write_other<P: Pace>(
     words: &Words<P>,
     merger: &mut RawMerger,
-    place: u64,
-    entry: u64,
-    at: u64,
+    at: PlacedEntry,
+    wanted: u64,
     word: u64,
 )
     requires of { IsSeatOf words.now merger.old }
-    requires free { MayWriteInto merger.old.knows place entry }
-    requires inside { at < 11 }
+    requires free { MayWriteInto merger.old.knows at.place at.entry }
+    requires inside { wanted < 11 }
     ensures of { IsSeatOf words.now merger.new }
-    ensures changes { Changes (IsPart place entry at) merger.old.knows merger.new.knows }
-    ensures made { row_of merger.new.knows (EntryWord place entry at) ≡ word }
+    ensures changes { Changes (IsPart at.place at.entry wanted) merger.old.knows merger.new.knows }
+    ensures made { row_of merger.new.knows (EntryWord at.place at.entry wanted) ≡ word }
 {
-    if part(words, merger, place, entry, at) == word {
+    if part(words, merger, at, wanted) == word {
         return;
     }
-    write_part(words, merger, place, entry, at, word);
+    write_part(words, merger, at, wanted, word);
 }
 
 /// Writes the words of the entry's value, and 0 behind them.
-fn write_words<P: Pace>(
-    words: &Words<P>,
-    merger: &mut RawMerger,
-    place: u64,
-    entry: u64,
-    value: &[u64],
-)
+fn write_words<P: Pace>(words: &Words<P>, merger: &mut RawMerger, at: PlacedEntry, value: &[u64])
     requires of { IsSeatOf words.now merger.old }
-    requires free { MayWriteInto merger.old.knows place entry }
+    requires free { MayWriteInto merger.old.knows at.place at.entry }
     ensures of { IsSeatOf words.now merger.new }
-    ensures changes { Changes (IsOfEntry place entry) merger.old.knows merger.new.knows }
-    ensures made { (j : ℕ) → j < 8 → row_of merger.new.knows (EntryWord place entry (3 + j)) ≡ slice_index_or value.now j 0 }
+    ensures changes { Changes (IsOfEntry at.place at.entry) merger.old.knows merger.new.knows }
+    ensures made { (j : ℕ) → j < 8 → row_of merger.new.knows (EntryWord at.place at.entry (3 + j)) ≡ slice_index_or value.now j 0 }
 {
     for index in 0..8_u64 {
         let word = value.get(index as usize).copied().unwrap_or(0);
-        write_other(words, merger, place, entry, VALUE + index, word);
+        write_other(words, merger, at, VALUE + index, word);
     }
 }
 
@@ -108,25 +102,24 @@ fn spelling(entry: &Entry) -> u64
     2 * entry.time + u64::from(entry.value.is_none())
 }
 
-/// Writes the entry with this number.
+/// Writes the entry there.
 pub(crate) fn write_entry<P: Pace>(
     words: &Words<P>,
     merger: &mut RawMerger,
-    place: u64,
-    number: u64,
+    at: PlacedEntry,
     entry: &Entry,
 )
     requires of { IsSeatOf words.now merger.old }
-    requires free { MayWriteInto merger.old.knows place number }
+    requires free { MayWriteInto merger.old.knows at.place at.entry }
     requires early { entry.now.time < 2 ^ 62 }
     ensures of { IsSeatOf words.now merger.new }
-    ensures changes { Changes (IsOfEntry place number) merger.old.knows merger.new.knows }
-    ensures made { entry_in (row_of merger.new.knows) place number ≡ entry.now }
-    ensures canonical { is_canonical (row_of merger.new.knows) place number ≡ true }
+    ensures changes { Changes (IsOfEntry at.place at.entry) merger.old.knows merger.new.knows }
+    ensures made { entry_in (row_of merger.new.knows) at.place at.entry ≡ entry.now }
+    ensures canonical { is_canonical (row_of merger.new.knows) at.place at.entry ≡ true }
 {
     let value = words_of(entry);
-    write_words(words, merger, place, number, value);
-    write_other(words, merger, place, number, LENGTH, value.len() as u64);
-    write_other(words, merger, place, number, TIME, spelling(entry));
-    write_other(words, merger, place, number, KEY, entry.key);
+    write_words(words, merger, at, value);
+    write_other(words, merger, at, LENGTH, value.len() as u64);
+    write_other(words, merger, at, TIME, spelling(entry));
+    write_other(words, merger, at, KEY, entry.key);
 }

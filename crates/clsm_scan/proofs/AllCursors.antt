@@ -31,13 +31,15 @@ both newer older = record { newer = newer; older = older; older_leads = false }
 abbrev pub all_at : ℕ → ℕ → ℕ → ℕ → ℕ → ℕ → AllSources
 all_at component later first second cells until =
     both (epoch_cursor component later second cells until) (both (epoch_cursor component component first cells until)
-    (both (level_zero_cursor component 2 until) (both (level_zero_cursor component 1 until) (both (level_zero_cursor component 0 until) (level_one_cursor component until)))))
+    (both (level_zero_cursor component 2 until)
+    (both (level_zero_cursor component 1 until) (both (level_zero_cursor component 0 until) (level_one_cursor component until)))))
 
 -- they are over the component
 abbrev pub AreOver : Known → AllSources → Type 0
 AreOver k s =
     If (epoch_over k) s.newer × (If (epoch_over k) s.older.newer
-    × (If (run_over k) s.older.older.newer × (If (run_over k) s.older.older.older.newer × (If (run_over k) s.older.older.older.older.newer × run_over k s.older.older.older.older.older))))
+    × (If (run_over k) s.older.older.newer
+    × (If (run_over k) s.older.older.older.newer × (If (run_over k) s.older.older.older.older.newer × run_over k s.older.older.older.older.older))))
 
 -- and find this
 abbrev pub all_found : Known → AllSources → ℕ → Option Entry
@@ -58,7 +60,8 @@ pub record AreComputed (component cells until later first second : ℕ) : Type 0
   pub second_is : second ≡ min (first + cells) 18446744073709551615
   pub later_is : later ≡ min (component + 1) 18446744073709551615
 
-module _ (k : Known) (component until later first second : ℕ) (may : MayScan k component until) (are : AreComputed component k.layout.cells until later first second) where
+module _ (k : Known) (component until later first second : ℕ) (may : MayScan k component until)
+    (are : AreComputed component k.layout.cells until later first second) where
   abbrev cells : ℕ
   cells = k.layout.cells
 
@@ -90,7 +93,10 @@ module _ (k : Known) (component until later first second : ℕ) (may : MayScan k
     over_epoch k component until later second may (λ lt. (first_later lt, inr (next lt))),
     (
       over_epoch k component until component first may (λ lt. (begins lt, inl refl)),
-      (zero_over k component until 2 may.held, (zero_over k component until 1 may.held, (zero_over k component until 0 may.held, one_over k component until may.held))),
+      (
+        zero_over k component until 2 may.held,
+        (zero_over k component until 1 may.held, (zero_over k component until 0 may.held, one_over k component until may.held)),
+      ),
     ),
   )
 
@@ -101,4 +107,5 @@ module _ (k : Known) (component until later first second : ℕ) (may : MayScan k
       ap (λ (o : Option Entry). or_else newer (or_else older o)) (runs_found k component until key)
       ∙ else_else newer older (first_in_runs (runs_of (row_of k) component) key until)
       ∙ ap (λ (o : Option Entry). or_else o (first_in_runs (runs_of (row_of k) component) key until))
-      (epochs_found k component until later first second may begins begins' (let is = are.first_is in let is' = are.second_is in omega arith) (let is = are.first_is in omega arith) (let is = are.first_is in let is' = are.second_is in omega arith) key)
+      (epochs_found k component until later first second may begins begins' (let is = are.first_is in let is' = are.second_is in omega arith)
+      (let is = are.first_is in omega arith) (let is = are.first_is in let is' = are.second_is in omega arith) key)

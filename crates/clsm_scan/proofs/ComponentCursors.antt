@@ -1,5 +1,6 @@
 -- The cursors over a component's runs find together what a search of its runs finds.
-use Rattle.std.proofs.Common.{◌≡◌, ℕ, zero, suc, ◌+◌, ◌/◌, ◌%◌, ◌<◌, ◌≤◌, nat_lt, Bool, true, false, cond, List, refl, sym, ap, ◌∙◌, arith, Option, Some, None, Result, Ok, Err, IfOk}
+use Rattle.std.proofs.Common.{◌≡◌, ℕ, zero, suc, ◌+◌, ◌/◌, ◌%◌, ◌<◌, ◌≤◌, nat_lt, Bool, true, false, cond, List, refl, sym, ap, ◌∙◌, arith, Option, Some}
+use Rattle.std.proofs.Common.{None, Result, Ok, Err, IfOk}
 use Rattle.std.proofs.lemmas.Bool.{ltb-true}
 use Rattle.clsm_model.specs.History.{or_else}
 use Rattle.clsm_model.specs.Map.{Pair}
@@ -21,17 +22,18 @@ use Rattle.clsm_scan.specs.Sources.{level_one_cursor, level_zero_cursor, run_wal
 
 -- what a cursor over a run finds, and that it is over one
 abbrev pub run_found : Known → Ahead RunCursor → ℕ → Option Entry
-run_found k c key = first_below (run_at k c.walk.place) key c.walk.until
+run_found k c key = first_below (run_at k c.walk.run.place) key c.walk.until
 
 abbrev pub run_over : Known → Ahead RunCursor → Type 0
-run_over k c = IsSearchable k c.walk.component c.walk.place × If (IsPassed k c.walk.component c.walk.place) c.walk.last
+run_over k c = IsSearchable k c.walk.run.component c.walk.run.place × If (IsPassed k c.walk.run.component c.walk.run.place) c.walk.last
 
 module _ (k : Known) (component until : ℕ) where
   pub zero_over : (place : ℕ) → k.view.held ≡ Some component → If (run_over k) (level_zero_cursor component place until)
-  zero_over place held = elim (nat_lt place (component % 4)) as (λ (b : Bool). nat_lt place (component % 4) ≡ b → If (run_over k) (cond b (Some (unread (run_walk component place until))) None)) [
-    | true ↦ λ is. (record { held = held; named = names_zero component place (ltb-true place (component % 4) is) }, tt)
-    | false ↦ λ is. tt
-  ] refl
+  zero_over place held = elim (nat_lt place (component % 4)) as (λ (b : Bool). nat_lt place (component % 4) ≡ b
+      → If (run_over k) (cond b (Some (unread (run_walk component place until))) None)) [
+        | true ↦ λ is. (record { held = held; named = names_zero component place (ltb-true place (component % 4) is) }, tt)
+        | false ↦ λ is. tt
+      ] refl
 
   pub one_over : k.view.held ≡ Some component → run_over k (level_one_cursor component until)
   one_over held = (record { held = held; named = names_one component }, tt)
@@ -40,25 +42,34 @@ module _ (k : Known) (component until : ℕ) where
   zero_finds j place key = cond (nat_lt place j) (first_below (run_at k place) key until) None
 
   zero_found : (place key : ℕ) → found_in (run_found k) (level_zero_cursor component place until) key ≡ zero_finds (component % 4) place key
-  zero_found place key = elim (nat_lt place (component % 4)) as (λ (b : Bool). found_in (run_found k) (cond b (Some (unread (run_walk component place until))) None) key ≡ cond b (first_below (run_at k place) key until) None) [ true ↦ refl | false ↦ refl ]
+  zero_found place key = elim (nat_lt place (component % 4)) as (λ (b : Bool). found_in (run_found k)
+      (cond b (Some (unread (run_walk component place until))) None) key ≡ cond b (first_below (run_at k place) key until) None) [ true ↦ refl | false ↦ refl ]
 
   abbrev one_finds : ℕ → Option Entry
   one_finds key = first_below (run_at k (3 + component / 4 % 2)) key until
 
-  all_found : (j key : ℕ) → j < 4 → or_else (zero_finds j 2 key) (or_else (zero_finds j 1 key) (or_else (zero_finds j 0 key) (one_finds key))) ≡ first_in_runs (runs_below (row_of k) component j) key until
+  all_found : (j key : ℕ) → j < 4
+      → or_else (zero_finds j 2 key) (or_else (zero_finds j 1 key) (or_else (zero_finds j 0 key) (one_finds key)))
+      ≡ first_in_runs (runs_below (row_of k) component j) key until
   all_found zero key lt = sym (or_none (one_finds key))
   all_found (suc zero) key lt = ap (or_else (zero_finds 1 0 key)) (sym (or_none (one_finds key)))
   all_found (suc (suc zero)) key lt = ap (λ (o : Option Entry). or_else (zero_finds 2 1 key) (or_else (zero_finds 2 0 key) o)) (sym (or_none (one_finds key)))
-  all_found (suc (suc (suc zero))) key lt = ap (λ (o : Option Entry). or_else (zero_finds 3 2 key) (or_else (zero_finds 3 1 key) (or_else (zero_finds 3 0 key) o))) (sym (or_none (one_finds key)))
+  all_found (suc (suc (suc zero))) key lt =
+      ap (λ (o : Option Entry). or_else (zero_finds 3 2 key) (or_else (zero_finds 3 1 key) (or_else (zero_finds 3 0 key) o))) (sym (or_none (one_finds key)))
   all_found (suc (suc (suc (suc j)))) key lt = absurd (omega arith)
 
-  pub runs_found : (key : ℕ) → or_else (found_in (run_found k) (level_zero_cursor component 2 until) key) (or_else (found_in (run_found k) (level_zero_cursor component 1 until) key) (or_else (found_in (run_found k) (level_zero_cursor component 0 until) key) (run_found k (level_one_cursor component until) key))) ≡ first_in_runs (runs_of (row_of k) component) key until
+  pub runs_found : (key : ℕ)
+      → or_else (found_in (run_found k) (level_zero_cursor component 2 until) key)
+      (or_else (found_in (run_found k) (level_zero_cursor component 1 until) key)
+      (or_else (found_in (run_found k) (level_zero_cursor component 0 until) key) (run_found k (level_one_cursor component until) key)))
+      ≡ first_in_runs (runs_of (row_of k) component) key until
   runs_found key = rw (zero_found 2 key, zero_found 1 key, zero_found 0 key) (all_found (component % 4) key (omega arith))
 
 -- ---- rows of what is found
 
 -- what is found between the bounds decides what is collected
-pub collected_same : (value value' : ℕ → Option (List ℕ)) (lo hi : ℕ) (max : Option ℕ) (rows : List Pair) (more : Option ℕ) → ((k : ℕ) → lo ≤ k → k ≤ hi → value' k ≡ value k) → IsCollected value lo hi max rows more → IsCollected value' lo hi max rows more
+pub collected_same : (value value' : ℕ → Option (List ℕ)) (lo hi : ℕ) (max : Option ℕ) (rows : List Pair) (more : Option ℕ)
+    → ((k : ℕ) → lo ≤ k → k ≤ hi → value' k ≡ value k) → IsCollected value lo hi max rows more → IsCollected value' lo hi max rows more
 collected_same value value' lo hi max rows None same is =
     let all = is.0 in
     (record { rise = all.rise; inside = λ k above below. all.inside k above below ∙ sym (same k above below); below = all.below; above = all.above }, is.1)
@@ -66,7 +77,13 @@ collected_same value value' lo hi max rows (Some more) same is =
     let gives = is.gives in
     let until = is.until in
     record {
-      gives = record { rise = gives.rise; ends = gives.ends; inside = λ k above below. gives.inside k above below ∙ sym (same k above (omega arith)); below = gives.below; above = gives.above };
+      gives = record {
+        rise = gives.rise;
+        ends = gives.ends;
+        inside = λ k above below. gives.inside k above below ∙ sym (same k above (omega arith));
+        below = gives.below;
+        above = gives.above;
+      };
       from = is.from;
       until = until;
       there = (is.there.0, same more is.from until ∙ is.there.1);

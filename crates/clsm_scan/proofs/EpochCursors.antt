@@ -1,5 +1,6 @@
 -- The cursors over a component's two epochs find together what a search of all its writes finds.
-use Rattle.std.proofs.Common.{◌≡◌, ℕ, zero, suc, ◌+◌, ◌*◌, ◌<◌, ◌≤◌, ◌⊎◌, ◌++◌, Bool, cond, min, List, length, get_or, sym, ap, ◌∙◌, subst, arith, inl, inr, ⊎_elim, append_assoc, add-mul, refl, Option, Some, None}
+use Rattle.std.proofs.Common.{◌≡◌, ℕ, zero, suc, ◌+◌, ◌*◌, ◌<◌, ◌≤◌, ◌⊎◌, ◌++◌, Bool, cond, min, List, length, get_or, sym, ap, ◌∙◌, subst, arith, inl, inr}
+use Rattle.std.proofs.Common.{⊎_elim, append_assoc, add-mul, refl, Option, Some, None}
 use Rattle.std.proofs.lemmas.Bool.{cases_lt, lt-ltb, le-ltb}
 use Rattle.clsm_model.specs.declared.slot.Slot.{Slot}
 use Rattle.clsm_model.specs.declared.slot.Slot.TheVariants.{Nothing}
@@ -12,7 +13,7 @@ use Rattle.clsm_words.specs.declared.known.Known.{Known}
 use Rattle.clsm_words.specs.Knowing.{IsHeldEpoch}
 use Rattle.clsm_levels.specs.Yields.{IsNextFrom}
 use Rattle.clsm_words.specs.declared.known.Spot.{Spot}
-use Rattle.clsm_memtable.specs.declared.ordering.Epoch.{Epoch}
+use Rattle.clsm_memtable.specs.declared.list.Epoch.{Epoch}
 use Rattle.clsm_memtable.specs.Ordering.{IsNewestFrom, MayWalk, found_in_epoch, time_at}
 use Rattle.clsm_memtable.specs.Searching.{slot_in, value_in}
 use Rattle.clsm_memtable.proofs.EpochWrites.{next_none, next_some}
@@ -32,14 +33,16 @@ epoch_over k c = MayWalk k c.walk.epoch × If (IsWriteAt k c.walk.epoch) c.walk.
 -- ---- writes from one time to another, split at a time between
 
 entries_split : (slots : List Slot) (a m b : ℕ) → a ≤ m → m ≤ b → entries_of slots a b ≡ entries_of slots m b ++ entries_of slots a m
-entries_split slots a m zero le le' = let none : m ≡ 0 = omega arith in ap (entries_of slots a) (sym none) ∙ ap (λ (l : List Entry). l ++ entries_of slots a m) (sym (entries_none slots m 0 (omega arith)))
+entries_split slots a m zero le le' = let none : m ≡ 0 = omega arith in
+    ap (entries_of slots a) (sym none) ∙ ap (λ (l : List Entry). l ++ entries_of slots a m) (sym (entries_none slots m 0 (omega arith)))
 entries_split slots a m (suc b) le le' = elim (cases_lt b m) [
   | inl lt ↦
       let same : suc b ≡ m = omega arith in
       ap (entries_of slots a) same ∙ ap (λ (l : List Entry). l ++ entries_of slots a m) (sym (entries_none slots m (suc b) (omega arith)))
   | inr ge ↦
       let mine = entry_of b (get_or slots b Nothing) in
-      entries_more slots a b (omega arith) ∙ ap (λ (l : List Entry). mine ++ l) (entries_split slots a m b le ge) ∙ sym (append_assoc mine (entries_of slots m b) (entries_of slots a m))
+      entries_more slots a b (omega arith) ∙ ap (λ (l : List Entry). mine ++ l) (entries_split slots a m b le ge)
+      ∙ sym (append_assoc mine (entries_of slots m b) (entries_of slots a m))
       ∙ ap (λ (l : List Entry). l ++ entries_of slots a m) (sym (entries_more slots m b ge))
 ]
 
@@ -66,9 +69,14 @@ module _ (k : Known) (component until number first : ℕ) where
   cursor = epoch_cursor component number first cells until
 
   abbrev begun : Ahead EpochCursor
-  begun = unread (record { epoch = record { component = component; number = number; first = first; until = min until (first + cells) }; ahead = None; last = None })
+  begun = unread (record {
+    epoch = record { component = component; number = number; first = first; until = min until (first + cells) };
+    ahead = None;
+    last = None;
+  })
 
-  pub over_epoch : MayScan k component until → (first < until → (first ≡ number * cells) × ((number ≡ component) ⊎ (number ≡ component + 1))) → If (epoch_over k) cursor
+  pub over_epoch : MayScan k component until → (first < until → (first ≡ number * cells) × ((number ≡ component) ⊎ (number ≡ component + 1)))
+      → If (epoch_over k) cursor
   over_epoch may is = elim (cases_lt first until) [
     | inl lt ↦ subst (λ (b : Bool). If (epoch_over k) (cond b (Some begun) None)) (sym (lt-ltb first until lt)) (
       record {
@@ -86,7 +94,8 @@ module _ (k : Known) (component until number first : ℕ) where
 
   -- where the epoch begins below until, the cursor finds its writes below that
   pub found_begun : (key end : ℕ) → first < until → end ≡ min until (first + cells) → found_in (epoch_found k) cursor key ≡ found_from k.past first key end
-  found_begun key end lt is = ap (λ (b : Bool). found_in (epoch_found k) (cond b (Some begun) None) key) (lt-ltb first until lt) ∙ ap (found_from k.past first key) (sym is)
+  found_begun key end lt is = ap (λ (b : Bool). found_in (epoch_found k) (cond b (Some begun) None) key) (lt-ltb first until lt)
+      ∙ ap (found_from k.past first key) (sym is)
 
   pub found_unbegun : (key : ℕ) → until ≤ first → found_in (epoch_found k) cursor key ≡ None
   found_unbegun key ge = ap (λ (b : Bool). found_in (epoch_found k) (cond b (Some begun) None) key) (le-ltb first until ge)
@@ -94,7 +103,8 @@ module _ (k : Known) (component until number first : ℕ) where
 -- ---- both
 
 -- the epochs' first times are `first` and `second`, as far as these are below until
-module _ (k : Known) (component until later first second : ℕ) (may : MayScan k component until) (begins : first < until → first ≡ component * k.layout.cells) (begins' : second < until → second ≡ component * k.layout.cells + k.layout.cells)
+module _ (k : Known) (component until later first second : ℕ) (may : MayScan k component until) (begins : first < until → first ≡ component * k.layout.cells)
+    (begins' : second < until → second ≡ component * k.layout.cells + k.layout.cells)
     (order : first ≤ second) (low : first ≤ component * k.layout.cells) (low' : second ≤ component * k.layout.cells + k.layout.cells) where
   abbrev from : ℕ
   from = component * k.layout.cells
@@ -110,7 +120,8 @@ module _ (k : Known) (component until later first second : ℕ) (may : MayScan k
 
   pub epochs_found : (key : ℕ) → or_else (newer key) (older key) ≡ found_from k.past from key until
   epochs_found key = elim (cases_lt first until) [
-    | inr none ↦ ap (λ (o : Option Entry). or_else o (older key)) (found_unbegun k component until later second key (omega arith)) ∙ found_unbegun k component until component first key none ∙ sym (none_from k.past from key until (omega arith))
+    | inr none ↦ ap (λ (o : Option Entry). or_else o (older key)) (found_unbegun k component until later second key (omega arith))
+        ∙ found_unbegun k component until component first key none ∙ sym (none_from k.past from key until (omega arith))
     | inl lt ↦
         let at = begins lt in
         elim (cases_lt second until) [
@@ -122,8 +133,10 @@ module _ (k : Known) (component until later first second : ℕ) (may : MayScan k
               let at' = begins' lt' in
               let within = may.within in
               let border : ℕ = from + k.layout.cells in
-              ap (λ (o : Option Entry). or_else o (older key)) (found_begun k component until later second key until lt' (omega (arith, twice)) ∙ ap (λ (n : ℕ). found_from k.past n key until) at')
-              ∙ ap (or_else (found_from k.past border key until)) (found_begun k component until component first key border lt (omega arith) ∙ ap (λ (n : ℕ). found_from k.past n key border) at)
+              ap (λ (o : Option Entry). or_else o (older key))
+              (found_begun k component until later second key until lt' (omega (arith, twice)) ∙ ap (λ (n : ℕ). found_from k.past n key until) at')
+              ∙ ap (or_else (found_from k.past border key until))
+              (found_begun k component until component first key border lt (omega arith) ∙ ap (λ (n : ℕ). found_from k.past n key border) at)
               ∙ sym (found_split k.past from border key until (omega arith) (omega arith))
         ]
   ]
@@ -132,4 +145,9 @@ module _ (k : Known) (component until later first second : ℕ) (may : MayScan k
 
 pub newest_next : (k : Known) (e : Epoch) (from : ℕ) (o : Option Spot) → IsNewestFrom k e from o → IsNextFrom (found_in_epoch k e) from (spot_entry k e o)
 newest_next k e from None newest = next_none k e from newest
-newest_next k e from (Some spot) newest = next_some k e from spot (record { key = spot.key; time = time_at k e spot.place; value = value_in (slot_in k (time_at k e spot.place)) }) newest refl refl refl
+newest_next k e from (Some spot) newest =
+    next_some k e from spot (record {
+      key = spot.key;
+      time = time_at k e spot.place;
+      value = value_in (slot_in k (time_at k e spot.place));
+    }) newest refl refl refl

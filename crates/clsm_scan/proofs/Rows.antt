@@ -1,5 +1,6 @@
 -- The rows of a scan, one after another.
-use Rattle.std.proofs.Common.{◌≡◌, ℕ, ◌+◌, ◌<◌, ◌≤◌, ◌==◌, true, false, List, [], ◌∷◌, ◌++◌, length, is_some, true≢false, Option, Some, None, refl, sym, ap, ◌∙◌, subst, arith, inl, inr}
+use Rattle.std.proofs.Common.{◌≡◌, ℕ, ◌+◌, ◌<◌, ◌≤◌, ◌==◌, true, false, List, [], ◌∷◌, ◌++◌, length, is_some, true≢false, Option, Some, None, refl, sym, ap}
+use Rattle.std.proofs.Common.{◌∙◌, subst, arith, inl, inr}
 use Rattle.std.proofs.lemmas.Bool.{cases_lt, le-leb, leb-true}
 use Rattle.std.proofs.lemmas.List.{length_push}
 use Rattle.std.proofs.lemmas.Bool.Decides.{nat_tests}
@@ -45,7 +46,8 @@ module _ (found found' : ℕ → Option Entry) (from sought : ℕ) (same : (k : 
   value_here : (e : Entry) (written : Option (List ℕ)) → IsNextFrom found' sought (Some e) → e.value ≡ written → left_at found e.key ≡ written
   value_here e written next is = ap value_of (sym (same e.key) ∙ next.1) ∙ is
 
-  pub row_here : (hi : ℕ) (e : Entry) (words : List ℕ) → IsNextFrom found' sought (Some e) → from ≤ sought → e.key ≤ hi → e.value ≡ Some words → IsNextRow (left_at found) from hi (Some (e.key, words))
+  pub row_here : (hi : ℕ) (e : Entry) (words : List ℕ) → IsNextFrom found' sought (Some e) → from ≤ sought → e.key ≤ hi → e.value ≡ Some words
+      → IsNextRow (left_at found) from hi (Some (e.key, words))
   row_here hi e words next le until is = let later = next.0 in (omega arith, until, value_here e (Some words) next is, pass_empty e.key next.2)
 
   pub pass_removal : (e : Entry) → IsNextFrom found' sought (Some e) → e.value ≡ None → ArePassed (left_at found) from (e.key + 1)
@@ -64,7 +66,8 @@ module _ (found found' : ℕ → Option Entry) (from sought : ℕ) (same : (k : 
   key_past hi key None is lt next = absurd (cc is)
   key_past hi key (Some e) is lt next = let at : e.key ≡ key = cc is in none_before hi e next (omega arith)
 
-  head_here : (hi key : ℕ) (e : Entry) (written : Option (List ℕ)) → e.key ≡ key → e.value ≡ written → is_some written ≡ true → from ≤ sought → key ≤ hi → IsNextFrom found' sought (Some e) → IsHeadRow (left_at found) from hi (Some e) key
+  head_here : (hi key : ℕ) (e : Entry) (written : Option (List ℕ)) → e.key ≡ key → e.value ≡ written → is_some written ≡ true → from ≤ sought → key ≤ hi
+      → IsNextFrom found' sought (Some e) → IsHeadRow (left_at found) from hi (Some e) key
   head_here hi key e None at is some le until next = absurd (true≢false (sym some))
   head_here hi key e (Some words) at is some le until next = record {
     words = words;
@@ -74,18 +77,22 @@ module _ (found found' : ℕ → Option Entry) (from sought : ℕ) (same : (k : 
   }
 
   -- or it has a value
-  pub key_found : (hi key : ℕ) (head : Option Entry) → key_of head ≡ Some key → has_value head ≡ true → from ≤ sought → key ≤ hi → IsNextFrom found' sought head → IsHeadRow (left_at found) from hi head key
+  pub key_found : (hi key : ℕ) (head : Option Entry) → key_of head ≡ Some key → has_value head ≡ true → from ≤ sought → key ≤ hi → IsNextFrom found' sought head
+      → IsHeadRow (left_at found) from hi head key
   key_found hi key None is has le until next = absurd (cc is)
   key_found hi key (Some e) is has le until next = head_here hi key e e.value (cc is) refl has le until next
 
-  removed_here : (e : Entry) (written : Option (List ℕ)) → e.value ≡ written → is_some written ≡ false → IsNextFrom found' sought (Some e) → ArePassed (left_at found) from (e.key + 1)
+  removed_here : (e : Entry) (written : Option (List ℕ)) → e.value ≡ written → is_some written ≡ false → IsNextFrom found' sought (Some e)
+      → ArePassed (left_at found) from (e.key + 1)
   removed_here e None is none next = pass_removal e next is
   removed_here e (Some words) is none next = absurd (true≢false none)
 
-  -- or it has none, and is passed over
-  pub key_passed : (key : ℕ) (head : Option Entry) → key_of head ≡ Some key → has_value head ≡ false → IsNextFrom found' sought head → ArePassed (left_at found) from (key + 1)
+  -- or it has none, and is skipped
+  pub key_passed : (key : ℕ) (head : Option Entry) → key_of head ≡ Some key → has_value head ≡ false → IsNextFrom found' sought head
+      → ArePassed (left_at found) from (key + 1)
   key_passed key None is none next = absurd (cc is)
-  key_passed key (Some e) is none next = let at : e.key ≡ key = cc is in subst (λ (n : ℕ). ArePassed (left_at found) from (n + 1)) at (removed_here e e.value refl none next)
+  key_passed key (Some e) is none next = let at : e.key ≡ key = cc is in
+      subst (λ (n : ℕ). ArePassed (left_at found) from (n + 1)) at (removed_here e e.value refl none next)
 
   pub none_at_end : (hi : ℕ) → hi < sought → IsNextRow (left_at found) from hi None
   none_at_end hi lt = λ k le until. passed k le (omega arith)
@@ -114,7 +121,8 @@ module _ (value : ℕ → Option (List ℕ)) (lo : ℕ) where
   rows_none = record { rise = rise-nil; ends = tt; inside = λ k le lt. absurd_order k le lt; below = λ k lt. refl; above = λ k le. refl }
 
   -- the next row behind those up to a key
-  pub rows_next : (from hi : ℕ) (rows : List Pair) (row : Pair) → AreRowsTo value lo from rows → lo ≤ from → IsNextRow value from hi (Some row) → AreRowsTo value lo row.0 rows
+  pub rows_next : (from hi : ℕ) (rows : List Pair) (row : Pair) → AreRowsTo value lo from rows → lo ≤ from → IsNextRow value from hi (Some row)
+      → AreRowsTo value lo row.0 rows
   rows_next from hi rows row are le next = record {
     rise = are.rise;
     ends = each_weaker (λ (k : ℕ). k < from) (λ (k : ℕ). k < row.0) (λ k lt. let later = next.0 in omega arith) rows are.ends;
@@ -126,22 +134,27 @@ module _ (value : ℕ → Option (List ℕ)) (lo : ℕ) where
     above = λ k above. are.above k (let later = next.0 in omega arith);
   }
 
-  pub rows_pushed : (rows : List Pair) (row : Pair) → AreRowsTo value lo row.0 rows → lo ≤ row.0 → value row.0 ≡ Some row.1 → AreRowsTo value lo (row.0 + 1) (rows ++ row ∷ [])
+  pub rows_pushed : (rows : List Pair) (row : Pair) → AreRowsTo value lo row.0 rows → lo ≤ row.0 → value row.0 ≡ Some row.1
+      → AreRowsTo value lo (row.0 + 1) (rows ++ row ∷ [])
   rows_pushed rows row are le is = record {
     rise = rise_pushed rows row are.ends are.rise;
-    ends = each-append (λ (k : ℕ). k < row.0 + 1) rows (row ∷ []) (each_weaker (λ (k : ℕ). k < row.0) (λ (k : ℕ). k < row.0 + 1) (λ k lt. omega arith) rows are.ends) (omega arith, tt);
+    ends = each-append (λ (k : ℕ). k < row.0 + 1) rows (row ∷ [])
+        (each_weaker (λ (k : ℕ). k < row.0) (λ (k : ℕ). k < row.0 + 1) (λ k lt. omega arith) rows are.ends) (omega arith, tt);
     inside = λ k above below. elim (cases_lt k row.0) [
       | inl before ↦ value_pushed_other rows row k (other_below k row.0 before) ∙ are.inside k above before
-      | inr here ↦ let at : row.0 ≡ k = omega arith in subst (λ (j : ℕ). value_at (rows ++ row ∷ []) j ≡ value j) at (value_pushed_here rows row (are.above row.0 (omega arith)) ∙ sym is)
+      | inr here ↦ let at : row.0 ≡ k = omega arith in
+          subst (λ (j : ℕ). value_at (rows ++ row ∷ []) j ≡ value j) at (value_pushed_here rows row (are.above row.0 (omega arith)) ∙ sym is)
     ];
     below = λ k lt. value_pushed_other rows row k (other_below k row.0 (omega arith)) ∙ are.below k lt;
     above = λ k above. value_pushed_other rows row k (other_above k row.0 (omega arith)) ∙ are.above k (omega arith);
   }
 
-  pub beyond_pushed : (hi : ℕ) (rows : List Pair) (row : Pair) → row.0 ≤ hi → ((k : ℕ) → hi < k → value_at rows k ≡ None) → (k : ℕ) → hi < k → value_at (rows ++ row ∷ []) k ≡ None
+  pub beyond_pushed : (hi : ℕ) (rows : List Pair) (row : Pair) → row.0 ≤ hi → ((k : ℕ) → hi < k → value_at rows k ≡ None) → (k : ℕ) → hi < k
+      → value_at (rows ++ row ∷ []) k ≡ None
   beyond_pushed hi rows row le beyond k lt = value_pushed_other rows row k (other_above k row.0 (omega arith)) ∙ beyond k lt
 
-  pub all_rows : (from hi : ℕ) (rows : List Pair) → AreRowsTo value lo from rows → IsNextRow value from hi None → ((k : ℕ) → hi < k → value_at rows k ≡ None) → AreAll value lo hi rows
+  pub all_rows : (from hi : ℕ) (rows : List Pair) → AreRowsTo value lo from rows → IsNextRow value from hi None → ((k : ℕ) → hi < k → value_at rows k ≡ None)
+      → AreAll value lo hi rows
   all_rows from hi rows are next beyond = record {
     rise = are.rise;
     inside = λ k above below. elim (cases_lt k from) [
@@ -152,7 +165,8 @@ module _ (value : ℕ → Option (List ℕ)) (lo : ℕ) where
     above = beyond;
   }
 
-  pub rows_stopped : (from hi : ℕ) (max : Option ℕ) (rows : List Pair) (row : Pair) → AreRowsTo value lo from rows → lo ≤ from → IsNextRow value from hi (Some row) → max ≡ Some (length rows) → IsStopped value lo hi max rows row.0
+  pub rows_stopped : (from hi : ℕ) (max : Option ℕ) (rows : List Pair) (row : Pair) → AreRowsTo value lo from rows → lo ≤ from
+      → IsNextRow value from hi (Some row) → max ≡ Some (length rows) → IsStopped value lo hi max rows row.0
   rows_stopped from hi max rows row are le next full = record {
     gives = rows_next from hi rows row are le next;
     from = let later = next.0 in omega arith;
@@ -161,14 +175,19 @@ module _ (value : ℕ → Option (List ℕ)) (lo : ℕ) where
     full = full;
   }
 
-  pub rows_taken : (from hi : ℕ) (rows : List Pair) (row : Pair) → AreRowsTo value lo from rows → lo ≤ from → IsNextRow value from hi (Some row) → AreRowsTo value lo (row.0 + 1) (rows ++ row ∷ [])
+  pub rows_taken : (from hi : ℕ) (rows : List Pair) (row : Pair) → AreRowsTo value lo from rows → lo ≤ from → IsNextRow value from hi (Some row)
+      → AreRowsTo value lo (row.0 + 1) (rows ++ row ∷ [])
   rows_taken from hi rows row are le next = rows_pushed rows row (rows_next from hi rows row are le next) (let later = next.0 in omega arith) next.2
 
   -- the row of the last key is taken
-  pub rows_ended : (from hi : ℕ) (rows : List Pair) (row : Pair) → AreRowsTo value lo from rows → lo ≤ from → IsNextRow value from hi (Some row) → ((k : ℕ) → hi < k → value_at rows k ≡ None) → hi ≤ row.0 → AreAll value lo hi (rows ++ row ∷ [])
-  rows_ended from hi rows row are le next beyond last = all_rows (row.0 + 1) hi (rows ++ row ∷ []) (rows_taken from hi rows row are le next) (λ k above below. absurd_order k above (omega arith)) (beyond_pushed hi rows row next.1 beyond)
+  pub rows_ended : (from hi : ℕ) (rows : List Pair) (row : Pair) → AreRowsTo value lo from rows → lo ≤ from → IsNextRow value from hi (Some row)
+      → ((k : ℕ) → hi < k → value_at rows k ≡ None) → hi ≤ row.0 → AreAll value lo hi (rows ++ row ∷ [])
+  rows_ended from hi rows row are le next beyond last =
+      all_rows (row.0 + 1) hi (rows ++ row ∷ []) (rows_taken from hi rows row are le next) (λ k above below. absurd_order k above (omega arith))
+      (beyond_pushed hi rows row next.1 beyond)
 
-pub next_row_same : (value value' : ℕ → Option (List ℕ)) (from hi : ℕ) (o : Option Pair) → ((k : ℕ) → value' k ≡ value k) → IsNextRow value' from hi o → IsNextRow value from hi o
+pub next_row_same : (value value' : ℕ → Option (List ℕ)) (from hi : ℕ) (o : Option Pair) → ((k : ℕ) → value' k ≡ value k) → IsNextRow value' from hi o
+    → IsNextRow value from hi o
 next_row_same value value' from hi None same next = λ k above below. sym (same k) ∙ next k above below
 next_row_same value value' from hi (Some row) same next = (next.0, next.1, sym (same row.0) ∙ next.2, λ k above below. sym (same k) ∙ next.3 k above below)
 

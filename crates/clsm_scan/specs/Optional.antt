@@ -27,10 +27,12 @@ pub if_both : {C : Type 0} (R P Q : C → Type 0) (o : Option C) → ((c : C) �
 if_both R P Q None each over holds = holds
 if_both R P Q (Some c) each over holds = each c over holds
 
-pub found_same : {C : Type 0} (found found' : C → ℕ → Option Entry) (R : C → Type 0) (o : Option C) → ((c : C) → R c → (key : ℕ) → found' c key ≡ found c key) → If R o → (key : ℕ) → found_in found' o key ≡ found_in found o key
+pub found_same : {C : Type 0} (found found' : C → ℕ → Option Entry) (R : C → Type 0) (o : Option C) → ((c : C) → R c → (key : ℕ) → found' c key ≡ found c key)
+    → If R o → (key : ℕ) → found_in found' o key ≡ found_in found o key
 found_same found found' R None each over key = refl
 found_same found found' R (Some c) each over key = each c over key
 
-pub head_same : {C : Type 0} (head head' : C → Option Entry) (R : C → Type 0) (o : Option C) → ((c : C) → R c → head' c ≡ head c) → If R o → head_in head' o ≡ head_in head o
+pub head_same : {C : Type 0} (head head' : C → Option Entry) (R : C → Type 0) (o : Option C) → ((c : C) → R c → head' c ≡ head c) → If R o
+    → head_in head' o ≡ head_in head o
 head_same head head' R None each over = refl
 head_same head head' R (Some c) each over = each c over

@@ -31,11 +31,17 @@ unread walk = record { walk = walk; head = Unread }
 
 -- the cursor over an epoch, where it begins below `until`: for its writes below that
 abbrev pub epoch_cursor : ℕ → ℕ → ℕ → ℕ → ℕ → Option (Ahead EpochCursor)
-epoch_cursor component number first cells until = cond (nat_lt first until) (Some (unread (record { epoch = record { component = component; number = number; first = first; until = min until (first + cells) }; ahead = None; last = None }))) None
+epoch_cursor component number first cells until =
+    cond (nat_lt first until)
+    (Some (unread (record {
+      epoch = record { component = component; number = number; first = first; until = min until (first + cells) };
+      ahead = None;
+      last = None;
+    }))) None
 
 -- the walk at the beginning of the run at a place
 abbrev pub run_walk : ℕ → ℕ → ℕ → RunCursor
-run_walk component place until = record { component = component; place = place; until = until; position = 0; last = None }
+run_walk component place until = record { run = record { component = component; place = place }; until = until; position = 0; last = None }
 
 -- the cursor there, of a place of level 0, where the component names it
 abbrev pub level_zero_cursor : ℕ → ℕ → ℕ → Option (Ahead RunCursor)

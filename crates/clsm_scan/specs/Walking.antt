@@ -9,7 +9,7 @@ use Rattle.clsm_law.specs.declared.view.View.{View}
 use Rattle.clsm_words.specs.declared.known.Known.{Known}
 use Rattle.clsm_words.specs.declared.known.Spot.{Spot}
 use Rattle.clsm_words.specs.Keeping.{Looks}
-use Rattle.clsm_memtable.specs.declared.ordering.Epoch.{Epoch}
+use Rattle.clsm_memtable.specs.declared.list.Epoch.{Epoch}
 use Rattle.clsm_memtable.specs.Ordering.{IsSpotOf, MayWalk, StandsAt, found_in_epoch, time_at}
 use Rattle.clsm_memtable.specs.Searching.{slot_in, value_in}
 use Rattle.clsm_memtable.specs.Staying.{slot_stays}
@@ -29,7 +29,8 @@ stands_on k k' e from ahead looks may stands = lead_after k k' e looks may (λ t
 
 -- it stands there for a later key too
 pub stands_later : (k : Known) (e : Epoch) (from later : ℕ) (ahead : Option Spot) → from ≤ later → StandsAt k e from ahead → StandsAt k e later ahead
-stands_later k e from later ahead le stands = lead_fewer k e (λ t key. from ≤ key) (λ t key. later ≤ key) ahead (λ t key w (le' : later ≤ key). omega arith) stands
+stands_later k e from later ahead le stands =
+    lead_fewer k e (λ t key. from ≤ key) (λ t key. later ≤ key) ahead (λ t key w (le' : later ≤ key). omega arith) stands
 
 -- ---- what a walk came by
 
@@ -72,6 +73,7 @@ passed_on k k' component place passed looks is =
       spelled = same.words passed.number 1 ∙ is.spelled;
     }
 
-pub passed_same : (k k' : Known) (component place : ℕ) (o : Option Passed) → Looks k k' → IsSearchable k component place → passed_entry k' place o ≡ passed_entry k place o
+pub passed_same : (k k' : Known) (component place : ℕ) (o : Option Passed) → Looks k k' → IsSearchable k component place
+    → passed_entry k' place o ≡ passed_entry k place o
 passed_same k k' component place None looks run = refl
 passed_same k k' component place (Some passed) looks run = ap (λ (e : Entry). Some e) (entry_in_stays k k' component place passed.number looks run)

@@ -127,9 +127,12 @@ impl<W: Walk> Cursor for Ahead<W> {
 
     ghost found_stays = { λ k k' a looks over key. W.found_stays k k' a.walk looks over key };
 
-    ghost stands_stays = { λ k k' a from looks over stands. ahead_stays (W.found k a.walk) (W.found k' a.walk) (W.stands k a.walk) (W.stands k' a.walk) from a.head (W.last k a.walk) (W.last k' a.walk) (W.found_stays k k' a.walk looks over) (W.last_stays k k' a.walk looks over) (λ i. W.stands_stays k k' a.walk i looks over) stands };
+    ghost stands_stays = { λ k k' a from looks over stands. ahead_stays (W.found k a.walk) (W.found k' a.walk) (W.stands k a.walk)
+        (W.stands k' a.walk) from a.head (W.last k a.walk) (W.last k' a.walk) (W.found_stays k k' a.walk looks over) (W.last_stays k k' a.walk looks over)
+        (λ i. W.stands_stays k k' a.walk i looks over) stands };
 
-    ghost stands_later = { λ k a from later le stands. ahead_later (W.found k a.walk) (W.stands k a.walk) from later a.head (W.last k a.walk) le (W.stands_later k a.walk) stands };
+    ghost stands_later = { λ k a from later le stands. ahead_later (W.found k a.walk) (W.stands k a.walk) from later a.head (W.last k a.walk) le
+        (W.stands_later k a.walk) stands };
 
     ghost head_stays = { λ k k' a looks over. W.last_stays k k' a.walk looks over };
 }

@@ -19,7 +19,7 @@ pub struct Collected {
     pub more: Option<u64>,
 }
 
-/// Puts the key with its value behind the rows. Refused for want of memory.
+/// Puts the key with its value behind the rows. Refused if memory runs out.
 #[inline(always)]
 pub(crate) fn push_row(rows: &mut Vec<(u64, Value)>, key: u64, value: Value) -> Result<(), Memory>
     ensures { OnOk result (rows.new.items ≡ rows.old.items ++ (key, value) ∷ []) }
@@ -31,7 +31,7 @@ pub(crate) fn push_row(rows: &mut Vec<(u64, Value)>, key: u64, value: Value) -> 
 }
 
 /// The next key from `from` to `hi` that has a value, if there is one: the cursor has read it, but
-/// not its value. Removed keys are passed over.
+/// not its value. Removed keys are skipped.
 fn next_key<C: Cursor, P: Pace>(
     words: &Words<P>,
     seat: &mut RawSeat,
@@ -84,7 +84,7 @@ fn is_full(max: Option<usize>, count: usize) -> bool
 }
 
 /// The rows of all keys from `lo` to `hi`, by rising key: at most `max` of them, where that is
-/// given. Refused for want of memory.
+/// given. Refused if memory runs out.
 pub fn collect<C: Cursor, P: Pace>(
     words: &Words<P>,
     seat: &mut RawSeat,

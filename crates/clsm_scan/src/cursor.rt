@@ -10,8 +10,8 @@ ghost use Rattle.clsm_scan.specs.Heads.{has_value, key_of, rows_of};
 use clsm_model::{Memory, Value};
 use clsm_words::{Pace, RawSeat, Words};
 
-/// A cursor over writes of a held component: by rising key it reads of each key the newest below its
-/// time. It never waits.
+/// A cursor over writes of a held component: by rising key it reads of each key the newest below
+/// its time. It never waits.
 pub trait Cursor {
     ghost found: { Known → Self → ℕ → Option Entry };
 
@@ -31,8 +31,8 @@ pub trait Cursor {
         ensures same { (k : ℕ) → found seat.new.knows self.new k ≡ found seat.old.knows self.old k }
         ensures stands { stands seat.new.knows self.new key };
 
-    /// Reads the newest write below its time of the least key from `from` on that has one, unless it
-    /// was read before, and answers its key. It takes no memory, and reads no value.
+    /// Reads the newest write below its time of the least key from `from` on that has one, unless
+    /// it was read before, and answers its key. It takes no memory, and reads no value.
     fn read<P: Pace>(&mut self, words: &Words<P>, seat: &mut RawSeat, from: u64) -> Option<u64>
         requires of { IsSeatOf words.now seat.old }
         requires over { is_over seat.old.knows self.old }
@@ -53,8 +53,8 @@ pub trait Cursor {
         ensures looks { LooksAside seat.old.knows seat.new.knows }
         ensures has { result ≡ has_value (head seat.old.knows self.now) };
 
-    /// Puts the key of the write that was read, with its value, behind the rows. It has to have one.
-    /// Refused for want of memory.
+    /// Puts the key of the write that was read, with its value, behind the rows. It has to have
+    /// one. Refused if memory runs out.
     fn push<P: Pace>(
         &self,
         words: &Words<P>,

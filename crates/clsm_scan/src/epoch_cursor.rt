@@ -2,7 +2,7 @@
 ghost use Rattle.std.specs.Prelude.{◌≡◌, None};
 ghost use Rattle.clsm_memtable.specs.Ordering.{MayWalk, StandsAt, found_in_epoch};
 ghost use Rattle.clsm_memtable.proofs.Orders.{walk_on};
-ghost use Rattle.clsm_memtable.specs.declared.ordering.Epoch.{Epoch};
+ghost use Rattle.clsm_memtable.specs.declared.list.Epoch.{Epoch};
 ghost use Rattle.clsm_words.specs.declared.known.Known.{Known};
 ghost use Rattle.clsm_scan.specs.Heads.{key_of};
 ghost use Rattle.clsm_scan.specs.Optional.{If, if_so};
@@ -89,7 +89,10 @@ impl Walk for EpochCursor {
         push_row(rows, spot.key, value)
     }
 
-    ghost over_stays = { λ k k' w looks over. (walk_on k k' w.epoch looks.looks over.0, if_so (IsWriteAt k w.epoch) (IsWriteAt k' w.epoch) w.last (λ spot. write_on k k' w.epoch spot looks.looks over.0) over.1) };
+    ghost over_stays = { λ k k' w looks over. (
+      walk_on k k' w.epoch looks.looks over.0,
+      if_so (IsWriteAt k w.epoch) (IsWriteAt k' w.epoch) w.last (λ spot. write_on k k' w.epoch spot looks.looks over.0) over.1,
+    ) };
 
     ghost found_stays = { λ k k' w looks over key. found_on k k' w.epoch looks.looks key };
 

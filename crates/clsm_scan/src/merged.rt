@@ -89,9 +89,13 @@ impl<A: Cursor, B: Cursor> Cursor for Merged<A, B> {
 
     ghost over_stays = { λ k k' m looks over. (A.over_stays k k' m.newer looks over.0, B.over_stays k k' m.older looks over.1) };
 
-    ghost found_stays = { λ k k' m looks over key. first_same (A.found k m.newer) (A.found k' m.newer) (B.found k m.older) (B.found k' m.older) key (A.found_stays k k' m.newer looks over.0 key) (B.found_stays k k' m.older looks over.1 key) };
+    ghost found_stays = { λ k k' m looks over key. first_same (A.found k m.newer) (A.found k' m.newer) (B.found k m.older) (B.found k' m.older) key
+        (A.found_stays k k' m.newer looks over.0 key) (B.found_stays k k' m.older looks over.1 key) };
 
-    ghost stands_stays = { λ k k' m from looks over stands. (A.stands_stays k k' m.newer from looks over.0 stands.0, B.stands_stays k k' m.older from looks over.1 stands.1) };
+    ghost stands_stays = { λ k k' m from looks over stands. (
+      A.stands_stays k k' m.newer from looks over.0 stands.0,
+      B.stands_stays k k' m.older from looks over.1 stands.1,
+    ) };
 
     ghost stands_later = { λ k m from later le stands. (A.stands_later k m.newer from later le stands.0, B.stands_later k m.older from later le stands.1) };
 

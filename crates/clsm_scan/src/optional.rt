@@ -54,9 +54,11 @@ impl<C: Cursor> Cursor for Option<C> {
 
     ghost found_stays = { λ k k' c looks over. found_same (C.found k) (C.found k') (C.is_over k) c (λ cursor. C.found_stays k k' cursor looks) over };
 
-    ghost stands_stays = { λ k k' c from looks over stands. if_both (C.is_over k) (λ cursor. C.stands k cursor from) (λ cursor. C.stands k' cursor from) c (λ cursor. C.stands_stays k k' cursor from looks) over stands };
+    ghost stands_stays = { λ k k' c from looks over stands. if_both (C.is_over k) (λ cursor. C.stands k cursor from) (λ cursor. C.stands k' cursor from) c
+        (λ cursor. C.stands_stays k k' cursor from looks) over stands };
 
-    ghost stands_later = { λ k c from later le stands. if_so (λ cursor. C.stands k cursor from) (λ cursor. C.stands k cursor later) c (λ cursor. C.stands_later k cursor from later le) stands };
+    ghost stands_later = { λ k c from later le stands. if_so (λ cursor. C.stands k cursor from) (λ cursor. C.stands k cursor later) c
+        (λ cursor. C.stands_later k cursor from later le) stands };
 
     ghost head_stays = { λ k k' c looks over. head_same (C.head k) (C.head k') (C.is_over k) c (λ cursor. C.head_stays k k' cursor looks) over };
 }

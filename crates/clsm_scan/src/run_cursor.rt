@@ -15,14 +15,13 @@ ghost use Rattle.clsm_scan.specs.Walking.{passed_on, passed_same, run_on};
 use crate::collecting::push_row;
 use crate::walk::Walk;
 use clsm_model::{Memory, Time, Value};
-use clsm_runs::{Passed, next, seek, value};
+use clsm_runs::{HeldRun, Passed, next, seek, value};
 use clsm_words::{Pace, RawSeat, Words};
 
 /// A walk along the run at a place that the held component names.
 #[derive(Clone, Copy)]
 pub struct RunCursor {
-    component: u64,
-    place: u64,
+    run: HeldRun,
     /// It yields versions below this time.
     until: Time,
     position: u64,
@@ -32,12 +31,11 @@ pub struct RunCursor {
 
 impl RunCursor {
     /// The walk at the run's beginning.
-    pub fn new(component: u64, place: u64, until: Time) -> RunCursor
-        ensures { result ≡ record { component = component; place = place; until = until; position = 0; last = None } }
+    pub fn new(run: HeldRun, until: Time) -> RunCursor
+        ensures { result ≡ record { run = run; until = until; position = 0; last = None } }
     {
         RunCursor {
-            component,
-            place,
+            run,
             until,
             position: 0,
             last: None,
@@ -57,30 +55,22 @@ fn key_of(passed: &Option<Passed>) -> Option<u64>
 }
 
 impl Walk for RunCursor {
-    ghost found = { λ k w key. first_below (run_at k w.place) key w.until };
+    ghost found = { λ k w key. first_below (run_at k w.run.place) key w.until };
 
-    ghost is_over = { λ k w. IsSearchable k w.component w.place × If (IsPassed k w.component w.place) w.last };
+    ghost is_over = { λ k w. IsSearchable k w.run.component w.run.place × If (IsPassed k w.run.component w.run.place) w.last };
 
-    ghost stands = { λ k w from. StandsFrom k w.place w.until from w.position };
+    ghost stands = { λ k w from. StandsFrom k w.run.place w.until from w.position };
 
-    ghost last = { λ k w. passed_entry k w.place w.last };
+    ghost last = { λ k w. passed_entry k w.run.place w.last };
 
     fn seek<P: Pace>(&mut self, words: &Words<P>, seat: &mut RawSeat, key: u64) {
-        self.position = seek(words, seat, self.component, self.place, key, self.until);
+        self.position = seek(words, seat, self.run, key, self.until);
         self.last = None;
     }
 
     #[inline(always)]
     fn next<P: Pace>(&mut self, words: &Words<P>, seat: &mut RawSeat, from: u64) -> Option<u64> {
-        self.last = next(
-            words,
-            seat,
-            self.component,
-            self.place,
-            &mut self.position,
-            from,
-            self.until,
-        );
+        self.last = next(words, seat, self.run, &mut self.position, from, self.until);
         key_of(&self.last)
     }
 
@@ -101,17 +91,21 @@ impl Walk for RunCursor {
         let Some(passed) = self.last else {
             return Ok(());
         };
-        let value = value(words, seat, self.component, self.place, &passed);
+        let value = value(words, seat, self.run, &passed);
         push_row(rows, passed.key, value)
     }
 
-    ghost over_stays = { λ k k' w looks over. (run_on k k' w.component w.place looks.looks over.0, if_so (IsPassed k w.component w.place) (IsPassed k' w.component w.place) w.last (λ passed. passed_on k k' w.component w.place passed looks.looks) over.1) };
+    ghost over_stays = { λ k k' w looks over. (
+      run_on k k' w.run.component w.run.place looks.looks over.0,
+      if_so (IsPassed k w.run.component w.run.place) (IsPassed k' w.run.component w.run.place) w.last
+          (λ passed. passed_on k k' w.run.component w.run.place passed looks.looks) over.1,
+    ) };
 
-    ghost found_stays = { λ k k' w looks over key. ap (λ es. first_below es key w.until) (run_stays k k' w.component w.place looks.looks over.0) };
+    ghost found_stays = { λ k k' w looks over key. ap (λ es. first_below es key w.until) (run_stays k k' w.run.component w.run.place looks.looks over.0) };
 
-    ghost stands_stays = { λ k k' w from looks over stands. stands_stays k k' w.component w.place w.until from w.position looks.looks over.0 stands };
+    ghost stands_stays = { λ k k' w from looks over stands. stands_stays k k' w.run.component w.run.place w.until from w.position looks.looks over.0 stands };
 
-    ghost stands_later = { λ k w from later le stands. stands_later k w.place w.until from later w.position le stands };
+    ghost stands_later = { λ k w from later le stands. stands_later k w.run.place w.until from later w.position le stands };
 
-    ghost last_stays = { λ k k' w looks over. passed_same k k' w.component w.place w.last looks.looks over.0 };
+    ghost last_stays = { λ k k' w looks over. passed_same k k' w.run.component w.run.place w.last looks.looks over.0 };
 }

@@ -16,6 +16,7 @@ use clsm_law::level_one_place;
 use clsm_levels::level_zero_runs;
 use clsm_memtable::Epoch;
 use clsm_model::{Memory, Time};
+use clsm_runs::HeldRun;
 use clsm_words::{Pace, RawSeat, Words};
 use std::alloc::Global;
 
@@ -57,7 +58,7 @@ fn level_zero(component: u64, place: u64, until: Time) -> Option<Ahead<RunCursor
     ensures { result ≡ level_zero_cursor component place until }
 {
     if place < level_zero_runs(component) {
-        Some(Ahead::new(RunCursor::new(component, place, until)))
+        Some(Ahead::new(RunCursor::new(HeldRun { component, place }, until)))
     } else {
         None
     }
@@ -66,15 +67,17 @@ fn level_zero(component: u64, place: u64, until: Time) -> Option<Ahead<RunCursor
 /// The cursors over the component's epochs and its runs.
 fn sources<P: Pace>(words: &Words<P>, component: u64, until: Time) -> Sources
     ensures over { (k : Known) → k.layout ≡ words.now.layout → MayScan k component until → ⟦<Sources as Cursor>⟧.is_over k result }
-    ensures found { (k : Known) → k.layout ≡ words.now.layout → MayScan k component until → (key : ℕ) → ⟦<Sources as Cursor>⟧.found k result key ≡ found_in_component k component until key }
+    ensures found { (k : Known) → k.layout ≡ words.now.layout → MayScan k component until → (key : ℕ)
+        → ⟦<Sources as Cursor>⟧.found k result key ≡ found_in_component k component until key }
 {
     let cells = words.cells();
     let first = component.saturating_mul(cells);
     let second = first.saturating_add(cells);
     let later = component.saturating_add(1);
+    let place = level_one_place(component);
     let oldest = Merged::new(
         level_zero(component, 0, until),
-        Ahead::new(RunCursor::new(component, level_one_place(component), until)),
+        Ahead::new(RunCursor::new(HeldRun { component, place }, until)),
     );
     let older = Merged::new(level_zero(component, 1, until), oldest);
     let runs = Merged::new(level_zero(component, 2, until), older);
@@ -84,7 +87,7 @@ fn sources<P: Pace>(words: &Words<P>, component: u64, until: Time) -> Sources
 
 /// The rows of all keys from `lo` to `hi` below the time, by rising key: at most `max` of them,
 /// where that is given. It goes along the ordered lists of the epochs and the runs, and takes
-/// memory for the rows alone; refused for want of it, the seat is as after looks. It never waits.
+/// memory for the rows alone; if memory runs out, the seat is as after looks. It never waits.
 pub fn scan<P: Pace>(
     words: &Words<P>,
     seat: &mut RawSeat,

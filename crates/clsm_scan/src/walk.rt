@@ -54,7 +54,7 @@ pub trait Walk {
         ensures has { result ≡ has_value (last seat.old.knows self.now) };
 
     /// Puts the key of the write that it came by last, with its value, behind the rows. It has to
-    /// have one. Refused for want of memory.
+    /// have one. Refused if memory runs out.
     fn push<P: Pace>(
         &self,
         words: &Words<P>,

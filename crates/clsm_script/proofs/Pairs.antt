@@ -3,7 +3,7 @@ use Rattle.std.proofs.Common.{◌≡◌, ℕ, ◌-◌, ◌<◌, ◌++◌, List, 
 use Rattle.std.proofs.Common.{subst, le_refl, arith}
 use Rattle.std.proofs.lemmas.List.{get_or_default, length-append, length-set, set-append_left}
 use Rattle.std.proofs.lemmas.List.{set-append_right, get_or_append_left, get_or-append_right}
-use Rattle.clsm_calls.specs.Seats.{SeatState}
+use Rattle.clsm_store_calls.specs.Seats.{SeatState}
 use Rattle.clsm_store.specs.Headline.{IsAt}
 
 at_get : (seats : List SeatState) (i : ℕ) (d : SeatState) → i < length seats →

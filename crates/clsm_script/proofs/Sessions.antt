@@ -9,7 +9,7 @@ use Rattle.std.specs.Option.{option_to_list}
 use Rattle.clsm_model.specs.declared.record.CallRecord.{CallRecord}
 use Rattle.clsm_audit.specs.Lawful.{calls_of}
 use Rattle.clsm_audit.proofs.Calls.{calls_of-own, calls_of-other}
-use Rattle.clsm_calls.specs.Seats.{AreNew, SeatState, StoreId, newcomer}
+use Rattle.clsm_store_calls.specs.Seats.{AreNew, SeatState, StoreId, newcomer}
 use Rattle.clsm_store.specs.Headline.{IsAt}
 use Rattle.clsm_store.specs.Meetings.{AreOf}
 use Rattle.clsm_script.specs.Play.{PairMeets}

@@ -6,9 +6,9 @@ use Rattle.clsm_model.specs.declared.record.CallRecord.{CallRecord}
 use Rattle.clsm_model.specs.declared.record.Deed.TheVariants as deeds
 use Rattle.clsm_audit.specs.Faults.{IsLawful, IsOneHistory, IsRefusal}
 use Rattle.clsm_audit.specs.declared.fault.AuditError.{AuditError}
-use Rattle.clsm_calls.specs.Seats.{SeatState, Answers, IsFull, Refuses, known_by}
-use Rattle.clsm_calls.specs.Batching.{IsRefusedBatch}
-use Rattle.clsm_calls.specs.Trying.{RefusesTry}
+use Rattle.clsm_store_calls.specs.Seats.{SeatState, Answers, IsFull, Refuses, known_by}
+use Rattle.clsm_store_calls.specs.Batching.{IsRefusedBatch}
+use Rattle.clsm_store_calls.specs.Trying.{RefusesTry}
 use Rattle.clsm_store.specs.Changes.{added, put_if_absent}
 use Rattle.clsm_store.specs.Headline.{IsAt}
 use Rattle.clsm_store.specs.Meetings.{Meets}

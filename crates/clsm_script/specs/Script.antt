@@ -31,6 +31,6 @@ StopsScript config input (Refused error) = IsRefusal config error
 StopsScript config input failure = IsSound config × StopsPlay input failure
 
 -- 0 where a script is played to its end; 1 for a bad line, or a failed read or write; 2 for a fault
--- that an audit found; 3 for a refused opening, or want of memory
+-- that an audit found; 3 for a refused opening, or if memory runs out
 abbrev pub IsStatus : ℕ → Type 0
 IsStatus status = Contains (0 ∷ 1 ∷ 2 ∷ 3 ∷ []) status

@@ -2,7 +2,7 @@
 use Rattle.std.specs.Prelude.{◌≡◌, ℕ, ◌<◌, All, List, length}
 use Rattle.clsm_model.specs.declared.record.CallRecord.{CallRecord}
 use Rattle.clsm_audit.specs.Lawful.{calls_of}
-use Rattle.clsm_calls.specs.Seats.{SeatState, StoreId}
+use Rattle.clsm_store_calls.specs.Seats.{SeatState, StoreId}
 use Rattle.clsm_store.specs.Headline.{IsAt}
 use Rattle.clsm_script.specs.declared.session.Session.{Session}
 

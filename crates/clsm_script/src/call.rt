@@ -1,6 +1,6 @@
 //! The calls that a script makes by a seat.
 ghost use Rattle.std.specs.Prelude.{◌≡◌, ◌++◌, IfOk, IfSome, option_to_list};
-ghost use Rattle.clsm_calls.specs.Seats.{SeatState};
+ghost use Rattle.clsm_store_calls.specs.Seats.{SeatState};
 ghost use Rattle.clsm_script.specs.Play.{PlaysCall};
 
 use crate::answer::Answer;
@@ -76,7 +76,7 @@ impl Call {
     }
 
     /// The record of the call that the seat with this number made, where it was answered so; `None`
-    /// where it was refused. Refused for want of memory.
+    /// where it was refused. Refused if memory runs out.
     pub fn to_record(&self, seat: u32, answer: &Answer) -> Result<Option<CallRecord>, AllocError>
         ensures made { IfOk result (λ made. (old new : SeatState) → old.number ≡ seat →
             PlaysCall self.now old new answer.now → new.calls ≡ old.calls ++ option_to_list made) }

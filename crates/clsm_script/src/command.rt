@@ -35,8 +35,8 @@ impl Command {
     ghost use Rattle.clsm_store.specs.Phase.{merger_in};
     ghost use Rattle.clsm_script.specs.Play.{Plays, Turns};
 
-    /// The command that the words of a line say; `None` where they say none. Refused for want of
-    /// memory.
+    /// The command that the words of a line say; `None` if they say no command. Refused if memory
+    /// runs out.
     pub fn parse(alloc: Global, words: &[&str]) -> Result<Option<Command>, AllocError>
         ensures { IfOk result (Finds (λ command. Says command (texts_of words.now))) }
     {
@@ -49,7 +49,7 @@ impl Command {
         }
     }
 
-    /// The batch of the members that the words write. Refused for want of memory.
+    /// The batch of the members that the words write. Refused if memory runs out.
     fn of_batch(alloc: Global, words: &[&str]) -> Result<Option<Command>, AllocError>
         ensures { IfOk result
             (Finds (λ command. Says command (codes "batch" ∷ texts_of words.now))) }
@@ -153,7 +153,7 @@ impl Command {
 
     /// Plays the command on a store, by its seats or by its merger, and answers what the store
     /// answered. A command of the merger in another phase than its own does nothing, and is
-    /// answered so. Refused for want of memory: a call was made then, and its record is lost.
+    /// answered so. Refused if memory runs out: a call was made then, and its record is lost.
     pub fn play<P: Pace + Drop, R: Wait>(
         self,
         rt: &R,

@@ -6,7 +6,7 @@ use std::alloc::Global;
 
 /// What a line says, given without its line feed: a command, or `None` where it has no words or is
 /// a comment, which begins with `#`. It is refused as bad where it is longer than 4,096 bytes, is
-/// not UTF-8 or says no command, and else only for want of memory.
+/// not UTF-8 or says no command, and otherwise only if memory runs out.
 pub fn parse_line(alloc: Global, line: &[u8]) -> Result<Option<Command>, LineError>
     ensures { Reads line.now result }
 {

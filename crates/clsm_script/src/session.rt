@@ -1,17 +1,19 @@
 //! The seats of a script, and what it keeps of their calls.
 ghost use Rattle.std.specs.Prelude.{◌≡◌, ◌≢◌, ◌<◌, ◌≤◌, ◌++◌, length, IfOk, OnOk};
 ghost use Rattle.std.specs.Prelude.{option_to_list};
-ghost use Rattle.clsm_calls.specs.Seats.{AreNew, StoreId};
+ghost use Rattle.clsm_store_calls.specs.Seats.{AreNew, StoreId};
 ghost use Rattle.clsm_store.specs.Meetings.{AreOf};
 ghost use Rattle.clsm_script.specs.Session.{IsSession};
 ghost use Rattle.clsm_script.specs.Play.{IsAudited, Calls, MeetsSeat, PairMeets, TakesSeat};
 
 use crate::answer::Answer;
 use crate::call::Call;
-use clsm_audit::{AuditError, audit};
+use clsm_audit::{AuditError, audit, explain};
 use clsm_model::{CallRecord, Config, Time};
+use clsm_records::{Listed, write_reason};
 use clsm_store::{Pace, Seat, Store};
 use std::alloc::{AllocError, Global};
+use std::io::Write;
 use std::sync::Wait;
 
 /// A script's seats at a store, one of which is in use, and the records of all their answered
@@ -26,7 +28,7 @@ pub struct Session {
     records: Vec<CallRecord>,
 }
 
-/// Keeps a record, if there is one. Refused for want of memory.
+/// Keeps a record, if there is one. Refused if memory runs out.
 fn keep(records: &mut Vec<CallRecord>, made: Option<CallRecord>) -> Result<(), AllocError>
     ensures { OnOk result (records.new.items ≡ records.old.items ++ option_to_list made) }
 {
@@ -66,8 +68,8 @@ impl Session {
         }
     }
 
-    /// Makes the call by the seat in use, and keeps its record where it is answered. Refused for
-    /// want of memory: the call was made then, and its record is lost.
+    /// Makes the call by the seat in use, and keeps its record where it is answered. Refused if
+    /// memory runs out: the call was made then, and its record is lost.
     pub fn call<P: Pace + Drop, R: Wait>(
         &mut self,
         rt: &R,
@@ -120,5 +122,21 @@ impl Session {
         ensures { IsAudited self.now result }
     {
         audit(alloc, &self.config, &self.records)
+    }
+
+    /// Writes to the faults why the first record that has a fault has it, if there is one and
+    /// memory to find out: what an explanation of `clsm_audit` says. A write that fails changes
+    /// nothing.
+    pub fn write_reason<E: Write>(self, alloc: Global, faults: &mut E) {
+        let Err(AuditError::Fault { kind, index }) = self.audit(alloc) else {
+            return;
+        };
+        let Ok(explanation) = explain(alloc, &self.config, &self.records, kind, index) else {
+            return;
+        };
+        let Session { records, .. } = self;
+        let lines = Vec::new(alloc);
+        let listed = Listed { records, lines };
+        let _ = write_reason(faults, &listed, index, &explanation);
     }
 }

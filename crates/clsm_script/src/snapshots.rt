@@ -1,7 +1,7 @@
 //! Reads under a snapshot that may be open.
 ghost use Rattle.std.specs.Prelude.{◌≡◌, None, IfNone, IfSome};
 ghost use Rattle.clsm_model.specs.declared.record.Deed.TheVariants.{GetAt};
-ghost use Rattle.clsm_calls.specs.Seats.{Answers};
+ghost use Rattle.clsm_store_calls.specs.Seats.{Answers};
 
 use clsm_store::{Got, Pace, Seat, Store};
 

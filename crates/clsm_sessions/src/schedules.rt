@@ -17,7 +17,7 @@
 //! What the world tells:
 //! - `has NUMBER WORD`, `has-none WORD`.
 //! - `undecided TIME`: it was not drawn, or is not decided yet. `nothing TIME`: it was cancelled,
-//!   or passed over. `wrote TIME SEAT KEY VALUE`: the seat wrote this there.
+//!   or skipped. `wrote TIME SEAT KEY VALUE`: the seat wrote this there.
 //! - `calls SEAT COUNT`: it has so many records. `call INDEX SEAT TIME DEED`: that of this index.
 //! - `is-run`: the events so far make the same world from the opening on. `refused-without N
 //!   PLACE`: without the event of this number they are refused at the place.

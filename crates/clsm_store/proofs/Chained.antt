@@ -7,7 +7,7 @@ use Rattle.clsm_model.proofs.Batches.{begins_self, begins_trans}
 use Rattle.clsm_words.specs.Seats.{MessageState}
 use Rattle.clsm_store.specs.Headline.{IsAt}
 use Rattle.clsm_store.specs.Meetings.{AreChained, AreMetAt, Follows, IsConfirmedBy, Meets, told_by}
-use Rattle.clsm_calls.specs.Seats.{SeatState, StoreId, known_by}
+use Rattle.clsm_store_calls.specs.Seats.{SeatState, StoreId, known_by}
 use Rattle.clsm_store.specs.Settling.{HaveConfirmed, HaveFollowed, IsToldBy}
 use Rattle.clsm_store.proofs.SeatPlaces.{at_get, at_one, at_set, set_back}
 
@@ -18,17 +18,22 @@ IsBefore s s' = (s.due ≤ s'.due) × IsBeginning (known_by s) (known_by s')
 self_before : (s : SeatState) → IsBefore s s
 self_before s = (omega arith, begins_self (known_by s))
 
-module _ (store : StoreId) (first : MessageState) (old l : List SeatState) (newest : MessageState) (done : ℕ) (h : HaveFollowed store first old l newest done) where
+module _ (store : StoreId) (first : MessageState) (old l : List SeatState) (newest : MessageState) (done : ℕ)
+    (h : HaveFollowed store first old l newest done) where
   module _ (s s' : SeatState) (t : ℕ) (f : Follows newest t s s') where
-    -- a seat that the message told of comes before the one that followed it
+    -- a seat that the message carries comes before the one that followed it
     told_before : (a : SeatState) → IsToldBy newest a → IsBefore a s'
-    told_before a is = (let x = is.due in let y = f.above_told in let z = f.due in omega arith, begins_trans (known_by a) (told_by newest) (known_by s') is.begins f.has_told)
+    told_before a is = (
+      let x = is.due in let y = f.above_told in let z = f.due in
+          omega arith,
+      begins_trans (known_by a) (told_by newest) (known_by s') is.begins f.has_told,
+    )
 
     followed_before : (i : ℕ) (a : SeatState) → i < done → IsAt l i a → IsBefore a s'
     followed_before i a lt at = told_before a (h.met i (get_or old i a) a lt (at_get old i a (let x = at.0 in let c = h.count in omega arith)) at).1
 
     module _ (message : MessageState) (told : told_by message ≡ known_by s') (heard : message.heard ≡ s'.due) where
-      -- and the next message tells of it
+      -- and the next message carries it
       told_next : (a : SeatState) → IsBefore a s' → IsToldBy message a
       told_next a before = record { due = let b = before.0 in omega arith; begins = subst (IsBeginning (known_by a)) (sym told) before.1 }
 
@@ -66,7 +71,8 @@ module _ (store : StoreId) (first : MessageState) (old l : List SeatState) (newe
   followed_chain all i j s s' le is is' = h.chained i j s s' le (let lt = is'.0 in let c = h.count in omega arith) is is'
 
 -- the seat next in turn is of the store, as it was before
-pub next_of_store : (store : StoreId) (first : MessageState) (old l : List SeatState) (newest : MessageState) (done : ℕ) (s : SeatState) → HaveFollowed store first old l newest done → ((i : ℕ) (x : SeatState) → IsAt old i x → x.store ≡ store) → IsAt l done s → s.store ≡ store
+pub next_of_store : (store : StoreId) (first : MessageState) (old l : List SeatState) (newest : MessageState) (done : ℕ) (s : SeatState)
+    → HaveFollowed store first old l newest done → ((i : ℕ) (x : SeatState) → IsAt old i x → x.store ≡ store) → IsAt l done s → s.store ≡ store
 next_of_store store first old l newest done s h all at = all done s (h.rest done s (omega arith) at)
 
 module _ (seats l : List SeatState) (same : l ≡ seats) (n : ℕ) (end : n + 1 ≡ length seats) (x x' : SeatState) (here : x ≡ get_or l n x) (told : x' ≡ x) where
@@ -83,5 +89,10 @@ module _ (seats l : List SeatState) (same : l ≡ seats) (n : ℕ) (end : n + 1 
     pub confirm_next : (h : History) → h ≡ known_by x → IsConfirmedBy h s → HaveConfirmed seats i → HaveConfirmed seats (i + 1)
     confirm_next h e a c j t last lt at is_last = dite (ℕ_discrete j i)
         (λ (q : j ≡ i). subst (λ (z : SeatState × History). IsConfirmedBy z.1 z.0)
-        (λ k. (at_one seats i s t sits (subst (λ (m : ℕ). IsAt seats m t) q at) k, (e ∙ ap (λ (z : SeatState). known_by z) (at_one seats n x last ((let w = end in omega arith), subst (λ (z : List SeatState). get_or z n x ≡ x) same (sym here)) (subst (λ (m : ℕ). IsAt seats m last) (let b = is_last.1 in omega arith) is_last.2))) k)) a)
+        (λ k. (
+          at_one seats i s t sits (subst (λ (m : ℕ). IsAt seats m t) q at) k,
+          (e ∙ ap (λ (z : SeatState). known_by z) (at_one seats n x last
+              ((let w = end in omega arith), subst (λ (z : List SeatState). get_or z n x ≡ x) same (sym here))
+              (subst (λ (m : ℕ). IsAt seats m last) (let b = is_last.1 in omega arith) is_last.2))) k,
+        )) a)
         (λ ne. c j t last (omega arith) at is_last)

@@ -1,6 +1,7 @@
 -- Seats that followed one another and are confirmed by the last one have a joint history: what that
 -- one knows.
-use Rattle.std.proofs.Common.{◌≡◌, ℕ, zero, suc, ◌<◌, ◌≤◌, ◌==◌, Bool, true, false, cond, List, [], ◌∷◌, length, get_or, refl, ap, ◌∙◌, sym, subst, arith, lt-ltb, le-ltb, ltb, lt_of_not-le, Option}
+use Rattle.std.proofs.Common.{◌≡◌, ℕ, zero, suc, ◌<◌, ◌≤◌, ◌==◌, Bool, true, false, cond, List, [], ◌∷◌, length, get_or, refl, ap, ◌∙◌, sym, subst, arith}
+use Rattle.std.proofs.Common.{lt-ltb, le-ltb, ltb, lt_of_not-le, Option}
 use Rattle.std.specs.List.{AllByRecursion}
 use native.Mathlib.Decide.{dec_le}
 use Rattle.std.proofs.lemmas.List.{get_or_append_left}
@@ -19,7 +20,7 @@ use Rattle.clsm_law.proofs.Histories.{GoesOn, records_right-go_on}
 use Rattle.clsm_words.specs.Knowing.{IsListedWithin}
 use Rattle.clsm_store.specs.Headline.{HasAllSeats, IsAt, IsJointHistory, IsSeatIn, IsWholeHistory, longest_past}
 use Rattle.clsm_store.specs.Meetings.{AreChained, AreConfirmed, AreDueBelow, AreMet, AreMetAt, AreOf, IsConfirmedBy, IsLast}
-use Rattle.clsm_calls.specs.Seats.{SeatState, StoreId, known_by}
+use Rattle.clsm_store_calls.specs.Seats.{SeatState, StoreId, known_by}
 use Rattle.clsm_store.proofs.SeatPlaces.{all_at, at_all, at_get, begins_all, begins_length, each}
 
 -- ---- one seat
@@ -42,21 +43,26 @@ right_deed h s deed right uncut = record {
   reads = Reads-same (plain h.slots) h s deed (λ t lt. refl) right.reads;
 }
 
-right_records : (h : History) (calls : List CallRecord) → AllByRecursion (IsRightRecord (plain h.slots)) calls → AllByRecursion (IsUncutRecord h.batches) calls → AllByRecursion (IsRightRecord h) calls
+right_records : (h : History) (calls : List CallRecord) → AllByRecursion (IsRightRecord (plain h.slots)) calls
+    → AllByRecursion (IsUncutRecord h.batches) calls → AllByRecursion (IsRightRecord h) calls
 right_records h [] right uncut = tt
 right_records h (r ∷ rs) right uncut = (right_deed h r.time r.deed right.0 uncut.0, right_records h rs right.1 uncut.1)
 
 -- a batch that moves the due within the history is listed
-listed_deed : (h : History) (due s : ℕ) (snapshot : Option ℕ) (deed : Deed) → due_after due snapshot s deed ≤ end_of h → IsListedWithin h s deed → IsListedDeed h.batches s deed
+listed_deed : (h : History) (due s : ℕ) (snapshot : Option ℕ) (deed : Deed) → due_after due snapshot s deed ≤ end_of h → IsListedWithin h s deed
+    → IsListedDeed h.batches s deed
 listed_deed h due s snapshot (Group members) le within = within le
 listed_deed h due s snapshot deed le within = tt
 
-listed_records : (h : History) (due : ℕ) (snapshot : Option ℕ) (calls : List CallRecord) → Rises due snapshot calls → last_due due snapshot calls ≤ end_of h → AllByRecursion (λ r. IsListedWithin h r.time r.deed) calls → AllByRecursion (IsListedRecord h.batches) calls
+listed_records : (h : History) (due : ℕ) (snapshot : Option ℕ) (calls : List CallRecord) → Rises due snapshot calls → last_due due snapshot calls ≤ end_of h
+    → AllByRecursion (λ r. IsListedWithin h r.time r.deed) calls → AllByRecursion (IsListedRecord h.batches) calls
 listed_records h due snapshot [] rises le all = tt
 listed_records h due snapshot (r ∷ rs) rises le all =
     let after : ℕ = due_after due snapshot r.time r.deed in
-    let open' : Option ℕ = open_after snapshot r.time r.deed in
-    (listed_deed h due r.time snapshot r.deed (let grows = last_grows after open' rs rises.1 in omega arith) all.0, listed_records h after open' rs rises.1 le all.1)
+    let open' : Option ℕ = open_after snapshot r.time r.deed in (
+      listed_deed h due r.time snapshot r.deed (let grows = last_grows after open' rs rises.1 in omega arith) all.0,
+      listed_records h after open' rs rises.1 le all.1,
+    )
 
 -- a confirmed seat's calls are its part of the history
 seat_in : (h : History) (s : SeatState) → IsBeginning (known_by s) h → IsConfirmedBy h s → s.due ≤ end_of (known_by s) → IsSeatIn h s
@@ -70,7 +76,8 @@ seat_in h s begins confirmed reached =
         stand = confirmed.agrees.stand;
         each = λ t key written lt is. one_write s.number t 0 _ _ s.calls rising.rises (confirmed.agrees.recorded t key written lt is);
         listed = listed_records h 0 _ s.calls rising.rises (let due = rising.due_is in omega arith) confirmed.agrees.listed;
-        right = right_records h s.calls (records_right-go_on (plain s.past) (plain h.slots) s.calls (begins_on (known_by s) h begins) confirmed.lawful.0.right) confirmed.agrees.uncut;
+        right = right_records h s.calls (records_right-go_on (plain s.past) (plain h.slots) s.calls
+            (begins_on (known_by s) h begins) confirmed.lawful.0.right) confirmed.agrees.uncut;
         rising = rising;
       };
     }
@@ -87,7 +94,8 @@ abbrev IsInTurn : History → Type 0
 IsInTurn h = AreInTurn 0 h.batches (end_of h)
 
 -- what holds of the empty history and of what each seat knows holds of the longest
-of_longest : (P : History → Type 0) (seats : List SeatState) → P (plain []) → ((i : ℕ) (s : SeatState) → IsAt seats i s → P (known_by s)) → P (longest_past seats)
+of_longest : (P : History → Type 0) (seats : List SeatState) → P (plain []) → ((i : ℕ) (s : SeatState) → IsAt seats i s → P (known_by s))
+    → P (longest_past seats)
 of_longest P [] none all = none
 of_longest P (s ∷ ss) none all = by_less (λ b. P (cond b (known_by s) (longest_past ss))) (end_of (longest_past ss)) (end_of (known_by s))
     (λ _. all 0 s (omega arith, refl)) (λ _. of_longest P ss none (λ i t at. all (suc i) t ((let a = at.0 in omega arith), at.1)))
@@ -95,9 +103,11 @@ of_longest P (s ∷ ss) none all = by_less (λ b. P (cond b (known_by s) (longes
 longest_covers : (seats : List SeatState) (i : ℕ) (s : SeatState) → IsAt seats i s → end_of (known_by s) ≤ end_of (longest_past seats)
 longest_covers [] i s at = absurd (let a = at.0 in omega arith)
 longest_covers (x ∷ xs) zero s at = let e : end_of (known_by x) ≡ end_of (known_by s) = ap (λ (z : SeatState). end_of (known_by z)) at.1 in
-    by_less (λ b. end_of (known_by s) ≤ end_of (cond b (known_by x) (longest_past xs))) (end_of (longest_past xs)) (end_of (known_by x)) (λ _. omega arith) (λ le. omega arith)
+    by_less (λ b. end_of (known_by s) ≤ end_of (cond b (known_by x) (longest_past xs))) (end_of (longest_past xs)) (end_of (known_by x)) (λ _. omega arith)
+    (λ le. omega arith)
 longest_covers (x ∷ xs) (suc i) s at = let c = longest_covers xs i s ((let a = at.0 in omega arith), at.1) in
-    by_less (λ b. end_of (known_by s) ≤ end_of (cond b (known_by x) (longest_past xs))) (end_of (longest_past xs)) (end_of (known_by x)) (λ lt. omega arith) (λ le. omega arith)
+    by_less (λ b. end_of (known_by s) ≤ end_of (cond b (known_by x) (longest_past xs))) (end_of (longest_past xs)) (end_of (known_by x)) (λ lt. omega arith)
+    (λ le. omega arith)
 
 -- ---- all of them
 
@@ -105,7 +115,8 @@ has_last : (seats : List SeatState) → 0 < length seats → (s : SeatState) × 
 has_last [] lt = absurd (omega arith)
 has_last (x ∷ xs) lt = let n : ℕ = length xs in (get_or (x ∷ xs) n x, (n, omega arith, at_get (x ∷ xs) n x (omega arith)))
 
-module _ (store : StoreId) (seats : List SeatState) (some : 0 < length seats) (chained : AreChained seats) (confirmed : AreConfirmed seats) (reach : (i : ℕ) (s : SeatState) → IsAt seats i s → s.due ≤ end_of (known_by s)) where
+module _ (store : StoreId) (seats : List SeatState) (some : 0 < length seats) (chained : AreChained seats) (confirmed : AreConfirmed seats)
+    (reach : (i : ℕ) (s : SeatState) → IsAt seats i s → s.due ≤ end_of (known_by s)) where
   abbrev last : SeatState
   last = (has_last seats some).0
 
@@ -126,7 +137,11 @@ module _ (store : StoreId) (seats : List SeatState) (some : 0 < length seats) (c
       turn
 
   joint_last : IsJointHistory seats (known_by last)
-  joint_last = record { parts = each (IsSeatIn (known_by last)) seats (λ i s at. seat_in (known_by last) s (begins i s at) (confirmed i s last at end) (reach i s at)); in_turn = turn }
+  joint_last = record {
+    parts = each (IsSeatIn (known_by last)) seats (λ i s at. seat_in (known_by last) s (begins i s at) (confirmed i s last at end)
+        (reach i s at));
+    in_turn = turn;
+  }
 
   pub joint : IsJointHistory seats (longest_past seats)
   joint = subst (IsJointHistory seats) (sym is) joint_last
@@ -167,7 +182,8 @@ module _ (t : ℕ) (old new : List SeatState) (m : AreMetAt t old new) where
   pub are_met : AreDueBelow t old → AreMet old new
   are_met below = record {
     count = m.count;
-    each = λ i j s s' other before after at. let x = m.each i s s' before after in let b = below j other at in record { read = x.read; due = let d = x.due in omega arith };
+    each = λ i j s s' other before after at. let x = m.each i s s' before after in let b = below j other at in
+        record { read = x.read; due = let d = x.due in omega arith };
   }
 
 pub nonzero : (n : ℕ) → (n == 0) ≡ false → 0 < n

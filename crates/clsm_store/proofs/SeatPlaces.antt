@@ -1,5 +1,6 @@
 -- Seats in a list.
-use Rattle.std.proofs.Common.{◌≡◌, ◌≢◌, ℕ, ◌<◌, ◌≤◌, ◌⊎◌, List, [], ◌∷◌, ◌++◌, length, get_or, set, refl, ap, ◌∙◌, sym, inl, inr, arith, length-set, length-append, get_or-set_same, get_or-set_other}
+use Rattle.std.proofs.Common.{◌≡◌, ◌≢◌, ℕ, ◌<◌, ◌≤◌, ◌⊎◌, List, [], ◌∷◌, ◌++◌, length, get_or, set, refl, ap, ◌∙◌, sym, inl, inr, arith, length-set}
+use Rattle.std.proofs.Common.{length-append, get_or-set_same, get_or-set_other}
 use mathlib.Core.Logic.{dite}
 use mathlib.Core.List.{IsPrefix}
 use native.Mathlib.Decide.{ℕ_discrete}
@@ -7,10 +8,10 @@ use Rattle.std.proofs.lemmas.List.Elements.{All-get_or, All-from_get_or}
 use Rattle.std.proofs.lemmas.List.{append-nil, get_or_default, set-get_or}
 use Rattle.clsm_model.specs.declared.slot.Slot.{Slot}
 use Rattle.clsm_model.specs.History.{History, AreInTurn, IsBeginning, end_of}
-use Rattle.clsm_model.proofs.Batches.{begins_same}
+use Rattle.clsm_model.proofs.Batches.{begins_same, prefix_length}
 use Rattle.clsm_store.specs.Headline.{IsAt}
 use Rattle.clsm_store.specs.Meetings.{AreOf}
-use Rattle.clsm_calls.specs.Seats.{SeatState, StoreId, newcomer}
+use Rattle.clsm_store_calls.specs.Seats.{SeatState, StoreId, newcomer}
 
 pub at_get : (l : List SeatState) (i : ℕ) (d : SeatState) → i < length l → IsAt l i (get_or l i d)
 at_get l i d lt = (lt, get_or_default l i (get_or l i d) d lt)
@@ -35,7 +36,8 @@ module _ (l : List SeatState) (i : ℕ) (inside : i < length l) (x y z : SeatSta
   put_again e = ap (λ (s : SeatState). set (set l i x) i s) e ∙ set_back (set l i x) i z ((let k = length-set l i x in omega arith), sym read)
 
 -- what holds at each place holds of each
-pub each : (P : SeatState → Type 0) (l : List SeatState) → ((i : ℕ) (s : SeatState) → IsAt l i s → P s) → (k : ℕ) (d : SeatState) → k < length l → P (get_or l k d)
+pub each : (P : SeatState → Type 0) (l : List SeatState) → ((i : ℕ) (s : SeatState) → IsAt l i s → P s) → (k : ℕ) (d : SeatState) → k < length l
+    → P (get_or l k d)
 each P l f k d lt = f k (get_or l k d) (at_get l k d lt)
 
 pub at_all : (store : StoreId) (l : List SeatState) → AreOf store l → (i : ℕ) (s : SeatState) → IsAt l i s → s.store ≡ store
@@ -49,9 +51,6 @@ all_at store l f = All-from_get_or (λ (z : SeatState). z.store ≡ store) l (ne
 none_left : (r : List Slot) → length r ≤ 0 → r ≡ []
 none_left [] le = refl
 none_left (x ∷ xs) le = absurd (omega arith)
-
-prefix_length : (a b : List Slot) → IsPrefix a b → length a ≤ length b
-prefix_length a b p = let l = length-append a p.0 in let e = ap length p.1 in omega arith
 
 -- a beginning that is as long is all
 prefix_all : (a b : List Slot) → IsPrefix a b → length b ≤ length a → a ≡ b

@@ -1,8 +1,8 @@
 -- A sweep goes on from a part of it that was done.
 use Rattle.std.proofs.Common.{◌+◌, ℕ, ◌≤◌, Ok, Err, Result}
 use Rattle.std.specs.Prelude.{⊤}
-use Rattle.clsm_calls.specs.Looking.{LooksAtClock, drawn_of}
-use Rattle.clsm_calls.specs.Seats.{CleanState, FrozenState, RetiredState}
+use Rattle.clsm_store_calls.specs.Looking.{LooksAtClock, drawn_of}
+use Rattle.clsm_store_calls.specs.Seats.{CleanState, FrozenState, RetiredState}
 use Rattle.clsm_store.specs.declared.phase.Phase.{Phase}
 use Rattle.clsm_store.specs.declared.phase.Phase.TheVariants.{Clean, Frozen, Retired}
 use Rattle.clsm_store.specs.declared.sweeping.Stopped.{Stopped}
@@ -11,20 +11,23 @@ use Rattle.clsm_store.specs.Phase.{Freezes, Merges}
 use Rattle.clsm_store.specs.Sweeping.{SweepsClean, SweepsCleanIf, SweepsFrozen, SweepsRetired, done_of, enough}
 
 -- the epoch is merged
-pub merged_on : (old : FrozenState) (retired : RetiredState) (new : Phase) (answer : Result ⊤ Stopped) → Merges (Frozen old) (Retired retired) (Ok (old.merger.merges + 1)) → SweepsRetired retired new answer → SweepsFrozen old new answer
+pub merged_on : (old : FrozenState) (retired : RetiredState) (new : Phase) (answer : Result ⊤ Stopped)
+    → Merges (Frozen old) (Retired retired) (Ok (old.merger.merges + 1)) → SweepsRetired retired new answer → SweepsFrozen old new answer
 merged_on old retired new (Ok done) merged swept = (retired, merged, swept)
 merged_on old retired new (Err (Pinned pinned)) merged swept = (retired, merged, swept)
 merged_on old retired new (Err (RunFull full)) merged swept = absurd swept
 merged_on old retired new (Err (Worn worn)) merged swept = absurd swept
 
 -- an epoch is frozen
-pub frozen_on : (old : CleanState) (frozen : FrozenState) (new : Phase) (answer : Result ⊤ Stopped) → Freezes (Clean old) (Frozen frozen) (Ok old.merger.merges) → SweepsFrozen frozen new answer → SweepsClean old new answer
+pub frozen_on : (old : CleanState) (frozen : FrozenState) (new : Phase) (answer : Result ⊤ Stopped)
+    → Freezes (Clean old) (Frozen frozen) (Ok old.merger.merges) → SweepsFrozen frozen new answer → SweepsClean old new answer
 frozen_on old frozen new (Ok done) freezes swept = (frozen, freezes, swept)
 frozen_on old frozen new (Err (Pinned pinned)) freezes swept = (frozen, freezes, swept)
 frozen_on old frozen new (Err (RunFull full)) freezes swept = (frozen, freezes, swept)
 frozen_on old frozen new (Err (Worn worn)) freezes swept = absurd swept.2
 
 -- enough of an epoch is used
-pub used_on : (used : ℕ) (old looked : CleanState) (new : Phase) (answer : Result ⊤ Stopped) → LooksAtClock old looked → enough used looked ≤ drawn_of looked → SweepsClean looked new answer → SweepsCleanIf used old new (done_of answer)
+pub used_on : (used : ℕ) (old looked : CleanState) (new : Phase) (answer : Result ⊤ Stopped) → LooksAtClock old looked
+    → enough used looked ≤ drawn_of looked → SweepsClean looked new answer → SweepsCleanIf used old new (done_of answer)
 used_on used old looked new (Ok done) looks many swept = (looked, looks, many, swept)
 used_on used old looked new (Err stopped) looks many swept = (looked, looks, many, swept)

@@ -5,7 +5,7 @@ use Rattle.std.specs.List.{All}
 use Rattle.clsm_model.specs.declared.slot.Slot.TheVariants.{Wrote}
 use Rattle.clsm_model.specs.History.{History, AreInTurn, IsBeginning, end_of, plain, slot_at}
 use Rattle.clsm_model.specs.Seats.{AreCallsIn}
-use Rattle.clsm_calls.specs.Seats.{SeatState, StoreId, known_by}
+use Rattle.clsm_store_calls.specs.Seats.{SeatState, StoreId, known_by}
 
 -- s is the seat at the place i
 abbrev pub IsAt : List SeatState → ℕ → SeatState → Type 0

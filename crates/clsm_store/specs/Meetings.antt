@@ -5,8 +5,8 @@ use Rattle.clsm_model.specs.History.{History, IsBeginning, end_of}
 use Rattle.clsm_words.specs.Knowing.{Agrees}
 use Rattle.clsm_words.specs.Seats.{MessageState}
 use Rattle.clsm_store.specs.Headline.{IsAt}
-use Rattle.clsm_calls.specs.Seats.{IsLawfulAlone, IsSameSeat, SeatState, StoreId, known_by}
-use Rattle.clsm_calls.specs.Tally.{TakesNoLock}
+use Rattle.clsm_store_calls.specs.Seats.{IsLawfulAlone, IsSameSeat, SeatState, StoreId, known_by}
+use Rattle.clsm_store_calls.specs.Tally.{TakesNoLock}
 
 -- the seat read with no record, at the time that is its due from then on, which is the clock as it
 -- looked at it then: the same calls and snapshot, and no lock taken; the time is not below its old
@@ -25,12 +25,12 @@ pub record Meets (t : ℕ) (old new : SeatState) : Type 0 where
   pub read : IsUnrecorded old new
   pub due : t ≤ new.due
 
--- the beginning of the history that the message tells of
+-- the beginning of the history that the message carries
 abbrev pub told_by : MessageState → History
 told_by m = record { slots = m.told; batches = m.batches }
 
--- it took the message in and read at t: it knows what it was told, and t is not below the due that
--- it was told of
+-- it took the message in and read at t: it knows what it was told, and t is not below the due in
+-- the message
 pub record Follows (message : MessageState) (t : ℕ) (old new : SeatState) : Type 0 where
   pub read : IsUnrecorded old new
   pub due : new.due ≡ t

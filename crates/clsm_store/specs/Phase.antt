@@ -1,16 +1,19 @@
 -- What the merger's commands make of its token, and what they answer.
-use Rattle.std.specs.Prelude.{◌≡◌, ℕ, ◌+◌, ◌*◌, ◌^◌, ◌<◌, ⊤, replicate, Result, Ok, Err}
+use Rattle.std.specs.Prelude.{◌≡◌, ℕ, ◌+◌, ◌*◌, ◌^◌, ◌<◌, ⊤, List, replicate, Result, Ok, Err}
 use Rattle.clsm_law.specs.Merging.{unseen}
 use Rattle.clsm_law.specs.Views.{next_word}
-use Rattle.clsm_calls.specs.Seats.{MergerState}
-use Rattle.clsm_calls.specs.Merging.{IsRunFull, TakesFloor}
-use Rattle.clsm_calls.specs.Reclaiming.{IsLowestLoud}
+use Rattle.clsm_store_calls.specs.Seats.{MergerState}
+use Rattle.clsm_model.specs.declared.slot.Slot.{Slot}
+use Rattle.clsm_store_calls.specs.Agreeing.{AgreesWith}
+use Rattle.clsm_store_calls.specs.Merging.{IsRunFull, TakesFloor}
+use Rattle.clsm_store_calls.specs.Reclaiming.{AreAllQuiet, IsLowestLoud}
 use Rattle.clsm_store.specs.declared.phase.Phase.{Phase}
 use Rattle.clsm_store.specs.declared.phase.Phase.TheVariants.{Clean, Frozen, Retired}
 use Rattle.clsm_store.specs.declared.phase.FreezeError.{FreezeError}
 use Rattle.clsm_store.specs.declared.phase.FreezeError.TheVariants.{NotClean, Worn}
 use Rattle.clsm_store.specs.declared.phase.MergeError.{MergeError}
-use Rattle.clsm_store.specs.declared.phase.MergeError.TheVariants.{NotFrozen, RunFull}
+use Rattle.clsm_store.specs.declared.phase.MergeError.TheVariants.{NotFrozen as MergeNotFrozen, RunFull}
+use Rattle.clsm_store.specs.declared.phase.NotFrozen.{NotFrozen}
 use Rattle.clsm_store.specs.declared.phase.ReclaimError.{ReclaimError}
 use Rattle.clsm_store.specs.declared.phase.ReclaimError.TheVariants.{NotRetired, Pinned}
 
@@ -33,6 +36,13 @@ Freezes (Clean old) (Clean new) (Err (Worn _)) =
 Freezes (Clean _) _ _ = ⊥
 Freezes old new answer = (new ≡ old) × (answer ≡ Err NotClean)
 
+-- where an epoch is frozen, it agrees with what the seat knows; else the call is refused
+abbrev pub Meets : Phase → List Slot → Result ⊤ NotFrozen → Type 0
+Meets (Frozen frozen) known (Ok _) = AgreesWith known frozen
+Meets (Frozen frozen) known (Err _) = ⊥
+Meets phase known (Ok _) = ⊥
+Meets phase known (Err _) = Unit {0}
+
 -- where an epoch is frozen, a floor is taken, and it is merged by it, so that no seat was looked at
 -- yet, or there is no room for what is kept by it; else nothing is done
 abbrev pub Merges : Phase → Phase → Result ℕ MergeError → Type 0
@@ -47,12 +57,15 @@ Merges (Frozen old) (Frozen new) (Err (RunFull _)) =
     × TakesFloor old new.floor new.rounds new.noted
     × IsRunFull old new.floor
 Merges (Frozen _) _ _ = ⊥
-Merges old new answer = (new ≡ old) × (answer ≡ Err NotFrozen)
+Merges old new answer = (new ≡ old) × (answer ≡ Err MergeNotFrozen)
 
--- where a component is retired, it is given up, with its floor and rounds as they were, or the
--- lowest seat that is looked at and not found quiet is named; else nothing is done
+-- where a component is retired, it is given up, with its floor and rounds as they were, once each
+-- seat was found quiet, or the lowest seat that is looked at and not found quiet is named; no seat is
+-- looked at twice. Else nothing is done
 abbrev pub Reclaims : Phase → Phase → Result ⊤ ReclaimError → Type 0
-Reclaims (Retired old) (Clean new) (Ok _) = new ≡ record { merger = old.merger; floor = old.floor; rounds = old.rounds; clock = new.clock }
+Reclaims (Retired old) (Clean new) (Ok _) =
+    (new ≡ record { merger = old.merger; floor = old.floor; rounds = old.rounds; clock = new.clock; readers = new.readers })
+    × AreAllQuiet old.readers new.readers
 Reclaims (Retired old) (Retired new) (Err (Pinned pinned)) =
     (new ≡ record old { readers = new.readers })
     × IsLowestLoud old.readers new.readers pinned.0

@@ -4,14 +4,14 @@ use Rattle.clsm_model.specs.History.{IsBeginning}
 use Rattle.clsm_words.specs.Seats.{MessageState}
 use Rattle.clsm_store.specs.Headline.{IsAt}
 use Rattle.clsm_store.specs.Meetings.{IsConfirmedBy, IsLast, Meets, told_by}
-use Rattle.clsm_calls.specs.Seats.{SeatState, StoreId, known_by}
+use Rattle.clsm_store_calls.specs.Seats.{SeatState, StoreId, known_by}
 
 -- the first `done` seats have told their dues
 pub record HaveTold (store : StoreId) (seats : List SeatState) (message : MessageState) (done : ℕ) : Type 0 where
   pub table : message.table ≡ store.table
   pub dues : (i : ℕ) (s : SeatState) → i < done → IsAt seats i s → s.due ≤ message.heard
 
--- the message tells of all that the seat knows, and its due is not above that of the message
+-- the message carries all that the seat knows, and its due is not above that of the message
 pub record IsToldBy (message : MessageState) (s : SeatState) : Type 0 where
   pub due : s.due ≤ message.heard
   pub begins : IsBeginning (known_by s) (told_by message)

@@ -2,8 +2,8 @@
 -- these come to: where one is done the next goes on from it, and where one is refused the sweep
 -- stops there, for the same reason.
 use Rattle.std.specs.Prelude.{ℕ, ◌+◌, ◌<◌, ◌≤◌, ⊤, min, Result, Ok, Err}
-use Rattle.clsm_calls.specs.Looking.{LooksAtClock, drawn_of}
-use Rattle.clsm_calls.specs.Seats.{CleanState, FrozenState, RetiredState}
+use Rattle.clsm_store_calls.specs.Looking.{LooksAtClock, drawn_of}
+use Rattle.clsm_store_calls.specs.Seats.{CleanState, FrozenState, RetiredState}
 use Rattle.clsm_store.specs.declared.phase.Phase.{Phase}
 use Rattle.clsm_store.specs.declared.phase.Phase.TheVariants.{Clean, Frozen, Retired}
 use Rattle.clsm_store.specs.declared.phase.FreezeError.TheVariants.{Worn as FreezeWorn}

@@ -1,17 +1,19 @@
 //! A caller with its store: the calls of the store. Only `get_at` asks for an open snapshot.
 ghost use Rattle.std.specs.Prelude.{◌≡◌, ◌≢◌, None, Some, IfNone, IfOk, IfErr, IfSome};
-ghost use Rattle.clsm_model.specs.declared.record.Deed.TheVariants.{Batch as Group, Close, Get, GetAt, Page as PageOf, Put, Remove, Rmw as ChangeOf, Scan as ScanOf, Snapshot};
+ghost use Rattle.clsm_model.specs.declared.record.Deed.TheVariants.{Batch as Group, Close, Get, GetAt, Page as PageOf, Put, Remove, Rmw as ChangeOf};
+ghost use Rattle.clsm_model.specs.declared.record.Deed.TheVariants.{Scan as ScanOf, Snapshot};
 ghost use Rattle.clsm_model.specs.Seats.{FitsDeed};
-ghost use Rattle.clsm_calls.specs.Batching.{CountsBatch, IsRefusedBatch};
-ghost use Rattle.clsm_calls.specs.Looking.{FindsRoom};
-ghost use Rattle.clsm_calls.specs.Seats.{Answers, GivesUpForWrites, IsFull, Refuses};
-ghost use Rattle.clsm_calls.specs.Tally.{CancelsNone, CountsTry, TakesLockOnce, TakesNoLock};
-ghost use Rattle.clsm_calls.specs.Trying.{RefusesTry};
+ghost use Rattle.clsm_law.specs.Relation.{call_of};
+ghost use Rattle.clsm_store_calls.specs.Batching.{CountsBatch, IsRefusedBatch};
+ghost use Rattle.clsm_store_calls.specs.Looking.{FindsRoom};
+ghost use Rattle.clsm_store_calls.specs.Seats.{Answers, GivesUpForWrites, IsFull, Refuses};
+ghost use Rattle.clsm_store_calls.specs.Tally.{CancelsNone, CountsTry, TakesLockOnce, TakesNoLock};
+ghost use Rattle.clsm_store_calls.specs.Trying.{RefusesTry};
 
 use crate::seat::Seat;
 use crate::store::Store;
-use clsm_calls::{BatchError, Full, Got, Open, Page, Rmw, Scan, TryPutError};
-use clsm_model::{Change, Memory, Time, Value};
+use clsm_model::{CallRecord, Change, Deed, Memory, Time, Value};
+use clsm_store_calls::{BatchError, Full, Got, Open, Page, Rmw, Scan, TryPutError};
 use clsm_words::Pace;
 use std::alloc::Global;
 use std::sync::Wait;
@@ -148,6 +150,13 @@ impl<'a, P: Pace> Caller<'a, P> {
         ensures { FindsRoom self.old.seat self.new.seat result }
     {
         self.store.room(&mut self.seat)
+    }
+
+    /// As `Seat::record_of`.
+    pub fn record_of(&self, time: Time, deed: Deed) -> CallRecord
+        ensures { result ≡ call_of self.now.seat.number time deed }
+    {
+        self.seat.record_of(time, deed)
     }
 
     /// As `Seat::snapshot_time`.

@@ -2,28 +2,28 @@
 ghost use Rattle.std.specs.Prelude.{◌≡◌, ◌≢◌, None, Some, IfNone, IfOk, IfErr, IfSome};
 ghost use Rattle.clsm_model.specs.declared.record.Deed.TheVariants.{Batch as Group, Close, Get, GetAt, Put, Remove, Rmw as ChangeOf, Snapshot};
 ghost use Rattle.clsm_model.specs.Seats.{FitsDeed};
-ghost use Rattle.clsm_calls.specs.Batching.{CountsBatch, IsRefusedBatch};
-ghost use Rattle.clsm_calls.specs.Looking.{FindsRoom};
-ghost use Rattle.clsm_calls.specs.Seats.{Answers, GivesUpForWrites, IsFull};
-ghost use Rattle.clsm_calls.specs.Tally.{CancelsNone, CountsTry, TakesLockOnce, TakesNoLock};
-ghost use Rattle.clsm_calls.specs.Trying.{RefusesTry};
+ghost use Rattle.clsm_store_calls.specs.Batching.{CountsBatch, IsRefusedBatch};
+ghost use Rattle.clsm_store_calls.specs.Looking.{FindsRoom};
+ghost use Rattle.clsm_store_calls.specs.Seats.{Answers, GivesUpForWrites, IsFull};
+ghost use Rattle.clsm_store_calls.specs.Tally.{CancelsNone, CountsTry, TakesLockOnce, TakesNoLock};
+ghost use Rattle.clsm_store_calls.specs.Trying.{RefusesTry};
 
 use crate::seat::Seat;
 use crate::store::Store;
-use clsm_calls::{
+use clsm_model::{Change, Time, Value};
+use clsm_pins::close_snapshot;
+use clsm_store_calls::{
     BatchError, Full, Got, Open, Rmw, TryPutError, batch, change, open_at, read, read_under,
     room_at, try_write, write,
 };
-use clsm_model::{Change, Time, Value};
-use clsm_pins::close_snapshot;
 use clsm_words::Pace;
 use std::sync::Wait;
 
 impl<P: Pace> Store<P> {
-    /// Writes the value at the key, and answers the write's time. It waits while a freeze holds the
-    /// lock, and tries again where another seat was faster or a reader overtook it. Refused with
-    /// `Full` where the clock stands at the limit while the seat holds the lock: nothing was
-    /// written then, and the seat is as before.
+    /// Writes the value at the key, and answers the write's time. It waits while a freeze or a
+    /// batch holds the lock, and tries again if another seat was faster or a reader overtook it.
+    /// Refused with `Full` if the clock stands at the limit while the seat holds the lock: nothing
+    /// was written then, and the seat is as before.
     pub fn put<R: Wait>(
         &self,
         rt: &R,
@@ -58,9 +58,9 @@ impl<P: Pace> Store<P> {
     /// the lock alone, once: it waits for that until no writer is inside, and keeps other writers
     /// out meanwhile, but no reader. It takes no memory, and gives up no time.
     ///
-    /// Refused, in this order: with `Empty` where there is no member, `TooLong` where there are more
-    /// than an epoch has cells, `Keep` where a member keeps its key, each before it enters the lock;
-    /// with `Full` where fewer times are left of the epoch than there are members. Nothing was
+    /// Refused, in this order: with `Empty` if there is no member, `TooLong` if there are more
+    /// than an epoch has cells, `Keep` if a member keeps its key, each before it enters the lock;
+    /// with `Full` if fewer times are left of the epoch than there are members. Nothing was
     /// written then, and the seat is as before. (LevelDB's write batch.)
     pub fn batch<R: Wait>(
         &self,
@@ -78,8 +78,8 @@ impl<P: Pace> Store<P> {
     }
 
     /// Writes the value at the key as `put`, but tries each exchange once and never waits. Refused
-    /// with `Full` as `put`, with `Busy` where the lock was not free to enter, with `Raced` where
-    /// another seat was faster, and with `Overtaken` where a reader cancelled the time: nothing was
+    /// with `Full` as `put`, with `Busy` if the lock was not free to enter, with `Raced` if
+    /// another seat was faster, and with `Overtaken` if a reader cancelled the time: nothing was
     /// written then, and the seat is as before, but for its count of such refusals.
     pub fn try_put(&self, seat: &mut Seat, key: u64, value: Value) -> Result<Time, TryPutError>
         requires { seat.old.store ≡ self.now }
@@ -92,8 +92,8 @@ impl<P: Pace> Store<P> {
 
     /// The value of the key at a time of the read's own, which is the clock as the read found it:
     /// the value that the newest write below that time left. It takes no lock and never waits; a
-    /// write that is drawn below its time and not decided after `patience` looks is cancelled, and
-    /// its writer writes again. It is never refused.
+    /// write that is drawn below its time and still undecided after one look and `patience` more
+    /// is cancelled, and its writer writes again. It is never refused.
     pub fn get(&self, seat: &mut Seat, key: u64) -> Got
         requires { seat.old.store ≡ self.now }
         ensures answers { Answers seat.old seat.new result.time (Get key result.value) }
@@ -107,8 +107,9 @@ impl<P: Pace> Store<P> {
     /// Reads the key, and makes of its value what the function answers to it: with `Keep` the call
     /// is a read alone, with a time of its own as `get`; else it is a write, and `old` is the value
     /// of the key below the write's time, as no other write of the key came between (the cLSM
-    /// paper's optimistic read-modify-write). The function may be asked several times. It waits and
-    /// is refused as `put`.
+    /// paper's optimistic read-modify-write). Where another seat wrote the key meanwhile it gives
+    /// its time up, one for each such write at most, and asks the function again. It waits and is
+    /// refused as `put`.
     pub fn rmw<R: Wait, F: Fn(Option<Value>) -> Change>(
         &self,
         rt: &R,
@@ -132,7 +133,7 @@ impl<P: Pace> Store<P> {
     /// Opens a snapshot at a time of its own, which is the clock as the call found it: it reads the
     /// map of the writes below that time until it is closed, through every merge (the cLSM paper's
     /// snapshot; LevelDB's). All below its time is decided when it answers. It takes no lock and
-    /// never waits. Refused with `Open` where the seat has an open snapshot, which stays; nothing
+    /// never waits. Refused with `Open` if the seat has an open snapshot, which stays; nothing
     /// was done then.
     pub fn snapshot(&self, seat: &mut Seat) -> Result<Time, Open>
         requires { seat.old.store ≡ self.now }
@@ -149,7 +150,7 @@ impl<P: Pace> Store<P> {
         Ok(time)
     }
 
-    /// Closes the seat's snapshot, and answers its time, or `None` where none was open. Merges may
+    /// Closes the seat's snapshot, and answers its time, or `None` if none was open. Merges may
     /// then forget what only it read. It takes no lock, never waits and is never refused.
     pub fn close_snapshot(&self, seat: &mut Seat) -> Option<Time>
         requires { seat.old.store ≡ self.now }
@@ -179,7 +180,7 @@ impl<P: Pace> Store<P> {
         got
     }
     /// How many timestamps are left in the epoch, as one look at its limit and then one at the clock
-    /// find it, or 0 where the clock has passed that limit. The answer may be old at once: others
+    /// find it, or 0 if the clock has passed that limit. The answer may be old at once: others
     /// draw timestamps, and a freeze makes room. It records nothing, costs two looks, takes no lock,
     /// never waits and is never refused.
     pub fn room(&self, seat: &mut Seat) -> u64

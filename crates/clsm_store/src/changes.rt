@@ -1,19 +1,19 @@
 //! Read-modify-writes that most programs make: an addition to a counter, and a first write.
 ghost use Rattle.std.specs.Prelude.{◌≡◌, IfOk, IfErr};
 ghost use Rattle.clsm_model.specs.declared.record.Deed.TheVariants.{Rmw as ChangeOf};
-ghost use Rattle.clsm_calls.specs.Seats.{Answers, GivesUpForWrites, IsFull};
-ghost use Rattle.clsm_calls.specs.Tally.{TakesLockOnce};
+ghost use Rattle.clsm_store_calls.specs.Seats.{Answers, GivesUpForWrites, IsFull};
+ghost use Rattle.clsm_store_calls.specs.Tally.{TakesLockOnce};
 ghost use Rattle.clsm_store.specs.Changes.{added, put_if_absent, word_sum};
 
 use crate::caller::Caller;
 use crate::seat::Seat;
 use crate::store::Store;
-use clsm_calls::{Full, Rmw};
 use clsm_model::{Change, Value};
+use clsm_store_calls::{Full, Rmw};
 use clsm_words::Pace;
 use std::sync::Wait;
 
-/// The sum of a value's word and another, where it has one word and the sum fits in 64 bits; of no
+/// The sum of a value's word and another, if it has one word and the sum fits in 64 bits; of no
 /// value, that other.
 fn word_sum(old: &Option<Value>, by: u64) -> Option<u64>
     ensures { result ≡ word_sum old.now by }
@@ -48,8 +48,8 @@ fn put_if_absent(old: &Option<Value>, value: Value) -> Change
 }
 
 impl<P: Pace> Store<P> {
-    /// Adds the number to the key's word, which counts as 0 where the key has no value, in one
-    /// read-modify-write. It keeps the value where the sum passes 2^64 - 1 or the value has several
+    /// Adds the number to the key's word, which counts as 0 if the key has no value, in one
+    /// read-modify-write. It keeps the value if the sum passes 2^64 - 1 or the value has several
     /// words: the answer's `change` tells. It waits and is refused as `put`.
     pub fn add<R: Wait>(&self, rt: &R, seat: &mut Seat, key: u64, by: u64) -> Result<Rmw, Full>
         requires { seat.old.store ≡ self.now }
@@ -62,7 +62,7 @@ impl<P: Pace> Store<P> {
         self.rmw(rt, seat, key, &|old| added(&old, by))
     }
 
-    /// Writes the value at the key where the key has none, and else keeps what it has, in one
+    /// Writes the value at the key if the key has none, and else keeps what it has, in one
     /// read-modify-write: the answer's `old` tells. It waits and is refused as `put`.
     pub fn put_if_absent<R: Wait>(
         &self,

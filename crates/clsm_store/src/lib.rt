@@ -4,8 +4,8 @@
 mod caller;
 mod calls;
 mod changes;
-mod joining;
 mod many;
+mod meet;
 pub mod merger;
 mod opening;
 mod phase;
@@ -16,16 +16,18 @@ mod sweeping;
 mod telling;
 
 pub use caller::Caller;
-pub use clsm_calls::{BatchError, Full, Got, Open, Page, Pinned, Rmw, Scan, TryPutError, Worn};
 pub use clsm_law::{Part, Word};
 pub use clsm_model::{
     CallRecord, Change, Config, Deed, Length, Members, Memory, OpenError, Rows, Time, Value,
 };
 pub use clsm_runs::RunFull;
+pub use clsm_store_calls::{
+    BatchError, Full, Got, Open, Page, Pinned, Rmw, Scan, TryPutError, Worn,
+};
 pub use clsm_words::{Free, Kind, Pace};
 pub use merger::{Clean, Frozen, Merger, Retired};
 pub use opening::{Opened, open, open_paced};
-pub use phase::{FreezeError, MergeError, Phase, ReclaimError};
+pub use phase::{FreezeError, MergeError, NotFrozen, Phase, ReclaimError};
 pub use seat::Seat;
 pub use store::Store;
 pub use sweeping::{Stopped, Swept};

@@ -1,14 +1,14 @@
 //! The calls that read many keys at one time.
 ghost use Rattle.std.specs.Prelude.{◌≡◌, IfErr, IfOk};
 ghost use Rattle.clsm_model.specs.declared.record.Deed.TheVariants.{Page as PageOf, Scan as ScanOf};
-ghost use Rattle.clsm_calls.specs.Scanning.{IsAnswerTo};
-ghost use Rattle.clsm_calls.specs.Seats.{Answers, Refuses};
-ghost use Rattle.clsm_calls.specs.Tally.{TakesNoLock};
+ghost use Rattle.clsm_store_calls.specs.Scanning.{IsAnswerTo};
+ghost use Rattle.clsm_store_calls.specs.Seats.{Answers, Refuses};
+ghost use Rattle.clsm_store_calls.specs.Tally.{TakesNoLock};
 
 use crate::seat::Seat;
 use crate::store::Store;
-use clsm_calls::{Asked, Page, Scan, scan_at, scan_under};
 use clsm_model::{Deed, Memory, Time};
+use clsm_store_calls::{Asked, Page, Scan, scan_at, scan_under};
 use clsm_words::Pace;
 use std::alloc::Global;
 
@@ -35,9 +35,9 @@ impl<P: Pace> Store<P> {
     }
 
     /// All pairs with `lo <= key <= hi` by rising key, as one read: at the time of the seat's open
-    /// snapshot, else at a time of its own, as `get`. There are none where `lo > hi`. It reads the
+    /// snapshot, else at a time of its own, as `get`. There are none if `lo > hi`. It reads the
     /// runs and the ordered lists of the component in memory from `lo` to `hi`, and takes memory
-    /// for the rows alone. It takes no lock and never waits. Refused for want of memory: nothing is
+    /// for the rows alone. It takes no lock and never waits. Refused if memory runs out: nothing is
     /// recorded then, and the seat is at rest.
     pub fn scan(&self, alloc: Global, seat: &mut Seat, lo: u64, hi: u64) -> Result<Scan, Memory>
         requires { seat.old.store ≡ self.now }

@@ -2,10 +2,11 @@
 //! is.
 ghost use Rattle.std.specs.Prelude.{◌≡◌, IfOk};
 ghost use Rattle.clsm_store.specs.declared.phase.Phase.TheVariants.{Clean as CleanPhase};
-ghost use Rattle.clsm_store.specs.Phase.{Freezes, Merges, Reclaims, merger_in};
+ghost use Rattle.clsm_store.specs.Phase.{Freezes, Meets, Merges, Reclaims, merger_in};
 ghost use Rattle.clsm_store.specs.Sweeping.{Sweeps, SweepsIf};
 
-use crate::phase::{FreezeError, MergeError, Phase, ReclaimError};
+use crate::phase::{FreezeError, MergeError, NotFrozen, Phase, ReclaimError};
+use crate::seat::Seat;
 use crate::store::Store;
 use crate::sweeping::{Stopped, Swept, sweep, sweep_if_used};
 use clsm_words::Pace;
@@ -44,6 +45,16 @@ impl<'a, P: Pace + Drop> Merger<'a, P> {
         (Merger { store, phase }, answer)
     }
 
+    /// As `Frozen::meet`: the seat is one of the store's. Refused in any other phase.
+    pub fn meet(&mut self, seat: &mut Seat) -> Result<(), NotFrozen>
+        requires { seat.old.store ≡ self.old.store.now }
+        ensures phase { self.new.phase ≡ self.old.phase }
+        ensures seat { seat.new ≡ seat.old }
+        ensures meets { Meets self.old.phase seat.old.past result }
+    {
+        self.phase.meet(self.store, seat)
+    }
+
     /// As `Frozen::merge`: answers the new number of merges. Refused with `NotFrozen` in any other
     /// phase.
     pub fn merge(self) -> (Merger<'a, P>, Result<u64, MergeError>)
@@ -66,7 +77,7 @@ impl<'a, P: Pace + Drop> Merger<'a, P> {
     /// Freezes the current epoch, merges it and gives up what that retired, from the phase in which
     /// the merger is and as far as these go: a flush of the component in memory, and each fourth
     /// time a compaction of all runs. It makes one try of each of these, as `freeze`, `merge` and
-    /// `reclaim` do, waits for the lock as a freeze does, and for nothing else. Where one of them is
+    /// `reclaim` do, waits for the lock as a freeze does, and for nothing else. If one of them is
     /// refused it stops there, and `Stopped` says why; the next sweep goes on from there.
     pub fn sweep<R: Wait>(self, rt: &R) -> (Merger<'a, P>, Result<(), Stopped>)
         ensures { Sweeps self.entry.phase result.0.phase result.1 }
@@ -76,9 +87,9 @@ impl<'a, P: Pace + Drop> Merger<'a, P> {
         (Merger { store, phase }, answer)
     }
 
-    /// As `sweep`, but where nothing is frozen it looks at the clock first, and freezes the epoch
+    /// As `sweep`, but if nothing is frozen it looks at the clock first, and freezes the epoch
     /// only if at least `used` of its timestamps are drawn, or all that it has. Else it answers
-    /// `Waited`: nothing was done then, at the cost of one look. Where an epoch is frozen or a
+    /// `Waited`: nothing was done then, at the cost of one look. If an epoch is frozen or a
     /// component is retired it goes on as `sweep`. So a merger that never rests makes runs of a
     /// size that is worth a merge. More may be drawn by the time that it answers.
     pub fn sweep_if_used<R: Wait>(

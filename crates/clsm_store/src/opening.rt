@@ -1,20 +1,21 @@
 //! How a store opens.
-ghost use Rattle.std.specs.Prelude.{◌≡◌, ◌<◌, ◌+◌, vec_len, All, IfOk, IfErr, OnOk};
+ghost use Rattle.std.specs.Prelude.{◌≡◌, ◌<◌, ◌+◌, replicate, vec_len, All, IfOk, IfErr, OnOk};
+ghost use Rattle.clsm_law.specs.Merging.{unseen};
 ghost use Rattle.clsm_model.specs.Config.{IsSound};
 ghost use Rattle.clsm_words.specs.Plays.{AreFreshFrom, IsFreshMerger};
-ghost use Rattle.clsm_calls.specs.Freezing.{IsClean};
-ghost use Rattle.clsm_calls.specs.Merging.{IsReady, clean_of};
-ghost use Rattle.clsm_calls.specs.Seats.{AreNew, HasSizes, IsNewMerger};
+ghost use Rattle.clsm_store_calls.specs.Freezing.{IsClean};
+ghost use Rattle.clsm_store_calls.specs.Merging.{IsReady, clean_of};
+ghost use Rattle.clsm_store_calls.specs.Seats.{AreNew, HasSizes, IsNewMerger};
 ghost use Rattle.clsm_store.specs.Opening.{IsRefusal};
-ghost use Rattle.clsm_calls.specs.Resting.{store_of};
+ghost use Rattle.clsm_store_calls.specs.Resting.{store_of};
 
 use crate::merger::Clean;
 use crate::seat::Seat;
 use crate::store::Store;
-use clsm_calls::MergerSeat;
 use clsm_law::{Layout, Reader};
 use clsm_memtable::FrozenWalk;
 use clsm_model::{Config, OpenError};
+use clsm_store_calls::MergerSeat;
 use clsm_words::{Free, Pace, RawMerger, RawSeat, Words};
 use std::alloc::{AllocError, Global};
 
@@ -27,7 +28,7 @@ pub struct Opened<P: Pace> {
 }
 
 /// Opens an empty store of these sizes, and makes all its room. Refused with the first size out of
-/// its range, in the order cells, seats, shards, run, patience, and with `Memory` only where all
+/// its range, in the order cells, seats, shards, run, patience, and with `Memory` only if all
 /// are in their ranges. Nothing is kept after a refusal.
 pub fn open(alloc: Global, config: Config) -> Result<Opened<Free>, OpenError>
     ensures sizes { OnOk result (IsSound config) }
@@ -40,7 +41,7 @@ pub fn open(alloc: Global, config: Config) -> Result<Opened<Free>, OpenError>
     open_paced(alloc, config, Free)
 }
 
-/// As `open`, with a pace: each atomic step on the store is made behind a call of it.
+/// As `open`, with a pace: it is called before each atomic step on the store.
 pub fn open_paced<P: Pace>(alloc: Global, config: Config, pace: P) -> Result<Opened<P>, OpenError>
     ensures sizes { OnOk result (IsSound config) }
     ensures store { IfOk result (λ opened. HasSizes opened.store config) }
@@ -60,7 +61,7 @@ pub fn open_paced<P: Pace>(alloc: Global, config: Config, pace: P) -> Result<Ope
     })
 }
 
-/// The seats of callers, of whom none did anything.
+/// The seats of callers that have done nothing yet.
 fn seat_all<P: Pace>(
     alloc: Global,
     words: &Words<P>,
@@ -98,11 +99,21 @@ fn unseen(alloc: Global, seats: usize) -> Result<Vec<Reader>, AllocError>
     Ok(seen)
 }
 
-/// The merger, which did nothing yet, with all its room.
+/// The merger, which has done nothing yet, with all its room.
 fn seat_merger(alloc: Global, layout: &Layout, raw: RawMerger) -> Result<MergerSeat, AllocError>
     requires fresh { IsFreshMerger raw }
     requires layout { raw.knows.layout ≡ layout.now }
-    ensures new { IfOk result (λ merger. clean_of merger ≡ record { merger = record { store = record { table = raw.table; layout = raw.knows.layout }; merges = 0; holds = 0 }; floor = 0; rounds = 0; clock = (clean_of merger).clock }) }
+    ensures new { IfOk result (λ merger. clean_of merger ≡ record {
+      merger = record {
+        store = record { table = raw.table; layout = raw.knows.layout };
+        merges = 0;
+        holds = 0;
+      };
+      floor = 0;
+      rounds = 0;
+      clock = (clean_of merger).clock;
+      readers = replicate raw.knows.layout.seats unseen;
+    }) }
     ensures clean { IfOk result (λ merger. IsClean merger.raw.knows merger.merges) }
     ensures ready { IfOk result IsReady }
 {

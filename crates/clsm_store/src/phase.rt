@@ -1,11 +1,12 @@
 //! The merger's token of a store, in whichever phase it is.
 ghost use Rattle.std.specs.Prelude.{◌≡◌};
-ghost use Rattle.clsm_store.specs.Phase.{Freezes, Merges, Reclaims, merger_in};
+ghost use Rattle.clsm_store.specs.Phase.{Freezes, Meets, Merges, Reclaims, merger_in};
 
 use crate::merger::{Clean, Frozen, Retired};
+use crate::seat::Seat;
 use crate::store::Store;
-use clsm_calls::{Pinned, Worn};
 use clsm_runs::RunFull;
+use clsm_store_calls::{Pinned, Worn};
 use clsm_words::Pace;
 use std::sync::Wait;
 use thiserror::Error;
@@ -32,6 +33,11 @@ pub enum FreezeError {
     Worn(Worn),
 }
 
+/// Why no seat was met: no epoch is frozen.
+#[derive(Clone, Copy, PartialEq, Eq, Debug, Error)]
+#[error("not frozen")]
+pub struct NotFrozen;
+
 /// Why nothing was merged. The token is then in the phase that it was in.
 #[derive(Clone, Copy, PartialEq, Eq, Debug, Error)]
 pub enum MergeError {
@@ -56,7 +62,7 @@ pub enum ReclaimError {
 
 impl Phase {
     /// Freezes the current epoch, and answers its number. Refused with `NotClean` in any phase but
-    /// `Clean`, where nothing is done, and with `Worn` where the next limit would pass 2^62.
+    /// `Clean`, where nothing is done, and with `Worn` if the next limit would pass 2^62.
     pub fn freeze<P: Pace + Drop, R: Wait>(
         self,
         rt: &R,
@@ -78,8 +84,30 @@ impl Phase {
         }
     }
 
+    /// Ties the frozen epoch to what the seat knows, as `Frozen::meet`. Refused in any phase but
+    /// `Frozen`, where nothing is done. It never waits.
+    pub fn meet<P: Pace + Drop>(
+        &mut self,
+        store: &Store<P>,
+        seat: &mut Seat,
+    ) -> Result<(), NotFrozen>
+        requires token { (merger_in self.old).store ≡ store.now }
+        requires seat { seat.old.store ≡ store.now }
+        ensures phase { self.new ≡ self.old }
+        ensures seat { seat.new ≡ seat.old }
+        ensures meets { Meets self.old seat.old.past result }
+    {
+        match self {
+            Phase::Frozen(frozen) => {
+                frozen.meet(store, seat);
+                Ok(())
+            }
+            _ => Err(NotFrozen),
+        }
+    }
+
     /// Merges the frozen epoch into a sorted run, and answers the new number of merges. Refused
-    /// with `NotFrozen` in any phase but `Frozen`, where nothing is done, and with `RunFull` where
+    /// with `NotFrozen` in any phase but `Frozen`, where nothing is done, and with `RunFull` if
     /// a merge into level 1 would keep more entries than a run has room for.
     pub fn merge<P: Pace + Drop>(self, store: &Store<P>) -> (Phase, Result<u64, MergeError>)
         requires { (merger_in self).store ≡ store.now }
@@ -99,7 +127,7 @@ impl Phase {
     }
 
     /// Gives the retired component up. Refused with `NotRetired` in any phase but `Retired`, where
-    /// nothing is done, and with `Pinned` where the pin word of a seat was found to keep the
+    /// nothing is done, and with `Pinned` if the pin word of a seat was found to keep the
     /// component.
     pub fn reclaim<P: Pace + Drop>(self, store: &Store<P>) -> (Phase, Result<(), ReclaimError>)
         requires { (merger_in self).store ≡ store.now }

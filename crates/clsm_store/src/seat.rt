@@ -1,5 +1,5 @@
 //! A caller's seat at a store.
-use clsm_model::Time;
+use clsm_model::{CallRecord, Deed, Time};
 use clsm_words::RawSeat;
 use std::marker::Model;
 
@@ -17,9 +17,9 @@ pub struct Seat {
 
 impl Model for Seat {
     ghost use Rattle.std.specs.Prelude.{◌≡◌};
-    ghost use Rattle.clsm_law.specs.Relation.{open_time};
-    ghost use Rattle.clsm_calls.specs.Seats.{SeatState};
-    ghost use Rattle.clsm_calls.specs.Resting.{IsAtRest, seat_of};
+    ghost use Rattle.clsm_law.specs.OpenSteps.{open_time};
+    ghost use Rattle.clsm_store_calls.specs.Seats.{SeatState};
+    ghost use Rattle.clsm_store_calls.specs.Resting.{IsAtRest, seat_of};
 
     ghost Value = { SeatState };
 
@@ -30,7 +30,8 @@ impl Model for Seat {
 
 impl Seat {
     ghost use Rattle.std.specs.Prelude.{◌≡◌, ◌≤◌, ◌^◌};
-    ghost use Rattle.clsm_calls.specs.Seats.{IsLawfulAlone};
+    ghost use Rattle.clsm_law.specs.Relation.{call_of};
+    ghost use Rattle.clsm_store_calls.specs.Seats.{IsLawfulAlone};
 
     /// Its number, from 0 to the number of seats less 1.
     #[inline]
@@ -47,6 +48,16 @@ impl Seat {
         ensures { result ≡ self.now.snapshot }
     {
         self.snapshot
+    }
+
+    /// The record of a call that this seat made: its answer's time, and what it did, with its
+    /// arguments and its answer. Who keeps one for each answered call, in their order, has the
+    /// seat's calls as contracts see them, and so what an audit takes.
+    pub fn record_of(&self, time: Time, deed: Deed) -> CallRecord
+        ensures { result ≡ call_of self.now.number time deed }
+    {
+        let seat = self.number();
+        CallRecord { seat, time, deed }
     }
 
     /// Shows what holds of every seat: each of its writes stands in the history that it knows, each

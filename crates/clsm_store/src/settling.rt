@@ -8,7 +8,7 @@ use crate::store::Store;
 use crate::telling::{confirm, follow, join, tell};
 use clsm_words::{Message, Pace};
 
-/// A message that tells of the greatest due of all.
+/// A message with the greatest due of all.
 pub(crate) fn tell_all<P: Pace>(store: &Store<P>, seats: &mut Vec<Seat>) -> Message
     requires some { 0 < length seats.old.items }
     requires of_store { AreOf store.now seats.old.items }

@@ -9,8 +9,8 @@ pub struct Store<P: Pace> {
 }
 
 impl<P: Pace> Model for Store<P> {
-    ghost use Rattle.clsm_calls.specs.Seats.{StoreId};
-    ghost use Rattle.clsm_calls.specs.Resting.{store_of};
+    ghost use Rattle.clsm_store_calls.specs.Seats.{StoreId};
+    ghost use Rattle.clsm_store_calls.specs.Resting.{store_of};
 
     ghost Value = { StoreId };
 

@@ -6,8 +6,8 @@ ghost use Rattle.clsm_store.specs.Sweeping.{Sweeps, SweepsClean, SweepsCleanIf, 
 use crate::merger::{Clean, Frozen, Retired};
 use crate::phase::Phase;
 use crate::store::Store;
-use clsm_calls::{Pinned, Worn};
 use clsm_runs::RunFull;
+use clsm_store_calls::{Pinned, Worn};
 use clsm_words::Pace;
 use std::sync::Wait;
 use thiserror::Error;

@@ -1,15 +1,15 @@
 //! What seats tell one another.
 ghost use Rattle.std.specs.Prelude.{◌≡◌, ◌≤◌};
-ghost use Rattle.clsm_calls.specs.Seats.{known_by};
+ghost use Rattle.clsm_store_calls.specs.Seats.{known_by};
 ghost use Rattle.clsm_store.specs.Meetings.{Follows, IsConfirmedBy, told_by};
 
 use crate::seat::Seat;
 use crate::store::Store;
-use clsm_calls::{confirm_at, meet_at};
 use clsm_model::Time;
+use clsm_store_calls::{confirm_at, meet_at};
 use clsm_words::{Message, Pace};
 
-/// A message that tells of what the seat knows, and of its due.
+/// A message with what the seat knows, and its due.
 pub(crate) fn tell<P: Pace>(store: &Store<P>, seat: &mut Seat) -> Message
     requires { seat.old.store ≡ store.now }
     ensures seat { seat.new ≡ seat.old }
@@ -20,7 +20,7 @@ pub(crate) fn tell<P: Pace>(store: &Store<P>, seat: &mut Seat) -> Message
     store.words.tell(&mut seat.raw)
 }
 
-/// The message carries what the other tells of from now on, and the greater due.
+/// From now on the message carries what the other carries, and the greater due.
 pub(crate) fn join<P: Pace>(store: &Store<P>, message: &mut Message, other: Message)
     requires table { message.old.table ≡ store.now.table }
     requires other { other.table ≡ store.now.table }

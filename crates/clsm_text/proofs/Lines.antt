@@ -7,6 +7,7 @@ use Rattle.std.proofs.lemmas.Bool.Decides.{nat_tests}
 use Rattle.std.proofs.lemmas.List.{length-append, length-take, take-take, take_all}
 use Rattle.std.proofs.lemmas.List.Elements.{recursion_from_All}
 use Rattle.std.proofs.Math.Seq.{take-append_seam, drop-append_seam, drop-append-add}
+use Rattle.std.proofs.KnownBytes.{Consumes-trans}
 use Rattle.std.specs.Io.KnownBytes.{Consumes, IsAtEnd}
 use Rattle.std.specs.List.{AllByRecursion, position_or_len}
 use Rattle.clsm_text.specs.Input.{is_line_feed, first_line, TakesLine}
@@ -98,3 +99,15 @@ line_cut None new line taken none long = tt
 line_cut (Some bytes) None line taken none long = elim taken [ ]
 line_cut (Some bytes) (Some rest) line taken none long =
     rw taken (takes_cut line rest (recursion_from_All _ line none) long)
+
+-- the end of known bytes was met, after such a line
+pub line_ended : (old now new : Option (List ℕ)) (line : List ℕ) →
+    Consumes old now line → Consumes now new [] → IfSome now (λ _. IsAtEnd new) →
+    All (λ b. b ≢ 10) line → length line ≤ 4097 → IfSome old (λ bytes. TakesLine bytes line new)
+line_ended None now new line taken none end plain short = tt
+line_ended (Some bytes) None new line taken none end plain short = elim taken [ ]
+line_ended (Some bytes) (Some rest) new line taken none end plain short =
+    line_to_end (Some bytes) new line
+    (subst (Consumes (Some bytes) new) (append-nil line)
+    (Consumes-trans (Some bytes) (Some rest) new line [] taken none))
+    end plain short

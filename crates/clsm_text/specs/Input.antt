@@ -1,6 +1,10 @@
 -- The input of a script as its lines.
-use Rattle.std.specs.Prelude.{◌≡◌, ℕ, ◌+◌, ◌==◌, min, Bool, List, Option, Some, length, take, drop}
+use Rattle.std.specs.Prelude.{◌≡◌, ◌≢◌, ℕ, ◌+◌, ◌≤◌, ◌==◌, min, Bool, All, List, [], ◌∷◌, ◌++◌}
+use Rattle.std.specs.Prelude.{Option, Some, IfSome, length, take, drop}
+use Rattle.std.specs.Io.KnownBytes.{Consumes, IsAtEnd}
 use Rattle.std.specs.List.{before_first}
+use Rattle.clsm_text.specs.declared.input.Part.{Part}
+use Rattle.clsm_text.specs.declared.input.Part.TheVariants as parts
 
 -- the byte is a line feed
 abbrev pub is_line_feed : ℕ → Bool
@@ -14,3 +18,18 @@ first_line bytes = before_first is_line_feed bytes
 pub record TakesLine (bytes line : List ℕ) (rest : Option (List ℕ)) : Type 0 where
   pub line_is : line ≡ take 4097 (first_line bytes)
   pub rest_is : rest ≡ Some (drop (min (length (first_line bytes) + 1) 4097) bytes)
+
+-- bytes without a line feed are taken behind what was taken of the line: with its line feed, which
+-- the line leaves room for, or none at the end of the input
+abbrev pub TakesMore : Option (List ℕ) → Option (List ℕ) → List ℕ → Part → Type 0
+TakesMore old new more parts.Some = Consumes old new more
+TakesMore old new more parts.Last = Consumes old new (more ++ 10 ∷ [])
+TakesMore old new more parts.None = (more ≡ []) × Consumes old new [] × IfSome old (λ _. IsAtEnd new)
+
+pub record TakesPart (old new : Option (List ℕ)) (before after : List ℕ) (part : Part) :
+    Type 0 where
+  pub more : List ℕ
+  pub grows : after ≡ before ++ more
+  pub no_feed : All (λ b. b ≢ 10) more
+  pub room : part ≡ parts.Last → length after ≤ 4096
+  pub takes : TakesMore old new more part

@@ -43,7 +43,7 @@ impl Failure {
     ghost use Rattle.clsm_text.specs.declared.failure.Failure.TheVariants.{Fault};
 
     /// The exit status of the program: 1 for a bad line or a device, 2 for a fault, and 3 for a
-    /// refused opening or want of memory.
+    /// refused opening or no memory.
     pub fn status(self) -> u8
         ensures { result ≡ status_of self }
     {

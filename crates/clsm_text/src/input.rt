@@ -1,17 +1,27 @@
-ghost use Rattle.std.specs.Prelude.{◌≡◌, ◌≢◌, ◌↔◌, ◌≤◌, ◌∷◌, [], IsTrue, vec_len};
-ghost use Rattle.std.specs.Prelude.{IfSome, IfOk, IfErr, OnOk, MatchOption};
-ghost use Rattle.std.specs.Io.KnownBytes.{Consumes, IsAtEnd};
+ghost use Rattle.std.specs.Prelude.{◌≡◌, ◌≢◌, ◌↔◌, ◌≤◌, [], IsTrue, vec_len};
+ghost use Rattle.std.specs.Prelude.{IfSome, IfOk, IfErr, OnOk};
 ghost use Rattle.clsm_text.specs.Failure.{IsOutside};
-ghost use Rattle.clsm_text.specs.Input.{TakesLine};
+ghost use Rattle.clsm_text.specs.Input.{TakesLine, TakesPart};
 
 use crate::failure::Failure;
 use crate::line::LONGEST_LINE;
-use std::io::{self, ErrorKind, Read};
+use std::io::{BufRead, ErrorKind};
+
+/// What was taken of a line at a time.
+#[derive(Clone, Copy)]
+pub(crate) enum Part {
+    /// Bytes of it, or none where a read was interrupted.
+    Some,
+    /// The rest of it, with its line feed.
+    Last,
+    /// Nothing: the input has ended.
+    None,
+}
 
 /// Reads the next line of an input into `line`, without its line feed, and answers whether there
 /// was one: an input that ends begins no line. A line longer than 4,096 bytes is cut after 4,097,
 /// and the rest of it is left. After a failure part of the line may have been read.
-pub fn read_line<R: Read>(reader: &mut R, line: &mut Vec<u8>) -> Result<bool, Failure>
+pub fn read_line<R: BufRead>(reader: &mut R, line: &mut Vec<u8>) -> Result<bool, Failure>
     ensures bound { OnOk result (vec_len line.new ≤ 4097) }
     ensures found { IfOk result (λ found. IfSome (R.remaining reader.old)
         (λ bytes. IsTrue found ↔ (bytes ≢ []))) }
@@ -20,34 +30,50 @@ pub fn read_line<R: Read>(reader: &mut R, line: &mut Vec<u8>) -> Result<bool, Fa
     ensures failed { IfErr result IsOutside }
 {
     line.clear();
-    while line.len() <= LONGEST_LINE {
-        match next_byte(reader)? {
-            Some(b'\n') => return Ok(true),
-            Some(byte) => line.push(byte)?,
-            None => return Ok(!line.is_empty()),
-        }
-    }
-    Ok(true)
-}
-
-/// The next byte of an input; `None` at its end. An interrupted read is tried again.
-fn next_byte<R: Read>(reader: &mut R) -> io::Result<Option<u8>>
-    ensures { IfOk result (λ next. MatchOption next
-        (Consumes (R.remaining reader.old) (R.remaining reader.new) []
-        × IsAtEnd (R.remaining reader.new))
-        (λ byte. Consumes (R.remaining reader.old) (R.remaining reader.new) (byte ∷ []))) }
-{
-    let mut byte = [0];
     for _ in 0..u64::MAX {
-        match reader.read(&mut byte) {
-            Ok(0) => return Ok(None),
-            Ok(_) => return Ok(Some(byte[0])),
-            Err(error) => {
-                if error.kind() != ErrorKind::Interrupted {
-                    return Err(error);
+        match take_part(reader, line)? {
+            Part::Some => {
+                if line.len() > LONGEST_LINE {
+                    return Ok(true);
                 }
             }
+            Part::Last => return Ok(true),
+            Part::None => return Ok(!line.is_empty()),
         }
     }
-    Err(io::Error::from(ErrorKind::TimedOut))
+    Err(Failure::Device)
+}
+
+/// Takes what the input has at hand of a line, the rest of which is in `line`, or waits for some.
+/// No more than 4,097 bytes are taken of a line.
+fn take_part<R: BufRead>(reader: &mut R, line: &mut Vec<u8>) -> Result<Part, Failure>
+    requires { vec_len line.old ≤ 4096 }
+    ensures bound { OnOk result (vec_len line.new ≤ 4097) }
+    ensures takes { IfOk result (TakesPart (R.remaining reader.old) (R.remaining reader.new)
+        line.old.items line.new.items) }
+    ensures failed { IfErr result IsOutside }
+{
+    let available = match reader.fill_buf() {
+        Ok(available) => available,
+        Err(error) if error.kind() == ErrorKind::Interrupted => return Ok(Part::Some),
+        Err(_) => return Err(Failure::Device),
+    };
+    if available.is_empty() {
+        return Ok(Part::None);
+    }
+    let room = LONGEST_LINE + 1 - line.len();
+    let near = &available[..available.len().min(room)];
+    match near.iter().position(|byte| *byte == b'\n') {
+        Some(end) => {
+            line.extend_from_slice(&near[..end])?;
+            reader.consume(end + 1);
+            Ok(Part::Last)
+        }
+        None => {
+            line.extend_from_slice(near)?;
+            let taken = near.len();
+            reader.consume(taken);
+            Ok(Part::Some)
+        }
+    }
 }

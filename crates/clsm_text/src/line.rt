@@ -43,7 +43,7 @@ impl From<AllocError> for LineError {
 
 /// The words of a line that is given without its line feed; `None` where it has no words or is a
 /// comment, which begins with `#`. It is refused as bad where it is longer than 4,096 bytes or is
-/// not UTF-8, and else only for want of memory.
+/// not UTF-8, and otherwise only if memory runs out.
 pub fn plain_words(alloc: Global, line: &[u8]) -> Result<Option<Vec<&str>>, LineError>
     ensures text { OnOk result (IsText line.now) }
     ensures words { IfOk result (λ said. MatchOption said
@@ -75,7 +75,7 @@ pub fn line_words(alloc: Global, line: &[u8]) -> Result<Option<Vec<&str>>, LineE
     Ok(Some(words))
 }
 
-/// The words of a line, which one or more spaces part. Refused for want of memory.
+/// The words of a line, which one or more spaces separate. Refused if memory runs out.
 pub fn split_words(alloc: Global, line: &str) -> Result<Vec<&str>, AllocError>
     ensures { IfOk result (λ words. texts_of words.items ≡ words_of line.now) }
 {

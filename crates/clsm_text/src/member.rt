@@ -32,8 +32,8 @@ pub fn parse_member(text: &str) -> Option<(u64, Change)>
     Some((key, change))
 }
 
-/// The members that words write, one each; `None` where a word writes none. Refused for want of
-/// memory.
+/// The members that words write, one each; `None` if a word is not a member. Refused if memory
+/// runs out.
 pub fn parse_members(alloc: Global, words: &[&str]) -> Result<Option<Members>, AllocError>
     ensures { IfOk result (Finds (WriteMembers (texts_of words.now))) }
 {

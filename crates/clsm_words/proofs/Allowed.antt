@@ -15,14 +15,16 @@ use Rattle.clsm_words.specs.Knowing.{Opens, Sound, Follows, known_of, told_of}
 use Rattle.clsm_words.specs.Ruled.{Begins, Ruled}
 use Rattle.clsm_words.proofs.Beginnings.{begins_prefix}
 use Rattle.clsm_words.proofs.Knows.{own_batches, own_past, past_clock, past_long, agrees_of, sound_of}
-use Rattle.clsm_words.proofs.Played.{clock_rises, me_seated, found, next, slots', batches', below_stay, batches_known, past_stays, after, told_stays, next_seated, ruled'}
+use Rattle.clsm_words.proofs.Played.{clock_rises, me_seated, found, next, slots', batches', below_stay, batches_known, past_stays, after, told_stays}
+use Rattle.clsm_words.proofs.Played.{next_seated, ruled'}
 use Rattle.clsm_words.proofs.PastGrowth.{past_grows}
-use Rattle.clsm_words.proofs.Telling.{tells_of}
-use Rattle.clsm_words.proofs.Walking.{walks_of, runs_of_step}
+use Rattle.clsm_words.proofs.Telling.{clock_near_drawn, made_of, tells_of}
+use Rattle.clsm_words.proofs.Walking.{walks_of, runs_of_step, cells_of_step, ways_of_step}
 use Rattle.clsm_words.proofs.Along.{along_of, extends_of}
 use Rattle.clsm_words.proofs.Neighbours.{order_of, leaves_of, spots_of_step}
 
-module _ (s : State ℕ Known) (id : ℕ) (k : Known) (r : Ruled k.layout s) (at : get_elem? s.views id ≡ some k) (sits : k.seated ≡ true) (step : Step) (o : Opens k step) where
+module _ (s : State ℕ Known) (id : ℕ) (k : Known) (r : Ruled k.layout s) (at : get_elem? s.views id ≡ some k) (sits : k.seated ≡ true) (step : Step)
+    (o : Opens k step) where
   next_past : Begins (slots' s id k r at sits step o) (next s id k r at sits step o).past
   next_past = own_past (after s id k r at sits step o) (next s id k r at sits step o) (ruled' s id k r at sits step o) (next_seated s id k r at sits step o)
 
@@ -31,21 +33,26 @@ module _ (s : State ℕ Known) (id : ℕ) (k : Known) (r : Ruled k.layout s) (at
 
   -- each with the batches that begin below its end
   next_batches : (next s id k r at sits step o).batches ≡ batches_below (length (next s id k r at sits step o).past) (batches' s id k r at sits step o)
-  next_batches = own_batches (after s id k r at sits step o) (next s id k r at sits step o) (ruled' s id k r at sits step o) (next_seated s id k r at sits step o)
+  next_batches = own_batches (after s id k r at sits step o) (next s id k r at sits step o) (ruled' s id k r at sits step o)
+      (next_seated s id k r at sits step o)
 
   old_batches : k.batches ≡ batches_below (length k.past) (batches' s id k r at sits step o)
-  old_batches = own_batches s k r (me_seated s id k r at sits step o) ∙ below_stay s id k r at sits step o (length k.past) (let a = past_long s k r (me_seated s id k r at sits step o) in let b = past_clock s k r (me_seated s id k r at sits step o) in omega arith)
+  old_batches = own_batches s k r (me_seated s id k r at sits step o) ∙ below_stay s id k r at sits step o (length k.past)
+      (let a = past_long s k r (me_seated s id k r at sits step o) in let b = past_clock s k r (me_seated s id k r at sits step o) in omega arith)
 
   told_batches : k.told_batches ≡ batches_below (length k.told) (batches' s id k r at sits step o)
   told_batches = (r.seats.told id k at).listed ∙ below_stay s id k r at sits step o (length k.told) (r.seats.told id k at).within
 
   -- of two beginnings of the history the one that is not longer begins the other
-  begins_by : (g h : History) → Begins (slots' s id k r at sits step o) g.slots → Begins (slots' s id k r at sits step o) h.slots → g.batches ≡ batches_below (end_of g) (batches' s id k r at sits step o) → h.batches ≡ batches_below (end_of h) (batches' s id k r at sits step o) → end_of g ≤ end_of h → IsBeginning g h
+  begins_by : (g h : History) → Begins (slots' s id k r at sits step o) g.slots → Begins (slots' s id k r at sits step o) h.slots → g.batches
+      ≡ batches_below (end_of g) (batches' s id k r at sits step o) → h.batches ≡ batches_below (end_of h) (batches' s id k r at sits step o)
+      → end_of g ≤ end_of h → IsBeginning g h
   begins_by g h b c e f le = record {
     slots = begins_prefix (slots' s id k r at sits step o) g.slots h.slots b c le;
     batches =
         let all = batches' s id k r at sits step o in
-        ap (batches_below (end_of g)) e ∙ below_below (end_of g) (end_of g) all (omega arith) ∙ sym (below_below (end_of g) (end_of h) all le) ∙ sym (ap (batches_below (end_of g)) f);
+        ap (batches_below (end_of g)) e ∙ below_below (end_of g) (end_of g) all (omega arith) ∙ sym (below_below (end_of g) (end_of h) all le)
+        ∙ sym (ap (batches_below (end_of g)) f);
   }
 
   told_past : Begins (slots' s id k r at sits step o) k.told
@@ -73,6 +80,7 @@ module _ (s : State ℕ Known) (id : ℕ) (k : Known) (r : Ruled k.layout s) (at
     told_batches = refl;
     heard = refl;
     view = refl;
+    made = made_of s id k r at sits step o;
     longer = begins_by (known_of k) (known_of (next s id k r at sits step o)) old_past next_past old_batches next_batches longer_past;
     same = λ e. (
       ap (λ (n : ℕ). take n (settled (slots' s id k r at sits step o))) e ∙ sym (past_stays s id k r at sits step o k (me_seated s id k r at sits step o)),
@@ -80,10 +88,14 @@ module _ (s : State ℕ Known) (id : ℕ) (k : Known) (r : Ruled k.layout s) (at
     );
     reaches = λ le. begins_by (told_of k) (known_of (next s id k r at sits step o)) told_past next_past told_batches next_batches le;
     within = λ le. begins_by (known_of (next s id k r at sits step o)) (told_of k) next_past told_past next_batches told_batches le;
-    agrees = agrees_of (after s id k r at sits step o) (next s id k r at sits step o) (ruled' s id k r at sits step o) (next_seated s id k r at sits step o) (told_of k) told_past told_batches told_within;
+    agrees = agrees_of (after s id k r at sits step o) (next s id k r at sits step o) (ruled' s id k r at sits step o) (next_seated s id k r at sits step o)
+        (told_of k) told_past told_batches told_within;
+    clock = clock_near_drawn s id k r at sits step o;
     tells = tells_of s id k r at sits step o;
     walks = walks_of s id k r at sits step o;
     runs = runs_of_step s id k r at sits step o;
+    cells = cells_of_step s id k r at sits step o;
+    ways = ways_of_step s id k r at sits step o;
     order = order_of s id k r at sits step o;
     leaves = leaves_of s id k r at sits step o;
     spots = spots_of_step s id k r at sits step o;
@@ -94,5 +106,12 @@ module _ (s : State ℕ Known) (id : ℕ) (k : Known) (r : Ruled k.layout s) (at
 
 -- ONE lemma for all steps of a seat: where the step is open, the table allows it
 pub allows : (slots id : ℕ) (me : Me ℕ Known) (step : Step) → me.0.seated ≡ true → Opens me.0 step
-    → Allows (Ruled me.0.layout) slots id me (index_of me.0.layout (word_of me.0.layout me.0.number me.0.view step)) (changed me.0.layout me.0.view step) (λ x after. Follows step me.0 x after.0)
-allows slots id me step sits o s r deep at fits = (next s id me.0 r at sits step o, keeps, tt, ruled' s id me.0 r at sits step o, follows s id me.0 r at sits step o)
+    → Allows (Ruled me.0.layout) slots id me (index_of me.0.layout (word_of me.0.layout me.0.number me.0.view step)) (changed me.0.layout me.0.view step)
+    (λ x after. Follows step me.0 x after.0)
+allows slots id me step sits o s r deep at fits = (
+  next s id me.0 r at sits step o,
+  keeps,
+  tt,
+  ruled' s id me.0 r at sits step o,
+  follows s id me.0 r at sits step o,
+)

@@ -1,6 +1,7 @@
 -- Beginnings of one history: the shorter begins the longer, and where decided slots stay, so do
 -- they.
-use Rattle.std.proofs.Common.{◌≡◌, ◌≢◌, ℕ, zero, suc, ◌<◌, ◌≤◌, List, [], ◌∷◌, length, take, get_or, sym, refl, ap, ◌∙◌, subst, arith, inl, inr, Option, Some, None}
+use Rattle.std.proofs.Common.{◌≡◌, ◌≢◌, ℕ, zero, suc, ◌<◌, ◌≤◌, List, [], ◌∷◌, length, take, get_or, sym, refl, ap, ◌∙◌, subst, arith, inl, inr, Option}
+use Rattle.std.proofs.Common.{Some, None}
 use Rattle.std.specs.Option.{unwrap_or}
 use Rattle.std.proofs.lemmas.Bool.{cases_lt}
 use mathlib.Core.List.{IsPrefix}
@@ -38,14 +39,17 @@ settled_is None ne = absurd (ne refl)
 settled_is (Some slot) ne = refl
 
 -- what stands in a beginning is what the time came to
-pub begins_at : (slots : List (Option Slot)) (list : List Slot) (b : Begins slots list) (t : ℕ) → t < length list → outcome_at slots t ≡ Some (get_or list t Nothing)
+pub begins_at : (slots : List (Option Slot)) (list : List Slot) (b : Begins slots list) (t : ℕ) → t < length list → outcome_at slots t
+    ≡ Some (get_or list t Nothing)
 begins_at slots list b t lt =
     let e = begins_length slots list b in
     let below : t < b.until = omega arith in
-    sym (ap (λ (xs : List Slot). Some (get_or xs t Nothing)) b.is ∙ ap (λ (x : Slot). Some x) (slot_of-past slots b.until t below) ∙ settled_is (outcome_at slots t) (b.decided t below))
+    sym (ap (λ (xs : List Slot). Some (get_or xs t Nothing)) b.is ∙ ap (λ (x : Slot). Some x) (slot_of-past slots b.until t below)
+    ∙ settled_is (outcome_at slots t) (b.decided t below))
 
 -- what the times of a beginning came to
-pub begins_settled : (slots : List (Option Slot)) (past : List Slot) (b : Begins slots past) (t : ℕ) → t < length past → get_or past t Nothing ≡ get_or (settled slots) t Nothing
+pub begins_settled : (slots : List (Option Slot)) (past : List Slot) (b : Begins slots past) (t : ℕ) → t < length past → get_or past t Nothing
+    ≡ get_or (settled slots) t Nothing
 begins_settled slots past b t lt = sym (settled_at slots t ∙ (λ i. cond_of (begins_at slots past b t lt i))) where
   cond_of : Option Slot → Slot
   cond_of o = unwrap_or o Nothing
@@ -55,7 +59,8 @@ pub begins_prefix : (slots : List (Option Slot)) (a b : List Slot) → Begins sl
 begins_prefix slots a b x y le =
     let e = begins_length slots a x in
     let f = begins_length slots b y in
-    subst (λ (xs : List Slot). IsPrefix xs b) (sym x.is) (subst (λ (ys : List Slot). IsPrefix (take x.until (settled slots)) ys) (sym y.is) (take_prefix (settled slots) x.until y.until (omega arith)))
+    subst (λ (xs : List Slot). IsPrefix xs b) (sym x.is) (subst (λ (ys : List Slot). IsPrefix (take x.until (settled slots)) ys) (sym y.is)
+    (take_prefix (settled slots) x.until y.until (omega arith)))
 
 -- the slots grew, and each that was decided stays
 pub record HaveGrown (slots slots' : List (Option Slot)) : Type 0 where
@@ -66,7 +71,8 @@ still : (slots slots' : List (Option Slot)) → HaveGrown slots slots' → (t : 
 still slots slots' grown t decided = decided-same (outcome_at slots) (outcome_at slots') t decided (grown.stay t)
 
 -- what decided times came to stays
-pub decided_stay : (slots slots' : List (Option Slot)) (p : ℕ) → HaveGrown slots slots' → p ≤ length slots → ((t : ℕ) → t < p → outcome_at slots t ≢ None) → take p (settled slots) ≡ take p (settled slots')
+pub decided_stay : (slots slots' : List (Option Slot)) (p : ℕ) → HaveGrown slots slots' → p ≤ length slots → ((t : ℕ) → t < p → outcome_at slots t ≢ None)
+    → take p (settled slots) ≡ take p (settled slots')
 decided_stay slots slots' p grown bound decided = let longer = grown.longer in
     sym (ap (λ h. h.slots) (past-equal slots slots' p bound (omega arith) (λ t lt. still slots slots' grown t (decided t lt))))
 

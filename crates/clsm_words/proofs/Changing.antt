@@ -29,7 +29,13 @@ changes_trans Those a b c h k = record {
 }
 
 pub changes_more : (Those These : Word → Type 0) (a b : Known) → ((word : Word) → Those word → These word) → Changes Those a b → Changes These a b
-changes_more Those These a b more h = record { layout = h.layout; view = h.view; trail = h.trail; past = h.past; stays = λ word run not. h.stays word run (λ those. not (more word those)) }
+changes_more Those These a b more h = record {
+  layout = h.layout;
+  view = h.view;
+  trail = h.trail;
+  past = h.past;
+  stays = λ word run not. h.stays word run (λ those. not (more word those));
+}
 
 -- ---- steps
 
@@ -45,11 +51,13 @@ found_left k k' word x follows run = follows.found (run_is_own k.layout k.merger
 
 -- a look leaves the words of runs
 pub look_leaves : (k k' : Known) (word : Word) (x : ℕ) → FollowsMerger (Look word) k x k' → (other : Word) → IsRunWord other → row_of k' other ≡ row_of k other
-look_leaves k k' word x follows other run = follows.stays other (run_is_own k.layout k.merger other run) ∙ by_bool (λ b. is_same other word ≡ b → cond b x (row_of k other) ≡ row_of k other) (is_same other word)
+look_leaves k k' word x follows other run = follows.stays other (run_is_own k.layout k.merger other run)
+    ∙ by_bool (λ b. is_same other word ≡ b → cond b x (row_of k other) ≡ row_of k other) (is_same other word)
     (λ _ e. let same = same_word other word e in found_left k k' word x follows (subst IsRunWord same run) ∙ ap (row_of k) (sym same)) (λ _ _. refl) refl
 
 -- and so changes none of them, where it leaves the view
-pub looks_only : (k k' : Known) (word : Word) (x : ℕ) → FollowsMerger (Look word) k x k' → merger_after k.layout (facts_known k) k.merger (Look word) x ≡ k.merger → Changes NoWord k k'
+pub looks_only : (k k' : Known) (word : Word) (x : ℕ) → FollowsMerger (Look word) k x k' → merger_after k.layout (facts_known k) k.merger (Look word) x
+    ≡ k.merger → Changes NoWord k k'
 looks_only k k' word x follows view = record {
   layout = follows.layout;
   view = follows.view ∙ view;

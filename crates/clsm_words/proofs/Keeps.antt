@@ -26,10 +26,21 @@ seat_by step k k' x follows = record {
 }
 
 pub seat_stays : (k : Known) → KeepsSeat k k
-seat_stays k = record { number = refl; dealt = refl; layout = refl; told = refl; told_batches = refl; heard = refl; past = begins_self (known_of k); runs = λ c held held'. (refl, λ word named. refl); spots = λ c held held'. record { each = λ p key has. has } }
+seat_stays k = record {
+  number = refl;
+  dealt = refl;
+  layout = refl;
+  told = refl;
+  told_batches = refl;
+  heard = refl;
+  past = begins_self (known_of k);
+  runs = λ c held held'. (refl, λ word named. refl);
+  spots = λ c held held'. record { each = λ p key has. has };
+}
 
 -- a component that was held before and is held after was held between
-pub seat_trans : (a b c : Known) → KeepsSeat a b → KeepsSeat b c → ((m : ℕ) → a.view.held ≡ Some m → c.view.held ≡ Some m → b.view.held ≡ Some m) → KeepsSeat a c
+pub seat_trans : (a b c : Known) → KeepsSeat a b → KeepsSeat b c → ((m : ℕ) → a.view.held ≡ Some m → c.view.held ≡ Some m → b.view.held ≡ Some m)
+    → KeepsSeat a c
 seat_trans a b c h k between = record {
   number = k.number ∙ h.number;
   dealt = k.dealt ∙ h.dealt;
@@ -38,8 +49,10 @@ seat_trans a b c h k between = record {
   told_batches = k.told_batches ∙ h.told_batches;
   heard = k.heard ∙ h.heard;
   past = begins_trans (known_of a) (known_of b) (known_of c) h.past k.past;
-  runs = λ m held held'. let mid = between m held held' in let one = h.runs m held mid in let two = k.runs m mid held' in (two.0 ∙ one.0, λ word named. two.1 word named ∙ one.1 word named);
-  spots = λ m held held'. let mid = between m held held' in let one = h.spots m held mid in let two = k.spots m mid held' in record { each = λ p key has. two.each p key (one.each p key has) };
+  runs = λ m held held'. let mid = between m held held' in let one = h.runs m held mid in let two = k.runs m mid held' in
+      (two.0 ∙ one.0, λ word named. two.1 word named ∙ one.1 word named);
+  spots = λ m held held'. let mid = between m held held' in let one = h.spots m held mid in let two = k.spots m mid held' in
+      record { each = λ p key has. two.each p key (one.each p key has) };
 }
 
 -- ---- the seat and its past
@@ -75,7 +88,8 @@ pub place_stays : (k : Known) → KeepsPlace k k
 place_stays k = record { seat = seat_stays k; past = refl; batches = refl; trail = refl }
 
 -- a step that leaves how far the past goes, and the walk
-pub place_by : (step : Step) (k k' : Known) (x : ℕ) → Follows step k x k' → (view_after k.layout k.number k.view step x).past ≡ k.view.past → k'.trail ≡ k.trail → KeepsPlace k k'
+pub place_by : (step : Step) (k k' : Known) (x : ℕ) → Follows step k x k' → (view_after k.layout k.number k.view step x).past ≡ k.view.past → k'.trail
+    ≡ k.trail → KeepsPlace k k'
 place_by step k k' x follows past trail = record {
   seat = seat_by step k k' x follows;
   past = (follows.same (ap (λ (v : View). v.past) follows.view ∙ past)).0;
@@ -83,17 +97,35 @@ place_by step k k' x follows past trail = record {
   trail = trail;
 }
 
-pub place_trans : (a b c : Known) → KeepsPlace a b → KeepsPlace b c → ((m : ℕ) → a.view.held ≡ Some m → c.view.held ≡ Some m → b.view.held ≡ Some m) → KeepsPlace a c
-place_trans a b c h k between = record { seat = seat_trans a b c h.seat k.seat between; past = k.past ∙ h.past; batches = k.batches ∙ h.batches; trail = k.trail ∙ h.trail }
+pub place_trans : (a b c : Known) → KeepsPlace a b → KeepsPlace b c → ((m : ℕ) → a.view.held ≡ Some m → c.view.held ≡ Some m → b.view.held ≡ Some m)
+    → KeepsPlace a c
+place_trans a b c h k between = record {
+  seat = seat_trans a b c h.seat k.seat between;
+  past = k.past ∙ h.past;
+  batches = k.batches ∙ h.batches;
+  trail = k.trail ∙ h.trail;
+}
 
 -- ---- reads
 
 -- the view but for what reading changes
 abbrev pub but_read : View → List (Option ℕ) → ℕ → Option FreshLink → ℕ → ℕ → ℕ → ℕ → ℕ → Option Waiting → View
-but_read v heads met link low high reached past cancelled waited = record v { fresh_heads = heads; met = met; fresh_link = link; low = low; high = high; reached = reached; past = past; cancelled = cancelled; waited = waited }
+but_read v heads met link low high reached past cancelled waited = record v {
+  fresh_heads = heads;
+  met = met;
+  fresh_link = link;
+  low = low;
+  high = high;
+  reached = reached;
+  past = past;
+  cancelled = cancelled;
+  waited = waited;
+}
 
 -- a step that changes nothing else of the view, and falls back in nothing, only reads
-pub reads_by : (step : Step) (k k' : Known) (x : ℕ) (heads : List (Option ℕ)) (met : ℕ) (link : Option FreshLink) (low high reached past cancelled : ℕ) (waited : Option Waiting) → Follows step k x k' → view_after k.layout k.number k.view step x ≡ but_read k.view heads met link low high reached past cancelled waited → k.view.reached ≤ reached → OnlyReads k k'
+pub reads_by : (step : Step) (k k' : Known) (x : ℕ) (heads : List (Option ℕ)) (met : ℕ) (link : Option FreshLink) (low high reached past cancelled : ℕ)
+    (waited : Option Waiting) → Follows step k x k' → view_after k.layout k.number k.view step x
+    ≡ but_read k.view heads met link low high reached past cancelled waited → k.view.reached ≤ reached → OnlyReads k k'
 reads_by step k k' x heads met link low high reached past cancelled waited follows e le =
     let is : k'.view ≡ but_read k.view heads met link low high reached past cancelled waited = follows.view ∙ e in record {
       seat = seat_by step k k' x follows;
@@ -107,7 +139,8 @@ reads_none k = record { seat = seat_stays k; view = refl; reached = omega arith 
 pub reads_trans : (a b c : Known) → OnlyReads a b → OnlyReads b c → OnlyReads a c
 reads_trans a b c h k = record {
   seat = seat_trans a b c h.seat k.seat (λ m held held'. ap (λ (v : View). v.held) h.view ∙ held);
-  view = k.view ∙ ap (λ (v : View). but_read v c.view.fresh_heads c.view.met c.view.fresh_link c.view.low c.view.high c.view.reached c.view.past c.view.cancelled c.view.waited) h.view;
+  view = k.view ∙ ap (λ (v : View). but_read v c.view.fresh_heads c.view.met c.view.fresh_link c.view.low c.view.high c.view.reached c.view.past
+      c.view.cancelled c.view.waited) h.view;
   reached = let x = h.reached in let y = k.reached in omega arith;
 }
 
@@ -118,7 +151,13 @@ looks_none k = record { reads = reads_none k; past = refl; batches = refl; cance
 
 -- one look after another
 pub looks_trans : (a b c : Known) → Looks a b → Looks b c → Looks a c
-looks_trans a b c h k = record { reads = reads_trans a b c h.reads k.reads; past = k.past ∙ h.past; batches = k.batches ∙ h.batches; cancelled = k.cancelled ∙ h.cancelled }
+looks_trans a b c h k = record {
+  reads = reads_trans a b c h.reads k.reads;
+  past = k.past ∙ h.past;
+  batches = k.batches ∙ h.batches;
+  cancelled = k.cancelled
+      ∙ h.cancelled;
+}
 
 pub aside_trans : (a b c : Known) → LooksAside a b → LooksAside b c → LooksAside a c
 aside_trans a b c h k = record { looks = looks_trans a b c h.looks k.looks; trail = k.trail ∙ h.trail }

@@ -1,5 +1,6 @@
 -- What the rule says of a seat, the seat knows.
-use Rattle.std.proofs.Common.{◌≡◌, ◌≢◌, ◌⊎◌, ⊎_elim, ℕ, ◌+◌, ◌-◌, ◌*◌, ◌%◌, ◌<◌, ◌≤◌, ◌||◌, Bool, true, cond, List, [], refl, length, get_or, sym, ap, ◌∙◌, subst, arith, inl, inr, Option, Some, None}
+use Rattle.std.proofs.Common.{◌≡◌, ◌≢◌, ◌⊎◌, ⊎_elim, ℕ, ◌+◌, ◌-◌, ◌*◌, ◌%◌, ◌<◌, ◌≤◌, ◌||◌, Bool, true, cond, List, [], refl, length, get_or, sym, ap, ◌∙◌}
+use Rattle.std.proofs.Common.{subst, arith, inl, inr, Option, Some, None}
 use Rattle.std.specs.List.{AllByRecursion}
 use Rattle.std.proofs.lemmas.Bool.{cases_lt}
 use Rattle.std.proofs.lemmas.List.{get_or_past}
@@ -24,11 +25,13 @@ use Rattle.clsm_law.specs.declared.view.SnapshotState.TheVariants.{Open}
 use Rattle.clsm_law.specs.declared.merger.MergerView.{MergerView}
 use Rattle.clsm_law.specs.Memory.{cell_of, region_of, is_word}
 use Rattle.clsm_law.specs.Views.{idle, or_zero, own_region}
-use Rattle.clsm_law.specs.Relation.{open_time, IsOpen, word_of}
+use Rattle.clsm_law.specs.OpenSteps.{open_time, IsOpen}
+use Rattle.clsm_law.specs.Relation.{word_of}
 use Rattle.clsm_law.specs.Merging.{is_frozen}
 use Rattle.clsm_law.specs.Worlds.{view_at, outcome_at, past_of}
 use Rattle.clsm_law.specs.Law.{In, IsMember, IsSnapshot, first_free}
-use Rattle.clsm_model.specs.Seats.{FitsRecord, IsListedDeed, IsListedRecord, IsRightRecord, IsUncutDeed, IsUncutRecord, StandsAs, IsStandingRecord, HasWrite, IsRecordIn, IsRising}
+use Rattle.clsm_model.specs.Seats.{FitsRecord, IsListedDeed, IsListedRecord, IsRightRecord, IsUncutDeed, IsUncutRecord, StandsAs, IsStandingRecord}
+use Rattle.clsm_model.specs.Seats.{HasWrite, IsRecordIn, IsRising}
 use Rattle.clsm_law.specs.SeatBounds.{IsSmall, IsSmallFor, IsSmallLook}
 use Rattle.clsm_law.specs.Machine.{WorldState}
 use Rattle.clsm_law.proofs.Histories.{end_of-past}
@@ -68,7 +71,8 @@ small_at z step x h = tt
 -- the limit is the end of an epoch, and a time less than an epoch before it is in that epoch's
 -- region
 end_of_limit : (z : Layout) (m : MergerView) → (epoch : ℕ) × (first_free z m ≡ (epoch + 1) * z.cells)
-end_of_limit z m = by_bool (λ b. (epoch : ℕ) × (cond b ((m.merged + 2) * z.cells) ((m.merged + 1) * z.cells) ≡ (epoch + 1) * z.cells)) (is_frozen m.phase || m.limit_extended)
+end_of_limit z m = by_bool (λ b. (epoch : ℕ) × (cond b ((m.merged + 2) * z.cells) ((m.merged + 1) * z.cells) ≡ (epoch + 1) * z.cells))
+    (is_frozen m.phase || m.limit_extended)
     (λ _. (m.merged + 1, let e : m.merged + 2 ≡ m.merged + 1 + 1 = omega arith in ap (λ (a : ℕ). a * z.cells) e)) (λ _. (m.merged, refl))
 
 last_within : (epoch n limit : ℕ) → 0 < n → limit ≡ (epoch + 1) * n → (epoch * n ≤ limit - 1) × (limit - 1 < (epoch + 1) * n)
@@ -77,17 +81,20 @@ last_within epoch n limit some e = (omega arith, omega arith)
 near_within : (epoch n limit t : ℕ) → limit ≡ (epoch + 1) * n → limit ≤ t + n → t < limit → (epoch * n ≤ t) × (t < (epoch + 1) * n)
 near_within epoch n limit t e near before = (omega arith, omega arith)
 
-same_region : (z : Layout) (epoch limit t : ℕ) → 0 < z.cells → limit ≡ (epoch + 1) * z.cells → limit ≤ t + z.cells → t < limit → region_of z (cell_of z (limit - 1)) ≡ region_of z (cell_of z t)
+same_region : (z : Layout) (epoch limit t : ℕ) → 0 < z.cells → limit ≡ (epoch + 1) * z.cells → limit ≤ t + z.cells → t < limit
+    → region_of z (cell_of z (limit - 1)) ≡ region_of z (cell_of z t)
 same_region z epoch limit t some e near before =
     let a = last_within epoch z.cells limit some e in
     let b = near_within epoch z.cells limit t e near before in
     region_of_epoch z epoch (limit - 1) a.0 a.1 ∙ sym (region_of_epoch z epoch t b.0 b.1)
 
-snapshot_reached : (floor clock past : ℕ) (pinned : Bool) (snapshot : SnapshotState) (t : ℕ) → IsSnapshot floor clock past pinned snapshot → open_time snapshot ≡ Some t → t ≤ past
+snapshot_reached : (floor clock past : ℕ) (pinned : Bool) (snapshot : SnapshotState) (t : ℕ) → IsSnapshot floor clock past pinned snapshot
+    → open_time snapshot ≡ Some t → t ≤ past
 snapshot_reached floor clock past pinned (Open noted time) t h e = let same : time ≡ t = ap or_zero e in let below = h.2 in omega arith
 snapshot_reached floor clock past pinned snapshot t h e = absurd cc
 
-module _ (s : State ℕ Known) (k : Known) (r : Ruled k.layout s) (ok : IsSeated k.layout s.words r.merger r.slots r.batches r.lawful.chains r.lawful.orders r.views k) where
+module _ (s : State ℕ Known) (k : Known) (r : Ruled k.layout s)
+    (ok : IsSeated k.layout s.words r.merger r.slots r.batches r.lawful.chains r.lawful.orders r.views k) where
   abbrev pub world : WorldState
   world = world_of k.layout s.words r.views r.merger r.slots r.batches
 
@@ -103,7 +110,9 @@ module _ (s : State ℕ Known) (k : Known) (r : Ruled k.layout s) (ok : IsSeated
   opens_both step o = (o, tt)
 
   pub open_there : (step : Step) → Opens k step → May setting step
-  open_there step o = lifted setting step (subst (λ (u : View). IsOpen k.layout (past_of r.slots u.past) u step) (sym ok.view) (subst (λ (h : History). IsOpen k.layout h k.view step) (ap plain ok.past) (opens_both step o).0)) (subst (λ (u : View). IsRaise u step) (sym ok.view) (opens_both step o).1)
+  open_there step o = lifted setting step (subst (λ (u : View). IsOpen k.layout (past_of r.slots u.past) u step) (sym ok.view)
+      (subst (λ (h : History). IsOpen k.layout h k.view step) (ap plain ok.past) (opens_both step o).0))
+      (subst (λ (u : View). IsRaise u step) (sym ok.view) (opens_both step o).1)
 
   pub own_past : Begins r.slots k.past
   own_past = record { until = k.view.past; is = ok.past; decided = λ t lt. r.lawful.law.past k.number t (subst (λ (u : View). t < u.past) (sym ok.view) lt) }
@@ -112,25 +121,29 @@ module _ (s : State ℕ Known) (k : Known) (r : Ruled k.layout s) (ok : IsSeated
   nobody : (i t : ℕ) (write : Slot) → length r.views ≤ i → HasWrite i t write (view_at k.layout r.views i).calls → ⊥
   nobody i t write le has = subst (λ (u : View). HasWrite i t write u.calls) (get_or_past r.views i (idle k.layout) le) has
 
-  wrote_at : (list : List Slot) → Begins r.slots list → (t : ℕ) → t < length list → (slot : Slot) → get_or list t Nothing ≡ slot → outcome_at r.slots t ≡ Some slot
+  wrote_at : (list : List Slot) → Begins r.slots list → (t : ℕ) → t < length list → (slot : Slot) → get_or list t Nothing ≡ slot → outcome_at r.slots t
+      ≡ Some slot
   wrote_at list b t lt slot e = begins_at r.slots list b t lt ∙ ap (λ (a : Slot). Some a) e
 
   -- a batch that ends within a beginning of the history is listed there, since it has a member
   deed_listed : (h : History) (t : ℕ) (deed : Deed) → h.batches ≡ batches_below (end_of h) r.batches → IsListedDeed r.batches t deed → IsListedWithin h t deed
   deed_listed h t (Group members) is listed = λ ends.
       let some = in_turn_some 0 r.batches (memory k.layout s.words Clock) (record { first = t; size = length members }) r.lawful.law.in_turn listed in
-      subst (λ (bs : List Batch). IsListed bs (record { first = t; size = length members })) (sym is) (below_listed (end_of h) r.batches (record { first = t; size = length members }) (omega arith) listed)
+      subst (λ (bs : List Batch). IsListed bs (record { first = t; size = length members })) (sym is)
+      (below_listed (end_of h) r.batches (record { first = t; size = length members }) (omega arith) listed)
   deed_listed h t deed is listed = tt
 
   -- and no read that is inside no batch is inside one of these
-  deed_uncut : (h : History) (t : ℕ) (deed : Deed) → h.batches ≡ batches_below (end_of h) r.batches → IsUncutDeed r.batches t deed → IsUncutDeed h.batches t deed
+  deed_uncut : (h : History) (t : ℕ) (deed : Deed) → h.batches ≡ batches_below (end_of h) r.batches → IsUncutDeed r.batches t deed
+      → IsUncutDeed h.batches t deed
   deed_uncut h t (Put key written) is uncut = tt
   deed_uncut h t (Remove key) is uncut = tt
   deed_uncut h t (Group members) is uncut = tt
   deed_uncut h t deed is uncut = subst (λ (bs : List Batch). IsUncut bs t) (sym is) (below_uncut (end_of h) t r.batches uncut)
 
   -- the seat's records agree with each beginning of the history
-  pub agrees_of : (h : History) → Begins r.slots h.slots → h.batches ≡ batches_below (end_of h) r.batches → end_of h ≤ memory k.layout s.words Clock → Agrees k.layout.seats k.number k.view.calls h
+  pub agrees_of : (h : History) → Begins r.slots h.slots → h.batches ≡ batches_below (end_of h) r.batches → end_of h ≤ memory k.layout s.words Clock
+      → Agrees k.layout.seats k.number k.view.calls h
   agrees_of h b is within = let list = h.slots in record {
     uncut = all_map (IsUncutRecord r.batches) (IsUncutRecord h.batches) k.view.calls (λ c. deed_uncut h c.time c.deed is)
         (subst (λ (u : View). AllByRecursion (IsUncutRecord r.batches) u.calls) ok.view (r.lawful.law.uncut k.number));
@@ -143,7 +156,8 @@ module _ (s : State ℕ Known) (k : Known) (r : Ruled k.layout s) (ok : IsSeated
         (r.lawful.law.recorded t k.number key written (omega arith) (wrote_at list b t lt (Wrote k.number key written) e));
     numbered = λ t i key written lt e. elim (cases_lt i (length r.views)) [
       | inl below ↦ let a = r.lawful.law.seated in omega arith
-      | inr beyond ↦ absurd (nobody i t (Wrote i key written) beyond (r.lawful.law.recorded t i key written (omega arith) (wrote_at list b t lt (Wrote i key written) e)))
+      | inr beyond ↦ absurd (nobody i t (Wrote i key written) beyond (r.lawful.law.recorded t i key written (omega arith)
+          (wrote_at list b t lt (Wrote i key written) e)))
     ];
     short = λ t i key written lt e. r.lawful.law.short t i key written (wrote_at list b t lt (Wrote i key written) e);
   }
@@ -152,7 +166,8 @@ module _ (s : State ℕ Known) (k : Known) (r : Ruled k.layout s) (ok : IsSeated
   past_bound = subst (λ (u : View). u.past ≤ length r.slots) ok.view (past_below (ground setting) k.number)
 
   due_bound : k.view.due ≤ length r.slots
-  due_bound = let a = clock_below (ground setting) in let b = subst (λ (u : View). u.due ≤ memory k.layout s.words Clock) ok.view (r.lawful.law.dues k.number) in omega arith
+  due_bound = let a = clock_below (ground setting) in let b = subst (λ (u : View). u.due ≤ memory k.layout s.words Clock) ok.view
+      (r.lawful.law.dues k.number) in omega arith
 
   pub past_long : length k.past ≡ k.view.past
   past_long = ap (λ (xs : List Slot). length xs) ok.past ∙ end_of-past r.slots k.view.past past_bound
@@ -167,7 +182,8 @@ module _ (s : State ℕ Known) (k : Known) (r : Ruled k.layout s) (ok : IsSeated
 
   batches_turn : AreInTurn 0 k.batches (length k.past)
   batches_turn = subst (λ (y : List Batch × ℕ). AreInTurn 0 y.0 y.1) (λ i. (sym ok.listed i, sym past_long i))
-      (in_turn_below 0 r.batches (memory k.layout s.words Clock) k.view.past (omega arith) (subst (λ (u : View). IsUncut r.batches u.past) ok.view (r.lawful.law.uncut_pasts k.number)) r.lawful.law.in_turn)
+      (in_turn_below 0 r.batches (memory k.layout s.words Clock) k.view.past (omega arith)
+      (subst (λ (u : View). IsUncut r.batches u.past) ok.view (r.lawful.law.uncut_pasts k.number)) r.lawful.law.in_turn)
 
   right_there : AllByRecursion (IsRightRecord (plain k.past)) k.view.calls
   right_there = subst (λ (h : History). AllByRecursion (IsRightRecord h) k.view.calls) (sym (ap plain ok.past))
@@ -182,7 +198,8 @@ module _ (s : State ℕ Known) (k : Known) (r : Ruled k.layout s) (ok : IsSeated
       there = view_at k.layout r.views k.number
 
   -- an own drawn time is in the epoch of the limit
-  region_is : (t limit : ℕ) → k.view.drawn ≡ Some t → k.view.hold_limit ≡ Some limit → region_of k.layout (cell_of k.layout (limit - 1)) ≡ region_of k.layout (cell_of k.layout t)
+  region_is : (t limit : ℕ) → k.view.drawn ≡ Some t → k.view.hold_limit ≡ Some limit → region_of k.layout (cell_of k.layout (limit - 1))
+      ≡ region_of k.layout (cell_of k.layout t)
   region_is t limit drawn held =
       let law = r.lawful.law in
       let has = ap (λ (u : View). u.drawn) ok.view ∙ drawn in
@@ -210,11 +227,13 @@ module _ (s : State ℕ Known) (k : Known) (r : Ruled k.layout s) (ok : IsSeated
       IsKnown q = IsMember k.layout (memory k.layout s.words Limit) r.lawful.orders (view_at k.layout r.views k.number).mode q
 
       known_by : (of : View → ℕ) → (of (view_at k.layout r.views k.number) ≢ 0 → IsKnown (of (view_at k.layout r.views k.number))) → p ≡ of k.view → IsKnown p
-      known_by of is e = let same : of (view_at k.layout r.views k.number) ≡ p = ap of ok.view ∙ sym e in subst IsKnown same (is (λ none. some (sym same ∙ none)))
+      known_by of is e = let same : of (view_at k.layout r.views k.number) ≡ p = ap of ok.view ∙ sym e in
+          subst IsKnown same (is (λ none. some (sym same ∙ none)))
 
       member : IsKnown p
       member = ⊎_elim (λ (e : p ≡ k.view.met). known_by (λ v. v.met) (r.lawful.law.met k.number) e)
-          (λ (or : (p ≡ k.view.low) ⊎ (p ≡ k.view.high)). ⊎_elim (λ (e : p ≡ k.view.low). known_by (λ v. v.low) (r.lawful.law.lows k.number) e) (λ (e : p ≡ k.view.high). known_by (λ v. v.high) (r.lawful.law.highs k.number) e) or)
+          (λ (or : (p ≡ k.view.low) ⊎ (p ≡ k.view.high)). ⊎_elim (λ (e : p ≡ k.view.low). known_by (λ v. v.low) (r.lawful.law.lows k.number) e)
+          (λ (e : p ≡ k.view.high). known_by (λ v. v.high) (r.lawful.law.highs k.number) e) or)
           known
 
   -- the list of its drawn cell has no more places than an epoch cells
@@ -235,7 +254,9 @@ module _ (s : State ℕ Known) (k : Known) (r : Ruled k.layout s) (ok : IsSeated
         below_merged = floor_below g k.number c k.floor (row_of k) k.past own_past number_inside there (ok.floor c held) (ok.row c held);
         below_snapshot = λ t is.
             let least = floor_least g k.number c k.floor (row_of k) k.past own_past number_inside there (ok.floor c held) (ok.row c held) in
-            let above = snapshot_above r.merger.floor (memory k.layout s.words Clock) (view_at k.layout r.views k.number).past (view_at k.layout r.views k.number).pinned (view_at k.layout r.views k.number).snapshot t (r.lawful.law.snapshots k.number) (ap (λ (u : View). open_time u.snapshot) ok.view ∙ is) in
+            let above = snapshot_above r.merger.floor (memory k.layout s.words Clock) (view_at k.layout r.views k.number).past
+            (view_at k.layout r.views k.number).pinned (view_at k.layout r.views k.number).snapshot t (r.lawful.law.snapshots k.number)
+            (ap (λ (u : View). open_time u.snapshot) ok.view ∙ is) in
             omega arith;
         runs = runs_held g k.number c k.floor (row_of k) k.past own_past number_inside there (ok.floor c held) (ok.row c held);
       }

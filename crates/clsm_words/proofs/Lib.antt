@@ -2,6 +2,7 @@ pub mod Masks
 pub mod Beginnings
 pub mod Rows
 pub mod HeldRuns
+pub mod HeldCells
 pub mod Trails
 pub mod Spots
 pub mod Ranks

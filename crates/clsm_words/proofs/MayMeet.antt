@@ -1,4 +1,4 @@
--- A seat may deal another, tell of its past, and learn of another's.
+-- A seat may deal another, tell its past, and learn another's.
 use Rattle.std.proofs.Common.{◌≡◌, ℕ, ◌<◌, refl, sym, ◌∙◌, subst, arith}
 use Rattle.atomic_table.specs.Table.{Me, Splits}
 use Rattle.atomic_table.specs.Seated.{TableId}
@@ -19,7 +19,8 @@ pub some_word : (w : WordTable) → 0 < w.table.shared.table_id.words
 some_word w = let size = w.sized.0 in let first = index_inside w.layout Lock refl in omega arith
 
 -- the seat `now` at the words has the table's view `me.0`
-module _ (w : WordTable) (table : TableId) (id : ℕ) (me : Me ℕ Known) (now : RawState) (is : record { table = table; knows = me.0 } ≡ now) (of : IsSeatOf w now) where
+module _ (w : WordTable) (table : TableId) (id : ℕ) (me : Me ℕ Known) (now : RawState) (is : record { table = table; knows = me.0 } ≡ now)
+    (of : IsSeatOf w now) where
   of' : IsSeatOf w record { table = table; knows = me.0 }
   of' = subst (IsSeatOf w) (sym is) of
 
@@ -27,11 +28,22 @@ module _ (w : WordTable) (table : TableId) (id : ℕ) (me : Me ℕ Known) (now :
   key = of'.1 ∙ sym w.sized.1
 
   pub may_deal : IsSoundMerger me.0 → now.knows.dealt < w.layout.seats
-      → (table ≡ w.table.shared.table_id) × (0 < w.table.shared.table_id.words) × Splits (Ruled w.table.shared.key) id me.0 (deals me.0) (unplayed me.0.layout me.0.dealt)
+      → (table ≡ w.table.shared.table_id) × (0 < w.table.shared.table_id.words)
+      × Splits (Ruled w.table.shared.key) id me.0 (deals me.0) (unplayed me.0.layout me.0.dealt)
   may_deal sound room =
       let room' : me.0.dealt < w.layout.seats = subst (λ (v : RawState). v.knows.dealt < w.layout.seats) (sym is) room in
-      let inside : me.0.dealt < me.0.layout.seats = subst (λ (z : Layout). me.0.dealt < z.seats) (sym of'.1) room' in
-      (of'.0, some_word w, subst (λ (z : Layout). Splits (Ruled z) id me.0 (deals me.0) (unplayed me.0.layout me.0.dealt)) key (deals_one id me.0 sound.merges inside))
+      let inside : me.0.dealt < me.0.layout.seats = subst (λ (z : Layout). me.0.dealt < z.seats) (sym of'.1) room' in (
+        of'.0,
+        some_word w,
+        subst (λ (z : Layout). Splits (Ruled z) id me.0 (deals me.0) (unplayed me.0.layout me.0.dealt)) key
+            (deals_one id me.0 sound.merges inside),
+      )
 
-  pub may_tell : Sound me.0 → (table ≡ w.table.shared.table_id) × (0 < w.table.shared.table_id.words) × Splits (Ruled w.table.shared.key) id me.0 me.0 (messenger (known_of me.0) me.0.view.due)
-  may_tell sound = (of'.0, some_word w, subst (λ (z : Layout). Splits (Ruled z) id me.0 me.0 (messenger (known_of me.0) me.0.view.due)) key (tells_one id me.0 sound.seated))
+  pub may_tell : Sound me.0 → (table ≡ w.table.shared.table_id) × (0 < w.table.shared.table_id.words)
+      × Splits (Ruled w.table.shared.key) id me.0 me.0 (messenger (known_of me.0) me.0.view.due)
+  may_tell sound = (
+    of'.0,
+    some_word w,
+    subst (λ (z : Layout). Splits (Ruled z) id me.0 me.0 (messenger (known_of me.0) me.0.view.due)) key
+        (tells_one id me.0 sound.seated),
+  )

@@ -30,7 +30,8 @@ use Rattle.clsm_words.proofs.Listed.{times_few, times_inside, times_standing, ti
 use Rattle.clsm_words.proofs.MergerFacts.{same_places, open_known, free_if_frozen}
 
 -- all merged epochs are known
-merged_known : (exclusive frozen : Bool) (merged n clock past : ℕ) → merged * n ≤ clock → cond exclusive clock (cond frozen ((merged + 1) * n) (merged * n)) ≤ past → merged * n ≤ past
+merged_known : (exclusive frozen : Bool) (merged n clock past : ℕ) → merged * n ≤ clock
+    → cond exclusive clock (cond frozen ((merged + 1) * n) (merged * n)) ≤ past → merged * n ≤ past
 merged_known true frozen merged n clock past begun reaches = omega arith
 merged_known false true merged n clock past begun reaches = omega arith
 merged_known false false merged n clock past begun reaches = reaches
@@ -44,7 +45,8 @@ module _ (s : State ℕ Known) (k : Known) (r : Ruled k.layout s) (ok : IsMergin
 
   -- a step that is open to what the merger knows is open to it by the world's facts, and by what it
   -- knows with the world's view
-  pub open_by_row : (step : Step) → OpensToMerger k step → IsOpenToMerger k.layout (facts_of k.layout (row_of k) r.merger (map (λ slot. Some slot) k.past)) r.merger step
+  pub open_by_row : (step : Step) → OpensToMerger k step → IsOpenToMerger k.layout
+      (facts_of k.layout (row_of k) r.merger (map (λ slot. Some slot) k.past)) r.merger step
   open_by_row step o = subst (λ (m : MergerView). IsOpenToMerger k.layout (facts_of k.layout (row_of k) m (map (λ slot. Some slot) k.past)) m step) ok.view o
 
   pub open_there : (step : Step) → OpensToMerger k step → OpensTo setting step
@@ -52,7 +54,8 @@ module _ (s : State ℕ Known) (k : Known) (r : Ruled k.layout s) (ok : IsMergin
 
   past_agrees : AgreeBelow (r.merger.merged * k.layout.cells) (history_of r.slots) (plain k.past)
   past_agrees t lt =
-      let enough = merged_known r.merger.exclusive (is_frozen r.merger.phase) r.merger.merged k.layout.cells (length r.slots) (length k.past) (let a = r.lawful.law.begun in let b = clock_below setting in omega arith) ok.reaches in
+      let enough = merged_known r.merger.exclusive (is_frozen r.merger.phase) r.merger.merged k.layout.cells (length r.slots) (length k.past)
+      (let a = r.lawful.law.begun in let b = clock_below setting in omega arith) ok.reaches in
       begins_settled r.slots k.past ok.past t (omega arith)
 
   runs_known : AreRuns k.layout (row_of k) (plain k.past) r.merger.merged r.merger.merged_floor
@@ -73,25 +76,33 @@ module _ (s : State ℕ Known) (k : Known) (r : Ruled k.layout s) (ok : IsMergin
   clock_known e = ok.row Clock e ∙ clock_merger setting e
 
   reaches_known : known_end k.layout r.merger (row_of k Clock) ≤ length k.past
-  reaches_known = by_bool (λ b. (r.merger.exclusive ≡ b → cond b (row_of k Clock) (cond (is_frozen r.merger.phase) (epoch_end k.layout r.merger) (r.merger.merged * k.layout.cells)) ≤ length k.past)) r.merger.exclusive
-      (λ held _. let e = clock_known held in let all : length r.slots ≤ length k.past = subst (λ (b : Bool). cond b (length r.slots) (cond (is_frozen r.merger.phase) (epoch_end k.layout r.merger) (r.merger.merged * k.layout.cells)) ≤ length k.past) held ok.reaches in omega arith)
-      (λ free _. subst (λ (b : Bool). cond b (length r.slots) (cond (is_frozen r.merger.phase) (epoch_end k.layout r.merger) (r.merger.merged * k.layout.cells)) ≤ length k.past) free ok.reaches) refl
+  reaches_known = by_bool (λ b. (r.merger.exclusive ≡ b → cond b (row_of k Clock)
+      (cond (is_frozen r.merger.phase) (epoch_end k.layout r.merger) (r.merger.merged * k.layout.cells)) ≤ length k.past)) r.merger.exclusive
+      (λ held _. let e = clock_known held in let all : length r.slots ≤ length k.past = subst
+      (λ (b : Bool). cond b (length r.slots) (cond (is_frozen r.merger.phase) (epoch_end k.layout r.merger) (r.merger.merged * k.layout.cells)) ≤ length
+      k.past) held ok.reaches in omega arith)
+      (λ free _. subst (λ (b : Bool). cond b (length r.slots) (cond (is_frozen r.merger.phase) (epoch_end k.layout r.merger)
+      (r.merger.merged * k.layout.cells)) ≤ length k.past) free ok.reaches) refl
 
   all_known : r.merger.exclusive ≡ true → length k.past ≡ row_of k Clock
   all_known e =
       let clock = clock_known e in
-      let all : length r.slots ≤ length k.past = subst (λ (b : Bool). cond b (length r.slots) (cond (is_frozen r.merger.phase) (epoch_end k.layout r.merger) (r.merger.merged * k.layout.cells)) ≤ length k.past) e ok.reaches in
+      let all : length r.slots ≤ length k.past =
+      subst (λ (b : Bool). cond b (length r.slots) (cond (is_frozen r.merger.phase) (epoch_end k.layout r.merger)
+      (r.merger.merged * k.layout.cells)) ≤ length k.past) e ok.reaches in
       let bound = begins_bound r.slots k.past ok.past in omega arith
 
   -- while an epoch is frozen its times are known, and the trail is its list
   end_known : is_frozen r.merger.phase ≡ true → epoch_end k.layout r.merger ≤ length k.past
-  end_known frozen = let free = free_if_frozen setting (row_of k) k.past ok.row ok.past ok.reaches frozen in subst (λ (n : ℕ). n ≤ length k.past) (rw (free, frozen) refl) ok.reaches
+  end_known frozen = let free = free_if_frozen setting (row_of k) k.past ok.row ok.past ok.reaches frozen in
+      subst (λ (n : ℕ). n ≤ length k.past) (rw (free, frozen) refl) ok.reaches
 
   listed_there : is_frozen r.merger.phase ≡ true → IsListed (record k { merger = r.merger; trail = frozen_times k.layout r.merger r.lawful.orders })
   listed_there frozen =
       let end = end_known frozen in
       let bound = begins_bound r.slots k.past ok.past in
-      let known : (t : ℕ) → t < epoch_end k.layout r.merger → outcome_at r.slots t ≡ Some (get_or k.past t Nothing) = λ t lt. begins_at r.slots k.past ok.past t (omega arith) in
+      let known : (t : ℕ) → t < epoch_end k.layout r.merger → outcome_at r.slots t ≡ Some (get_or k.past t Nothing) =
+      λ t lt. begins_at r.slots k.past ok.past t (omega arith) in
       record {
         few = times_few setting frozen;
         inside = times_inside setting frozen;
@@ -100,12 +111,14 @@ module _ (s : State ℕ Known) (k : Known) (r : Ruled k.layout s) (ok : IsMergin
       }
 
   listed_of : is_frozen r.merger.phase ≡ true → IsListed k
-  listed_of frozen = subst (λ (y : MergerView × List ℕ). IsListed (record k { merger = y.0; trail = y.1 })) (λ i. (sym ok.view i, sym (ok.trail frozen) i)) (listed_there frozen)
+  listed_of frozen = subst (λ (y : MergerView × List ℕ). IsListed (record k { merger = y.0; trail = y.1 })) (λ i. (sym ok.view i, sym (ok.trail frozen) i))
+      (listed_there frozen)
 
   pub sound_merger : k.merges ≡ true → IsSoundMerger k
   sound_merger merges = record {
     merges = merges;
-    there = λ step o. subst (λ (m : MergerView). is_word k.layout (word_of_merger k.layout m step) ≡ true) (sym ok.view) (word_there' setting step (open_there step o));
+    there = λ step o. subst (λ (m : MergerView). is_word k.layout (word_of_merger k.layout m step) ≡ true) (sym ok.view)
+        (word_there' setting step (open_there step o));
     seats = subst (λ (m : MergerView). length m.readers ≡ k.layout.seats) (sym ok.view) r.lawful.law.merger.seats;
     reaches = subst (λ (m : MergerView). known_end k.layout m (row_of k Clock) ≤ length k.past) (sym ok.view) reaches_known;
     clock = λ e. all_known (sym (ap (λ (m : MergerView). m.exclusive) ok.view) ∙ e);

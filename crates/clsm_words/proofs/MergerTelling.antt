@@ -32,7 +32,8 @@ use Rattle.clsm_words.proofs.MergerPlayed.{me_merging, there_view, before, found
 
 module _ (s : State ℕ Known) (id : ℕ) (k : Known) (r : Ruled k.layout s) (at : get_elem? s.views id ≡ some k) (merges : k.merges ≡ true) where
   -- the merger knows the times of the frozen epoch
-  inside_next : (step : Step) (o : OpensToMerger k step) (t : ℕ) → is_frozen k.merger.phase ≡ true → t < epoch_end k.layout k.merger → t < length (next s id k r at merges step o).past
+  inside_next : (step : Step) (o : OpensToMerger k step) (t : ℕ) → is_frozen k.merger.phase ≡ true → t < epoch_end k.layout k.merger
+      → t < length (next s id k r at merges step o).past
   inside_next step o t frozen lt =
       let me = me_merging s id k r at merges step o in
       let frozen' : is_frozen r.merger.phase ≡ true = sym (ap (λ (m : MergerView). is_frozen m.phase) me.view) ∙ frozen in
@@ -43,7 +44,8 @@ module _ (s : State ℕ Known) (id : ℕ) (k : Known) (r : Ruled k.layout s) (at
       omega arith
 
   -- a cell of the frozen epoch shows what its time came to
-  frozen_shown : (step : Step) (o : OpensToMerger k step) (cell t : ℕ) → slots' s id k r at merges step o ≡ r.slots → IsFrozenIn k cell t → Shows (memory k.layout s.words) cell (Some (get_or (next s id k r at merges step o).past t Nothing))
+  frozen_shown : (step : Step) (o : OpensToMerger k step) (cell t : ℕ) → slots' s id k r at merges step o ≡ r.slots → IsFrozenIn k cell t
+      → Shows (memory k.layout s.words) cell (Some (get_or (next s id k r at merges step o).past t Nothing))
   frozen_shown step o cell t same known =
       let me = me_merging s id k r at merges step o in
       let g = before s id k r at merges step o in
@@ -54,12 +56,15 @@ module _ (s : State ℕ Known) (id : ℕ) (k : Known) (r : Ruled k.layout s) (at
       let low = shown_below_merged g in
       let list = (next s id k r at merges step o).past in
       subst (λ (c : ℕ). Shows (memory k.layout s.words) c (Some (get_or list t Nothing))) known.1
-      (subst (λ (a : Option Slot). Shows (memory k.layout s.words) (cell_of k.layout t) a) (ap (λ (slots : List (Option Slot)). outcome_at slots t) (sym same) ∙ begins_at (slots' s id k r at merges step o) list (next_past s id k r at merges step o) t (inside_next step o t known.0 known.3))
+      (subst (λ (a : Option Slot). Shows (memory k.layout s.words) (cell_of k.layout t) a)
+      (ap (λ (slots : List (Option Slot)). outcome_at slots t) (sym same)
+      ∙ begins_at (slots' s id k r at merges step o) list (next_past s id k r at merges step o) t (inside_next step o t known.0 known.3))
       (r.lawful.law.shown t (omega arith) drawn))
 
   pub tells_merger : (step : Step) (o : OpensToMerger k step) → TellsMerger step (next s id k r at merges step o) (found s id k r at merges step o)
   tells_merger (Look (StateOf cell)) o = λ t known.
-      finds_word s id k r at merges (Look (StateOf cell)) o ∙ shown_state (memory k.layout s.words) cell (get_or (next s id k r at merges (Look (StateOf cell)) o).past t Nothing)
+      finds_word s id k r at merges (Look (StateOf cell)) o ∙ shown_state (memory k.layout s.words) cell
+      (get_or (next s id k r at merges (Look (StateOf cell)) o).past t Nothing)
       (frozen_shown (Look (StateOf cell)) o cell t refl known)
   tells_merger (Look (Cell cell part)) o = λ t known.
       let slot = get_or (next s id k r at merges (Look (Cell cell part)) o).past t Nothing in
@@ -76,5 +81,6 @@ module _ (s : State ℕ Known) (id : ℕ) (k : Known) (r : Ruled k.layout s) (at
       (r.lawful.law.ordered region (mod_below r.merger.merged 2 (omega arith))) (own_place g frozen') p rest
       (subst (λ (m : MergerView). IsRestFrom k.layout 0 (frozen_times k.layout m r.lawful.orders) p rest) view behind) in
       subst (λ (x : ℕ). LeadsTo k.layout x rest)
-      (ap (λ (m : MergerView). memory k.layout s.words (Order (link_at (m.merged % 2) p))) (sym view) ∙ ap (λ (n : ℕ). memory k.layout s.words (Order n)) (sym is) ∙ sym (finds_word s id k r at merges (Look (Order link)) o)) leads
+      (ap (λ (m : MergerView). memory k.layout s.words (Order (link_at (m.merged % 2) p))) (sym view)
+      ∙ ap (λ (n : ℕ). memory k.layout s.words (Order n)) (sym is) ∙ sym (finds_word s id k r at merges (Look (Order link)) o)) leads
   tells_merger step o = tt

@@ -38,7 +38,8 @@ module _ (s : Setting) (gone : IsLetGo s.merger) where
 
   -- and so is a drawn one
   drawn_apart : (i t : ℕ) → each s.z drawn_of s.views i ≡ Some t → region_of s.z (cell_of s.z t) ≢ retired_region s.merger
-  drawn_apart i t e = let d = drawn_shown (ground s) i t e in let first = first_if_quiet s.z s.merger gone.1 in let from = d.0 in shown_apart t (omega arith) d.1
+  drawn_apart i t e = let d = drawn_shown (ground s) i t e in let first = first_if_quiet s.z s.merger gone.1 in let from = d.0 in
+      shown_apart t (omega arith) d.1
 
 -- ---- the clock
 
@@ -67,24 +68,30 @@ cancel_held s t c o e = let shown = cancels_shown s t o in
 own_state : (s : Setting) (step : Step) → Opens s step → (c : ℕ) → IsOwn s.z s.merger (State c) → M s step (State c) ≡ s.memory (State c)
 own_state s (Decide t deed) o c is = ⊎_elim
     (λ (e : s.merger.exclusive ≡ true). absurd (none_drawn (ground s) e s.me t o.0))
-    (λ (h : IsLetGo s.merger × (region_of s.z c ≡ retired_region s.merger)). other_state s t c _ (λ q. drawn_apart s h.0 s.me t o.0 (ap (region_of s.z) q ∙ h.1)))
+    (λ (h : IsLetGo s.merger × (region_of s.z c ≡ retired_region s.merger)). other_state s t c _
+    (λ q. drawn_apart s h.0 s.me t o.0 (ap (region_of s.z) q ∙ h.1)))
     is
 own_state s (Cancel t) o c is = ⊎_elim
     (λ (e : s.merger.exclusive ≡ true). cancel_held s t c o e)
-    (λ (h : IsLetGo s.merger × (region_of s.z c ≡ retired_region s.merger)). let shown = cancels_shown s t o in other_state s t c _ (λ q. shown_apart s h.0 t shown.0 shown.1 (ap (region_of s.z) q ∙ h.1)))
+    (λ (h : IsLetGo s.merger × (region_of s.z c ≡ retired_region s.merger)). let shown = cancels_shown s t o in
+    other_state s t c _ (λ q. shown_apart s h.0 t shown.0 shown.1 (ap (region_of s.z) q ∙ h.1)))
     is
 own_state s (Look word) o c is = λ k. put_same s.memory word k (State c)
 own_state s step o c is = refl
 
 -- ---- the heads
-own_head : (s : Setting) (step : Step) → Opens s step → (region chain : ℕ) → IsOwn s.z s.merger (Head region chain) → M s step (Head region chain) ≡ s.memory (Head region chain)
-own_head s (Link head) o region chain is = put_other s.memory (Head (region_of s.z (cell_of s.z (own s))) (or_zero (v s).key % s.z.chains)) (Head region chain) _ (λ q. let same : region_of s.z (cell_of s.z (own s)) ≡ region = cc in drawn_apart s is.0 s.me (own s) (own_drawn s o.0) (same ∙ is.1))
+own_head : (s : Setting) (step : Step) → Opens s step → (region chain : ℕ) → IsOwn s.z s.merger (Head region chain) → M s step (Head region chain)
+    ≡ s.memory (Head region chain)
+own_head s (Link head) o region chain is = put_other s.memory (Head (region_of s.z (cell_of s.z (own s))) (or_zero (v s).key % s.z.chains))
+    (Head region chain) _ (λ q. let same : region_of s.z (cell_of s.z (own s)) ≡ region = cc in
+    drawn_apart s is.0 s.me (own s) (own_drawn s o.0) (same ∙ is.1))
 own_head s (Look word) o region chain is = λ k. put_same s.memory word k (Head region chain)
 own_head s step o region chain is = refl
 
 -- ---- the heads of the ordered lists
 own_order : (s : Setting) (step : Step) → Opens s step → (link : ℕ) → IsOwn s.z s.merger (Order link) → M s step (Order link) ≡ s.memory (Order link)
-own_order s (FillOrder w) o link is = put_other s.memory (Order (P s + 1)) (Order link) w (λ q. let same : P s + 1 ≡ link = cc in let head = is.1 in absurd (omega arith))
+own_order s (FillOrder w) o link is = put_other s.memory (Order (P s + 1)) (Order link) w
+    (λ q. let same : P s + 1 ≡ link = cc in let head = is.1 in absurd (omega arith))
 own_order s (Insert p next) o link is = put_other s.memory (Order (link_at (R s) p)) (Order link) _ (λ q.
     let same : link_at (R s) p ≡ link_at link 0 = cc in
     let head = is.1 in

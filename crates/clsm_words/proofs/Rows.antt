@@ -38,7 +38,12 @@ looked_rows z v Clock x h = record { heads = h.heads; words = h.words }
 looked_rows z v Limit x h = record { heads = h.heads; words = h.words }
 looked_rows z v Front x h = record { heads = h.heads; words = h.words }
 looked_rows z v Merged x h = record { heads = h.heads; words = h.words }
-looked_rows z v (Head region chain) x h = record { heads = either_long (holds_lock v) (set v.fresh_heads (line_of region chain) (Some x)) v.fresh_heads (2 * z.chains) (set_long v.fresh_heads (line_of region chain) (Some x) (2 * z.chains) h.heads) h.heads; words = h.words }
+looked_rows z v (Head region chain) x h =
+    record {
+      heads = either_long (holds_lock v) (set v.fresh_heads (line_of region chain) (Some x)) v.fresh_heads (2 * z.chains)
+          (set_long v.fresh_heads (line_of region chain) (Some x) (2 * z.chains) h.heads) h.heads;
+      words = h.words;
+    }
 looked_rows z v (State cell) x h = record { heads = h.heads; words = h.words }
 looked_rows z v (Order link) x h = record { heads = h.heads; words = h.words }
 looked_rows z v (Cell cell part) x h = record { heads = h.heads; words = h.words }
@@ -46,9 +51,11 @@ looked_rows z v word x h = h
 
 -- they stay so long
 pub rows_stay : (z : Layout) (i : ℕ) (v : View) (step : Step) (x : ℕ) → HasRows z v → HasRows z (view_after z i v step x)
-rows_stay z i v (EnterShared l) x h = record { heads = either_long (x == l) (replicate (2 * z.chains) None) v.fresh_heads (2 * z.chains) (blank_long (2 * z.chains)) h.heads; words = h.words }
+rows_stay z i v (EnterShared l) x h =
+    record { heads = either_long (x == l) (replicate (2 * z.chains) None) v.fresh_heads (2 * z.chains) (blank_long (2 * z.chains)) h.heads; words = h.words }
 rows_stay z i v LeaveShared x h = record { heads = blank_long (2 * z.chains); words = h.words }
-rows_stay z i v EnterExclusive x h = record { heads = either_long (x == 0) (replicate (2 * z.chains) None) v.fresh_heads (2 * z.chains) (blank_long (2 * z.chains)) h.heads; words = h.words }
+rows_stay z i v EnterExclusive x h =
+    record { heads = either_long (x == 0) (replicate (2 * z.chains) None) v.fresh_heads (2 * z.chains) (blank_long (2 * z.chains)) h.heads; words = h.words }
 rows_stay z i v LeaveExclusive x h = record { heads = blank_long (2 * z.chains); words = h.words }
 rows_stay z i v (Stage t key) x h = record { heads = h.heads; words = blank_long 8 }
 rows_stay z i v (Draw t) x h = record { heads = h.heads; words = either_long (x == t) (replicate 8 None) v.words 8 (blank_long 8) h.words }

@@ -1,5 +1,6 @@
 -- What a look finds, by what the law says of the word.
-use Rattle.std.proofs.Common.{◌≡◌, ◌≢◌, ℕ, ◌*◌, ◌<◌, ◌≤◌, ◌==◌, true, cond, nat_lt, List, length, take, get_or, refl, sym, ap, ◌∙◌, subst, arith, Option, Some, None}
+use Rattle.std.proofs.Common.{◌≡◌, ◌≢◌, ℕ, ◌+◌, ◌*◌, ◌<◌, ◌≤◌, ◌==◌, true, cond, nat_lt, List, length, take, get_or, refl, sym, ap, ◌∙◌, subst, arith}
+use Rattle.std.proofs.Common.{Option, Some, None}
 use Rattle.std.proofs.lemmas.Bool.{and_parts}
 use mathlib.Core.Logic.{dite}
 use mathlib.Core.Option.{some}
@@ -20,11 +21,12 @@ use Rattle.clsm_law.specs.declared.view.View.{View}
 use Rattle.clsm_law.specs.declared.view.Mode.TheVariants.{Exclusive}
 use Rattle.clsm_law.specs.Codes.{exclusive_hold, undecided_cell}
 use Rattle.clsm_law.specs.Memory.{Memory, cell_of, is_part, put}
-use Rattle.clsm_law.specs.Relation.{HoldsFrom, word_of, changed}
+use Rattle.clsm_law.specs.OpenSteps.{HoldsFrom}
+use Rattle.clsm_law.specs.Relation.{word_of, changed}
 use Rattle.clsm_law.specs.Layout.{memory}
 use Rattle.clsm_law.specs.Worlds.{view_at, settled}
 use Rattle.clsm_law.specs.Law.{Shows, each, drawn_of, mode_of, first_shown}
-use Rattle.clsm_law.proofs.Frames.{put_same}
+use Rattle.clsm_law.proofs.Frames.{put_here, put_same}
 use Rattle.clsm_law.proofs.Setting.{Ground, ground, held_shown, clock_below, drawn_shown, shown_below_merged, undecided}
 use Rattle.clsm_law.proofs.Layouts.{memory-set}
 use Rattle.clsm_law.proofs.Stepped.{lawful_ground}
@@ -36,30 +38,50 @@ use Rattle.clsm_words.specs.Ruled.{world_of, Begins, Ruled}
 use Rattle.clsm_words.proofs.Beginnings.{begins_at, begins_bound}
 use Rattle.clsm_words.proofs.HeldRuns.{clock_near}
 use Rattle.clsm_words.proofs.Knows.{number_inside, own_past}
-use Rattle.clsm_words.proofs.Played.{me_seated, word, found, next, before, finds, finds_word, same_memory, words', views', slots', batches', lawful', next_seated}
+use Rattle.clsm_words.proofs.Played.{me_seated, word, word_there, found, next, before, finds, finds_word, same_memory, words', views', slots', batches'}
+use Rattle.clsm_words.proofs.Played.{lawful', next_seated, after_ground}
 
 pub shown_state : (memory : Memory) (cell : ℕ) (slot : Slot) → Shows memory cell (Some slot) → memory (StateOf cell) ≡ code_of slot
 shown_state memory cell Nothing h = h
 shown_state memory cell (Wrote seat key written) h = h.0
 
-pub shown_part : (memory : Memory) (cell : ℕ) (slot : Slot) (part : Part) → is_part part ≡ true → Shows memory cell (Some slot) → IsPartOf slot part (memory (Cell cell part))
+pub shown_part : (memory : Memory) (cell : ℕ) (slot : Slot) (part : Part) → is_part part ≡ true → Shows memory cell (Some slot)
+    → IsPartOf slot part (memory (Cell cell part))
 shown_part memory cell (Wrote seat key written) Key there h = h.1
 shown_part memory cell (Wrote seat key written) Length there h = h.2
 shown_part memory cell (Wrote seat key written) (Value j) there h = h.3 j
 shown_part memory cell slot part there h = tt
 
 -- while a caller holds the lock alone, each time below the clock whose epoch is not merged is decided
-alone_decided : (g : Ground) (me t : ℕ) → each g.z mode_of g.views me ≡ Exclusive → g.merger.merged * g.z.cells ≤ t → t < g.memory Clock → g.memory (StateOf (cell_of g.z t)) ≢ undecided_cell
+alone_decided : (g : Ground) (me t : ℕ) → each g.z mode_of g.views me ≡ Exclusive → g.merger.merged * g.z.cells ≤ t → t < g.memory Clock
+    → g.memory (StateOf (cell_of g.z t)) ≢ undecided_cell
 alone_decided g me t alone from until e =
     let below = clock_below g in
     let merged = shown_below_merged g in
     let owner = g.law.owned t (omega arith) (undecided g t (omega arith) (omega arith) e) in
     dite (ℕ_discrete owner.0 me)
-    (λ (same : owner.0 ≡ me). let mine = subst (λ (i : ℕ). each g.z drawn_of g.views i ≡ Some t) same owner.1 in let at = ((g.law.staging me).own alone t mine).0 in absurd (omega arith))
+    (λ (same : owner.0 ≡ me). let mine = subst (λ (i : ℕ). each g.z drawn_of g.views i ≡ Some t) same owner.1 in
+    let at = ((g.law.staging me).own alone t mine).0 in absurd (omega arith))
     (λ ne. absurd (g.law.holding owner.0 t owner.1 (g.law.sole me owner.0 alone ne)))
 
 module _ (s : State ℕ Known) (id : ℕ) (k : Known) (r : Ruled k.layout s) (at : get_elem? s.views id ≡ some k) (sits : k.seated ≡ true) where
   module _ (step : Step) (o : Opens k step) where
+    -- the step's word is what the step makes of what it found
+    pub made_of : row_of (next s id k r at sits step o) (word s id k r at sits step o) ≡ changed k.layout k.view step (found s id k r at sits step o)
+    made_of =
+        let w = word s id k r at sits step o in
+        let y = changed k.layout k.view step (found s id k r at sits step o) in
+        (λ i. memory-set k.layout s.words w y (word_there s id k r at sits step o) r.lawful.size i w) ∙ put_here (memory k.layout s.words) w y
+
+    -- while a time is drawn the limit is the end of its epoch
+    pub clock_near_drawn : (t : ℕ) → (next s id k r at sits step o).view.drawn ≡ Some t → row_of (next s id k r at sits step o) Clock ≤ t + k.layout.cells
+    clock_near_drawn t drawn =
+        let g = after_ground s id k r at sits step o in
+        let below = clock_below g in
+        let bounded = g.law.bounded in
+        let near = (g.law.pending k.number t (ap (λ (u : View). u.drawn) (next_seated s id k r at sits step o).view ∙ drawn)).0 in
+        omega arith
+
     -- what is held is shown
     shown_from : (t : ℕ) → HoldsFrom k.layout k.view.held t → first_shown k.layout r.merger ≤ t
     shown_from t h = from k.view.held refl h where
@@ -71,11 +93,13 @@ module _ (s : State ℕ Known) (id : ℕ) (k : Known) (r : Ruled k.layout s) (at
           omega arith
 
     -- a known time's cell shows what the time came to
-    known_shown : (list : List Slot) (cell t : ℕ) → Begins r.slots list → t < length list → cell_of k.layout t ≡ cell → HoldsFrom k.layout k.view.held t → Shows (memory k.layout s.words) cell (Some (get_or list t Nothing))
+    known_shown : (list : List Slot) (cell t : ℕ) → Begins r.slots list → t < length list → cell_of k.layout t ≡ cell → HoldsFrom k.layout k.view.held t
+        → Shows (memory k.layout s.words) cell (Some (get_or list t Nothing))
     known_shown list cell t b lt is h =
         let short = begins_bound r.slots list b in
         subst (λ (c : ℕ). Shows (memory k.layout s.words) c (Some (get_or list t Nothing))) is
-        (subst (λ (a : Option Slot). Shows (memory k.layout s.words) (cell_of k.layout t) a) (begins_at r.slots list b t lt) (r.lawful.law.shown t (shown_from t h) (omega arith)))
+        (subst (λ (a : Option Slot). Shows (memory k.layout s.words) (cell_of k.layout t) a) (begins_at r.slots list b t lt)
+        (r.lawful.law.shown t (shown_from t h) (omega arith)))
 
     -- the past before the step
     past_before : Begins r.slots (take k.view.past (settled r.slots))
@@ -97,13 +121,15 @@ module _ (s : State ℕ Known) (id : ℕ) (k : Known) (r : Ruled k.layout s) (at
   clock_found a z x y e h = subst (IsNearHeld z a) (sym e) h
 
   -- a step that leaves its word knows it
-  row_found : (step : Step) (o : Opens k step) → changed k.layout (view_at k.layout r.views k.number) step (found_by (before s id k r at sits step o) step) ≡ found_by (before s id k r at sits step o) step → found s id k r at sits step o ≡ row_of (next s id k r at sits step o) (word s id k r at sits step o)
+  row_found : (step : Step) (o : Opens k step) → changed k.layout (view_at k.layout r.views k.number) step (found_by (before s id k r at sits step o) step)
+      ≡ found_by (before s id k r at sits step o) step → found s id k r at sits step o ≡ row_of (next s id k r at sits step o) (word s id k r at sits step o)
   row_found step o same =
       finds_word s id k r at sits step o
       ∙ sym ((λ i. same_memory s id k r at sits step o i (word s id k r at sits step o)) ∙ left)
     where
       left : memory_by (before s id k r at sits step o) step (word s id k r at sits step o) ≡ memory k.layout s.words (word s id k r at sits step o)
-      left = ap (λ (y : ℕ). put (memory k.layout s.words) (word_of k.layout k.number (view_at k.layout r.views k.number) step) y (word s id k r at sits step o)) same
+      left = ap (λ (y : ℕ). put (memory k.layout s.words) (word_of k.layout k.number (view_at k.layout r.views k.number) step) y
+          (word s id k r at sits step o)) same
           ∙ (λ i. put_same (memory k.layout s.words) (word_of k.layout k.number (view_at k.layout r.views k.number) step) i (word s id k r at sits step o))
 
   -- in an exclusive hold the time of a member is undecided
@@ -121,11 +147,15 @@ module _ (s : State ℕ Known) (id : ℕ) (k : Known) (r : Ruled k.layout s) (at
   -- who entered the lock alone holds it alone
   enters_alone : (o : Opens k EnterExclusive) → found s id k r at sits EnterExclusive o ≡ 0 → HoldsAlone (next s id k r at sits EnterExclusive o)
   enters_alone o free =
-      let g = lawful_ground (world_of k.layout (words' s id k r at sits EnterExclusive o) (views' s id k r at sits EnterExclusive o) r.merger (slots' s id k r at sits EnterExclusive o) (batches' s id k r at sits EnterExclusive o)) (lawful' s id k r at sits EnterExclusive o) in
-      let mode : each g.z mode_of g.views k.number ≡ Exclusive = ap (λ (u : View). u.mode) (next_seated s id k r at sits EnterExclusive o).view ∙ ap (λ (x : ℕ). cond (x == 0) Exclusive k.view.mode) free in
+      let g = lawful_ground (world_of k.layout (words' s id k r at sits EnterExclusive o) (views' s id k r at sits EnterExclusive o) r.merger
+      (slots' s id k r at sits EnterExclusive o) (batches' s id k r at sits EnterExclusive o)) (lawful' s id k r at sits EnterExclusive o) in
+      let mode : each g.z mode_of g.views k.number ≡ Exclusive = ap (λ (u : View). u.mode) (next_seated s id k r at sits EnterExclusive o).view
+      ∙ ap (λ (x : ℕ). cond (x == 0) Exclusive k.view.mode) free in
       record {
-        lock = (λ i. memory-set k.layout s.words Lock (changed k.layout k.view EnterExclusive (found s id k r at sits EnterExclusive o)) refl r.lawful.size i Lock) ∙ ap (λ (x : ℕ). either (x == 0) exclusive_hold x) free;
-        decided = λ t from until. let merged = g.law.merged in alone_decided g k.number t mode (let count = ap (λ (m : ℕ). m * k.layout.cells) merged in omega arith) until;
+        lock = (λ i. memory-set k.layout s.words Lock (changed k.layout k.view EnterExclusive (found s id k r at sits EnterExclusive o)) refl r.lawful.size
+            i Lock) ∙ ap (λ (x : ℕ). either (x == 0) exclusive_hold x) free;
+        decided = λ t from until. let merged = g.law.merged in alone_decided g k.number t mode
+            (let count = ap (λ (m : ℕ). m * k.layout.cells) merged in omega arith) until;
       }
 
   pub tells_of : (step : Step) (o : Opens k step) → Tells step (next s id k r at sits step o) (found s id k r at sits step o)
@@ -146,7 +176,8 @@ module _ (s : State ℕ Known) (id : ℕ) (k : Known) (r : Ruled k.layout s) (at
         omega arith,
         omega arith,
         clock_found k.view.held k.layout (found s id k r at sits (Look Clock) o) (memory k.layout s.words Clock) clock (clock_within (Look Clock) o),
-        λ limit holds held. let same = r.lawful.law.limits k.number limit (λ free. holds (sym (ap (λ (u : View). u.mode) ok.view) ∙ free)) (ap (λ (u : View). u.hold_limit) ok.view ∙ held) in let bounded = r.lawful.law.bounded in omega arith,
+        λ limit holds held. let same = r.lawful.law.limits k.number limit (λ free. holds (sym (ap (λ (u : View). u.mode) ok.view) ∙ free))
+            (ap (λ (u : View). u.hold_limit) ok.view ∙ held) in let bounded = r.lawful.law.bounded in omega arith,
         omega arith,
       )
   tells_of (Look (StateOf cell)) o = λ t known.

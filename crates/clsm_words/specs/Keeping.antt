@@ -42,7 +42,17 @@ pub record KeepsPlace (old new : Known) : Type 0 where
 -- cancelled too early stays
 pub record OnlyReads (old new : Known) : Type 0 where
   pub seat : KeepsSeat old new
-  pub view : new.view ≡ record old.view { fresh_heads = new.view.fresh_heads; met = new.view.met; fresh_link = new.view.fresh_link; low = new.view.low; high = new.view.high; reached = new.view.reached; past = new.view.past; cancelled = new.view.cancelled; waited = new.view.waited }
+  pub view : new.view ≡ record old.view {
+    fresh_heads = new.view.fresh_heads;
+    met = new.view.met;
+    fresh_link = new.view.fresh_link;
+    low = new.view.low;
+    high = new.view.high;
+    reached = new.view.reached;
+    past = new.view.past;
+    cancelled = new.view.cancelled;
+    waited = new.view.waited;
+  }
   pub reached : old.view.reached ≤ new.view.reached
 
 -- it read, and neither learned of a time more nor cancelled one

@@ -1,6 +1,7 @@
 -- What a seat at the words knows: how it begins, what a step makes of it, and what each step tells
 -- it.
-use Rattle.std.specs.Prelude.{max, min, cond, true, false, ◌≡◌, ◌≢◌, ℕ, ◌+◌, ◌-◌, ◌*◌, ◌%◌, ◌<◌, ◌≤◌, ◌==◌, ◌&&◌, ◌||◌, ◌⊎◌, Bool, List, [], ◌∷◌, length, slice_index, slice_index_or, Option, Some, None}
+use Rattle.std.specs.Prelude.{max, min, cond, true, false, ◌≡◌, ◌≢◌, ℕ, ◌+◌, ◌-◌, ◌*◌, ◌%◌, ◌<◌, ◌≤◌, ◌==◌, ◌&&◌, ◌||◌, ◌⊎◌, Bool, List, [], ◌∷◌, length}
+use Rattle.std.specs.Prelude.{slice_index, slice_index_or, Option, Some, None}
 use Rattle.std.specs.List.{AllByRecursion}
 use Rattle.std.proofs.Common.{arith}
 use Rattle.clsm_model.specs.declared.slot.Slot.{Slot}
@@ -25,9 +26,11 @@ use Rattle.clsm_law.specs.Memory.{Memory, cell_of, region_of, link_at, is_word, 
 use Rattle.clsm_law.specs.Layout.{memory}
 use Rattle.clsm_law.specs.Places.{is_named}
 use Rattle.clsm_law.specs.Worlds.{are_canonical, runs_of}
-use Rattle.clsm_law.specs.Law.{In, Distinct, place_of_time}
+use Rattle.clsm_law.specs.Keeping.{IsStillWalked}
+use Rattle.clsm_law.specs.Law.{In, IsChain, Distinct, place_of_time}
 use Rattle.clsm_law.specs.Views.{IsShort, own_region, idle, length_of, words_of, state_of}
-use Rattle.clsm_law.specs.Relation.{Before, open_time, HoldsFrom, IsOpen, word_of, view_after}
+use Rattle.clsm_law.specs.OpenSteps.{open_time, HoldsFrom, IsOpen}
+use Rattle.clsm_law.specs.Relation.{Before, word_of, changed, view_after}
 use Rattle.clsm_law.specs.Merging.{opening, IsRunWord, place_of}
 use Rattle.clsm_law.specs.Machine.{opened}
 use Rattle.clsm_model.specs.Seats.{FitsRecord, IsRecordIn, IsRightRecord, IsUncutRecord, HasWrite, IsRising}
@@ -40,22 +43,72 @@ use Rattle.clsm_words.specs.declared.known.Spot.{Spot}
 
 -- the smallest layout: that of one who sees no word
 abbrev pub least_layout : Layout
-least_layout = record { cells = 4; seats = 1; chains = 1; run = 4; patience = 0; cells_in_range = (omega arith, omega arith); seats_in_range = (omega arith, omega arith); chains_in_range = (omega arith, omega arith); run_in_range = (omega arith, omega arith) }
+least_layout = record {
+  cells = 4;
+  seats = 1;
+  chains = 1;
+  run = 4;
+  patience = 0;
+  cells_in_range = (omega arith, omega arith);
+  seats_in_range = (omega arith, omega arith);
+  chains_in_range = (omega arith, omega arith);
+  run_in_range = (omega arith, omega arith);
+}
 
 -- a caller's seat that has played nothing
 abbrev pub unplayed : Layout → ℕ → Known
-unplayed z number = record { seated = true; merges = false; number = number; dealt = 0; layout = z; view = idle z; merger = opening z; row = []; trail = []; spots = []; order = []; region = 0; chain = 0; floor = 0; past = []; batches = []; told = []; told_batches = []; heard = 0 }
+unplayed z number = record {
+  seated = true;
+  merges = false;
+  number = number;
+  dealt = 0;
+  layout = z;
+  view = idle z;
+  merger = opening z;
+  row = [];
+  trail = [];
+  spots = [];
+  order = [];
+  region = 0;
+  chain = 0;
+  floor = 0;
+  past = [];
+  batches = [];
+  told = [];
+  told_batches = [];
+  heard = 0;
+}
 
 -- the merger's, which is the first of all and deals the others: its number is the number of the
 -- callers' seats
 abbrev pub new_merger : Layout → Known
-new_merger z = record { seated = false; merges = true; number = z.seats; dealt = 0; layout = z; view = idle z; merger = opening z; row = (opened z).words; trail = []; spots = []; order = []; region = 0; chain = 0; floor = 0; past = []; batches = []; told = []; told_batches = []; heard = 0 }
+new_merger z = record {
+  seated = false;
+  merges = true;
+  number = z.seats;
+  dealt = 0;
+  layout = z;
+  view = idle z;
+  merger = opening z;
+  row = (opened z).words;
+  trail = [];
+  spots = [];
+  order = [];
+  region = 0;
+  chain = 0;
+  floor = 0;
+  past = [];
+  batches = [];
+  told = [];
+  told_batches = [];
+  heard = 0;
+}
 
 -- one seat more is dealt
 abbrev pub deals : Known → Known
 deals k = record k { dealt = k.dealt + 1 }
 
--- the beginning of the history that a seat knows, and the one that it was told of
+-- the beginning of the history that a seat knows, and the one that it was told
 abbrev pub known_of : Known → History
 known_of k = record { slots = k.past; batches = k.batches }
 
@@ -64,7 +117,28 @@ told_of k = record { slots = k.told; batches = k.told_batches }
 
 -- one that only carries a past and a due
 abbrev pub messenger : History → ℕ → Known
-messenger told heard = record { seated = false; merges = false; number = 0; dealt = 0; layout = least_layout; view = idle least_layout; merger = opening least_layout; row = []; trail = []; spots = []; order = []; region = 0; chain = 0; floor = 0; past = []; batches = []; told = told.slots; told_batches = told.batches; heard = heard }
+messenger told heard = record {
+  seated = false;
+  merges = false;
+  number = 0;
+  dealt = 0;
+  layout = least_layout;
+  view = idle least_layout;
+  merger = opening least_layout;
+  row = [];
+  trail = [];
+  spots = [];
+  order = [];
+  region = 0;
+  chain = 0;
+  floor = 0;
+  past = [];
+  batches = [];
+  told =
+      told.slots;
+  told_batches = told.batches;
+  heard = heard;
+}
 
 -- a seat that takes in what another carries: its beginning of the history, and its due where that
 -- is greater
@@ -85,7 +159,8 @@ IsListedWithin h s deed = Unit {0}
 -- record is listed
 pub record Agrees (seats number : ℕ) (calls : List CallRecord) (h : History) : Type 0 where
   pub stand : AllByRecursion (IsRecordIn h.slots number) calls
-  pub recorded : (t key : ℕ) (written : Option (List ℕ)) → t < end_of h → slot_at h t ≡ Wrote number key written → HasWrite number t (Wrote number key written) calls
+  pub recorded : (t key : ℕ) (written : Option (List ℕ)) → t < end_of h → slot_at h t ≡ Wrote number key written
+      → HasWrite number t (Wrote number key written) calls
   pub numbered : (t i key : ℕ) (written : Option (List ℕ)) → t < end_of h → slot_at h t ≡ Wrote i key written → i < seats
   pub short : (t i key : ℕ) (written : Option (List ℕ)) → t < end_of h → slot_at h t ≡ Wrote i key written → IsShort written
   pub uncut : AllByRecursion (IsUncutRecord h.batches) calls
@@ -186,7 +261,8 @@ pub record Sound (k : Known) : Type 0 where
   pub rising : IsRising k.view.calls k.view.due (open_time k.view.snapshot)
   pub in_time : k.view.due ≤ last_limit
   pub unstaged : k.view.mode ≢ Exclusive → k.view.staged ≡ []
-  pub own_region : (t limit : ℕ) → k.view.drawn ≡ Some t → k.view.hold_limit ≡ Some limit → region_of k.layout (cell_of k.layout (limit - 1)) ≡ region_of k.layout (cell_of k.layout t)
+  pub own_region : (t limit : ℕ) → k.view.drawn ≡ Some t → k.view.hold_limit ≡ Some limit → region_of k.layout (cell_of k.layout (limit - 1))
+      ≡ region_of k.layout (cell_of k.layout t)
   pub own_places : (p : ℕ) → k.view.drawn ≢ None → p ≢ 0 → (p ≡ k.view.met) ⊎ ((p ≡ k.view.low) ⊎ (p ≡ k.view.high)) → IsOwnPlace k p
   pub ranked : (p : ℕ) → k.view.drawn ≢ None → In p k.order → rank_of p k.order ≤ k.layout.cells
   pub opened : (s : ℕ) → open_time k.view.snapshot ≡ Some s → s ≤ k.view.past
@@ -253,7 +329,8 @@ pub record IsTrail (k : Known) (e chain x : ℕ) : Type 0 where
   pub leads : LeadsTo k.layout x k.trail
   pub distinct : Distinct k.trail
   pub inside : (t : ℕ) → In t k.trail → (e * k.layout.cells ≤ t) × (t < (e + 1) * k.layout.cells)
-  pub standing : (t i key : ℕ) (written : Option (List ℕ)) → e * k.layout.cells ≤ t → t < (e + 1) * k.layout.cells → t < length k.past → slice_index_or k.past t Nothing ≡ Wrote i key written → key % k.layout.chains ≡ chain → In t k.trail
+  pub standing : (t i key : ℕ) (written : Option (List ℕ)) → e * k.layout.cells ≤ t → t < (e + 1) * k.layout.cells → t < length k.past
+      → slice_index_or k.past t Nothing ≡ Wrote i key written → key % k.layout.chains ≡ chain → In t k.trail
 
 -- what a step that found x makes of the trail: a look at a head begins it, one at the NEXT of its
 -- first cell goes on
@@ -270,7 +347,29 @@ IsNamedWord c word = IsRunWord word × (is_named c (place_of word) ≡ true)
 
 -- while it holds the component, the runs stay
 abbrev pub KeepsRuns : Known → Known → Type 0
-KeepsRuns k k' = (c : ℕ) → k.view.held ≡ Some c → k'.view.held ≡ Some c → (k'.floor ≡ k.floor) × ((word : Word) → IsNamedWord c word → row_of k' word ≡ row_of k word)
+KeepsRuns k k' = (c : ℕ) → k.view.held ≡ Some c → k'.view.held ≡ Some c → (k'.floor ≡ k.floor)
+    × ((word : Word) → IsNamedWord c word → row_of k' word ≡ row_of k word)
+
+-- a word of the cell of a time that it knows, of the component that it holds: the state, and where
+-- the time is a write's each other word
+abbrev pub IsKnownWord : Known → Word → Type 0
+IsKnownWord k (State cell) = (t : ℕ) × IsKnownIn k cell t
+IsKnownWord k (Cell cell part) = (t : ℕ) × IsKnownIn k cell t × (slice_index_or k.past t Nothing ≢ Nothing)
+IsKnownWord k _ = ⊥
+
+-- while it holds the component, these words stay
+abbrev pub KeepsCells : Known → Known → Type 0
+KeepsCells k k' = (c : ℕ) → k.view.held ≡ Some c → k'.view.held ≡ Some c → (word : Word) → IsKnownWord k word → row_of k' word ≡ row_of k word
+
+-- each way along a chain of the region is still an end of one: the chains grew at their heads alone
+abbrev pub LeadsOn : Layout → Memory → Memory → ℕ → Type 0
+LeadsOn z old new region = (chain : ℕ) (way : List ℕ) → chain < z.chains → IsChain z old (old (Head region chain)) way
+    → IsStillWalked z new (new (Head region chain)) way
+
+-- and that is so of the region of each time that it knows, while it holds the component
+abbrev pub KeepsWays : Known → Known → Type 0
+KeepsWays k k' = (c : ℕ) → k.view.held ≡ Some c → k'.view.held ≡ Some c → (cell t : ℕ) → IsKnownIn k cell t
+    → LeadsOn k.layout (row_of k) (row_of k') (region_of k.layout cell)
 
 -- ---- ordered lists
 
@@ -294,8 +393,10 @@ pub record IsSpotBehind (k : Known) (e p key x next : ℕ) : Type 0 where
 -- between p and what the link behind it led to stands no write of the past's: each one of the epoch
 -- that is behind p is that one, or behind it; and where it led to none, there is none
 abbrev pub IsGapBehind : Known → ℕ → ℕ → ℕ → ℕ → ℕ → Type 0
-IsGapBehind k e p key x next = (t i other : ℕ) (written : Option (List ℕ)) → e * k.layout.cells ≤ t → t < (e + 1) * k.layout.cells → t < length k.past → slice_index_or k.past t Nothing ≡ Wrote i other written
-    → IsBehind p key (place_of_time k.layout t) other → (x ≢ 0) × (((x ≡ place_of_time k.layout t) × (next ≡ other)) ⊎ Before next x other (place_of_time k.layout t))
+IsGapBehind k e p key x next = (t i other : ℕ) (written : Option (List ℕ)) → e * k.layout.cells ≤ t → t < (e + 1) * k.layout.cells → t < length k.past
+    → slice_index_or k.past t Nothing ≡ Wrote i other written
+    → IsBehind p key (place_of_time k.layout t) other → (x ≢ 0) × (((x ≡ place_of_time k.layout t) × (next ≡ other))
+    ⊎ Before next x other (place_of_time k.layout t))
 
 -- the same two of a link that led to x, which is 0 at the list's end
 pub record IsNextOf (k : Known) (e p key x : ℕ) : Type 0 where
@@ -307,8 +408,10 @@ pub record IsNextOf (k : Known) (e p key x : ℕ) : Type 0 where
 -- at the link behind a place that it reached tells what is next there; one at the state of a
 -- written cell, that it is a spot; and one at the key of a spot finds the spot's.
 abbrev pub TellsOrder : Step → Known → ℕ → Known → Type 0
-TellsOrder (Look (Order link)) k x k' = (e p key : ℕ) → IsHeldEpoch k.layout k.view.held (length k.past) e → link ≡ link_at (e % 2) p → IsReached k e p key → IsNextOf k' e p key x
-TellsOrder (Look (State cell)) k x k' = (e : ℕ) → IsHeldEpoch k.layout k.view.held (length k.past) e → cell < 2 * k.layout.cells → region_of k.layout cell ≡ e % 2 → (x ≡ value_cell) ⊎ (x ≡ removal_cell) → (key : ℕ) × HasSpot k'.spots (cell + 1) key
+TellsOrder (Look (Order link)) k x k' = (e p key : ℕ) → IsHeldEpoch k.layout k.view.held (length k.past) e → link ≡ link_at (e % 2) p → IsReached k e p key
+    → IsNextOf k' e p key x
+TellsOrder (Look (State cell)) k x k' = (e : ℕ) → IsHeldEpoch k.layout k.view.held (length k.past) e → cell < 2 * k.layout.cells → region_of k.layout cell
+    ≡ e % 2 → (x ≡ value_cell) ⊎ (x ≡ removal_cell) → (key : ℕ) × HasSpot k'.spots (cell + 1) key
 TellsOrder (Look (Cell cell Key)) k x k' = (key : ℕ) → HasSpot k.spots (cell + 1) key → x ≡ key
 TellsOrder _ k x k' = Unit {0}
 
@@ -336,12 +439,14 @@ pub record IsAlong (k k' : Known) (p x : ℕ) : Type 0 where
 -- what a step that found x tells of the list of the drawn cell: a look at the link behind the last
 -- place before that cell, or at the list's head, leads on in the list
 abbrev pub TellsAlong : Step → Known → ℕ → Known → Type 0
-TellsAlong (Look (Order link)) k x k' = (p : ℕ) → k.view.drawn ≢ None → link ≡ link_at (own_region k.layout k.view) p → (p ≡ 0) ⊎ (p ≡ k.view.low) → x ≢ 0 → IsAlong k k' p x
+TellsAlong (Look (Order link)) k x k' = (p : ℕ) → k.view.drawn ≢ None → link ≡ link_at (own_region k.layout k.view) p → (p ≡ 0) ⊎ (p ≡ k.view.low) → x ≢ 0
+    → IsAlong k k' p x
 TellsAlong _ k x k' = Unit {0}
 
--- the seat after a step that found x: its view is the machine's, and its past only grows, and stays
--- where the view's past does. What it was told and its past are beginnings of one history, with
--- which its records agree
+-- the seat after a step that found x: its view is the machine's, the step's word became what the
+-- step makes of it, and its past only grows, and stays where the view's past does. What it was told
+-- and its past are beginnings of one history, with which its records agree. While it has a drawn
+-- time that is neither decided nor given up, the clock is at most one epoch's length past that
 pub record Follows (step : Step) (k : Known) (x : ℕ) (k' : Known) : Type 0 where
   pub number : k'.number ≡ k.number
   pub dealt : k'.dealt ≡ k.dealt
@@ -350,14 +455,18 @@ pub record Follows (step : Step) (k : Known) (x : ℕ) (k' : Known) : Type 0 whe
   pub told_batches : k'.told_batches ≡ k.told_batches
   pub heard : k'.heard ≡ k.heard
   pub view : k'.view ≡ view_after k.layout k.number k.view step x
+  pub made : row_of k' (word_of k.layout k.number k.view step) ≡ changed k.layout k.view step x
   pub longer : IsBeginning (known_of k) (known_of k')
   pub same : k'.view.past ≡ k.view.past → (k'.past ≡ k.past) × (k'.batches ≡ k.batches)
   pub reaches : length k.told ≤ length k'.past → IsBeginning (told_of k) (known_of k')
   pub within : length k'.past ≤ length k.told → IsBeginning (known_of k') (told_of k)
   pub agrees : Agrees k'.layout.seats k'.number k'.view.calls (told_of k)
+  pub clock : (t : ℕ) → k'.view.drawn ≡ Some t → row_of k' Clock ≤ t + k.layout.cells
   pub tells : Tells step k' x
   pub walks : Walks step k x k'
   pub runs : KeepsRuns k k'
+  pub cells : KeepsCells k k'
+  pub ways : KeepsWays k k'
   pub order : TellsOrder step k x k'
   pub leaves : LeavesSpots step k k'
   pub spots : KeepsSpots k k'

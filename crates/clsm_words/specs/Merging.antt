@@ -14,7 +14,8 @@ use Rattle.clsm_law.specs.declared.step.Step.{Step}
 use Rattle.clsm_law.specs.declared.step.Step.TheVariants.{Look}
 use Rattle.clsm_law.specs.declared.merger.MergerView.{MergerView}
 use Rattle.clsm_law.specs.Memory.{cell_of, region_of, link_at, is_word, put}
-use Rattle.clsm_law.specs.Merging.{Facts, is_frozen, is_retired, is_all_quiet, epoch_end, retired_region, IsOpenToMerger, word_of_merger, changed_by_merger, merger_after}
+use Rattle.clsm_law.specs.Merging.{Facts, is_frozen, is_retired, is_all_quiet, epoch_end, retired_region, IsOpenToMerger, word_of_merger, changed_by_merger}
+use Rattle.clsm_law.specs.Merging.{merger_after}
 use Rattle.clsm_law.specs.Relation.{Before}
 use Rattle.clsm_law.specs.Views.{IsShort}
 use Rattle.clsm_law.specs.Worlds.{facts_of}
@@ -81,7 +82,8 @@ WritesRise past (t ∷ ts) = StandsBefore past t ts × WritesRise past ts
 pub record IsListed (k : Known) : Type 0 where
   pub few : length k.trail ≤ k.layout.cells
   pub inside : (t : ℕ) → In t k.trail → (k.merger.merged * k.layout.cells ≤ t) × (t < epoch_end k.layout k.merger)
-  pub standing : (t i key : ℕ) (written : Option (List ℕ)) → k.merger.merged * k.layout.cells ≤ t → t < epoch_end k.layout k.merger → slice_index_or k.past t Nothing ≡ Wrote i key written → In t k.trail
+  pub standing : (t i key : ℕ) (written : Option (List ℕ)) → k.merger.merged * k.layout.cells ≤ t → t < epoch_end k.layout k.merger
+      → slice_index_or k.past t Nothing ≡ Wrote i key written → In t k.trail
   pub rise : WritesRise k.past k.trail
 
 -- of the times of the list behind the place q these are the ones behind the place p
@@ -114,28 +116,35 @@ pub record IsSoundMerger (k : Known) : Type 0 where
 
 -- a time of the frozen epoch that has the cell
 abbrev pub IsFrozenIn : Known → ℕ → ℕ → Type 0
-IsFrozenIn k cell t = (is_frozen k.merger.phase ≡ true) × (cell_of k.layout t ≡ cell) × (k.merger.merged * k.layout.cells ≤ t) × (t < epoch_end k.layout k.merger)
+IsFrozenIn k cell t = (is_frozen k.merger.phase ≡ true) × (cell_of k.layout t ≡ cell) × (k.merger.merged * k.layout.cells ≤ t)
+    × (t < epoch_end k.layout k.merger)
 
 -- what a look that found x tells the merger: the cells of the frozen epoch show what their times
 -- came to, and the links of its list lead to the next time
 abbrev pub TellsMerger : Step → Known → ℕ → Type 0
 TellsMerger (Look (State cell)) k x = (t : ℕ) → IsFrozenIn k cell t → x ≡ code_of (slice_index_or k.past t Nothing)
 TellsMerger (Look (Cell cell part)) k x = (t : ℕ) → IsFrozenIn k cell t → IsPartOf (slice_index_or k.past t Nothing) part x
-TellsMerger (Look (Order link)) k x = (p : ℕ) (rest : List ℕ) → is_frozen k.merger.phase ≡ true → link ≡ link_at (k.merger.merged % 2) p → IsRestBehind k p rest → LeadsTo k.layout x rest
+TellsMerger (Look (Order link)) k x = (p : ℕ) (rest : List ℕ) → is_frozen k.merger.phase ≡ true → link ≡ link_at (k.merger.merged % 2) p
+    → IsRestBehind k p rest → LeadsTo k.layout x rest
 TellsMerger _ k x = Unit {0}
 
 -- the merger's seat after a step that found x: its view is the machine's, its past only grows, its
 -- trail stays while an epoch is frozen, and of its own words it knows that this one became what the
--- step makes of it, and that the others stay
+-- step makes of it, and that the others stay. What it was told and its past are beginnings of one
+-- history
 pub record FollowsMerger (step : Step) (k : Known) (x : ℕ) (k' : Known) : Type 0 where
   pub number : k'.number ≡ k.number
   pub dealt : k'.dealt ≡ k.dealt
   pub layout : k'.layout ≡ k.layout
+  pub told : k'.told ≡ k.told
   pub view : k'.merger ≡ merger_after k.layout (facts_known k) k.merger step x
   pub found : IsOwn k.layout k.merger (word_of_merger k.layout k.merger step) → x ≡ row_of k (word_of_merger k.layout k.merger step)
   pub made : row_of k' (word_of_merger k.layout k.merger step) ≡ changed_by_merger k.layout k.merger step x
-  pub stays : (word : Word) → IsOwn k.layout k.merger word → row_of k' word ≡ put (row_of k) (word_of_merger k.layout k.merger step) (changed_by_merger k.layout k.merger step x) word
+  pub stays : (word : Word) → IsOwn k.layout k.merger word → row_of k' word
+      ≡ put (row_of k) (word_of_merger k.layout k.merger step) (changed_by_merger k.layout k.merger step x) word
   pub longer : IsPrefix k.past k'.past
+  pub reaches : length k.told ≤ length k'.past → IsPrefix k.told k'.past
+  pub within : length k'.past ≤ length k.told → IsPrefix k'.past k.told
   pub trail : is_frozen k.merger.phase ≡ true → is_frozen k'.merger.phase ≡ true → k'.trail ≡ k.trail
   pub tells : TellsMerger step k' x
   pub sound : IsSoundMerger k'

@@ -72,7 +72,8 @@ MergerAnswers words seat step answer seat' = (x : ℕ) × Merged words seat step
 
 -- the seat with this number has played nothing
 abbrev pub IsFresh : ℕ → RawState → Type 0
-IsFresh number seat = (seat.knows.number ≡ number) × (seat.knows.view ≡ idle seat.knows.layout) × (known_of seat.knows ≡ plain []) × (told_of seat.knows ≡ plain []) × (seat.knows.heard ≡ 0)
+IsFresh number seat = (seat.knows.number ≡ number) × (seat.knows.view ≡ idle seat.knows.layout) × (known_of seat.knows ≡ plain [])
+    × (told_of seat.knows ≡ plain []) × (seat.knows.heard ≡ 0)
 
 -- the merger has played nothing
 abbrev pub IsFreshMerger : RawState → Type 0
@@ -80,17 +81,18 @@ IsFreshMerger seat = (seat.knows.merger ≡ opening seat.knows.layout) × (seat.
 
 -- fresh seats of these words, numbered from this number on
 abbrev pub AreFreshFrom : ℕ → WordTable → List RawState → Type 0
-AreFreshFrom first words seats = (i : ℕ) (seat : RawState) → i < length seats → slice_index_or seats i seat ≡ seat → IsSeatOf words seat × IsFresh (first + i) seat
+AreFreshFrom first words seats = (i : ℕ) (seat : RawState) → i < length seats → slice_index_or seats i seat ≡ seat → IsSeatOf words seat
+    × IsFresh (first + i) seat
 
 -- the message is of these words
 abbrev pub IsMessageOf : WordTable → MessageState → Type 0
 IsMessageOf words message = message.table ≡ words.table.shared.table_id
 
--- a seat that learned of the message: it was told of no more than that, and of the greater due
+-- a seat that took the message in: it was told exactly that, and the greater due
 abbrev pub Learns : Known → MessageState → Known → Type 0
 Learns k message k' = k' ≡ record k { told = message.told; told_batches = message.batches; heard = max k.heard message.heard }
 
--- the message tells of the seat's past and its due
+-- the message carries the seat's past and its due
 abbrev pub TellsOf : Known → MessageState → Type 0
 TellsOf k message = (message.told ≡ k.past) × (message.batches ≡ k.batches) × (message.heard ≡ k.view.due)
 

@@ -13,7 +13,7 @@ use Rattle.clsm_law.specs.declared.merger.MergerView.{MergerView}
 use Rattle.clsm_law.specs.declared.word.Word.{Word}
 use Rattle.clsm_law.specs.declared.word.Word.TheVariants.{Clock}
 use Rattle.clsm_law.specs.Layout.{memory, size_of}
-use Rattle.clsm_law.specs.Memory.{Memory, key_at}
+use Rattle.clsm_law.specs.Memory.{Memory, key_at, region_of}
 use Rattle.clsm_law.specs.Views.{idle, own_region}
 use Rattle.clsm_law.specs.Relation.{Chains, Orders}
 use Rattle.clsm_law.specs.Law.{In}
@@ -22,7 +22,7 @@ use Rattle.clsm_law.specs.Merging.{is_frozen, is_retired}
 use Rattle.clsm_law.specs.Worlds.{view_at, outcome_at, settled}
 use Rattle.clsm_law.specs.Machine.{WorldState, IsLawful}
 use Rattle.clsm_words.specs.declared.known.Known.{Known}
-use Rattle.clsm_words.specs.Knowing.{Extends, HasRows, HasSpot, IsHeldEpoch, IsNamedWord, told_of}
+use Rattle.clsm_words.specs.Knowing.{Extends, HasRows, HasSpot, IsHeldEpoch, IsKnownIn, IsKnownWord, IsNamedWord, LeadsOn, told_of}
 use Rattle.clsm_words.specs.Merging.{IsOwn, known_end}
 
 -- the world with these words
@@ -50,10 +50,12 @@ pub record IsSpot (z : Layout) (memory : Memory) (orders : Orders) (held : Optio
 
 -- what is so of a seat in the world: its view is the one of its number, and its past is what the
 -- times below the view's past came to, with the batches that begin below it; while it holds a
--- component it knows the words of its runs, and their floor; its trail is an end of a chain that it
+-- component it knows the words of its runs, and their floor, and those of the cells of the times
+-- that it knows, and their chains have grown at their heads at most; its trail is an end of a chain that it
 -- may walk, and its spots stand in lists that it may walk; the list of its drawn cell has grown at
 -- most
-pub record IsSeated (z : Layout) (words : List ℕ) (m : MergerView) (slots : List (Option Slot)) (batches : List Batch) (chains : Chains) (orders : Orders) (views : List View) (k : Known) : Type 0 where
+pub record IsSeated (z : Layout) (words : List ℕ) (m : MergerView) (slots : List (Option Slot)) (batches : List Batch) (chains : Chains) (orders : Orders)
+    (views : List View) (k : Known) : Type 0 where
   pub layout : k.layout ≡ z
   pub inside : k.number < z.seats
   pub view : view_at z views k.number ≡ k.view
@@ -62,6 +64,8 @@ pub record IsSeated (z : Layout) (words : List ℕ) (m : MergerView) (slots : Li
   pub listed : k.batches ≡ batches_below k.view.past batches
   pub row : (c : ℕ) → k.view.held ≡ Some c → (word : Word) → IsNamedWord c word → memory z k.row word ≡ memory z words word
   pub floor : (c : ℕ) → k.view.held ≡ Some c → HasFloor m c k.floor
+  pub cells : (word : Word) → IsKnownWord k word → memory z k.row word ≡ memory z words word
+  pub ways : (cell t : ℕ) → IsKnownIn k cell t → LeadsOn z (memory z k.row) (memory z words) (region_of z cell)
   pub ends : IsEndOf k.trail (chains k.region k.chain)
   pub line : k.trail ≢ [] → IsHeldLine z k
   pub spots : (p key : ℕ) → HasSpot k.spots p key → IsSpot z (memory z words) orders k.view.held k.view.past p key
@@ -104,11 +108,13 @@ pub record IsDealing (z : Layout) (views : List View) (seats : List Known) (deal
   pub idle_above : (number : ℕ) → dealt ≤ number → view_at z views number ≡ idle z
 
 -- the seats: no two callers have one number, and one seat merges and deals
-pub record AreSeats (z : Layout) (words : List ℕ) (m : MergerView) (slots : List (Option Slot)) (batches : List Batch) (chains : Chains) (orders : Orders) (views : List View) (seats : List Known) : Type 0 where
+pub record AreSeats (z : Layout) (words : List ℕ) (m : MergerView) (slots : List (Option Slot)) (batches : List Batch) (chains : Chains) (orders : Orders)
+    (views : List View) (seats : List Known) : Type 0 where
   pub seated : (i : ℕ) (k : Known) → get_elem? seats i ≡ some k → k.seated ≡ true → IsSeated z words m slots batches chains orders views k
   pub merging : (i : ℕ) (k : Known) → get_elem? seats i ≡ some k → k.merges ≡ true → IsMerging z words m slots orders k
   pub told : (i : ℕ) (k : Known) → get_elem? seats i ≡ some k → IsTold (memory z words Clock) slots batches (told_of k) k.heard
-  pub apart : (i j : ℕ) (k k' : Known) → get_elem? seats i ≡ some k → get_elem? seats j ≡ some k' → k.seated ≡ true → k'.seated ≡ true → k.number ≡ k'.number → i ≡ j
+  pub apart : (i j : ℕ) (k k' : Known) → get_elem? seats i ≡ some k → get_elem? seats j ≡ some k' → k.seated ≡ true → k'.seated ≡ true → k.number
+      ≡ k'.number → i ≡ j
   pub dealer : (i : ℕ) (k : Known) → get_elem? seats i ≡ some k → k.merges ≡ true → IsDealing z views seats k.dealt
   pub one : (i j : ℕ) (k k' : Known) → get_elem? seats i ≡ some k → get_elem? seats j ≡ some k' → k.merges ≡ true → k'.merges ≡ true → i ≡ j
 

@@ -37,10 +37,10 @@ pub struct Known {
     /// What each time below the view's past came to, and the batches that begin below it.
     pub past: LinkedList<Slot>,
     pub batches: LinkedList<Batch>,
-    /// A beginning of the history that another seat told of: what its times came to, and its
-    /// batches.
+    /// A beginning of the history that another seat told this one: what its times came to, and
+    /// its batches.
     pub told: LinkedList<Slot>,
     pub told_batches: LinkedList<Batch>,
-    /// The greatest due that other seats told of.
+    /// The greatest due that other seats told this one.
     pub heard: Time,
 }

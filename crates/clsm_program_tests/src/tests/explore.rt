@@ -112,7 +112,7 @@ const SMALL: Config = Config {
 };
 
 /// Each wrong order is found: a step is not open. With nothing wrong there are more worlds than
-/// the limit. A close with no snapshot is passed over.
+/// the limit. A close with no snapshot is skipped.
 #[test]
 fn wrong_orders_of_calls(rt: HostRuntime) -> Result<(), Fail> {
     let alloc = rt.alloc();

@@ -1,7 +1,12 @@
 //! How command lines end where their input, their output, their faults or memory fail them.
 use super::device::{Failing, Keyboard, NEVER, SOUND, play};
+use std::alloc::Global;
 use std::io::ErrorKind;
+use std::process::Abort;
+use std::rt::Clock;
+use std::sync::Wait;
 use std::test::Fail;
+use std::thread::Threads;
 
 const SCRIPT: &[&str] = &["clsm", "script"];
 
@@ -19,16 +24,23 @@ const TWO_LINES: &str = "put 7 70\nget 7\n";
 
 const TWO_RECORDS: &str = "0 0 put 7 70\n0 1 get 7 70\n";
 
-/// An input that comes by so many bytes a call, the fewest and the most calls after which it fails,
-/// how it fails, what is printed on both, and the status.
+/// An input that comes by so many bytes a call, and for each end the fewest and the most calls after
+/// which it fails, how it fails, what is printed on both, and the status.
 struct Reading {
     words: &'static [&'static str],
     input: &'static str,
     step: usize,
-    calls: (u32, u32),
-    kinds: &'static [ErrorKind],
-    printed: (&'static str, &'static str, u8),
+    ends: &'static [End],
 }
+
+type End = (
+    u32,
+    u32,
+    &'static [ErrorKind],
+    &'static str,
+    &'static str,
+    u8,
+);
 
 const FAILURES: &[ErrorKind] = &[
     ErrorKind::Other,
@@ -40,90 +52,73 @@ const INTERRUPTED: &[ErrorKind] = &[ErrorKind::Interrupted];
 
 /// The script takes 15 reads and one that finds the end, the records seven and one.
 const READS: &[Reading] = &[
-    // a line is answered before the next one is read
     Reading {
         words: SCRIPT,
         input: TWO_LINES,
         step: 1,
-        calls: (0, 8),
-        kinds: FAILURES,
-        printed: ("", "device\n", 1),
+        ends: &[
+            // a line is answered before the next one is read
+            (0, 8, FAILURES, "", "device\n", 1),
+            (9, 14, FAILURES, "@0\n", "device\n", 1),
+            (15, 15, FAILURES, "@0\n70 @1\n", "device\n", 1),
+            (16, 18, FAILURES, "@0\n70 @1\n", "", 0),
+            // an interrupted read is made again
+            (0, 16, INTERRUPTED, "@0\n70 @1\n", "", 0),
+        ],
+    },
+    // all that is at hand is answered before more is read
+    Reading {
+        words: SCRIPT,
+        input: TWO_LINES,
+        step: 12,
+        ends: &[(1, 1, FAILURES, "@0\n", "device\n", 1)],
     },
     Reading {
         words: SCRIPT,
         input: TWO_LINES,
-        step: 1,
-        calls: (9, 14),
-        kinds: FAILURES,
-        printed: ("@0\n", "device\n", 1),
-    },
-    Reading {
-        words: SCRIPT,
-        input: TWO_LINES,
-        step: 1,
-        calls: (15, 15),
-        kinds: FAILURES,
-        printed: ("@0\n70 @1\n", "device\n", 1),
-    },
-    Reading {
-        words: SCRIPT,
-        input: TWO_LINES,
-        step: 1,
-        calls: (16, 18),
-        kinds: FAILURES,
-        printed: ("@0\n70 @1\n", "", 0),
-    },
-    // an interrupted read is made again
-    Reading {
-        words: SCRIPT,
-        input: TWO_LINES,
-        step: 1,
-        calls: (0, 16),
-        kinds: INTERRUPTED,
-        printed: ("@0\n70 @1\n", "", 0),
+        step: 15,
+        ends: &[(1, 1, FAILURES, "@0\n70 @1\n", "device\n", 1)],
     },
     Reading {
         words: AUDIT,
         input: TWO_RECORDS,
         step: 4,
-        calls: (0, 7),
-        kinds: &[ErrorKind::Other],
-        printed: ("", "device\n", 1),
-    },
-    Reading {
-        words: AUDIT,
-        input: TWO_RECORDS,
-        step: 4,
-        calls: (8, 9),
-        kinds: FAILURES,
-        printed: ("audit ok\n", "", 0),
-    },
-    Reading {
-        words: AUDIT,
-        input: TWO_RECORDS,
-        step: 4,
-        calls: (0, 8),
-        kinds: INTERRUPTED,
-        printed: ("audit ok\n", "", 0),
+        ends: &[
+            (0, 7, &[ErrorKind::Other], "", "device\n", 1),
+            (8, 9, FAILURES, "audit ok\n", "", 0),
+            (0, 8, INTERRUPTED, "audit ok\n", "", 0),
+        ],
     },
 ];
+
+/// Plays the reading to this end, once for each kind and number of calls.
+fn check_end<R: Abort + Threads + Sync + Clock + Wait>(
+    rt: &R,
+    alloc: Global,
+    reading: &Reading,
+    end: &End,
+) -> Result<(), Fail> {
+    let (fewest, most, kinds, output, faults, status) = *end;
+    for fails_after in fewest..=most {
+        for kind in kinds {
+            let keyboard = Keyboard {
+                left: reading.input.as_bytes(),
+                step: reading.step,
+                fails_after,
+                kind: *kind,
+            };
+            let played = play(rt, alloc, reading.words, keyboard, &SOUND)?;
+            played.expect(rt, output, faults, status);
+        }
+    }
+    Ok(())
+}
 
 #[test]
 fn reads_that_fail(rt: HostRuntime) -> Result<(), Fail> {
     for reading in READS {
-        let (fewest, most) = reading.calls;
-        let (output, faults, status) = reading.printed;
-        for fails_after in fewest..=most {
-            for kind in reading.kinds {
-                let keyboard = Keyboard {
-                    left: reading.input.as_bytes(),
-                    step: reading.step,
-                    fails_after,
-                    kind: *kind,
-                };
-                let played = play(&rt, rt.alloc(), reading.words, keyboard, &SOUND)?;
-                played.expect(&rt, output, faults, status);
-            }
+        for end in reading.ends {
+            check_end(&rt, rt.alloc(), reading, end)?;
         }
     }
     Ok(())

@@ -2,8 +2,7 @@
 //! their workloads.
 use super::device::{NEVER, SOUND, Screen, play};
 use clsm_audit::{AuditError, FaultKind, audit};
-use clsm_model::{CallRecord, Change, Config, Deed, Value};
-use clsm_planner::Deal;
+use clsm_model::{CallRecord, Change, Config, Deal, Deed, Value};
 use clsm_run::{Load, Ran, Shows, Workload, run_on};
 use std::alloc::Global;
 use std::process::Abort;

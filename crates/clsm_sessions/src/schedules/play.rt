@@ -158,7 +158,7 @@ impl Play {
         self.answers(seat, Step::Look(word), Ok(Answer::Value(value)))
     }
 
-    /// What the seat finds in the word, which is what the world tells of it.
+    /// What the seat finds in the word, which is what the world says.
     pub(crate) fn look(&mut self, seat: u32, word: Word) -> Result<u64, Wrong> {
         let Some(value) = self.world.word(word) else {
             return Err(Wrong::Other);

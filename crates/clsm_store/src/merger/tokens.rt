@@ -2,30 +2,33 @@
 ghost use Rattle.std.specs.Prelude.{◌≡◌, ◌+◌, ◌*◌, ◌^◌, ◌<◌, replicate, IfOk, IfErr};
 ghost use Rattle.clsm_law.specs.Merging.{unseen};
 ghost use Rattle.clsm_law.specs.Views.{next_word};
-ghost use Rattle.clsm_calls.specs.Looking.{LooksAtClock, drawn_of};
-ghost use Rattle.clsm_calls.specs.Merging.{IsRunFull, TakesFloor};
+ghost use Rattle.clsm_store_calls.specs.Looking.{LooksAtClock, drawn_of};
+ghost use Rattle.clsm_store_calls.specs.Merging.{IsRunFull, TakesFloor};
 
+use crate::seat::Seat;
 use crate::store::Store;
-use clsm_calls::{MergerSeat, Pinned, Worn, drawn_at, freeze, merge, reclaim};
+use crate::telling::tell;
 use clsm_law::LAST_LIMIT;
 use clsm_model::Time;
 use clsm_runs::RunFull;
+use clsm_store_calls::{MergerSeat, Pinned, Worn, agree_at, drawn_at, freeze, merge, reclaim};
 use clsm_words::Pace;
 use std::marker::Model;
 use std::sync::Wait;
 
-/// The merger's token, where nothing is frozen. It may be moved to another thread. Contracts see
+/// The merger's token, while nothing is frozen. It may be moved to another thread. Contracts see
 /// its store and the number of merges; the floor of the last try to merge, and how many rounds of
-/// looks at the snapshot words were made; and the clock as it was at the merger's last step.
+/// looks at the snapshot words were made; the clock as it was at the merger's last step; and what
+/// was noted of each seat since the last merge.
 #[derive(Drop)]
 pub struct Clean {
     pub(crate) merger: MergerSeat,
 }
 
 impl Model for Clean {
-    ghost use Rattle.clsm_calls.specs.Seats.{CleanState};
-    ghost use Rattle.clsm_calls.specs.Freezing.{IsClean};
-    ghost use Rattle.clsm_calls.specs.Merging.{IsReady, clean_of};
+    ghost use Rattle.clsm_store_calls.specs.Seats.{CleanState};
+    ghost use Rattle.clsm_store_calls.specs.Freezing.{IsClean};
+    ghost use Rattle.clsm_store_calls.specs.Merging.{IsReady, clean_of};
 
     ghost Value = { CleanState };
 
@@ -34,7 +37,7 @@ impl Model for Clean {
     ghost invariant = { λ c. IsClean c.merger.raw.knows c.merger.merges × IsReady c.merger };
 }
 
-/// The merger's token, where an epoch is frozen. It may be moved to another thread. Contracts see
+/// The merger's token, while an epoch is frozen. It may be moved to another thread. Contracts see
 /// its store and the number of merges, which is also the number of the frozen epoch; the floor of
 /// the last try to merge, how many rounds of looks at the snapshot words were made, and the least
 /// time that the last one found noted; the epoch's writes; and the runs.
@@ -44,9 +47,9 @@ pub struct Frozen {
 }
 
 impl Model for Frozen {
-    ghost use Rattle.clsm_calls.specs.Seats.{FrozenState};
-    ghost use Rattle.clsm_calls.specs.Freezing.{IsFrozen};
-    ghost use Rattle.clsm_calls.specs.Merging.{IsReady, frozen_of};
+    ghost use Rattle.clsm_store_calls.specs.Seats.{FrozenState};
+    ghost use Rattle.clsm_store_calls.specs.Freezing.{IsFrozen};
+    ghost use Rattle.clsm_store_calls.specs.Merging.{IsReady, frozen_of};
 
     ghost Value = { FrozenState };
 
@@ -55,7 +58,7 @@ impl Model for Frozen {
     ghost invariant = { λ f. IsFrozen f.merger.raw.knows f.merger.merges × IsReady f.merger };
 }
 
-/// The merger's token, where a component is retired. It may be moved to another thread. Contracts
+/// The merger's token, while a component is retired. It may be moved to another thread. Contracts
 /// see its store and the number of merges, the one that retired the component among them; the floor
 /// of that merge, the rounds, and the least time that its round found noted; and what was noted of
 /// each seat since.
@@ -65,8 +68,8 @@ pub struct Retired {
 }
 
 impl Model for Retired {
-    ghost use Rattle.clsm_calls.specs.Seats.{RetiredState};
-    ghost use Rattle.clsm_calls.specs.Merging.{IsRetiring, retired_of};
+    ghost use Rattle.clsm_store_calls.specs.Seats.{RetiredState};
+    ghost use Rattle.clsm_store_calls.specs.Merging.{IsRetiring, retired_of};
 
     ghost Value = { RetiredState };
 
@@ -97,7 +100,7 @@ impl Clean {
     /// Freezes the current epoch: waits until no caller holds the lock, cancels the epoch's cells
     /// that were never drawn, and moves the clock to its end and the limit to that of the next.
     /// Writers go on in the next epoch, and readers go on (the cLSM paper's switch of the memory
-    /// component). Refused with `Worn`, and with the token as it was, where the next limit would
+    /// component). Refused with `Worn`, and with the token as it was, if the next limit would
     /// pass 2^62; nothing was done then.
     pub fn freeze<P: Pace, R: Wait>(
         mut self,
@@ -123,7 +126,8 @@ impl Clean {
 impl Frozen {
     ghost use Rattle.std.specs.Prelude.{List};
     ghost use Rattle.clsm_model.specs.declared.slot.Slot.{Slot};
-    ghost use Rattle.clsm_calls.specs.Merging.{IsOfHistory};
+    ghost use Rattle.clsm_store_calls.specs.Agreeing.{AgreesWith};
+    ghost use Rattle.clsm_store_calls.specs.Merging.{IsOfHistory};
 
     /// The number of merges so far, which is the number of the frozen epoch.
     #[inline]
@@ -133,7 +137,7 @@ impl Frozen {
         self.merger.merges()
     }
 
-    /// The least time that the last round of looks found noted in the snapshot words: where that is
+    /// The least time that the last round of looks found noted in the snapshot words: if that is
     /// below the end of the epoch, a snapshot of that time keeps old versions.
     #[inline]
     pub fn noted(&self) -> Option<Time>
@@ -152,13 +156,29 @@ impl Frozen {
         self.merger.raw.show_invariant();
     }
 
+    /// Ties the frozen epoch to what a caller's seat knows: the token's writes and runs are those of
+    /// a history that begins with what the seat knows, and of just that where it reaches to the
+    /// epoch's end. So with the seat that knows most of settled seats they are those of the joint
+    /// history. Token and seat are as they were. It costs one look, takes no memory and no lock,
+    /// never waits and is never refused.
+    pub fn meet<P: Pace>(&mut self, store: &Store<P>, seat: &mut Seat)
+        requires token { self.old.merger.store ≡ store.now }
+        requires seat { seat.old.store ≡ store.now }
+        ensures token { self.new ≡ self.old }
+        ensures seat { seat.new ≡ seat.old }
+        ensures agrees { AgreesWith seat.old.past self.old }
+    {
+        let message = tell(store, seat);
+        agree_at(&store.words, &mut self.merger, message);
+    }
+
     /// Merges the frozen epoch into a sorted run: of three merges each writes the epoch's run into
     /// level 0, and the fourth all runs and the epoch into level 1, as LevelDB's compactions do. Of
     /// each key it keeps every version from the floor on, and of those before it the newest; a
     /// removal that is the newest there is left out of level 1. For the floor it looks at each
     /// snapshot word in one round, and takes the end of the epoch, or the least time that is noted
-    /// there where that is earlier; a floor never falls. Readers and writers go on beside it, and
-    /// it never waits. Refused with `RunFull`, and with the token, where a merge into level 1 would
+    /// there if that is earlier; a floor never falls. Readers and writers go on beside it, and
+    /// it never waits. Refused with `RunFull`, and with the token, if a merge into level 1 would
     /// keep more entries than a run has room for; nothing is published then, and a snapshot that is
     /// closed may help the next try.
     pub fn merge<P: Pace>(mut self, store: &Store<P>) -> Result<Retired, (Frozen, RunFull)>
@@ -181,7 +201,7 @@ impl Frozen {
 }
 
 impl Retired {
-    ghost use Rattle.clsm_calls.specs.Reclaiming.{IsLowestLoud};
+    ghost use Rattle.clsm_store_calls.specs.Reclaiming.{AreAllQuiet, IsLowestLoud};
 
     /// The number of merges so far.
     #[inline]
@@ -193,12 +213,19 @@ impl Retired {
 
     /// Gives the retired component up, if no seat holds anything of it, and makes its cells free
     /// for the epoch after the next: looks at the pin word of each seat that was not found quiet
-    /// yet, in the order of their numbers. Refused with `Pinned`, and with the token, where the pin
+    /// yet, in the order of their numbers. Refused with `Pinned`, and with the token, if the pin
     /// word of that seat was found to keep the component; the seats that were found quiet stay so
     /// for the next try. It never waits.
     pub fn reclaim<P: Pace>(mut self, store: &Store<P>) -> Result<Clean, (Retired, Pinned)>
         requires { self.merger.store ≡ store.now }
-        ensures clean { IfOk result (λ clean. clean ≡ record { merger = self.merger; floor = self.floor; rounds = self.rounds; clock = clean.clock }) }
+        ensures clean { IfOk result (λ clean. clean ≡ record {
+          merger = self.merger;
+          floor = self.floor;
+          rounds = self.rounds;
+          clock = clean.clock;
+          readers = clean.readers;
+        }) }
+        ensures quiet { IfOk result (λ clean. AreAllQuiet self.readers clean.readers) }
         ensures retired { IfErr result (λ refused. refused.0 ≡ record self { readers = refused.0.readers }) }
         ensures pinned { IfErr result (λ refused. IsLowestLoud self.readers refused.0.readers refused.1.0) }
     {

@@ -119,6 +119,25 @@ impl Answer {
 /// An act, and how it has to be answered.
 pub(super) type Step = (Act, Answer);
 
+/// Turns at the first gate: the seat is held there, is let go, and is let go until its call is
+/// answered; and the call that was held there is answered.
+pub(super) const WAIT: Step = (Act::First(Turn::Wait), Answer::Held(true));
+
+pub(super) const LET_GO: Step = (Act::First(Turn::LetGo), Answer::Held(true));
+
+pub(super) const LET_END: Step = (Act::First(Turn::LetEnd), Answer::Held(true));
+
+pub(super) const END: Step = (Act::First(Turn::End), Answer::Done);
+
+/// The same at the second gate.
+pub(super) const WAIT_TOO: Step = (Act::Second(Turn::Wait), Answer::Held(true));
+
+pub(super) const LET_GO_TOO: Step = (Act::Second(Turn::LetGo), Answer::Held(true));
+
+pub(super) const LET_END_TOO: Step = (Act::Second(Turn::LetEnd), Answer::Held(true));
+
+pub(super) const END_TOO: Step = (Act::Second(Turn::End), Answer::Done);
+
 /// The answer of a read: a value of more words by its first one.
 pub(super) fn read_as(time: Time, value: &Option<Value>) -> Answer {
     match value {

@@ -1,6 +1,6 @@
 //! Batches: what one call writes at once is seen as a whole or not at all.
-use super::act::{Act, Answer, Step, Turn, Write};
-use super::case::{Case, FOUR_CELLS, NONE, Phase, check};
+use super::act::{Act, Answer, END, LET_END, LET_GO, LET_GO_TOO, Step, WAIT, WAIT_TOO, Write};
+use super::case::{Case, FOUR_CELLS, NONE, PLAIN, Phase, check};
 use super::gate::{Hold, NOBODY, NOWHERE};
 use clsm_store::{BatchError, Config, Kind, TryPutError};
 use std::test::*;
@@ -12,14 +12,6 @@ const EMPTY: Answer = Answer::Unbatched(BatchError::Empty);
 const TOO_LONG: Answer = Answer::Unbatched(BatchError::TooLong);
 
 const KEEP: Answer = Answer::Unbatched(BatchError::Keep);
-
-const WAIT: Step = (Act::First(Turn::Wait), Answer::Held(true));
-
-const LET_GO: Step = (Act::First(Turn::LetGo), Answer::Held(true));
-
-const LET_END: Step = (Act::First(Turn::LetEnd), Answer::Held(true));
-
-const END: Step = (Act::First(Turn::End), Answer::Done);
 
 /// One more caller than the acts of a case need, and an audit of so many.
 const FOUR_SEATS: Config = Config {
@@ -101,11 +93,11 @@ const STEPS: &[(Kind, u64)] = &[
     (Kind::Commit, 0),
 ];
 
+const COMMITTED: &[Phase] = &[&[OLD], &[NONE, HELD, BESIDE]];
+
 #[test]
 fn a_batch_is_seen_once_it_is_committed(rt: HostRuntime) -> Result<(), Fail> {
     for (kind, passed) in STEPS {
-        let before: Phase = [OLD, NONE, NONE, NONE, NONE];
-        let beside: Phase = [NONE, HELD, BESIDE, NONE, NONE];
         let hold = Hold {
             kind: Some(*kind),
             passed: *passed,
@@ -113,11 +105,9 @@ fn a_batch_is_seen_once_it_is_committed(rt: HostRuntime) -> Result<(), Fail> {
         };
         let case = Case {
             name: "a batch is held before its commit",
-            config: FOUR_CELLS,
             gates: [hold, NOWHERE],
-            phases: &[before, beside],
-            rounds: 0,
-            round: &[],
+            phases: COMMITTED,
+            ..PLAIN
         };
         check(&rt, rt.alloc(), &case);
     }
@@ -218,91 +208,64 @@ const REMOVALS: &[Step] = &[
 
 /// The snapshot stands between two batches, and reads the first one alone through eight merges, two
 /// of them into level 1.
-const OLDER: &[Phase] = &[[
-    &[
-        (
-            Act::Batch(&[Write::Word(7, 70), Write::Word(8, 80)]),
-            Answer::At(0),
-        ),
-        (Act::Snapshot, Answer::At(2)),
-        (
-            Act::Batch(&[Write::Remove(7), Write::Word(9, 90)]),
-            Answer::At(2),
-        ),
-    ],
-    NONE,
-    NONE,
-    NONE,
-    NONE,
-]];
+const OLDER: &[Phase] = &[&[&[
+    (
+        Act::Batch(&[Write::Word(7, 70), Write::Word(8, 80)]),
+        Answer::At(0),
+    ),
+    (Act::Snapshot, Answer::At(2)),
+    (
+        Act::Batch(&[Write::Remove(7), Write::Word(9, 90)]),
+        Answer::At(2),
+    ),
+]]];
 
 const OLDER_ROUND: &[Phase] = &[
-    [
-        &[
-            (Act::Sweep, Answer::Clean),
-            (Act::GetAt(7), Answer::Got(2, 70)),
-            (Act::GetAt(8), Answer::Got(2, 80)),
-            (Act::GetAt(9), Answer::None(2)),
-            (Act::Scan(0), Answer::Rows(2, 2)),
-        ],
-        NONE,
-        NONE,
-        NONE,
-        NONE,
-    ],
-    [NONE, &[(Act::ReadAll, Answer::Done)], NONE, NONE, NONE],
+    &[&[
+        (Act::Sweep, Answer::Clean),
+        (Act::GetAt(7), Answer::Got(2, 70)),
+        (Act::GetAt(8), Answer::Got(2, 80)),
+        (Act::GetAt(9), Answer::None(2)),
+        (Act::Scan(0), Answer::Rows(2, 2)),
+    ]],
+    &[NONE, &[(Act::ReadAll, Answer::Done)]],
 ];
 
 /// The batch is held, and the other is held before its second try of the lock: the first one found
 /// the batch's hold. Both are let go then.
 const BOTH_WAIT: &[Step] = &[
     WAIT,
-    (Act::Second(Turn::Wait), Answer::Held(true)),
+    WAIT_TOO,
     (Act::Get(7), Answer::None(0)),
     (Act::TryPut(5, 50), BUSY),
     LET_GO,
-    (Act::Second(Turn::LetGo), Answer::Held(true)),
+    LET_GO_TOO,
 ];
 
 const FREEZE_WAITS: &[Phase] = &[
-    [
+    &[
         &[WAIT, (Act::Freeze, Answer::Frozen(0))],
         &[(Act::Batch(TWO), Answer::At(0))],
         BOTH_WAIT,
-        NONE,
-        NONE,
     ],
-    [
-        &[
-            (Act::Merge, Answer::Merged(1)),
-            (Act::Get(7), Answer::Got(4, 71)),
-            (Act::Batch(TWO), Answer::At(4)),
-        ],
-        NONE,
-        NONE,
-        NONE,
-        NONE,
-    ],
+    &[&[
+        (Act::Merge, Answer::Merged(1)),
+        (Act::Get(7), Answer::Got(4, 71)),
+        (Act::Batch(TWO), Answer::At(4)),
+    ]],
 ];
 
 const BATCH_WAITS: &[Phase] = &[
-    [
+    &[
         NONE,
         &[(Act::Batch(TWO), Answer::At(0))],
         &[WAIT, (Act::Batch(OTHER_TWO), Answer::At(2))],
         BOTH_WAIT,
-        NONE,
     ],
-    [
-        &[
-            (Act::Get(7), Answer::Got(4, 72)),
-            (Act::Get(9), Answer::Got(4, 92)),
-        ],
-        NONE,
-        NONE,
-        NONE,
-        NONE,
-    ],
+    &[&[
+        (Act::Get(7), Answer::Got(4, 72)),
+        (Act::Get(9), Answer::Got(4, 92)),
+    ]],
 ];
 
 const OTHER_TWO: &[Write] = &[Write::Word(9, 92), Write::Word(7, 72)];
@@ -310,58 +273,43 @@ const OTHER_TWO: &[Write] = &[Write::Word(9, 92), Write::Word(7, 72)];
 pub(super) const CASES: &[Case] = &[
     Case {
         name: "batches of each length, and those that are refused",
-        config: FOUR_CELLS,
-        gates: [NOWHERE, NOWHERE],
-        phases: &[[LENGTHS, NONE, NONE, NONE, NONE]],
-        rounds: 0,
-        round: &[],
+        phases: &[&[LENGTHS]],
+        ..PLAIN
     },
     Case {
         name: "a batch of one key",
-        config: FOUR_CELLS,
-        gates: [NOWHERE, NOWHERE],
-        phases: &[[ONE_KEY, NONE, NONE, NONE, NONE]],
-        rounds: 0,
-        round: &[],
+        phases: &[&[ONE_KEY]],
+        ..PLAIN
     },
     Case {
         name: "batches of eight words",
-        config: FOUR_CELLS,
-        gates: [NOWHERE, NOWHERE],
-        phases: &[[EIGHT_WORDS, NONE, NONE, NONE, NONE]],
-        rounds: 0,
-        round: &[],
+        phases: &[&[EIGHT_WORDS]],
+        ..PLAIN
     },
     Case {
         name: "batches of removals",
-        config: FOUR_CELLS,
-        gates: [NOWHERE, NOWHERE],
-        phases: &[[REMOVALS, NONE, NONE, NONE, NONE]],
-        rounds: 0,
-        round: &[],
+        phases: &[&[REMOVALS]],
+        ..PLAIN
     },
     Case {
         name: "a snapshot that is older than a batch, through merges",
-        config: FOUR_CELLS,
-        gates: [NOWHERE, NOWHERE],
         phases: OLDER,
         rounds: 8,
         round: OLDER_ROUND,
+        ..PLAIN
     },
     Case {
         name: "a freeze waits for a batch",
         config: FOUR_SEATS,
         gates: [AT_COMMIT, MERGER_WAITS],
         phases: FREEZE_WAITS,
-        rounds: 0,
-        round: &[],
+        ..PLAIN
     },
     Case {
         name: "a batch waits for another",
         config: FOUR_SEATS,
         gates: [AT_COMMIT, SECOND_WAITS],
         phases: BATCH_WAITS,
-        rounds: 0,
-        round: &[],
+        ..PLAIN
     },
 ];

@@ -1,10 +1,10 @@
 //! Cases: what actors play on a store of their own.
 ghost use Rattle.std.specs.Prelude.{◌≡◌, All};
-ghost use Rattle.clsm_calls.specs.Seats.{IsNewMerger};
+ghost use Rattle.clsm_store_calls.specs.Seats.{IsNewMerger};
 
 use super::act::Step;
 use super::actor::Actor;
-use super::gate::{Gate, Gates, Hold};
+use super::gate::{Gate, Gates, Hold, NOWHERE};
 use clsm_audit::audit;
 use clsm_store::{Caller, Clean, Config, Merger, Opened, Seat, Store, open_paced};
 use std::alloc::Global;
@@ -13,8 +13,9 @@ use std::sync::Wait;
 use std::thread;
 use std::thread::Threads;
 
-/// What actors play beside one another: the first one's acts, the second one's, and so on.
-pub(super) type Phase = [&'static [Step]; 5];
+/// What actors play beside one another: the first one's acts, the second one's, and so on. Those
+/// behind the last one rest.
+pub(super) type Phase = &'static [&'static [Step]];
 
 /// The acts of an actor that rests.
 pub(super) const NONE: &[Step] = &[];
@@ -23,13 +24,13 @@ pub(super) const NONE: &[Step] = &[];
 /// round after round. The merger is the first actor's. The audit holds all calls against a plain
 /// map.
 #[derive(Drop)]
-pub(super) struct Case<'a> {
+pub(super) struct Case {
     pub(super) name: &'static str,
     pub(super) config: Config,
     pub(super) gates: [Hold; 2],
-    pub(super) phases: &'a [Phase],
+    pub(super) phases: &'static [Phase],
     pub(super) rounds: u64,
-    pub(super) round: &'a [Phase],
+    pub(super) round: &'static [Phase],
 }
 
 pub(super) const FOUR_CELLS: Config = Config {
@@ -38,6 +39,16 @@ pub(super) const FOUR_CELLS: Config = Config {
     shards: 2,
     run: 64,
     patience: 8,
+};
+
+/// A case in which nobody is held and nothing is played.
+pub(super) const PLAIN: Case = Case {
+    name: "",
+    config: FOUR_CELLS,
+    gates: [NOWHERE, NOWHERE],
+    phases: &[],
+    rounds: 0,
+    round: &[],
 };
 
 /// The actors of these seats, which did nothing yet.

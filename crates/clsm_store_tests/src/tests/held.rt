@@ -1,11 +1,17 @@
 //! A seat is held at a step of its call while others make theirs.
-use super::act::{Act, Answer, Step, Turn};
-use super::case::{Case, FOUR_CELLS, NONE, Phase, check};
+use super::act::{
+    Act, Answer, END, END_TOO, LET_END, LET_END_TOO, LET_GO, LET_GO_TOO, Step, Turn, WAIT, WAIT_TOO,
+};
+use super::case::{Case, FOUR_CELLS, NONE, PLAIN, Phase, check};
 use super::gate::{Hold, NOBODY, NOWHERE, OPEN};
 use clsm_law::Word;
 use clsm_store::{Config, TryPutError};
 use clsm_words::Kind;
+use std::alloc::Global;
+use std::process::Abort;
+use std::sync::Wait;
 use std::test::*;
+use std::thread::Threads;
 
 const KEY: u64 = 7;
 
@@ -28,213 +34,173 @@ const RACED: Answer = Answer::Refused(TryPutError::Raced);
 
 const BUSY: Answer = Answer::Refused(TryPutError::Busy);
 
-const WAIT: Step = (Act::First(Turn::Wait), Answer::Held(true));
-
-const LET_GO: Step = (Act::First(Turn::LetGo), Answer::Held(true));
-
-const LET_END: Step = (Act::First(Turn::LetEnd), Answer::Held(true));
-
-const END: Step = (Act::First(Turn::End), Answer::Done);
-
 const IMPATIENT: Config = Config {
     patience: 0,
     ..FOUR_CELLS
 };
 
-/// Seat 1 is held before its first step of this kind in its call until the call of seat 2 is
-/// answered; then it gets.
+/// Seat 1 is held before its first step of each of these kinds in its call until the call of seat 2
+/// is answered; then it gets.
 struct Row {
-    config: Config,
-    before: &'static [Step],
-    kind: Kind,
-    slow: &'static [Step],
-    quick: &'static [Step],
+    kinds: &'static [Kind],
+    phases: &'static [Phase],
 }
 
-const OLD: &[Step] = &[(Act::Put(KEY, 10), Answer::At(0))];
+const PUT_AT_0: &[Step] = &[WAIT, (PUT_TOO, Answer::At(0)), LET_GO];
 
-const ROWS: &[Row] = &[
+const PUT_AT_1: &[Step] = &[WAIT, (PUT_TOO, Answer::At(1)), LET_GO];
+
+const TRY_AT_1: &[Step] = &[WAIT, (Act::TryPut(KEY, 2), Answer::At(1)), LET_GO];
+
+const NONE_AT_1: &[Step] = &[WAIT, (GET, Answer::None(1)), LET_GO];
+
+/// Rows at a new store.
+const NEW: &[Row] = &[
     // writers overlap, and one that is held holds up no other
     Row {
-        config: FOUR_CELLS,
-        before: &[],
-        kind: Kind::Decide,
-        slow: &[(PUT, Answer::At(0)), (GET, Answer::Got(2, 2))],
-        quick: &[WAIT, (PUT_TOO, Answer::At(1)), LET_GO],
+        kinds: &[Kind::Link, Kind::Insert, Kind::Decide],
+        phases: &[&[
+            NONE,
+            &[(PUT, Answer::At(0)), (GET, Answer::Got(2, 2))],
+            PUT_AT_1,
+        ]],
     },
     Row {
-        config: FOUR_CELLS,
-        before: &[],
-        kind: Kind::Decide,
-        slow: &[(PUT, Answer::At(0)), (GET, Answer::Got(2, 2))],
-        quick: &[WAIT, (Act::TryPut(KEY, 2), Answer::At(1)), LET_GO],
+        kinds: &[Kind::Decide],
+        phases: &[&[
+            NONE,
+            &[(PUT, Answer::At(0)), (GET, Answer::Got(2, 2))],
+            TRY_AT_1,
+        ]],
     },
     Row {
-        config: FOUR_CELLS,
-        before: &[],
-        kind: Kind::Decide,
-        slow: &[(TRY, Answer::At(0)), (GET, Answer::Got(2, 2))],
-        quick: &[WAIT, (PUT_TOO, Answer::At(1)), LET_GO],
+        kinds: &[Kind::Decide],
+        phases: &[&[
+            NONE,
+            &[(TRY, Answer::At(0)), (GET, Answer::Got(2, 2))],
+            PUT_AT_1,
+        ]],
     },
     // a reader overtakes it
     Row {
-        config: FOUR_CELLS,
-        before: &[],
-        kind: Kind::Decide,
-        slow: &[(PUT, Answer::At(1)), (GET, Answer::Got(2, 1))],
-        quick: &[WAIT, (GET, Answer::None(1)), LET_GO],
+        kinds: &[Kind::Decide],
+        phases: &[&[
+            NONE,
+            &[(PUT, Answer::At(1)), (GET, Answer::Got(2, 1))],
+            NONE_AT_1,
+        ]],
     },
     Row {
-        config: FOUR_CELLS,
-        before: &[],
-        kind: Kind::Decide,
-        slow: &[(TRY, OVERTAKEN), (GET, Answer::None(1))],
-        quick: &[WAIT, (GET, Answer::None(1)), LET_GO],
+        kinds: &[Kind::Decide],
+        phases: &[&[NONE, &[(TRY, OVERTAKEN), (GET, Answer::None(1))], NONE_AT_1]],
     },
     // another seat is faster
     Row {
-        config: FOUR_CELLS,
-        before: &[],
-        kind: Kind::Draw,
-        slow: &[(PUT, Answer::At(1)), (GET, Answer::Got(2, 1))],
-        quick: &[WAIT, (PUT_TOO, Answer::At(0)), LET_GO],
+        kinds: &[Kind::Draw],
+        phases: &[&[
+            NONE,
+            &[(PUT, Answer::At(1)), (GET, Answer::Got(2, 1))],
+            PUT_AT_0,
+        ]],
     },
     Row {
-        config: FOUR_CELLS,
-        before: &[],
-        kind: Kind::Link,
-        slow: &[(PUT, Answer::At(0)), (GET, Answer::Got(2, 2))],
-        quick: &[WAIT, (PUT_TOO, Answer::At(1)), LET_GO],
+        kinds: &[Kind::Draw],
+        phases: &[&[NONE, &[(TRY, RACED), (GET, Answer::Got(1, 2))], PUT_AT_0]],
     },
     Row {
-        config: FOUR_CELLS,
-        before: &[],
-        kind: Kind::Insert,
-        slow: &[(PUT, Answer::At(0)), (GET, Answer::Got(2, 2))],
-        quick: &[WAIT, (PUT_TOO, Answer::At(1)), LET_GO],
-    },
-    Row {
-        config: FOUR_CELLS,
-        before: &[],
-        kind: Kind::Draw,
-        slow: &[(TRY, RACED), (GET, Answer::Got(1, 2))],
-        quick: &[WAIT, (PUT_TOO, Answer::At(0)), LET_GO],
-    },
-    Row {
-        config: FOUR_CELLS,
-        before: &[],
-        kind: Kind::Link,
-        slow: &[(TRY, RACED), (GET, Answer::Got(2, 2))],
-        quick: &[WAIT, (PUT_TOO, Answer::At(1)), LET_GO],
-    },
-    Row {
-        config: FOUR_CELLS,
-        before: &[],
-        kind: Kind::Insert,
-        slow: &[(TRY, RACED), (GET, Answer::Got(2, 2))],
-        quick: &[WAIT, (PUT_TOO, Answer::At(1)), LET_GO],
+        kinds: &[Kind::Link, Kind::Insert],
+        phases: &[&[NONE, &[(TRY, RACED), (GET, Answer::Got(2, 2))], PUT_AT_1]],
     },
     // a read is at the clock that it found
     Row {
-        config: FOUR_CELLS,
-        before: &[],
-        kind: LOOK,
-        slow: &[(GET, Answer::Got(1, 2)), (GET, Answer::Got(1, 2))],
-        quick: &[WAIT, (PUT_TOO, Answer::At(0)), LET_GO],
+        kinds: &[LOOK],
+        phases: &[&[
+            NONE,
+            &[(GET, Answer::Got(1, 2)), (GET, Answer::Got(1, 2))],
+            PUT_AT_0,
+        ]],
     },
     Row {
-        config: FOUR_CELLS,
-        before: &[],
-        kind: Kind::RaiseFront,
-        slow: &[(GET, Answer::None(0)), (GET, Answer::Got(1, 2))],
-        quick: &[WAIT, (PUT_TOO, Answer::At(0)), LET_GO],
-    },
-    Row {
-        config: FOUR_CELLS,
-        before: &[],
-        kind: Kind::Unpin,
-        slow: &[(GET, Answer::None(0)), (GET, Answer::Got(1, 2))],
-        quick: &[WAIT, (PUT_TOO, Answer::At(0)), LET_GO],
-    },
-    // the key has a value, and a writer is held before each kind of its steps
-    Row {
-        config: IMPATIENT,
-        before: OLD,
-        kind: Kind::EnterShared,
-        slow: &[(PUT, Answer::At(1)), (GET, Answer::Got(2, 1))],
-        quick: &[WAIT, (GET, Answer::Got(1, 10)), LET_GO],
-    },
-    Row {
-        config: IMPATIENT,
-        before: OLD,
-        kind: Kind::Draw,
-        slow: &[(PUT, Answer::At(1)), (GET, Answer::Got(2, 1))],
-        quick: &[WAIT, (GET, Answer::Got(1, 10)), LET_GO],
-    },
-    Row {
-        config: IMPATIENT,
-        before: OLD,
-        kind: Kind::Fill,
-        slow: &[(PUT, Answer::At(2)), (GET, Answer::Got(3, 1))],
-        quick: &[WAIT, (GET, Answer::Got(2, 10)), LET_GO],
-    },
-    Row {
-        config: IMPATIENT,
-        before: OLD,
-        kind: Kind::Link,
-        slow: &[(PUT, Answer::At(2)), (GET, Answer::Got(3, 1))],
-        quick: &[WAIT, (GET, Answer::Got(2, 10)), LET_GO],
-    },
-    Row {
-        config: IMPATIENT,
-        before: OLD,
-        kind: Kind::FillOrder,
-        slow: &[(PUT, Answer::At(2)), (GET, Answer::Got(3, 1))],
-        quick: &[WAIT, (GET, Answer::Got(2, 10)), LET_GO],
-    },
-    Row {
-        config: IMPATIENT,
-        before: OLD,
-        kind: Kind::Insert,
-        slow: &[(PUT, Answer::At(2)), (GET, Answer::Got(3, 1))],
-        quick: &[WAIT, (GET, Answer::Got(2, 10)), LET_GO],
-    },
-    Row {
-        config: IMPATIENT,
-        before: OLD,
-        kind: Kind::Decide,
-        slow: &[(PUT, Answer::At(2)), (GET, Answer::Got(3, 1))],
-        quick: &[WAIT, (GET, Answer::Got(2, 10)), LET_GO],
-    },
-    Row {
-        config: IMPATIENT,
-        before: OLD,
-        kind: Kind::LeaveShared,
-        slow: &[(PUT, Answer::At(1)), (GET, Answer::Got(2, 1))],
-        quick: &[WAIT, (GET, Answer::Got(2, 1)), LET_GO],
+        kinds: &[Kind::RaiseFront, Kind::Unpin],
+        phases: &[&[
+            NONE,
+            &[(GET, Answer::None(0)), (GET, Answer::Got(1, 2))],
+            PUT_AT_0,
+        ]],
     },
 ];
 
-#[test]
-fn a_seat_is_held_while_another_calls(rt: HostRuntime) -> Result<(), Fail> {
-    for row in ROWS {
-        let before: Phase = [row.before, NONE, NONE, NONE, NONE];
-        let beside: Phase = [NONE, row.slow, row.quick, NONE, NONE];
+const OLD: &[Step] = &[(Act::Put(KEY, 10), Answer::At(0))];
+
+/// Rows at a store whose key has a value: a writer is held before each kind of its steps, and a
+/// reader does not wait for it.
+const WRITTEN: &[Row] = &[
+    Row {
+        kinds: &[Kind::EnterShared, Kind::Draw],
+        phases: &[
+            &[OLD],
+            &[
+                NONE,
+                &[(PUT, Answer::At(1)), (GET, Answer::Got(2, 1))],
+                &[WAIT, (GET, Answer::Got(1, 10)), LET_GO],
+            ],
+        ],
+    },
+    Row {
+        kinds: &[
+            Kind::Fill,
+            Kind::Link,
+            Kind::FillOrder,
+            Kind::Insert,
+            Kind::Decide,
+        ],
+        phases: &[
+            &[OLD],
+            &[
+                NONE,
+                &[(PUT, Answer::At(2)), (GET, Answer::Got(3, 1))],
+                &[WAIT, (GET, Answer::Got(2, 10)), LET_GO],
+            ],
+        ],
+    },
+    Row {
+        kinds: &[Kind::LeaveShared],
+        phases: &[
+            &[OLD],
+            &[
+                NONE,
+                &[(PUT, Answer::At(1)), (GET, Answer::Got(2, 1))],
+                &[WAIT, (GET, Answer::Got(2, 1)), LET_GO],
+            ],
+        ],
+    },
+];
+
+/// Plays the row at a store of these sizes, once for each kind.
+fn check_row<R: Abort + Threads + Wait + Sync>(rt: &R, alloc: Global, config: Config, row: &Row) {
+    for kind in row.kinds {
         let hold = Hold {
-            seat: 1,
-            kind: Some(row.kind),
-            passed: 0,
-            turn: NOBODY,
+            kind: Some(*kind),
+            ..AT_CLOCK
         };
         let case = Case {
             name: "a seat is held while another calls",
-            config: row.config,
+            config,
             gates: [hold, NOWHERE],
-            phases: &[before, beside],
-            rounds: 0,
-            round: &[],
+            phases: row.phases,
+            ..PLAIN
         };
-        check(&rt, rt.alloc(), &case);
+        check(rt, alloc, &case);
+    }
+}
+
+#[test]
+fn a_seat_is_held_while_another_calls(rt: HostRuntime) -> Result<(), Fail> {
+    for row in NEW {
+        check_row(&rt, rt.alloc(), FOUR_CELLS, row);
+    }
+    for row in WRITTEN {
+        check_row(&rt, rt.alloc(), IMPATIENT, row);
     }
     Ok(())
 }
@@ -262,25 +228,17 @@ pub(super) const CASES: &[Case] = &[
         config: IMPATIENT,
         gates: [
             Hold {
-                seat: 1,
                 kind: Some(Kind::Fill),
-                passed: 0,
-                turn: NOBODY,
+                ..AT_CLOCK
             },
             NOWHERE,
         ],
         phases: &[
-            [
-                &[
-                    (Act::Put(KEY, 10), Answer::At(0)),
-                    (Act::Freeze, Answer::Frozen(0)),
-                ],
-                NONE,
-                NONE,
-                NONE,
-                NONE,
-            ],
-            [
+            &[&[
+                (Act::Put(KEY, 10), Answer::At(0)),
+                (Act::Freeze, Answer::Frozen(0)),
+            ]],
+            &[
                 &[
                     WAIT,
                     (Act::Merge, Answer::Merged(1)),
@@ -292,213 +250,149 @@ pub(super) const CASES: &[Case] = &[
                     (Act::Put(KEY, 11), Answer::At(5)),
                     (GET, Answer::Got(6, 11)),
                 ],
-                NONE,
-                NONE,
-                NONE,
             ],
         ],
-        rounds: 0,
-        round: &[],
+        ..PLAIN
     },
     Case {
         name: "a merge passes a cell whose time was cancelled",
         config: IMPATIENT,
         gates: [
             Hold {
-                seat: 1,
                 kind: Some(Kind::Decide),
-                passed: 0,
-                turn: NOBODY,
+                ..AT_CLOCK
             },
             NOWHERE,
         ],
         phases: &[
-            [
+            &[
                 NONE,
                 &[(PUT, Answer::At(1))],
                 &[WAIT, (GET, Answer::None(1)), LET_GO],
-                NONE,
-                NONE,
             ],
-            [
-                &[
-                    (PUT_TOO, Answer::At(2)),
-                    (Act::Put(3, 30), Answer::At(3)),
-                    (Act::Freeze, Answer::Frozen(0)),
-                    (Act::Merge, Answer::Merged(1)),
-                    (Act::Reclaim, Answer::Clean),
-                    (GET, Answer::Got(4, 2)),
-                    (Act::Get(3), Answer::Got(4, 30)),
-                    (Act::Scan(0), Answer::Rows(4, 2)),
-                ],
-                NONE,
-                NONE,
-                NONE,
-                NONE,
-            ],
+            &[&[
+                (PUT_TOO, Answer::At(2)),
+                (Act::Put(3, 30), Answer::At(3)),
+                (Act::Freeze, Answer::Frozen(0)),
+                (Act::Merge, Answer::Merged(1)),
+                (Act::Reclaim, Answer::Clean),
+                (GET, Answer::Got(4, 2)),
+                (Act::Get(3), Answer::Got(4, 30)),
+                (Act::Scan(0), Answer::Rows(4, 2)),
+            ]],
         ],
-        rounds: 0,
-        round: &[],
+        ..PLAIN
     },
     Case {
         name: "a reader that is held in a get keeps its component",
-        config: FOUR_CELLS,
         gates: [AT_CLOCK, NOWHERE],
-        phases: &[
-            [OLD, NONE, NONE, NONE, NONE],
-            [KEPT, &[(GET, Answer::Got(4, 10)), END], NONE, NONE, NONE],
-        ],
-        rounds: 0,
-        round: &[],
+        phases: &[&[OLD], &[KEPT, &[(GET, Answer::Got(4, 10)), END]]],
+        ..PLAIN
     },
     Case {
         name: "a reader that is held in a scan keeps its component",
-        config: FOUR_CELLS,
         gates: [AT_CLOCK, NOWHERE],
-        phases: &[
-            [OLD, NONE, NONE, NONE, NONE],
-            [
-                KEPT,
-                &[(Act::Scan(0), Answer::Rows(4, 1)), END],
-                NONE,
-                NONE,
-                NONE,
-            ],
-        ],
-        rounds: 0,
-        round: &[],
+        phases: &[&[OLD], &[KEPT, &[(Act::Scan(0), Answer::Rows(4, 1)), END]]],
+        ..PLAIN
     },
     Case {
         name: "two held readers are named one after the other",
-        config: FOUR_CELLS,
         gates: [
             AT_CLOCK,
             Hold {
                 seat: 2,
-                kind: Some(LOOK),
-                passed: 0,
-                turn: NOBODY,
+                ..AT_CLOCK
             },
         ],
         phases: &[
-            [OLD, NONE, NONE, NONE, NONE],
-            [
+            &[OLD],
+            &[
                 &[
                     WAIT,
-                    (Act::Second(Turn::Wait), Answer::Held(true)),
+                    WAIT_TOO,
                     (Act::Freeze, Answer::Frozen(0)),
                     (Act::Merge, Answer::Merged(1)),
                     (Act::Reclaim, Answer::Pinned(1)),
                     LET_END,
                     (Act::Reclaim, Answer::Pinned(2)),
-                    (Act::Second(Turn::LetEnd), Answer::Held(true)),
+                    LET_END_TOO,
                     (Act::Reclaim, Answer::Clean),
                 ],
                 &[(GET, Answer::Got(4, 10)), END],
-                &[
-                    (GET, Answer::Got(4, 10)),
-                    (Act::Second(Turn::End), Answer::Done),
-                ],
-                NONE,
-                NONE,
+                &[(GET, Answer::Got(4, 10)), END_TOO],
             ],
         ],
-        rounds: 0,
-        round: &[],
+        ..PLAIN
     },
     Case {
         name: "a reader that is held in a second get, under its new pin, keeps nothing retired",
-        config: FOUR_CELLS,
         gates: [
             AT_CLOCK,
             Hold {
-                seat: 1,
-                kind: Some(LOOK),
-                passed: 0,
                 turn: OPEN,
+                ..AT_CLOCK
             },
         ],
         phases: &[
-            [OLD, NONE, NONE, NONE, NONE],
-            [
+            &[OLD],
+            &[
                 &[
                     WAIT,
                     (Act::Freeze, Answer::Frozen(0)),
                     (Act::Merge, Answer::Merged(1)),
                     (Act::Reclaim, Answer::Pinned(1)),
                     LET_END,
-                    (Act::Second(Turn::Wait), Answer::Held(true)),
+                    WAIT_TOO,
                     (Act::Reclaim, Answer::Clean),
-                    (Act::Second(Turn::LetEnd), Answer::Held(true)),
+                    LET_END_TOO,
                 ],
                 &[
                     (GET, Answer::Got(4, 10)),
                     END,
                     (Act::Second(Turn::Watch), Answer::Done),
                     (GET, Answer::Got(4, 10)),
-                    (Act::Second(Turn::End), Answer::Done),
+                    END_TOO,
                 ],
-                NONE,
-                NONE,
-                NONE,
             ],
         ],
-        rounds: 0,
-        round: &[],
+        ..PLAIN
     },
     // Seat 1 is held between its look at the lock and its exchange, until seat 2 is about to draw
     // in its own hold; there seat 2 is held until the try of seat 1 is answered.
     Case {
         name: "a try is busy where another seat enters first",
-        config: FOUR_CELLS,
         gates: [
             Hold {
-                seat: 1,
                 kind: Some(Kind::EnterShared),
-                passed: 0,
-                turn: NOBODY,
+                ..AT_CLOCK
             },
             Hold {
                 seat: 2,
                 kind: Some(Kind::Draw),
-                passed: 0,
-                turn: NOBODY,
+                ..AT_CLOCK
             },
         ],
-        phases: &[[
-            &[
-                (Act::Second(Turn::Wait), Answer::Held(true)),
-                LET_END,
-                (Act::Second(Turn::LetGo), Answer::Held(true)),
-            ],
+        phases: &[&[
+            &[WAIT_TOO, LET_END, LET_GO_TOO],
             &[(TRY, BUSY), END],
             &[WAIT, (PUT_TOO, Answer::At(0))],
-            NONE,
-            NONE,
         ]],
-        rounds: 0,
-        round: &[],
+        ..PLAIN
     },
     Case {
         name: "a try is busy while an epoch is frozen",
-        config: FOUR_CELLS,
         gates: [
             Hold {
                 seat: MERGER,
                 kind: Some(Kind::ExtendLimit),
-                passed: 0,
-                turn: NOBODY,
+                ..AT_CLOCK
             },
             NOWHERE,
         ],
-        phases: &[[
+        phases: &[&[
             &[(Act::Freeze, Answer::Frozen(0))],
             &[WAIT, (TRY, BUSY), LET_GO],
-            NONE,
-            NONE,
-            NONE,
         ]],
-        rounds: 0,
-        round: &[],
+        ..PLAIN
     },
 ];

@@ -1,9 +1,9 @@
 //! Hints may hold anything: searches that follow them answer right.
 
 use super::drawn::after;
-use clsm_calls::{Asked, Got, read, scan_at, write};
 use clsm_law::Layout;
 use clsm_model::{Config, Deed, PlainMap, Slot, Value};
+use clsm_store_calls::{Asked, Got, read, scan_at, write};
 use clsm_words::{Free, RawSeat, Words};
 use std::alloc::Global;
 use std::marker::Model;
@@ -25,16 +25,17 @@ struct Alone {
 
 impl Model for Alone {
     ghost use Rattle.std.specs.Prelude.{◌≡◌, None};
-    ghost use Rattle.clsm_law.specs.Relation.{open_time};
+    ghost use Rattle.clsm_law.specs.OpenSteps.{open_time};
     ghost use Rattle.clsm_words.specs.declared.words.WordTable.{WordTable};
     ghost use Rattle.clsm_words.specs.Plays.{IsSeatOf};
-    ghost use Rattle.clsm_calls.specs.Resting.{IsAtRest};
+    ghost use Rattle.clsm_store_calls.specs.Resting.{IsAtRest};
 
     ghost Value = { WordTable };
 
     ghost view = { λ a. a.words };
 
-    ghost invariant = { λ a. IsSeatOf a.words a.seat × IsAtRest a.seat.knows × (a.pin ≡ a.seat.knows.view.pin) × (open_time a.seat.knows.view.snapshot ≡ None) };
+    ghost invariant = { λ a. IsSeatOf a.words a.seat × IsAtRest a.seat.knows × (a.pin ≡ a.seat.knows.view.pin)
+        × (open_time a.seat.knows.view.snapshot ≡ None) };
 }
 
 fn layout(rt: &impl Abort) -> Layout {

@@ -1,6 +1,6 @@
 //! Few keys that are written often: each has many versions in one epoch.
-use super::act::{Act, Answer, Step, Turn};
-use super::case::{Case, NONE};
+use super::act::{Act, Answer, Step, Turn, WAIT};
+use super::case::{Case, NONE, PLAIN};
 use super::drawn::{Load, Mix};
 use super::gate::{ALL, Hold, NOBODY, NOWHERE};
 use clsm_store::{Config, TryPutError};
@@ -113,45 +113,35 @@ pub(super) const CASES: &[Case] = &[
     Case {
         name: "few keys have many versions",
         config: CONFIG,
-        gates: [NOWHERE, NOWHERE],
         phases: &[
-            [
-                &[(Act::PutInTurn(4, 0, 2), Answer::Done)],
-                NONE,
-                NONE,
-                NONE,
-                NONE,
-            ],
-            [NONE, &[(Act::Snapshot, Answer::At(2))], NONE, NONE, NONE],
-            [WRITES, NONE, NONE, NONE, NONE],
-            [READS, EARLY_READS, NONE, NONE, NONE],
-            [LATER, NONE, NONE, NONE, NONE],
-            [READ_AGAIN, EARLY_READS, NONE, NONE, NONE],
+            &[&[(Act::PutInTurn(4, 0, 2), Answer::Done)]],
+            &[NONE, &[(Act::Snapshot, Answer::At(2))]],
+            &[WRITES],
+            &[READS, EARLY_READS],
+            &[LATER],
+            &[READ_AGAIN, EARLY_READS],
         ],
-        rounds: 0,
-        round: &[],
+        ..PLAIN
     },
     // In each round a version of key 5 has its time cancelled, and a word is put at a key of eight.
-    // That is key 5 in five of the first 13 rounds, and no more behind them.
+    // That is key 5 in five of the first 13 rounds, and never after them.
     Case {
         name: "many versions of a key have cancelled times",
         config: CONFIG,
         gates: [DECIDES, NOWHERE],
-        phases: &[[&[(Act::Put(5, 50), Answer::At(0))], NONE, NONE, NONE, NONE]],
+        phases: &[&[&[(Act::Put(5, 50), Answer::At(0))]]],
         rounds: 30,
         round: &[
-            [
+            &[
                 NONE,
                 &[(Act::TryPut(5, 1), OVERTAKEN)],
                 &[
-                    (Act::First(Turn::Wait), Answer::Held(true)),
+                    WAIT,
                     (Act::ReadAll, Answer::Done),
                     (Act::First(Turn::LetPass), Answer::Held(true)),
                 ],
-                NONE,
-                NONE,
             ],
-            [&[ONE], NONE, NONE, NONE, NONE],
+            &[&[ONE]],
         ],
     },
     Case {
@@ -161,8 +151,7 @@ pub(super) const CASES: &[Case] = &[
             ..CONFIG
         },
         gates: [STEPS, NOWHERE],
-        phases: &[[COUNTED, NONE, NONE, NONE, NONE]],
-        rounds: 0,
-        round: &[],
+        phases: &[&[COUNTED]],
+        ..PLAIN
     },
 ];

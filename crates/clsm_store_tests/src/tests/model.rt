@@ -7,7 +7,7 @@ mod audit;
 mod levels;
 mod map;
 
-/// Why a table is not as it is written: want of memory, or the row of this number of a table.
+/// Why a table is not as it is written: memory ran out, or the row of this number of a table.
 #[derive(Clone, Copy, PartialEq, Eq, Debug)]
 enum Wrong {
     Memory,

@@ -1,10 +1,11 @@
-//! Seats that are settled: the calls of one, which are audited, and a put and a get that race.
+//! Seats that are settled or met: the calls of one, which are audited, a frozen epoch that meets one,
+//! and a put and a get that race.
 ghost use Rattle.std.specs.Prelude.{◌≡◌, []};
-ghost use Rattle.clsm_calls.specs.Seats.{AreNew, HasSizes};
+ghost use Rattle.clsm_store_calls.specs.Seats.{AreNew, HasSizes, IsNewMerger};
 
 use clsm_model::{CallRecord, Config, Deed, Memory, OpenError, Value};
-use clsm_settled::{joined_are_records, race_agrees, settle_audited};
-use clsm_store::{Free, Opened, Seat, Store, open};
+use clsm_store::{Free, Merger, NotFrozen, Opened, Seat, Store, open};
+use clsm_store_audit::{joined_are_records, race_agrees, settle_audited};
 use std::alloc::Global;
 use std::process::Abort;
 use std::sync::Wait;
@@ -20,6 +21,7 @@ const ONE_SEAT: Config = Config {
 fn opened(rt: &impl Abort, alloc: Global) -> Opened<Free>
     ensures sizes { HasSizes result.store ONE_SEAT }
     ensures seats { AreNew result.store 1 result.seats.items }
+    ensures merger { IsNewMerger result.store result.merger }
 {
     match open(alloc, ONE_SEAT) {
         Err(OpenError::Memory) => open(alloc, ONE_SEAT).expect(rt, "memory at the second try"),
@@ -93,6 +95,24 @@ fn settled_calls_have_no_fault(rt: HostRuntime) {
     record_put(&rt, &store, &mut seat, &mut records, 8);
     let audited = settle_alone(&rt, rt.alloc(), &store, seat, &records);
     assert_eq!(rt; audited, Ok(()));
+}
+
+/// The merger meets a seat only where an epoch is frozen.
+#[test]
+fn a_frozen_epoch_meets_a_seat(rt: HostRuntime) {
+    let Opened {
+        store,
+        mut seats,
+        merger,
+    } = opened(&rt, rt.alloc());
+    let mut seat = take_seat(&rt, &store, &mut seats);
+    let mut records = Vec::new(rt.alloc());
+    record_put(&rt, &store, &mut seat, &mut records, 7);
+    let mut merger = Merger::new(&store, merger);
+    assert_eq!(rt; merger.meet(&mut seat), Err(NotFrozen));
+    let (mut merger, frozen) = merger.freeze(&rt);
+    assert_eq!(rt; frozen, Ok(0));
+    assert_eq!(rt; merger.meet(&mut seat), Ok(()));
 }
 
 /// At most one allocation of a run is made to fail: the race is then run once more.

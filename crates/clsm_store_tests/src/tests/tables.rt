@@ -1,6 +1,6 @@
 //! Tables of cases, one for each thing that is looked at.
-use super::act::{Act, Answer, Step, Turn};
-use super::case::{Case, FOUR_CELLS, NONE, Phase, check};
+use super::act::{Act, Answer, LET_GO, Step, Turn, WAIT};
+use super::case::{Case, FOUR_CELLS, NONE, PLAIN, Phase, check};
 use super::drawn::{Load, Mix};
 use super::gate::{ALL, Hold, NOBODY, NOWHERE, OPEN};
 use super::{batches, held, hot};
@@ -121,43 +121,30 @@ const SMALL_RUN: Config = Config {
 const ALONE: &[Case] = &[
     Case {
         name: "each write makes its steps",
-        config: FOUR_CELLS,
         gates: [ALL_STEPS, NOWHERE],
-        phases: &[[STEPS, NONE, NONE, NONE, NONE]],
-        rounds: 0,
-        round: &[],
+        phases: &[&[STEPS]],
+        ..PLAIN
     },
     Case {
         name: "read-modify-writes remove and keep",
-        config: FOUR_CELLS,
-        gates: [NOWHERE, NOWHERE],
-        phases: &[[CHANGES, NONE, NONE, NONE, NONE]],
-        rounds: 0,
-        round: &[],
+        phases: &[&[CHANGES]],
+        ..PLAIN
     },
     Case {
         name: "merges are counted, until a run is full",
         config: SMALL_RUN,
-        gates: [NOWHERE, NOWHERE],
-        phases: &[[MERGES, NONE, NONE, NONE, NONE]],
-        rounds: 0,
-        round: &[],
+        phases: &[&[MERGES]],
+        ..PLAIN
     },
     Case {
         name: "a sweep waits until enough of an epoch is used, and the room of an epoch is told",
-        config: FOUR_CELLS,
-        gates: [NOWHERE, NOWHERE],
-        phases: &[[USES, NONE, NONE, NONE, NONE]],
-        rounds: 0,
-        round: &[],
+        phases: &[&[USES]],
+        ..PLAIN
     },
     Case {
         name: "a scan and a page leave their seat at rest",
-        config: FOUR_CELLS,
-        gates: [NOWHERE, NOWHERE],
-        phases: &[[SCANS, NONE, NONE, NONE, NONE]],
-        rounds: 0,
-        round: &[],
+        phases: &[&[SCANS]],
+        ..PLAIN
     },
 ];
 
@@ -189,43 +176,36 @@ const LOOKS: &[Case] = &[
             ..FOUR_CELLS
         },
         gates: [UNDECIDED, LOOKED_AT],
-        phases: &[[
-            &[],
+        phases: &[&[
+            NONE,
             OVERTAKEN,
             &[
-                (Act::First(Turn::Wait), Answer::Held(true)),
+                WAIT,
                 (Act::Get(8), Answer::None(1)),
                 (Act::Second(Turn::Steps), Answer::Count(1)),
                 (Act::Get(8), Answer::None(1)),
                 (Act::Second(Turn::Steps), Answer::Count(0)),
-                (Act::First(Turn::LetGo), Answer::Held(true)),
+                LET_GO,
             ],
-            NONE,
-            NONE,
         ]],
-        rounds: 0,
-        round: &[],
+        ..PLAIN
     },
     Case {
         name: "a reader with a patience of eight looks nine times",
-        config: FOUR_CELLS,
         gates: [UNDECIDED, LOOKED_AT],
-        phases: &[[
-            &[],
+        phases: &[&[
+            NONE,
             OVERTAKEN,
             &[
-                (Act::First(Turn::Wait), Answer::Held(true)),
+                WAIT,
                 (Act::Get(8), Answer::None(1)),
                 (Act::Second(Turn::Steps), Answer::Count(9)),
                 (Act::Get(8), Answer::None(1)),
                 (Act::Second(Turn::Steps), Answer::Count(0)),
-                (Act::First(Turn::LetGo), Answer::Held(true)),
+                LET_GO,
             ],
-            NONE,
-            NONE,
         ]],
-        rounds: 0,
-        round: &[],
+        ..PLAIN
     },
     Case {
         name: "a reader with all patience looks 65 times",
@@ -234,42 +214,35 @@ const LOOKS: &[Case] = &[
             ..FOUR_CELLS
         },
         gates: [UNDECIDED, LOOKED_AT],
-        phases: &[[
-            &[],
+        phases: &[&[
+            NONE,
             OVERTAKEN,
             &[
-                (Act::First(Turn::Wait), Answer::Held(true)),
+                WAIT,
                 (Act::Get(8), Answer::None(1)),
                 (Act::Second(Turn::Steps), Answer::Count(65)),
                 (Act::Get(8), Answer::None(1)),
                 (Act::Second(Turn::Steps), Answer::Count(0)),
-                (Act::First(Turn::LetGo), Answer::Held(true)),
+                LET_GO,
             ],
-            NONE,
-            NONE,
         ]],
-        rounds: 0,
-        round: &[],
+        ..PLAIN
     },
     Case {
         name: "a reader looks once at a decided time",
-        config: FOUR_CELLS,
         gates: [NOWHERE, LOOKED_AT],
         phases: &[
-            [&[(Act::Put(7, 70), Answer::At(0))], NONE, NONE, NONE, NONE],
-            [
-                &[],
-                &[],
+            &[&[(Act::Put(7, 70), Answer::At(0))]],
+            &[
+                NONE,
+                NONE,
                 &[
                     (Act::Get(8), Answer::None(1)),
                     (Act::Second(Turn::Steps), Answer::Count(1)),
                 ],
-                NONE,
-                NONE,
             ],
         ],
-        rounds: 0,
-        round: &[],
+        ..PLAIN
     },
 ];
 
@@ -309,30 +282,20 @@ const THREADS: &[Case] = &[
             patience: 2,
             ..GREAT
         },
-        gates: [NOWHERE, NOWHERE],
         phases: &[
-            [
-                &[UNCHANGING],
-                &[UNCHANGING],
-                &[UNCHANGING],
-                &[UNCHANGING],
-                NONE,
-            ],
-            [READS, NONE, NONE, NONE, NONE],
+            &[&[UNCHANGING], &[UNCHANGING], &[UNCHANGING], &[UNCHANGING]],
+            &[READS],
         ],
-        rounds: 0,
-        round: &[],
+        ..PLAIN
     },
     Case {
         name: "four threads make calls of all kinds",
         config: GREAT,
-        gates: [NOWHERE, NOWHERE],
         phases: &[
-            [&[CHANGING], &[CHANGING], &[CHANGING], &[CHANGING], NONE],
-            [READS, NONE, NONE, NONE, NONE],
+            &[&[CHANGING], &[CHANGING], &[CHANGING], &[CHANGING]],
+            &[READS],
         ],
-        rounds: 0,
-        round: &[],
+        ..PLAIN
     },
     // An open snapshot keeps every later version, so runs have room for all writes. Level 1 is
     // written by each fourth merge, so each of its places by each eighth.
@@ -345,19 +308,17 @@ const THREADS: &[Case] = &[
             run: 8_192,
             patience: 64,
         },
-        gates: [NOWHERE, NOWHERE],
         phases: &[
-            [
+            &[
                 &[(Act::Sweeps(104), Answer::Count(104))],
                 &[CHANGING],
                 &[CHANGING],
                 &[CHANGING],
                 &[CHANGING],
             ],
-            [READS, NONE, NONE, NONE, NONE],
+            &[READS],
         ],
-        rounds: 0,
-        round: &[],
+        ..PLAIN
     },
 ];
 
@@ -395,37 +356,33 @@ const ORDERED: &[Case] = &[
     Case {
         name: "few keys stand in chains and lists alike",
         config: LARGE,
-        gates: [NOWHERE, NOWHERE],
-        phases: &[],
         rounds: 2,
         round: &[
-            [
+            &[
                 &[AT_FEW_KEYS],
                 &[AT_FEW_KEYS],
                 &[AT_FEW_KEYS],
                 &[AT_FEW_KEYS],
-                NONE,
             ],
-            [SWEPT, NONE, NONE, NONE, NONE],
+            &[SWEPT],
         ],
+        ..PLAIN
     },
     // The third epoch takes the cells of the first, whose hints are still there.
     Case {
         name: "many keys stand in chains and lists alike",
         config: LARGE,
-        gates: [NOWHERE, NOWHERE],
-        phases: &[],
         rounds: 3,
         round: &[
-            [
+            &[
                 &[AT_MANY_KEYS],
                 &[AT_MANY_KEYS],
                 &[AT_MANY_KEYS],
                 &[AT_MANY_KEYS],
-                NONE,
             ],
-            [SWEPT, NONE, NONE, NONE, NONE],
+            &[SWEPT],
         ],
+        ..PLAIN
     },
 ];
 
@@ -454,52 +411,33 @@ const MERGER: u64 = 3;
 const MERGE_STEPS: u64 = 78;
 
 const SNAPSHOT_PHASES: &[Phase] = &[
-    [
-        &[
-            (Act::Put(0, 10), Answer::At(0)),
-            (Act::Put(1, 11), Answer::At(1)),
-            (Act::Put(2, 12), Answer::At(2)),
-            (Act::Remove(2), Answer::At(3)),
-            (Act::Freeze, Answer::Frozen(0)),
-            (Act::Put(0, 20), Answer::At(4)),
-            (Act::First(Turn::Watch), Answer::Done),
-            (Act::Second(Turn::Watch), Answer::Done),
-        ],
-        NONE,
-        NONE,
-        NONE,
-        NONE,
-    ],
-    [
+    &[&[
+        (Act::Put(0, 10), Answer::At(0)),
+        (Act::Put(1, 11), Answer::At(1)),
+        (Act::Put(2, 12), Answer::At(2)),
+        (Act::Remove(2), Answer::At(3)),
+        (Act::Freeze, Answer::Frozen(0)),
+        (Act::Put(0, 20), Answer::At(4)),
+        (Act::First(Turn::Watch), Answer::Done),
+        (Act::Second(Turn::Watch), Answer::Done),
+    ]],
+    &[
         &[
             (Act::Merge, Answer::Merged(1)),
             (Act::Second(Turn::Steps), Answer::Count(MERGE_STEPS)),
         ],
-        &[
-            (Act::First(Turn::Wait), Answer::Held(true)),
-            (Act::Snapshot, Answer::At(5)),
-            (Act::First(Turn::LetGo), Answer::Held(true)),
-        ],
-        NONE,
-        NONE,
-        NONE,
+        &[WAIT, (Act::Snapshot, Answer::At(5)), LET_GO],
     ],
 ];
 
 /// A removal and a sweep; then key 0 reads as its second value, key 1 as its first, key 2 was
 /// removed, and key 3 was not put.
 const SNAPSHOT_ROUND: &[Phase] = &[
-    [
-        &[
-            (Act::Sweep, Answer::Clean),
-            (Act::Calls(&ONE_PUT), Answer::Done),
-        ],
-        NONE,
-        NONE,
-        NONE,
-        NONE,
-    ],
-    [
+    &[&[
+        (Act::Sweep, Answer::Clean),
+        (Act::Calls(&ONE_PUT), Answer::Done),
+    ]],
+    &[
         &[],
         &[
             (Act::GetAt(0), Answer::Got(5, 20)),
@@ -507,9 +445,6 @@ const SNAPSHOT_ROUND: &[Phase] = &[
             (Act::GetAt(2), Answer::None(5)),
             (Act::GetAt(3), Answer::None(5)),
         ],
-        NONE,
-        NONE,
-        NONE,
     ],
 ];
 
@@ -538,11 +473,11 @@ fn a_snapshot_opened_before_each_step_of_a_merge(rt: HostRuntime) -> Result<(), 
         };
         let case = Case {
             name: "a snapshot is opened before a step of a merge",
-            config: FOUR_CELLS,
             gates: [before_step, counted],
             phases: SNAPSHOT_PHASES,
             rounds: 21,
             round: SNAPSHOT_ROUND,
+            ..PLAIN
         };
         check(&rt, rt.alloc(), &case);
     }

@@ -3,12 +3,12 @@ ghost use Rattle.std.specs.Prelude.{◌≡◌};
 ghost use Rattle.clsm_words.specs.Seats.{MessageState};
 ghost use Rattle.clsm_words.specs.Plays.{IsSeatOf, IsMessageOf, Learns, TakesIn, TellsOf};
 
-use super::{Message, RawSeat, WordTable, Words};
+use super::{Message, RawMerger, RawSeat, WordTable, Words};
 use crate::pace::Pace;
 use crate::rule::Tells;
 
 impl WordTable {
-    /// Answers a message that tells of the seat's past and its due.
+    /// Answers a message with the seat's past and its due.
     pub(super) fn tell(&self, from: &mut RawSeat) -> Message
         requires { IsSeatOf self.now from.old }
         ensures seat { from.new ≡ from.old }
@@ -38,10 +38,21 @@ impl WordTable {
         let Message { seat } = message;
         self.table.shared.join_seat::<Tells>(&mut to.seat, seat);
     }
+
+    /// The merger learns of the message. From its next step on its past begins with what it was
+    /// told, or the other way round.
+    pub(super) fn learn_as_merger(&self, to: &mut RawMerger, message: Message)
+        requires merger { IsSeatOf self.now to.old }
+        requires message { IsMessageOf self.now message }
+        ensures { IsSeatOf self.now to.new × Learns to.old.knows message to.new.knows }
+    {
+        let Message { seat } = message;
+        self.table.shared.join_seat::<Tells>(&mut to.seat, seat);
+    }
 }
 
 impl<P: Pace> Words<P> {
-    /// Answers a message that tells of the seat's past and its due.
+    /// Answers a message with the seat's past and its due.
     pub fn tell(&self, from: &mut RawSeat) -> Message
         requires { IsSeatOf self.now from.old }
         ensures seat { from.new ≡ from.old }
@@ -67,5 +78,15 @@ impl<P: Pace> Words<P> {
         ensures { IsSeatOf self.now to.new × Learns to.old.knows message to.new.knows }
     {
         self.words.learn(to, message);
+    }
+
+    /// The merger learns of the message. From its next step on its past begins with what it was
+    /// told, or the other way round.
+    pub fn learn_as_merger(&self, to: &mut RawMerger, message: Message)
+        requires merger { IsSeatOf self.now to.old }
+        requires message { IsMessageOf self.now message }
+        ensures { IsSeatOf self.now to.new × Learns to.old.knows message to.new.knows }
+    {
+        self.words.learn_as_merger(to, message);
     }
 }

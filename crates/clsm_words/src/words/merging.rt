@@ -2,7 +2,8 @@
 //! reclaim.
 ghost use Rattle.std.specs.Prelude.{◌≡◌};
 ghost use Rattle.clsm_law.specs.Merging.{epoch_end};
-ghost use Rattle.clsm_law.specs.declared.step.Step.TheVariants.{EnterExclusive, LeaveExclusive, Look, Pad, WriteRun, ClearHead, ClearOrder, ClearState, Publish, ExtendClock, ExtendLimit};
+ghost use Rattle.clsm_law.specs.declared.step.Step.TheVariants.{EnterExclusive, LeaveExclusive, Look, Pad, WriteRun, ClearHead, ClearOrder, ClearState};
+ghost use Rattle.clsm_law.specs.declared.step.Step.TheVariants.{Publish, ExtendClock, ExtendLimit};
 ghost use Rattle.clsm_words.specs.Plays.{MayMerge, Merged, PlaysAsMerger, MergerAnswers};
 
 use super::cells::won_if;

@@ -12,7 +12,8 @@ loop-call-preserved c =
     let before = c.loop-call.state.snapshot in
     elim c.if-call-seat.branch [
       | then-call-seat w ↦ ap (λ (s : SeatState). s.snapshot) w.state-is
-          ∙ opened_own calls i c.args.seat r before w.open_after-state.result c.loop-call-test.true c.call-item.is w.if-call-seat.true c.loop-call.invariant w.open_after-state.ensures
+          ∙ opened_own calls i c.args.seat r before w.open_after-state.result c.loop-call-test.true c.call-item.is w.if-call-seat.true c.loop-call.invariant
+          w.open_after-state.ensures
       | else-call-seat w ↦ ap (λ (s : SeatState). s.snapshot) w.state-is
           ∙ opened_other calls i c.args.seat r before c.loop-call-test.true c.call-item.is w.if-call-seat.false c.loop-call.invariant
     ]

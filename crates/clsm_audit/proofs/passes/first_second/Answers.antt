@@ -15,7 +15,8 @@ loop-index-preserved c =
     let before = c.loop-index.invariant in
     let taken = c.in_ok-is_second.ensures in
     record {
-      times = written_also records i r (contains nat_cmp c.loop-index.times) (contains nat_cmp c.is_second.new.times) within is (taken.times (ap Ok c.if-branch.false)) before.times;
+      times = written_also records i r (contains nat_cmp c.loop-index.times) (contains nat_cmp c.is_second.new.times) within is
+          (taken.times (ap Ok c.if-branch.false)) before.times;
       alone = below_more _ _ before.alone (λ second.
           let found = here_second records i r within is second in
           true≢false (sym (taken.second.1 (found.0, found.1, (before.times found.0).1 found.2)) ∙ c.if-branch.false));

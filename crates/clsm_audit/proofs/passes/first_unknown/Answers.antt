@@ -12,10 +12,16 @@ loop-index-preserved c =
     let before = c.loop-index.invariant in
     record {
       count = before.count;
-      states = AreStates-next records c.loop-index.index states.len r states.items c.deref_mut.result.now c.advance.new.states c.loop-index-test.true c.index-records-index.is c.deref_mut.ensures.value (search rules) (omega arith) before.states c.advance.ensures;
+      states = AreStates-next records c.loop-index.index states.len r states.items c.deref_mut.result.now c.advance.new.states c.loop-index-test.true
+          c.index-records-index.is c.deref_mut.ensures.value (search rules) (omega arith) before.states c.advance.ensures;
       known = below_more _ _ before.known
-          (known_here c.args.config.now records c.loop-index.index r states.items c.index.result.now c.loop-index-test.true c.index-records-index.is before.states (search rules) c.index.ensures (c.if-not-is_known.ensures.0 refl));
+          (known_here c.args.config.now records c.loop-index.index r states.items c.index.result.now c.loop-index-test.true c.index-records-index.is
+          before.states (search rules) c.index.ensures (c.if-not-is_known.ensures.0 refl));
     }
 
 pub returns : goal.returns
-returns c = record { fails = tt; below = λ i none. each_index (λ k q. IsKnown c.args.config.now (open_of (take k c.args.records.now) q.seat) q) c.args.records.now c.loop-index.index c.loop-index-test.false c.loop-index.invariant.known i }
+returns c = record {
+  fails = tt;
+  below = λ i none. each_index (λ k q. IsKnown c.args.config.now (open_of (take k c.args.records.now) q.seat) q)
+      c.args.records.now c.loop-index.index c.loop-index-test.false c.loop-index.invariant.known i;
+}

@@ -9,7 +9,8 @@ pub returns-in-Batch-clause-write : goal.returns-in-Batch-clause-write
 returns-in-Batch-clause-write c =
     on_ok_weaker c.apply_members.result
     (λ applies h stands map.
-    batch_applied h c.args.call.now c.as_slice.result.now c.args.map.now c.apply_members.new.map (c.in-Batch.is ∙ ap Group (sym c.as_slice.ensures)) (λ from m. applies h c.args.call.now.time from m) stands map)
+    batch_applied h c.args.call.now c.as_slice.result.now c.args.map.now c.apply_members.new.map (c.in-Batch.is ∙ ap Group (sym c.as_slice.ensures))
+    (λ from m. applies h c.args.call.now.time from m) stands map)
     c.apply_members.ensures
 
 pub returns-in_ok-apply : goal.returns-in_ok-apply

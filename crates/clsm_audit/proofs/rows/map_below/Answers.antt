@@ -14,15 +14,18 @@ use Rattle.clsm_audit.proofs.rows.map_below.Goals as goal
 
 pub loop-stamp-init : goal.loop-stamp-init
 loop-stamp-init c = record {
-  played = played_first c.args.records.now c.args.stamps.now c.requires.order c.requires.times c.requires.alone c.new-replay.result.until c.new-replay.result.map c.new-replay.ensures.until (c.new-replay.ensures.map _);
+  played = played_first c.args.records.now c.args.stamps.now c.requires.order c.requires.times c.requires.alone c.new-replay.result.until
+      c.new-replay.result.map c.new-replay.ensures.until (c.new-replay.ensures.map _);
   other = λ k lt is. omega (arith, lt);
 }
 
 pub returns-then-stamp-index : goal.returns-then-stamp-index
 returns-then-stamp-index c =
     let records = c.args.records.now in
-    subst (λ (pairs : List Pair). IfSome (slice_get records c.args.index) (λ r. IsUncut (batches_of records) r.time → IsMap (history_of records) r.time pairs)) (sym c.into_map.ensures)
-    (map_here records c.args.stamps.now c.requires.order c.requires.times c.requires.alone c.loop-stamp.stamp-index c.loop-stamp.replay.until c.args.index c.loop-stamp.replay.map c.loop-stamp-test.true c.if-stamp-index.true c.loop-stamp.invariant.played)
+    subst (λ (pairs : List Pair). IfSome (slice_get records c.args.index)
+    (λ r. IsUncut (batches_of records) r.time → IsMap (history_of records) r.time pairs)) (sym c.into_map.ensures)
+    (map_here records c.args.stamps.now c.requires.order c.requires.times c.requires.alone c.loop-stamp.stamp-index c.loop-stamp.replay.until c.args.index
+    c.loop-stamp.replay.map c.loop-stamp-test.true c.if-stamp-index.true c.loop-stamp.invariant.played)
 
 pub bounds-records-stamp : goal.bounds-records-stamp
 bounds-records-stamp c = (stamp_in c.args.records.now c.args.stamps.now c.requires.order c.loop-stamp.stamp-index nowhere c.loop-stamp-test.true).0
@@ -55,7 +58,8 @@ loop-stamp-preserved c =
     let before = c.loop-stamp.invariant in
     record {
       played = played_next records stamps c.requires.order c.requires.times c.requires.alone j old.until new.until old.map new.map turn before.played
-          (subst (λ (q : CallRecord). Plays q old.until new.until old.map new.map) is (record { write = played.write; read = played.read; until_is = played.until }));
+          (subst (λ (q : CallRecord). Plays q old.until new.until old.map new.map) is
+          (record { write = played.write; read = played.read; until_is = played.until }));
       other = below_more _ _ before.other c.if-stamp-index.false;
     }
 

@@ -9,6 +9,7 @@ use Rattle.clsm_audit.proofs.stamp.in_time_order.Goals as goal
 pub returns : goal.returns
 returns c =
     record {
-      same = subst (λ (stamps : List Stamp). IsPermutation stamps c.sort_unstable_by.new.self.items) c.in_ok-stamps.ensures c.sort_unstable_by.ensures.permutation;
+      same = subst (λ (stamps : List Stamp). IsPermutation stamps c.sort_unstable_by.new.self.items) c.in_ok-stamps.ensures
+          c.sort_unstable_by.ensures.permutation;
       sorted = c.sort_unstable_by.ensures.sorted comes_before comes_before-order (answers_always _ _ _ (λ f a r f' called. search rules));
     }

@@ -8,5 +8,6 @@ pub returns : goal.returns
 returns c =
     items_from_collect _ c.collect.ensures.ran
     (YieldsList-from_map _ (λ p. stamp_of p.0 p.1)
-    (YieldsList-at c.map.ensures.source (YieldsList-from_enumerate (YieldsList-at c.enumerate.ensures.source (YieldsList-from_slice c.args.records.now (cc))) (cc)))
+    (YieldsList-at c.map.ensures.source
+    (YieldsList-from_enumerate (YieldsList-at c.enumerate.ensures.source (YieldsList-from_slice c.args.records.now (cc))) (cc)))
     c.map.ensures.closure (λ x r q k. search rules))

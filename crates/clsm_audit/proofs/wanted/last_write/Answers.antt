@@ -12,9 +12,12 @@ loop-index-preserved c =
     let within = c.loop-index-test.true in
     let before = c.loop-index.invariant in
     elim c.match-last_in.branch [
-      | in-Some w ↦ rw (w.last-is, w.from-is) (searched_found records wanted n c.args.below r within here c.loop-index.from c.loop-index.last w.in-Some.found before w.in-Some.ensures)
-      | in_default w ↦ rw (w.last-is, w.from-is) (searched_none records wanted n c.args.below r within here c.loop-index.from c.loop-index.last before w.in_default.ensures)
+      | in-Some w ↦ rw (w.last-is, w.from-is)
+          (searched_found records wanted n c.args.below r within here c.loop-index.from c.loop-index.last w.in-Some.found before w.in-Some.ensures)
+      | in_default w ↦ rw (w.last-is, w.from-is)
+          (searched_none records wanted n c.args.below r within here c.loop-index.from c.loop-index.last before w.in_default.ensures)
     ]
 
 pub returns : goal.returns
-returns c = searched_all c.args.records.now c.args.wanted.now c.loop-index.index c.args.below c.loop-index.from c.loop-index.last c.loop-index-test.false c.loop-index.invariant
+returns c = searched_all c.args.records.now c.args.wanted.now c.loop-index.index c.args.below c.loop-index.from c.loop-index.last c.loop-index-test.false
+    c.loop-index.invariant

@@ -12,7 +12,8 @@ loop-time-preserved c =
     let slots = decided_slots c.args.slots.now in
     let done = c.loop-time.entries.items in
     let last = entries_last slots c.args.from c.loop-time.time (omega arith) in
-    ap (λ (l : List Entry). done ++ (l ++ entries_of slots c.args.from (c.loop-time.time - 1))) c.in_default.ensures ∙ ap (λ (l : List Entry). done ++ l) (sym last) ∙ c.loop-time.invariant
+    ap (λ (l : List Entry). done ++ (l ++ entries_of slots c.args.from (c.loop-time.time - 1))) c.in_default.ensures
+    ∙ ap (λ (l : List Entry). done ++ l) (sym last) ∙ c.loop-time.invariant
 
 pub returns-clause-entries : goal.returns-clause-entries
 returns-clause-entries c =
@@ -23,7 +24,8 @@ returns-clause-entries c =
 pub returns-clause-exact : goal.returns-clause-exact
 returns-clause-exact c =
     let h = plain (decided_slots c.args.slots.now) in
-    λ zero. subst (λ (es : List Entry). IsExact (es ∷ []) h 0 c.args.to) (sym (returns-clause-entries c ∙ ap (λ (from : ℕ). entries_of h.slots from c.args.to) zero)) (exact_entries h c.args.to)
+    λ zero. subst (λ (es : List Entry). IsExact (es ∷ []) h 0 c.args.to)
+    (sym (returns-clause-entries c ∙ ap (λ (from : ℕ). entries_of h.slots from c.args.to) zero)) (exact_entries h c.args.to)
 
 pub returns-clause-small : goal.returns-clause-small
 returns-clause-small c =

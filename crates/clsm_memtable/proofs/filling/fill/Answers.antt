@@ -15,5 +15,6 @@ returns-in-Some-clause-filled g c =
       length = e.length ∙ ap (λ (ws : List ℕ). Some (length ws)) same;
       words = subst (λ (ws : List ℕ). take (length ws) c.fill_cell.new.seat.knows.view.words ≡ map (λ w. Some w) ws) same e.words;
       short = (c.words.ensures.some, c.words.ensures.at_most_eight);
-      whole = ap (λ (o : Option ℕ). is_all_some (take (or_zero o) c.fill_cell.new.seat.knows.view.words)) e.length ∙ ap is_all_some e.words ∙ all_there c.words.result.now;
+      whole = ap (λ (o : Option ℕ). is_all_some (take (or_zero o) c.fill_cell.new.seat.knows.view.words)) e.length ∙ ap is_all_some e.words
+          ∙ all_there c.words.result.now;
     })

@@ -21,7 +21,8 @@ loop-index-preserved g c =
       key = ap (λ (v : View). v.key) follows.view ∙ c.loop-index.invariant.key;
       sized = ap (λ (v : View). v.length) follows.view ∙ c.loop-index.invariant.sized;
       words = ap (λ (v : View). take (i + 1) v.words) follows.view
-          ∙ take_more_set k.view.words i (Some word) (let long = sound.rows.words in let few = c.requires.short in let inside = c.loop-index-test.true in omega arith)
+          ∙ take_more_set k.view.words i (Some word)
+          (let long = sound.rows.words in let few = c.requires.short in let inside = c.loop-index-test.true in omega arith)
           ∙ ap (λ (l : List (Option ℕ)). l ++ Some word ∷ []) c.loop-index.invariant.words
           ∙ sym (map_more (λ (w : ℕ). Some w) c.args.value.now i 0 c.loop-index-test.true);
     }

@@ -12,5 +12,7 @@ pub returns-clause-version : goal.returns-clause-version
 returns-clause-version g c =
     let k = c.args.merger.now.knows in
     let t = c.args.time in
-    version_there t (slot_in k t) c.part-key.result c.state-code.result c.state-code.ensures.told (λ (lt : c.state-code.result < 2). let ge = c.if-code-lt2.false in omega arith)
-    (subst (λ (slot : Slot). IsPartOf slot Key c.part-key.result) (slot_on NoWord k c.state-code.new.merger.knows t c.state-code.ensures.looks c.requires.frozen.known) c.part-key.ensures.told)
+    version_there t (slot_in k t) c.part-key.result c.state-code.result c.state-code.ensures.told
+    (λ (lt : c.state-code.result < 2). let ge = c.if-code-lt2.false in omega arith)
+    (subst (λ (slot : Slot). IsPartOf slot Key c.part-key.result)
+    (slot_on NoWord k c.state-code.new.merger.knows t c.state-code.ensures.looks c.requires.frozen.known) c.part-key.ensures.told)

@@ -1,35 +1,43 @@
 use Rattle.std.proofs.Common.{◌≡◌, ◌≤◌, ◌%◌, ℕ, length, sym, ap, refl, ◌∙◌, subst, arith}
 use Rattle.clsm_law.specs.declared.layout.Layout.{Layout}
 use Rattle.clsm_words.specs.Knowing.{IsTrail}
+use Rattle.clsm_words.specs.Keeping.{Looks}
 use Rattle.clsm_words.proofs.Keeps.{looks_trans}
 use Rattle.clsm_memtable.specs.Searching.{IsWalked, MaySearch}
 use Rattle.clsm_memtable.proofs.Looking.{looks_at_head}
 use Rattle.clsm_memtable.proofs.Chains.{chain_short, chain_stays, on_chain, walked_all, walked_nothing}
+use Rattle.clsm_memtable.proofs.searching.newest_time.Given.{Over}
 use Rattle.clsm_memtable.proofs.searching.newest_time.Goals as goal
+use Rattle.clsm_memtable.proofs.searching.newest_time.Goals.{After-look-next}
+
+-- the look at the head of the key's chain, on which the seat's trail stands then
+looks : (g : Over) (c : After-look-next g) → Looks c.args.seat.now.knows c.look-next.new.seat.knows
+looks g c = looks_at_head c.args.seat.now.knows c.look-next.new.seat.knows
+    (c.args.epoch.now.number % 2) c.chain_of-chain.result c.look-next.result c.show_invariant.ensures c.look-next.ensures.1
+
+trail : (g : Over) (c : After-look-next g)
+    → IsTrail c.look-next.new.seat.knows c.args.epoch.now.number (c.args.key % c.look-next.new.seat.knows.layout.chains) c.look-next.result
+trail g c =
+    let e = c.args.epoch.now in
+    let chain = c.chain_of-chain.ensures ∙ ap (λ (z : Layout). c.args.key % z.chains) (sym c.requires.of.1 ∙ sym (looks g c).reads.seat.layout) in
+    subst (λ (n : ℕ). IsTrail c.look-next.new.seat.knows e.number n c.look-next.result) chain (c.look-next.ensures.1.walks e.number c.requires.may.walked refl)
+
+may_search : (g : Over) (c : After-look-next g) → MaySearch c.args.seat.now.knows c.args.epoch.now.number c.args.epoch.now.first c.args.epoch.now.until
+may_search g c = record { held = c.requires.may.walked; begins = c.requires.may.begins; begun = c.requires.begun; settled = c.requires.may.settled }
 
 pub walk_chain-walk-requires-clause-chain : goal.walk_chain-walk-requires-clause-chain
 walk_chain-walk-requires-clause-chain g c =
-    let k = c.args.seat.now.knows in
-    let k' = c.look-next.new.seat.knows in
     let e = c.args.epoch.now in
-    let follows = c.look-next.ensures.1 in
-    let looks = looks_at_head k k' (e.number % 2) c.chain_of-chain.result c.look-next.result c.show_invariant.ensures follows in
-    let chain = c.chain_of-chain.ensures ∙ ap (λ (z : Layout). c.args.key % z.chains) (sym c.requires.of.1 ∙ sym looks.reads.seat.layout) in
-    let trail = subst (λ (n : ℕ). IsTrail k' e.number n c.look-next.result) chain (follows.walks e.number c.requires.may.walked refl) in
-    let may : MaySearch k e.number e.first e.until = record { held = c.requires.may.walked; begins = c.requires.may.begins; begun = c.requires.begun; settled = c.requires.may.settled } in
-    on_chain k k' e.number e.first e.until c.args.key c.look-next.result may looks trail
+    let head = (goal.at.walk_chain-walk-requires-clause-chain g c).After-look-next in
+    on_chain c.args.seat.now.knows c.look-next.new.seat.knows e.number e.first e.until c.args.key c.look-next.result (may_search g head) (looks g head)
+    (trail g head)
 
 pub walk_chain-walk-requires-clause-walked : goal.walk_chain-walk-requires-clause-walked
 walk_chain-walk-requires-clause-walked g c =
-    let k = c.args.seat.now.knows in
-    let k' = c.look-next.new.seat.knows in
     let e = c.args.epoch.now in
-    let follows = c.look-next.ensures.1 in
-    let looks = looks_at_head k k' (e.number % 2) c.chain_of-chain.result c.look-next.result c.show_invariant.ensures follows in
-    let chain = c.chain_of-chain.ensures ∙ ap (λ (z : Layout). c.args.key % z.chains) (sym c.requires.of.1 ∙ sym looks.reads.seat.layout) in
-    let trail = subst (λ (n : ℕ). IsTrail k' e.number n c.look-next.result) chain (follows.walks e.number c.requires.may.walked refl) in
-    let may : MaySearch k e.number e.first e.until = record { held = c.requires.may.walked; begins = c.requires.may.begins; begun = c.requires.begun; settled = c.requires.may.settled } in
-    walked_nothing k k' e.number e.first e.until c.args.key c.look-next.result may looks trail
+    let head = (goal.at.walk_chain-walk-requires-clause-walked g c).After-look-next in
+    walked_nothing c.args.seat.now.knows c.look-next.new.seat.knows e.number e.first e.until c.args.key c.look-next.result (may_search g head) (looks g head)
+    (trail g head)
 
 pub returns-in-Ok-clause-looks : goal.returns-in-Ok-clause-looks
 returns-in-Ok-clause-looks g c =
@@ -40,7 +48,9 @@ returns-in-Ok-clause-looks g c =
     looks_trans k k2 c.newest_listed.new.seat.knows (looks_trans k k1 k2 first c.walk_chain-walk.ensures.looks) c.newest_listed.ensures.looks.looks
 
 pub walk_chain-requires-clause-chain : goal.walk_chain-requires-clause-chain
-walk_chain-requires-clause-chain g c = chain_stays c.walk_chain-walk.new.seat.knows c.newest_listed.new.seat.knows c.args.epoch.now.first c.walk_chain-walk.result.next c.newest_listed.ensures.looks c.walk_chain-walk.ensures.chain
+walk_chain-requires-clause-chain g c =
+    chain_stays c.walk_chain-walk.new.seat.knows c.newest_listed.new.seat.knows c.args.epoch.now.first c.walk_chain-walk.result.next
+    c.newest_listed.ensures.looks c.walk_chain-walk.ensures.chain
 
 pub returns-clause-looks : goal.returns-clause-looks
 returns-clause-looks g c =
@@ -65,6 +75,8 @@ returns-clause-newest g c =
     let before = looks_trans k k2 k3 (looks_trans k k1 k2 first c.walk_chain-walk.ensures.looks) c.newest_listed.ensures.looks.looks in
     let chain = chain_stays k2 k3 e.first c.walk_chain-walk.result.next c.newest_listed.ensures.looks c.walk_chain-walk.ensures.chain in
     let cells : c.args.words.now.layout.cells ≡ k3.layout.cells = sym (ap (λ (z : Layout). z.cells) c.newest_listed.ensures.of.1) in
-    let short : length k3.trail ≤ c.cells.result = let few = chain_short k3 e.first c.walk_chain-walk.result.next chain in let all = c.cells.ensures in omega arith in
-    let walked = subst (λ (key : ℕ). IsWalked k3.past k3.layout.cells e.first key e.until best k4.trail) c.walk_chain-walk.ensures.key c.walk_chain.ensures.walked in
+    let short : length k3.trail ≤ c.cells.result = let few = chain_short k3 e.first c.walk_chain-walk.result.next chain in let all = c.cells.ensures in
+    omega arith in
+    let walked = subst (λ (key : ℕ). IsWalked k3.past k3.layout.cells e.first key e.until best k4.trail) c.walk_chain-walk.ensures.key
+    c.walk_chain.ensures.walked in
     walked_all k k3 k4 e.first c.args.key e.until best before (c.walk_chain.ensures.ended short) walked

@@ -29,7 +29,8 @@ loop-preserved g c =
     let cells = ap (λ (z : Layout). z.cells) same.reads.seat.layout in
     let time = its_time k first c.loop.walk.next t f.1 on f.2 in
     let chosen : c.better-walk.result ≡ better best t until (is_hit k0.past key t) =
-    c.better-walk.ensures.better ∙ ap (λ (n : ℕ). better best n until (is_hit k.past key n)) time ∙ ap (λ (slots : List Slot). better best t until (is_hit slots key t)) same.past in
+    c.better-walk.ensures.better ∙ ap (λ (n : ℕ). better best n until (is_hit k.past key n)) time
+    ∙ ap (λ (slots : List Slot). better best t until (is_hit slots key t)) same.past in
     let walked = walked_on k0.past k0.layout.cells first key until best t f.1 bounds.0 (let a = bounds.1 in omega arith)
     (subst (IsWalked k0.past k0.layout.cells first key until best) f.2 c.loop.invariant.walked) in
     record {
@@ -37,7 +38,8 @@ loop-preserved g c =
       looks = looks_trans k0 k1 k2 looks c.next_of.ensures.looks;
       key = c.loop.invariant.key;
       chain = goes.0;
-      short = λ few. let a = c.loop.invariant.short few in let b = ap (λ (l : List ℕ). length l) f.2 in let d = ap (λ (l : List ℕ). length l) goes.1 in omega arith;
+      short = λ few. let a = c.loop.invariant.short few in let b = ap (λ (l : List ℕ). length l) f.2 in let d = ap (λ (l : List ℕ). length l) goes.1 in
+          omega arith;
       walked = subst (λ o. IsWalked k0.past k0.layout.cells first key until o k2.trail) (sym chosen)
           (subst (IsWalked k0.past k0.layout.cells first key until (better best t until (is_hit k0.past key t))) (sym goes.1) walked);
     }

@@ -21,7 +21,8 @@ loop-look-preserved g c =
     record {
       of = c.is_decided-in-loop-look.ensures.of;
       keeps = reads_trans k1 k2 k3 inv.keeps c.is_decided-in-loop-look.ensures.keeps;
-      waits = c.is_decided-in-loop-look.ensures.again c.loop-look.look (subst (λ (z : Layout). c.loop-look.look < z.patience) (sym inv.of.1) under) inv.waits c.if-is_decided-2.false;
+      waits = c.is_decided-in-loop-look.ensures.again c.loop-look.look
+          (subst (λ (z : Layout). c.loop-look.look < z.patience) (sym inv.of.1) under) inv.waits c.if-is_decided-2.false;
     }
 
 pub returns-clause-keeps : goal.returns-clause-keeps

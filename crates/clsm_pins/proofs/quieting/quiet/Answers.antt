@@ -13,7 +13,11 @@ returns-clause-released g c quiet =
     let seat = c.args.seat in
     let seen = reader_by (reader_at m.readers seat) c.look_as_merger-word.result in
     let follows = c.look_as_merger-word.ensures.1 in
-    let readers : new.readers ≡ set m.readers seat seen = ap (λ (n : MergerView). n.readers) follows.view ∙ ap (λ b. cond b (set m.readers seat seen) m.readers) c.requires.retired in
-    let inside : seat < length m.readers = let long = ap (λ (l : List Reader). length l) readers ∙ length-set m.readers seat seen in let count = follows.sound.seats in let same = follows.layout in let few = c.requires.inside in let z = ap (λ z. z.seats) same in omega arith in
-    let is : reader_at new.readers seat ≡ c.noted.result = ap (λ (l : List Reader). reader_at l seat) readers ∙ get_or-set_same m.readers seat seen unseen inside ∙ ap (λ (r : Reader). reader_by r c.look_as_merger-word.result) (sym c.requires.seen) ∙ sym c.noted.ensures.noted in
+    let readers : new.readers ≡ set m.readers seat seen = ap (λ (n : MergerView). n.readers) follows.view
+    ∙ ap (λ b. cond b (set m.readers seat seen) m.readers) c.requires.retired in
+    let inside : seat < length m.readers = let long = ap (λ (l : List Reader). length l) readers ∙ length-set m.readers seat seen in let count =
+    follows.sound.seats in let same = follows.layout in let few = c.requires.inside in let z = ap (λ z. z.seats) same in omega arith in
+    let is : reader_at new.readers seat ≡ c.noted.result = ap (λ (l : List Reader). reader_at l seat) readers
+    ∙ get_or-set_same m.readers seat seen unseen inside ∙ ap (λ (r : Reader). reader_by r c.look_as_merger-word.result) (sym c.requires.seen)
+    ∙ sym c.noted.ensures.noted in
     released new seat (ap (λ (r : Reader). r.quiet) is ∙ quiet)

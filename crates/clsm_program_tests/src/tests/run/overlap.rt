@@ -56,7 +56,7 @@ impl Pace for Turns<'_> {
     }
 }
 
-/// Answers another value to the first get, which is none that any call wrote. Answers its index.
+/// Changes the first get's answer to a value that no call wrote, and answers its index.
 fn alter_first_get(rt: &impl Abort, records: &mut [CallRecord]) -> usize {
     let other = Value::new(&[1 << 40; 8]).expect(rt, "eight words");
     let found = records

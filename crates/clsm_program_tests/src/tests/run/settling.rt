@@ -1,5 +1,5 @@
 //! The seats of a run's workers settle, and their records are audited.
-ghost use Rattle.clsm_calls.specs.Seats.{AreNew, IsNewMerger};
+ghost use Rattle.clsm_store_calls.specs.Seats.{AreNew, IsNewMerger};
 
 use super::*;
 use clsm_run::{Board, Gathered, gather, work_merging};
@@ -46,7 +46,7 @@ fn settle<R: Abort + Threads + Sync + Clock + Wait>(
     (records.len(), audit(alloc, config, &records))
 }
 
-/// A million calls, batches among them, those apart that find no room before the next merge.
+/// A million calls, batches among them, except those that find no room before the next merge.
 #[test]
 fn settled_seats_are_audited(rt: HostRuntime) -> Result<(), Fail> {
     let alloc = rt.alloc();

@@ -16,7 +16,8 @@ pub returns-clause-audited : goal.returns-clause-audited
 returns-clause-audited g c =
     let done : AreWorked c.args.opened.seats.items c.in_ok-worked.worked.items = search rules in
     record {
-      seats_are = are_seats c.args.opened.store c.args.config.now.seats c.args.opened.seats.items c.requires.seats c.in_ok-worked.worked.items done c.in_ok-seats.field-0.seats.items c.in_ok-seats.ensures.seats;
+      seats_are = are_seats c.args.opened.store c.args.config.now.seats c.args.opened.seats.items c.requires.seats c.in_ok-worked.worked.items done
+          c.in_ok-seats.field-0.seats.items c.in_ok-seats.ensures.seats;
       records_are = c.in_ok-seats.ensures.records;
       verdict_is = search rules;
     }

@@ -13,6 +13,7 @@ loop-one-preserved c =
     let took = c.in_ok-take.ensures in
     record {
       seats = gathers _ _ c.in-Some.one _ c.next.new.self.rest.items _ took.seats is inv.seats;
-      records = gathers_calls _ _ _ _ c.in-Some.one took.seats took.records inv.records (All-head (λ (w : Worked). w.seat.calls ≡ w.records.items) c.in-Some.one c.next.new.self.rest.items told);
+      records = gathers_calls _ _ _ _ c.in-Some.one took.seats took.records inv.records
+          (All-head (λ (w : Worked). w.seat.calls ≡ w.records.items) c.in-Some.one c.next.new.self.rest.items told);
       told = All-tail (λ (w : Worked). w.seat.calls ≡ w.records.items) c.in-Some.one c.next.new.self.rest.items told;
     }

@@ -13,10 +13,11 @@ loop-span-preserved-in-Before g c =
     let k = c.args.seat.now.knows in
     let now = c.loop-span.seat.knows in
     let at = c.next-at.result in
-    let place = c.args.place in
+    let place = c.args.run.place in
     let before = c.loop-span.invariant.span in
-    let side = side_stays k now c.args.component place at c.args.key c.args.until (Before c.in-Before.found) c.loop-span.invariant.looks.looks c.requires.run c.in-Before.ensures.side in
-    let run = (run_there k c.args.component place c.show_invariant.ensures c.requires.run).order in
+    let side = side_stays k now c.args.run.component place at c.args.key c.args.until
+    (Before c.in-Before.found) c.loop-span.invariant.looks.looks c.requires.run c.in-Before.ensures.side in
+    let run = (run_there k c.args.run.component place c.show_invariant.ensures c.requires.run).order in
     record {
       of = c.compare.ensures.of;
       looks = aside_trans k now c.compare.new.seat.knows c.loop-span.invariant.looks c.compare.ensures.looks;
@@ -33,10 +34,11 @@ loop-span-preserved g c =
     let k = c.args.seat.now.knows in
     let now = c.loop-span.seat.knows in
     let at = c.next-at.result in
-    let place = c.args.place in
+    let place = c.args.run.place in
     let before = c.loop-span.invariant.span in
-    let side = side_stays k now c.args.component place at c.args.key c.args.until (Behind c.in-Behind.found) c.loop-span.invariant.looks.looks c.requires.run c.in-Behind.ensures.side in
-    let run = run_of_all k place (run_there k c.args.component place c.show_invariant.ensures c.requires.run).order in
+    let side = side_stays k now c.args.run.component place at c.args.key c.args.until
+    (Behind c.in-Behind.found) c.loop-span.invariant.looks.looks c.requires.run c.in-Behind.ensures.side in
+    let run = run_of_all k place (run_there k c.args.run.component place c.show_invariant.ensures c.requires.run).order in
     record {
       of = c.compare.ensures.of;
       looks = aside_trans k now c.compare.new.seat.knows c.loop-span.invariant.looks c.compare.ensures.looks;
@@ -51,4 +53,5 @@ loop-span-preserved g c =
 pub returns-clause-found : goal.returns-clause-found
 returns-clause-found g c =
     let span = c.loop-span.invariant.span in
-    position_at c.args.seat.now.knows c.args.place c.args.key c.args.until c.loop-span.span.low c.loop-span.span.high c.loop-span.span.hit (omega arith) span.stands span.at_high
+    position_at c.args.seat.now.knows c.args.run.place c.args.key c.args.until c.loop-span.span.low c.loop-span.span.high c.loop-span.span.hit
+    (omega arith) span.stands span.at_high

@@ -8,7 +8,7 @@ abbrev pub invariant-loop-span : goal.invariant-loop-span
 invariant-loop-span g l = record {
   of : IsSeatOf l.words l.seat;
   looks : LooksAside l.fn.seat.knows l.seat.knows;
-  span : IsSpan l.fn.seat.knows l.place l.key l.until l.span;
+  span : IsSpan l.fn.seat.knows l.run.place l.key l.until l.span;
 }
 
 abbrev pub decreases-loop-span : goal.decreases-loop-span

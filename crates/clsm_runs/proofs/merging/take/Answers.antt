@@ -10,7 +10,8 @@ use Rattle.clsm_runs.proofs.merging.take.Goals as goal
 
 pub returns-then-output-clause-full : goal.returns-then-output-clause-full
 returns-then-output-clause-full g c e rest all taken before =
-    let more = more_to_keep c.args.merger.now.knows c.args.output.now e rest all c.judge-is_kept.result.0 c.judge-is_kept.result.1 (λ rest. c.judge-is_kept.ensures e rest taken.version) before c.if-not-is_kept.false in
+    let more = more_to_keep c.args.merger.now.knows c.args.output.now e rest all c.judge-is_kept.result.0 c.judge-is_kept.result.1
+    (λ rest. c.judge-is_kept.ensures e rest taken.version) before c.if-not-is_kept.false in
     let full = c.if-output.true in omega arith
 
 pub returns-clause-goes_on : goal.returns-clause-goes_on

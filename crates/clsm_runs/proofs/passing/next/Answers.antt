@@ -15,12 +15,12 @@ pub loop-position-preserved-then-key-from : goal.loop-position-preserved-then-ke
 loop-position-preserved-then-key-from g c =
     let k = c.args.seat.now.knows in
     let now = c.loop-position.seat.knows in
-    let place = c.args.place in
+    let place = c.args.run.place in
     let at = c.loop-position.position in
     let before = c.loop-position.invariant in
-    let run : IsSearchable k c.args.component place =
+    let run : IsSearchable k c.args.run.component place =
     record { held = c.requires.held; named = c.requires.named } in
-    let same = place_stays k now c.args.component place before.looks.looks run in
+    let same = place_stays k now c.args.run.component place before.looks.looks run in
     let key = c.part-key.ensures.told ∙ same.words at 0 in
     let less : (entry_in (row_of k) place at).key < c.args.from = omega (arith, key) in
     record {
@@ -33,14 +33,14 @@ pub loop-position-preserved : goal.loop-position-preserved
 loop-position-preserved g c =
     let k = c.args.seat.now.knows in
     let now = c.part-key.new.seat.knows in
-    let place = c.args.place in
+    let place = c.args.run.place in
     let at = c.loop-position.position in
     let before = c.loop-position.invariant in
-    let run : IsSearchable k c.args.component place =
+    let run : IsSearchable k c.args.run.component place =
     record { held = c.requires.held; named = c.requires.named } in
     let old = c.loop-position.seat.knows in
     let looks = aside_trans k old now before.looks c.part-key.ensures.looks in
-    let same = place_stays k now c.args.component place looks.looks run in
+    let same = place_stays k now c.args.run.component place looks.looks run in
     let spelled = c.part-spelled.ensures.told ∙ same.words at 1 in
     let late : c.args.until ≤ (entry_in (row_of k) place at).time = omega (arith, spelled) in
     record {
@@ -55,8 +55,8 @@ returns-then-spelled-until g c =
     let old = c.loop-position.seat.knows in
     let first = c.part-key.new.seat.knows in
     let second = c.part-spelled.new.seat.knows in
-    let component = c.args.component in
-    let place = c.args.place in
+    let component = c.args.run.component in
+    let place = c.args.run.place in
     let until = c.args.until in
     let from = c.args.from in
     let at = c.loop-position.position in

@@ -11,7 +11,8 @@ next_write-head-requires-clause-going g c = (drop c.args.position (epoch_row c.a
 pub returns-clause-head : goal.returns-clause-head
 returns-clause-head g c =
     let k = c.args.merger.now.knows in
-    yields_first c.next_write-head.new.merger.knows c.next_write-head.new.walk (drop c.args.position (epoch_row k)) c.next_write-head.result (c.next_write-head.ensures.next (drop c.args.position (epoch_row k)) c.requires.walked)
+    yields_first c.next_write-head.new.merger.knows c.next_write-head.new.walk (drop c.args.position (epoch_row k)) c.next_write-head.result
+    (c.next_write-head.ensures.next (drop c.args.position (epoch_row k)) c.requires.walked)
 
 pub returns-clause-walked : goal.returns-clause-walked
 returns-clause-walked g c =

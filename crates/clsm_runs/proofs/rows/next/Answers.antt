@@ -22,7 +22,8 @@ returns-clause-next g c =
     let at = (cursor_at cursors row).position in
     let head = head_entry (drop at (row_at rows row)) c.in-Some.version (sym (c.requires.heads row least.0) ∙ least.1) in (
       head.0,
-      picks rows cursors row head.0 c.cursor_to.result (let long = c.requires.long in omega arith) c.requires.sources.rise c.requires.heads head.1 (subst (IsLeast cursors (length cursors) row) (sym head.2) least) c.cursor_to.ensures.position,
+      picks rows cursors row head.0 c.cursor_to.result (let long = c.requires.long in omega arith) c.requires.sources.rise c.requires.heads head.1
+          (subst (IsLeast cursors (length cursors) row) (sym head.2) least) c.cursor_to.ensures.position,
       record { stands = head.1; version = head.2 },
       every_first (λ (x : Entry). x.time < 2 ^ 62) (row_at rows row) at head.0 (every_row (AreBelow (2 ^ 62)) rows row tt c.requires.sources.early) head.1,
       let long = c.requires.long in let inside = least.0 in omega arith,

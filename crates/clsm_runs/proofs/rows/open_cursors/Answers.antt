@@ -22,9 +22,18 @@ loop-row-preserved g c =
       of = c.run_cursor.ensures.of;
       looks = changes_trans NoWord k k' c.run_cursor.new.merger.knows c.loop-row.invariant.looks c.run_cursor.ensures.looks;
       some = omega arith;
-      walked = walked_on NoWord k' c.run_cursor.new.merger.knows c.epoch_cursor-first.new.walk 1 c.run_cursor.ensures.looks c.show_invariant-in-loop-row.ensures c.loop-row.invariant.walked;
+      walked = walked_on NoWord k' c.run_cursor.new.merger.knows c.epoch_cursor-first.new.walk 1 c.run_cursor.ensures.looks
+          c.show_invariant-in-loop-row.ensures c.loop-row.invariant.walked;
       long = length-set c.loop-row.cursors i new ∙ c.loop-row.invariant.long;
-      opened = at_set (λ (j : ℕ) (x : Cursor). j < i + 1 → (x.head ≡ version_in (first_of (drop x.position (row_at rows j)))) × (x.position ≡ 0)) c.loop-row.cursors i new (let long = c.loop-row.invariant.long in omega arith)
-          (λ _. (c.run_cursor.ensures.head ∙ ap (λ (l : List (List Entry)). version_in (first_of (row_at l i))) (rows_looked k k' c.args.merges c.show_invariant.ensures c.requires.merging c.loop-row.invariant.looks) ∙ ap (λ (n : ℕ). version_in (first_of (drop n (row_at rows i)))) (sym c.run_cursor.ensures.position), c.run_cursor.ensures.position))
+      opened = at_set (λ (j : ℕ) (x : Cursor). j < i + 1
+          → (x.head ≡ version_in (first_of (drop x.position (row_at rows j)))) × (x.position ≡ 0)) c.loop-row.cursors i new
+          (let long = c.loop-row.invariant.long in omega arith)
+          (λ _. (
+            c.run_cursor.ensures.head
+                ∙ ap (λ (l : List (List Entry)). version_in (first_of (row_at l i)))
+                (rows_looked k k' c.args.merges c.show_invariant.ensures c.requires.merging c.loop-row.invariant.looks)
+                ∙ ap (λ (n : ℕ). version_in (first_of (drop n (row_at rows i)))) (sym c.run_cursor.ensures.position),
+            c.run_cursor.ensures.position,
+          ))
           (λ j ne lt. c.loop-row.invariant.opened j (omega arith));
     }

@@ -14,5 +14,7 @@ invariant-loop-row g l = record {
   long : length l.cursors ≡ 5;
   some : 1 ≤ l.row;
   walked : IsWalkedTo l.merger.knows l.walk 1;
-  opened : (j : ℕ) → j < l.row → ((cursor_at l.cursors j).head ≡ version_in (first_of (drop (cursor_at l.cursors j).position (row_at (rows_of l.fn.merger.knows) j)))) × ((cursor_at l.cursors j).position ≡ 0);
+  opened : (j : ℕ) → j < l.row
+      → ((cursor_at l.cursors j).head ≡ version_in (first_of (drop (cursor_at l.cursors j).position (row_at (rows_of l.fn.merger.knows) j))))
+      × ((cursor_at l.cursors j).position ≡ 0);
 }

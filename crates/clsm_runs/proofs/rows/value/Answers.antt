@@ -7,19 +7,30 @@ use Rattle.clsm_runs.proofs.rows.value.Goals as goal
 
 pub frozen_value-requires-clause-written : goal.frozen_value-requires-clause-written
 frozen_value-requires-clause-written g c =
-    let there = c.requires.there in
-    (there.0, taken_written c.args.merger.now.knows c.args.winner.now there.0 there.1 c.args.merges c.show_invariant.ensures c.requires.merging c.if-winner-eq0.true, there.1.version)
+    let there = c.requires.there in (
+      there.0,
+      taken_written c.args.merger.now.knows c.args.winner.now there.0 there.1 c.args.merges c.show_invariant.ensures c.requires.merging
+          c.if-winner-eq0.true,
+      there.1.version,
+    )
 
 pub returns-then-winner-eq0-clause-told : goal.returns-then-winner-eq0-clause-told
 returns-then-winner-eq0-clause-told g c = λ e taken.
-    c.frozen_value.ensures.told e (taken_written c.args.merger.now.knows c.args.winner.now e taken c.args.merges c.show_invariant.ensures c.requires.merging c.if-winner-eq0.true) taken.version
+    c.frozen_value.ensures.told e
+    (taken_written c.args.merger.now.knows c.args.winner.now e taken c.args.merges c.show_invariant.ensures c.requires.merging c.if-winner-eq0.true)
+    taken.version
 
 pub value-requires-clause-has : goal.value-requires-clause-has
 value-requires-clause-has g c =
     let k = c.args.merger.now.knows in
     let there = c.requires.there in
     let place = c.in_ok-place.ensures.place k c.requires.merging.merged in
-    record { frozen = c.requires.merging.frozen; free = c.requires.merging.free; named = place.1; inside = (taken_of_run k c.args.winner.now there.0 there.1 c.in_ok-place.place place.0).0 }
+    record {
+      frozen = c.requires.merging.frozen;
+      free = c.requires.merging.free;
+      named = place.1;
+      inside = (taken_of_run k c.args.winner.now there.0 there.1 c.in_ok-place.place place.0).0;
+    }
 
 pub value-requires-clause-removes : goal.value-requires-clause-removes
 value-requires-clause-removes g c =

@@ -12,21 +12,31 @@ pub returns-in-Some-clause-found : goal.returns-in-Some-clause-found
 returns-in-Some-clause-found g c =
     let k = c.args.seat.now.knows in
     let place = c.loop-place.place - 1 in
-    let run : IsSearchable k c.args.component place = record { held = c.requires.held; named = names_zero c.args.component place (let left = c.loop-place.invariant.left in omega arith) } in
-    let found = found_stays k c.loop-place.seat.knows c.args.component place c.args.key c.args.until (Some c.in-Some.entry) c.loop-place.invariant.looks.looks run c.in-Some.ensures.found in
-    found_here (row_of k) c.args.component c.args.key c.args.until c.loop-place.place (runs_of (row_of k) c.args.component) c.loop-place.invariant.searched c.in-Some.entry (omega arith) found
+    let run : IsSearchable k c.args.component place = record {
+      held = c.requires.held;
+      named = names_zero c.args.component place (let left = c.loop-place.invariant.left in omega arith);
+    } in
+    let found = found_stays k c.loop-place.seat.knows c.args.component place c.args.key c.args.until
+    (Some c.in-Some.entry) c.loop-place.invariant.looks.looks run c.in-Some.ensures.found in
+    found_here (row_of k) c.args.component c.args.key c.args.until c.loop-place.place
+    (runs_of (row_of k) c.args.component) c.loop-place.invariant.searched c.in-Some.entry (omega arith) found
 
 pub loop-place-preserved : goal.loop-place-preserved
 loop-place-preserved g c =
     let k = c.args.seat.now.knows in
     let place = c.loop-place.place - 1 in
-    let run : IsSearchable k c.args.component place = record { held = c.requires.held; named = names_zero c.args.component place (let left = c.loop-place.invariant.left in omega arith) } in
-    let found = found_stays k c.loop-place.seat.knows c.args.component place c.args.key c.args.until None c.loop-place.invariant.looks.looks run c.in_default.ensures.found in
+    let run : IsSearchable k c.args.component place = record {
+      held = c.requires.held;
+      named = names_zero c.args.component place (let left = c.loop-place.invariant.left in omega arith);
+    } in
+    let found = found_stays k c.loop-place.seat.knows c.args.component place c.args.key c.args.until None c.loop-place.invariant.looks.looks run
+    c.in_default.ensures.found in
     record {
       of = c.find.ensures.of;
       looks = aside_trans k c.loop-place.seat.knows c.find.new.seat.knows c.loop-place.invariant.looks c.find.ensures.looks;
       left = let left = c.loop-place.invariant.left in omega arith;
-      searched = found_behind (row_of k) c.args.component c.args.key c.args.until c.loop-place.place (runs_of (row_of k) c.args.component) c.loop-place.invariant.searched (omega arith) found;
+      searched = found_behind (row_of k) c.args.component c.args.key c.args.until c.loop-place.place
+          (runs_of (row_of k) c.args.component) c.loop-place.invariant.searched (omega arith) found;
     }
 
 pub returns-clause-found : goal.returns-clause-found
@@ -34,5 +44,7 @@ returns-clause-found g c =
     let k = c.args.seat.now.knows in
     let place = 3 + c.args.component / 4 % 2 in
     let run : IsSearchable k c.args.component place = record { held = c.requires.held; named = names_one c.args.component } in
-    let found = found_stays k c.loop-place.seat.knows c.args.component place c.args.key c.args.until c.find-2.result c.loop-place.invariant.looks.looks run (rw c.level_one_place-place.ensures at c.find-2.ensures.found) in
-    found_last (row_of k) c.args.component c.args.key c.args.until c.loop-place.place (runs_of (row_of k) c.args.component) c.loop-place.invariant.searched c.find-2.result (omega arith) found
+    let found = found_stays k c.loop-place.seat.knows c.args.component place c.args.key c.args.until c.find-2.result c.loop-place.invariant.looks.looks run
+    (rw c.level_one_place-place.ensures at c.find-2.ensures.found) in
+    found_last (row_of k) c.args.component c.args.key c.args.until c.loop-place.place
+    (runs_of (row_of k) c.args.component) c.loop-place.invariant.searched c.find-2.result (omega arith) found

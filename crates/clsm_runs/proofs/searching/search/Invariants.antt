@@ -12,5 +12,6 @@ invariant-loop-place g l = record {
   of : IsSeatOf l.words l.seat;
   looks : LooksAside l.fn.seat.knows l.seat.knows;
   left : l.place ≤ l.component % 4;
-  searched : first_in_runs (runs_of (row_of l.fn.seat.knows) l.component) l.key l.until ≡ first_in_runs (runs_below (row_of l.fn.seat.knows) l.component l.place) l.key l.until;
+  searched : first_in_runs (runs_of (row_of l.fn.seat.knows) l.component) l.key l.until
+      ≡ first_in_runs (runs_below (row_of l.fn.seat.knows) l.component l.place) l.key l.until;
 }

@@ -9,6 +9,6 @@ use Rattle.clsm_runs.proofs.writing.write_words.Given as goal
 abbrev pub invariant-loop-index : goal.invariant-loop-index
 invariant-loop-index g l = record {
   of : IsSeatOf l.words l.merger;
-  changes : Changes (IsOfEntry l.place l.entry) l.fn.merger.knows l.merger.knows;
-  made : (j : ℕ) → j < l.index → row_of l.merger.knows (EntryWord l.place l.entry (3 + j)) ≡ get_or l.value j 0;
+  changes : Changes (IsOfEntry l.at.place l.at.entry) l.fn.merger.knows l.merger.knows;
+  made : (j : ℕ) → j < l.index → row_of l.merger.knows (EntryWord l.at.place l.at.entry (3 + j)) ≡ get_or l.value j 0;
 }

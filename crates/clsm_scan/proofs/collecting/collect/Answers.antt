@@ -1,11 +1,13 @@
-use Rattle.std.proofs.Common.{rules, ◌≡◌, ℕ, ◌+◌, ◌≤◌, ◌<◌, Some, None, length, true, sym, ap, ◌∙◌, refl, subst, arith, [], ◌∷◌, ◌++◌, List, inl, inr}
+use Rattle.std.proofs.Common.{rules, ◌≡◌, ℕ, ◌+◌, ◌≤◌, ◌<◌, Some, None, Option, length, true, sym, ap, ◌∙◌, refl, subst, arith, [], ◌∷◌, ◌++◌, List, inl, inr}
 use Rattle.std.proofs.lemmas.Bool.{cases_lt}
 use Rattle.clsm_model.specs.Map.{Pair, value_at}
 use Rattle.clsm_levels.specs.Entry.{value_of}
 use Rattle.clsm_words.proofs.Keeps.{aside_trans}
-use Rattle.clsm_scan.specs.Collected.{AreAll, AreRowsTo, IsAtMost, is_full, left_at}
+use Rattle.clsm_scan.specs.Collected.{AreAll, AreRowsTo, IsAtMost, IsNextRow, is_full, left_at}
 use Rattle.clsm_scan.proofs.Rows.{beyond_pushed, just_full, next_row_same, none_at_most, most_pushed, rows_ended, rows_none, rows_stopped, rows_taken}
+use Rattle.clsm_scan.proofs.collecting.collect.Given.{Over}
 use Rattle.clsm_scan.proofs.collecting.collect.Goals as goal
+use Rattle.clsm_scan.proofs.collecting.collect.Goals.{After-checked_add}
 
 pub loop-key-init : goal.loop-key-init
 loop-key-init g c =
@@ -31,54 +33,70 @@ returns-then-is_full-clause-rows g c =
     let old = c.loop-key.rows.items in
     let here = c.in-Some.ensures.next in
     let next = next_row_same value value' c.loop-key.from c.args.hi (Some (c.in-Some.key, here.words)) (λ k. ap value_of (before.same k)) here.next in
-    let full : is_full c.args.max (length old) ≡ true = ap (is_full c.args.max) (sym (c.len.ensures ∙ c.loop-key.rows.ok.0)) ∙ sym c.is_full.ensures ∙ c.if-is_full.true in
-    rows_stopped value c.args.lo c.loop-key.from c.args.hi c.args.max old (c.in-Some.key, here.words) before.rows before.later next (just_full c.args.max (length old) full before.most)
+    let full : is_full c.args.max (length old) ≡ true = ap (is_full c.args.max) (sym (c.len.ensures ∙ c.loop-key.rows.ok.0)) ∙ sym c.is_full.ensures
+    ∙ c.if-is_full.true in
+    rows_stopped value c.args.lo c.loop-key.from c.args.hi c.args.max old (c.in-Some.key, here.words) before.rows before.later next
+    (just_full c.args.max (length old) full before.most)
+
+-- ---- a turn that puts a row
+
+abbrev value : (g : Over) → After-checked_add g → ℕ → Option (List ℕ)
+value g c = left_at (g.C.Cursor.found c.args.seat.now.knows c.args.cursor.now)
+
+abbrev row : (g : Over) → After-checked_add g → Pair
+row g c = (c.in-Some.key, c.in-Some.ensures.next.words)
+
+put : (g : Over) (c : After-checked_add g) → c.push.new.rows.items ≡ c.loop-key.rows.items ++ row g c ∷ []
+put g c = c.in_ok-push.ensures.rows ∙ ap (λ (l : List Pair). c.loop-key.rows.items ++ l) c.in-Some.ensures.next.is
+
+most : (g : Over) (c : After-checked_add g) → IsAtMost (length c.push.new.rows.items) c.args.max
+most g c =
+    let old = c.loop-key.rows.items in
+    let room = ap (is_full c.args.max) (sym (c.len.ensures ∙ c.loop-key.rows.ok.0)) ∙ sym c.is_full.ensures ∙ c.if-is_full.false in
+    most_pushed c.args.max old c.push.new.rows.items (row g c) (put g c) room
+
+next : (g : Over) (c : After-checked_add g) → IsNextRow (value g c) c.loop-key.from c.args.hi (Some (row g c))
+next g c =
+    let now = left_at (g.C.Cursor.found c.loop-key.seat.knows c.loop-key.cursor) in
+    next_row_same (value g c) now c.loop-key.from c.args.hi (Some (row g c)) (λ k. ap value_of (c.loop-key.invariant.same k)) c.in-Some.ensures.next.next
 
 pub returns-in_default-checked_add-clause-rows : goal.returns-in_default-checked_add-clause-rows
 returns-in_default-checked_add-clause-rows g c =
-    let value = left_at (g.C.Cursor.found c.args.seat.now.knows c.args.cursor.now) in
-    let value' = left_at (g.C.Cursor.found c.loop-key.seat.knows c.loop-key.cursor) in
+    let turn = (goal.at.returns-in_default-checked_add-clause-rows g c).After-checked_add in
     let before = c.loop-key.invariant in
-    let old = c.loop-key.rows.items in
-    let here = c.in-Some.ensures.next in
-    let row : Pair = (c.in-Some.key, here.words) in
-    let put : c.push.new.rows.items ≡ old ++ row ∷ [] = c.in_ok-push.ensures.rows ∙ ap (λ (l : List Pair). old ++ l) here.is in
-    let most = most_pushed c.args.max old c.push.new.rows.items row put (ap (is_full c.args.max) (sym (c.len.ensures ∙ c.loop-key.rows.ok.0)) ∙ sym c.is_full.ensures ∙ c.if-is_full.false) in
-    let next = next_row_same value value' c.loop-key.from c.args.hi (Some row) (λ k. ap value_of (before.same k)) here.next in
     let last : c.args.hi ≤ c.in-Some.key = elim (cases_lt c.in-Some.key c.args.hi) [
       | inl lt ↦ absurd (c.in_default-checked_add.ensures (omega (arith, c.ranges.hi.fits)))
       | inr le ↦ le
     ] in (
-      subst (AreAll value c.args.lo c.args.hi) (sym put) (rows_ended value c.args.lo c.loop-key.from c.args.hi old row before.rows before.later next before.beyond last),
-      most,
+      subst (AreAll (value g turn) c.args.lo c.args.hi) (sym (put g turn))
+          (rows_ended (value g turn) c.args.lo c.loop-key.from c.args.hi c.loop-key.rows.items (row g turn) before.rows before.later
+          (next g turn) before.beyond last),
+      most g turn,
     )
 
 pub loop-key-preserved : goal.loop-key-preserved
 loop-key-preserved g c =
-    let value = left_at (g.C.Cursor.found c.args.seat.now.knows c.args.cursor.now) in
-    let value' = left_at (g.C.Cursor.found c.loop-key.seat.knows c.loop-key.cursor) in
+    let turn = (goal.at.loop-key-preserved g c).After-checked_add in
     let before = c.loop-key.invariant in
     let old = c.loop-key.rows.items in
-    let here = c.in-Some.ensures.next in
-    let row : Pair = (c.in-Some.key, here.words) in
-    let put : c.push.new.rows.items ≡ old ++ row ∷ [] = c.in_ok-push.ensures.rows ∙ ap (λ (l : List Pair). old ++ l) here.is in
-    let most = most_pushed c.args.max old c.push.new.rows.items row put (ap (is_full c.args.max) (sym (c.len.ensures ∙ c.loop-key.rows.ok.0)) ∙ sym c.is_full.ensures ∙ c.if-is_full.false) in
-    let next = next_row_same value value' c.loop-key.from c.args.hi (Some row) (λ k. ap value_of (before.same k)) here.next in
     let behind = sym c.in-Some-checked_add.ensures.1 in
     let k1 = c.next_key.new.seat.knows in
     let k2 = c.push.new.seat.knows in
     let cursor = c.next_key.new.cursor in
+    let row_next = next g turn in
     record {
       of = c.in_ok-push.ensures.of;
-      looks = aside_trans c.args.seat.now.knows k1 k2 (aside_trans c.args.seat.now.knows c.loop-key.seat.knows k1 before.looks c.next_key.ensures.looks) c.push.ensures.looks;
+      looks = aside_trans c.args.seat.now.knows k1 k2
+          (aside_trans c.args.seat.now.knows c.loop-key.seat.knows k1 before.looks c.next_key.ensures.looks) c.push.ensures.looks;
       over = g.met.C.Cursor.over_stays k1 k2 cursor c.push.ensures.looks c.next_key.ensures.over;
       same = λ k. g.met.C.Cursor.found_stays k1 k2 cursor c.push.ensures.looks c.next_key.ensures.over k ∙ c.next_key.ensures.same k ∙ before.same k;
-      stands = subst (g.C.Cursor.stands k2 cursor) behind (g.met.C.Cursor.stands_stays k1 k2 cursor (c.in-Some.key + 1) c.push.ensures.looks c.next_key.ensures.over c.in-Some.ensures.stands);
-      later = let later = next.0 in omega arith;
-      rows = subst (AreRowsTo value c.args.lo c.in-Some-checked_add.behind) (sym put)
-          (subst (λ (end : ℕ). AreRowsTo value c.args.lo end (old ++ row ∷ [])) behind
-          (rows_taken value c.args.lo c.loop-key.from c.args.hi old row before.rows before.later next));
-      beyond = subst (λ (rows : List Pair). (k : ℕ) → c.args.hi < k → value_at rows k ≡ None) (sym put)
-          (beyond_pushed value c.args.lo c.args.hi old row next.1 before.beyond);
-      most = most;
+      stands = subst (g.C.Cursor.stands k2 cursor) behind
+          (g.met.C.Cursor.stands_stays k1 k2 cursor (c.in-Some.key + 1) c.push.ensures.looks c.next_key.ensures.over c.in-Some.ensures.stands);
+      later = let later = row_next.0 in omega arith;
+      rows = subst (AreRowsTo (value g turn) c.args.lo c.in-Some-checked_add.behind) (sym (put g turn))
+          (subst (λ (end : ℕ). AreRowsTo (value g turn) c.args.lo end (old ++ row g turn ∷ [])) behind
+          (rows_taken (value g turn) c.args.lo c.loop-key.from c.args.hi old (row g turn) before.rows before.later row_next));
+      beyond = subst (λ (rows : List Pair). (k : ℕ) → c.args.hi < k → value_at rows k ≡ None) (sym (put g turn))
+          (beyond_pushed (value g turn) c.args.lo c.args.hi old (row g turn) row_next.1 before.beyond);
+      most = most g turn;
     }

@@ -1,4 +1,5 @@
 use Rattle.std.proofs.Common.{◌≡◌, ◌-◌}
+use Rattle.std.specs.Io.Buffered.{reader_remaining}
 use Rattle.clsm_script.specs.Command.{IsCommand}
 use Rattle.clsm_script.specs.Session.{IsSession}
 use Rattle.clsm_store.specs.Phase.{merger_in}
@@ -7,8 +8,8 @@ use Rattle.clsm_script.proofs.playing.play_lines.Given as goal
 
 abbrev pub invariant-loop-number : goal.invariant-loop-number
 invariant-loop-number g l = record {
-  leads : LeadsTo IsCommand (g.R.Read.remaining l.initial.reader) (g.R.Read.remaining l.reader)
-      (l.number - 1);
+  leads : LeadsTo IsCommand (reader_remaining g.R.Read.remaining l.initial.reader)
+      (reader_remaining g.R.Read.remaining l.reader) (l.number - 1);
   session : IsSession l.store l.session;
   merger : (merger_in l.phase).store ≡ l.store;
 }

@@ -1,5 +1,5 @@
 use Rattle.std.proofs.Common.{◌++◌, ◌<◌, List, get_or, length, set, sym, subst, arith}
-use Rattle.clsm_calls.specs.Seats.{SeatState}
+use Rattle.clsm_store_calls.specs.Seats.{SeatState}
 use Rattle.clsm_script.specs.Play.{PairMeets}
 use Rattle.clsm_script.proofs.Pairs.{at_low, at_high, put_low_first, put_high_first}
 use Rattle.clsm_script.proofs.session.meet_pair.Goals as goal

@@ -1,6 +1,6 @@
 use Rattle.std.proofs.Common.{◌≡◌, ◌++◌, All, length}
-use Rattle.clsm_calls.specs.Seats.{AreNew}
-use Rattle.clsm_calls.specs.Resting.{store_of}
+use Rattle.clsm_store_calls.specs.Seats.{AreNew}
+use Rattle.clsm_store_calls.specs.Resting.{store_of}
 use Rattle.clsm_store.proofs.opening.seat_all.Given as goal
 
 abbrev pub invariant-loop-raw : goal.invariant-loop-raw

@@ -1,5 +1,5 @@
 use Rattle.std.proofs.Common.{◌-◌, List, arith}
-use Rattle.clsm_calls.specs.Seats.{SeatState}
+use Rattle.clsm_store_calls.specs.Seats.{SeatState}
 use Rattle.clsm_store.specs.Meetings.{told_by}
 use Rattle.clsm_store.proofs.Chained.{confirm_next, confirm_same}
 use Rattle.clsm_store.proofs.settling.confirm_all.Goals as goal
@@ -14,9 +14,11 @@ loop-place-preserved g c =
     let n = c.len-count.result - 1 in
     let x : SeatState = c.index_mut.result.now in
     let s : SeatState = c.index_mut-in-loop-place.result.now in (
-      confirm_same seats l c.loop-place.invariant.0 n (omega arith) x c.tell-message.new.seat c.index_mut.ensures.value c.tell-message.ensures.seat c.loop-place.place (omega arith) s c.index_mut-in-loop-place.ensures.value
+      confirm_same seats l c.loop-place.invariant.0 n (omega arith) x c.tell-message.new.seat c.index_mut.ensures.value c.tell-message.ensures.seat
+          c.loop-place.place (omega arith) s c.index_mut-in-loop-place.ensures.value
           c.confirm.new.seat c.confirm.ensures.seat,
-      confirm_next seats l c.loop-place.invariant.0 n (omega arith) x c.tell-message.new.seat c.index_mut.ensures.value c.tell-message.ensures.seat c.loop-place.place (omega arith) s c.index_mut-in-loop-place.ensures.value
+      confirm_next seats l c.loop-place.invariant.0 n (omega arith) x c.tell-message.new.seat c.index_mut.ensures.value c.tell-message.ensures.seat
+          c.loop-place.place (omega arith) s c.index_mut-in-loop-place.ensures.value
           (told_by c.tell-message.result) c.tell-message.ensures.told c.confirm.ensures.confirmed c.loop-place.invariant.1,
     )
 

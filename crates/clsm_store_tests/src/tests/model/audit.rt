@@ -45,7 +45,7 @@ const NAMES: &[(FaultKind, &str)] = &[
     (FaultKind::WrongReply, "4 WrongReply at 7, memory"),
 ];
 
-/// Faults by their numbers, and as they are printed beside a want of memory.
+/// Faults by their numbers, and as they are printed beside running out of memory.
 pub(super) fn names(alloc: Global) -> Result<(), Wrong> {
     for row in 0..NAMES.len() {
         let (kind, shown) = NAMES[row];

@@ -1,21 +1,23 @@
-use Rattle.std.proofs.Common.{arith, append-nil}
-use Rattle.std.proofs.KnownBytes.{Consumes-trans}
-use Rattle.clsm_text.proofs.Lines.{line_to_feed, line_to_end, line_cut}
+use Rattle.std.proofs.Common.{arith, subst}
+use Rattle.clsm_text.specs.Input.{TakesPart}
+use Rattle.clsm_text.proofs.Lines.{line_cut}
+use Rattle.clsm_text.proofs.Taken.{taken_some, taken_last, taken_none}
 use Rattle.clsm_text.proofs.input.read_line.Goals as goal
 
-pub returns-in-Some-eq10-clause-takes : goal.returns-in-Some-eq10-clause-takes
-returns-in-Some-eq10-clause-takes g c =
-    let feed = rw (c.in-Some-eq10.is, c.in-Some-eq10.field-0-test) at c.in_ok-next_byte.ensures in
-    line_to_feed _ _ _ (Consumes-trans _ _ _ _ _ c.loop-reader.invariant.1 feed)
-    c.loop-reader.invariant.2 (omega arith)
+pub returns-then-len-gt-LONGEST_LINE-clause-takes :
+    goal.returns-then-len-gt-LONGEST_LINE-clause-takes
+returns-then-len-gt-LONGEST_LINE-clause-takes g c =
+    let part = subst (TakesPart _ _ _ _) c.in-Some.is c.in_ok-take_part.ensures.takes in
+    let (taken, plain) = taken_some _ _ _ _ _ c.loop.invariant.takes c.loop.invariant.no_feed part in
+    line_cut _ _ _ taken plain (omega (arith, c.in_ok-take_part.ensures.bound))
+
+pub returns-in-Last-clause-takes : goal.returns-in-Last-clause-takes
+returns-in-Last-clause-takes g c =
+    taken_last _ _ _ _ _ c.loop.invariant.takes c.loop.invariant.no_feed
+    (subst (TakesPart _ _ _ _) c.in-Last.is c.in_ok-take_part.ensures.takes)
 
 pub returns-in-None-clause-takes : goal.returns-in-None-clause-takes
 returns-in-None-clause-takes g c =
-    let end = rw c.in-None.is at c.in_ok-next_byte.ensures in
-    let taken = Consumes-trans _ _ _ _ _ c.loop-reader.invariant.1 end.0 in
-    line_to_end _ _ _ (rw (append-nil c.loop-reader.line.items) at taken) end.1
-    c.loop-reader.invariant.2 (omega arith)
-
-pub returns-clause-takes : goal.returns-clause-takes
-returns-clause-takes g c =
-    line_cut _ _ _ c.loop-reader.invariant.1 c.loop-reader.invariant.2 (omega arith)
+    taken_none _ _ _ _ _ c.loop.invariant.takes c.loop.invariant.no_feed
+    (subst (TakesPart _ _ _ _) c.in-None.is c.in_ok-take_part.ensures.takes)
+    (omega (arith, c.in_ok-take_part.ensures.bound))

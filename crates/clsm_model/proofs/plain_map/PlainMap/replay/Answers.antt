@@ -6,7 +6,8 @@ use Rattle.clsm_model.proofs.plain_map.PlainMap.replay.Goals as goal
 
 pub loop-slot-preserved : goal.loop-slot-preserved
 loop-slot-preserved c =
-    c.in_ok-apply.ensures.follows _ _ (get_or_default c.args.slots.now _ Nothing c.slot-item.result c.loop-slot-test.true ∙ sym c.slot-item.is) c.loop-slot.invariant
+    c.in_ok-apply.ensures.follows _ _ (get_or_default c.args.slots.now _ Nothing c.slot-item.result c.loop-slot-test.true
+    ∙ sym c.slot-item.is) c.loop-slot.invariant
 
 pub returns-clause-begins : goal.returns-clause-begins
 returns-clause-begins c =

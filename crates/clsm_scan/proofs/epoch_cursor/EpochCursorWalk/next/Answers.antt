@@ -9,4 +9,5 @@ returns-clause-next g c =
     let k' = c.newest_from-self.new.seat.knows in
     let e = c.args.self.now.epoch in
     let spot = c.newest_from-self.result in
-    next_same k k' e c.args.from (spot_entry k' e spot) c.newest_from-self.ensures.looks.looks.past (newest_next k' e c.args.from spot c.newest_from-self.ensures.newest)
+    next_same k k' e c.args.from (spot_entry k' e spot) c.newest_from-self.ensures.looks.looks.past
+    (newest_next k' e c.args.from spot c.newest_from-self.ensures.newest)

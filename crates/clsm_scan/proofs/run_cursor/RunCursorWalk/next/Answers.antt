@@ -9,13 +9,16 @@ use Rattle.clsm_scan.proofs.run_cursor.RunCursorWalk.next.Goals as goal
 pub returns-clause-same : goal.returns-clause-same
 returns-clause-same g c =
     let walk = c.args.self.now in
-    λ k. ap (λ es. first_below es k walk.until) (run_stays c.args.seat.now.knows c.next-self.new.seat.knows walk.component walk.place c.next-self.ensures.looks.looks c.requires.over.0)
+    λ k. ap (λ es. first_below es k walk.until)
+    (run_stays c.args.seat.now.knows c.next-self.new.seat.knows walk.run.component walk.run.place c.next-self.ensures.looks.looks c.requires.over.0)
 
 pub returns-clause-key : goal.returns-clause-key
-returns-clause-key g c = c.key_of.ensures c.next-self.new.seat.knows c.args.self.now.component c.args.self.now.place c.next-self.ensures.passed
+returns-clause-key g c = c.key_of.ensures c.next-self.new.seat.knows c.args.self.now.run.component c.args.self.now.run.place c.next-self.ensures.passed
 
 pub returns-clause-stands : goal.returns-clause-stands
 returns-clause-stands g c =
     let walk = c.args.self.now in
     let k' = c.next-self.new.seat.knows in
-    stands_stays c.args.seat.now.knows k' walk.component walk.place walk.until (behind c.args.from (passed_entry k' walk.place c.next-self.result)) c.next-self.new.position c.next-self.ensures.looks.looks c.requires.over.0 c.next-self.ensures.stands
+    stands_stays c.args.seat.now.knows k' walk.run.component walk.run.place walk.until
+    (behind c.args.from (passed_entry k' walk.run.place c.next-self.result)) c.next-self.new.position c.next-self.ensures.looks.looks c.requires.over.0
+    c.next-self.ensures.stands

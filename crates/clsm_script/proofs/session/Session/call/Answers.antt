@@ -1,7 +1,7 @@
 use Rattle.std.proofs.Common.{◌≡◌, ◌<◌, All, List, IfSome, length, set, refl, sym, subst, ◌∙◌}
 use Rattle.std.specs.Option.{option_to_list}
 use Rattle.std.proofs.Math.Seq.{lt-length-set}
-use Rattle.clsm_calls.specs.Seats.{SeatState}
+use Rattle.clsm_store_calls.specs.Seats.{SeatState}
 use Rattle.clsm_store.specs.Headline.{IsAt}
 use Rattle.clsm_script.specs.Session.{AreRecorded}
 use Rattle.clsm_script.proofs.Sessions.{known_made, recorded_made}

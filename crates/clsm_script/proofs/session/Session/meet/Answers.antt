@@ -1,7 +1,7 @@
 use Rattle.std.proofs.Common.{◌≡◌, ◌<◌, ◌∙◌, All, List, ap, length, refl, sym, subst}
 use Rattle.std.proofs.lemmas.List.{with_items_is}
 use Rattle.std.specs.Vec.{with_items}
-use Rattle.clsm_calls.specs.Seats.{SeatState}
+use Rattle.clsm_store_calls.specs.Seats.{SeatState}
 use Rattle.clsm_script.specs.Play.{PairMeets}
 use Rattle.clsm_script.specs.Session.{AreRecorded}
 use Rattle.clsm_script.proofs.Sessions.{count_met, recorded_met}

@@ -1,7 +1,7 @@
 use Rattle.std.proofs.Common.{◌≡◌, ◌∙◌, ◌++◌, ◌∷◌, [], ap, sym, subst, Option}
 use Rattle.std.specs.Option.{option_to_list}
 use Rattle.clsm_law.specs.declared.view.View.{View}
-use Rattle.clsm_law.specs.Relation.{open_time}
+use Rattle.clsm_law.specs.OpenSteps.{open_time}
 use Rattle.clsm_words.specs.Plays.{AreFreshFrom}
 use Rattle.clsm_words.specs.Seats.{RawState as RawState}
 use Rattle.clsm_store.proofs.Starts.{fresh_at, fresh_rests}

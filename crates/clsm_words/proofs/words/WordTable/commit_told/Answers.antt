@@ -15,6 +15,7 @@ overflow_add-end g c =
     omega arith
 
 pub store-requires : goal.store-requires
-store-requires g c = may_store c.args.self.now c.seat.inside.seat.table_id c.seat.inside.seat.me c.seat.invariant.1 c.args.seat.now c.seat.view_is (Commit c.args.members.now) Clock c.requires.opens refl
+store-requires g c = may_store c.args.self.now c.seat.inside.seat.table_id c.seat.inside.seat.me c.seat.invariant.1 c.args.seat.now c.seat.view_is
+    (Commit c.args.members.now) Clock c.requires.opens refl
     c.seat.inside.seat.id g.E.Told.step c.requires.told c.place-at.result c.place-at.ensures.0 c.place-at.ensures.1 _
     (λ i x. or_zero (c.requires.first i) + length c.args.members.now)

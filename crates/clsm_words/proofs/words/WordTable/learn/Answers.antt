@@ -17,4 +17,5 @@ join_seat-requires c = let m = c.message.invariant in (
 pub invariant_of-to : goal.invariant_of-to
 invariant_of-to c =
     let made = sym (ap (λ m. m.0) c.join_seat.ensures.2) in
-    subst (λ (k : Known). (c.to.inside.number ≡ k.number) × Sound k) made (c.to.invariant.0, learns_sound c.to.inside.seat.me.0 c.message.inside.seat.me.0 c.to.invariant.1)
+    subst (λ (k : Known). (c.to.inside.number ≡ k.number) × Sound k) made
+    (c.to.invariant.0, learns_sound c.to.inside.seat.me.0 c.message.inside.seat.me.0 c.to.invariant.1)

@@ -18,5 +18,7 @@ pub settle-requires : goal.settle-requires
 settle-requires g c =
     let done : AreWorked c.args.opened.seats.items c.expect.result.items = search rules in
     let is : c.expect-seats.result.seats.items ≡ seats_of c.expect.result.items = search rules in
-    let are = are_seats c.args.opened.store c.args.config.now.seats c.args.opened.seats.items c.requires.seats c.expect.result.items done c.expect-seats.result.seats.items is in
-    λ k d lt. (are.each k (slice_index_or c.expect-seats.result.seats.items k d) (let n = are.counted in omega arith) (get_or_default c.expect-seats.result.seats.items k (slice_index_or c.expect-seats.result.seats.items k d) d lt)).0
+    let are = are_seats c.args.opened.store c.args.config.now.seats c.args.opened.seats.items c.requires.seats c.expect.result.items done
+    c.expect-seats.result.seats.items is in
+    λ k d lt. (are.each k (slice_index_or c.expect-seats.result.seats.items k d) (let n = are.counted in omega arith)
+    (get_or_default c.expect-seats.result.seats.items k (slice_index_or c.expect-seats.result.seats.items k d) d lt)).0

@@ -1,6 +1,6 @@
 use Rattle.std.proofs.Common.{subst}
-use Rattle.clsm_calls.specs.Merging.{IsOfHistory}
-use Rattle.clsm_calls.proofs.Prepared.{of_history}
+use Rattle.clsm_store_calls.specs.Merging.{IsOfHistory}
+use Rattle.clsm_store_calls.proofs.Prepared.{of_history}
 use Rattle.clsm_store.proofs.merger.tokens.Frozen.show_history.Goals as goal
 
 pub returns : goal.returns

@@ -1,0 +1,133 @@
+//! Looks at the runs of the component that the seat holds.
+ghost use Rattle.std.specs.Prelude.{◌≡◌, ◌≢◌, ◌%◌, ◌<◌};
+ghost use Rattle.std.proofs.Common.{ap};
+ghost use Rattle.clsm_levels.specs.declared.entry.Entry.{Entry};
+ghost use Rattle.clsm_law.specs.Places.{entry_in};
+ghost use Rattle.clsm_words.specs.Knowing.{row_of};
+ghost use Rattle.clsm_words.specs.Keeping.{LooksAside};
+ghost use Rattle.clsm_words.specs.Plays.{IsSeatOf};
+ghost use Rattle.clsm_words.proofs.Keeps.{aside_trans};
+ghost use Rattle.clsm_runs.specs.Searching.{HasEntry, IsSearchable, count_of, entry_word};
+ghost use Rattle.clsm_runs.specs.Staying.{entry_in_stays, has_stays, valued_stays};
+
+use clsm_law::Word;
+use clsm_levels::Entry;
+use clsm_words::{Load, Pace, RawSeat, Words, load_value};
+
+/// An entry's words: its key.
+pub(crate) const KEY: u64 = 0;
+/// Twice its time, plus 1 for a removal.
+pub(crate) const TIME: u64 = 1;
+/// The number of its value's words.
+pub(crate) const LENGTH: u64 = 2;
+/// The first of those.
+pub(crate) const VALUE: u64 = 3;
+
+/// The run at a place of the component that the seat holds.
+#[derive(Clone, Copy)]
+pub struct HeldRun {
+    pub component: u64,
+    pub place: u64,
+}
+
+/// One of its entries.
+#[derive(Clone, Copy)]
+pub(crate) struct HeldEntry {
+    pub(crate) run: HeldRun,
+    pub(crate) entry: u64,
+}
+
+/// An entry of the run at a place.
+#[derive(Clone, Copy)]
+pub(crate) struct PlacedEntry {
+    pub(crate) place: u64,
+    pub(crate) entry: u64,
+}
+
+/// How many entries the run has.
+#[inline]
+pub(crate) fn count<P: Pace>(words: &Words<P>, seat: &mut RawSeat, run: HeldRun) -> u64
+    requires of { IsSeatOf words.now seat.old }
+    requires run { IsSearchable seat.old.knows run.component run.place }
+    ensures of { IsSeatOf words.now seat.new }
+    ensures looks { LooksAside seat.old.knows seat.new.knows }
+    ensures told { result ≡ count_of seat.old.knows run.place }
+{
+    seat.show_invariant();
+    words.look(seat, Word::Count(run.place))
+}
+
+/// One of the words of the entry.
+#[inline]
+pub(crate) fn part<P: Pace>(words: &Words<P>, seat: &mut RawSeat, at: HeldEntry, part: u64) -> u64
+    requires of { IsSeatOf words.now seat.old }
+    requires has { HasEntry seat.old.knows at.run.component at.run.place at.entry }
+    requires inside { part < 11 }
+    ensures of { IsSeatOf words.now seat.new }
+    ensures looks { LooksAside seat.old.knows seat.new.knows }
+    ensures told { result ≡ entry_word seat.old.knows at.run.place at.entry part }
+{
+    seat.show_invariant();
+    let (place, entry) = (at.run.place, at.entry);
+    words.look(seat, Word::Entry { place, entry, part })
+}
+
+/// The value of an entry that is no removal.
+impl Load<RawSeat> for HeldEntry {
+    ghost stands = { λ words seat at. IsSeatOf words seat × HasEntry seat.knows at.run.component at.run.place at.entry
+        × (entry_word seat.knows at.run.place at.entry 1 % 2 ≢ 1) };
+
+    ghost value = { λ seat at. (entry_in (row_of seat.knows) at.run.place at.entry).value };
+
+    ghost looks = { λ words a b. IsSeatOf words b × LooksAside a.knows b.knows };
+
+    #[inline]
+    fn length<P: Pace>(&self, words: &Words<P>, seat: &mut RawSeat) -> usize {
+        seat.show_invariant();
+        part(words, seat, *self, LENGTH) as usize
+    }
+
+    #[inline]
+    fn word<P: Pace>(&self, words: &Words<P>, seat: &mut RawSeat, index: usize) -> u64 {
+        part(words, seat, *self, VALUE + index as u64)
+    }
+
+    ghost stands_on = { λ words a b at is looks. (
+      looks.0,
+      has_stays a.knows b.knows at.run.component at.run.place at.entry looks.1.looks is.1,
+      valued_stays a.knows b.knows at.run.component at.run.place at.entry looks.1.looks is.1.run is.2,
+    ) };
+
+    ghost value_stays = { λ words a b at is looks. ap (λ (e : Entry). e.value)
+        (entry_in_stays a.knows b.knows at.run.component at.run.place at.entry looks.1.looks is.1.run) };
+
+    ghost looks_on = { λ words a b c first then. (then.0, aside_trans a.knows b.knows c.knows first.1 then.1) };
+}
+
+/// The entry with this key and this time word.
+pub(crate) fn entry<P: Pace>(
+    words: &Words<P>,
+    seat: &mut RawSeat,
+    at: HeldEntry,
+    key: u64,
+    spelled: u64,
+) -> Entry
+    requires of { IsSeatOf words.now seat.old }
+    requires has { HasEntry seat.old.knows at.run.component at.run.place at.entry }
+    requires key { entry_word seat.old.knows at.run.place at.entry 0 ≡ key }
+    requires spelled { entry_word seat.old.knows at.run.place at.entry 1 ≡ spelled }
+    ensures of { IsSeatOf words.now seat.new }
+    ensures looks { LooksAside seat.old.knows seat.new.knows }
+    ensures told { result ≡ entry_in (row_of seat.old.knows) at.run.place at.entry }
+{
+    let time = spelled / 2;
+    if spelled % 2 == 1 {
+        return Entry {
+            key,
+            time,
+            value: None,
+        };
+    }
+    let value = Some(load_value(words, seat, &at));
+    Entry { key, time, value }
+}

@@ -1,0 +1,93 @@
+-- A whole read-modify-write from its parts.
+use Rattle.std.proofs.Common.{◌≡◌, ℕ, ◌+◌, ◌++◌, ◌∷◌, [], List, refl, ap, ◌∙◌, arith, append-nil, Option, Ok, Err, Result, IfOk}
+use Rattle.clsm_model.specs.declared.slot.Change.{Change}
+use Rattle.clsm_model.specs.declared.slot.Change.TheVariants.{Keep, Set, Remove}
+use Rattle.clsm_model.specs.History.{IsBeginning}
+use Rattle.clsm_model.specs.Seats.{due_by}
+use Rattle.clsm_model.specs.declared.record.Deed.TheVariants.{Rmw}
+use Rattle.clsm_model.specs.declared.record.CallRecord.{CallRecord}
+use Rattle.clsm_law.specs.declared.view.View.{View}
+use Rattle.clsm_law.specs.declared.step.End.TheVariants.{Neither}
+use Rattle.clsm_law.specs.Views.{or_zero}
+use Rattle.clsm_law.specs.Relation.{call_of, ended_snapshot}
+use Rattle.clsm_words.specs.declared.known.Known.{Known}
+use Rattle.clsm_words.specs.Knowing.{known_of}
+use Rattle.clsm_model.proofs.Batches.{begins_trans}
+use Rattle.clsm_words.specs.Keeping.{KeepsPast}
+use Rattle.clsm_lock.specs.Keeping.{Enters, Leaves}
+use Rattle.clsm_pins.specs.Pinning.{Pins, Unpins}
+use Rattle.clsm_store_calls.specs.declared.got.Rmw.{Rmw as Answered}
+use Rattle.clsm_store_calls.specs.declared.refusal.Full.{Full as Refusal}
+use Rattle.clsm_store_calls.specs.Resting.{IsAtRest, Keeps, Records}
+use Rattle.clsm_store_calls.specs.Changing.{ChangesAt, Does, read_end}
+use Rattle.clsm_store_calls.proofs.Rest.{same_past, stays_open}
+
+module _ (a b c d e f : Known) (component key : ℕ) (rests : IsAtRest a) (enters : Enters a b) (pins : Pins b c component) (leaves : Leaves e f) where
+  number : c.number ≡ a.number
+  number = pins.keeps.number ∙ enters.place.seat.number
+
+  layout : c.layout ≡ a.layout
+  layout = pins.keeps.layout ∙ enters.place.seat.layout
+
+  past : IsBeginning (known_of a) (known_of c)
+  past = same_past a c (pins.keeps.past ∙ enters.place.past) (pins.keeps.batches ∙ enters.place.batches)
+
+  ended : Keeps c d → KeepsPast d e → IsBeginning (known_of a) (known_of f)
+  ended keeps unpinned = begins_trans (known_of a) (known_of d) (known_of f) (begins_trans (known_of a) (known_of c) (known_of d) past keeps.past)
+      (same_past d f (leaves.place.past ∙ unpinned.past) (leaves.place.batches ∙ unpinned.batches))
+
+  calls : c.view.calls ≡ a.view.calls
+  calls = ap (λ (v : View). v.calls) pins.view ∙ ap (λ (v : View). v.calls) enters.view
+
+  due : c.view.due ≡ a.view.due
+  due = ap (λ (v : View). v.due) pins.view ∙ ap (λ (v : View). v.due) enters.view
+
+  snapshot : Keeps c d → ended_snapshot d.view.snapshot ≡ a.view.snapshot
+  snapshot keeps =
+      ap ended_snapshot (keeps.snapshot ∙ ap (λ (v : View). v.snapshot) pins.view ∙ ap (λ (v : View). v.snapshot) enters.view)
+      ∙ stays_open a.view.snapshot rests.settled
+
+  -- a write at the time
+  wrote : (change : Change) (t : ℕ) (o : Option (List ℕ)) → Records c d t (Rmw key o change) → Unpins d e Neither
+      → (f.view.calls ≡ a.view.calls ++ call_of a.number t (Rmw key o change) ∷ []) × (f.view.due ≡ t + 1)
+  wrote change t o records unpins = (
+    ap (λ (v : View). v.calls) leaves.view ∙ ap (λ (v : View). v.calls) unpins.view ∙ append-nil d.view.calls ∙ records.calls
+        ∙ ap (λ (l : List CallRecord). l ++ call_of c.number t (Rmw key o change) ∷ []) calls
+        ∙ ap (λ (n : ℕ). a.view.calls ++ call_of n t (Rmw key o change) ∷ []) number,
+    ap (λ (v : View). v.due) leaves.view ∙ ap (λ (v : View). v.due) unpins.view ∙ records.due,
+  )
+
+  written : (change : Change) (t : ℕ) (o : Option (List ℕ)) → Records c d t (Rmw key o change) → Unpins d e Neither → t + 1 ≡ due_by t change
+      → ChangesAt a f t key o change
+  written change t o records unpins same = let both = wrote change t o records unpins in record {
+    number = leaves.place.seat.number ∙ unpins.keeps.number ∙ records.keeps.number ∙ number;
+    layout = leaves.place.seat.layout ∙ unpins.keeps.layout ∙ records.keeps.layout ∙ layout;
+    past = ended records.keeps unpins.keeps;
+    snapshot = ap (λ (v : View). v.snapshot) leaves.view ∙ ap (λ (v : View). v.snapshot) unpins.view ∙ snapshot records.keeps;
+    calls = both.0;
+    due = both.1 ∙ same;
+    above = let x = due in let y = records.above in omega arith;
+  }
+
+  -- the change as a whole
+  pub changed : (change : Change) (t : ℕ) (o : Option (List ℕ)) → Does change c d component key t o
+      → Unpins d e (read_end key (Ok (record { time = t; old = o; change = change }))) → ChangesAt a f t key o change
+  changed Keep t o (still, reads) unpins = record {
+    number = leaves.place.seat.number ∙ unpins.keeps.number ∙ still.keeps.number ∙ number;
+    layout = leaves.place.seat.layout ∙ unpins.keeps.layout ∙ still.keeps.layout ∙ layout;
+    past = ended still.keeps unpins.keeps;
+    snapshot = ap (λ (v : View). v.snapshot) leaves.view ∙ ap (λ (v : View). v.snapshot) unpins.view ∙ snapshot still.keeps;
+    calls = ap (λ (v : View). v.calls) leaves.view ∙ ap (λ (v : View). v.calls) unpins.view
+        ∙ ap (λ (clock : Option ℕ). d.view.calls ++ call_of d.number (or_zero clock) (Rmw key o Keep) ∷ []) reads.pin_clock
+        ∙ ap (λ (l : List CallRecord). l ++ call_of d.number t (Rmw key o Keep) ∷ []) (still.calls ∙ calls)
+        ∙ ap (λ (n : ℕ). a.view.calls ++ call_of n t (Rmw key o Keep) ∷ []) (still.keeps.number ∙ number);
+    due = ap (λ (v : View). v.due) leaves.view ∙ ap (λ (v : View). v.due) unpins.view ∙ ap or_zero reads.pin_clock;
+    above = let x = due in let y = still.due in let z = reads.above in omega arith;
+  }
+  changed (Set words) t o records unpins = written (Set words) t o records unpins refl
+  changed Remove t o records unpins = written Remove t o records unpins refl
+
+  pub changed_if : (answer : Result Answered Refusal) → IfOk answer (λ rmw. Does rmw.change c d component key rmw.time rmw.old)
+      → Unpins d e (read_end key answer) → IfOk answer (λ rmw. ChangesAt a f rmw.time key rmw.old rmw.change)
+  changed_if (Ok rmw) does unpins = changed rmw.change rmw.time rmw.old does unpins
+  changed_if (Err full) does unpins = tt

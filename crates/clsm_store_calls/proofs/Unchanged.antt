@@ -1,0 +1,70 @@
+-- Where no write of a key came between two times, the key has the same value at both.
+use Rattle.std.proofs.Common.{◌≡◌, ℕ, zero, suc, ◌*◌, ◌<◌, ◌≤◌, ◌==◌, min, List, length, get_or, refl, sym, ap, ◌∙◌, subst, arith, inl, inr, Option, Some, None}
+use Rattle.std.proofs.lemmas.Bool.{cases_lt}
+use Rattle.std.proofs.lemmas.List.{get_or_append_left}
+use Rattle.std.proofs.lemmas.Option.{cond_some}
+use Rattle.clsm_model.specs.declared.slot.Slot.{Slot}
+use Rattle.clsm_model.specs.declared.slot.Slot.TheVariants.{Nothing, Wrote}
+use Rattle.clsm_model.specs.History.{History, Write, left_by, newest, or_else, plain, slot_at, value, write_of}
+use mathlib.Core.List.{IsPrefix}
+use Rattle.clsm_model.proofs.Histories.{value-same}
+use Rattle.clsm_words.specs.declared.known.Known.{Known}
+use Rattle.clsm_words.specs.Keeping.{Looks}
+use Rattle.clsm_memtable.specs.declared.found.Found.{Found}
+use Rattle.clsm_memtable.specs.Searching.{IsNewest}
+
+its_time : (key t : ℕ) (slot : Slot) (w : Write) → write_of key t slot ≡ Some w → w.time ≡ t
+its_time key t Nothing w e = absurd cc
+its_time key t (Wrote seat k written) w e = let same = (cond_some (k == key) (record { time = t; value = written }) w e).1 in
+    sym (ap (λ (v : Write). v.time) same)
+
+-- the newest write below a time is below it
+newest_below : (h : History) (key s : ℕ) (w : Write) → newest h key s ≡ Some w → w.time < s
+newest_below h key zero w e = absurd cc
+newest_below h key (suc u) w e = by (write_of key u (slot_at h u)) refl (newest_below h key u w) where
+  by : (a : Option Write) → write_of key u (slot_at h u) ≡ a → (newest h key u ≡ Some w → w.time < u) → w.time < suc u
+  by None is before = let b = before (sym (ap (λ (o : Option Write). or_else o (newest h key u)) is) ∙ e) in omega arith
+  by (Some v) is before = let same : Some v ≡ Some w = sym (ap (λ (o : Option Write). or_else o (newest h key u)) is) ∙ e in
+      let at = its_time key u (slot_at h u) w (is ∙ same) in omega arith
+
+-- where the newest write below t is below s, it is the newest below s
+newest_stays : (h : History) (key s t : ℕ) → s ≤ t → ((w : Write) → newest h key t ≡ Some w → w.time < s) → newest h key t ≡ newest h key s
+newest_stays h key s zero le early = let same : 0 ≡ s = omega arith in ap (newest h key) same
+newest_stays h key s (suc u) le early = elim (cases_lt u s) [
+  | inl lt ↦ let same : suc u ≡ s = omega arith in ap (newest h key) same
+  | inr ge ↦ by (write_of key u (slot_at h u)) refl ge (newest_stays h key s u ge)
+]
+  where
+    by : (a : Option Write) → write_of key u (slot_at h u) ≡ a → s ≤ u
+        → (((w : Write) → newest h key u ≡ Some w → w.time < s) → newest h key u ≡ newest h key s) → newest h key (suc u) ≡ newest h key s
+    by None is ge before = let down = ap (λ (o : Option Write). or_else o (newest h key u)) is in down ∙ before (λ w e. early w (down ∙ e))
+    by (Some v) is ge before = let at = its_time key u (slot_at h u) v is in let lt = early v (ap (λ (o : Option Write). or_else o (newest h key u)) is) in
+        absurd (omega arith)
+
+module _ (k k' : Known) (component key from until : ℕ) (looks : Looks k k') (le : from ≤ until) where
+  there : newest (plain k'.past) key until ≡ newest (plain k'.past) key from → value (plain k'.past) key until ≡ value (plain k'.past) key from
+  there e = ap left_by e
+
+  same : (t : ℕ) → newest (plain k'.past) key t ≡ newest (plain k.past) key t
+  same t = ap (λ (slots : List Slot). newest (plain slots) key t) looks.past
+
+  pub unchanged_found : (found : Found) → IsNewest k component key until (Some found) → found.time < from → value (plain k'.past) key until
+      ≡ value (plain k'.past) key from
+  unchanged_found found is lt = there (newest_stays (plain k'.past) key from until le (λ w e.
+      let found_is : Some (record { time = found.time; value = found.value }) ≡ Some w = sym is ∙ sym (same until) ∙ e in
+      subst (λ (n : ℕ). n < from) (time_of (record { time = found.time; value = found.value }) w found_is) lt))
+    where
+      time_of : (v w : Write) → Some v ≡ Some w → v.time ≡ w.time
+      time_of v w e = cc
+
+  pub unchanged_none : component * k.layout.cells ≤ from → IsNewest k component key until None → value (plain k'.past) key until
+      ≡ value (plain k'.past) key from
+  unchanged_none merged is = there (newest_stays (plain k'.past) key from until le (λ w e.
+      let b = newest_below (plain k.past) key (min until (component * k.layout.cells)) w (sym is ∙ sym (same until) ∙ e) in omega arith))
+
+-- a value below a time of the past stays as the past grows
+pub value_later : (a b c : List Slot) (key s : ℕ) → b ≡ a → IsPrefix b c → s ≤ length a → value (plain a) key s ≡ value (plain c) key s
+value_later a b c key s e begins le = sym (value-same (plain a) (plain c) key s (λ t lt.
+    ap (λ (l : List Slot). get_or l t Nothing) (sym begins.1) ∙ get_or_append_left b begins.0 Nothing t
+    (let n = ap (λ (l : List Slot). length l) e in omega arith)
+    ∙ ap (λ (l : List Slot). get_or l t Nothing) e))

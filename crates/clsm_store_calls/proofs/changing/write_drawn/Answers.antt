@@ -1,0 +1,33 @@
+use Rattle.std.proofs.Common.{◌≡◌, ◌∙◌, ℕ, List, ap, sym, subst, arith, rules}
+use Rattle.clsm_model.specs.declared.slot.Slot.{Slot}
+use Rattle.clsm_model.specs.declared.record.Deed.{Deed}
+use Rattle.clsm_model.specs.declared.record.Deed.TheVariants.{Rmw}
+use Rattle.clsm_model.specs.History.{plain}
+use Rattle.clsm_model.specs.Right.{IsRight}
+use Rattle.clsm_law.specs.declared.view.View.{View}
+use Rattle.clsm_law.specs.OpenSteps.{IsReadBelow}
+use Rattle.clsm_words.specs.declared.known.Known.{Known}
+use Rattle.clsm_memtable.proofs.Entries.{looks_out}
+use Rattle.clsm_store_calls.proofs.changing.write_drawn.Goals as goal
+
+-- what was read stays so, as long as the past does
+read_on : (k k' : Known) (t : ℕ) (deed : Deed) → k'.past ≡ k.past → k'.view.past ≡ k.view.past → IsReadBelow (plain k.past) k.view t deed
+    → IsReadBelow (plain k'.past) k'.view t deed
+read_on k k' t (Rmw key old change) past same read = (
+  let before = read.0 in omega arith,
+  subst (λ (l : List Slot). IsRight (plain l) t (Rmw key old change)) (sym past) read.1,
+)
+read_on k k' t deed past same read = tt
+
+pub decide-requires-clause-opens : goal.decide-requires-clause-opens
+decide-requires-clause-opens g c =
+    let k0 = c.args.seat.now.knows in
+    let k1 = c.prefetch-guess.new.seat.knows in
+    let k3 = c.enter-trace.new.seat.knows in
+    let out = looks_out k0 k1 c.show_invariant.ensures c.show_invariant-2.ensures c.prefetch-guess.ensures.looks in
+    let enters = c.enter-trace.ensures.entered in
+    let fills = c.fill.ensures.filled.parts in
+    let past = enters.past ∙ fills.place.past ∙ out.past in
+    let same = ap (λ (v : View). v.past) enters.view ∙ ap (λ (v : View). v.past) fills.view ∙ ap (λ (v : View). v.past) out.view in
+    let read = read_on k0 k3 c.args.time c.args.deed.now past same c.requires.read in
+    (c.enter-trace.ensures.of, (search rules, search rules, search rules, read, search rules))

@@ -1,0 +1,60 @@
+use Rattle.std.proofs.Common.{ℕ, sym, ap, ◌∙◌, arith, subst, refl}
+use Rattle.clsm_model.specs.declared.record.Deed.{Deed}
+use Rattle.clsm_model.specs.declared.record.Deed.TheVariants.{Rmw as ChangeOf}
+use Rattle.clsm_store_calls.specs.declared.got.Rmw.{Rmw}
+use Rattle.clsm_store_calls.specs.Resting.{Records}
+use Rattle.clsm_law.specs.declared.view.View.{View}
+use Rattle.clsm_store_calls.proofs.Giving.{given_up_once}
+use Rattle.clsm_store_calls.proofs.DrawsAgain.{still_at_last}
+use Rattle.clsm_store_calls.proofs.Rest.{records_later, still_reads, still_trans}
+use Rattle.clsm_model.specs.History.{plain}
+use Rattle.clsm_law.specs.OpenSteps.{IsReadBelow}
+use Rattle.clsm_store_calls.proofs.Unchanged.{value_later}
+use Rattle.clsm_store_calls.proofs.changing.write_later.Goals as goal
+
+pub is_unchanged-requires-clause-later : goal.is_unchanged-requires-clause-later
+is_unchanged-requires-clause-later g c = let a = c.requires.reads.settled in let b = c.show_invariant.ensures.length_is in let d =
+    c.in-Ok.ensures.drawn.passed in omega arith
+
+pub write_drawn-requires-clause-read : goal.write_drawn-requires-clause-read
+write_drawn-requires-clause-read g c =
+    let k = c.args.seat.now.knows in
+    let k' = c.draw_at_last.new.seat.knows in
+    let k'' = c.is_unchanged.new.seat.knows in
+    let read = c.requires.reads in
+    let t = c.in-Ok.time in
+    let settled = c.is_unchanged.ensures.settled in
+    let later = value_later k.past k'.past k''.past c.args.key c.args.read.time c.in-Ok.ensures.drawn.place.past
+    c.is_unchanged.ensures.reads.seat.past.slots read.settled in
+    let old = read.is ∙ later ∙ sym (c.if-not-is_unchanged.ensures.unchanged refl) in
+    subst (IsReadBelow (plain k''.past) k''.view t) (sym c.deed_of.ensures)
+    (let long = c.show_invariant-2.ensures.length_is in omega arith, record { readable = record { reached = settled; uncut = tt }; reads = old })
+
+pub returns-then-not-is_unchanged-clause-spared : goal.returns-then-not-is_unchanged-clause-spared
+returns-then-not-is_unchanged-clause-spared g c =
+    let k = c.args.seat.now.knows in
+    let drawn = c.draw_at_last.new.seat.knows in
+    let read = c.is_unchanged.new.seat.knows in
+    let gave = c.give_up.ensures.given_up in
+    let same = ap (λ (v : View). v.gave_up) c.is_unchanged.ensures.reads.view ∙ ap (λ (v : View). v.gave_up) c.in-Ok.ensures.drawn.view in
+    given_up_once k read c.give_up.new.seat.knows c.args.key c.args.read.time same gave.place.past gave.counted
+    (c.is_unchanged.ensures.written c.if-not-is_unchanged.true)
+
+pub returns-in-Done-clause-writes : goal.returns-in-Done-clause-writes
+returns-in-Done-clause-writes g c =
+    let k = c.args.seat.now.knows in
+    let k' = c.draw_at_last.new.seat.knows in
+    let k'' = c.is_unchanged.new.seat.knows in
+    let end = c.write_drawn.new.seat.knows in
+    let t = c.in-Ok.time in
+    let still = still_trans k k' k'' (still_at_last k k' t c.in-Ok.ensures.drawn) (still_reads k' k'' c.is_unchanged.ensures.reads) in
+    let above = c.in-Ok.ensures.drawn.due in
+    let records = c.in-Done.ensures.writes.1 (let due = still.due in omega arith) in
+    let deed = ChangeOf c.args.key c.args.read.old c.args.read.change in
+    let is = c.at.ensures in
+    let recorded = subst (λ (d : Deed). Records k'' end t d) c.deed_of.ensures records in (
+      ap (λ (r : Rmw). r.old) is,
+      ap (λ (r : Rmw). r.change) is,
+      subst (λ (n : ℕ). Records k end n deed) (sym (ap (λ (r : Rmw). r.time) is))
+          (records_later k k'' end t deed still recorded),
+    )

@@ -1,0 +1,203 @@
+-- A read-modify-write at the words.
+use Rattle.std.specs.Prelude.{◌≡◌, ◌≢◌, ℕ, ◌*◌, ◌≤◌, ◌⊎◌, ◌++◌, ◌∷◌, [], Bool, List, true, false, cond, length, max, slice_index_or, Option, Some, None}
+use Rattle.std.specs.Prelude.{Result, Ok, Err}
+use Rattle.clsm_model.specs.History.{IsBeginning, plain, value}
+use Rattle.clsm_model.specs.declared.slot.Slot.{Slot}
+use Rattle.clsm_model.specs.declared.slot.Slot.TheVariants.{Nothing, Wrote}
+use Rattle.clsm_model.specs.declared.slot.Change.{Change}
+use Rattle.clsm_model.specs.declared.slot.Change.TheVariants.{Keep, Set, Remove}
+use Rattle.clsm_model.specs.declared.record.Deed.{Deed}
+use Rattle.clsm_model.specs.declared.record.Deed.TheVariants.{Rmw}
+use Rattle.clsm_law.specs.declared.step.End.{End}
+use Rattle.clsm_law.specs.declared.step.End.TheVariants.{Neither, Recorded}
+use Rattle.clsm_law.specs.Views.{IsBelow, blank, next_word}
+use Rattle.clsm_law.specs.Relation.{call_of}
+use Rattle.clsm_model.specs.Seats.{due_by}
+use Rattle.clsm_law.specs.declared.view.Mode.TheVariants.{Shared}
+use Rattle.clsm_words.specs.declared.known.Known.{Known}
+use Rattle.clsm_words.specs.Knowing.{IsNearHeld, known_of}
+use Rattle.clsm_words.specs.Keeping.{KeepsPlace}
+use Rattle.clsm_memtable.specs.declared.cell_state.Decided.{Decided}
+use Rattle.clsm_memtable.specs.declared.cell_state.Decided.TheVariants.{Done, Overtaken}
+use Rattle.clsm_store_calls.specs.declared.got.Rmw.{Rmw as Answered}
+use Rattle.clsm_store_calls.specs.declared.refusal.Full.{Full as Refusal}
+use Rattle.clsm_store_calls.specs.declared.changing.ChangeAttempt.{ChangeAttempt}
+use Rattle.clsm_store_calls.specs.declared.changing.ChangeAttempt.TheVariants.{Done as Finished, Full, Lost}
+use Rattle.clsm_store_calls.specs.Seats.{CountsUpTo, writes_from}
+use Rattle.clsm_store_calls.specs.Resting.{FindsFull, IsSettled, Records, Still}
+
+-- it holds the lock and the component, and has drawn nothing
+pub record IsPinnedInHold (k : Known) (component : ℕ) : Type 0 where
+  pub shared : k.view.mode ≡ Shared
+  pub undrawn : k.view.drawn ≡ None
+  pub pinned : k.view.pinned ≡ true
+  pub held : k.view.held ≡ Some component
+  pub settled : IsSettled k.view.snapshot
+  pub merged : component * k.layout.cells ≤ k.view.reached
+
+-- at the clock that it looked at last in this read, which is t, the key has this value
+pub record ReadsNow (k : Known) (component key t : ℕ) (reply : Option (List ℕ)) : Type 0 where
+  pub pin_clock : k.view.pin_clock ≡ Some t
+  pub above : k.view.due ≤ t
+  pub merged : component * k.layout.cells ≤ t
+  pub settled : t ≤ length k.past
+  pub is : reply ≡ value (plain k.past) key t
+
+-- the seat gave up at most one time for each write of the key that stands at or above the due that
+-- it had before, and of which it did not know before
+abbrev pub GivesUpFor : Known → Known → ℕ → Type 0
+GivesUpFor old new key = CountsUpTo (writes_from new.past key (max old.view.due (length old.past))) old.view.gave_up new.view.gave_up
+
+-- a write of the key stands at this time or above it
+pub record IsWrittenFrom (slots : List Slot) (key from : ℕ) : Type 0 where
+  pub time : ℕ
+  pub above : from ≤ time
+  pub seat : ℕ
+  pub written : Option (List ℕ)
+  pub stands : slice_index_or slots time Nothing ≡ Wrote seat key written
+
+-- it gave up no time, or one, where a write of the key stands at this time or above it
+abbrev pub GivesUpOnce : Known → Known → ℕ → ℕ → Type 0
+GivesUpOnce old new key from =
+    (new.view.gave_up ≡ old.view.gave_up)
+    ⊎ ((new.view.gave_up ≡ next_word old.view.gave_up) × IsWrittenFrom new.past key from)
+
+-- ---- a draw that goes on until it has a time
+
+-- it has drawn nothing yet: at most it lost draws to other seats
+pub record LosesDraws (old new : Known) : Type 0 where
+  pub place : KeepsPlace old new
+  pub view : new.view ≡ record old.view {
+    fresh_clock = new.view.fresh_clock;
+    hold_limit = new.view.hold_limit;
+    hold_clock = new.view.hold_clock;
+    clock = new.view.clock;
+    pin_clock = new.view.pin_clock;
+    raced = new.view.raced;
+  }
+
+-- it drew the time, whatever draws it lost before
+pub record DrawsAtLast (old new : Known) (t : ℕ) : Type 0 where
+  pub place : KeepsPlace old new
+  pub view : new.view ≡ record old.view {
+    drawn = Some t;
+    key = None;
+    length = None;
+    words = blank 8;
+    next = None;
+    linked = false;
+    order_next = None;
+    inserted = false;
+    fresh_link = None;
+    low = 0;
+    high = 0;
+    fresh_clock = None;
+    hold_limit = new.view.hold_limit;
+    hold_clock = Some t;
+    clock = Some t;
+    pin_clock = new.view.pin_clock;
+    raced = new.view.raced;
+  }
+  pub looked : new.view.hold_limit ≢ None
+  pub below : IsBelow t new.view.hold_limit
+  pub due : old.view.due ≤ t
+  pub near : IsNearHeld old.layout old.view.held t
+  pub passed : old.view.past ≤ t
+
+-- the clock stood at the limit, whatever draws it lost before
+pub record FindsLimitAtLast (old new : Known) (t : ℕ) : Type 0 where
+  pub draws : LosesDraws old new
+  pub limit : new.view.hold_limit ≡ Some t
+  pub clock : new.view.hold_clock ≡ Some t
+
+-- a draw ends a try only so: the clock stood at the limit
+abbrev pub EndsDraw : Known → Known → ChangeAttempt → Type 0
+EndsDraw old new (Full t) = FindsLimitAtLast old new t
+EndsDraw old new _ = ⊥
+
+-- ---- the drawn time
+
+-- what became of the drawn time
+pub record EndsDrawn (old new : Known) : Type 0 where
+  pub mode : new.view.mode ≡ Shared
+  pub drawn : new.view.drawn ≡ None
+  pub pinned : new.view.pinned ≡ old.view.pinned
+  pub held : new.view.held ≡ old.view.held
+  pub entries : new.view.entries ≡ old.view.entries
+  pub hasty : new.view.hasty ≡ old.view.hasty
+  pub gave_up : new.view.gave_up ≡ old.view.gave_up
+  pub reached : old.view.reached ≤ new.view.reached
+
+-- what a decide makes of the drawn time: a write at it, which is recorded where the due was not
+-- above it, or nothing
+abbrev pub DecidesDrawn : Known → Known → ℕ → Deed → Decided → Type 0
+DecidesDrawn old new t deed Done = EndsDrawn old new × (old.view.due ≤ t → Records old new t deed)
+DecidesDrawn old new t deed Overtaken = EndsDrawn old new × Still old new × (new.view.overtaken ≡ next_word old.view.overtaken)
+
+-- the try was lost with the time that it had drawn: it gave that up, or somebody had cancelled it
+pub record LosesItsTime (old new : Known) : Type 0 where
+  pub still : Still old new
+  pub lost : (new.view.gave_up ≡ next_word old.view.gave_up) ⊎ (new.view.overtaken ≡ next_word old.view.overtaken)
+
+-- the change of the old value stands at a later time
+abbrev pub WritesLater : Known → Known → ℕ → Option (List ℕ) → Change → ChangeAttempt → Type 0
+WritesLater old new key o change (Finished rmw) = (rmw.old ≡ o) × (rmw.change ≡ change) × Records old new rmw.time (Rmw key o change)
+WritesLater old new key o change (Full t) = FindsFull old new t
+WritesLater old new key o change Lost = LosesItsTime old new
+
+-- what a change of the old value at the time t is: with Keep a read there, else a write
+abbrev pub Does : Change → Known → Known → ℕ → ℕ → ℕ → Option (List ℕ) → Type 0
+Does Keep old new component key t o = Still old new × ReadsNow new component key t o
+Does (Set written) old new component key t o = Records old new t (Rmw key o (Set written))
+Does Remove old new component key t o = Records old new t (Rmw key o Remove)
+
+-- what came of one try to change the key: the change at its time, a clock at the limit, or nothing,
+-- and then its drawn time was lost. A draw that another seat won ends no try
+abbrev pub TriesChange : Known → Known → ℕ → ℕ → ChangeAttempt → Type 0
+TriesChange old new component key (Finished rmw) = Does rmw.change old new component key rmw.time rmw.old
+TriesChange old new component key (Full t) = FindsFull old new t
+TriesChange old new component key Lost = LosesItsTime old new
+
+-- the change keeps the old value
+abbrev pub is_keep : Change → Bool
+is_keep Keep = true
+is_keep _ = false
+
+-- the value that the change sets, or none for a removal
+abbrev pub value_set : Change → Option (List ℕ)
+value_set (Set written) = Some written
+value_set _ = None
+
+-- the change is one that the function may answer to the old value
+abbrev pub IsAnsweredBy : (Option (List ℕ) → Change → Type 0) → ChangeAttempt → Type 0
+IsAnsweredBy post (Finished rmw) = post rmw.old rmw.change
+IsAnsweredBy post _ = Unit {0}
+
+-- ---- the whole call
+
+-- how its read ends
+abbrev pub read_end : ℕ → Result Answered Refusal → End
+read_end key (Ok rmw) = cond (is_keep rmw.change) (Recorded (Rmw key rmw.old rmw.change)) Neither
+read_end key (Err full) = Neither
+
+-- the change of the old value is recorded at the time
+pub record ChangesAt (old new : Known) (t key : ℕ) (o : Option (List ℕ)) (change : Change) : Type 0 where
+  pub number : new.number ≡ old.number
+  pub layout : new.layout ≡ old.layout
+  pub past : IsBeginning (known_of old) (known_of new)
+  pub snapshot : new.view.snapshot ≡ old.view.snapshot
+  pub calls : new.view.calls ≡ old.view.calls ++ call_of old.number t (Rmw key o change) ∷ []
+  pub due : new.view.due ≡ due_by t change
+  pub above : old.view.due ≤ t
+
+-- in the one hold of the call the clock was found at the limit
+pub record EndsFull (old new : Known) (t : ℕ) : Type 0 where
+  pub number : new.number ≡ old.number
+  pub layout : new.layout ≡ old.layout
+  pub past : IsBeginning (known_of old) (known_of new)
+  pub snapshot : new.view.snapshot ≡ old.view.snapshot
+  pub calls : new.view.calls ≡ old.view.calls
+  pub due : new.view.due ≡ old.view.due
+  pub entered : new.view.entries ≡ next_word old.view.entries
+  pub limit : new.view.hold_limit ≡ Some t
+  pub clock : new.view.hold_clock ≡ Some t

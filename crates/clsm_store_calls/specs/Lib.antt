@@ -1,0 +1,16 @@
+pub mod Tally
+pub mod Seats
+pub mod Resting
+pub mod Reading
+pub mod Snapshots
+pub mod Scanning
+pub mod Meeting
+pub mod Changing
+pub mod Flooring
+pub mod Freezing
+pub mod Looking
+pub mod Merging
+pub mod Reclaiming
+pub mod Trying
+pub mod Batching
+pub mod Agreeing

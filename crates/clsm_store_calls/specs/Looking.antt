@@ -1,0 +1,42 @@
+-- Looks at how full an epoch is: by a caller's seat, and by the merger.
+use Rattle.std.specs.Prelude.{◌≡◌, ℕ, ◌-◌, ◌*◌, ◌≤◌, Some}
+use Rattle.clsm_words.specs.declared.known.Known.{Known}
+use Rattle.clsm_store_calls.specs.Seats.{CleanState, SeatState}
+use Rattle.clsm_store_calls.specs.Tally.{tally_of}
+
+-- so many times are left where a limit and then the clock was found; the clock is not below the due
+pub record IsLeftAt (due clock left : ℕ) : Type 0 where
+  pub above : due ≤ clock
+  pub limit : ℕ
+  pub left_is : left ≡ limit - clock
+
+-- the seat looked at the limit and the clock, and found so many times left: it is as it was, but for
+-- the clock that it looked at
+pub record LooksForRoom (old new : Known) (left : ℕ) : Type 0 where
+  pub number : new.number ≡ old.number
+  pub layout : new.layout ≡ old.layout
+  pub past : new.past ≡ old.past
+  pub batches : new.batches ≡ old.batches
+  pub pin : new.view.pin ≡ old.view.pin
+  pub snapshot : new.view.snapshot ≡ old.view.snapshot
+  pub calls : new.view.calls ≡ old.view.calls
+  pub due : new.view.due ≡ old.view.due
+  pub tally : tally_of new ≡ tally_of old
+  pub clock : ℕ
+  pub looked : new.view.clock ≡ Some clock
+  pub room : IsLeftAt old.view.due clock left
+
+-- the same, as contracts see the seat
+pub record FindsRoom (old new : SeatState) (left : ℕ) : Type 0 where
+  pub same : new ≡ record old { clock = new.clock }
+  pub clock : ℕ
+  pub looked : new.clock ≡ Some clock
+  pub room : IsLeftAt old.due clock left
+
+-- how many times of the epoch were drawn at the merger's last step
+abbrev pub drawn_of : CleanState → ℕ
+drawn_of s = s.clock - s.merger.merges * s.merger.store.layout.cells
+
+-- the merger is as it was, but that it looked at the clock
+abbrev pub LooksAtClock : CleanState → CleanState → Type 0
+LooksAtClock old new = new ≡ record old { clock = new.clock }

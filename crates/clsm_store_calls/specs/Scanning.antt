@@ -1,0 +1,49 @@
+-- Scans and pages at the words.
+use Rattle.std.specs.Prelude.{◌≡◌, ℕ, List, Option, Some, None}
+use Rattle.clsm_model.specs.declared.record.Deed.{Deed}
+use Rattle.clsm_model.specs.declared.record.Deed.TheVariants.{Scan, Page}
+use Rattle.clsm_model.specs.History.{History, IsBeginning}
+use Rattle.clsm_law.specs.declared.step.End.{End}
+use Rattle.clsm_law.specs.declared.step.End.TheVariants.{Recorded}
+use Rattle.clsm_model.specs.Map.{IsRange, Pair}
+use Rattle.clsm_model.specs.Right.{IsPage}
+use Rattle.clsm_words.specs.declared.known.Known.{Known}
+use Rattle.clsm_words.specs.Knowing.{known_of}
+use Rattle.clsm_store_calls.specs.declared.scanning.Asked.{Asked}
+use Rattle.clsm_store_calls.specs.declared.scanning.Asked.TheVariants.{All, First}
+use Rattle.clsm_store_calls.specs.Tally.{TakesNoLock, tally_of}
+
+-- the first key and the last one that were asked for, and how many pairs at most
+abbrev pub bounds_of : Asked → ℕ × ℕ
+bounds_of (All lo hi) = (lo, hi)
+bounds_of (First lo hi max) = (lo, hi)
+
+abbrev pub most_of : Asked → Option ℕ
+most_of (All lo hi) = None
+most_of (First lo hi max) = Some max
+
+-- the rows, and the key of the next one, are what was asked for of the history below the time
+abbrev pub GivesAsked : History → ℕ → Asked → List Pair → Option ℕ → Type 0
+GivesAsked h s (All lo hi) rows more = IsRange h s lo hi rows
+GivesAsked h s (First lo hi max) rows more = (all : List Pair) × IsRange h s lo hi all × IsPage all max rows more
+
+-- the end of a read that is recorded
+abbrev pub IsRecord : End → Type 0
+IsRecord (Recorded deed) = Unit {0}
+IsRecord end = ⊥
+
+-- the deed answers what was asked
+abbrev pub IsAnswerTo : Asked → Deed → Type 0
+IsAnswerTo (All lo hi) (Scan from to rows) = (from ≡ lo) × (to ≡ hi)
+IsAnswerTo (First lo hi most) (Page from to max rows more) = (from ≡ lo) × (to ≡ hi) × (max ≡ most)
+IsAnswerTo asked deed = ⊥
+
+-- the read was given up: nothing is recorded
+pub record GivesUpRead (old new : Known) : Type 0 where
+  pub number : new.number ≡ old.number
+  pub layout : new.layout ≡ old.layout
+  pub past : IsBeginning (known_of old) (known_of new)
+  pub snapshot : new.view.snapshot ≡ old.view.snapshot
+  pub calls : new.view.calls ≡ old.view.calls
+  pub due : new.view.due ≡ old.view.due
+  pub unlocked : TakesNoLock (tally_of old) (tally_of new)

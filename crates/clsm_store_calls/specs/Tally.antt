@@ -1,0 +1,77 @@
+-- What a seat counts, and what calls make of its counts.
+use Rattle.std.specs.Prelude.{◌≡◌, ℕ, ◌⊎◌, Option, Result, Ok, Err}
+use Rattle.clsm_law.specs.Views.{next_word}
+use Rattle.clsm_words.specs.declared.known.Known.{Known}
+use Rattle.clsm_store_calls.specs.declared.refusal.TryPutError.{TryPutError}
+use Rattle.clsm_store_calls.specs.declared.refusal.TryPutError.TheVariants.{Full, Busy, Raced, Overtaken}
+
+-- Each modulo 2^64: its entries into the lock; the tries that it lost there, at draws and links,
+-- and to readers that overtook it; the times of its own that it gave up, those of others that it
+-- cancelled, and those among these for which it had not waited as its patience says. And the limit
+-- and the clock that it looked at in its last hold of the lock
+pub record Tally : Type 0 where
+  pub entries : ℕ
+  pub busy : ℕ
+  pub raced : ℕ
+  pub overtaken : ℕ
+  pub gave_up : ℕ
+  pub cancelled : ℕ
+  pub hasty : ℕ
+  pub limit : Option ℕ
+  pub clock : Option ℕ
+
+-- what the seat at the words counts
+abbrev pub tally_of : Known → Tally
+tally_of k = let v = k.view in record {
+  entries = v.entries;
+  busy = v.busy;
+  raced = v.raced;
+  overtaken = v.overtaken;
+  gave_up = v.gave_up;
+  cancelled = v.cancelled;
+  hasty = v.hasty;
+  limit = v.hold_limit;
+  clock = v.hold_clock;
+}
+
+-- the call took no lock, lost no try, and gave up no time; it may have cancelled times of others,
+-- each after as many looks as its patience says
+abbrev pub TakesNoLock : Tally → Tally → Type 0
+TakesNoLock old new = new ≡ record old { cancelled = new.cancelled }
+
+-- the call took the lock once, and cancelled no time of others before it had waited for it
+pub record TakesLockOnce (old new : Tally) : Type 0 where
+  pub entries : new.entries ≡ next_word old.entries
+  pub hasty : new.hasty ≡ old.hasty
+
+-- the call cancelled no time: it gave up none of its own, and cancelled none of others
+pub record CancelsNone (old new : Tally) : Type 0 where
+  pub own : new.gave_up ≡ old.gave_up
+  pub others : new.cancelled ≡ old.cancelled
+  pub hasty : new.hasty ≡ old.hasty
+
+-- ---- a try
+
+-- the counts as they were, with what it looked at last in a hold of the lock
+abbrev pub looked : Tally → Tally → Tally
+looked old new = record old { limit = new.limit; clock = new.clock }
+
+-- it lost a race, and gave up its time where it had drawn one, unless a reader had cancelled that
+-- first
+pub record IsRaced (old new : Tally) : Type 0 where
+  pub counts : new ≡ record old { raced = next_word old.raced; overtaken = new.overtaken; gave_up = new.gave_up; limit = new.limit; clock = new.clock }
+  pub once : (new.gave_up ≡ old.gave_up) ⊎ (new.gave_up ≡ next_word old.gave_up)
+
+-- what a try in a hold of the lock counts
+abbrev pub CountsInHold : Tally → Tally → Result ℕ TryPutError → Type 0
+CountsInHold old new (Ok t) = new ≡ looked old new
+CountsInHold old new (Err (Full t)) = new ≡ looked old new
+CountsInHold old new (Err Busy) = ⊥
+CountsInHold old new (Err Raced) = IsRaced old new
+CountsInHold old new (Err Overtaken) = new ≡ record (looked old new) { overtaken = next_word old.overtaken }
+
+-- what a try counts: with `Busy` that alone, else the one time that it entered the lock, and what
+-- came of it there
+abbrev pub CountsTry : Tally → Tally → Result ℕ TryPutError → Type 0
+CountsTry old new (Err Busy) = new ≡ record old { busy = next_word old.busy }
+CountsTry old new answer = CountsInHold (record old { entries = next_word old.entries }) new answer

@@ -1,0 +1,318 @@
+//! Read-modify-writes at the words: a read in a hold of the lock, and a write at a later time if no
+//! write of the key came between.
+ghost use Rattle.std.specs.Prelude.{◌≡◌, ◌≢◌, ◌*◌, ◌≤◌, false, true, max, None, Some, length, IfOk, IfErr};
+ghost use Rattle.clsm_model.specs.declared.slot.Slot.TheVariants.{Wrote};
+ghost use Rattle.clsm_model.specs.History.{plain, value};
+ghost use Rattle.clsm_model.specs.Right.{write_by};
+ghost use Rattle.clsm_law.specs.declared.view.Mode.TheVariants.{Shared};
+ghost use Rattle.clsm_law.specs.Views.{next_word};
+ghost use Rattle.clsm_law.specs.OpenSteps.{IsReadBelow};
+ghost use Rattle.clsm_words.specs.Keeping.{OnlyReads};
+ghost use Rattle.clsm_words.specs.Plays.{IsSeatOf};
+ghost use Rattle.clsm_memtable.specs.Settled.{MaySettleBelow};
+ghost use Rattle.clsm_memtable.specs.Writing.{IsUnnoted};
+ghost use Rattle.clsm_store_calls.specs.Resting.{FindsFull, IsAtRest, Still};
+ghost use Rattle.clsm_model.specs.declared.record.Deed.TheVariants.{Rmw as ChangeOf};
+ghost use Rattle.clsm_store_calls.specs.Changing.{TriesChange, ChangesAt, Does, DrawsAtLast, EndsDraw, EndsFull, GivesUpFor, GivesUpOnce, IsAnsweredBy};
+ghost use Rattle.clsm_store_calls.specs.Changing.{IsPinnedInHold, IsWrittenFrom, ReadsNow, DecidesDrawn, WritesLater, read_end, is_keep, value_set};
+
+use crate::got::{Got, Rmw};
+use crate::reading::value_below;
+use crate::refusal::Full;
+use clsm_law::{End, Word};
+use clsm_lock::{lock_shared, unlock_shared};
+use clsm_memtable::{
+    Decided, DrawError, decide, draw, enter, fill, give_up, newest, prefetch, settle_below,
+};
+use clsm_model::{Change, Deed, Time, Value};
+use clsm_pins::{pin, unpin};
+use clsm_words::{Pace, RawSeat, Words};
+use std::sync::Wait;
+
+/// What came of one try to change a key.
+pub(crate) enum ChangeAttempt {
+    /// It was read and kept, or written.
+    Done(Rmw),
+    /// The clock stands at the limit.
+    Full(Time),
+    /// Another seat wrote the key meanwhile, or cancelled the drawn time, which is given up.
+    Lost,
+}
+
+/// The value of the key at the clock, below which all is settled.
+fn value_now<P: Pace>(words: &Words<P>, seat: &mut RawSeat, component: u64, key: u64) -> Got
+    requires of { IsSeatOf words.now seat.old }
+    requires pinned { IsPinnedInHold seat.old.knows component }
+    ensures of { IsSeatOf words.now seat.new }
+    ensures pinned { IsPinnedInHold seat.new.knows component }
+    ensures still { Still seat.old.knows seat.new.knows }
+    ensures entered { seat.new.knows.view.entries ≡ seat.old.knows.view.entries }
+    ensures patient { seat.new.knows.view.hasty ≡ seat.old.knows.view.hasty }
+    ensures spared { seat.new.knows.view.gave_up ≡ seat.old.knows.view.gave_up }
+    ensures lost { seat.new.knows.view.overtaken ≡ seat.old.knows.view.overtaken }
+    ensures reads { ReadsNow seat.new.knows component key result.time result.value }
+    ensures beyond { length seat.old.knows.past ≤ result.time }
+{
+    let time = words.look(seat, Word::Clock);
+    settle_below(words, seat, component, time);
+    let value = value_below(words, seat, component, key, time);
+    Got { time, value }
+}
+
+/// Settles all below `until`, and answers whether no write of the key is from `from` on.
+fn is_unchanged<P: Pace>(
+    words: &Words<P>,
+    seat: &mut RawSeat,
+    component: u64,
+    key: u64,
+    from: Time,
+    until: Time,
+) -> bool
+    requires of { IsSeatOf words.now seat.old }
+    requires may { MaySettleBelow seat.old.knows component until }
+    requires merged { component * seat.old.knows.layout.cells ≤ from }
+    requires later { from ≤ until }
+    ensures of { IsSeatOf words.now seat.new }
+    ensures reads { OnlyReads seat.old.knows seat.new.knows }
+    ensures settled { until ≤ length seat.new.knows.past }
+    ensures written { result ≡ false → IsWrittenFrom seat.new.knows.past key from }
+    ensures unchanged { result ≡ true → value (plain seat.new.knows.past) key until ≡ value (plain seat.new.knows.past) key from }
+{
+    settle_below(words, seat, component, until);
+    match newest(words, seat, component, key, until) {
+        Some(found) => found.time < from,
+        None => true,
+    }
+}
+
+/// Fills the drawn cell, enters it and decides it.
+fn write_drawn<P: Pace, R: Wait>(
+    rt: &R,
+    words: &Words<P>,
+    seat: &mut RawSeat,
+    time: Time,
+    key: u64,
+    value: &Option<Value>,
+    deed: &Deed,
+) -> Decided
+    requires of { IsSeatOf words.now seat.old }
+    requires holds { seat.old.knows.view.mode ≡ Shared }
+    requires limit { seat.old.knows.view.hold_limit ≢ None }
+    requires drawn { seat.old.knows.view.drawn ≡ Some time }
+    requires unlinked { seat.old.knows.view.linked ≡ false }
+    requires out { seat.old.knows.view.inserted ≡ false }
+    requires writes { write_by 0 deed.now ≡ Some (Wrote 0 key value.now) }
+    requires read { IsReadBelow (plain seat.old.knows.past) seat.old.knows.view time deed.now }
+    ensures of { IsSeatOf words.now seat.new }
+    ensures writes { DecidesDrawn seat.old.knows seat.new.knows time deed.now result }
+{
+    seat.show_invariant();
+    let guess = prefetch(words, seat, time, key);
+    seat.show_invariant();
+    fill(words, seat, time, key, value.as_ref());
+    let trace = enter(rt, words, seat, time, key, &guess);
+    decide(words, seat, time, deed, &trace)
+}
+
+/// The read-modify-write with this answer.
+fn deed_of(key: u64, rmw: &Rmw) -> Deed
+    ensures { result ≡ ChangeOf key rmw.now.old rmw.now.change }
+{
+    let old = rmw.old;
+    let change = rmw.change;
+    Deed::Rmw { key, old, change }
+}
+
+/// Draws a time, and tries until it has one or the clock stands at the limit. A draw that another
+/// seat wins costs two looks and an exchange, and no read.
+fn draw_at_last<P: Pace, R: Wait>(
+    rt: &R,
+    words: &Words<P>,
+    seat: &mut RawSeat,
+) -> Result<Time, ChangeAttempt>
+    requires of { IsSeatOf words.now seat.old }
+    requires holds { seat.old.knows.view.mode ≡ Shared }
+    requires undrawn { seat.old.knows.view.drawn ≡ None }
+    requires unnoted { IsUnnoted seat.old.knows.view.snapshot }
+    ensures of { IsSeatOf words.now seat.new }
+    ensures drawn { IfOk result (λ time. DrawsAtLast seat.old.knows seat.new.knows time) }
+    ensures ended { IfErr result (EndsDraw seat.old.knows seat.new.knows) }
+{
+    for _ in rt.forever() {
+        match draw(words, seat) {
+            Ok(time) => return Ok(time),
+            Err(DrawError::Full(time)) => return Err(ChangeAttempt::Full(time)),
+            Err(DrawError::Raced) => {}
+        }
+    }
+    unreachable!()
+}
+
+/// Writes the change at a later time, if the key is unchanged until then.
+#[tactic(auto, using(crate::proofs::Rest::still_trans))]
+fn write_later<P: Pace, R: Wait>(
+    rt: &R,
+    words: &Words<P>,
+    seat: &mut RawSeat,
+    component: u64,
+    key: u64,
+    read: Rmw,
+    value: &Option<Value>,
+) -> ChangeAttempt
+    requires of { IsSeatOf words.now seat.old }
+    requires pinned { IsPinnedInHold seat.old.knows component }
+    requires reads { ReadsNow seat.old.knows component key read.time read.old }
+    requires writes { write_by 0 (ChangeOf key read.old read.change) ≡ Some (Wrote 0 key value.now) }
+    ensures of { IsSeatOf words.now seat.new }
+    ensures pinned { IsPinnedInHold seat.new.knows component }
+    ensures entered { seat.new.knows.view.entries ≡ seat.old.knows.view.entries }
+    ensures patient { seat.new.knows.view.hasty ≡ seat.old.knows.view.hasty }
+    ensures spared { GivesUpOnce seat.old.knows seat.new.knows key read.time }
+    ensures writes { WritesLater seat.old.knows seat.new.knows key read.old read.change result }
+{
+    seat.show_invariant();
+    let time = match draw_at_last(rt, words, seat) {
+        Ok(time) => time,
+        Err(attempt) => return attempt,
+    };
+    if !is_unchanged(words, seat, component, key, read.time, time) {
+        give_up(words, seat, time);
+        return ChangeAttempt::Lost;
+    }
+    seat.show_invariant();
+    match write_drawn(rt, words, seat, time, key, value, &deed_of(key, &read)) {
+        Decided::Done => ChangeAttempt::Done(read.at(time)),
+        Decided::Overtaken => ChangeAttempt::Lost,
+    }
+}
+
+/// What the function answers to the old value.
+fn ask<F: Fn(Option<Value>) -> Change>(f: &F, old: &Option<Value>) -> Change
+    requires { F.IsAlwaysCallable f.now }
+    ensures { F.post f.now old.now result }
+{
+    f(*old)
+}
+
+fn is_keep(change: &Change) -> bool
+    ensures { result ≡ is_keep change.now }
+{
+    matches!(change, Change::Keep)
+}
+
+/// The value that the change sets, or none for a removal.
+pub(crate) fn value_set(change: &Change) -> Option<Value>
+    ensures { result ≡ value_set change.now }
+{
+    match change {
+        Change::Set(value) => Some(*value),
+        _ => None,
+    }
+}
+
+/// Tries once to change the key.
+fn try_change<P: Pace, R: Wait, F: Fn(Option<Value>) -> Change>(
+    rt: &R,
+    words: &Words<P>,
+    seat: &mut RawSeat,
+    component: u64,
+    key: u64,
+    f: &F,
+) -> ChangeAttempt
+    requires of { IsSeatOf words.now seat.old }
+    requires pinned { IsPinnedInHold seat.old.knows component }
+    requires callable { F.IsAlwaysCallable f.now }
+    ensures of { IsSeatOf words.now seat.new }
+    ensures pinned { IsPinnedInHold seat.new.knows component }
+    ensures entered { seat.new.knows.view.entries ≡ seat.old.knows.view.entries }
+    ensures patient { seat.new.knows.view.hasty ≡ seat.old.knows.view.hasty }
+    ensures spared { GivesUpOnce seat.old.knows seat.new.knows key (max seat.old.knows.view.due (length seat.old.knows.past)) }
+    ensures changes { TriesChange seat.old.knows seat.new.knows component key result }
+    ensures answered { IsAnsweredBy (F.post f.now) result }
+{
+    let got = value_now(words, seat, component, key);
+    let read = got.with(ask(f, &got.value));
+    if is_keep(&read.change) {
+        return ChangeAttempt::Done(read);
+    }
+    let value = value_set(&read.change);
+    write_later(rt, words, seat, component, key, read, &value)
+}
+
+/// Changes the key, and tries until that is done or the clock is at the limit.
+fn change_pinned<P: Pace, R: Wait, F: Fn(Option<Value>) -> Change>(
+    rt: &R,
+    words: &Words<P>,
+    seat: &mut RawSeat,
+    component: u64,
+    key: u64,
+    f: &F,
+) -> Result<Rmw, Full>
+    requires of { IsSeatOf words.now seat.old }
+    requires pinned { IsPinnedInHold seat.old.knows component }
+    requires callable { F.IsAlwaysCallable f.now }
+    ensures of { IsSeatOf words.now seat.new }
+    ensures pinned { IsPinnedInHold seat.new.knows component }
+    ensures entered { seat.new.knows.view.entries ≡ seat.old.knows.view.entries }
+    ensures patient { seat.new.knows.view.hasty ≡ seat.old.knows.view.hasty }
+    ensures spared { GivesUpFor seat.old.knows seat.new.knows key }
+    ensures changed { IfOk result (λ rmw. Does rmw.change seat.old.knows seat.new.knows component key rmw.time rmw.old) }
+    ensures answered { IfOk result (λ rmw. F.post f.now rmw.old rmw.change) }
+    ensures full { IfErr result (λ full. FindsFull seat.old.knows seat.new.knows full.time) }
+{
+    for _ in rt.forever() {
+        match try_change(rt, words, seat, component, key, f) {
+            ChangeAttempt::Done(rmw) => return Ok(rmw),
+            ChangeAttempt::Full(time) => return Err(Full { time }),
+            ChangeAttempt::Lost => {}
+        }
+    }
+    unreachable!()
+}
+
+/// How the read under a read-modify-write ends: with its record where the key was kept, else with
+/// none, since its write has it.
+fn read_end(key: u64, answer: &Result<Rmw, Full>) -> End
+    ensures { result ≡ read_end key answer.now }
+{
+    match answer {
+        Ok(rmw) if is_keep(&rmw.change) => End::Recorded(deed_of(key, rmw)),
+        _ => End::Neither,
+    }
+}
+
+/// Changes the key: in a hold of the lock and a read.
+pub fn change<P: Pace, R: Wait, F: Fn(Option<Value>) -> Change>(
+    rt: &R,
+    words: &Words<P>,
+    seat: &mut RawSeat,
+    pin_word: u64,
+    key: u64,
+    f: &F,
+) -> Result<Rmw, Full>
+    requires of { IsSeatOf words.now seat.old }
+    requires rests { IsAtRest seat.old.knows }
+    requires pin { pin_word ≡ seat.old.knows.view.pin }
+    requires callable { F.IsAlwaysCallable f.now }
+    ensures of { IsSeatOf words.now seat.new }
+    ensures rests { IsAtRest seat.new.knows }
+    ensures pin { seat.new.knows.view.pin ≡ next_word (next_word pin_word) }
+    ensures entered { seat.new.knows.view.entries ≡ next_word seat.old.knows.view.entries }
+    ensures patient { seat.new.knows.view.hasty ≡ seat.old.knows.view.hasty }
+    ensures spared { GivesUpFor seat.old.knows seat.new.knows key }
+    ensures changed { IfOk result (λ rmw. ChangesAt seat.old.knows seat.new.knows rmw.time key rmw.old rmw.change) }
+    ensures answered { IfOk result (λ rmw. F.post f.now rmw.old rmw.change) }
+    ensures full { IfErr result (λ full. EndsFull seat.old.knows seat.new.knows full.time) }
+{
+    lock_shared(rt, words, seat);
+    let component = pin(words, seat, pin_word);
+    let answer = change_pinned(rt, words, seat, component, key, f);
+    unpin(
+        words,
+        seat,
+        pin_word.wrapping_add(1),
+        &read_end(key, &answer),
+    );
+    unlock_shared(words, seat);
+    answer
+}

@@ -1,0 +1,47 @@
+//! The freeze of an epoch.
+ghost use Rattle.std.specs.Prelude.{◌≡◌, ◌+◌, ◌*◌, ◌^◌, ◌≤◌, true};
+ghost use Rattle.clsm_law.specs.Merging.{epoch_end};
+ghost use Rattle.clsm_law.specs.Views.{next_word};
+ghost use Rattle.clsm_words.specs.Merging.{facts_known};
+ghost use Rattle.clsm_words.specs.Plays.{IsSeatOf};
+ghost use Rattle.clsm_store_calls.specs.Freezing.{HoldsOn, IsClean, IsFrozen};
+
+use clsm_law::Word;
+use clsm_lock::{lock_as_merger, unlock_as_merger};
+use clsm_words::{Pace, RawMerger, Words};
+use std::sync::Wait;
+
+/// Cancels the cells of the undrawn times of the epoch that ends at `end`, in the merger's hold of
+/// the lock.
+fn pad<P: Pace>(words: &Words<P>, merger: &mut RawMerger, merges: u64, end: u64)
+    requires of { IsSeatOf words.now merger.old }
+    requires held { (merger.old.knows.merger.exclusive ≡ true) × (merger.old.knows.merger.merged ≡ merges) }
+    requires end { end ≡ epoch_end merger.old.knows.layout merger.old.knows.merger }
+    ensures of { IsSeatOf words.now merger.new }
+    ensures held { HoldsOn merger.old.knows merger.new.knows }
+    ensures padded { (facts_known merger.new.knows).padded ≡ true }
+{
+    let clock = words.look_as_merger(merger, Word::Clock);
+    for time in clock..end {
+        words.pad(merger, time);
+    }
+}
+
+/// Freezes the epoch: no time of it is drawn any more, and the next epoch's may be.
+pub fn freeze<P: Pace, R: Wait>(rt: &R, words: &Words<P>, merger: &mut RawMerger, merges: u64)
+    requires of { IsSeatOf words.now merger.old }
+    requires clean { IsClean merger.old.knows merges }
+    requires room { (merges + 2) * merger.old.knows.layout.cells ≤ 2 ^ 62 }
+    ensures of { IsSeatOf words.now merger.new }
+    ensures frozen { IsFrozen merger.new.knows merges }
+    ensures floor { merger.new.knows.merger.floor ≡ merger.old.knows.merger.floor }
+    ensures rounds { merger.new.knows.merger.rounds ≡ merger.old.knows.merger.rounds }
+    ensures held { merger.new.knows.merger.holds ≡ next_word merger.old.knows.merger.holds }
+{
+    let end = (merges + 1) * words.cells();
+    lock_as_merger(rt, words, merger);
+    pad(words, merger, merges, end);
+    words.extend_clock(merger, merges);
+    words.extend_limit(merger, merges);
+    unlock_as_merger(words, merger);
+}

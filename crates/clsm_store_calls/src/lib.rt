@@ -1,0 +1,38 @@
+//! The calls at the words: what a seat or the merger does between two rests. The store binds them
+//! to its seats and tokens; nobody else calls them.
+#![tactic(auto)]
+
+mod agreeing;
+mod batching;
+mod changing;
+mod flooring;
+mod freezing;
+mod got;
+mod looking;
+mod meeting;
+mod merger_seat;
+mod merging;
+mod reading;
+mod reclaiming;
+mod refusal;
+mod scanning;
+mod snapshotting;
+mod trying;
+mod writing;
+
+pub use agreeing::agree_at;
+pub use batching::batch;
+pub use changing::change;
+pub use freezing::freeze;
+pub use got::{Got, Page, Rmw, Scan};
+pub use looking::{drawn_at, room_at};
+pub use meeting::{confirm_at, meet_at};
+pub use merger_seat::MergerSeat;
+pub use merging::merge;
+pub use reading::read;
+pub use reclaiming::reclaim;
+pub use refusal::{BatchError, Full, Open, Pinned, TryPutError, Worn};
+pub use scanning::{Asked, scan_at, scan_under};
+pub use snapshotting::{open_at, read_under};
+pub use trying::try_write;
+pub use writing::write;

@@ -1,0 +1,40 @@
+//! Looks at how full an epoch is.
+ghost use Rattle.std.specs.Prelude.{◌≡◌};
+ghost use Rattle.clsm_words.specs.Plays.{IsSeatOf};
+ghost use Rattle.clsm_store_calls.specs.Freezing.{IsClean};
+ghost use Rattle.clsm_store_calls.specs.Looking.{LooksAtClock, LooksForRoom, drawn_of};
+ghost use Rattle.clsm_store_calls.specs.Merging.{IsReady, clean_of};
+ghost use Rattle.clsm_store_calls.specs.Resting.{IsAtRest};
+
+use crate::merger_seat::MergerSeat;
+use clsm_law::Word;
+use clsm_words::{Pace, RawSeat, Words};
+
+/// How many timestamps are left below the limit: a look at LIMIT, and then one at CLOCK. The limit
+/// never falls, so at the second look at least so many were left.
+pub fn room_at<P: Pace>(words: &Words<P>, seat: &mut RawSeat) -> u64
+    requires of { IsSeatOf words.now seat.old }
+    requires rests { IsAtRest seat.old.knows }
+    ensures of { IsSeatOf words.now seat.new }
+    ensures rests { IsAtRest seat.new.knows }
+    ensures looks { LooksForRoom seat.old.knows seat.new.knows result }
+{
+    let limit = words.look(seat, Word::Limit);
+    let clock = words.look(seat, Word::Clock);
+    limit.saturating_sub(clock)
+}
+
+/// How many timestamps of the current epoch are drawn: a look at CLOCK, while nothing is frozen.
+pub fn drawn_at<P: Pace>(words: &Words<P>, merger: &mut MergerSeat) -> u64
+    requires of { IsSeatOf words.now merger.old.raw }
+    requires clean { IsClean merger.old.raw.knows merger.old.merges }
+    requires ready { IsReady merger.old }
+    ensures of { IsSeatOf words.now merger.new.raw }
+    ensures clean { IsClean merger.new.raw.knows merger.new.merges }
+    ensures ready { IsReady merger.new }
+    ensures looks { LooksAtClock (clean_of merger.old) (clean_of merger.new) }
+    ensures drawn { result ≡ drawn_of (clean_of merger.new) }
+{
+    let clock = words.look_as_merger(&mut merger.raw, Word::Clock);
+    clock.saturating_sub(merger.merges.saturating_mul(words.cells()))
+}

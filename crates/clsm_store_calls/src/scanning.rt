@@ -1,0 +1,191 @@
+//! Scans and pages at the words: one read of many keys, at one time.
+ghost use Rattle.std.specs.Prelude.{◌≡◌, ℕ, ◌+◌, ◌*◌, ◌≤◌, IfErr, IfOk, None, Some, length};
+ghost use Rattle.clsm_model.specs.History.{History, plain};
+ghost use Rattle.clsm_model.specs.Right.{Reads};
+ghost use Rattle.clsm_law.specs.declared.step.End.TheVariants.{Neither, Recorded};
+ghost use Rattle.clsm_law.specs.declared.step.Step.TheVariants.{Unpin};
+ghost use Rattle.clsm_law.specs.Views.{next_word};
+ghost use Rattle.clsm_law.specs.OpenSteps.{open_time};
+ghost use Rattle.clsm_words.specs.Keeping.{Looks};
+ghost use Rattle.clsm_pins.specs.Pinning.{Unpins};
+ghost use Rattle.clsm_words.specs.Plays.{IsSeatOf, MayPlay};
+ghost use Rattle.clsm_store_calls.specs.Resting.{IsAtRest};
+ghost use Rattle.clsm_store_calls.specs.Reading.{MayReadAt, ReadsAt};
+ghost use Rattle.clsm_store_calls.specs.Snapshots.{ReadsUnder};
+ghost use Rattle.clsm_store_calls.specs.Scanning.{GivesAsked, GivesUpRead, IsAnswerTo, IsRecord, bounds_of, most_of};
+
+use crate::reading::begin;
+use clsm_law::End;
+use clsm_memtable::settle_below;
+use clsm_model::{Deed, Memory, Rows, Time};
+use clsm_pins::{pin, unpin};
+use clsm_scan::{Collected, scan};
+use clsm_words::{Pace, RawSeat, Words};
+use std::alloc::Global;
+
+/// What a scan or a page asks for: the pairs of the keys from the first one to the last one.
+#[derive(Clone, Copy)]
+pub enum Asked {
+    /// All of them.
+    All(u64, u64),
+    /// So many of the first.
+    First(u64, u64, usize),
+}
+
+/// The deed that answers it with these rows.
+fn deed_of(asked: Asked, found: Collected) -> Deed
+    ensures answers { IsAnswerTo asked result }
+    ensures reads { (h : History) (s : ℕ) → GivesAsked h s asked found.rows.items found.more → Reads h s result }
+{
+    let Collected { rows, more } = found;
+    let rows = Rows::new(rows);
+    match asked {
+        Asked::All(lo, hi) => Deed::Scan { lo, hi, rows },
+        Asked::First(from, hi, max) => Deed::Page {
+            from,
+            hi,
+            max: max as u64,
+            rows,
+            more,
+        },
+    }
+}
+
+/// The deed that the end records.
+fn deed_in(end: End) -> Deed
+    requires { IsRecord end }
+    ensures { end ≡ Recorded result }
+{
+    match end {
+        End::Recorded(deed) => deed,
+        _ => unreachable!(),
+    }
+}
+
+impl Asked {
+    /// The first key and the last one.
+    fn bounds(self) -> (u64, u64)
+        ensures { result ≡ bounds_of self }
+    {
+        match self {
+            Asked::All(lo, hi) | Asked::First(lo, hi, _) => (lo, hi),
+        }
+    }
+
+    /// How many pairs it wants at most.
+    fn most(self) -> Option<usize>
+        ensures { result ≡ most_of self }
+    {
+        match self {
+            Asked::All(..) => None,
+            Asked::First(_, _, max) => Some(max),
+        }
+    }
+}
+
+/// What was asked, of the component and below the time. The time is not below what is merged into
+/// the component, or it is that of the seat's open snapshot.
+fn deed_below<P: Pace>(
+    words: &Words<P>,
+    seat: &mut RawSeat,
+    alloc: Global,
+    component: u64,
+    asked: Asked,
+    time: Time,
+) -> Result<Deed, Memory>
+    requires of { IsSeatOf words.now seat.old }
+    requires held { seat.old.knows.view.held ≡ Some component }
+    requires may { MayReadAt seat.old.knows component time }
+    requires within { time ≤ (component + 2) * seat.old.knows.layout.cells }
+    requires settled { time ≤ length seat.old.knows.past }
+    ensures of { IsSeatOf words.now seat.new }
+    ensures looks { Looks seat.old.knows seat.new.knows }
+    ensures reads { IfOk result (Reads (plain seat.old.knows.past) time) }
+    ensures answers { IfOk result (IsAnswerTo asked) }
+{
+    seat.show_invariant();
+    let (lo, hi) = asked.bounds();
+    let found = scan(words, seat, alloc, component, lo, hi, time, asked.most())?;
+    Ok(deed_of(asked, found))
+}
+
+/// Ends the read: with the record of its deed, or with nothing where it was refused.
+fn end<P: Pace>(
+    words: &Words<P>,
+    seat: &mut RawSeat,
+    pin_word: u64,
+    read: Result<Deed, Memory>,
+) -> Result<Deed, Memory>
+    requires records { IfOk read (λ deed. MayPlay words.now seat.old (Unpin (Recorded deed))) }
+    requires ends { MayPlay words.now seat.old (Unpin Neither) }
+    requires pin { pin_word ≡ seat.old.knows.view.pin }
+    ensures of { IsSeatOf words.now seat.new }
+    ensures same { result ≡ read }
+    ensures recorded { IfOk result (λ deed. Unpins seat.old.knows seat.new.knows (Recorded deed)) }
+    ensures ended { IfErr result (λ refusal. Unpins seat.old.knows seat.new.knows Neither) }
+{
+    let deed = match read {
+        Ok(deed) => deed,
+        Err(refusal) => {
+            unpin(words, seat, pin_word, &End::Neither);
+            return Err(refusal);
+        }
+    };
+    let end = End::Recorded(deed);
+    unpin(words, seat, pin_word, &end);
+    Ok(deed_in(end))
+}
+
+/// What was asked, at a time of the read's own, where no snapshot is open.
+pub fn scan_at<P: Pace>(
+    words: &Words<P>,
+    seat: &mut RawSeat,
+    alloc: Global,
+    pin_word: u64,
+    asked: Asked,
+) -> Result<(Time, Deed), Memory>
+    requires of { IsSeatOf words.now seat.old }
+    requires rests { IsAtRest seat.old.knows }
+    requires pin { pin_word ≡ seat.old.knows.view.pin }
+    requires none { open_time seat.old.knows.view.snapshot ≡ None }
+    ensures of { IsSeatOf words.now seat.new }
+    ensures rests { IsAtRest seat.new.knows }
+    ensures pin { seat.new.knows.view.pin ≡ next_word (next_word pin_word) }
+    ensures reads { IfOk result (λ read. ReadsAt seat.old.knows seat.new.knows read.0 read.1) }
+    ensures answers { IfOk result (λ read. IsAnswerTo asked read.1) }
+    ensures given_up { IfErr result (λ refusal. GivesUpRead seat.old.knows seat.new.knows) }
+{
+    let (component, time) = begin(words, seat, pin_word);
+    settle_below(words, seat, component, time);
+    let read = deed_below(words, seat, alloc, component, asked, time);
+    let deed = end(words, seat, pin_word.wrapping_add(1), read)?;
+    Ok((time, deed))
+}
+
+/// What was asked, at the time of the open snapshot.
+pub fn scan_under<P: Pace>(
+    words: &Words<P>,
+    seat: &mut RawSeat,
+    alloc: Global,
+    pin_word: u64,
+    time: Time,
+    asked: Asked,
+) -> Result<(Time, Deed), Memory>
+    requires of { IsSeatOf words.now seat.old }
+    requires rests { IsAtRest seat.old.knows }
+    requires pin { pin_word ≡ seat.old.knows.view.pin }
+    requires opened { open_time seat.old.knows.view.snapshot ≡ Some time }
+    ensures of { IsSeatOf words.now seat.new }
+    ensures rests { IsAtRest seat.new.knows }
+    ensures pin { seat.new.knows.view.pin ≡ next_word (next_word pin_word) }
+    ensures time { IfOk result (λ read. read.0 ≡ time) }
+    ensures reads { IfOk result (λ read. ReadsUnder seat.old.knows seat.new.knows time read.1) }
+    ensures answers { IfOk result (λ read. IsAnswerTo asked read.1) }
+    ensures given_up { IfErr result (λ refusal. GivesUpRead seat.old.knows seat.new.knows) }
+{
+    let component = pin(words, seat, pin_word);
+    seat.show_invariant();
+    let read = deed_below(words, seat, alloc, component, asked, time);
+    let deed = end(words, seat, pin_word.wrapping_add(1), read)?;
+    Ok((time, deed))
+}

@@ -1,0 +1,83 @@
+//! Writes that try each exchange once.
+ghost use Rattle.std.specs.Prelude.{◌≡◌, Some, IfOk, IfErr, Err};
+ghost use Rattle.clsm_model.specs.declared.record.Deed.TheVariants.{Put};
+ghost use Rattle.clsm_words.specs.Plays.{IsSeatOf};
+ghost use Rattle.clsm_memtable.specs.Writing.{Draws};
+ghost use Rattle.clsm_store_calls.specs.Resting.{IsAtRest, IsInHold, Records};
+ghost use Rattle.clsm_store_calls.specs.Tally.{CountsInHold, CountsTry, tally_of};
+ghost use Rattle.clsm_store_calls.specs.Trying.{Fails};
+
+use crate::refusal::TryPutError;
+use crate::writing::deed_of;
+use clsm_lock::{try_lock_shared, unlock_shared};
+use clsm_memtable::{Decided, DrawError, decide, draw, fill, give_up, prefetch, try_enter};
+use clsm_model::{Time, Value};
+use clsm_words::{Pace, RawSeat, Words};
+
+/// Draws the next time, or says why not.
+fn try_draw<P: Pace>(words: &Words<P>, seat: &mut RawSeat) -> Result<Time, TryPutError>
+    requires of { IsSeatOf words.now seat.old }
+    requires holds { IsInHold seat.old.knows }
+    ensures of { IsSeatOf words.now seat.new }
+    ensures drawn { IfOk result (λ time. Draws seat.old.knows seat.new.knows time) }
+    ensures holds { IfErr result (λ refusal. IsInHold seat.new.knows) }
+    ensures fails { IfErr result (Fails seat.old.knows seat.new.knows) }
+    ensures counts { IfErr result (λ refusal. CountsInHold (tally_of seat.old.knows) (tally_of seat.new.knows) (Err refusal)) }
+{
+    match draw(words, seat) {
+        Ok(time) => Ok(time),
+        Err(DrawError::Full(time)) => Err(TryPutError::Full { time }),
+        Err(DrawError::Raced) => Err(TryPutError::Raced),
+    }
+}
+
+/// Tries once to write, in a hold of the lock.
+fn try_in_hold<P: Pace>(
+    words: &Words<P>,
+    seat: &mut RawSeat,
+    key: u64,
+    value: Value,
+) -> Result<Time, TryPutError>
+    requires of { IsSeatOf words.now seat.old }
+    requires holds { IsInHold seat.old.knows }
+    ensures of { IsSeatOf words.now seat.new }
+    ensures holds { IsInHold seat.new.knows }
+    ensures written { IfOk result (λ time. Records seat.old.knows seat.new.knows time (Put key value)) }
+    ensures fails { IfErr result (Fails seat.old.knows seat.new.knows) }
+    ensures counts { CountsInHold (tally_of seat.old.knows) (tally_of seat.new.knows) result }
+{
+    let time = try_draw(words, seat)?;
+    let guess = prefetch(words, seat, time, key);
+    fill(words, seat, time, key, Some(&value));
+    let Ok(trace) = try_enter(words, seat, time, key, &guess) else {
+        give_up(words, seat, time);
+        return Err(TryPutError::Raced);
+    };
+    match decide(words, seat, time, &deed_of(key, &Some(value)), &trace) {
+        Decided::Done => Ok(time),
+        Decided::Overtaken => Err(TryPutError::Overtaken),
+    }
+}
+
+/// Tries once to write the value at the key.
+pub fn try_write<P: Pace>(
+    words: &Words<P>,
+    seat: &mut RawSeat,
+    key: u64,
+    value: Value,
+) -> Result<Time, TryPutError>
+    requires of { IsSeatOf words.now seat.old }
+    requires rests { IsAtRest seat.old.knows }
+    ensures of { IsSeatOf words.now seat.new }
+    ensures rests { IsAtRest seat.new.knows }
+    ensures written { IfOk result (λ time. Records seat.old.knows seat.new.knows time (Put key value)) }
+    ensures fails { IfErr result (Fails seat.old.knows seat.new.knows) }
+    ensures counts { CountsTry (tally_of seat.old.knows) (tally_of seat.new.knows) result }
+{
+    if try_lock_shared(words, seat).is_err() {
+        return Err(TryPutError::Busy);
+    }
+    let answer = try_in_hold(words, seat, key, value);
+    unlock_shared(words, seat);
+    answer
+}

@@ -1,0 +1,113 @@
+//! Writes at the words: draw, fill, link, decide, again where that was lost.
+ghost use Rattle.std.specs.Prelude.{◌≡◌, Some, None, IfOk, IfErr};
+ghost use Rattle.clsm_law.specs.Views.{next_word};
+ghost use Rattle.clsm_words.specs.Plays.{IsSeatOf};
+ghost use Rattle.clsm_store_calls.specs.Tally.{CancelsNone, tally_of};
+ghost use Rattle.clsm_store_calls.specs.Resting.{IsAtRest, IsInHold, FindsFull, Records, Tries, deed_of};
+
+use crate::refusal::Full;
+use clsm_lock::{lock_shared, unlock_shared};
+use clsm_memtable::{Decided, DrawError, decide, draw, enter, fill, prefetch};
+use clsm_model::{Deed, Time, Value};
+use clsm_words::{Pace, RawSeat, Words};
+use std::sync::Wait;
+
+/// What came of one try to write.
+pub(crate) enum Attempt {
+    Written(Time),
+    /// The clock stands at the limit.
+    Full(Time),
+    /// Another seat drew the time first, or cancelled it.
+    Lost,
+}
+
+/// The write of the value at the key, or its removal.
+pub(crate) fn deed_of(key: u64, value: &Option<Value>) -> Deed
+    ensures { result ≡ deed_of key value.now }
+{
+    match *value {
+        Some(value) => Deed::Put { key, value },
+        None => Deed::Remove { key },
+    }
+}
+
+/// Tries once to write, in a hold of the lock.
+fn try_write<P: Pace, R: Wait>(
+    rt: &R,
+    words: &Words<P>,
+    seat: &mut RawSeat,
+    key: u64,
+    value: &Option<Value>,
+) -> Attempt
+    requires of { IsSeatOf words.now seat.old }
+    requires holds { IsInHold seat.old.knows }
+    ensures of { IsSeatOf words.now seat.new }
+    ensures holds { IsInHold seat.new.knows }
+    ensures entered { seat.new.knows.view.entries ≡ seat.old.knows.view.entries }
+    ensures cancels { CancelsNone (tally_of seat.old.knows) (tally_of seat.new.knows) }
+    ensures tries { Tries seat.old.knows seat.new.knows (deed_of key value.now) result }
+{
+    let time = match draw(words, seat) {
+        Ok(time) => time,
+        Err(DrawError::Full(time)) => return Attempt::Full(time),
+        Err(DrawError::Raced) => return Attempt::Lost,
+    };
+    let guess = prefetch(words, seat, time, key);
+    fill(words, seat, time, key, value.as_ref());
+    let trace = enter(rt, words, seat, time, key, &guess);
+    match decide(words, seat, time, &deed_of(key, value), &trace) {
+        Decided::Done => Attempt::Written(time),
+        Decided::Overtaken => Attempt::Lost,
+    }
+}
+
+/// Writes, in a hold of the lock, and tries until the write stands or the clock is at the limit.
+#[tactic(auto, using(crate::proofs::Rest::records_later, crate::proofs::Rest::full_later, crate::proofs::Rest::still_trans))]
+fn write_in_hold<P: Pace, R: Wait>(
+    rt: &R,
+    words: &Words<P>,
+    seat: &mut RawSeat,
+    key: u64,
+    value: &Option<Value>,
+) -> Result<Time, Full>
+    requires of { IsSeatOf words.now seat.old }
+    requires holds { IsInHold seat.old.knows }
+    ensures of { IsSeatOf words.now seat.new }
+    ensures holds { IsInHold seat.new.knows }
+    ensures entered { seat.new.knows.view.entries ≡ seat.old.knows.view.entries }
+    ensures cancels { CancelsNone (tally_of seat.old.knows) (tally_of seat.new.knows) }
+    ensures written { IfOk result (λ time. Records seat.old.knows seat.new.knows time (deed_of key value.now)) }
+    ensures full { IfErr result (λ full. FindsFull seat.old.knows seat.new.knows full.time) }
+{
+    for _ in rt.forever() {
+        match try_write(rt, words, seat, key, value) {
+            Attempt::Written(time) => return Ok(time),
+            Attempt::Full(time) => return Err(Full { time }),
+            Attempt::Lost => {}
+        }
+    }
+    unreachable!()
+}
+
+/// Writes the value at the key, or with `None` removes it, and waits for the lock.
+pub fn write<P: Pace, R: Wait>(
+    rt: &R,
+    words: &Words<P>,
+    seat: &mut RawSeat,
+    key: u64,
+    value: &Option<Value>,
+) -> Result<Time, Full>
+    requires of { IsSeatOf words.now seat.old }
+    requires rests { IsAtRest seat.old.knows }
+    ensures of { IsSeatOf words.now seat.new }
+    ensures rests { IsAtRest seat.new.knows }
+    ensures entered { seat.new.knows.view.entries ≡ next_word seat.old.knows.view.entries }
+    ensures cancels { CancelsNone (tally_of seat.old.knows) (tally_of seat.new.knows) }
+    ensures written { IfOk result (λ time. Records seat.old.knows seat.new.knows time (deed_of key value.now)) }
+    ensures full { IfErr result (λ full. FindsFull seat.old.knows seat.new.knows full.time) }
+{
+    lock_shared(rt, words, seat);
+    let answer = write_in_hold(rt, words, seat, key, value);
+    unlock_shared(words, seat);
+    answer
+}
