@@ -1,61 +1,57 @@
-//! An example of a program on the store: two threads write and read, and the merger merges.
+//! An example of a program on the store: four threads count words by their lengths.
 #![tactic(auto)]
 
-ghost use Rattle.std.specs.Prelude.{◌≡◌};
-
-use clsm_store::{Caller, Config, Free, Full, Merger, Opened, Seat, Store, Value, open};
+use clsm_session::{Caller, Config, Ended, Job, Place, Refused, SessionCaller, with_store};
 use std::process::ExitCode;
 use std::sync::Wait;
-use std::thread::{self, Threads};
+use std::thread::Threads;
 
 const SIZES: Config = Config {
     cells: 64,
-    seats: 2,
+    seats: 4,
     shards: 1,
     run: 1_024,
     patience: 16,
 };
 
-/// The keys that each thread writes.
-const KEYS: u64 = 20;
+/// The words that are counted.
+const TEXT: &str = "\
+    a store that keeps its rows in sorted runs and its newest rows in memory merges them now and \
+    then in one thread while the others read and write and nobody who reads has to wait for it";
 
-/// Puts the squares of this thread's numbers, and adds up what it reads of them.
-fn squares<R: Wait>(rt: &R, store: &Store<Free>, seat: Seat) -> Result<u64, Full>
-    requires { seat.store ≡ store.now }
-{
-    let first = u64::from(seat.number()) * KEYS;
-    let mut caller = Caller::new(store, seat);
-    let mut sum = 0_u64;
-    for key in first..first + KEYS {
-        let square = Value::from(key.wrapping_mul(key));
-        caller.put(rt, key, square)?;
-        let found = caller.get(key).value;
-        sum = sum.wrapping_add(found.map_or(0, |value| value.first()));
+/// Counts words by their lengths. Each of four callers takes every fourth word.
+struct Count;
+
+impl Job for Count {
+    type Answer = Result<(), Refused>;
+
+    fn run<R: Wait, P: Place>(&self, caller: &mut SessionCaller<'_, R, P>) -> Result<(), Refused> {
+        let first = caller.number() as usize;
+        for word in TEXT.split(' ').skip(first).step_by(4) {
+            caller.add(word.len() as u64, 1)?;
+        }
+        Ok(())
     }
-    Ok(sum)
 }
 
-/// Opens a store, lets two threads work on it, and merges what they wrote.
-fn example<R: Threads + Sync + Wait + Print + AllocGlobal>(rt: &R) -> Option<()> {
-    let Opened {
+/// Counts in a store, and prints what it then holds.
+fn try_example<R: Threads + Sync + Wait + Print + AllocGlobal>(rt: &R) -> Option<()> {
+    let Ended {
         store,
         seats,
-        merger,
-    } = open(rt.alloc(), SIZES).ok()?;
-    let sums = thread::map_vec(
-        rt,
-        seats,
-        &|seat: Seat| -> Result<u64, Full>
-            requires { seat.store ≡ store }
-        { squares(rt, &store, seat) },
-    )
-    .ok()?;
-    let (_, swept) = Merger::new(&store, merger).sweep(rt);
-    println!(rt; "{sums:?} {swept:?}").ok()
+        answers,
+    } = with_store(rt, rt.alloc(), SIZES, &Count).ok()?;
+    let mut caller = Caller::new(&store, seats.into_iter().next()?);
+    let counts = caller.scan(rt.alloc(), 0, u64::MAX).ok()?;
+    println!(rt; "{answers:?}").ok()?;
+    for (length, count) in counts.rows.as_slice() {
+        println!(rt; "{length} letters: {}", count.first()).ok()?;
+    }
+    Some(())
 }
 
 fn main(rt: HostRuntime) -> ExitCode {
-    match example(&rt) {
+    match try_example(&rt) {
         Some(()) => ExitCode::SUCCESS,
         None => ExitCode::FAILURE,
     }

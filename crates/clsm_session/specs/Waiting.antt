@@ -1,0 +1,37 @@
+-- What writes that wait for room leave of the seat. Each try that found no room left it as it was,
+-- but for its tally.
+use Rattle.std.specs.Prelude.{◌≡◌, ℕ, ◌+◌, ◌<◌, List, length, Some}
+use Rattle.clsm_model.specs.Right.{Member}
+use Rattle.clsm_store_calls.specs.Batching.{IsNoBatch}
+use Rattle.clsm_store_calls.specs.Seats.{Refuses, SeatState}
+use Rattle.clsm_store_calls.specs.declared.refusal.BatchError.TheVariants as errors
+use Rattle.clsm_session.specs.declared.refusal.BatchRefused.{BatchRefused}
+use Rattle.clsm_session.specs.declared.refusal.BatchRefused.TheVariants.{Empty, TooLong, Keep, NoRoom}
+
+-- it cancelled no time of others before it had waited for it
+abbrev pub IsPatient : SeatState → SeatState → Type 0
+IsPatient old new = new.tally.hasty ≡ old.tally.hasty
+
+-- it was refused, and in its last hold of the lock the clock stood at the limit
+pub record IsFullAtLast (old new : SeatState) : Type 0 where
+  pub refused : Refuses old new
+  pub time : ℕ
+  pub limit : new.tally.limit ≡ Some time
+  pub clock : new.tally.clock ≡ Some time
+
+-- it was refused, and in its last hold of the lock so many members did not fit between the clock and
+-- the limit
+pub record IsNoRoomAtLast (old new : SeatState) (members : ℕ) : Type 0 where
+  pub refused : Refuses old new
+  pub time : ℕ
+  pub clock : new.tally.clock ≡ Some time
+  pub limit : ℕ
+  pub looked : new.tally.limit ≡ Some limit
+  pub short : limit < time + members
+
+-- why a batch was refused: for want of room, or since it is none
+abbrev pub IsRefusedAtLast : SeatState → SeatState → List Member → BatchRefused → Type 0
+IsRefusedAtLast old new members (NoRoom _) = IsNoRoomAtLast old new (length members)
+IsRefusedAtLast old new members Empty = Refuses old new × IsNoBatch old.store.layout.cells members errors.Empty
+IsRefusedAtLast old new members TooLong = Refuses old new × IsNoBatch old.store.layout.cells members errors.TooLong
+IsRefusedAtLast old new members Keep = Refuses old new × IsNoBatch old.store.layout.cells members errors.Keep

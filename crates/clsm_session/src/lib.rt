@@ -1,0 +1,21 @@
+//! A store that runs itself: a thread for each caller and one for the merger, and at the end one
+//! history of all that the callers did.
+#![tactic(auto)]
+
+mod board;
+mod caller;
+mod job;
+mod merging;
+mod refusal;
+mod session;
+mod worked;
+mod writing;
+
+pub use caller::SessionCaller;
+pub use clsm_store::{
+    Caller, Change, Config, Got, Memory, Open, OpenError, Page, Rmw, Rows, Scan, Seat, Store, Time,
+    Value,
+};
+pub use job::{Job, Place};
+pub use refusal::{BatchRefused, Refused, SessionError};
+pub use session::{Ended, with_store};

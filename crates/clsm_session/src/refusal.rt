@@ -1,0 +1,47 @@
+//! Why a session, and why a call of it, is refused.
+use clsm_model::OpenError;
+use thiserror::Error;
+
+/// Why a write of a session is refused: the epoch was full, and the merger, called for this write,
+/// could not make the next one. Nothing was written. The store is too small for what it is to hold.
+#[derive(Clone, Copy, PartialEq, Eq, Debug, Error)]
+pub enum Refused {
+    /// The merge would keep more entries than a run has room for. A snapshot that is closed may
+    /// help: the merger tries again for the next write that finds the epoch full.
+    #[error("run full")]
+    RunFull,
+    /// Timestamps would pass 2^62. No real run gets there.
+    #[error("worn")]
+    Worn,
+}
+
+/// Why a batch of a session is refused. Nothing was written.
+#[derive(Clone, Copy, PartialEq, Eq, Debug, Error)]
+pub enum BatchRefused {
+    /// It has no member.
+    #[error("empty")]
+    Empty,
+    /// It has more members than an epoch has cells.
+    #[error("too long")]
+    TooLong,
+    /// One of its members keeps its key, so that it is no write.
+    #[error("keep")]
+    Keep,
+    /// As a write.
+    #[error(transparent)]
+    NoRoom(Refused),
+}
+
+/// Why a session hands nothing back.
+#[derive(Clone, Copy, PartialEq, Eq, Debug, Error)]
+pub enum SessionError {
+    /// The store was not opened; no caller was called.
+    #[error(transparent)]
+    Open(OpenError),
+    /// No thread could be made for the merger; no caller was called.
+    #[error("no thread for the merger")]
+    NoThread,
+    /// Memory ran out; callers may have been called.
+    #[error("memory")]
+    Memory,
+}
