@@ -9,7 +9,7 @@ use Rattle.clsm_law.specs.declared.view.Mode.TheVariants.{Free, Shared, Exclusiv
 use Rattle.clsm_law.specs.declared.view.SnapshotState.{SnapshotState}
 use Rattle.clsm_law.specs.declared.view.SnapshotState.TheVariants.{Absent, Noted, Timed, Open}
 use Rattle.clsm_law.specs.Views.{IsBelow, blank, is_free, next_word}
-use Rattle.clsm_law.specs.Relation.{looked, one_more_if, timed_by}
+use Rattle.clsm_law.specs.Relation.{looked, one_more_if, taken, timed_by}
 use Rattle.clsm_words.specs.declared.known.Known.{Known}
 use Rattle.clsm_words.specs.Knowing.{IsNearHeld, Sound, Follows}
 use Rattle.clsm_words.specs.Keeping.{KeepsPlace}
@@ -119,19 +119,7 @@ module _ (k k1 k2 : Known) (limit time : ℕ) (sound : Sound k) (holds : k.view.
     draws lt won = record {
       place = place;
       view = subst (λ (v : View). v
-          ≡ record k.view {
-            drawn = Some time;
-            key = None;
-            length = None;
-            words = blank 8;
-            next = None;
-            linked = false;
-            order_next = None;
-            inserted = false;
-            fresh_link = None;
-            low = 0;
-            high = 0;
-            fresh_clock = None;
+          ≡ record (taken k.view time) {
             hold_limit = v.hold_limit;
             hold_clock = Some time;
             clock = Some time;

@@ -1,12 +1,12 @@
 -- What the calls that write leave of a seat as it was, and what they change.
-use Rattle.std.specs.Prelude.{◌≡◌, ◌≢◌, ℕ, ◌+◌, ◌≤◌, ◌⊎◌, List, [], ◌∷◌, ◌++◌, length, true, false, Some, None}
+use Rattle.std.specs.Prelude.{◌≡◌, ◌≢◌, ℕ, ◌+◌, ◌≤◌, ◌⊎◌, List, [], ◌∷◌, ◌++◌, length, true, Some, None}
 use Rattle.clsm_model.specs.declared.record.Deed.{Deed}
 use Rattle.clsm_model.specs.declared.record.Deed.TheVariants.{Batch as Group}
 use Rattle.clsm_model.specs.Right.{Member}
 use Rattle.clsm_law.specs.declared.view.SnapshotState.{SnapshotState}
 use Rattle.clsm_law.specs.declared.view.SnapshotState.TheVariants.{Noted}
-use Rattle.clsm_law.specs.Views.{blank, next_word, IsBelow}
-use Rattle.clsm_law.specs.Relation.{reached_after, call_of, member_of}
+use Rattle.clsm_law.specs.Views.{next_word, IsBelow}
+use Rattle.clsm_law.specs.Relation.{reached_after, call_of, member_of, taken}
 use Rattle.clsm_words.specs.declared.known.Known.{Known}
 use Rattle.clsm_words.specs.Knowing.{IsNearHeld}
 use Rattle.clsm_words.specs.Keeping.{KeepsPlace}
@@ -26,19 +26,7 @@ IsUnnoted _ = Unit {0}
 -- of the ordered list is known before or behind it
 pub record Draws (old new : Known) (t : ℕ) : Type 0 where
   pub place : KeepsPlace old new
-  pub view : new.view ≡ record old.view {
-    drawn = Some t;
-    key = None;
-    length = None;
-    words = blank 8;
-    next = None;
-    linked = false;
-    order_next = None;
-    inserted = false;
-    fresh_link = None;
-    low = 0;
-    high = 0;
-    fresh_clock = None;
+  pub view : new.view ≡ record (taken old.view t) {
     hold_limit = new.view.hold_limit;
     hold_clock = Some t;
     clock = Some t;

@@ -1,8 +1,9 @@
 -- Draws that were lost before one that won, or before the clock stood at the limit.
-use Rattle.std.proofs.Common.{◌≡◌, ◌∙◌, ℕ, arith, ap, refl, subst, sym, false, Option, Some, None}
+use Rattle.std.proofs.Common.{◌≡◌, ◌∙◌, ℕ, arith, ap, refl, subst, sym, Option, Some, None}
 use Rattle.clsm_law.specs.declared.layout.Layout.{Layout}
 use Rattle.clsm_law.specs.declared.view.View.{View}
-use Rattle.clsm_law.specs.Views.{blank, next_word}
+use Rattle.clsm_law.specs.Relation.{taken}
+use Rattle.clsm_law.specs.Views.{next_word}
 use Rattle.clsm_words.specs.declared.known.Known.{Known}
 use Rattle.clsm_words.specs.Knowing.{IsNearHeld}
 use Rattle.clsm_words.specs.Keeping.{KeepsPlace}
@@ -54,19 +55,7 @@ full_at_last a b c t h k = record {
 
 -- the view with the time drawn
 abbrev with_drawn : View → ℕ → Option ℕ → Option ℕ → ℕ → View
-with_drawn v t limit pin raced = record v {
-  drawn = Some t;
-  key = None;
-  length = None;
-  words = blank 8;
-  next = None;
-  linked = false;
-  order_next = None;
-  inserted = false;
-  fresh_link = None;
-  low = 0;
-  high = 0;
-  fresh_clock = None;
+with_drawn v t limit pin raced = record (taken v t) {
   hold_limit = limit;
   hold_clock = Some t;
   clock = Some t;

@@ -16,3 +16,4 @@ pub mod Agreed
 pub mod Asking
 pub mod ReadParts
 pub mod Staged
+pub mod Foreseen

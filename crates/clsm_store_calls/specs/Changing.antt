@@ -10,8 +10,8 @@ use Rattle.clsm_model.specs.declared.record.Deed.{Deed}
 use Rattle.clsm_model.specs.declared.record.Deed.TheVariants.{Rmw}
 use Rattle.clsm_law.specs.declared.step.End.{End}
 use Rattle.clsm_law.specs.declared.step.End.TheVariants.{Neither, Recorded}
-use Rattle.clsm_law.specs.Views.{IsBelow, blank, next_word}
-use Rattle.clsm_law.specs.Relation.{call_of}
+use Rattle.clsm_law.specs.Views.{IsBelow, next_word}
+use Rattle.clsm_law.specs.Relation.{call_of, taken}
 use Rattle.clsm_model.specs.Seats.{due_by}
 use Rattle.clsm_law.specs.declared.view.Mode.TheVariants.{Shared}
 use Rattle.clsm_words.specs.declared.known.Known.{Known}
@@ -79,19 +79,7 @@ pub record LosesDraws (old new : Known) : Type 0 where
 -- it drew the time, whatever draws it lost before
 pub record DrawsAtLast (old new : Known) (t : ℕ) : Type 0 where
   pub place : KeepsPlace old new
-  pub view : new.view ≡ record old.view {
-    drawn = Some t;
-    key = None;
-    length = None;
-    words = blank 8;
-    next = None;
-    linked = false;
-    order_next = None;
-    inserted = false;
-    fresh_link = None;
-    low = 0;
-    high = 0;
-    fresh_clock = None;
+  pub view : new.view ≡ record (taken old.view t) {
     hold_limit = new.view.hold_limit;
     hold_clock = Some t;
     clock = Some t;
