@@ -84,7 +84,10 @@ pub record IsExplore (rows : List Row) (options : ExploreOptions) : Type 0 where
   pub shards : options.shards ≡ number_of (codes "shards") rows
   pub patience : options.patience ≡ number_of (codes "patience") rows
   pub merge : options.merge ≡ flag_of (codes "merge") rows
+  pub limit : options.limit ≡ number_of (codes "limit") rows
   pub answers : options.answers ≡ flag_of (codes "answers") rows
+  pub schedule : options.schedule ≡ flag_of (codes "schedule") rows
+  pub count : options.count ≡ flag_of (codes "count") rows
   pub progress : options.progress ≡ flag_of (codes "progress") rows
   pub scripts : map (λ text. text.bytes.items) options.scripts.items
       ≡ texts_of (codes "scripts") rows
