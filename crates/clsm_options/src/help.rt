@@ -79,7 +79,7 @@ With --answers it first prints what the calls can answer: each different end is 
 as `clsm audit` reads them, separated by semicolons, or `no record`. With --schedule there stands
 below each such line a shortest order of steps that leads to it: a column for each seat, the
 merger's last, and a line for each step, with what a look found and whether an exchange is lost.
-With --count `worlds N ends M answers K` is printed before the verdict.
+With --count it prints `worlds N ends M answers K` before `explore ok`.
 
 Exit status: 0 no fault; 1 refused words, `bad script S`, a failed write; 2 a fault was found; 3
 the sizes were refused, memory ran out, or there were too many worlds.
