@@ -8,7 +8,7 @@ use clsm_model::Config;
 use clsm_options::{AuditOptions, ExploreOptions, Options, Refusal, RunOptions, parse};
 use clsm_records::{AskedAudit, audit_lines};
 use clsm_run::{Load, Shows, run};
-use clsm_schedules::{Shows as ShowsOf, explore_scripts};
+use clsm_schedules::{Exploration, Shows as ShowsOf, explore_scripts};
 use clsm_script::script;
 use clsm_text::Failure;
 use std::alloc::Global;
@@ -102,17 +102,18 @@ where
     };
     let shows = ShowsOf {
         answers: options.answers,
+        schedule: options.schedule,
+        count: options.count,
         progress: options.progress,
     };
-    explore_scripts(
-        alloc,
+    let asked = Exploration {
         config,
-        &options.scripts,
-        options.merge,
+        scripts: &options.scripts,
+        merge: options.merge,
+        limit: options.limit,
         shows,
-        output,
-        faults,
-    )
+    };
+    explore_scripts(alloc, &asked, output, faults)
 }
 
 /// What an audit is asked for. Of the sizes of the store it takes only the first two.

@@ -84,7 +84,10 @@ pub record IsExplore (rows : List Row) (options : ExploreOptions) : Type 0 where
   pub shards : options.shards ≡ number_of (codes "shards") rows
   pub patience : options.patience ≡ number_of (codes "patience") rows
   pub merge : options.merge ≡ flag_of (codes "merge") rows
+  pub limit : options.limit ≡ number_of (codes "limit") rows
   pub answers : options.answers ≡ flag_of (codes "answers") rows
+  pub schedule : options.schedule ≡ flag_of (codes "schedule") rows
+  pub count : options.count ≡ flag_of (codes "count") rows
   pub progress : options.progress ≡ flag_of (codes "progress") rows
   pub scripts : map (λ text. text.bytes.items) options.scripts.items
       ≡ texts_of (codes "scripts") rows
@@ -106,10 +109,16 @@ AreInRange rows = IsBetween 1 64 (number_of (codes "threads") rows)
     × IsBetween 0 1000000 (number_of (codes "ops") rows)
     × IsBetween 1 1000000 (number_of (codes "keys") rows)
 
--- the threads, calls and keys of `clsm run` are in their ranges
+-- the limit of `clsm explore` has a range
+abbrev pub IsLimitInRange : List Row → Type 0
+IsLimitInRange rows = IsBetween 1 4000000 (number_of (codes "limit") rows)
+
+-- the threads, calls and keys of `clsm run` are in their ranges, and so is the limit of
+-- `clsm explore`
 abbrev pub IsInRange : Options → Type 0
 IsInRange (Run options) = IsBetween 1 64 options.config.seats × IsBetween 0 1000000 options.ops
     × IsBetween 1 1000000 options.keys
+IsInRange (Explore options) = IsBetween 1 4000000 options.limit
 IsInRange _ = ⊤
 
 -- ---- the whole command line

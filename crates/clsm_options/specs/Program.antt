@@ -80,7 +80,10 @@ explore = command (codes "explore")
     ∷ size (codes "shards") (codes "2")
     ∷ size (codes "patience") (codes "0")
     ∷ flag (codes "merge")
+    ∷ number (codes "limit") (codes "1000000") 1 4000000
     ∷ flag (codes "answers")
+    ∷ flag (codes "schedule")
+    ∷ flag (codes "count")
     ∷ flag (codes "progress")
     ∷ scripts
     ∷ [])

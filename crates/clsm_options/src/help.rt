@@ -74,15 +74,18 @@ pub(crate) const AFTER_EXPLORE: &str = "\
 Takes a script for each seat: commands of `clsm script`, separated by semicolons, of put, remove,
 get, add, claim, snap, close, getat and scan. Tries each step that comes next in each world that
 the steps lead to, and audits the answers wherever all scripts are at their end. Prints
-`explore ok`, `explore fault`, or `explore too many` where there are more than a million worlds.
+`explore ok`, `explore fault`, or `explore too many` where there are more worlds than the limit.
 With --answers it first prints what the calls can answer: each different end is a line of records
-as `clsm audit` reads them, separated by semicolons, or `no record`.
+as `clsm audit` reads them, separated by semicolons, or `no record`. With --schedule there stands
+below each such line a shortest order of steps that leads to it: a column for each seat, the
+merger's last, and a line for each step, with what a look found and whether an exchange is lost.
+With --count it prints `worlds N ends M answers K` before `explore ok`.
 
 Exit status: 0 no fault; 1 refused words, `bad script S`, a failed write; 2 a fault was found; 3
 the sizes were refused, memory ran out, or there were too many worlds.
 
 Example:
-  clsm explore --answers \"put 1 1\" \"get 1\"";
+  clsm explore --schedule \"put 1 1\" \"get 1\"";
 
 pub(crate) const CELLS: &str = "Writes between two merges, 4 to 65,536";
 
@@ -120,6 +123,13 @@ pub(crate) const HISTORY: &str = "Print the records of writes by their times, wh
 pub(crate) const MERGE: &str = "Let the merger freeze, merge and reclaim once beside the scripts";
 
 pub(crate) const ANSWERS: &str = "Print each different set of answers that the calls can have";
+
+pub(crate) const LIMIT: &str = "Most worlds that there may be, 1 to 4,000,000";
+
+pub(crate) const SCHEDULE: &str =
+    "Print a shortest order of steps below each set of answers; implies --answers";
+
+pub(crate) const COUNT: &str = "Print how many worlds, ends and different answers there are";
 
 pub(crate) const EXPLORE_PROGRESS: &str =
     "Show on the standard error how many worlds were found so far";

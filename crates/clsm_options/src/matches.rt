@@ -93,7 +93,10 @@ fn explore(alloc: Global, matches: &ArgMatches<'_>) -> Result<ExploreOptions, Al
         shards: size(matches, "shards"),
         patience: size(matches, "patience"),
         merge: flag(matches, "merge"),
+        limit: size(matches, "limit"),
         answers: flag(matches, "answers"),
+        schedule: flag(matches, "schedule"),
+        count: flag(matches, "count"),
         progress: flag(matches, "progress"),
         scripts,
     })

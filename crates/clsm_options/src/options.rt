@@ -56,8 +56,14 @@ pub struct ExploreOptions {
     pub patience: usize,
     /// `--merge`
     pub merge: bool,
+    /// How many worlds there may be: 1 to 4,000,000.
+    pub limit: usize,
     /// `--answers`
     pub answers: bool,
+    /// `--schedule`
+    pub schedule: bool,
+    /// `--count`
+    pub count: bool,
     /// `--progress`
     pub progress: bool,
     /// The scripts, one to three.

@@ -9,18 +9,18 @@ use clap::builder::ValueParser;
 use clap::{Arg, ArgAction, Command};
 use std::alloc::{AllocError, Global};
 
-/// `--NAME N`, a number from `low` to `high`.
+/// `--NAME N`, a number from the first of these to the last.
 fn number<'a>(
     alloc: Global,
     name: &'a str,
     default: &'a str,
-    low: u64,
-    high: u64,
+    range: (u64, u64),
     help: &'a str,
 ) -> Arg<'a>
-    ensures rule { rule_of result ≡ spec.number name.entry.now default.entry.now low high }
+    ensures rule { rule_of result ≡ spec.number name.entry.now default.entry.now range.0 range.1 }
     ensures local { result.global ≡ false }
 {
+    let (low, high) = range;
     Arg::new(alloc, name)
         .long(name)
         .value_name("N")
@@ -34,7 +34,7 @@ fn size<'a>(alloc: Global, name: &'a str, default: &'a str, help: &'a str) -> Ar
     ensures rule { rule_of result ≡ spec.size name.entry.now default.entry.now }
     ensures local { result.global ≡ false }
 {
-    number(alloc, name, default, 0, u64::MAX, help)
+    number(alloc, name, default, (0, u64::MAX), help)
 }
 
 /// `--NAME`
@@ -84,9 +84,9 @@ fn run<'a>(alloc: Global) -> Result<Command<'a>, AllocError>
     ensures { IfOk result (Is spec.run) }
 {
     named(alloc, "run", help::RUN, help::AFTER_RUN)
-        .arg(number(alloc, "threads", "4", 1, 64, help::THREADS))?
-        .arg(number(alloc, "ops", "1000", 0, 1_000_000, help::OPS))?
-        .arg(number(alloc, "keys", "64", 1, 1_000_000, help::KEYS))?
+        .arg(number(alloc, "threads", "4", (1, 64), help::THREADS))?
+        .arg(number(alloc, "ops", "1000", (0, 1_000_000), help::OPS))?
+        .arg(number(alloc, "keys", "64", (1, 1_000_000), help::KEYS))?
         .arg(size(alloc, "seed", "1", help::SEED))?
         .arg(size(alloc, "cells", "1024", help::CELLS))?
         .arg(size(alloc, "shards", "64", help::SHARDS))?
@@ -115,7 +115,10 @@ fn explore<'a>(alloc: Global) -> Result<Command<'a>, AllocError>
         .arg(size(alloc, "shards", "2", help::SHARDS))?
         .arg(size(alloc, "patience", "0", help::PATIENCE))?
         .arg(flag(alloc, "merge", help::MERGE))?
+        .arg(number(alloc, "limit", "1000000", (1, 4_000_000), help::LIMIT))?
         .arg(flag(alloc, "answers", help::ANSWERS))?
+        .arg(flag(alloc, "schedule", help::SCHEDULE))?
+        .arg(flag(alloc, "count", help::COUNT))?
         .arg(flag(alloc, "progress", help::EXPLORE_PROGRESS))?
         .arg(scripts(alloc))
 }

@@ -4,7 +4,7 @@ use crate::deal::{is_change, key_of};
 use crate::made::{Made, Stop};
 use crate::place::{Place, Setting, Stage};
 use crate::runs::search;
-use crate::scanning::rows_below;
+use crate::scanning::{Keys, rows_below};
 use clsm_law::{End, Layout, Step, Word};
 use clsm_model::{Change, Deal, Deed, Time, Value};
 use std::alloc::Global;
@@ -167,7 +167,7 @@ impl Place {
         match *setting.deal {
             Deal::Snap => record(made, Deed::Snapshot)?,
             Deal::Scan { lo, hi } => {
-                let rows = rows_below(made, alloc, setting.layout, self, lo, hi)?;
+                let rows = rows_below(made, alloc, setting.layout, self, &Keys { lo, hi })?;
                 record(made, Deed::Scan { lo, hi, rows })?;
             }
             _ => return self.answer_key(made, setting),

@@ -8,6 +8,13 @@ use clsm_levels::Entry;
 use clsm_model::{Rows, Time, Value};
 use std::alloc::{AllocError, Global};
 
+/// The keys from `lo` to `hi`.
+#[derive(Clone, Copy)]
+pub(crate) struct Keys {
+    pub(crate) lo: u64,
+    pub(crate) hi: u64,
+}
+
 /// Puts the entry behind those of its key and of lesser keys.
 pub(crate) fn put_in(row: &mut Vec<Entry>, entry: Entry) -> Result<(), AllocError> {
     let end = row.len();
@@ -16,17 +23,16 @@ pub(crate) fn put_in(row: &mut Vec<Entry>, entry: Entry) -> Result<(), AllocErro
     Ok(())
 }
 
-/// The write of the time, if it is one of a key from `lo` to `hi`.
+/// The write of the time, if it is one of these keys.
 fn entry_of(
     made: &mut Made,
     layout: &Layout,
     time: Time,
-    lo: u64,
-    hi: u64,
+    keys: &Keys,
 ) -> Result<Option<Entry>, Stop> {
     let cell = layout.cell_of(time);
     let key = part_of(made, cell, Part::Key)?;
-    if key < lo || hi < key {
+    if key < keys.lo || keys.hi < key {
         return Ok(None);
     }
     let value = match made.look(Word::State(cell))? {
@@ -37,35 +43,33 @@ fn entry_of(
     Ok(Some(Entry { key, time, value }))
 }
 
-/// The writes of the component's epochs below the read's time with keys from `lo` to `hi`: by
-/// rising key, and the newest of a key first.
+/// The writes of these keys in the component's epochs below the read's time: by rising key, and the
+/// newest of a key first.
 fn gather(
     made: &mut Made,
     alloc: Global,
     layout: &Layout,
     place: &Place,
-    lo: u64,
-    hi: u64,
+    keys: &Keys,
 ) -> Result<Vec<Entry>, Stop> {
     let first = place.component.saturating_mul(layout.cells);
     let mut row = Vec::new(alloc);
     for time in (first..place.time).rev() {
-        if let Some(entry) = entry_of(made, layout, time, lo, hi)? {
+        if let Some(entry) = entry_of(made, layout, time, keys)? {
             put_in(&mut row, entry)?;
         }
     }
     Ok(row)
 }
 
-/// The newest entry of the least key from `lo` to `hi`: of the epochs' writes, or else of the
-/// runs.
+/// The newest entry of the least of the keys: of the epochs' writes, or else of the runs.
 fn next_entry(
     made: &mut Made,
     row: &[Entry],
     place: &Place,
-    lo: u64,
-    hi: u64,
+    keys: &Keys,
 ) -> Result<Option<Entry>, Stop> {
+    let Keys { lo, hi } = *keys;
     let own = row.iter().find(|entry| entry.key >= lo).copied();
     let found = search(made, place.component, lo, hi, place.time)?;
     match (&own, &found) {
@@ -87,28 +91,27 @@ fn push_row(
     Ok(())
 }
 
-/// The rows of all keys from `lo` to `hi` below the read's time: of the epochs' writes and of the
-/// runs. There are no more keys than times.
+/// The rows of all these keys below the read's time: of the epochs' writes and of the runs. There
+/// are no more keys than times.
 pub(crate) fn rows_below(
     made: &mut Made,
     alloc: Global,
     layout: &Layout,
     place: &Place,
-    lo: u64,
-    hi: u64,
+    keys: &Keys,
 ) -> Result<Rows, Stop> {
-    let row = gather(made, alloc, layout, place, lo, hi)?;
+    let row = gather(made, alloc, layout, place, keys)?;
     let mut rows = Vec::new(alloc);
-    let mut from = lo;
+    let mut left = *keys;
     for _ in 0..place.time.saturating_add(1) {
-        let Some(entry) = next_entry(made, row.as_slice(), place, from, hi)? else {
+        let Some(entry) = next_entry(made, row.as_slice(), place, &left)? else {
             return Ok(Rows::new(rows));
         };
         push_row(&mut rows, entry.key, entry.value)?;
         let Some(behind) = entry.key.checked_add(1) else {
             return Ok(Rows::new(rows));
         };
-        from = behind;
+        left.lo = behind;
     }
     Ok(Rows::new(rows))
 }

@@ -12,4 +12,4 @@ mod written;
 pub use audit::{AskedAudit, Listed, audit_lines};
 pub use reason::write_reason;
 pub use record::parse_record;
-pub use written::{Line, write_record};
+pub use written::{Line, MemberWords, Told, write_record};

@@ -34,7 +34,7 @@ impl fmt::Display for Line<'_> {
 
 /// A deed: its name, and what follows it.
 #[derive(Drop)]
-struct Told<'a>(&'a Deed);
+pub struct Told<'a>(pub &'a Deed);
 
 impl fmt::Display for Told<'_> {
     ghost output = { λ told. Some (deed_text told.0.now) };
@@ -130,7 +130,7 @@ impl fmt::Display for RowWords<'_> {
 
 /// The members of a batch, each behind a space.
 #[derive(Drop)]
-struct MemberWords<'a>(&'a Members);
+pub struct MemberWords<'a>(pub &'a Members);
 
 impl fmt::Display for MemberWords<'_> {
     ghost output = { λ listed. Some (spaced (map member_text listed.0.now)) };

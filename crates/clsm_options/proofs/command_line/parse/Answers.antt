@@ -1,13 +1,14 @@
-use Rattle.std.proofs.Common.{◌≡◌, ◌∙◌, List, [], codes, map, subst, sym}
+use Rattle.std.proofs.Common.{◌≡◌, ◌∙◌, List, [], map, subst, sym}
 use Rattle.clap.specs.Words.{HasKind, Kinds, Row, Text}
 use Rattle.clap.specs.declared.error.Error.{Error}
 use Rattle.clap.specs.declared.parser.matches.ArgMatches.{ArgMatches}
 use Rattle.clsm_options.proofs.Entered.{faults_of, known, met_as, refused_as, rows_met}
-use Rattle.clsm_options.specs.Answers.{AreInRange, IsAnswer, IsInRange, rows_in}
+use Rattle.clsm_options.specs.Answers.{IsAnswer, IsInRange, rows_in}
+use Rattle.clsm_model.specs.Config.{IsBetween}
 use Rattle.clsm_options.specs.declared.options.Options.{Options}
 use Rattle.clsm_options.specs.declared.options.Options.TheVariants.{Audit, Explore, Run, Script}
 use Rattle.clsm_options.specs.declared.options.RunOptions.{RunOptions}
-use Rattle.clsm_options.proofs.Ranges.{in_range}
+use Rattle.clsm_options.proofs.Ranges.{AreRanged, in_range}
 use Rattle.clsm_options.proofs.command_line.parse.Goals as goal
 
 pub chosen-requires : goal.chosen-requires
@@ -33,13 +34,13 @@ returns-clause-parsed g c =
     (faultless, c.in-Some.name.now, rows_in c.in-Some.inner.now, entered, c.in_ok-chosen.ensures)
 
 -- what was read is what the rows give, and those are in their ranges
-in_range_as : (name : Text) (rows : List Row) (options : Options) → (name ≡ codes "run" → AreInRange rows) → IsAnswer name rows options
-    → IsInRange options
+in_range_as : (name : Text) (rows : List Row) (options : Options) → AreRanged name rows → IsAnswer name rows options → IsInRange options
 in_range_as name rows (Script config) ranges answer = tt
 in_range_as name rows (Run options) ranges answer =
-    subst (λ (o : RunOptions). IsInRange (Run o)) (sym answer.1) (ranges answer.0)
+    subst (λ (o : RunOptions). IsInRange (Run o)) (sym answer.1) (ranges.run answer.0)
 in_range_as name rows (Audit options) ranges answer = tt
-in_range_as name rows (Explore options) ranges answer = tt
+in_range_as name rows (Explore options) ranges answer =
+    subst (IsBetween 1 4000000) (sym answer.1.limit) (ranges.explore answer.0)
 
 pub returns-clause-range : goal.returns-clause-range
 returns-clause-range g c =
