@@ -101,7 +101,12 @@ pub(super) fn play<T: Threads + Sync + Clock + Wait, R: Read + Drop>(
         step: failing.step,
         fails_after: failing.faults,
     };
-    let status = command(rt, alloc, words, input, &mut output, &mut faults);
+    let streams = Streams {
+        input,
+        output: &mut output,
+        faults: &mut faults,
+    };
+    let status = command(rt, alloc, words, streams);
     Ok(Played {
         output: String::from_utf8(output.shown)?,
         faults: String::from_utf8(faults.shown)?,
