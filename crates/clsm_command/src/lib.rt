@@ -28,12 +28,7 @@ const EXPLORED_RUN: usize = 4;
 /// The status is 0 where all was done; 1 for words that are refused, a bad line, or a failed read
 /// or write; 2 for a fault that an audit or an exploration found; 3 for a refused opening, if
 /// memory runs out, or for too many worlds.
-pub fn command<T, S, R, W, E>(
-    rt: &T,
-    alloc: Global,
-    words: &[S],
-    streams: Streams<R, W, E>,
-) -> u8
+pub fn command<T, S, R, W, E>(rt: &T, alloc: Global, words: &[S], streams: Streams<R, W, E>) -> u8
 where
     T: Threads + Sync + Clock + Wait,
     S: AsStr,

@@ -7,7 +7,6 @@ ghost use Rattle.clsm_run.specs.Run.{StopsWork};
 ghost use Rattle.clsm_run.specs.Work.{AreWorked, Works};
 
 use crate::auditing::verdict_of;
-use crate::board::Board;
 use crate::gathering::{Gathered, gather};
 use crate::load::AskedRun;
 use crate::merger::{merge_beside, merges_of};
@@ -74,11 +73,7 @@ where
         seats,
         merger,
     } = opened;
-    let task = Task {
-        load: asked.load,
-        shows: asked.shows,
-        board: Board::new(),
-    };
+    let task = Task::new(asked.load, asked.shows);
     let crew = Crew {
         store: &store,
         seats,

@@ -10,3 +10,14 @@ pub struct Task {
     pub shows: Shows,
     pub board: Board,
 }
+
+impl Task {
+    /// The task of a run that begins.
+    pub fn new(load: Load, shows: Shows) -> Task {
+        Task {
+            load,
+            shows,
+            board: Board::new(),
+        }
+    }
+}

@@ -1,5 +1,6 @@
 //! Readers and writers that fail once, and what a command line prints on the latter.
 use clsm_command::command;
+use clsm_text::Streams;
 use std::alloc::Global;
 use std::io::{self, ErrorKind, Read, Write};
 use std::process::Abort;

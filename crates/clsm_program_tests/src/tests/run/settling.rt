@@ -2,7 +2,7 @@
 ghost use Rattle.clsm_store_calls.specs.Seats.{AreNew, IsNewMerger};
 
 use super::*;
-use clsm_run::{Board, Crew, Gathered, Task, gather, work_merging};
+use clsm_run::{Crew, Gathered, Task, gather, work_merging};
 use clsm_store::{Free, Opened, open};
 
 /// Lets the seats make the calls of the load beside the merger, and settles them. Answers how many
@@ -22,11 +22,7 @@ fn settle<R: Abort + Threads + Sync + Clock + Wait>(
         seats,
         merger,
     } = opened;
-    let task = Task {
-        load: *load,
-        shows: PLAIN,
-        board: Board::new(),
-    };
+    let task = Task::new(*load, PLAIN);
     let crew = Crew {
         store: &store,
         seats,
