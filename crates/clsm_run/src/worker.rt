@@ -4,7 +4,6 @@ ghost use Rattle.std.specs.Vec.{vec_capacity};
 ghost use Rattle.clsm_run.specs.Work.{KeepsRecords, Works, kept};
 
 use crate::kind::Kind;
-use crate::load::Load;
 use crate::playing::play;
 use crate::task::Task;
 use crate::watch::{Note, Watch};
@@ -46,20 +45,15 @@ pub fn work<P: Pace + Drop, R: Clock + Wait>(
     requires { seat.store ≡ store.now }
     ensures { Works seat result }
 {
-    let Load {
-        ops,
-        keys,
-        seed,
-        batch,
-    } = task.load;
-    let workload = Workload::new(seed, seat.number(), keys, batch);
+    let load = &task.load;
+    let workload = Workload::new(load.seed, seat.number(), load.keys, load.batch);
     let mut worker = Worker {
         seat,
         workload,
         records: Vec::new(alloc),
         watch: Watch::new(alloc, task.shows.stats),
     };
-    for _ in 0..ops {
+    for _ in 0..load.ops {
         if task.board.is_starved() {
             break;
         }

@@ -10,7 +10,7 @@ ghost use Rattle.clsm_model.specs.Config.{IsSound};
 use crate::answer::Answer;
 use crate::line::parse_line;
 use crate::session::Session;
-use clsm_store::{Config, Merger, Opened, Pace, open};
+use clsm_store::{Config, Merger, Opened, Pace, Phase, open};
 use clsm_text::{Failure, Streams, read_line};
 use std::alloc::Global;
 use std::io::{BufReader, BufWriter, Read, Write};
@@ -101,7 +101,11 @@ where
     };
     let mut console = Console { reader, answers };
     let mut session = Session::new(alloc, config, seats);
-    let merger = Merger::new(&store, merger);
+    let phase = Phase::Clean(merger);
+    let merger = Merger {
+        store: &store,
+        phase,
+    };
     let played = play_lines(rt, alloc, &mut console, &mut session, merger);
     let ended = end(console.answers, played);
     if let Err(Failure::Fault) = ended {
