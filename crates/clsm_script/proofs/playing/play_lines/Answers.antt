@@ -1,4 +1,4 @@
-use Rattle.std.proofs.Common.{Ok, Err, Some, None, subst, arith}
+use Rattle.std.proofs.Common.{Err, subst, arith}
 use Rattle.clsm_script.specs.Command.{IsCommand}
 use Rattle.clsm_script.specs.Line.{Reads}
 use Rattle.clsm_text.proofs.Inputs.{LeadsTo, leads_to_end}
@@ -20,32 +20,22 @@ returns-in-Err-clause-stopped g c =
 
 pub loop-number-preserved-in-Ok-None : goal.loop-number-preserved-in-Ok-None
 loop-number-preserved-in-Ok-None g c =
-    let line = c.read_line.new.line.items in
-    let reads : Reads line (Ok None) =
-    subst (λ said. Reads line (Ok said)) c.in-Ok-None.field-0-is
-    (subst (λ text. Reads text (Ok c.in-Ok-None.field-0)) c.deref.ensures.value
-    c.in-Ok-None.ensures) in
     record {
       leads = subst (LeadsTo IsCommand _ _) (omega arith)
-          (leads_past _ _ _ _ _ _ _ c.loop-number.invariant.leads
+          (leads_past _ _ _ _ _ _ _ _ c.loop-number.invariant.leads
           c.in_ok-read_line.ensures.found c.if-not-branch.false
-          c.in_ok-read_line.ensures.takes reads);
+          c.in_ok-read_line.ensures.takes c.deref.ensures.value c.in-Ok-None.ensures);
       session = c.loop-number.invariant.session;
       merger = c.loop-number.invariant.merger;
     }
 
 pub loop-number-preserved : goal.loop-number-preserved
 loop-number-preserved g c =
-    let line = c.read_line.new.line.items in
-    let reads : Reads line (Ok (Some c.in-Ok-Some.command)) =
-    subst (λ said. Reads line (Ok said)) c.in-Ok-Some.field-0-is
-    (subst (λ text. Reads text (Ok c.in-Ok-Some.field-0)) c.deref.ensures.value
-    c.in-Ok-Some.ensures) in
     record {
       leads = subst (LeadsTo IsCommand _ _) (omega arith)
-          (leads_past _ _ _ _ _ _ _ c.loop-number.invariant.leads
+          (leads_past _ _ _ _ _ _ _ _ c.loop-number.invariant.leads
           c.in_ok-read_line.ensures.found c.if-not-branch.false
-          c.in_ok-read_line.ensures.takes reads);
+          c.in_ok-read_line.ensures.takes c.deref.ensures.value c.in-Ok-Some.ensures);
       session = c.in_ok-next.ensures.session;
       merger = c.in_ok-next.ensures.merger;
     }
