@@ -7,10 +7,10 @@ ghost use Rattle.clsm_options.specs.declared.options.Options.TheVariants.{Run};
 use clsm_model::Config;
 use clsm_options::{AuditOptions, ExploreOptions, Options, Refusal, RunOptions, parse};
 use clsm_records::{AskedAudit, audit_lines};
-use clsm_run::{Load, Shows, run};
+use clsm_run::{AskedRun, Load, Shows, run};
 use clsm_schedules::{Exploration, Shows as ShowsOf, explore_scripts};
 use clsm_script::script;
-use clsm_text::Failure;
+use clsm_text::{Failure, Streams};
 use std::alloc::Global;
 use std::convert::AsStr;
 use std::io::{self, Read, Write};
@@ -28,14 +28,7 @@ const EXPLORED_RUN: usize = 4;
 /// The status is 0 where all was done; 1 for words that are refused, a bad line, or a failed read
 /// or write; 2 for a fault that an audit or an exploration found; 3 for a refused opening, if
 /// memory runs out, or for too many worlds.
-pub fn command<T, S, R, W, E>(
-    rt: &T,
-    alloc: Global,
-    words: &[S],
-    input: R,
-    output: W,
-    faults: E,
-) -> u8
+pub fn command<T, S, R, W, E>(rt: &T, alloc: Global, words: &[S], streams: Streams<R, W, E>) -> u8
 where
     T: Threads + Sync + Clock + Wait,
     S: AsStr,
@@ -44,12 +37,12 @@ where
     E: Write + Send + Drop,
 {
     match parse(alloc, words) {
-        Ok(options) => obey(rt, alloc, options, input, output, faults),
-        Err(refusal) => refuse(refusal, output, faults),
+        Ok(options) => obey(rt, alloc, options, streams),
+        Err(refusal) => refuse(refusal, streams.output, streams.faults),
     }
 }
 
-fn obey<T, R, W, E>(rt: &T, alloc: Global, options: Options, input: R, output: W, faults: E) -> u8
+fn obey<T, R, W, E>(rt: &T, alloc: Global, options: Options, streams: Streams<R, W, E>) -> u8
 where
     T: Threads + Sync + Clock + Wait,
     R: Read + Drop,
@@ -58,10 +51,10 @@ where
     requires range { IsInRange options }
 {
     match options {
-        Options::Script(config) => script(rt, alloc, config, input, output, faults),
-        Options::Run(options) => call(rt, alloc, &options, output, faults),
-        Options::Audit(options) => { audit_lines(alloc, asked(&options), input, output, faults) }
-        Options::Explore(options) => try_orders(alloc, &options, output, faults),
+        Options::Script(config) => script(rt, alloc, config, streams),
+        Options::Run(options) => call(rt, alloc, &options, streams.output, streams.faults),
+        Options::Audit(options) => audit_lines(alloc, asked(&options), streams),
+        Options::Explore(options) => try_orders(alloc, &options, streams.output, streams.faults),
     }
 }
 
@@ -84,7 +77,12 @@ where
         progress: options.progress,
         records: options.records,
     };
-    run(rt, alloc, options.config, load, shows, output, faults)
+    let asked = AskedRun {
+        config: options.config,
+        load,
+        shows,
+    };
+    run(rt, alloc, asked, output, faults)
 }
 
 /// Explores the scripts.

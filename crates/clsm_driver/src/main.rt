@@ -3,18 +3,19 @@
 
 use clsm_command::{command, refuse};
 use clsm_options::words;
+use clsm_text::Streams;
 use std::process::ExitCode;
 
 fn main(rt: HostRuntime) -> ExitCode {
     let status = match words(&rt) {
-        Ok(words) => command(
-            &rt,
-            rt.alloc(),
-            &words,
-            rt.stdin(),
-            rt.stdout(),
-            rt.stderr(),
-        ),
+        Ok(words) => {
+            let streams = Streams {
+                input: rt.stdin(),
+                output: rt.stdout(),
+                faults: rt.stderr(),
+            };
+            command(&rt, rt.alloc(), &words, streams)
+        }
         Err(refusal) => refuse(refusal, rt.stdout(), rt.stderr()),
     };
     ExitCode::from(status)

@@ -10,7 +10,7 @@ use crate::reason::write_reason;
 use crate::record::parse_record;
 use clsm_audit::{AuditError, Explanation, FaultKind, audit, explain};
 use clsm_model::{CallRecord, Config};
-use clsm_text::Failure;
+use clsm_text::{Failure, Streams};
 use std::alloc::Global;
 use std::fmt;
 use std::io::{ErrorKind, Read, Write};
@@ -80,21 +80,20 @@ struct Judged {
 /// with status 1, or `no memory`, with status 3. A write to the faults that fails changes no
 /// status. Of the sizes the audit uses only the number of seats: a record of another seat is
 /// `Unknown`. All records are kept, so memory limits how many there may be, and how long a line is.
-pub fn audit_lines<R, W, E>(
-    alloc: Global,
-    asked: AskedAudit,
-    input: R,
-    mut output: W,
-    mut faults: E,
-) -> u8
+pub fn audit_lines<R, W, E>(alloc: Global, asked: AskedAudit, streams: Streams<R, W, E>) -> u8
 where
     R: Read + Drop,
     W: Write + Drop,
     E: Write + Drop,
     ensures status { IsStatus result }
-    ensures lawful { result ≡ 0 → IfSome (R.remaining input) (AreLawful asked.config) }
-    ensures fault { result ≡ 2 → IfSome (R.remaining input) (HasFault asked.config) }
+    ensures lawful { result ≡ 0 → IfSome (R.remaining streams.input) (AreLawful asked.config) }
+    ensures fault { result ≡ 2 → IfSome (R.remaining streams.input) (HasFault asked.config) }
 {
+    let Streams {
+        input,
+        mut output,
+        mut faults,
+    } = streams;
     match print_verdict(alloc, &asked, input, &mut output, &mut faults) {
         Ok(verdict) => verdict.status(),
         Err(failure) => {

@@ -75,64 +75,69 @@ fn write_rule<W: fmt::Write>(f: &mut fmt::Formatter<W>, rule: &Rule) -> fmt::Res
     }
 }
 
-/// Writes what is wrong with what was read.
+/// Writes what is wrong with what was read, and for a key the writes that show it.
 fn write_reading<W: fmt::Write>(
     f: &mut fmt::Formatter<W>,
     listed: &Listed,
     reading: &Explanation,
 ) -> fmt::Result {
     match reading {
-        Explanation::WrongValue {
-            key,
-            answered,
-            right,
-            newest,
-            seen,
-        } => {
-            let answered = Reply(answered);
-            let right = Reply(right);
-            writeln!(
-                f,
-                "read {answered} at key {key}, and the writes below its time give {right}"
-            )?;
-            write_sources(f, listed, *key, newest, seen)
+        Explanation::WrongValue { key, answered, .. } => {
+            write!(f, "read {} at key {key}", Reply(answered))?;
         }
         Explanation::WrongRow {
             number,
             answered,
-            right,
-            key,
-            newest,
-            seen,
+            ..
         } => {
-            let answered = Row(answered);
-            let right = Row(right);
-            writeln!(
-                f,
-                "row {number}, counted from 0, is {answered}, and the writes below its time give {right}"
-            )?;
-            write_sources(f, listed, *key, newest, seen)
+            write!(f, "row {number}, counted from 0, is {}", Row(answered))?;
         }
-        Explanation::WrongNext { answered, right } => {
-            let answered = Next(answered);
-            let right = Next(right);
-            writeln!(
-                f,
-                "the next key is {answered}, and the writes below its time give {right}"
-            )
+        Explanation::WrongNext { answered, .. } => {
+            write!(f, "the next key is {}", Next(answered))?;
         }
-        _ => Ok(()),
+        _ => return Ok(()),
+    }
+    let right = Right(reading);
+    writeln!(f, ", and the writes below its time give {right}")?;
+    write_sources(f, listed, reading)
+}
+
+/// What should have been read.
+#[derive(Drop)]
+struct Right<'a>(&'a Explanation);
+
+impl fmt::Display for Right<'_> {
+    fn fmt<W: fmt::Write>(&self, f: &mut fmt::Formatter<W>) -> fmt::Result {
+        match self.0 {
+            Explanation::WrongValue { right, .. } => write!(f, "{}", Reply(right)),
+            Explanation::WrongRow { right, .. } => write!(f, "{}", Row(right)),
+            Explanation::WrongNext { right, .. } => write!(f, "{}", Next(right)),
+            _ => Ok(()),
+        }
     }
 }
 
-/// Writes the newest write of a key, and the one that left what was read.
+/// Writes the newest write of a key that was read wrongly, and the one that left what was read.
 fn write_sources<W: fmt::Write>(
     f: &mut fmt::Formatter<W>,
     listed: &Listed,
-    key: u64,
-    newest: &Option<FoundWrite>,
-    seen: &Option<FoundWrite>,
+    reading: &Explanation,
 ) -> fmt::Result {
+    let (Explanation::WrongValue {
+        key,
+        newest,
+        seen,
+        ..
+    }
+    | Explanation::WrongRow {
+        key,
+        newest,
+        seen,
+        ..
+    }) = reading
+    else {
+        return Ok(());
+    };
     let newest = Source {
         listed,
         found: newest,

@@ -7,15 +7,15 @@ ghost use Rattle.clsm_run.specs.Run.{StopsWork};
 ghost use Rattle.clsm_run.specs.Work.{AreWorked, Works};
 
 use crate::auditing::verdict_of;
-use crate::board::Board;
 use crate::gathering::{Gathered, gather};
-use crate::load::{Load, Shows};
+use crate::load::AskedRun;
 use crate::merger::{merge_beside, merges_of};
 use crate::progress::show_progress;
+use crate::task::Task;
 use crate::watch::Note;
 use crate::worker::{Worked, work};
 use clsm_audit::AuditError;
-use clsm_model::{CallRecord, Config};
+use clsm_model::CallRecord;
 use clsm_store::{Clean, Merger, Opened, Pace, Seat, Store};
 use clsm_text::Failure;
 use std::alloc::{AllocError, Global};
@@ -24,6 +24,14 @@ use std::rt::Clock;
 use std::sync::Wait;
 use std::thread::{self, Threads, join};
 use std::time::{Duration, Instant};
+
+/// Who works at a store: its seats, and its merger.
+#[derive(Drop)]
+pub struct Crew<'a, P: Pace + Drop> {
+    pub store: &'a Store<P>,
+    pub seats: Vec<Seat>,
+    pub merger: Clean,
+}
 
 /// What a run came to: the seats of its store, the records of all their calls, what the audit says
 /// of these, and what was noted meanwhile.
@@ -39,26 +47,25 @@ pub struct Ran {
     pub auditing: Duration,
 }
 
-/// Lets each seat of an opened store, of these sizes, make the calls of its workload in a thread of
-/// its own, while one more thread merges, and audits all that they answered. Refused with `Memory`
-/// where a worker was refused memory, and with `Device` where the clock fails.
+/// Lets each seat of an opened store, of the sizes that are asked for, make the calls of its
+/// workload in a thread of its own, while one more thread merges, and audits all that they
+/// answered. Refused with `Memory` where a worker was refused memory, and with `Device` where the
+/// clock fails.
 pub fn run_on<P, R, E>(
     rt: &R,
     alloc: Global,
-    config: &Config,
+    asked: &AskedRun,
     opened: Opened<P>,
-    load: &Load,
-    shows: &Shows,
     faults: &mut E,
 ) -> Result<Ran, Failure>
 where
     P: Pace + Drop + Sync,
     R: Threads + Sync + Clock + Wait,
     E: Write + Send,
-    requires seats { AreNew opened.store config.now.seats opened.seats.items }
+    requires seats { AreNew opened.store asked.now.config.seats opened.seats.items }
     requires merger { IsNewMerger opened.store opened.merger }
     ensures audited { IfOk result (λ ran.
-        IsAudited config.now opened.store ran.seats.items ran.records.items ran.verdict) }
+        IsAudited asked.now.config opened.store ran.seats.items ran.records.items ran.verdict) }
     ensures stopped { IfErr result StopsWork }
 {
     let Opened {
@@ -66,14 +73,17 @@ where
         seats,
         merger,
     } = opened;
-    let board = Board::new();
+    let task = Task::new(asked.load, asked.shows);
+    let crew = Crew {
+        store: &store,
+        seats,
+        merger,
+    };
     let start = Instant::now(rt)?;
-    let (worked, merges) = work_merging(
-        rt, alloc, &store, seats, merger, load, shows, &board, faults,
-    );
+    let (worked, merges) = work_merging(rt, alloc, crew, &task, faults);
     let calling = start.elapsed(rt)?;
     let worked = worked?;
-    if board.is_starved() {
+    if task.board.is_starved() {
         return Err(Failure::Memory);
     }
     let Gathered {
@@ -82,7 +92,7 @@ where
         notes,
     } = gather(alloc, worked)?;
     let start = Instant::now(rt)?;
-    let verdict = verdict_of(alloc, config, &records);
+    let verdict = verdict_of(alloc, &asked.config, &records);
     let auditing = start.elapsed(rt)?;
     Ok(Ran {
         seats,
@@ -100,32 +110,32 @@ where
 pub fn work_merging<P, R, E>(
     rt: &R,
     alloc: Global,
-    store: &Store<P>,
-    seats: Vec<Seat>,
-    merger: Clean,
-    load: &Load,
-    shows: &Shows,
-    board: &Board,
+    crew: Crew<'_, P>,
+    task: &Task,
     faults: &mut E,
 ) -> (Result<Vec<Worked>, AllocError>, u64)
 where
     P: Pace + Drop + Sync,
     R: Threads + Sync + Clock + Wait,
     E: Write + Send,
-    requires seats { All (λ seat. seat.store ≡ store.now) seats.items }
-    requires merger { merger.merger.store ≡ store.now }
-    ensures { IfOk result.0 (λ worked. AreWorked seats.items worked.items) }
+    requires seats { All (λ seat. seat.store ≡ crew.store.now) crew.seats.items }
+    requires merger { crew.merger.merger.store ≡ crew.store.now }
+    ensures { IfOk result.0 (λ worked. AreWorked crew.seats.items worked.items) }
 {
+    let Crew {
+        store,
+        seats,
+        merger,
+    } = crew;
+    let merger = Merger::new(store, merger);
     // Where no thread can be made, the first of the two comes last, and finds that all is over.
     let (merges, worked) = join(
         rt,
-        || -> u64
-            requires { merger.merger.store ≡ store.now }
-        { merge_showing(rt, store, merger, shows, board, faults) },
+        || merge_showing(rt, merger, task, faults),
         || -> Result<Vec<Worked>, AllocError>
             requires { All (λ seat. seat.store ≡ store.now) seats.items }
             ensures { IfOk result (λ worked. AreWorked seats.items worked.items) }
-        { work_all(rt, alloc, store, seats, load, shows, board) },
+        { work_all(rt, alloc, store, seats, task) },
     );
     (worked, merges)
 }
@@ -136,9 +146,7 @@ fn work_all<P, R>(
     alloc: Global,
     store: &Store<P>,
     seats: Vec<Seat>,
-    load: &Load,
-    shows: &Shows,
-    board: &Board,
+    task: &Task,
 ) -> Result<Vec<Worked>, AllocError>
 where
     P: Pace + Drop + Sync,
@@ -152,30 +160,22 @@ where
         &|seat: Seat| -> Worked
             requires { seat.store ≡ store.now }
             ensures { Works seat result }
-        { work(rt, alloc, store, seat, load, shows, board) },
+        { work(rt, alloc, store, seat, task) },
     );
-    board.end();
+    task.board.end();
     worked
 }
 
 /// Merges until all workers have ended, while the line moves if it is asked for. Answers the number
 /// of merges.
-fn merge_showing<P, R, E>(
-    rt: &R,
-    store: &Store<P>,
-    merger: Clean,
-    shows: &Shows,
-    board: &Board,
-    faults: &mut E,
-) -> u64
+fn merge_showing<P, R, E>(rt: &R, merger: Merger<'_, P>, task: &Task, faults: &mut E) -> u64
 where
     P: Pace + Drop + Sync,
     R: Threads + Sync + Clock + Wait,
     E: Write + Send,
-    requires { merger.merger.store ≡ store.now }
 {
-    let merger = Merger::new(store, merger);
-    if !shows.progress {
+    let board = &task.board;
+    if !task.shows.progress {
         return merges_of(&merge_beside(rt, merger, board).phase);
     }
     let (merges, ()) = join(

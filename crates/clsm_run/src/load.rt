@@ -1,5 +1,7 @@
-//! How much a run asks of its workers, and what it shows.
+//! What a run is asked for: how much its workers do, and what it shows.
 ghost use Rattle.std.specs.Prelude.{◌≤◌};
+
+use clsm_model::Config;
 
 /// How much a run asks of each of its workers.
 #[derive(Clone, Copy, Debug)]
@@ -25,4 +27,13 @@ pub struct Shows {
     pub progress: bool,
     /// Each record, in place of the verdict.
     pub records: bool,
+}
+
+/// What a run is asked for: the sizes of its store, how much each of its workers does, and what it
+/// shows.
+#[derive(Clone, Copy, Debug)]
+pub struct AskedRun {
+    pub config: Config,
+    pub load: Load,
+    pub shows: Shows,
 }

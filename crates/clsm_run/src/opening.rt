@@ -6,9 +6,8 @@ ghost use Rattle.clsm_run.specs.Run.{IsStatus, StopsRun};
 use crate::answer::{write_records, write_verdict};
 use crate::auditing::ending;
 use crate::crew::run_on;
-use crate::load::{Load, Shows};
+use crate::load::AskedRun;
 use crate::stats::write_stats;
-use clsm_model::Config;
 use clsm_store::open;
 use clsm_text::Failure;
 use std::alloc::Global;
@@ -24,23 +23,15 @@ use std::thread::Threads;
 /// or 1 where a write to the output failed, or 3 where the sizes or memory were refused; `device`,
 /// `refused N SIZE` or `no memory` then stands on the faults. A write to the faults that fails
 /// changes nothing.
-pub fn run<R, W, E>(
-    rt: &R,
-    alloc: Global,
-    config: Config,
-    load: Load,
-    shows: Shows,
-    output: W,
-    mut faults: E,
-) -> u8
+pub fn run<R, W, E>(rt: &R, alloc: Global, asked: AskedRun, output: W, mut faults: E) -> u8
 where
     R: Threads + Sync + Clock + Wait,
     W: Write + Drop,
     E: Write + Send + Drop,
     ensures status { IsStatus result }
-    ensures refused { ¬ IsSound config → result ≡ 3 }
+    ensures refused { ¬ IsSound asked.config → result ≡ 3 }
 {
-    match try_run(rt, alloc, &config, &load, &shows, output, &mut faults) {
+    match try_run(rt, alloc, &asked, output, &mut faults) {
         Ok(()) => 0,
         Err(failure) => {
             let _ = failure.report(&mut faults);
@@ -52,9 +43,7 @@ where
 fn try_run<R, W, E>(
     rt: &R,
     alloc: Global,
-    config: &Config,
-    load: &Load,
-    shows: &Shows,
+    asked: &AskedRun,
     mut output: W,
     faults: &mut E,
 ) -> Result<(), Failure>
@@ -62,18 +51,18 @@ where
     R: Threads + Sync + Clock + Wait,
     W: Write + Drop,
     E: Write + Send,
-    ensures opened { OnOk result (IsSound config.now) }
-    ensures stopped { IfErr result (StopsRun config.now) }
+    ensures opened { OnOk result (IsSound asked.now.config) }
+    ensures stopped { IfErr result (StopsRun asked.now.config) }
 {
-    let opened = open(alloc, *config)?;
-    let ran = run_on(rt, alloc, config, opened, load, shows, faults)?;
-    let calls = config.seats as u64 * u64::from(load.ops);
-    if shows.records {
+    let opened = open(alloc, asked.config)?;
+    let ran = run_on(rt, alloc, asked, opened, faults)?;
+    if asked.shows.records {
         write_records(alloc, &mut output, &ran.records)?;
     } else {
+        let calls = asked.config.seats as u64 * u64::from(asked.load.ops);
         write_verdict(&mut output, calls, &ran)?;
     }
-    if shows.stats {
+    if asked.shows.stats {
         let _ = write_stats(alloc, faults, &ran);
     }
     ending(&ran.verdict)

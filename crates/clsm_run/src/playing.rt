@@ -1,11 +1,12 @@
 //! One deal, played on a seat.
-ghost use Rattle.std.specs.Prelude.{◌≡◌, IfErr, IfOk};
+ghost use Rattle.std.specs.Prelude.{◌≡◌, IfErr, IfOk, Some};
 ghost use Rattle.clsm_store_calls.specs.Seats.{Refuses};
 ghost use Rattle.clsm_law.specs.Relation.{call_of};
-ghost use Rattle.clsm_model.specs.declared.deal.Deal.TheVariants.{Add, Batch as BatchOf, Claim, Close, Get, GetAt, Put, Remove, Scan as ScanOf, Snap};
+ghost use Rattle.clsm_model.specs.declared.deal.Deal.TheVariants.{Batch as BatchOf, Close, Get, GetAt, Scan as ScanOf};
+ghost use Rattle.clsm_model.specs.declared.record.Deed.TheVariants.{Rmw as RmwOf};
 ghost use Rattle.clsm_run.specs.Play.{Plays};
 
-use clsm_model::{CallRecord, Change, Deal, Deed, Members, Memory, Time, Value};
+use clsm_model::{CallRecord, Change, Deal, Deed, Members, Memory, Time};
 use clsm_store::{Got, Pace, Rmw, Scan, Seat, Store};
 use std::alloc::Global;
 use std::sync::Wait;
@@ -26,12 +27,27 @@ pub fn play<P: Pace + Drop, R: Wait>(
     ensures refused { IfErr result (λ _. Refuses seat.old seat.new) }
 {
     match deal {
-        Deal::Put { key, value } => Ok(put(rt, store, seat, key, value)),
-        Deal::Remove { key } => Ok(remove(rt, store, seat, key)),
-        Deal::Get { key } => Ok(get(store, seat, key)),
-        Deal::Add { key, by } => Ok(add(rt, store, seat, key, by)),
-        Deal::Claim { key, value } => Ok(claim(rt, store, seat, key, value)),
-        Deal::Snap => Ok(open_snapshot(store, seat)),
+        Deal::Put { key, value } => match store.put(rt, seat, key, value) {
+            Ok(time) => Ok(Some(recorded(seat, time, Deed::Put { key, value }))),
+            Err(_) => Ok(None),
+        },
+        Deal::Remove { key } => match store.remove(rt, seat, key) {
+            Ok(time) => Ok(Some(recorded(seat, time, Deed::Remove { key }))),
+            Err(_) => Ok(None),
+        },
+        Deal::Get { key } => Ok(Some(get(store, seat, key))),
+        Deal::Add { key, by } => match store.add(rt, seat, key, by) {
+            Ok(rmw) => Ok(Some(changed(seat, key, rmw))),
+            Err(_) => Ok(None),
+        },
+        Deal::Claim { key, value } => match store.put_if_absent(rt, seat, key, value) {
+            Ok(rmw) => Ok(Some(changed(seat, key, rmw))),
+            Err(_) => Ok(None),
+        },
+        Deal::Snap => match store.snapshot(seat) {
+            Ok(time) => Ok(Some(recorded(seat, time, Deed::Snapshot))),
+            Err(_) => Ok(None),
+        },
         Deal::Close => Ok(close_snapshot(store, seat)),
         Deal::GetAt { key } => Ok(get_at(store, seat, key)),
         Deal::Scan { lo, hi } => scan(alloc, store, seat, lo, hi),
@@ -50,90 +66,20 @@ fn recorded(seat: &Seat, time: Time, deed: Deed) -> CallRecord
     }
 }
 
-fn put<P: Pace + Drop, R: Wait>(
-    rt: &R,
-    store: &Store<P>,
-    seat: &mut Seat,
-    key: u64,
-    value: Value,
-) -> Option<CallRecord>
-    requires { seat.old.store ≡ store.now }
-    ensures { Plays (Put key value) seat.old seat.new result }
+/// The record of a read-modify-write of the seat.
+fn changed(seat: &Seat, key: u64, rmw: Rmw) -> CallRecord
+    ensures { result ≡ call_of seat.now.number rmw.time (RmwOf key rmw.old rmw.change) }
 {
-    match store.put(rt, seat, key, value) {
-        Ok(time) => Some(recorded(seat, time, Deed::Put { key, value })),
-        Err(_) => None,
-    }
+    let Rmw { time, old, change } = rmw;
+    recorded(seat, time, Deed::Rmw { key, old, change })
 }
 
-fn remove<P: Pace + Drop, R: Wait>(
-    rt: &R,
-    store: &Store<P>,
-    seat: &mut Seat,
-    key: u64,
-) -> Option<CallRecord>
+fn get<P: Pace + Drop>(store: &Store<P>, seat: &mut Seat, key: u64) -> CallRecord
     requires { seat.old.store ≡ store.now }
-    ensures { Plays (Remove key) seat.old seat.new result }
-{
-    match store.remove(rt, seat, key) {
-        Ok(time) => Some(recorded(seat, time, Deed::Remove { key })),
-        Err(_) => None,
-    }
-}
-
-fn get<P: Pace + Drop>(store: &Store<P>, seat: &mut Seat, key: u64) -> Option<CallRecord>
-    requires { seat.old.store ≡ store.now }
-    ensures { Plays (Get key) seat.old seat.new result }
+    ensures { Plays (Get key) seat.old seat.new (Some result) }
 {
     let Got { time, value } = store.get(seat, key);
-    let deed = Deed::Get { key, reply: value };
-    Some(recorded(seat, time, deed))
-}
-
-fn add<P: Pace + Drop, R: Wait>(
-    rt: &R,
-    store: &Store<P>,
-    seat: &mut Seat,
-    key: u64,
-    by: u64,
-) -> Option<CallRecord>
-    requires { seat.old.store ≡ store.now }
-    ensures { Plays (Add key by) seat.old seat.new result }
-{
-    match store.add(rt, seat, key, by) {
-        Ok(Rmw { time, old, change }) => {
-            Some(recorded(seat, time, Deed::Rmw { key, old, change }))
-        }
-        Err(_) => None,
-    }
-}
-
-fn claim<P: Pace + Drop, R: Wait>(
-    rt: &R,
-    store: &Store<P>,
-    seat: &mut Seat,
-    key: u64,
-    value: Value,
-) -> Option<CallRecord>
-    requires { seat.old.store ≡ store.now }
-    ensures { Plays (Claim key value) seat.old seat.new result }
-{
-    match store.put_if_absent(rt, seat, key, value) {
-        Ok(Rmw { time, old, change }) => {
-            Some(recorded(seat, time, Deed::Rmw { key, old, change }))
-        }
-        Err(_) => None,
-    }
-}
-
-fn open_snapshot<P: Pace + Drop>(store: &Store<P>, seat: &mut Seat) -> Option<CallRecord>
-    requires { seat.old.store ≡ store.now }
-    ensures { Plays Snap seat.old seat.new result }
-{
-    match store.snapshot(seat) {
-        Ok(time) => Some(recorded(seat, time, Deed::Snapshot)),
-        Err(_) => None,
-    }
+    recorded(seat, time, Deed::Get { key, reply: value })
 }
 
 fn close_snapshot<P: Pace + Drop>(store: &Store<P>, seat: &mut Seat) -> Option<CallRecord>

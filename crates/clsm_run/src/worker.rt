@@ -3,10 +3,9 @@ ghost use Rattle.std.specs.Prelude.{◌≡◌, ◌<◌, vec_len};
 ghost use Rattle.std.specs.Vec.{vec_capacity};
 ghost use Rattle.clsm_run.specs.Work.{KeepsRecords, Works, kept};
 
-use crate::board::Board;
 use crate::kind::Kind;
-use crate::load::{Load, Shows};
 use crate::playing::play;
+use crate::task::Task;
 use crate::watch::{Note, Watch};
 use crate::workload::Workload;
 use clsm_model::{CallRecord, Memory};
@@ -41,30 +40,29 @@ pub fn work<P: Pace + Drop, R: Clock + Wait>(
     alloc: Global,
     store: &Store<P>,
     seat: Seat,
-    load: &Load,
-    shows: &Shows,
-    board: &Board,
+    task: &Task,
 ) -> Worked
     requires { seat.store ≡ store.now }
     ensures { Works seat result }
 {
+    let load = &task.load;
     let workload = Workload::new(load.seed, seat.number(), load.keys, load.batch);
     let mut worker = Worker {
         seat,
         workload,
         records: Vec::new(alloc),
-        watch: Watch::new(alloc, shows.stats),
+        watch: Watch::new(alloc, task.shows.stats),
     };
     for _ in 0..load.ops {
-        if board.is_starved() {
+        if task.board.is_starved() {
             break;
         }
         if let Err(_) = worker.step(rt, alloc, store) {
-            board.starve();
+            task.board.starve();
             break;
         }
-        if shows.progress {
-            board.count_call();
+        if task.shows.progress {
+            task.board.count_call();
         }
     }
     worker.end()

@@ -1,7 +1,7 @@
 -- What the lines of a script say, as lines of a text.
-use Rattle.std.proofs.Common.{◌≡◌, ◌-◌, ◌≤◌, ℕ, List, Bool, true, Option, Some}
-use Rattle.std.proofs.Common.{None, Ok, Err, IfSome, inl, inr}
-use Rattle.clsm_text.proofs.Inputs.{LeadsTo, Tells, stops_at_line}
+use Rattle.std.proofs.Common.{◌≡◌, ◌+◌, ◌-◌, ◌≤◌, ℕ, List, Bool, true, Option, Some}
+use Rattle.std.proofs.Common.{None, Ok, Err, IfSome, inl, inr, subst}
+use Rattle.clsm_text.proofs.Inputs.{LeadsTo, Tells, leads_on, stops_at_line}
 use Rattle.clsm_text.specs.Failure.{failure_at}
 use Rattle.clsm_text.specs.Input.{TakesLine}
 use Rattle.clsm_text.specs.Line.{IsGood}
@@ -13,10 +13,19 @@ use Rattle.clsm_script.specs.Script.{StopsPlay}
 use Rattle.clsm_script.specs.declared.command.Command.{Command}
 
 -- a line that is read is good
-pub reads_good : (line : List ℕ) (said : Option Command) → Reads line (Ok said) →
+reads_good : (line : List ℕ) (said : Option Command) → Reads line (Ok said) →
     IsGood IsCommand line
 reads_good line None (text, comment) = (text, inl comment)
 reads_good line (Some command) (text, says) = (text, inr (command, says))
+
+-- it leads on to the next line
+pub leads_past : (old now new : Option (List ℕ)) (line text : List ℕ) (said : Option Command)
+    (found : Bool) (count : ℕ) → LeadsTo IsCommand old now count → Tells now found →
+    found ≡ true → IfSome now (λ bytes. TakesLine bytes line new) → text ≡ line →
+    Reads text (Ok said) → LeadsTo IsCommand old new (count + 1)
+leads_past old now new line text said found count leads tells some takes is reads =
+    leads_on IsCommand old now new line found count leads tells some takes
+    (reads_good line said (subst (λ (l : List ℕ). Reads l (Ok said)) is reads))
 
 -- a line that is not read stops the play
 pub stops_at_error : (old now new : Option (List ℕ)) (line : List ℕ) (found : Bool) (number : ℕ)

@@ -108,18 +108,14 @@ impl Call {
                 (scan.time, Deed::Scan { lo, hi, rows })
             }
             (Call::Page { from, hi, max }, Answer::Page(Ok(page))) => {
-                let (from, hi, max, more) = (*from, *hi, *max, page.more);
-                let rows = page.rows.clone()?;
-                (
-                    page.time,
-                    Deed::Page {
-                        from,
-                        hi,
-                        max,
-                        rows,
-                        more,
-                    },
-                )
+                let deed = Deed::Page {
+                    from: *from,
+                    hi: *hi,
+                    max: *max,
+                    rows: page.rows.clone()?,
+                    more: page.more,
+                };
+                (page.time, deed)
             }
             (Call::Batch { members }, Answer::Batch(Ok(time))) => {
                 let members = members.clone()?;

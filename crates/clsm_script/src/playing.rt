@@ -1,19 +1,17 @@
-ghost use Rattle.std.specs.Prelude.{◌≡◌, ◌⊎◌, [], Contains, Err, IfSome, IfOk, OnOk, IfErr};
+ghost use Rattle.std.specs.Prelude.{◌≡◌, ◌⊎◌, [], Contains, Err, IfSome, OnOk, IfErr};
 ghost use Rattle.std.specs.Io.Buffered.{reader_buffer, reader_remaining, writer_buffer};
 ghost use Rattle.clsm_script.specs.Answer.{IsFault, WantsMemory};
 ghost use Rattle.clsm_script.specs.Script.{IsScript, IsStatus, StopsLine, StopsPlay, StopsScript};
 ghost use Rattle.clsm_script.specs.Session.{IsSession};
 ghost use Rattle.clsm_text.specs.Failure.{IsOutside};
 ghost use Rattle.clsm_text.specs.declared.failure.Failure.TheVariants.{Device, Fault, Memory};
-ghost use Rattle.clsm_store.specs.Phase.{merger_in};
 ghost use Rattle.clsm_model.specs.Config.{IsSound};
 
 use crate::answer::Answer;
-use crate::command::Command;
 use crate::line::parse_line;
 use crate::session::Session;
-use clsm_store::{Config, Opened, Pace, Phase, Store, open};
-use clsm_text::{Failure, read_line};
+use clsm_store::{Config, Merger, Opened, Pace, Phase, open};
+use clsm_text::{Failure, Streams, read_line};
 use std::alloc::Global;
 use std::io::{BufReader, BufWriter, Read, Write};
 use std::sync::Wait;
@@ -27,6 +25,13 @@ pub const DEFAULT_SIZES: Config = Config {
     patience: 8,
 };
 
+/// What a script reads, and the answers that it writes, which are held back for a while.
+#[derive(Drop)]
+struct Console<R, W: Write + Drop> {
+    reader: BufReader<R>,
+    answers: BufWriter<W>,
+}
+
 /// Plays the commands of an input, one a line, on a new store of these sizes, and writes each
 /// answer as a line of its own to the output. Answers are held back only as long as the next line
 /// is at hand: before more input is waited for, all are written and flushed. Where that fails,
@@ -34,14 +39,7 @@ pub const DEFAULT_SIZES: Config = Config {
 /// `no memory`, with status 3. An audit that finds a fault ends the script with status 2, and
 /// lines on the faults say why it is one: what an explanation of `clsm_audit` says. The status of a
 /// script that is played to its end is 0. A write to the faults that fails changes no status.
-pub fn script<T, R, W, E>(
-    rt: &T,
-    alloc: Global,
-    config: Config,
-    input: R,
-    output: W,
-    mut faults: E,
-) -> u8
+pub fn script<T, R, W, E>(rt: &T, alloc: Global, config: Config, streams: Streams<R, W, E>) -> u8
 where
     T: Wait,
     R: Read + Drop,
@@ -49,9 +47,19 @@ where
     E: Write + Drop,
     ensures status { IsStatus result }
     ensures refused { ¬ IsSound config → result ≡ 3 }
-    ensures played { result ≡ 0 → IfSome (R.remaining input) IsScript }
+    ensures played { result ≡ 0 → IfSome (R.remaining streams.input) IsScript }
 {
-    match play_script(rt, alloc, config, input, output, &mut faults) {
+    let Streams {
+        input,
+        output,
+        mut faults,
+    } = streams;
+    let lent = Streams {
+        input,
+        output,
+        faults: &mut faults,
+    };
+    match play_script(rt, alloc, config, lent) {
         Ok(()) => 0,
         Err(failure) => {
             let _ = failure.report(&mut faults);
@@ -64,9 +72,7 @@ fn play_script<T, R, W, E>(
     rt: &T,
     alloc: Global,
     config: Config,
-    input: R,
-    output: W,
-    faults: &mut E,
+    streams: Streams<R, W, &mut E>,
 ) -> Result<(), Failure>
 where
     T: Wait,
@@ -74,32 +80,34 @@ where
     W: Write + Drop,
     E: Write,
     ensures opened { OnOk result (IsSound config) }
-    ensures played { OnOk result (IfSome (R.remaining input) IsScript) }
-    ensures stopped { IfErr result (StopsScript config (R.remaining input)) }
+    ensures played { OnOk result (IfSome (R.remaining streams.input) IsScript) }
+    ensures stopped { IfErr result (StopsScript config (R.remaining streams.input)) }
 {
+    let Streams {
+        input,
+        output,
+        faults,
+    } = streams;
     let Opened {
         store,
         seats,
         merger,
     } = open(alloc, config)?;
-    let Ok(mut reader) = BufReader::new(alloc, input) else {
+    let Ok(reader) = BufReader::new(alloc, input) else {
         return Err(Failure::Memory);
     };
-    let Ok(mut answers) = BufWriter::new(alloc, output) else {
+    let Ok(answers) = BufWriter::new(alloc, output) else {
         return Err(Failure::Memory);
     };
+    let mut console = Console { reader, answers };
     let mut session = Session::new(alloc, config, seats);
     let phase = Phase::Clean(merger);
-    let played = play_lines(
-        rt,
-        alloc,
-        &mut reader,
-        &mut answers,
-        &store,
-        &mut session,
+    let merger = Merger {
+        store: &store,
         phase,
-    );
-    let ended = end(answers, played);
+    };
+    let played = play_lines(rt, alloc, &mut console, &mut session, merger);
+    let ended = end(console.answers, played);
     if let Err(Failure::Fault) = ended {
         session.write_reason(alloc, faults);
     }
@@ -127,28 +135,29 @@ fn end<W: Write + Drop>(
 fn play_lines<T: Wait, R: Read, W: Write + Drop, P: Pace + Drop>(
     rt: &T,
     alloc: Global,
-    reader: &mut BufReader<R>,
-    answers: &mut BufWriter<W>,
-    store: &Store<P>,
+    console: &mut Console<R, W>,
     session: &mut Session,
-    mut phase: Phase,
+    merger: Merger<'_, P>,
 ) -> Result<(), Failure>
-    requires session { IsSession store.now session.old }
-    requires merger { (merger_in phase).store ≡ store.now }
-    ensures played { OnOk result (IfSome (reader_remaining R.remaining reader.old) IsScript) }
-    ensures stopped { IfErr result (StopsPlay (reader_remaining R.remaining reader.old)) }
+    requires { IsSession merger.store.now session.old }
+    ensures played { OnOk result (IfSome (reader_remaining R.remaining console.old.reader) IsScript) }
+    ensures stopped { IfErr result (StopsPlay (reader_remaining R.remaining console.old.reader)) }
 {
+    let Merger { store, mut phase } = merger;
     let mut line = Vec::new(alloc);
     for number in 1..u64::MAX {
-        give_out_before_wait(reader, answers)?;
-        if !read_line(reader, &mut line)? {
+        give_out_before_wait(&console.reader, &mut console.answers)?;
+        if !read_line(&mut console.reader, &mut line)? {
             return Ok(());
         }
-        let said = match parse_line(alloc, &line) {
-            Ok(said) => said,
+        let command = match parse_line(alloc, &line) {
+            Ok(Some(command)) => command,
+            Ok(None) => continue,
             Err(error) => return Err(error.at(number)),
         };
-        phase = play_line(rt, alloc, answers, store, session, phase, said)?;
+        let (next, answer) = command.play(rt, alloc, store, session, phase)?;
+        phase = next;
+        write_answer(&mut console.answers, &answer)?;
     }
     Err(Failure::Device)
 }
@@ -177,30 +186,6 @@ fn give_out<W: Write + Drop>(answers: &mut BufWriter<W>) -> Result<(), Failure>
         answers.flush()?;
     }
     Ok(())
-}
-
-/// Plays what a line says, writes the answer, and gives the merger's token back.
-fn play_line<T: Wait, W: Write, P: Pace + Drop>(
-    rt: &T,
-    alloc: Global,
-    answers: &mut W,
-    store: &Store<P>,
-    session: &mut Session,
-    phase: Phase,
-    said: Option<Command>,
-) -> Result<Phase, Failure>
-    requires session { IsSession store.now session.old }
-    requires merger { (merger_in phase).store ≡ store.now }
-    ensures stopped { IfErr result StopsLine }
-    ensures session { OnOk result (IsSession store.now session.new) }
-    ensures merger { IfOk result (λ next. (merger_in next).store ≡ store.now) }
-{
-    let Some(command) = said else {
-        return Ok(phase);
-    };
-    let (phase, answer) = command.play(rt, alloc, store, session, phase)?;
-    write_answer(answers, &answer)?;
-    Ok(phase)
 }
 
 /// Writes the answer as a line. It ends the script where memory ran out, which is

@@ -11,6 +11,7 @@
 use crate::keyboard::Keyboard;
 use anyhow::Result;
 use clsm_command::command;
+use clsm_text::Streams;
 use std::alloc::{AllocError, Global};
 use std::io::{Stdout, Write};
 use std::rt::Clock;
@@ -48,8 +49,12 @@ where
     writeln!(screen, "\n$ {line}")?;
     let words = split_words(alloc, line)?;
     let mut faults = Vec::new(alloc);
-    let keyboard = Keyboard::new(input, screen);
-    let status = command(rt, alloc, &words, keyboard, screen, &mut faults);
+    let streams = Streams {
+        input: Keyboard::new(input, screen),
+        output: screen,
+        faults: &mut faults,
+    };
+    let status = command(rt, alloc, &words, streams);
     for fault in std::str::from_utf8(&faults)?.lines() {
         writeln!(screen, "! {}", last_shown(fault))?;
     }

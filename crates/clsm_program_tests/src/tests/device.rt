@@ -1,5 +1,6 @@
 //! Readers and writers that fail once, and what a command line prints on the latter.
 use clsm_command::command;
+use clsm_text::Streams;
 use std::alloc::Global;
 use std::io::{self, ErrorKind, Read, Write};
 use std::process::Abort;
@@ -101,7 +102,12 @@ pub(super) fn play<T: Threads + Sync + Clock + Wait, R: Read + Drop>(
         step: failing.step,
         fails_after: failing.faults,
     };
-    let status = command(rt, alloc, words, input, &mut output, &mut faults);
+    let streams = Streams {
+        input,
+        output: &mut output,
+        faults: &mut faults,
+    };
+    let status = command(rt, alloc, words, streams);
     Ok(Played {
         output: String::from_utf8(output.shown)?,
         faults: String::from_utf8(faults.shown)?,

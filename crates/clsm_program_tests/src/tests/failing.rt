@@ -1,5 +1,5 @@
 //! How command lines end where their input, their output, their faults or memory fail them.
-use super::device::{Failing, Keyboard, NEVER, SOUND, play};
+use super::device::{Failing, Keyboard, NEVER, Played, SOUND, play};
 use std::alloc::Global;
 use std::io::ErrorKind;
 use std::process::Abort;
@@ -24,23 +24,28 @@ const TWO_LINES: &str = "put 7 70\nget 7\n";
 
 const TWO_RECORDS: &str = "0 0 put 7 70\n0 1 get 7 70\n";
 
-/// An input that comes by so many bytes a call, and for each end the fewest and the most calls after
-/// which it fails, how it fails, what is printed on both, and the status.
-struct Reading {
-    words: &'static [&'static str],
-    input: &'static str,
-    step: usize,
-    ends: &'static [End],
+/// A command line, its input, and what it prints where nothing fails.
+type Case = (&'static [&'static str], &'static str, &'static str);
+
+const PLAYED: Case = (SCRIPT, TWO_LINES, "@0\n70 @1\n");
+
+const AUDITED: Case = (AUDIT, TWO_RECORDS, "audit ok\n");
+
+const RAN: Case = (RUN, "", "calls 10\naudit ok\n");
+
+const EXPLORED: Case = (EXPLORE, "", "explore ok\n");
+
+/// So many bytes of what the case prints are shown, and the status is 0, or 1 for a device.
+fn expect_shown(rt: &impl Abort, played: &Played, case: &Case, shown: usize, status: u8) {
+    let (_, _, text) = *case;
+    let output = text.get(..shown).unwrap_or("");
+    let faults = if status == 0 { "" } else { "device\n" };
+    played.expect(rt, output, faults, status);
 }
 
-type End = (
-    u32,
-    u32,
-    &'static [ErrorKind],
-    &'static str,
-    &'static str,
-    u8,
-);
+/// The fewest and the most calls after which an input fails, how it fails, how many bytes are shown,
+/// and the status.
+type End = (u32, u32, &'static [ErrorKind], usize, u8);
 
 const FAILURES: &[ErrorKind] = &[
     ErrorKind::Other,
@@ -50,65 +55,56 @@ const FAILURES: &[ErrorKind] = &[
 
 const INTERRUPTED: &[ErrorKind] = &[ErrorKind::Interrupted];
 
-/// The script takes 15 reads and one that finds the end, the records seven and one.
-const READS: &[Reading] = &[
-    Reading {
-        words: SCRIPT,
-        input: TWO_LINES,
-        step: 1,
-        ends: &[
+/// What is played, how many bytes of its input come a call, and how that ends. The script takes 15
+/// reads and one that finds the end, the records seven and one.
+const READS: &[(Case, usize, &[End])] = &[
+    (
+        PLAYED,
+        1,
+        &[
             // a line is answered before the next one is read
-            (0, 8, FAILURES, "", "device\n", 1),
-            (9, 14, FAILURES, "@0\n", "device\n", 1),
-            (15, 15, FAILURES, "@0\n70 @1\n", "device\n", 1),
-            (16, 18, FAILURES, "@0\n70 @1\n", "", 0),
+            (0, 8, FAILURES, 0, 1),
+            (9, 14, FAILURES, 3, 1),
+            (15, 15, FAILURES, 9, 1),
+            (16, 18, FAILURES, 9, 0),
             // an interrupted read is made again
-            (0, 16, INTERRUPTED, "@0\n70 @1\n", "", 0),
+            (0, 16, INTERRUPTED, 9, 0),
         ],
-    },
+    ),
     // all that is at hand is answered before more is read
-    Reading {
-        words: SCRIPT,
-        input: TWO_LINES,
-        step: 12,
-        ends: &[(1, 1, FAILURES, "@0\n", "device\n", 1)],
-    },
-    Reading {
-        words: SCRIPT,
-        input: TWO_LINES,
-        step: 15,
-        ends: &[(1, 1, FAILURES, "@0\n70 @1\n", "device\n", 1)],
-    },
-    Reading {
-        words: AUDIT,
-        input: TWO_RECORDS,
-        step: 4,
-        ends: &[
-            (0, 7, &[ErrorKind::Other], "", "device\n", 1),
-            (8, 9, FAILURES, "audit ok\n", "", 0),
-            (0, 8, INTERRUPTED, "audit ok\n", "", 0),
+    (PLAYED, 12, &[(1, 1, FAILURES, 3, 1)]),
+    (PLAYED, 15, &[(1, 1, FAILURES, 9, 1)]),
+    (
+        AUDITED,
+        4,
+        &[
+            (0, 7, &[ErrorKind::Other], 0, 1),
+            (8, 9, FAILURES, 9, 0),
+            (0, 8, INTERRUPTED, 9, 0),
         ],
-    },
+    ),
 ];
 
-/// Plays the reading to this end, once for each kind and number of calls.
+/// Plays the case to this end, once for each kind and number of calls.
 fn check_end<R: Abort + Threads + Sync + Clock + Wait>(
     rt: &R,
     alloc: Global,
-    reading: &Reading,
+    case: &Case,
+    step: usize,
     end: &End,
 ) -> Result<(), Fail> {
-    let (fewest, most, kinds, output, faults, status) = *end;
+    let (words, input, _) = *case;
+    let (fewest, most, kinds, shown, status) = *end;
     for fails_after in fewest..=most {
         for kind in kinds {
             let keyboard = Keyboard {
-                left: reading.input.as_bytes(),
-                step: reading.step,
+                left: input.as_bytes(),
+                step,
                 fails_after,
                 kind: *kind,
             };
-            let played = play(rt, alloc, reading.words, keyboard, &SOUND)?;
-            played.expect(rt, output, faults, status);
+            let played = play(rt, alloc, words, keyboard, &SOUND)?;
+            expect_shown(rt, &played, case, shown, status);
         }
     }
     Ok(())
@@ -116,99 +112,64 @@ fn check_end<R: Abort + Threads + Sync + Clock + Wait>(
 
 #[test]
 fn reads_that_fail(rt: HostRuntime) -> Result<(), Fail> {
-    for reading in READS {
-        for end in reading.ends {
-            check_end(&rt, rt.alloc(), reading, end)?;
+    for (case, step, ends) in READS {
+        for end in *ends {
+            check_end(&rt, rt.alloc(), case, *step, end)?;
         }
     }
     Ok(())
 }
 
-/// What is written to screens that take so many bytes a call, the calls before one of the output
-/// fails, the bytes that are then shown, the bytes of the input that are left, and the status.
-struct Written {
-    words: &'static [&'static str],
-    input: &'static str,
-    text: &'static str,
-    step: usize,
-    ends: &'static [(u32, usize, usize, u8)],
-}
+/// What is played, how many bytes the screens take a call, after how many calls of the output the
+/// input is read on, and after how many the output fails, with the bytes that are then shown. The
+/// last is the number of all calls, after which it does not fail.
+type Written = (Case, usize, u32, &'static [u32], &'static [usize]);
 
 const WRITES: &[Written] = &[
     // an answer is written and flushed before the next line is read
-    Written {
-        words: SCRIPT,
-        input: TWO_LINES,
-        text: "@0\n70 @1\n",
-        step: 256,
-        ends: &[
-            (0, 0, 6, 1),
-            (1, 3, 6, 1),
-            (2, 3, 0, 1),
-            (3, 9, 0, 1),
-            (4, 9, 0, 0),
-        ],
-    },
-    Written {
-        words: SCRIPT,
-        input: TWO_LINES,
-        text: "@0\n70 @1\n",
-        step: 1,
-        ends: &[
-            (0, 0, 6, 1),
-            (1, 1, 6, 1),
-            (2, 2, 6, 1),
-            (3, 3, 6, 1),
-            (4, 3, 0, 1),
-            (5, 4, 0, 1),
-            (6, 5, 0, 1),
-            (7, 6, 0, 1),
-            (8, 7, 0, 1),
-            (9, 8, 0, 1),
-            (10, 9, 0, 1),
-            (11, 9, 0, 0),
-        ],
-    },
-    Written {
-        words: AUDIT,
-        input: TWO_RECORDS,
-        text: "audit ok\n",
-        step: 4,
-        ends: &[
-            (0, 0, 0, 1),
-            (1, 4, 0, 1),
-            (2, 8, 0, 1),
-            (3, 9, 0, 1),
-            (4, 9, 0, 0),
-        ],
-    },
-    Written {
-        words: RUN,
-        input: "",
-        text: "calls 10\naudit ok\n",
-        step: 1,
-        ends: &[
-            (0, 0, 0, 1),
-            (7, 7, 0, 1),
-            (17, 17, 0, 1),
-            (18, 18, 0, 1),
-            (19, 18, 0, 0),
-        ],
-    },
-    Written {
-        words: EXPLORE,
-        input: "",
-        text: "explore ok\n",
-        step: 1,
-        ends: &[
-            (0, 0, 0, 1),
-            (8, 8, 0, 1),
-            (10, 10, 0, 1),
-            (11, 11, 0, 1),
-            (12, 11, 0, 0),
-        ],
-    },
+    (PLAYED, 256, 2, &[0, 1, 2, 3, 4], &[0, 3, 3, 9, 9]),
+    (
+        PLAYED,
+        1,
+        4,
+        &[0, 1, 2, 3, 4, 5, 6, 7, 8, 9, 10, 11],
+        &[0, 1, 2, 3, 3, 4, 5, 6, 7, 8, 9, 9],
+    ),
+    (AUDITED, 4, 0, &[0, 1, 2, 3, 4], &[0, 4, 8, 9, 9]),
+    (RAN, 1, 0, &[0, 7, 17, 18, 19], &[0, 7, 17, 18, 18]),
+    (EXPLORED, 1, 0, &[0, 8, 10, 11, 12], &[0, 8, 10, 11, 11]),
 ];
+
+/// Plays what is written to screens that fail after so many calls. The second line of a script is
+/// left where the input is not read on.
+fn check_written<R: Abort + Threads + Sync + Clock + Wait>(
+    rt: &R,
+    alloc: Global,
+    written: &Written,
+    calls: u32,
+    shown: usize,
+) -> Result<(), Fail> {
+    let (case, step, reads_on, all, _) = written;
+    let all = all.last().copied().unwrap_or(0);
+    let (words, input, _) = *case;
+    let mut keyboard = Keyboard {
+        left: input.as_bytes(),
+        step: 1,
+        fails_after: NEVER,
+        kind: ErrorKind::Other,
+    };
+    let failing = Failing {
+        step: *step,
+        output: calls,
+        faults: NEVER,
+    };
+    let played = play(rt, alloc, words, &mut keyboard, &failing)?;
+    let status = if calls < all { 1 } else { 0 };
+    let left = if calls < *reads_on { 6 } else { 0 };
+    expect_shown(rt, &played, case, shown, status);
+    assert_eq!(rt; keyboard.left.len(), left, "after {calls} calls");
+    Ok(())
+}
 
 /// A status stays where the faults are lost.
 const STATUSES: &[(&[&str], &str, u8)] = &[
@@ -224,23 +185,8 @@ const STATUSES: &[(&[&str], &str, u8)] = &[
 #[test]
 fn writes_that_fail(rt: HostRuntime) -> Result<(), Fail> {
     for written in WRITES {
-        for (calls, shown, left, status) in written.ends {
-            let mut keyboard = Keyboard {
-                left: written.input.as_bytes(),
-                step: 1,
-                fails_after: NEVER,
-                kind: ErrorKind::Other,
-            };
-            let failing = Failing {
-                step: written.step,
-                output: *calls,
-                faults: NEVER,
-            };
-            let played = play(&rt, rt.alloc(), written.words, &mut keyboard, &failing)?;
-            let faults = if *status == 0 { "" } else { "device\n" };
-            let output = written.text.get(..*shown).unwrap_or("");
-            played.expect(&rt, output, faults, *status);
-            assert_eq!(rt; keyboard.left.len(), *left, "after {calls} calls");
+        for (calls, shown) in written.3.iter().zip(written.4) {
+            check_written(&rt, rt.alloc(), written, *calls, *shown)?;
         }
     }
     for (words, input, status) in STATUSES {
@@ -257,20 +203,17 @@ fn writes_that_fail(rt: HostRuntime) -> Result<(), Fail> {
     Ok(())
 }
 
-const MANY_LINES: &str = "put 7 70\nput 8 80\nscan 0 9\npage 0 9 1\naudit\n";
+const PLAYED_LONGER: Case = (
+    SCRIPT,
+    "put 7 70\nput 8 80\nscan 0 9\npage 0 9 1\naudit\n",
+    "@0\n@1\n7=70 8=80 @2\n7=70 @2 more 8\naudit ok\n",
+);
 
 // Under `rt try --test --fail-alloc N` the Nth allocation of each test is refused.
 #[test]
 fn answers_in_full_or_wants_memory(rt: HostRuntime) -> Result<(), Fail> {
-    for (words, input, full) in [
-        (SCRIPT, TWO_LINES, "@0\n70 @1\n"),
-        (
-            SCRIPT,
-            MANY_LINES,
-            "@0\n@1\n7=70 8=80 @2\n7=70 @2 more 8\naudit ok\n",
-        ),
-        (AUDIT, TWO_RECORDS, "audit ok\n"),
-    ] {
+    for case in [PLAYED, PLAYED_LONGER, AUDITED] {
+        let (words, input, full) = case;
         let played = play(&rt, rt.alloc(), words, input.as_bytes(), &SOUND)?;
         let output = played.output.as_str();
         match played.faults.as_str() {

@@ -8,50 +8,47 @@ use clsm_text::Failure;
 use std::io;
 use std::test::Fail;
 
-/// An input, what is printed on both, and the status.
-type Row = (&'static [u8], &'static str, &'static str, u8);
-
-const SCRIPTS: &[Row] = &[
-    (b"", "", "", 0),
-    (b"\n", "", "", 0),
-    (b"put 7 70\nget 7", "@0\n70 @1\n", "", 0),
+/// Inputs that are read to their end, and what is printed.
+const GOOD_LINES: &[(&str, &[u8], &str)] = &[
+    ("script", b"", ""),
+    ("script", b"\n", ""),
+    ("script", b"put 7 70\nget 7", "@0\n70 @1\n"),
     (
+        "script",
         b"  \n# comment\n  #\tput\n  get   7  \n#",
         "none @0\n",
-        "",
-        0,
     ),
-    (b"put 7 70\nget 7\nget", "@0\n70 @1\n", "bad line 3\n", 1),
-    (b"put\t7 70", "", "bad line 1\n", 1),
-    (b"get\t7", "", "bad line 1\n", 1),
-    (b"get 7\t", "", "bad line 1\n", 1),
-    (b"\tget 7", "", "bad line 1\n", 1),
-    (b"\t", "", "bad line 1\n", 1),
-    (b"get 7\r", "", "bad line 1\n", 1),
-    (b"\r", "", "bad line 1\n", 1),
-    (b"get \xd9\xa7", "", "bad line 1\n", 1),
-    (b"get \xff7", "", "bad line 1\n", 1),
-    (b"get \xff\n", "", "bad line 1\n", 1),
-    (b"# \xff", "", "bad line 1\n", 1),
+    ("audit", b"", "audit ok\n"),
+    ("audit", b"0 0 put 7 70\n0 1 get 7 70", "audit ok\n"),
 ];
 
-const AUDITS: &[Row] = &[
-    (b"", "audit ok\n", "", 0),
-    (b"0 0 put 7 70\n0 1 get 7 70", "audit ok\n", "", 0),
-    (b"0 0 put\t7 70", "", "bad line 1\n", 1),
-    (b"0 0 put 7 70\r", "", "bad line 1\n", 1),
-    (b"0 0 put 7 \xff", "", "bad line 1\n", 1),
-    (b"# \xff", "", "bad line 1\n", 1),
+/// First lines that are bad, with a bar between each two.
+const BAD_LINES: &[(&str, &[u8])] = &[
+    (
+        "script",
+        b"put\t7 70|get\t7|get 7\t|\tget 7|\t|get 7\r|\r|get \xd9\xa7|get \xff7|get \xff\n|# \xff",
+    ),
+    (
+        "audit",
+        b"0 0 put\t7 70|0 0 put 7 70\r|0 0 put 7 \xff|# \xff",
+    ),
 ];
 
 #[test]
 fn lines_of_any_bytes(rt: HostRuntime) -> Result<(), Fail> {
-    for (command, rows) in [("script", SCRIPTS), ("audit", AUDITS)] {
-        for (input, output, faults, status) in rows {
-            let played = play(&rt, rt.alloc(), &["clsm", command], *input, &SOUND)?;
-            played.expect(&rt, output, faults, *status);
+    let alloc = rt.alloc();
+    for (command, input, output) in GOOD_LINES {
+        play(&rt, alloc, &["clsm", command], *input, &SOUND)?.expect(&rt, output, "", 0);
+    }
+    for (command, inputs) in BAD_LINES {
+        for input in inputs.split(|byte| *byte == b'|') {
+            let played = play(&rt, alloc, &["clsm", command], input, &SOUND)?;
+            played.expect(&rt, "", "bad line 1\n", 1);
         }
     }
+    let third: &[u8] = b"put 7 70\nget 7\nget";
+    let played = play(&rt, alloc, &["clsm", "script"], third, &SOUND)?;
+    played.expect(&rt, "@0\n70 @1\n", "bad line 3\n", 1);
     Ok(())
 }
 
@@ -84,30 +81,28 @@ fn lines_of_4096_bytes(rt: HostRuntime) -> Result<(), Fail> {
     Ok(())
 }
 
-/// A record of each kind.
-const RECORDS: &[&str] = &[
-    "3 12 put 1 1,18446744073709551615",
-    "3 12 remove 1",
-    "3 12 rmw 1 1,18446744073709551615 keep",
-    "3 12 rmw 1 none 1,18446744073709551615",
-    "3 12 rmw 1 none none",
-    "3 12 get 18446744073709551615 none",
-    "3 12 getat 1 1,18446744073709551615",
-    "3 12 snap",
-    "3 12 close",
-    "3 12 scan 0 9",
-    "3 12 scan 0 9 5=7 6=1,2",
-    "3 12 page 0 9 2 5=7 6=1,2",
-    "3 12 page 0 9 2 5=7 6=1,2 more 8",
-    "3 12 batch",
-    "3 12 batch 5=7",
-    "3 12 batch 1=1,18446744073709551615 1=none 18446744073709551615=keep",
-];
+/// Records of each kind, one a line.
+const RECORDS: &str = "3 12 put 1 1,18446744073709551615
+3 12 remove 1
+3 12 rmw 1 1,18446744073709551615 keep
+3 12 rmw 1 none 1,18446744073709551615
+3 12 rmw 1 none none
+3 12 get 18446744073709551615 none
+3 12 getat 1 1,18446744073709551615
+3 12 snap
+3 12 close
+3 12 scan 0 9
+3 12 scan 0 9 5=7 6=1,2
+3 12 page 0 9 2 5=7 6=1,2
+3 12 page 0 9 2 5=7 6=1,2 more 8
+3 12 batch
+3 12 batch 5=7
+3 12 batch 1=1,18446744073709551615 1=none 18446744073709551615=keep";
 
 /// What is read of a line is written as the same line.
 #[test]
 fn records_are_read_and_written(rt: HostRuntime) -> Result<(), Fail> {
-    for line in RECORDS {
+    for line in RECORDS.lines() {
         let Ok(Some(record)) = parse_record(rt.alloc(), line.as_bytes()) else {
             panic!(rt; "{line}");
         };

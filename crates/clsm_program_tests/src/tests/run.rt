@@ -3,7 +3,7 @@
 use super::device::{NEVER, SOUND, Screen, play};
 use clsm_audit::{AuditError, FaultKind, audit};
 use clsm_model::{CallRecord, Change, Config, Deal, Deed, Value};
-use clsm_run::{Load, Ran, Shows, Workload, run_on};
+use clsm_run::{AskedRun, Load, Ran, Shows, Workload, run_on};
 use std::alloc::Global;
 use std::process::Abort;
 use std::rt::Clock;

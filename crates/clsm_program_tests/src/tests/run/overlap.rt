@@ -86,7 +86,12 @@ fn workers_overlap(rt: HostRuntime) -> Result<(), Fail> {
         step: 256,
         fails_after: NEVER,
     };
-    let ran = run_on(&rt, alloc, &config, opened, &LOAD, &PLAIN, &mut faults);
+    let asked = AskedRun {
+        config,
+        load: LOAD,
+        shows: PLAIN,
+    };
+    let ran = run_on(&rt, alloc, &asked, opened, &mut faults);
     let Ran {
         mut records,
         verdict,

@@ -2,7 +2,7 @@
 ghost use Rattle.clsm_store_calls.specs.Seats.{AreNew, IsNewMerger};
 
 use super::*;
-use clsm_run::{Board, Gathered, gather, work_merging};
+use clsm_run::{Crew, Gathered, Task, gather, work_merging};
 use clsm_store::{Free, Opened, open};
 
 /// Lets the seats make the calls of the load beside the merger, and settles them. Answers how many
@@ -22,23 +22,18 @@ fn settle<R: Abort + Threads + Sync + Clock + Wait>(
         seats,
         merger,
     } = opened;
-    let board = Board::new();
+    let task = Task::new(*load, PLAIN);
+    let crew = Crew {
+        store: &store,
+        seats,
+        merger,
+    };
     let mut faults = Screen {
         shown: Vec::new(alloc),
         step: 256,
         fails_after: NEVER,
     };
-    let (worked, _) = work_merging(
-        rt,
-        alloc,
-        &store,
-        seats,
-        merger,
-        load,
-        &PLAIN,
-        &board,
-        &mut faults,
-    );
+    let (worked, _) = work_merging(rt, alloc, crew, &task, &mut faults);
     let Gathered { seats, records, .. } = gather(alloc, worked.expect(rt, "memory")).expect(
         rt, "memory",
     );

@@ -1,5 +1,5 @@
-use Rattle.std.proofs.Common.{◌≡◌, ◌<◌, length, get_or, sym, subst, Ok, arith, rules}
-use Rattle.std.proofs.Common.{tests}
+use Rattle.std.proofs.Common.{◌≡◌, ◌+◌, ◌<◌, [], ◌∷◌, ◌++◌, length, get_or, sym, subst, Ok, arith}
+use Rattle.std.proofs.Common.{rules, tests}
 use Rattle.std.proofs.lemmas.Iterator.Consumers.{YieldsList-turn, YieldsList-end}
 use Rattle.std.proofs.lemmas.Iterator.Splits.{YieldsList-from_slice_split}
 use Rattle.std.proofs.lemmas.List.{length_push, take_all}
@@ -35,17 +35,23 @@ at c =
           (sym c.loop-line.invariant.number) is,
     )
 
+-- this turn's line is one more
+counted : (c : In-Some) →
+    c.loop-line.number + 1 ≡ length (c.loop-line.yielded ++ c.in-Some.line ∷ [])
+counted c =
+    omega (
+      arith,
+      length_push c.loop-line.yielded c.in-Some.line,
+      c.loop-line.invariant.number,
+    )
+
 pub loop-line-preserved-in-Continue-branch-2 : goal.loop-line-preserved-in-Continue-branch-2
 loop-line-preserved-in-Continue-branch-2 c =
     let (inside, is) = at (goal.at.loop-line-preserved-in-Continue-branch-2 c).In-Some in
     record {
       can = search rules;
       ends = tt;
-      number = omega (
-        arith,
-        length_push c.loop-line.yielded c.in-Some.line,
-        c.loop-line.invariant.number,
-      );
+      number = counted (goal.at.loop-line-preserved-in-Continue-branch-2 c).In-Some;
       list = rw (c.in_ok-push-in-Ok-Some.ensures.items, c.in_ok-push-in-Ok-Some-2.ensures.items)
           (more_some _ _ c.in-Some.line.now _ _ c.loop-line.invariant.list inside is
           c.in-Ok-Some.record
@@ -59,11 +65,7 @@ loop-line-preserved c =
     record {
       can = search rules;
       ends = tt;
-      number = omega (
-        arith,
-        length_push c.loop-line.yielded c.in-Some.line,
-        c.loop-line.invariant.number,
-      );
+      number = counted (goal.at.loop-line-preserved c).In-Some;
       list = more_none _ _ c.in-Some.line.now _ _ c.loop-line.invariant.list inside is
           (subst (λ o. Reads c.in-Some.line.now (Ok o)) c.in-Ok-None.field-0-is
           c.in-Ok-None.ensures);

@@ -5,18 +5,18 @@ use Rattle.clsm_run.proofs.crew.run_on.Goals as goal
 
 pub work_merging-worked-requires-clause-seats : goal.work_merging-worked-requires-clause-seats
 work_merging-worked-requires-clause-seats g c κs within =
-    all_seated c.args.opened.store c.args.config.now.seats c.args.opened.seats.items c.requires.seats
+    all_seated c.args.opened.store c.args.asked.now.config.seats c.args.opened.seats.items c.requires.seats
 
 pub gather-requires : goal.gather-requires
 gather-requires g c =
     let done : AreWorked c.args.opened.seats.items c.in_ok-worked.worked.items = search rules in
-    told c.args.opened.store c.args.config.now.seats c.args.opened.seats.items c.requires.seats c.in_ok-worked.worked.items done
+    told c.args.opened.store c.args.asked.now.config.seats c.args.opened.seats.items c.requires.seats c.in_ok-worked.worked.items done
 
 pub returns-clause-audited : goal.returns-clause-audited
 returns-clause-audited g c =
     let done : AreWorked c.args.opened.seats.items c.in_ok-worked.worked.items = search rules in
     record {
-      seats_are = are_seats c.args.opened.store c.args.config.now.seats c.args.opened.seats.items c.requires.seats c.in_ok-worked.worked.items done
+      seats_are = are_seats c.args.opened.store c.args.asked.now.config.seats c.args.opened.seats.items c.requires.seats c.in_ok-worked.worked.items done
           c.in_ok-seats.field-0.seats.items c.in_ok-seats.ensures.seats;
       records_are = c.in_ok-seats.ensures.records;
       verdict_is = search rules;

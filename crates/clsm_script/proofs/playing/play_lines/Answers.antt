@@ -1,9 +1,8 @@
-use Rattle.std.proofs.Common.{Ok, Err, subst, arith}
+use Rattle.std.proofs.Common.{Err, subst, arith}
 use Rattle.clsm_script.specs.Command.{IsCommand}
 use Rattle.clsm_script.specs.Line.{Reads}
-use Rattle.clsm_text.proofs.Inputs.{LeadsTo, leads_on, leads_to_end}
-use Rattle.clsm_text.specs.Line.{IsGood}
-use Rattle.clsm_script.proofs.Readings.{stops_at_error, reads_good}
+use Rattle.clsm_text.proofs.Inputs.{LeadsTo, leads_to_end}
+use Rattle.clsm_script.proofs.Readings.{leads_past, stops_at_error}
 use Rattle.clsm_script.proofs.playing.play_lines.Goals as goal
 
 pub returns-then-not-branch-clause-played : goal.returns-then-not-branch-clause-played
@@ -19,16 +18,24 @@ returns-in-Err-clause-stopped g c =
     (stops_at_error _ _ _ _ _ _ _ c.loop-number.invariant.leads c.in_ok-read_line.ensures.found
     c.if-not-branch.false c.in_ok-read_line.ensures.takes (omega arith) bad)
 
-pub loop-number-preserved : goal.loop-number-preserved
-loop-number-preserved g c =
-    let good : IsGood IsCommand c.read_line.new.line.items =
-    reads_good _ c.in-Ok.said
-    (subst (λ line. Reads line (Ok c.in-Ok.said)) c.deref.ensures.value c.in-Ok.ensures) in
+pub loop-number-preserved-in-Ok-None : goal.loop-number-preserved-in-Ok-None
+loop-number-preserved-in-Ok-None g c =
     record {
       leads = subst (LeadsTo IsCommand _ _) (omega arith)
-          (leads_on IsCommand _ _ _ _ _ _ c.loop-number.invariant.leads
-          c.in_ok-read_line.ensures.found
-          c.if-not-branch.false c.in_ok-read_line.ensures.takes good);
-      session = c.in_ok-phase.ensures.session;
-      merger = c.in_ok-phase.ensures.merger;
+          (leads_past _ _ _ _ _ _ _ _ c.loop-number.invariant.leads
+          c.in_ok-read_line.ensures.found c.if-not-branch.false
+          c.in_ok-read_line.ensures.takes c.deref.ensures.value c.in-Ok-None.ensures);
+      session = c.loop-number.invariant.session;
+      merger = c.loop-number.invariant.merger;
+    }
+
+pub loop-number-preserved : goal.loop-number-preserved
+loop-number-preserved g c =
+    record {
+      leads = subst (LeadsTo IsCommand _ _) (omega arith)
+          (leads_past _ _ _ _ _ _ _ _ c.loop-number.invariant.leads
+          c.in_ok-read_line.ensures.found c.if-not-branch.false
+          c.in_ok-read_line.ensures.takes c.deref.ensures.value c.in-Ok-Some.ensures);
+      session = c.in_ok-next.ensures.session;
+      merger = c.in_ok-next.ensures.merger;
     }

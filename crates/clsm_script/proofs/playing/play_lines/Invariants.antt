@@ -8,8 +8,8 @@ use Rattle.clsm_script.proofs.playing.play_lines.Given as goal
 
 abbrev pub invariant-loop-number : goal.invariant-loop-number
 invariant-loop-number g l = record {
-  leads : LeadsTo IsCommand (reader_remaining g.R.Read.remaining l.initial.reader)
-      (reader_remaining g.R.Read.remaining l.reader) (l.number - 1);
-  session : IsSession l.store l.session;
-  merger : (merger_in l.phase).store ≡ l.store;
+  leads : LeadsTo IsCommand (reader_remaining g.R.Read.remaining l.initial.console.reader)
+      (reader_remaining g.R.Read.remaining l.console.reader) (l.number - 1);
+  session : IsSession l.fn.merger.store.now l.session;
+  merger : (merger_in l.phase).store ≡ l.fn.merger.store.now;
 }
