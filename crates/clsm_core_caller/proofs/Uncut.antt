@@ -1,5 +1,5 @@
 -- The test that a time is strictly inside no batch.
-use Rattle.std.proofs.Common.{◌≡◌, ℕ, ◌-◌, ◌||◌, ◌&&◌, ◌⊎◌, true, false, Bool, List, [], ◌∷◌, ap, ⊎_elim, inl, inr, arith, sym, refl, ◌∙◌}
+use Rattle.std.proofs.Common.{◌≡◌, ℕ, ◌-◌, ◌||◌, true, false, Bool, List, [], ◌∷◌, ap, ⊎_elim, inl, inr, arith, refl}
 use Rattle.std.specs.Prelude.{nat_le}
 use Rattle.std.proofs.lemmas.Bool.{and_parts, and_from, or_cases, leb-true, le-leb, cases_lt}
 use Rattle.clsm_model.specs.declared.batch.Batch.{Batch}

@@ -83,7 +83,9 @@ pub fn note(
         Step::Link(head) => note_link(layout, view, head, found),
         Step::FillOrder(word) => view.order_next = Some(word),
         Step::Insert(pred, next) => note_insert(view, pred, next, found),
-        Step::Decide(time, deed) => note_decision(layout, seat, view, time, deed, found)?,
+        Step::Decide(time, deed) => {
+            note_decision(layout, view, CallRecord { seat, time, deed }, found)?;
+        }
         Step::Cancel(time) => note_cancel(layout, view, time, found),
         Step::Pin => note_pin(view),
         Step::Unpin(end) => note_end(seat, view, end)?,

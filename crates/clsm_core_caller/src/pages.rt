@@ -16,12 +16,20 @@ fn is_range_below(seen: &[Option<Slot>], lo: u64, hi: u64, rows: &[(u64, Value)]
     is_range(seen, lo, hi - 1, rows)
 }
 
-/// Whether the rows are the last of the pairs from `from` to `hi` after the slots, at most `max` of
-/// them.
-fn is_last_page(seen: &[Option<Slot>], from: u64, hi: u64, max: u64, rows: &[(u64, Value)]) -> bool
-    ensures { IsTrue result ↔ IsPageOf (history_of seen.now) (length seen.now) from hi max rows.now None }
+/// What a page asks for: the first `max` pairs of the keys from `from` to `hi`.
+#[derive(Clone, Copy)]
+pub(crate) struct Asked {
+    pub(crate) from: u64,
+    pub(crate) hi: u64,
+    pub(crate) max: u64,
+}
+
+/// Whether the rows are the last of the pairs that are asked for after the slots, and no more than
+/// that.
+fn is_last_page(seen: &[Option<Slot>], asked: Asked, rows: &[(u64, Value)]) -> bool
+    ensures { IsTrue result ↔ IsPageOf (history_of seen.now) (length seen.now) asked.from asked.hi asked.max rows.now None }
 {
-    rows.len() as u64 <= max && is_range(seen, from, hi, rows)
+    rows.len() as u64 <= asked.max && is_range(seen, asked.from, asked.hi, rows)
 }
 
 fn is_next_key(seen: &[Option<Slot>], from: u64, hi: u64, key: u64) -> bool
@@ -30,36 +38,28 @@ fn is_next_key(seen: &[Option<Slot>], from: u64, hi: u64, key: u64) -> bool
     from <= key && key <= hi && value_of(seen, key).is_some()
 }
 
-/// Whether they are the first `max` of those pairs, and the next one's key is `next`.
-fn is_page_before(
-    seen: &[Option<Slot>],
-    from: u64,
-    hi: u64,
-    max: u64,
-    rows: &[(u64, Value)],
-    next: u64,
-) -> bool
-    ensures { IsTrue result ↔ IsPageOf (history_of seen.now) (length seen.now) from hi max rows.now (Some next) }
+/// Whether they are the first of those pairs, as many as are asked for, and the next one's key is
+/// `next`.
+fn is_page_before(seen: &[Option<Slot>], asked: Asked, rows: &[(u64, Value)], next: u64) -> bool
+    ensures { IsTrue result ↔ IsPageOf (history_of seen.now) (length seen.now) asked.from asked.hi asked.max rows.now (Some next) }
 {
-    rows.len() as u64 == max
-        && is_next_key(seen, from, hi, next)
-        && is_range_below(seen, from, next, rows)
+    rows.len() as u64 == asked.max
+        && is_next_key(seen, asked.from, asked.hi, next)
+        && is_range_below(seen, asked.from, next, rows)
 }
 
-/// Whether the rows are the first `max` pairs with keys from `from` to `hi` after the slots, and
-/// `more` the key of the next one.
+/// Whether the rows are the pairs that the page asks for after the slots, and `more` is the key of
+/// the next one.
 pub(crate) fn is_page(
     seen: &[Option<Slot>],
-    from: u64,
-    hi: u64,
-    max: u64,
+    asked: Asked,
     rows: &[(u64, Value)],
     more: Option<u64>,
 ) -> bool
-    ensures { IsTrue result ↔ IsPageOf (history_of seen.now) (length seen.now) from hi max rows.now more }
+    ensures { IsTrue result ↔ IsPageOf (history_of seen.now) (length seen.now) asked.from asked.hi asked.max rows.now more }
 {
     match more {
-        None => is_last_page(seen, from, hi, max, rows),
-        Some(next) => is_page_before(seen, from, hi, max, rows, next),
+        None => is_last_page(seen, asked, rows),
+        Some(next) => is_page_before(seen, asked, rows, next),
     }
 }

@@ -3,7 +3,7 @@ ghost use Rattle.clsm_model.specs.Right.{IsRight, Reads};
 ghost use Rattle.clsm_law.specs.Worlds.{history_of, open_past};
 
 use crate::batches::is_uncut;
-use crate::pages::is_page;
+use crate::pages::{Asked, is_page};
 use crate::ranges::{is_range, is_value};
 use clsm_model::{Batch, Deed, Slot, Time};
 
@@ -22,7 +22,14 @@ fn reads(seen: &[Option<Slot>], deed: &Deed) -> bool
             max,
             rows,
             more,
-        } => is_page(seen, *from, *hi, *max, rows.as_slice(), *more),
+        } => {
+            let asked = Asked {
+                from: *from,
+                hi: *hi,
+                max: *max,
+            };
+            is_page(seen, asked, rows.as_slice(), *more)
+        }
         _ => true,
     }
 }

@@ -199,27 +199,26 @@ fn member_of(deed: &Deed) -> Option<(u64, Change)>
     }
 }
 
-/// Notes an exchange on the state of the drawn time, with what the write does.
+/// Notes an exchange on the state of the drawn time, with the record of the write.
 pub(crate) fn note_decision(
     layout: &Layout,
-    seat: u32,
     view: &mut View,
-    time: Time,
-    deed: Deed,
+    call: CallRecord,
     found: u64,
 ) -> Result<(), AllocError>
-    requires { time + 1 < 2 ^ 64 }
+    requires { call.time + 1 < 2 ^ 64 }
     ensures { MatchResult result
-        (λ _. view.new ≡ view_after layout.now seat view.old (Step.Decide time deed) found)
+        (λ _. view.new ≡ view_after layout.now call.seat view.old (Step.Decide call.time call.deed) found)
         (λ _. view.new ≡ view.old) }
 {
+    let time = call.time;
     let reached = reached_after(layout, view, time);
     if found != 0 {
         view.overtaken = view.overtaken.wrapping_add(1);
     } else if view.mode == Mode::Exclusive {
-        stage(view, &deed)?;
+        stage(view, &call.deed)?;
     } else {
-        view.calls.push(CallRecord { seat, time, deed })?;
+        view.calls.push(call)?;
         view.due = time + 1;
     }
     view.drawn = None;

@@ -1,4 +1,3 @@
-use Rattle.std.proofs.Common.{◌≡◌, true, subst, sym}
 use Rattle.clsm_core_caller.proofs.Uncut.{outside_all, all_outside}
 use Rattle.clsm_core_caller.proofs.batches.is_uncut.Goals as goal
 
