@@ -176,8 +176,10 @@ impl<P: Pace> Store<P> {
         let Some(time) = seat.snapshot else {
             unreachable!()
         };
-        let pin_word = seat.pin;
-        let snapshot = OpenSnapshot { pin_word, time };
+        let snapshot = OpenSnapshot {
+            pin_word: seat.pin,
+            time,
+        };
         let got = read_under(&self.words, &mut seat.raw, snapshot, key);
         seat.pin = seat.pin.wrapping_add(2);
         got

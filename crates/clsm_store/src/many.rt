@@ -29,8 +29,10 @@ impl<P: Pace> Store<P> {
         let read = match seat.snapshot {
             None => scan_at(&self.words, &mut seat.raw, alloc, seat.pin, asked),
             Some(time) => {
-                let pin_word = seat.pin;
-                let snapshot = OpenSnapshot { pin_word, time };
+                let snapshot = OpenSnapshot {
+                    pin_word: seat.pin,
+                    time,
+                };
                 scan_under(&self.words, &mut seat.raw, alloc, snapshot, asked)
             }
         };

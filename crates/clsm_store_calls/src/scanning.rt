@@ -151,8 +151,11 @@ pub fn scan_at<P: Pace>(
 {
     let (component, time) = begin(words, seat, pin_word);
     settle_below(words, seat, component, time);
-    let until = time;
-    let read = deed_below(words, seat, alloc, ReadPoint { component, until }, asked);
+    let point = ReadPoint {
+        component,
+        until: time,
+    };
+    let read = deed_below(words, seat, alloc, point, asked);
     let deed = end(words, seat, pin_word.wrapping_add(1), read)?;
     Ok((time, deed))
 }
@@ -180,8 +183,11 @@ pub fn scan_under<P: Pace>(
     let OpenSnapshot { pin_word, time } = snapshot;
     let component = pin(words, seat, pin_word);
     seat.show_invariant();
-    let until = time;
-    let read = deed_below(words, seat, alloc, ReadPoint { component, until }, asked);
+    let point = ReadPoint {
+        component,
+        until: time,
+    };
+    let read = deed_below(words, seat, alloc, point, asked);
     let deed = end(words, seat, pin_word.wrapping_add(1), read)?;
     Ok((time, deed))
 }
