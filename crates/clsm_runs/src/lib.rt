@@ -16,5 +16,5 @@ mod writing;
 pub use entry::HeldRun;
 pub use finding::find;
 pub use merging::{RunFull, merge};
-pub use passing::{Passed, next, seek, value};
+pub use passing::{Passed, Sought, next, seek, value};
 pub use searching::search;

@@ -54,27 +54,34 @@ impl Passed {
     }
 }
 
-/// Of the entries from the position on, the newest below `until` of the least key from `from` on
-/// that has one. The position goes on behind it, or to the run's end where there is none. Versions
-/// not below `until`, and those of keys below `from`, are passed one by one. No value is read. It
+/// The versions that a passage seeks: those below `until` of the keys from `from` on.
+#[derive(Clone, Copy)]
+pub struct Sought {
+    pub from: u64,
+    pub until: Time,
+}
+
+/// Of the entries from the position on, the newest that is sought of the least key that has one.
+/// The position goes on behind it, or to the run's end where there is none. Versions not below
+/// `until`, and those of keys below `from`, are passed one by one. No value is read. It
 /// never waits, takes no memory and is never refused.
 pub fn next<P: Pace>(
     words: &Words<P>,
     seat: &mut RawSeat,
     run: HeldRun,
     position: &mut u64,
-    from: u64,
-    until: Time,
+    sought: Sought,
 ) -> Option<Passed>
     requires of { IsSeatOf words.now seat.old }
     requires held { seat.old.knows.view.held ≡ Some run.component }
     requires named { is_named run.component run.place ≡ true }
-    requires stands { StandsFrom seat.old.knows run.place until from position.old }
+    requires stands { StandsFrom seat.old.knows run.place sought.until sought.from position.old }
     ensures of { IsSeatOf words.now seat.new }
     ensures looks { LooksAside seat.old.knows seat.new.knows }
     ensures passed { IfSome result (IsPassed seat.new.knows run.component run.place) }
-    ensures next { IsNextFrom (λ key. first_below (run_at seat.old.knows run.place) key until) from (passed_entry seat.new.knows run.place result) }
-    ensures stands { StandsFrom seat.old.knows run.place until (behind from (passed_entry seat.new.knows run.place result)) position.new }
+    ensures next { IsNextFrom (λ key. first_below (run_at seat.old.knows run.place) key sought.until) sought.from
+        (passed_entry seat.new.knows run.place result) }
+    ensures stands { StandsFrom seat.old.knows run.place sought.until (behind sought.from (passed_entry seat.new.knows run.place result)) position.new }
 {
     seat.show_invariant();
     let count = count(words, seat, run);
@@ -83,11 +90,11 @@ pub fn next<P: Pace>(
         *position += 1;
         let at = HeldEntry { run, entry: number };
         let key = part(words, seat, at, KEY);
-        if key < from {
+        if key < sought.from {
             continue;
         }
         let spelled = part(words, seat, at, TIME);
-        if spelled / 2 < until {
+        if spelled / 2 < sought.until {
             return Some(Passed {
                 number,
                 key,

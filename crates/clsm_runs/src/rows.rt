@@ -32,6 +32,13 @@ pub(crate) struct Winner {
     pub(crate) version: Version,
 }
 
+/// An entry of a row, which is this many behind the row's first.
+#[derive(Clone, Copy)]
+struct RowEntry {
+    row: usize,
+    position: u64,
+}
+
 /// The entry there without its value, if the run has so many.
 fn version_at<P: Pace>(
     words: &Words<P>,
@@ -72,43 +79,42 @@ fn place_of_row(merges: u64, row: usize) -> Option<u64>
     })
 }
 
-/// The entry at the position of a row behind the first without its value, if it has so many.
+/// The entry of a row behind the first without its value, if the row has so many.
 fn run_head<P: Pace>(
     words: &Words<P>,
     merger: &mut RawMerger,
     merges: u64,
-    row: usize,
-    position: u64,
+    at: RowEntry,
 ) -> Option<Version>
     requires of { IsSeatOf words.now merger.old }
     requires merging { IsFrozenBehind merger.old.knows merges }
-    requires inside { (0 < row) × (row < 5) }
+    requires inside { (0 < at.row) × (at.row < 5) }
     ensures of { IsSeatOf words.now merger.new }
     ensures looks { Changes NoWord merger.old.knows merger.new.knows }
-    ensures head { result ≡ version_in (first_of (drop position (row_at (rows_of merger.old.knows) row))) }
+    ensures head { result ≡ version_in (first_of (drop at.position (row_at (rows_of merger.old.knows) at.row))) }
 {
-    let place = place_of_row(merges, row)?;
-    let entry = position;
+    let place = place_of_row(merges, at.row)?;
+    let entry = at.position;
     version_at(words, merger, merges, PlacedEntry { place, entry })
 }
 
-/// A cursor at the position of a row behind the first.
+/// A cursor at the entry of a row behind the first.
 fn run_cursor<P: Pace>(
     words: &Words<P>,
     merger: &mut RawMerger,
     merges: u64,
-    row: usize,
-    position: u64,
+    at: RowEntry,
 ) -> Cursor
     requires of { IsSeatOf words.now merger.old }
     requires merging { IsFrozenBehind merger.old.knows merges }
-    requires inside { (0 < row) × (row < 5) }
+    requires inside { (0 < at.row) × (at.row < 5) }
     ensures of { IsSeatOf words.now merger.new }
     ensures looks { Changes NoWord merger.old.knows merger.new.knows }
-    ensures position { result.position ≡ position }
-    ensures head { result.head ≡ version_in (first_of (drop position (row_at (rows_of merger.old.knows) row))) }
+    ensures position { result.position ≡ at.position }
+    ensures head { result.head ≡ version_in (first_of (drop at.position (row_at (rows_of merger.old.knows) at.row))) }
 {
-    let head = run_head(words, merger, merges, row, position);
+    let head = run_head(words, merger, merges, at);
+    let position = at.position;
     Cursor { position, head }
 }
 
@@ -155,37 +161,37 @@ pub(crate) fn open_cursors<P: Pace>(
     let mut cursors = [first; ROWS];
     for row in 1..ROWS {
         merger.show_invariant();
-        cursors[row] = run_cursor(words, merger, merges, row, 0);
+        let at = RowEntry { row, position: 0 };
+        cursors[row] = run_cursor(words, merger, merges, at);
     }
     cursors
 }
 
-/// A cursor at the position of the row: the walk has yielded the epoch's writes before it, where
-/// that is the first row.
+/// A cursor at the entry: the walk has yielded the epoch's writes before it, where its row is the
+/// first.
 fn cursor_to<P: Pace>(
     words: &Words<P>,
     merger: &mut RawMerger,
     merges: u64,
     walk: &mut FrozenWalk,
-    row: usize,
-    position: u64,
+    at: RowEntry,
 ) -> Cursor
     requires of { IsSeatOf words.now merger.old }
     requires merging { IsFrozenBehind merger.old.knows merges }
-    requires inside { row < 5 }
+    requires inside { at.row < 5 }
     requires going { IsGoing merger.old.knows walk.old }
-    requires walked { row ≡ 0 → IsWalkedTo merger.old.knows walk.old position }
+    requires walked { at.row ≡ 0 → IsWalkedTo merger.old.knows walk.old at.position }
     ensures of { IsSeatOf words.now merger.new }
     ensures looks { Changes NoWord merger.old.knows merger.new.knows }
-    ensures position { result.position ≡ position }
-    ensures head { result.head ≡ version_in (first_of (drop position (row_at (rows_of merger.old.knows) row))) }
-    ensures walked { row ≡ 0 → IsWalkedTo merger.new.knows walk.new (position + 1) }
-    ensures stays { row ≢ 0 → walk.new ≡ walk.old }
+    ensures position { result.position ≡ at.position }
+    ensures head { result.head ≡ version_in (first_of (drop at.position (row_at (rows_of merger.old.knows) at.row))) }
+    ensures walked { at.row ≡ 0 → IsWalkedTo merger.new.knows walk.new (at.position + 1) }
+    ensures stays { at.row ≢ 0 → walk.new ≡ walk.old }
 {
-    if row == 0 {
-        epoch_cursor(words, merger, walk, position)
+    if at.row == 0 {
+        epoch_cursor(words, merger, walk, at.position)
     } else {
-        run_cursor(words, merger, merges, row, position)
+        run_cursor(words, merger, merges, at)
     }
 }
 
@@ -215,7 +221,11 @@ pub(crate) fn next<P: Pace>(
         return None;
     };
     let position = cursors[row].position;
-    cursors[row] = cursor_to(words, merger, merges, walk, row, position + 1);
+    let behind = RowEntry {
+        row,
+        position: position + 1,
+    };
+    cursors[row] = cursor_to(words, merger, merges, walk, behind);
     Some(Winner {
         row,
         position,

@@ -12,6 +12,14 @@ use std::alloc::Global;
 /// So many rows a scan has room for at first, where no number is given.
 const FEW: usize = 16;
 
+/// The keys from `lo` to `hi`, and how many pairs of them at most, where that is given.
+#[derive(Clone, Copy)]
+pub struct KeyRange {
+    pub lo: u64,
+    pub hi: u64,
+    pub max: Option<usize>,
+}
+
 /// Rows by rising key, and the key of the next one, if the rows were stopped before it.
 #[derive(Drop)]
 pub struct Collected {
@@ -83,28 +91,26 @@ fn is_full(max: Option<usize>, count: usize) -> bool
     }
 }
 
-/// The rows of all keys from `lo` to `hi`, by rising key: at most `max` of them, where that is
-/// given. Refused if memory runs out.
+/// The rows of all keys of the range, by rising key: no more than it gives. Refused if memory runs
+/// out.
 pub fn collect<C: Cursor, P: Pace>(
     words: &Words<P>,
     seat: &mut RawSeat,
     alloc: Global,
     cursor: &mut C,
-    lo: u64,
-    hi: u64,
-    max: Option<usize>,
+    range: KeyRange,
 ) -> Result<Collected, Memory>
     requires of { IsSeatOf words.now seat.old }
     requires over { C.is_over seat.old.knows cursor.old }
-    requires stands { C.stands seat.old.knows cursor.old lo }
+    requires stands { C.stands seat.old.knows cursor.old range.lo }
     ensures of { IsSeatOf words.now seat.new }
     ensures looks { LooksAside seat.old.knows seat.new.knows }
-    ensures rows { IfOk result (λ all. IsCollected (left_at (C.found seat.old.knows cursor.old)) lo hi max all.rows.items all.more) }
+    ensures rows { IfOk result (λ all. IsCollected (left_at (C.found seat.old.knows cursor.old)) range.lo range.hi range.max all.rows.items all.more) }
 {
-    let mut rows = Vec::with_capacity(alloc, first_room(max))?;
-    let mut from = lo;
-    while let Some(key) = next_key(words, seat, cursor, from, hi) {
-        if is_full(max, rows.len()) {
+    let mut rows = Vec::with_capacity(alloc, first_room(range.max))?;
+    let mut from = range.lo;
+    while let Some(key) = next_key(words, seat, cursor, from, range.hi) {
+        if is_full(range.max, rows.len()) {
             let more = Some(key);
             return Ok(Collected { rows, more });
         }

@@ -12,10 +12,10 @@ mod scanning;
 mod walk;
 
 pub use ahead::{Ahead, Head};
-pub use collecting::{Collected, collect};
+pub use collecting::{Collected, KeyRange, collect};
 pub use cursor::Cursor;
 pub use epoch_cursor::EpochCursor;
 pub use merged::Merged;
 pub use run_cursor::RunCursor;
-pub use scanning::scan;
+pub use scanning::{ReadPoint, scan};
 pub use walk::Walk;

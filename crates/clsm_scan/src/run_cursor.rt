@@ -15,7 +15,7 @@ ghost use Rattle.clsm_scan.specs.Walking.{passed_on, passed_same, run_on};
 use crate::collecting::push_row;
 use crate::walk::Walk;
 use clsm_model::{Memory, Time, Value};
-use clsm_runs::{HeldRun, Passed, next, seek, value};
+use clsm_runs::{HeldRun, Passed, Sought, next, seek, value};
 use clsm_words::{Pace, RawSeat, Words};
 
 /// A walk along the run at a place that the held component names.
@@ -70,7 +70,9 @@ impl Walk for RunCursor {
 
     #[inline(always)]
     fn next<P: Pace>(&mut self, words: &Words<P>, seat: &mut RawSeat, from: u64) -> Option<u64> {
-        self.last = next(words, seat, self.run, &mut self.position, from, self.until);
+        let until = self.until;
+        let sought = Sought { from, until };
+        self.last = next(words, seat, self.run, &mut self.position, sought);
         key_of(&self.last)
     }
 

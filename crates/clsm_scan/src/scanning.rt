@@ -7,7 +7,7 @@ ghost use Rattle.clsm_scan.specs.Collected.{IsCollected, left_at};
 ghost use Rattle.clsm_scan.specs.Sources.{MayScan, epoch_cursor, found_in_component, level_zero_cursor};
 
 use crate::ahead::Ahead;
-use crate::collecting::{Collected, collect};
+use crate::collecting::{Collected, KeyRange, collect};
 use crate::cursor::Cursor;
 use crate::epoch_cursor::EpochCursor;
 use crate::merged::Merged;
@@ -85,28 +85,33 @@ fn sources<P: Pace>(words: &Words<P>, component: u64, until: Time) -> Sources
     Merged::new(epoch_below(component, later, second, cells, until), earlier)
 }
 
-/// The rows of all keys from `lo` to `hi` below the time, by rising key: at most `max` of them,
-/// where that is given. It goes along the ordered lists of the epochs and the runs, and takes
+/// Where a scan reads: the component that the seat holds, below this time.
+#[derive(Clone, Copy)]
+pub struct ReadPoint {
+    pub component: u64,
+    pub until: Time,
+}
+
+/// The rows of all keys of the range at the point, by rising key: no more than the range gives. It
+/// goes along the ordered lists of the epochs and the runs, and takes
 /// memory for the rows alone; if memory runs out, the seat is as after looks. It never waits.
 pub fn scan<P: Pace>(
     words: &Words<P>,
     seat: &mut RawSeat,
     alloc: Global,
-    component: u64,
-    lo: u64,
-    hi: u64,
-    until: Time,
-    max: Option<usize>,
+    point: ReadPoint,
+    range: KeyRange,
 ) -> Result<Collected, Memory>
     requires of { IsSeatOf words.now seat.old }
-    requires held { seat.old.knows.view.held ≡ Some component }
-    requires within { until ≤ (component + 2) * seat.old.knows.layout.cells }
-    requires settled { until ≤ length seat.old.knows.past }
+    requires held { seat.old.knows.view.held ≡ Some point.component }
+    requires within { point.until ≤ (point.component + 2) * seat.old.knows.layout.cells }
+    requires settled { point.until ≤ length seat.old.knows.past }
     ensures of { IsSeatOf words.now seat.new }
     ensures looks { LooksAside seat.old.knows seat.new.knows }
-    ensures rows { IfOk result (λ all. IsCollected (left_at (found_in_component seat.old.knows component until)) lo hi max all.rows.items all.more) }
+    ensures rows { IfOk result (λ all. IsCollected (left_at (found_in_component seat.old.knows point.component point.until))
+        range.lo range.hi range.max all.rows.items all.more) }
 {
-    let mut cursor = sources(words, component, until);
-    cursor.seek(words, seat, lo);
-    collect(words, seat, alloc, &mut cursor, lo, hi, max)
+    let mut cursor = sources(words, point.component, point.until);
+    cursor.seek(words, seat, range.lo);
+    collect(words, seat, alloc, &mut cursor, range)
 }

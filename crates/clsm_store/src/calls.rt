@@ -13,8 +13,8 @@ use crate::store::Store;
 use clsm_model::{Change, Time, Value};
 use clsm_pins::close_snapshot;
 use clsm_store_calls::{
-    BatchError, Full, Got, Open, Rmw, TryPutError, batch, change, open_at, read, read_under,
-    room_at, try_write, write,
+    BatchError, Full, Got, Modification, Open, OpenSnapshot, Rmw, TryPutError, batch, change,
+    open_at, read, read_under, room_at, try_write, write,
 };
 use clsm_words::Pace;
 use std::sync::Wait;
@@ -126,7 +126,8 @@ impl<P: Pace> Store<P> {
         ensures answered { IfOk result (λ rmw. F.post f.now rmw.old rmw.change) }
         ensures full { IfErr result (λ full. IsFull seat.old seat.new full.time) }
     {
-        let answer = change(rt, &self.words, &mut seat.raw, seat.pin, key, f);
+        let modification = Modification { key, f };
+        let answer = change(rt, &self.words, &mut seat.raw, seat.pin, &modification);
         seat.pin = seat.pin.wrapping_add(2);
         answer
     }
@@ -176,7 +177,11 @@ impl<P: Pace> Store<P> {
         let Some(time) = seat.snapshot else {
             unreachable!()
         };
-        let got = read_under(&self.words, &mut seat.raw, seat.pin, time, key);
+        let snapshot = OpenSnapshot {
+            pin_word: seat.pin,
+            time,
+        };
+        let got = read_under(&self.words, &mut seat.raw, snapshot, key);
         seat.pin = seat.pin.wrapping_add(2);
         got
     }

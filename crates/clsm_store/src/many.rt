@@ -8,7 +8,7 @@ ghost use Rattle.clsm_store_calls.specs.Tally.{TakesNoLock};
 use crate::seat::Seat;
 use crate::store::Store;
 use clsm_model::{Deed, Memory, Time};
-use clsm_store_calls::{Asked, Page, Scan, scan_at, scan_under};
+use clsm_store_calls::{Asked, OpenSnapshot, Page, Scan, scan_at, scan_under};
 use clsm_words::Pace;
 use std::alloc::Global;
 
@@ -28,7 +28,13 @@ impl<P: Pace> Store<P> {
     {
         let read = match seat.snapshot {
             None => scan_at(&self.words, &mut seat.raw, alloc, seat.pin, asked),
-            Some(time) => scan_under(&self.words, &mut seat.raw, alloc, seat.pin, time, asked),
+            Some(time) => {
+                let snapshot = OpenSnapshot {
+                    pin_word: seat.pin,
+                    time,
+                };
+                scan_under(&self.words, &mut seat.raw, alloc, snapshot, asked)
+            }
         };
         seat.pin = seat.pin.wrapping_add(2);
         read

@@ -19,18 +19,24 @@ const SIZES: Config = Config {
     patience: 2,
 };
 
+/// What is put: the value, and its key.
+#[derive(Clone, Copy)]
+struct Write {
+    key: u64,
+    value: Value,
+}
+
 /// Puts the value at the key, and answers the seat and the put's time.
 fn write_once<R: Wait>(
     rt: &R,
     store: &Store<Free>,
     mut seat: Seat,
-    key: u64,
-    value: Value,
+    write: &Write,
 ) -> Result<(Seat, Time), Full>
     requires { seat.store ≡ store.now }
-    ensures { IfOk result (λ done. Answers seat done.0 done.1 (Put key value)) }
+    ensures { IfOk result (λ done. Answers seat done.0 done.1 (Put write.now.key write.now.value)) }
 {
-    let time = store.put(rt, &mut seat, key, value)?;
+    let time = store.put(rt, &mut seat, write.key, write.value)?;
     Ok((seat, time))
 }
 
@@ -51,23 +57,23 @@ fn race<R: Threads + Wait + Sync>(
     rt: &R,
     store: &Store<Free>,
     mut seats: Vec<Seat>,
-    key: u64,
-    value: Value,
+    write: &Write,
 ) -> Raced
     requires { AreNew store.now 2 seats.items }
     ensures put { IfOk result.0 (λ done.
-        Answers (newcomer store.now 0) done.0 done.1 (Put key value)) }
+        Answers (newcomer store.now 0) done.0 done.1 (Put write.now.key write.now.value)) }
     ensures got { let got = result.1.1 in
-        Answers (newcomer store.now 1) result.1.0 got.time (Get key got.value) }
+        Answers (newcomer store.now 1) result.1.0 got.time (Get write.now.key got.value) }
 {
+    let key = write.key;
     let reader = seats.pop().unwrap();
     let writer = seats.pop().unwrap();
     join(
         rt,
         || -> Result<(Seat, Time), Full>
             requires { writer.store ≡ store.now }
-            ensures { IfOk result (λ done. Answers writer done.0 done.1 (Put key value)) }
-        { write_once(rt, store, writer, key, value) },
+            ensures { IfOk result (λ done. Answers writer done.0 done.1 (Put write.now.key write.now.value)) }
+        { write_once(rt, store, writer, write) },
         || -> (Seat, Got)
             requires { reader.store ≡ store.now }
             ensures { Answers reader result.0 result.1.time (Get key result.1.value) }
@@ -77,13 +83,14 @@ fn race<R: Threads + Wait + Sync>(
 
 /// Whether the get's answer is that of a plain map to which the put is applied if its time is below
 /// the get's. Refused if memory runs out.
-fn check(alloc: Global, key: u64, value: Value, put: Time, got: &Got) -> Result<bool, Memory>
+fn check(alloc: Global, write: &Write, put: Time, got: &Got) -> Result<bool, Memory>
     ensures { IfOk result (λ agrees.
-        IsTrue agrees ↔ (got.now.value ≡ left_by_put value put got.now.time)) }
+        IsTrue agrees ↔ (got.now.value ≡ left_by_put write.now.value put got.now.time)) }
 {
+    let key = write.key;
     let mut map = PlainMap::new(alloc);
     if put < got.time {
-        let value = Some(value);
+        let value = Some(write.value);
         map.apply(&Slot::Wrote {
             seat: 0,
             key,
@@ -100,18 +107,17 @@ fn confirm(
     store: &Store<Free>,
     put: (Seat, Time),
     read: (Seat, Got),
-    key: u64,
-    value: Value,
+    write: &Write,
 ) -> Result<(), Memory>
     requires two { store.now.layout.seats ≡ 2 }
-    requires put { Answers (newcomer store.now 0) put.0 put.1 (Put key value) }
-    requires read { Answers (newcomer store.now 1) read.0 read.1.time (Get key read.1.value) }
+    requires put { Answers (newcomer store.now 0) put.0 put.1 (Put write.now.key write.now.value) }
+    requires read { Answers (newcomer store.now 1) read.0 read.1.time (Get write.now.key read.1.value) }
 {
     let (writer, time) = put;
     let (reader, got) = read;
     let seats = vec![in alloc; writer, reader].map_err(|_| Memory)?;
     let _seats = store.settle(seats);
-    if !check(alloc, key, value, time, &got)? {
+    if !check(alloc, write, time, &got)? {
         unreachable!()
     }
     Ok(())
@@ -127,6 +133,7 @@ pub fn race_agrees<R: Threads + Sync + Wait>(
     value: Value,
 ) -> Option<()> {
     let Opened { store, seats, .. } = open(alloc, SIZES).ok()?;
-    let (put, read) = race(rt, &store, seats, key, value);
-    confirm(alloc, &store, put.ok()?, read, key, value).ok()
+    let write = Write { key, value };
+    let (put, read) = race(rt, &store, seats, &write);
+    confirm(alloc, &store, put.ok()?, read, &write).ok()
 }

@@ -6,7 +6,7 @@ use Rattle.clsm_model.proofs.Pages.{page_of, page_of_all}
 use Rattle.clsm_scan.specs.Collected.{AreAll, IsCollected}
 use Rattle.clsm_store_calls.specs.declared.scanning.Asked.{Asked}
 use Rattle.clsm_store_calls.specs.declared.scanning.Asked.TheVariants.{All, First}
-use Rattle.clsm_store_calls.specs.Scanning.{GivesAsked, bounds_of, most_of}
+use Rattle.clsm_store_calls.specs.Scanning.{GivesAsked, range_of}
 
 same_number : (m n : ℕ) → Some m ≡ Some n → n ≡ m
 same_number m n e = cc e
@@ -19,7 +19,7 @@ module _ (h : History) (s : ℕ) where
   range_of_all lo hi rows all = record { rise = all.rise; inside = all.inside; below = all.below; above = all.above }
 
   pub gives_asked : (asked : Asked) (rows : List Pair) (more : Option ℕ)
-      → IsCollected here (bounds_of asked).0 (bounds_of asked).1 (most_of asked) rows more → GivesAsked h s asked rows more
+      → IsCollected here (range_of asked).lo (range_of asked).hi (range_of asked).max rows more → GivesAsked h s asked rows more
   gives_asked (All lo hi) rows None is = range_of_all lo hi rows is.0
   gives_asked (All lo hi) rows (Some key) is = absurd (cc is.full)
   gives_asked (First lo hi max) rows None is = page_of_all h s lo hi rows max (range_of_all lo hi rows is.0) is.1

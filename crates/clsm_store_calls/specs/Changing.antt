@@ -21,6 +21,7 @@ use Rattle.clsm_memtable.specs.declared.cell_state.Decided.{Decided}
 use Rattle.clsm_memtable.specs.declared.cell_state.Decided.TheVariants.{Done, Overtaken}
 use Rattle.clsm_store_calls.specs.declared.got.Rmw.{Rmw as Answered}
 use Rattle.clsm_store_calls.specs.declared.refusal.Full.{Full as Refusal}
+use Rattle.clsm_store_calls.specs.declared.changing.Modified.{Modified}
 use Rattle.clsm_store_calls.specs.declared.changing.ChangeAttempt.{ChangeAttempt}
 use Rattle.clsm_store_calls.specs.declared.changing.ChangeAttempt.TheVariants.{Done as Finished, Full, Lost}
 use Rattle.clsm_store_calls.specs.Seats.{CountsUpTo, writes_from}
@@ -104,6 +105,10 @@ EndsDraw old new (Full t) = FindsLimitAtLast old new t
 EndsDraw old new _ = ⊥
 
 -- ---- the drawn time
+
+-- the read-modify-write that a write of the change records
+abbrev pub deed_by : Modified → Deed
+deed_by m = Rmw m.key m.read.old m.read.change
 
 -- what became of the drawn time
 pub record EndsDrawn (old new : Known) : Type 0 where

@@ -7,6 +7,7 @@ use Rattle.clsm_law.specs.declared.step.End.{End}
 use Rattle.clsm_law.specs.declared.step.End.TheVariants.{Recorded}
 use Rattle.clsm_model.specs.Map.{IsRange, Pair}
 use Rattle.clsm_model.specs.Right.{IsPage}
+use Rattle.clsm_scan.specs.declared.collecting.KeyRange.{KeyRange}
 use Rattle.clsm_words.specs.declared.known.Known.{Known}
 use Rattle.clsm_words.specs.Knowing.{known_of}
 use Rattle.clsm_store_calls.specs.declared.scanning.Asked.{Asked}
@@ -14,13 +15,9 @@ use Rattle.clsm_store_calls.specs.declared.scanning.Asked.TheVariants.{All, Firs
 use Rattle.clsm_store_calls.specs.Tally.{TakesNoLock, tally_of}
 
 -- the first key and the last one that were asked for, and how many pairs at most
-abbrev pub bounds_of : Asked → ℕ × ℕ
-bounds_of (All lo hi) = (lo, hi)
-bounds_of (First lo hi max) = (lo, hi)
-
-abbrev pub most_of : Asked → Option ℕ
-most_of (All lo hi) = None
-most_of (First lo hi max) = Some max
+abbrev pub range_of : Asked → KeyRange
+range_of (All lo hi) = record { lo = lo; hi = hi; max = None }
+range_of (First lo hi max) = record { lo = lo; hi = hi; max = Some max }
 
 -- the rows, and the key of the next one, are what was asked for of the history below the time
 abbrev pub GivesAsked : History → ℕ → Asked → List Pair → Option ℕ → Type 0

@@ -14,7 +14,7 @@ ghost use Rattle.clsm_memtable.specs.Writing.{IsUnnoted};
 ghost use Rattle.clsm_store_calls.specs.Resting.{FindsFull, IsAtRest, Still};
 ghost use Rattle.clsm_model.specs.declared.record.Deed.TheVariants.{Rmw as ChangeOf};
 ghost use Rattle.clsm_store_calls.specs.Changing.{TriesChange, ChangesAt, Does, DrawsAtLast, EndsDraw, EndsFull, GivesUpFor, GivesUpOnce, IsAnsweredBy};
-ghost use Rattle.clsm_store_calls.specs.Changing.{IsPinnedInHold, IsWrittenFrom, ReadsNow, DecidesDrawn, WritesLater, read_end, is_keep, value_set};
+ghost use Rattle.clsm_store_calls.specs.Changing.{IsPinnedInHold, IsWrittenFrom, ReadsNow, DecidesDrawn, WritesLater, deed_by, read_end, is_keep, value_set};
 
 use crate::got::{Got, Rmw};
 use crate::reading::value_below;
@@ -28,6 +28,30 @@ use clsm_model::{Change, Deed, Time, Value};
 use clsm_pins::{pin, unpin};
 use clsm_words::{Pace, RawSeat, Words};
 use std::sync::Wait;
+
+/// A change that is asked for: the key, and the function that answers to the key's value what is
+/// made of it.
+#[derive(Drop)]
+pub struct Modification<'a, F> {
+    pub key: u64,
+    pub f: &'a F,
+}
+
+/// A change whose write is to come: the key, what was read of it and is made of that, and the value
+/// that it sets, or none for a removal.
+#[derive(Clone, Copy)]
+struct Modified {
+    key: u64,
+    read: Rmw,
+    value: Option<Value>,
+}
+
+/// The times from `from` on and below `until`.
+#[derive(Clone, Copy)]
+struct Span {
+    from: Time,
+    until: Time,
+}
 
 /// What came of one try to change a key.
 pub(crate) enum ChangeAttempt {
@@ -59,59 +83,29 @@ fn value_now<P: Pace>(words: &Words<P>, seat: &mut RawSeat, component: u64, key:
     Got { time, value }
 }
 
-/// Settles all below `until`, and answers whether no write of the key is from `from` on.
+/// Settles all below the span's end, and answers whether no write of the key is in the span.
 fn is_unchanged<P: Pace>(
     words: &Words<P>,
     seat: &mut RawSeat,
     component: u64,
     key: u64,
-    from: Time,
-    until: Time,
+    span: Span,
 ) -> bool
     requires of { IsSeatOf words.now seat.old }
-    requires may { MaySettleBelow seat.old.knows component until }
-    requires merged { component * seat.old.knows.layout.cells ≤ from }
-    requires later { from ≤ until }
+    requires may { MaySettleBelow seat.old.knows component span.until }
+    requires merged { component * seat.old.knows.layout.cells ≤ span.from }
+    requires later { span.from ≤ span.until }
     ensures of { IsSeatOf words.now seat.new }
     ensures reads { OnlyReads seat.old.knows seat.new.knows }
-    ensures settled { until ≤ length seat.new.knows.past }
-    ensures written { result ≡ false → IsWrittenFrom seat.new.knows.past key from }
-    ensures unchanged { result ≡ true → value (plain seat.new.knows.past) key until ≡ value (plain seat.new.knows.past) key from }
+    ensures settled { span.until ≤ length seat.new.knows.past }
+    ensures written { result ≡ false → IsWrittenFrom seat.new.knows.past key span.from }
+    ensures unchanged { result ≡ true → value (plain seat.new.knows.past) key span.until ≡ value (plain seat.new.knows.past) key span.from }
 {
-    settle_below(words, seat, component, until);
-    match newest(words, seat, component, key, until) {
-        Some(found) => found.time < from,
+    settle_below(words, seat, component, span.until);
+    match newest(words, seat, component, key, span.until) {
+        Some(found) => found.time < span.from,
         None => true,
     }
-}
-
-/// Fills the drawn cell, enters it and decides it.
-fn write_drawn<P: Pace, R: Wait>(
-    rt: &R,
-    words: &Words<P>,
-    seat: &mut RawSeat,
-    time: Time,
-    key: u64,
-    value: &Option<Value>,
-    deed: &Deed,
-) -> Decided
-    requires of { IsSeatOf words.now seat.old }
-    requires holds { seat.old.knows.view.mode ≡ Shared }
-    requires limit { seat.old.knows.view.hold_limit ≢ None }
-    requires drawn { seat.old.knows.view.drawn ≡ Some time }
-    requires unlinked { seat.old.knows.view.linked ≡ false }
-    requires out { seat.old.knows.view.inserted ≡ false }
-    requires writes { write_by 0 deed.now ≡ Some (Wrote 0 key value.now) }
-    requires read { IsReadBelow (plain seat.old.knows.past) seat.old.knows.view time deed.now }
-    ensures of { IsSeatOf words.now seat.new }
-    ensures writes { DecidesDrawn seat.old.knows seat.new.knows time deed.now result }
-{
-    seat.show_invariant();
-    let guess = prefetch(words, seat, time, key);
-    seat.show_invariant();
-    fill(words, seat, time, key, value.as_ref());
-    let trace = enter(rt, words, seat, time, key, &guess);
-    decide(words, seat, time, deed, &trace)
 }
 
 /// The read-modify-write with this answer.
@@ -121,6 +115,35 @@ fn deed_of(key: u64, rmw: &Rmw) -> Deed
     let old = rmw.old;
     let change = rmw.change;
     Deed::Rmw { key, old, change }
+}
+
+/// Fills the drawn cell, enters it and decides it.
+fn write_drawn<P: Pace, R: Wait>(
+    rt: &R,
+    words: &Words<P>,
+    seat: &mut RawSeat,
+    time: Time,
+    modified: &Modified,
+) -> Decided
+    requires of { IsSeatOf words.now seat.old }
+    requires holds { seat.old.knows.view.mode ≡ Shared }
+    requires limit { seat.old.knows.view.hold_limit ≢ None }
+    requires drawn { seat.old.knows.view.drawn ≡ Some time }
+    requires unlinked { seat.old.knows.view.linked ≡ false }
+    requires out { seat.old.knows.view.inserted ≡ false }
+    requires writes { write_by 0 (deed_by modified.now) ≡ Some (Wrote 0 modified.now.key modified.now.value) }
+    requires read { IsReadBelow (plain seat.old.knows.past) seat.old.knows.view time (deed_by modified.now) }
+    ensures of { IsSeatOf words.now seat.new }
+    ensures writes { DecidesDrawn seat.old.knows seat.new.knows time (deed_by modified.now) result }
+{
+    seat.show_invariant();
+    let key = modified.key;
+    let deed = deed_of(key, &modified.read);
+    let guess = prefetch(words, seat, time, key);
+    seat.show_invariant();
+    fill(words, seat, time, key, modified.value.as_ref());
+    let trace = enter(rt, words, seat, time, key, &guess);
+    decide(words, seat, time, &deed, &trace)
 }
 
 /// Draws a time, and tries until it has one or the clock stands at the limit. A draw that another
@@ -155,33 +178,35 @@ fn write_later<P: Pace, R: Wait>(
     words: &Words<P>,
     seat: &mut RawSeat,
     component: u64,
-    key: u64,
-    read: Rmw,
-    value: &Option<Value>,
+    modified: &Modified,
 ) -> ChangeAttempt
     requires of { IsSeatOf words.now seat.old }
     requires pinned { IsPinnedInHold seat.old.knows component }
-    requires reads { ReadsNow seat.old.knows component key read.time read.old }
-    requires writes { write_by 0 (ChangeOf key read.old read.change) ≡ Some (Wrote 0 key value.now) }
+    requires reads { ReadsNow seat.old.knows component modified.now.key modified.now.read.time modified.now.read.old }
+    requires writes { write_by 0 (deed_by modified.now) ≡ Some (Wrote 0 modified.now.key modified.now.value) }
     ensures of { IsSeatOf words.now seat.new }
     ensures pinned { IsPinnedInHold seat.new.knows component }
     ensures entered { seat.new.knows.view.entries ≡ seat.old.knows.view.entries }
     ensures patient { seat.new.knows.view.hasty ≡ seat.old.knows.view.hasty }
-    ensures spared { GivesUpOnce seat.old.knows seat.new.knows key read.time }
-    ensures writes { WritesLater seat.old.knows seat.new.knows key read.old read.change result }
+    ensures spared { GivesUpOnce seat.old.knows seat.new.knows modified.now.key modified.now.read.time }
+    ensures writes { WritesLater seat.old.knows seat.new.knows modified.now.key modified.now.read.old modified.now.read.change result }
 {
     seat.show_invariant();
     let time = match draw_at_last(rt, words, seat) {
         Ok(time) => time,
         Err(attempt) => return attempt,
     };
-    if !is_unchanged(words, seat, component, key, read.time, time) {
+    let span = Span {
+        from: modified.read.time,
+        until: time,
+    };
+    if !is_unchanged(words, seat, component, modified.key, span) {
         give_up(words, seat, time);
         return ChangeAttempt::Lost;
     }
     seat.show_invariant();
-    match write_drawn(rt, words, seat, time, key, value, &deed_of(key, &read)) {
-        Decided::Done => ChangeAttempt::Done(read.at(time)),
+    match write_drawn(rt, words, seat, time, modified) {
+        Decided::Done => ChangeAttempt::Done(modified.read.at(time)),
         Decided::Overtaken => ChangeAttempt::Lost,
     }
 }
@@ -216,27 +241,27 @@ fn try_change<P: Pace, R: Wait, F: Fn(Option<Value>) -> Change>(
     words: &Words<P>,
     seat: &mut RawSeat,
     component: u64,
-    key: u64,
-    f: &F,
+    modification: &Modification<'_, F>,
 ) -> ChangeAttempt
     requires of { IsSeatOf words.now seat.old }
     requires pinned { IsPinnedInHold seat.old.knows component }
-    requires callable { F.IsAlwaysCallable f.now }
+    requires callable { F.IsAlwaysCallable modification.now.f.now }
     ensures of { IsSeatOf words.now seat.new }
     ensures pinned { IsPinnedInHold seat.new.knows component }
     ensures entered { seat.new.knows.view.entries ≡ seat.old.knows.view.entries }
     ensures patient { seat.new.knows.view.hasty ≡ seat.old.knows.view.hasty }
-    ensures spared { GivesUpOnce seat.old.knows seat.new.knows key (max seat.old.knows.view.due (length seat.old.knows.past)) }
-    ensures changes { TriesChange seat.old.knows seat.new.knows component key result }
-    ensures answered { IsAnsweredBy (F.post f.now) result }
+    ensures spared { GivesUpOnce seat.old.knows seat.new.knows modification.now.key (max seat.old.knows.view.due (length seat.old.knows.past)) }
+    ensures changes { TriesChange seat.old.knows seat.new.knows component modification.now.key result }
+    ensures answered { IsAnsweredBy (F.post modification.now.f.now) result }
 {
+    let key = modification.key;
     let got = value_now(words, seat, component, key);
-    let read = got.with(ask(f, &got.value));
+    let read = got.with(ask(modification.f, &got.value));
     if is_keep(&read.change) {
         return ChangeAttempt::Done(read);
     }
     let value = value_set(&read.change);
-    write_later(rt, words, seat, component, key, read, &value)
+    write_later(rt, words, seat, component, &Modified { key, read, value })
 }
 
 /// Changes the key, and tries until that is done or the clock is at the limit.
@@ -245,23 +270,22 @@ fn change_pinned<P: Pace, R: Wait, F: Fn(Option<Value>) -> Change>(
     words: &Words<P>,
     seat: &mut RawSeat,
     component: u64,
-    key: u64,
-    f: &F,
+    modification: &Modification<'_, F>,
 ) -> Result<Rmw, Full>
     requires of { IsSeatOf words.now seat.old }
     requires pinned { IsPinnedInHold seat.old.knows component }
-    requires callable { F.IsAlwaysCallable f.now }
+    requires callable { F.IsAlwaysCallable modification.now.f.now }
     ensures of { IsSeatOf words.now seat.new }
     ensures pinned { IsPinnedInHold seat.new.knows component }
     ensures entered { seat.new.knows.view.entries ≡ seat.old.knows.view.entries }
     ensures patient { seat.new.knows.view.hasty ≡ seat.old.knows.view.hasty }
-    ensures spared { GivesUpFor seat.old.knows seat.new.knows key }
-    ensures changed { IfOk result (λ rmw. Does rmw.change seat.old.knows seat.new.knows component key rmw.time rmw.old) }
-    ensures answered { IfOk result (λ rmw. F.post f.now rmw.old rmw.change) }
+    ensures spared { GivesUpFor seat.old.knows seat.new.knows modification.now.key }
+    ensures changed { IfOk result (λ rmw. Does rmw.change seat.old.knows seat.new.knows component modification.now.key rmw.time rmw.old) }
+    ensures answered { IfOk result (λ rmw. F.post modification.now.f.now rmw.old rmw.change) }
     ensures full { IfErr result (λ full. FindsFull seat.old.knows seat.new.knows full.time) }
 {
     for _ in rt.forever() {
-        match try_change(rt, words, seat, component, key, f) {
+        match try_change(rt, words, seat, component, modification) {
             ChangeAttempt::Done(rmw) => return Ok(rmw),
             ChangeAttempt::Full(time) => return Err(Full { time }),
             ChangeAttempt::Lost => {}
@@ -287,31 +311,30 @@ pub fn change<P: Pace, R: Wait, F: Fn(Option<Value>) -> Change>(
     words: &Words<P>,
     seat: &mut RawSeat,
     pin_word: u64,
-    key: u64,
-    f: &F,
+    modification: &Modification<'_, F>,
 ) -> Result<Rmw, Full>
     requires of { IsSeatOf words.now seat.old }
     requires rests { IsAtRest seat.old.knows }
     requires pin { pin_word ≡ seat.old.knows.view.pin }
-    requires callable { F.IsAlwaysCallable f.now }
+    requires callable { F.IsAlwaysCallable modification.now.f.now }
     ensures of { IsSeatOf words.now seat.new }
     ensures rests { IsAtRest seat.new.knows }
     ensures pin { seat.new.knows.view.pin ≡ next_word (next_word pin_word) }
     ensures entered { seat.new.knows.view.entries ≡ next_word seat.old.knows.view.entries }
     ensures patient { seat.new.knows.view.hasty ≡ seat.old.knows.view.hasty }
-    ensures spared { GivesUpFor seat.old.knows seat.new.knows key }
-    ensures changed { IfOk result (λ rmw. ChangesAt seat.old.knows seat.new.knows rmw.time key rmw.old rmw.change) }
-    ensures answered { IfOk result (λ rmw. F.post f.now rmw.old rmw.change) }
+    ensures spared { GivesUpFor seat.old.knows seat.new.knows modification.now.key }
+    ensures changed { IfOk result (λ rmw. ChangesAt seat.old.knows seat.new.knows rmw.time modification.now.key rmw.old rmw.change) }
+    ensures answered { IfOk result (λ rmw. F.post modification.now.f.now rmw.old rmw.change) }
     ensures full { IfErr result (λ full. EndsFull seat.old.knows seat.new.knows full.time) }
 {
     lock_shared(rt, words, seat);
     let component = pin(words, seat, pin_word);
-    let answer = change_pinned(rt, words, seat, component, key, f);
+    let answer = change_pinned(rt, words, seat, component, modification);
     unpin(
         words,
         seat,
         pin_word.wrapping_add(1),
-        &read_end(key, &answer),
+        &read_end(modification.key, &answer),
     );
     unlock_shared(words, seat);
     answer

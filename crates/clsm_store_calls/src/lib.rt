@@ -22,7 +22,7 @@ mod writing;
 
 pub use agreeing::agree_at;
 pub use batching::batch;
-pub use changing::change;
+pub use changing::{Modification, change};
 pub use freezing::freeze;
 pub use got::{Got, Page, Rmw, Scan};
 pub use looking::{drawn_at, room_at};
@@ -33,6 +33,6 @@ pub use reading::read;
 pub use reclaiming::reclaim;
 pub use refusal::{BatchError, Full, Open, Pinned, TryPutError, Worn};
 pub use scanning::{Asked, scan_at, scan_under};
-pub use snapshotting::{open_at, read_under};
+pub use snapshotting::{OpenSnapshot, open_at, read_under};
 pub use trying::try_write;
 pub use writing::write;

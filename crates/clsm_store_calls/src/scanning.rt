@@ -12,14 +12,15 @@ ghost use Rattle.clsm_words.specs.Plays.{IsSeatOf, MayPlay};
 ghost use Rattle.clsm_store_calls.specs.Resting.{IsAtRest};
 ghost use Rattle.clsm_store_calls.specs.Reading.{MayReadAt, ReadsAt};
 ghost use Rattle.clsm_store_calls.specs.Snapshots.{ReadsUnder};
-ghost use Rattle.clsm_store_calls.specs.Scanning.{GivesAsked, GivesUpRead, IsAnswerTo, IsRecord, bounds_of, most_of};
+ghost use Rattle.clsm_store_calls.specs.Scanning.{GivesAsked, GivesUpRead, IsAnswerTo, IsRecord, range_of};
 
 use crate::reading::begin;
+use crate::snapshotting::OpenSnapshot;
 use clsm_law::End;
 use clsm_memtable::settle_below;
 use clsm_model::{Deed, Memory, Rows, Time};
 use clsm_pins::{pin, unpin};
-use clsm_scan::{Collected, scan};
+use clsm_scan::{Collected, KeyRange, ReadPoint, scan};
 use clsm_words::{Pace, RawSeat, Words};
 use std::alloc::Global;
 
@@ -63,49 +64,42 @@ fn deed_in(end: End) -> Deed
 }
 
 impl Asked {
-    /// The first key and the last one.
-    fn bounds(self) -> (u64, u64)
-        ensures { result ≡ bounds_of self }
+    /// The keys whose pairs it wants.
+    fn range(self) -> KeyRange
+        ensures { result ≡ range_of self }
     {
         match self {
-            Asked::All(lo, hi) | Asked::First(lo, hi, _) => (lo, hi),
-        }
-    }
-
-    /// How many pairs it wants at most.
-    fn most(self) -> Option<usize>
-        ensures { result ≡ most_of self }
-    {
-        match self {
-            Asked::All(..) => None,
-            Asked::First(_, _, max) => Some(max),
+            Asked::All(lo, hi) => KeyRange { lo, hi, max: None },
+            Asked::First(lo, hi, max) => KeyRange {
+                lo,
+                hi,
+                max: Some(max),
+            },
         }
     }
 }
 
-/// What was asked, of the component and below the time. The time is not below what is merged into
-/// the component, or it is that of the seat's open snapshot.
+/// What was asked, at the point. Its time is not below what is merged into its component, or it is
+/// that of the seat's open snapshot.
 fn deed_below<P: Pace>(
     words: &Words<P>,
     seat: &mut RawSeat,
     alloc: Global,
-    component: u64,
+    point: ReadPoint,
     asked: Asked,
-    time: Time,
 ) -> Result<Deed, Memory>
     requires of { IsSeatOf words.now seat.old }
-    requires held { seat.old.knows.view.held ≡ Some component }
-    requires may { MayReadAt seat.old.knows component time }
-    requires within { time ≤ (component + 2) * seat.old.knows.layout.cells }
-    requires settled { time ≤ length seat.old.knows.past }
+    requires held { seat.old.knows.view.held ≡ Some point.component }
+    requires may { MayReadAt seat.old.knows point.component point.until }
+    requires within { point.until ≤ (point.component + 2) * seat.old.knows.layout.cells }
+    requires settled { point.until ≤ length seat.old.knows.past }
     ensures of { IsSeatOf words.now seat.new }
     ensures looks { Looks seat.old.knows seat.new.knows }
-    ensures reads { IfOk result (Reads (plain seat.old.knows.past) time) }
+    ensures reads { IfOk result (Reads (plain seat.old.knows.past) point.until) }
     ensures answers { IfOk result (IsAnswerTo asked) }
 {
     seat.show_invariant();
-    let (lo, hi) = asked.bounds();
-    let found = scan(words, seat, alloc, component, lo, hi, time, asked.most())?;
+    let found = scan(words, seat, alloc, point, asked.range())?;
     Ok(deed_of(asked, found))
 }
 
@@ -157,7 +151,11 @@ pub fn scan_at<P: Pace>(
 {
     let (component, time) = begin(words, seat, pin_word);
     settle_below(words, seat, component, time);
-    let read = deed_below(words, seat, alloc, component, asked, time);
+    let point = ReadPoint {
+        component,
+        until: time,
+    };
+    let read = deed_below(words, seat, alloc, point, asked);
     let deed = end(words, seat, pin_word.wrapping_add(1), read)?;
     Ok((time, deed))
 }
@@ -167,25 +165,29 @@ pub fn scan_under<P: Pace>(
     words: &Words<P>,
     seat: &mut RawSeat,
     alloc: Global,
-    pin_word: u64,
-    time: Time,
+    snapshot: OpenSnapshot,
     asked: Asked,
 ) -> Result<(Time, Deed), Memory>
     requires of { IsSeatOf words.now seat.old }
     requires rests { IsAtRest seat.old.knows }
-    requires pin { pin_word ≡ seat.old.knows.view.pin }
-    requires opened { open_time seat.old.knows.view.snapshot ≡ Some time }
+    requires pin { snapshot.pin_word ≡ seat.old.knows.view.pin }
+    requires opened { open_time seat.old.knows.view.snapshot ≡ Some snapshot.time }
     ensures of { IsSeatOf words.now seat.new }
     ensures rests { IsAtRest seat.new.knows }
-    ensures pin { seat.new.knows.view.pin ≡ next_word (next_word pin_word) }
-    ensures time { IfOk result (λ read. read.0 ≡ time) }
-    ensures reads { IfOk result (λ read. ReadsUnder seat.old.knows seat.new.knows time read.1) }
+    ensures pin { seat.new.knows.view.pin ≡ next_word (next_word snapshot.pin_word) }
+    ensures time { IfOk result (λ read. read.0 ≡ snapshot.time) }
+    ensures reads { IfOk result (λ read. ReadsUnder seat.old.knows seat.new.knows snapshot.time read.1) }
     ensures answers { IfOk result (λ read. IsAnswerTo asked read.1) }
     ensures given_up { IfErr result (λ refusal. GivesUpRead seat.old.knows seat.new.knows) }
 {
+    let OpenSnapshot { pin_word, time } = snapshot;
     let component = pin(words, seat, pin_word);
     seat.show_invariant();
-    let read = deed_below(words, seat, alloc, component, asked, time);
+    let point = ReadPoint {
+        component,
+        until: time,
+    };
+    let read = deed_below(words, seat, alloc, point, asked);
     let deed = end(words, seat, pin_word.wrapping_add(1), read)?;
     Ok((time, deed))
 }

@@ -16,6 +16,13 @@ use clsm_model::{Deed, Time};
 use clsm_pins::{open_snapshot, pin, unpin};
 use clsm_words::{Pace, RawSeat, Words};
 
+/// The open snapshot of a seat at rest: the word of the seat's pin, and the snapshot's time.
+#[derive(Clone, Copy)]
+pub struct OpenSnapshot {
+    pub pin_word: u64,
+    pub time: Time,
+}
+
 /// Opens a snapshot, at a time of its own: all below it is settled.
 pub fn open_at<P: Pace>(words: &Words<P>, seat: &mut RawSeat, pin_word: u64) -> Time
     requires of { IsSeatOf words.now seat.old }
@@ -51,20 +58,20 @@ fn end_of(key: u64, got: &Got) -> End
 pub fn read_under<P: Pace>(
     words: &Words<P>,
     seat: &mut RawSeat,
-    pin_word: u64,
-    time: Time,
+    snapshot: OpenSnapshot,
     key: u64,
 ) -> Got
     requires of { IsSeatOf words.now seat.old }
     requires rests { IsAtRest seat.old.knows }
-    requires pin { pin_word ≡ seat.old.knows.view.pin }
-    requires opened { open_time seat.old.knows.view.snapshot ≡ Some time }
+    requires pin { snapshot.pin_word ≡ seat.old.knows.view.pin }
+    requires opened { open_time seat.old.knows.view.snapshot ≡ Some snapshot.time }
     ensures of { IsSeatOf words.now seat.new }
     ensures rests { IsAtRest seat.new.knows }
-    ensures pin { seat.new.knows.view.pin ≡ next_word (next_word pin_word) }
-    ensures time { result.time ≡ time }
-    ensures reads { ReadsUnder seat.old.knows seat.new.knows time (GetAt key result.value) }
+    ensures pin { seat.new.knows.view.pin ≡ next_word (next_word snapshot.pin_word) }
+    ensures time { result.time ≡ snapshot.time }
+    ensures reads { ReadsUnder seat.old.knows seat.new.knows snapshot.time (GetAt key result.value) }
 {
+    let OpenSnapshot { pin_word, time } = snapshot;
     let component = pin(words, seat, pin_word);
     seat.show_invariant();
     let value = value_below(words, seat, component, key, time);

@@ -11,8 +11,8 @@ use Rattle.clsm_runs.specs.Staying.{entry_in_stays, has_stays, place_stays}
 use Rattle.clsm_runs.proofs.Standing.{passes, passes_taken, takes}
 use Rattle.clsm_runs.proofs.passing.next.Goals as goal
 
-pub loop-position-preserved-then-key-from : goal.loop-position-preserved-then-key-from
-loop-position-preserved-then-key-from g c =
+pub loop-position-preserved-then-key-sought : goal.loop-position-preserved-then-key-sought
+loop-position-preserved-then-key-sought g c =
     let k = c.args.seat.now.knows in
     let now = c.loop-position.seat.knows in
     let place = c.args.run.place in
@@ -22,11 +22,11 @@ loop-position-preserved-then-key-from g c =
     record { held = c.requires.held; named = c.requires.named } in
     let same = place_stays k now c.args.run.component place before.looks.looks run in
     let key = c.part-key.ensures.told ∙ same.words at 0 in
-    let less : (entry_in (row_of k) place at).key < c.args.from = omega (arith, key) in
+    let less : (entry_in (row_of k) place at).key < c.args.sought.from = omega (arith, key) in
     record {
       of = c.part-key.ensures.of;
       looks = aside_trans k now c.part-key.new.seat.knows before.looks c.part-key.ensures.looks;
-      stands = passes k place c.args.until c.args.from at before.stands (omega arith) (inl less);
+      stands = passes k place c.args.sought.until c.args.sought.from at before.stands (omega arith) (inl less);
     }
 
 pub loop-position-preserved : goal.loop-position-preserved
@@ -42,23 +42,23 @@ loop-position-preserved g c =
     let looks = aside_trans k old now before.looks c.part-key.ensures.looks in
     let same = place_stays k now c.args.run.component place looks.looks run in
     let spelled = c.part-spelled.ensures.told ∙ same.words at 1 in
-    let late : c.args.until ≤ (entry_in (row_of k) place at).time = omega (arith, spelled) in
+    let late : c.args.sought.until ≤ (entry_in (row_of k) place at).time = omega (arith, spelled) in
     record {
       of = c.part-spelled.ensures.of;
       looks = aside_trans k now c.part-spelled.new.seat.knows looks c.part-spelled.ensures.looks;
-      stands = passes k place c.args.until c.args.from at before.stands (omega arith) (inr late);
+      stands = passes k place c.args.sought.until c.args.sought.from at before.stands (omega arith) (inr late);
     }
 
-pub returns-then-spelled-until : goal.returns-then-spelled-until
-returns-then-spelled-until g c =
+pub returns-then-spelled-sought : goal.returns-then-spelled-sought
+returns-then-spelled-sought g c =
     let k = c.args.seat.now.knows in
     let old = c.loop-position.seat.knows in
     let first = c.part-key.new.seat.knows in
     let second = c.part-spelled.new.seat.knows in
     let component = c.args.run.component in
     let place = c.args.run.place in
-    let until = c.args.until in
-    let from = c.args.from in
+    let until = c.args.sought.until in
+    let from = c.args.sought.from in
     let at = c.loop-position.position in
     let before = c.loop-position.invariant in
     let run : IsSearchable k component place =

@@ -8,7 +8,7 @@ abbrev pub invariant-loop-position : goal.invariant-loop-position
 invariant-loop-position g l = record {
   of : IsSeatOf l.words l.seat;
   looks : LooksAside l.fn.seat.knows l.seat.knows;
-  stands : StandsFrom l.fn.seat.knows l.run.place l.until l.from l.position;
+  stands : StandsFrom l.fn.seat.knows l.run.place l.sought.until l.sought.from l.position;
 }
 
 abbrev pub decreases-loop-position : goal.decreases-loop-position

@@ -20,9 +20,9 @@ loop-key-init g c =
       same = λ k. refl;
       stands = c.requires.stands;
       later = omega arith;
-      rows = subst (AreRowsTo value c.args.lo c.args.lo) empty (rows_none value c.args.lo);
+      rows = subst (AreRowsTo value c.args.range.lo c.args.range.lo) empty (rows_none value c.args.range.lo);
       beyond = λ k lt. ap (λ (rows : List Pair). value_at rows k) c.in_ok-rows.ensures.items;
-      most = subst (λ (rows : List Pair). IsAtMost (length rows) c.args.max) empty (none_at_most c.args.max);
+      most = subst (λ (rows : List Pair). IsAtMost (length rows) c.args.range.max) empty (none_at_most c.args.range.max);
     }
 
 pub returns-then-is_full-clause-rows : goal.returns-then-is_full-clause-rows
@@ -32,11 +32,11 @@ returns-then-is_full-clause-rows g c =
     let before = c.loop-key.invariant in
     let old = c.loop-key.rows.items in
     let here = c.in-Some.ensures.next in
-    let next = next_row_same value value' c.loop-key.from c.args.hi (Some (c.in-Some.key, here.words)) (λ k. ap value_of (before.same k)) here.next in
-    let full : is_full c.args.max (length old) ≡ true = ap (is_full c.args.max) (sym (c.len.ensures ∙ c.loop-key.rows.ok.0)) ∙ sym c.is_full.ensures
+    let next = next_row_same value value' c.loop-key.from c.args.range.hi (Some (c.in-Some.key, here.words)) (λ k. ap value_of (before.same k)) here.next in
+    let full : is_full c.args.range.max (length old) ≡ true = ap (is_full c.args.range.max) (sym (c.len.ensures ∙ c.loop-key.rows.ok.0)) ∙ sym c.is_full.ensures
     ∙ c.if-is_full.true in
-    rows_stopped value c.args.lo c.loop-key.from c.args.hi c.args.max old (c.in-Some.key, here.words) before.rows before.later next
-    (just_full c.args.max (length old) full before.most)
+    rows_stopped value c.args.range.lo c.loop-key.from c.args.range.hi c.args.range.max old (c.in-Some.key, here.words) before.rows before.later next
+    (just_full c.args.range.max (length old) full before.most)
 
 -- ---- a turn that puts a row
 
@@ -49,27 +49,27 @@ row g c = (c.in-Some.key, c.in-Some.ensures.next.words)
 put : (g : Over) (c : After-checked_add g) → c.push.new.rows.items ≡ c.loop-key.rows.items ++ row g c ∷ []
 put g c = c.in_ok-push.ensures.rows ∙ ap (λ (l : List Pair). c.loop-key.rows.items ++ l) c.in-Some.ensures.next.is
 
-most : (g : Over) (c : After-checked_add g) → IsAtMost (length c.push.new.rows.items) c.args.max
+most : (g : Over) (c : After-checked_add g) → IsAtMost (length c.push.new.rows.items) c.args.range.max
 most g c =
     let old = c.loop-key.rows.items in
-    let room = ap (is_full c.args.max) (sym (c.len.ensures ∙ c.loop-key.rows.ok.0)) ∙ sym c.is_full.ensures ∙ c.if-is_full.false in
-    most_pushed c.args.max old c.push.new.rows.items (row g c) (put g c) room
+    let room = ap (is_full c.args.range.max) (sym (c.len.ensures ∙ c.loop-key.rows.ok.0)) ∙ sym c.is_full.ensures ∙ c.if-is_full.false in
+    most_pushed c.args.range.max old c.push.new.rows.items (row g c) (put g c) room
 
-next : (g : Over) (c : After-checked_add g) → IsNextRow (value g c) c.loop-key.from c.args.hi (Some (row g c))
+next : (g : Over) (c : After-checked_add g) → IsNextRow (value g c) c.loop-key.from c.args.range.hi (Some (row g c))
 next g c =
     let now = left_at (g.C.Cursor.found c.loop-key.seat.knows c.loop-key.cursor) in
-    next_row_same (value g c) now c.loop-key.from c.args.hi (Some (row g c)) (λ k. ap value_of (c.loop-key.invariant.same k)) c.in-Some.ensures.next.next
+    next_row_same (value g c) now c.loop-key.from c.args.range.hi (Some (row g c)) (λ k. ap value_of (c.loop-key.invariant.same k)) c.in-Some.ensures.next.next
 
 pub returns-in_default-checked_add-clause-rows : goal.returns-in_default-checked_add-clause-rows
 returns-in_default-checked_add-clause-rows g c =
     let turn = (goal.at.returns-in_default-checked_add-clause-rows g c).After-checked_add in
     let before = c.loop-key.invariant in
-    let last : c.args.hi ≤ c.in-Some.key = elim (cases_lt c.in-Some.key c.args.hi) [
-      | inl lt ↦ absurd (c.in_default-checked_add.ensures (omega (arith, c.ranges.hi.fits)))
+    let last : c.args.range.hi ≤ c.in-Some.key = elim (cases_lt c.in-Some.key c.args.range.hi) [
+      | inl lt ↦ absurd (c.in_default-checked_add.ensures (omega (arith, c.ranges.range.hi.fits)))
       | inr le ↦ le
     ] in (
-      subst (AreAll (value g turn) c.args.lo c.args.hi) (sym (put g turn))
-          (rows_ended (value g turn) c.args.lo c.loop-key.from c.args.hi c.loop-key.rows.items (row g turn) before.rows before.later
+      subst (AreAll (value g turn) c.args.range.lo c.args.range.hi) (sym (put g turn))
+          (rows_ended (value g turn) c.args.range.lo c.loop-key.from c.args.range.hi c.loop-key.rows.items (row g turn) before.rows before.later
           (next g turn) before.beyond last),
       most g turn,
     )
@@ -93,10 +93,10 @@ loop-key-preserved g c =
       stands = subst (g.C.Cursor.stands k2 cursor) behind
           (g.met.C.Cursor.stands_stays k1 k2 cursor (c.in-Some.key + 1) c.push.ensures.looks c.next_key.ensures.over c.in-Some.ensures.stands);
       later = let later = row_next.0 in omega arith;
-      rows = subst (AreRowsTo (value g turn) c.args.lo c.in-Some-checked_add.behind) (sym (put g turn))
-          (subst (λ (end : ℕ). AreRowsTo (value g turn) c.args.lo end (old ++ row g turn ∷ [])) behind
-          (rows_taken (value g turn) c.args.lo c.loop-key.from c.args.hi old (row g turn) before.rows before.later row_next));
-      beyond = subst (λ (rows : List Pair). (k : ℕ) → c.args.hi < k → value_at rows k ≡ None) (sym (put g turn))
-          (beyond_pushed (value g turn) c.args.lo c.args.hi old (row g turn) row_next.1 before.beyond);
+      rows = subst (AreRowsTo (value g turn) c.args.range.lo c.in-Some-checked_add.behind) (sym (put g turn))
+          (subst (λ (end : ℕ). AreRowsTo (value g turn) c.args.range.lo end (old ++ row g turn ∷ [])) behind
+          (rows_taken (value g turn) c.args.range.lo c.loop-key.from c.args.range.hi old (row g turn) before.rows before.later row_next));
+      beyond = subst (λ (rows : List Pair). (k : ℕ) → c.args.range.hi < k → value_at rows k ≡ None) (sym (put g turn))
+          (beyond_pushed (value g turn) c.args.range.lo c.args.range.hi old (row g turn) row_next.1 before.beyond);
       most = most g turn;
     }

@@ -12,10 +12,10 @@ invariant-loop-key g l = record {
   over : g.C.Cursor.is_over l.seat.knows l.cursor;
   same : (k : ℕ) → g.C.Cursor.found l.seat.knows l.cursor k ≡ g.C.Cursor.found l.fn.seat.knows l.fn.cursor k;
   stands : g.C.Cursor.stands l.seat.knows l.cursor l.from;
-  later : l.lo ≤ l.from;
-  rows : AreRowsTo (left_at (g.C.Cursor.found l.fn.seat.knows l.fn.cursor)) l.lo l.from l.rows.items;
-  beyond : (k : ℕ) → l.hi < k → value_at l.rows.items k ≡ None;
-  most : IsAtMost (length l.rows.items) l.max;
+  later : l.range.lo ≤ l.from;
+  rows : AreRowsTo (left_at (g.C.Cursor.found l.fn.seat.knows l.fn.cursor)) l.range.lo l.from l.rows.items;
+  beyond : (k : ℕ) → l.range.hi < k → value_at l.rows.items k ≡ None;
+  most : IsAtMost (length l.rows.items) l.range.max;
 }
 
 abbrev pub decreases-loop-key : goal.decreases-loop-key

@@ -13,13 +13,13 @@ seek-requires-clause-over g c =
 pub returns-clause-rows : goal.returns-clause-rows
 returns-clause-rows g c =
     let k = c.args.seat.now.knows in
-    let lo = c.args.lo in
-    let hi = c.args.hi in
-    let until = c.args.until in
-    let component = c.args.component in
+    let lo = c.args.range.lo in
+    let hi = c.args.range.hi in
+    let until = c.args.point.until in
+    let component = c.args.point.component in
     let may : MayScan k component until = record { held = c.requires.held; within = c.requires.within; settled = c.requires.settled } in
     let same = λ (key : ℕ) (above : lo ≤ key) (below : key ≤ hi). ap value_of
     (sym (c.seek.ensures.same key ∙ c.sources-cursor.ensures.found k c.requires.of.1 may key)) in
-    if_ok_weaker _ (λ all. IsCollected (left_at (found_in_component k component until)) lo hi c.args.max all.rows.items all.more)
+    if_ok_weaker _ (λ all. IsCollected (left_at (found_in_component k component until)) lo hi c.args.range.max all.rows.items all.more)
     (λ all is. collected_same _
-    (left_at (found_in_component k component until)) lo hi c.args.max all.rows.items all.more same is) c.collect.result c.collect.ensures.rows
+    (left_at (found_in_component k component until)) lo hi c.args.range.max all.rows.items all.more same is) c.collect.result c.collect.ensures.rows

@@ -14,7 +14,7 @@ returns-clause-changed g c =
     let d = c.change_pinned-answer.new.seat.knows in
     let e = c.unpin.new.seat.knows in
     let f = c.unlock_shared.new.seat.knows in
-    changed_if a b p d e f c.pin-component.result c.args.key c.requires.rests c.lock_shared.ensures.entered c.pin-component.ensures.pinned
+    changed_if a b p d e f c.pin-component.result c.args.modification.now.key c.requires.rests c.lock_shared.ensures.entered c.pin-component.ensures.pinned
     c.unlock_shared.ensures.left
     c.change_pinned-answer.result c.change_pinned-answer.ensures.changed (subst (λ (end : End). Unpins d e end) c.read_end.ensures c.unpin.ensures.unpinned)
 
@@ -24,7 +24,8 @@ returns-clause-spared g c =
     let pins = c.pin-component.ensures.pinned in
     let unpins = c.unpin.ensures.unpinned in
     let leaves = c.unlock_shared.ensures.left in
-    gives_around c.args.seat.now.knows c.pin-component.new.seat.knows c.change_pinned-answer.new.seat.knows c.unlock_shared.new.seat.knows c.args.key
+    gives_around c.args.seat.now.knows c.pin-component.new.seat.knows c.change_pinned-answer.new.seat.knows c.unlock_shared.new.seat.knows
+    c.args.modification.now.key
     (pins.keeps.past ∙ enters.place.past)
     (ap (λ (v : View). v.due) pins.view ∙ ap (λ (v : View). v.due) enters.view)
     (ap (λ (v : View). v.gave_up) pins.view ∙ ap (λ (v : View). v.gave_up) enters.view)

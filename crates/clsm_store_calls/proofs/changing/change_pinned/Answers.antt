@@ -7,12 +7,12 @@ use Rattle.clsm_store_calls.proofs.changing.change_pinned.Goals as goal
 
 pub returns-in-Done-clause-spared : goal.returns-in-Done-clause-spared
 returns-in-Done-clause-spared g c =
-    gives_again c.args.seat.now.knows c.loop.seat.knows c.try_change.new.seat.knows c.args.component c.args.key (Done c.in-Done.rmw)
+    gives_again c.args.seat.now.knows c.loop.seat.knows c.try_change.new.seat.knows c.args.component c.args.modification.now.key (Done c.in-Done.rmw)
     c.loop.invariant.still c.in-Done.ensures.changes c.loop.invariant.spared c.try_change.ensures.spared
 
 pub returns-in-Full-clause-spared : goal.returns-in-Full-clause-spared
 returns-in-Full-clause-spared g c =
-    gives_again c.args.seat.now.knows c.loop.seat.knows c.try_change.new.seat.knows c.args.component c.args.key (Full c.in-Full.time)
+    gives_again c.args.seat.now.knows c.loop.seat.knows c.try_change.new.seat.knows c.args.component c.args.modification.now.key (Full c.in-Full.time)
     c.loop.invariant.still c.in-Full.ensures.changes c.loop.invariant.spared c.try_change.ensures.spared
 
 pub loop-preserved : goal.loop-preserved
@@ -22,14 +22,14 @@ loop-preserved g c = record {
   still = still_trans c.args.seat.now.knows c.loop.seat.knows c.try_change.new.seat.knows c.loop.invariant.still c.in-Lost.ensures.changes.still;
   entered = c.try_change.ensures.entered ∙ c.loop.invariant.entered;
   patient = c.try_change.ensures.patient ∙ c.loop.invariant.patient;
-  spared = gives_again c.args.seat.now.knows c.loop.seat.knows c.try_change.new.seat.knows c.args.component c.args.key Lost
+  spared = gives_again c.args.seat.now.knows c.loop.seat.knows c.try_change.new.seat.knows c.args.component c.args.modification.now.key Lost
       c.loop.invariant.still c.in-Lost.ensures.changes c.loop.invariant.spared c.try_change.ensures.spared;
   more = (tt, tt);
 }
 
 pub returns-in-Done-clause-changed : goal.returns-in-Done-clause-changed
 returns-in-Done-clause-changed g c = let rmw = c.in-Done.rmw in
-    does_later c.args.seat.now.knows c.loop.seat.knows c.try_change.new.seat.knows c.args.component c.args.key rmw.time rmw.old rmw.change
+    does_later c.args.seat.now.knows c.loop.seat.knows c.try_change.new.seat.knows c.args.component c.args.modification.now.key rmw.time rmw.old rmw.change
     c.loop.invariant.still c.in-Done.ensures.changes
 
 pub returns-in-Full-clause-full : goal.returns-in-Full-clause-full

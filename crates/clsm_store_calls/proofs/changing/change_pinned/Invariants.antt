@@ -11,6 +11,6 @@ invariant-loop g l = record {
   still : Still l.initial.seat.knows l.seat.knows;
   entered : l.seat.knows.view.entries ≡ l.initial.seat.knows.view.entries;
   patient : l.seat.knows.view.hasty ≡ l.initial.seat.knows.view.hasty;
-  spared : GivesUpFor l.initial.seat.knows l.seat.knows l.key;
+  spared : GivesUpFor l.initial.seat.knows l.seat.knows l.modification.key;
   more : (goal.iterator-loop g).can_next l.iterator' × (goal.iterator-loop g).is_finite l.iterator';
 }

@@ -9,7 +9,8 @@ pub returns-clause-changes : goal.returns-clause-changes
 returns-clause-changes g c =
     let got = c.value_now-got in
     let read = c.with-read.result in
-    tries_later c.args.seat.now.knows got.new.seat.knows c.write_later.new.seat.knows c.args.component c.args.key read.old read.change c.write_later.result
+    tries_later c.args.seat.now.knows got.new.seat.knows c.write_later.new.seat.knows c.args.component c.args.modification.now.key
+    read.old read.change c.write_later.result
     (sym c.is_keep.ensures ∙ c.if-is_keep.false) got.ensures.still got.ensures.spared got.ensures.lost c.write_later.ensures.writes
 
 pub returns-clause-spared : goal.returns-clause-spared
@@ -18,6 +19,6 @@ returns-clause-spared g c =
     let reads = got.ensures.reads in
     let still = got.ensures.still in
     let time = ap (λ (r : Rmw). r.time) c.with-read.ensures in
-    gives_read c.args.seat.now.knows got.new.seat.knows c.write_later.new.seat.knows c.args.key got.result.time got.ensures.spared
+    gives_read c.args.seat.now.knows got.new.seat.knows c.write_later.new.seat.knows c.args.modification.now.key got.result.time got.ensures.spared
     (let above = reads.above in let due = still.due in omega arith) got.ensures.beyond
-    (subst (λ (t : ℕ). GivesUpOnce got.new.seat.knows c.write_later.new.seat.knows c.args.key t) time c.write_later.ensures.spared)
+    (subst (λ (t : ℕ). GivesUpOnce got.new.seat.knows c.write_later.new.seat.knows c.args.modification.now.key t) time c.write_later.ensures.spared)

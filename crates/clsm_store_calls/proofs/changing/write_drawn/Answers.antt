@@ -5,9 +5,12 @@ use Rattle.clsm_model.specs.declared.record.Deed.TheVariants.{Rmw}
 use Rattle.clsm_model.specs.History.{plain}
 use Rattle.clsm_model.specs.Right.{IsRight}
 use Rattle.clsm_law.specs.declared.view.View.{View}
+use Rattle.clsm_law.specs.declared.step.Step.TheVariants.{Decide}
 use Rattle.clsm_law.specs.OpenSteps.{IsReadBelow}
 use Rattle.clsm_words.specs.declared.known.Known.{Known}
+use Rattle.clsm_words.specs.Knowing.{Opens}
 use Rattle.clsm_memtable.proofs.Entries.{looks_out}
+use Rattle.clsm_store_calls.specs.Changing.{deed_by}
 use Rattle.clsm_store_calls.proofs.changing.write_drawn.Goals as goal
 
 -- what was read stays so, as long as the past does
@@ -29,5 +32,6 @@ decide-requires-clause-opens g c =
     let fills = c.fill.ensures.filled.parts in
     let past = enters.past ∙ fills.place.past ∙ out.past in
     let same = ap (λ (v : View). v.past) enters.view ∙ ap (λ (v : View). v.past) fills.view ∙ ap (λ (v : View). v.past) out.view in
-    let read = read_on k0 k3 c.args.time c.args.deed.now past same c.requires.read in
-    (c.enter-trace.ensures.of, (search rules, search rules, search rules, read, search rules))
+    let read = read_on k0 k3 c.args.time (deed_by c.args.modified.now) past same c.requires.read in
+    let opens : Opens k3 (Decide c.args.time (deed_by c.args.modified.now)) = (search rules, search rules, search rules, read, search rules) in
+    (c.enter-trace.ensures.of, subst (λ (d : Deed). Opens k3 (Decide c.args.time d)) (sym c.deed_of-deed.ensures) opens)

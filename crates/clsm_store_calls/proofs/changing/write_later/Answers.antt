@@ -1,14 +1,11 @@
 use Rattle.std.proofs.Common.{ℕ, sym, ap, ◌∙◌, arith, subst, refl}
-use Rattle.clsm_model.specs.declared.record.Deed.{Deed}
-use Rattle.clsm_model.specs.declared.record.Deed.TheVariants.{Rmw as ChangeOf}
 use Rattle.clsm_store_calls.specs.declared.got.Rmw.{Rmw}
 use Rattle.clsm_store_calls.specs.Resting.{Records}
 use Rattle.clsm_law.specs.declared.view.View.{View}
 use Rattle.clsm_store_calls.proofs.Giving.{given_up_once}
 use Rattle.clsm_store_calls.proofs.DrawsAgain.{still_at_last}
 use Rattle.clsm_store_calls.proofs.Rest.{records_later, still_reads, still_trans}
-use Rattle.clsm_model.specs.History.{plain}
-use Rattle.clsm_law.specs.OpenSteps.{IsReadBelow}
+use Rattle.clsm_store_calls.specs.Changing.{deed_by}
 use Rattle.clsm_store_calls.proofs.Unchanged.{value_later}
 use Rattle.clsm_store_calls.proofs.changing.write_later.Goals as goal
 
@@ -24,10 +21,9 @@ write_drawn-requires-clause-read g c =
     let read = c.requires.reads in
     let t = c.in-Ok.time in
     let settled = c.is_unchanged.ensures.settled in
-    let later = value_later k.past k'.past k''.past c.args.key c.args.read.time c.in-Ok.ensures.drawn.place.past
+    let later = value_later k.past k'.past k''.past c.args.modified.now.key c.args.modified.now.read.time c.in-Ok.ensures.drawn.place.past
     c.is_unchanged.ensures.reads.seat.past.slots read.settled in
     let old = read.is ∙ later ∙ sym (c.if-not-is_unchanged.ensures.unchanged refl) in
-    subst (IsReadBelow (plain k''.past) k''.view t) (sym c.deed_of.ensures)
     (let long = c.show_invariant-2.ensures.length_is in omega arith, record { readable = record { reached = settled; uncut = tt }; reads = old })
 
 pub returns-then-not-is_unchanged-clause-spared : goal.returns-then-not-is_unchanged-clause-spared
@@ -37,7 +33,7 @@ returns-then-not-is_unchanged-clause-spared g c =
     let read = c.is_unchanged.new.seat.knows in
     let gave = c.give_up.ensures.given_up in
     let same = ap (λ (v : View). v.gave_up) c.is_unchanged.ensures.reads.view ∙ ap (λ (v : View). v.gave_up) c.in-Ok.ensures.drawn.view in
-    given_up_once k read c.give_up.new.seat.knows c.args.key c.args.read.time same gave.place.past gave.counted
+    given_up_once k read c.give_up.new.seat.knows c.args.modified.now.key c.args.modified.now.read.time same gave.place.past gave.counted
     (c.is_unchanged.ensures.written c.if-not-is_unchanged.true)
 
 pub returns-in-Done-clause-writes : goal.returns-in-Done-clause-writes
@@ -49,10 +45,9 @@ returns-in-Done-clause-writes g c =
     let t = c.in-Ok.time in
     let still = still_trans k k' k'' (still_at_last k k' t c.in-Ok.ensures.drawn) (still_reads k' k'' c.is_unchanged.ensures.reads) in
     let above = c.in-Ok.ensures.drawn.due in
-    let records = c.in-Done.ensures.writes.1 (let due = still.due in omega arith) in
-    let deed = ChangeOf c.args.key c.args.read.old c.args.read.change in
-    let is = c.at.ensures in
-    let recorded = subst (λ (d : Deed). Records k'' end t d) c.deed_of.ensures records in (
+    let recorded = c.in-Done.ensures.writes.1 (let due = still.due in omega arith) in
+    let deed = deed_by c.args.modified.now in
+    let is = c.at.ensures in (
       ap (λ (r : Rmw). r.old) is,
       ap (λ (r : Rmw). r.change) is,
       subst (λ (n : ℕ). Records k end n deed) (sym (ap (λ (r : Rmw). r.time) is))

@@ -8,6 +8,6 @@ value_below-value-requires-clause-within g c =
     let sound = c.show_invariant.ensures in
     let pins = c.pin-component.ensures.pinned in
     let near = (sound.reads c.pin-component.result (ap (λ (v : View). v.held) pins.view)).near in
-    let opened = sound.opened c.args.time (ap (λ (v : View). open_time v.snapshot) pins.view ∙ c.requires.opened) in
+    let opened = sound.opened c.args.snapshot.time (ap (λ (v : View). open_time v.snapshot) pins.view ∙ c.requires.opened) in
     let long = sound.length_is in
     omega arith
