@@ -1,5 +1,5 @@
 //! The rows of a range of keys, by a cursor.
-ghost use Rattle.std.specs.Prelude.{◌≡◌, ℕ, ◌+◌, ◌≤◌, ◌∷◌, ◌++◌, [], IfOk, IfSome, MatchOption, OnOk};
+ghost use Rattle.std.specs.Prelude.{◌≡◌, ℕ, ◌+◌, ◌∷◌, ◌++◌, [], IfOk, IfSome, OnOk};
 ghost use Rattle.clsm_words.specs.Keeping.{LooksAside};
 ghost use Rattle.clsm_words.specs.Plays.{IsSeatOf};
 ghost use Rattle.clsm_scan.specs.Collected.{IsCollected, IsNextKey, is_full, left_at};
@@ -76,13 +76,6 @@ fn next_key<C: Cursor, P: Pace>(
     None
 }
 
-/// The key behind this one, as long as that is not above `hi`.
-fn key_behind(key: u64, hi: u64) -> Option<u64>
-    ensures { MatchOption result (hi ≤ key) (λ behind. behind ≡ key + 1) }
-{
-    if key < hi { Some(key + 1) } else { None }
-}
-
 /// The rows for which memory is taken at once: as many as may come, or a few.
 fn first_room(max: Option<usize>) -> usize {
     max.unwrap_or(FEW).min(FEW)
@@ -122,7 +115,7 @@ pub fn collect<C: Cursor, P: Pace>(
             return Ok(Collected { rows, more });
         }
         cursor.push(words, seat, &mut rows)?;
-        let Some(behind) = key_behind(key, range.hi) else {
+        let Some(behind) = key.checked_add(1) else {
             return Ok(Collected { rows, more: None });
         };
         from = behind;

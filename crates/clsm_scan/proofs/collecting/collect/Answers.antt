@@ -1,4 +1,5 @@
-use Rattle.std.proofs.Common.{rules, ◌≡◌, ℕ, ◌+◌, ◌≤◌, ◌<◌, Some, None, Option, length, true, sym, ap, ◌∙◌, refl, subst, arith, [], ◌∷◌, ◌++◌, List}
+use Rattle.std.proofs.Common.{rules, ◌≡◌, ℕ, ◌+◌, ◌≤◌, ◌<◌, Some, None, Option, length, true, sym, ap, ◌∙◌, refl, subst, arith, [], ◌∷◌, ◌++◌, List, inl, inr}
+use Rattle.std.proofs.lemmas.Bool.{cases_lt}
 use Rattle.clsm_model.specs.Map.{Pair, value_at}
 use Rattle.clsm_levels.specs.Entry.{value_of}
 use Rattle.clsm_words.proofs.Keeps.{aside_trans}
@@ -6,7 +7,7 @@ use Rattle.clsm_scan.specs.Collected.{AreAll, AreRowsTo, IsAtMost, IsNextRow, is
 use Rattle.clsm_scan.proofs.Rows.{beyond_pushed, just_full, next_row_same, none_at_most, most_pushed, rows_ended, rows_none, rows_stopped, rows_taken}
 use Rattle.clsm_scan.proofs.collecting.collect.Given.{Over}
 use Rattle.clsm_scan.proofs.collecting.collect.Goals as goal
-use Rattle.clsm_scan.proofs.collecting.collect.Goals.{After-key_behind}
+use Rattle.clsm_scan.proofs.collecting.collect.Goals.{After-checked_add}
 
 pub loop-key-init : goal.loop-key-init
 loop-key-init g c =
@@ -39,31 +40,34 @@ returns-then-is_full-clause-rows g c =
 
 -- ---- a turn that puts a row
 
-abbrev value : (g : Over) → After-key_behind g → ℕ → Option (List ℕ)
+abbrev value : (g : Over) → After-checked_add g → ℕ → Option (List ℕ)
 value g c = left_at (g.C.Cursor.found c.args.seat.now.knows c.args.cursor.now)
 
-abbrev row : (g : Over) → After-key_behind g → Pair
+abbrev row : (g : Over) → After-checked_add g → Pair
 row g c = (c.in-Some.key, c.in-Some.ensures.next.words)
 
-put : (g : Over) (c : After-key_behind g) → c.push.new.rows.items ≡ c.loop-key.rows.items ++ row g c ∷ []
+put : (g : Over) (c : After-checked_add g) → c.push.new.rows.items ≡ c.loop-key.rows.items ++ row g c ∷ []
 put g c = c.in_ok-push.ensures.rows ∙ ap (λ (l : List Pair). c.loop-key.rows.items ++ l) c.in-Some.ensures.next.is
 
-most : (g : Over) (c : After-key_behind g) → IsAtMost (length c.push.new.rows.items) c.args.range.max
+most : (g : Over) (c : After-checked_add g) → IsAtMost (length c.push.new.rows.items) c.args.range.max
 most g c =
     let old = c.loop-key.rows.items in
     let room = ap (is_full c.args.range.max) (sym (c.len.ensures ∙ c.loop-key.rows.ok.0)) ∙ sym c.is_full.ensures ∙ c.if-is_full.false in
     most_pushed c.args.range.max old c.push.new.rows.items (row g c) (put g c) room
 
-next : (g : Over) (c : After-key_behind g) → IsNextRow (value g c) c.loop-key.from c.args.range.hi (Some (row g c))
+next : (g : Over) (c : After-checked_add g) → IsNextRow (value g c) c.loop-key.from c.args.range.hi (Some (row g c))
 next g c =
     let now = left_at (g.C.Cursor.found c.loop-key.seat.knows c.loop-key.cursor) in
     next_row_same (value g c) now c.loop-key.from c.args.range.hi (Some (row g c)) (λ k. ap value_of (c.loop-key.invariant.same k)) c.in-Some.ensures.next.next
 
-pub returns-in_default-key_behind-clause-rows : goal.returns-in_default-key_behind-clause-rows
-returns-in_default-key_behind-clause-rows g c =
-    let turn = (goal.at.returns-in_default-key_behind-clause-rows g c).After-key_behind in
+pub returns-in_default-checked_add-clause-rows : goal.returns-in_default-checked_add-clause-rows
+returns-in_default-checked_add-clause-rows g c =
+    let turn = (goal.at.returns-in_default-checked_add-clause-rows g c).After-checked_add in
     let before = c.loop-key.invariant in
-    let last = c.in_default-key_behind.ensures in (
+    let last : c.args.range.hi ≤ c.in-Some.key = elim (cases_lt c.in-Some.key c.args.range.hi) [
+      | inl lt ↦ absurd (c.in_default-checked_add.ensures (omega (arith, c.ranges.range.hi.fits)))
+      | inr le ↦ le
+    ] in (
       subst (AreAll (value g turn) c.args.range.lo c.args.range.hi) (sym (put g turn))
           (rows_ended (value g turn) c.args.range.lo c.loop-key.from c.args.range.hi c.loop-key.rows.items (row g turn) before.rows before.later
           (next g turn) before.beyond last),
@@ -72,10 +76,10 @@ returns-in_default-key_behind-clause-rows g c =
 
 pub loop-key-preserved : goal.loop-key-preserved
 loop-key-preserved g c =
-    let turn = (goal.at.loop-key-preserved g c).After-key_behind in
+    let turn = (goal.at.loop-key-preserved g c).After-checked_add in
     let before = c.loop-key.invariant in
     let old = c.loop-key.rows.items in
-    let behind = sym c.in-Some-key_behind.ensures in
+    let behind = sym c.in-Some-checked_add.ensures.1 in
     let k1 = c.next_key.new.seat.knows in
     let k2 = c.push.new.seat.knows in
     let cursor = c.next_key.new.cursor in
@@ -89,7 +93,7 @@ loop-key-preserved g c =
       stands = subst (g.C.Cursor.stands k2 cursor) behind
           (g.met.C.Cursor.stands_stays k1 k2 cursor (c.in-Some.key + 1) c.push.ensures.looks c.next_key.ensures.over c.in-Some.ensures.stands);
       later = let later = row_next.0 in omega arith;
-      rows = subst (AreRowsTo (value g turn) c.args.range.lo c.in-Some-key_behind.behind) (sym (put g turn))
+      rows = subst (AreRowsTo (value g turn) c.args.range.lo c.in-Some-checked_add.behind) (sym (put g turn))
           (subst (λ (end : ℕ). AreRowsTo (value g turn) c.args.range.lo end (old ++ row g turn ∷ [])) behind
           (rows_taken (value g turn) c.args.range.lo c.loop-key.from c.args.range.hi old (row g turn) before.rows before.later row_next));
       beyond = subst (λ (rows : List Pair). (k : ℕ) → c.args.range.hi < k → value_at rows k ≡ None) (sym (put g turn))
