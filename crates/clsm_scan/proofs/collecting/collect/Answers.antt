@@ -65,7 +65,7 @@ returns-in_default-checked_add-clause-rows g c =
     let turn = (goal.at.returns-in_default-checked_add-clause-rows g c).After-checked_add in
     let before = c.loop-key.invariant in
     let last : c.args.range.hi ≤ c.in-Some.key = elim (cases_lt c.in-Some.key c.args.range.hi) [
-      | inl lt ↦ absurd (c.in_default-checked_add.ensures (omega (arith, c.ranges.range.hi.fits)))
+      | inl lt ↦ absurd (c.in_default-checked_add.ensures (let fits = c.well_formed in omega (arith, fits)))
       | inr le ↦ le
     ] in (
       subst (AreAll (value g turn) c.args.range.lo c.args.range.hi) (sym (put g turn))
