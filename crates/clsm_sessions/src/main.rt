@@ -7,16 +7,21 @@
 mod keyboard;
 mod schedules;
 mod sessions;
+mod steps;
 
 use crate::schedules::play_schedules;
 use crate::sessions::play_sessions;
+use crate::steps::play_steps;
 use anyhow::Result;
 use std::io;
 
 fn main(rt: HostRuntime) -> Result<()> {
     let text = io::read_to_string(rt.alloc(), rt.stdin())?;
+    let start = text.find("\n%% ").unwrap_or(text.len());
+    let (text, steps) = text.split_at(start);
     let start = text.find("\n== ").unwrap_or(text.len());
     let (sessions, schedules) = text.split_at(start);
     play_sessions(&rt, rt.alloc(), sessions, rt.stdout())?;
-    play_schedules(rt.alloc(), schedules, rt.stdout())
+    play_schedules(rt.alloc(), schedules, rt.stdout())?;
+    play_steps(&rt, rt.alloc(), steps, rt.stdout())
 }
