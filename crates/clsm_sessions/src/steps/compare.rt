@@ -3,7 +3,7 @@ use crate::steps::command::Script;
 use crate::steps::noted::{Difference, Search, differ};
 use crate::steps::play::{Alone, Played, play_machine, play_store};
 use crate::steps::wrong::Wrong;
-use clsm_store::Kind;
+use clsm_words::Kind;
 use std::alloc::{AllocError, Global};
 use std::sync::Wait;
 use std::thread::Threads;

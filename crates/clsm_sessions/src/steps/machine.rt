@@ -7,7 +7,7 @@ use clsm_core::World;
 use clsm_law::{Event, Layout, Step, StepError, Word};
 use clsm_model::{CallRecord, Deal};
 use clsm_planner::{AsCalled, Caller, Merging, PlanError};
-use clsm_store::Kind;
+use clsm_words::Kind;
 use std::alloc::Global;
 
 /// The most steps that a call makes which does not wait.
@@ -88,7 +88,7 @@ impl Machine {
     /// Whether the call is over.
     fn is_over(&self, begun: &Begun) -> Result<bool, Wrong> {
         Ok(match begun.turn.command {
-            Command::Call(_) => match self.callers.get(begun.turn.player) {
+            Command::Call(_) | Command::Page { .. } => match self.callers.get(begun.turn.player) {
                 Some(caller) => caller.number() != begun.number,
                 None => true,
             },

@@ -2,7 +2,7 @@
 use crate::steps::command::Command;
 use clsm_law::{Part, Step, Word};
 use clsm_model::Deal;
-use clsm_store::Kind;
+use clsm_words::Kind;
 use std::alloc::{AllocError, Global};
 
 /// A step that the machine made, and the number of who made it.
@@ -62,7 +62,7 @@ pub(crate) enum Search {
 impl Search {
     pub(crate) fn of(command: &Command) -> Search {
         match command {
-            Command::Call(Deal::Scan { .. }) => Search::Rows,
+            Command::Call(Deal::Scan { .. }) | Command::Page { .. } => Search::Rows,
             Command::Call(
                 Deal::Put { .. }
                 | Deal::Remove { .. }

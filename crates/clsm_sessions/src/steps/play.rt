@@ -1,17 +1,17 @@
 //! A script played on the store and on the machine.
-use crate::steps::command::{FIRST, OTHER, Script, Turn};
+use crate::steps::command::{Command, FIRST, OTHER, Script, Turn};
 use crate::steps::machine::Machine;
 use crate::steps::noted::{Made, Search, shared};
 use crate::steps::player::{Player, seat_all};
 use crate::steps::sizes::SIZES;
 use crate::steps::watch::{Hold, Watch};
 use crate::steps::wrong::Wrong;
-use clsm_model::CallRecord;
-use clsm_store::{Kind, Opened, open_paced};
+use clsm_model::{CallRecord, Deed, Rows};
+use clsm_store::{Opened, open_paced};
+use clsm_words::Kind;
 use std::alloc::{AllocError, Global};
 use std::sync::Wait;
-use std::thread;
-use std::thread::Threads;
+use std::thread::{Threads, join};
 
 /// What a script came to on one side: the steps of the call of the row, those of the one that is
 /// made while it is held, and the records of both seats.
@@ -70,12 +70,6 @@ pub(crate) fn play_machine(
     if !machine.play(script, hold)? {
         return Ok(None);
     }
-    let mut records = Vec::new(alloc);
-    for seat in [FIRST, OTHER] {
-        for record in machine.records(seat) {
-            records.push(record.clone()?)?;
-        }
-    }
     let other = match &script.other {
         Some(other) => shared_steps(alloc, &machine, other)?,
         None => Vec::new(alloc),
@@ -83,30 +77,113 @@ pub(crate) fn play_machine(
     Ok(Some(Played {
         first: shared_steps(alloc, &machine, &script.first)?,
         other,
-        records,
+        records: records_of(alloc, script, &machine)?,
     }))
 }
 
-fn play_part<R: Wait>(
-    rt: &R,
+/// The record of a page of at most so many rows, by that of the scan of its keys.
+fn paged(alloc: Global, scan: &CallRecord, max: u64) -> Result<CallRecord, AllocError> {
+    let Deed::Scan { lo, hi, rows } = &scan.deed else {
+        return scan.clone();
+    };
+    let (from, hi) = (*lo, *hi);
+    let all = rows.as_slice();
+    let more = all.get(max as usize).map(|row| row.0);
+    let mut kept = Vec::new(alloc);
+    for row in all.iter().take(max as usize) {
+        kept.push(*row)?;
+    }
+    let rows = Rows::new(kept);
+    let deed = Deed::Page {
+        from,
+        hi,
+        max,
+        rows,
+        more,
+    };
+    Ok(CallRecord { deed, ..*scan })
+}
+
+/// The machine's records of both seats, with a page in the place of a scan that stands for one.
+fn records_of(
     alloc: Global,
     script: &Script,
+    machine: &Machine,
+) -> Result<Vec<CallRecord>, AllocError> {
+    let mut records = Vec::new(alloc);
+    for seat in [FIRST, OTHER] {
+        for record in machine.records(seat) {
+            records.push(record.clone()?)?;
+        }
+        if let Some(max) = script.page_of(seat)
+            && let Some(scan) = records.pop()
+        {
+            records.push(paged(alloc, &scan, max)?)?;
+        }
+    }
+    Ok(records)
+}
+
+/// Makes the call of the row in this thread, and the other one in a thread of its own while that
+/// one is held.
+fn play_both<'a, R: Threads + Wait + Sync>(
+    rt: &R,
+    alloc: Global,
     watch: &Watch,
-    place: usize,
-    player: &mut Player,
-) {
-    if place == script.first.player {
-        player.play(rt, alloc, &script.first.command);
-        watch.end();
-        return;
+    first: (Player<'a>, Command),
+    other: (Player<'a>, Command),
+) -> (Player<'a>, Player<'a>) {
+    let (mut held, command) = first;
+    let (mut free, beside) = other;
+    let (free, held) = join(
+        rt,
+        move || {
+            if watch.wait_for_hold() {
+                free.play(rt, alloc, &beside);
+                watch.let_go();
+            }
+            free
+        },
+        move || {
+            held.play(rt, alloc, &command);
+            watch.end();
+            held
+        },
+    );
+    (held, free)
+}
+
+/// Plays the row behind the state.
+fn play_row<'a, R: Threads + Wait + Sync>(
+    rt: &R,
+    alloc: Global,
+    watch: &Watch,
+    script: &Script,
+    mut players: Vec<Player<'a>>,
+) -> Result<Vec<Player<'a>>, AllocError> {
+    let first = script.first.player;
+    let Some(other) = &script.other else {
+        if let Some(player) = players.get_mut(first) {
+            player.play(rt, alloc, &script.first.command);
+        }
+        return Ok(players);
+    };
+    let (low, high) = (first.min(other.player), first.max(other.player));
+    if low == high || high >= players.len() {
+        return Ok(players);
     }
-    if let Some(other) = &script.other
-        && other.player == place
-        && watch.wait_for_hold()
-    {
-        player.play(rt, alloc, &other.command);
-        watch.let_go();
-    }
+    let last = players.remove(high);
+    let before = players.remove(low);
+    let (held, free) = if first == low {
+        (before, last)
+    } else {
+        (last, before)
+    };
+    let held = (held, script.first.command);
+    let (held, free) = play_both(rt, alloc, watch, held, (free, other.command));
+    players.push(held)?;
+    players.push(free)?;
+    Ok(players)
 }
 
 /// Plays the script on a store, held before the last of these steps of the call of the row.
@@ -120,9 +197,7 @@ pub(crate) fn play_store<R: Threads + Wait + Sync>(
         player: script.first.player,
         steps,
     };
-    let Ok(watch) = Watch::new(alloc, hold) else {
-        return Err(Wrong::Memory);
-    };
+    let watch = Watch::new(alloc, hold)?;
     let Ok(opened) = open_paced(alloc, SIZES, watch) else {
         return Err(Wrong::Memory);
     };
@@ -131,9 +206,7 @@ pub(crate) fn play_store<R: Threads + Wait + Sync>(
         seats,
         merger,
     } = opened;
-    let Ok(mut players) = seat_all(alloc, &store, seats, merger) else {
-        return Err(Wrong::Memory);
-    };
+    let mut players = seat_all(alloc, &store, seats, merger)?;
     for turn in &script.state {
         if let Some(player) = players.get_mut(turn.player) {
             player.play(rt, alloc, &turn.command);
@@ -141,36 +214,47 @@ pub(crate) fn play_store<R: Threads + Wait + Sync>(
     }
     let watch = store.pace();
     watch.open();
-    thread::for_each_mut(rt, &mut players, 8, &|place, player| {
-        play_part(rt, alloc, script, watch, place, player);
-    });
-    match gather(alloc, watch, script, players) {
-        Ok(Some(played)) => Ok(played),
-        _ => Err(Wrong::Memory),
-    }
+    let players = play_row(rt, alloc, watch, script, players)?;
+    gather(alloc, watch, script, players)
 }
 
+/// What the store came to.
 fn gather(
     alloc: Global,
     watch: &Watch,
     script: &Script,
     players: Vec<Player>,
-) -> Result<Option<Played>, AllocError> {
+) -> Result<Played, Wrong> {
     let mut records = Vec::new(alloc);
-    for player in players {
-        if player.is_starved {
-            return Ok(None);
-        }
-        let mut more = player.records;
-        records.append(&mut more)?;
+    for seat in [FIRST, OTHER] {
+        append(&mut records, &players, seat)?;
     }
     let other = match &script.other {
         Some(other) => watch.steps(alloc, other.player)?,
         None => Vec::new(alloc),
     };
-    Ok(Some(Played {
+    Ok(Played {
         first: watch.steps(alloc, script.first.player)?,
         other,
         records,
-    }))
+    })
+}
+
+/// Puts the records of the player with this number behind the others.
+fn append(
+    records: &mut Vec<CallRecord>,
+    players: &[Player],
+    number: usize,
+) -> Result<(), Wrong> {
+    for player in players {
+        if player.is_starved {
+            return Err(Wrong::Memory);
+        }
+        if player.number == number {
+            for record in &player.records {
+                records.push(record.clone()?)?;
+            }
+        }
+    }
+    Ok(())
 }

@@ -1,16 +1,17 @@
 //! Who plays on the store: its seats, and its merger.
 ghost use Rattle.std.specs.Prelude.{◌≡◌, All};
 
-use crate::steps::command::Command;
+use crate::steps::command::{Command, MERGER};
 use crate::steps::watch::Watch;
 use clsm_model::{CallRecord, Deal, Deed, Members, Time};
-use clsm_store::{Caller, Clean, Got, Merger, Rmw, Scan, Seat, Store};
+use clsm_store::{Caller, Clean, Got, Merger, Page, Rmw, Scan, Seat, Store};
 use std::alloc::{AllocError, Global};
 use std::sync::Wait;
 
 /// A seat with its caller, or the merger.
 #[derive(Drop)]
 pub(crate) struct Player<'a> {
+    pub(crate) number: usize,
     caller: Option<Caller<'a, Watch>>,
     merger: Option<Merger<'a, Watch>>,
     /// The records of the calls that were answered.
@@ -22,10 +23,12 @@ pub(crate) struct Player<'a> {
 impl<'a> Player<'a> {
     fn new(
         alloc: Global,
+        number: usize,
         caller: Option<Caller<'a, Watch>>,
         merger: Option<Merger<'a, Watch>>,
     ) -> Player<'a> {
         Player {
+            number,
             caller,
             merger,
             records: Vec::new(alloc),
@@ -35,18 +38,14 @@ impl<'a> Player<'a> {
 
     /// Plays the command, if it is one of this player.
     pub(crate) fn play<R: Wait>(&mut self, rt: &R, alloc: Global, command: &Command) {
-        match command {
-            Command::Call(deal) => self.call(rt, alloc, deal),
-            _ => self.merge(rt, command),
+        if let Some(merger) = self.merger.take() {
+            self.merger = Some(merge(rt, merger, command));
+            return;
         }
-    }
-
-    /// Makes the call, and keeps its record.
-    fn call<R: Wait>(&mut self, rt: &R, alloc: Global, deal: &Deal) {
         let Some(caller) = &mut self.caller else {
             return;
         };
-        let Ok(answered) = answer(rt, alloc, caller, deal) else {
+        let Ok(answered) = answer(rt, alloc, caller, command) else {
             self.is_starved = true;
             return;
         };
@@ -55,18 +54,15 @@ impl<'a> Player<'a> {
             self.is_starved = self.records.push(record).is_err() || self.is_starved;
         }
     }
+}
 
-    /// Plays the command of the merger.
-    fn merge<R: Wait>(&mut self, rt: &R, command: &Command) {
-        let Some(merger) = self.merger.take() else {
-            return;
-        };
-        let (merger, _) = match command {
-            Command::Freeze => (merger.freeze(rt).0, ()),
-            Command::Merge => (merger.merge().0, ()),
-            _ => (merger.reclaim().0, ()),
-        };
-        self.merger = Some(merger);
+/// Plays the command of the merger.
+fn merge<'a, R: Wait>(rt: &R, merger: Merger<'a, Watch>, command: &Command) -> Merger<'a, Watch> {
+    match command {
+        Command::Freeze => merger.freeze(rt).0,
+        Command::Merge => merger.merge().0,
+        Command::Reclaim => merger.reclaim().0,
+        Command::Call(_) | Command::Page { .. } => merger,
     }
 }
 
@@ -81,6 +77,39 @@ fn members_of(alloc: Global, deal: &Deal) -> Result<Members, AllocError> {
 
 /// Makes the call. Answers its time and what it did; none where it is refused.
 fn answer<R: Wait>(
+    rt: &R,
+    alloc: Global,
+    caller: &mut Caller<Watch>,
+    command: &Command,
+) -> Result<Option<(Time, Deed)>, AllocError> {
+    match command {
+        Command::Call(deal) => answer_deal(rt, alloc, caller, deal),
+        Command::Page { from, hi, max } => page(alloc, caller, *from, *hi, *max),
+        Command::Freeze | Command::Merge | Command::Reclaim => Ok(None),
+    }
+}
+
+fn page(
+    alloc: Global,
+    caller: &mut Caller<Watch>,
+    from: u64,
+    hi: u64,
+    max: u64,
+) -> Result<Option<(Time, Deed)>, AllocError> {
+    let Ok(Page { time, rows, more }) = caller.page(alloc, from, hi, max as usize) else {
+        return Err(AllocError);
+    };
+    let deed = Deed::Page {
+        from,
+        hi,
+        max,
+        rows,
+        more,
+    };
+    Ok(Some((time, deed)))
+}
+
+fn answer_deal<R: Wait>(
     rt: &R,
     alloc: Global,
     caller: &mut Caller<Watch>,
@@ -152,8 +181,8 @@ pub(crate) fn seat_all<'a>(
     let mut players = Vec::with_capacity(alloc, seats.len())?;
     for seat in seats {
         let caller = Caller::new(store, seat);
-        players.push(Player::new(alloc, Some(caller), None))?;
+        players.push(Player::new(alloc, players.len(), Some(caller), None))?;
     }
-    players.push(Player::new(alloc, None, Some(merger)))?;
+    players.push(Player::new(alloc, MERGER, None, Some(merger)))?;
     Ok(players)
 }

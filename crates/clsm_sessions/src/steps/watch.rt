@@ -1,5 +1,5 @@
 //! The pace of the store: it notes each step, and holds one call before one of its steps.
-use clsm_store::{Kind, Pace};
+use clsm_words::{Kind, Pace};
 use std::alloc::{AllocError, Global};
 use std::sync::OnceLock;
 use std::sync::atomic::Ordering::SeqCst;
@@ -7,7 +7,7 @@ use std::sync::atomic::AtomicU64;
 use std::thread;
 
 /// How many steps are noted.
-const ROOM: u64 = 1000;
+const ROOM: u64 = 500;
 
 /// How often a thread looks for its turn before it goes on without it.
 const TURNS: u64 = 10_000_000;

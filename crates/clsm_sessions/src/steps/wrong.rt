@@ -1,4 +1,4 @@
-use clsm_store::Kind;
+use clsm_words::Kind;
 use std::alloc::{AllocError, AllocFailed};
 
 /// Why a row is not played to its end.
