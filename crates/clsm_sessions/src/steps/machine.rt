@@ -65,7 +65,10 @@ impl Machine {
     }
 
     fn begin(&self, turn: &Turn) -> Begun {
-        let number = self.callers.get(turn.player).map_or(0, |caller| caller.number());
+        let number = self
+            .callers
+            .get(turn.player as usize)
+            .map_or(0, |caller| caller.number());
         Begun {
             turn: *turn,
             number,
@@ -73,8 +76,9 @@ impl Machine {
     }
 
     /// The next step of the one with this number.
-    fn next(&self, player: usize) -> Result<Option<Step>, Wrong> {
-        let next = match (self.callers.get(player), self.deals.get(player)) {
+    fn next(&self, player: u32) -> Result<Option<Step>, Wrong> {
+        let place = player as usize;
+        let next = match (self.callers.get(place), self.deals.get(place)) {
             (Some(caller), Some(deals)) => caller.next(self.alloc, &self.layout, deals.as_slice()),
             _ => self.merging.next(self.alloc, &self.layout),
         };
@@ -87,8 +91,11 @@ impl Machine {
 
     /// Whether the call is over.
     fn is_over(&self, begun: &Begun) -> Result<bool, Wrong> {
-        Ok(match begun.turn.command {
-            Command::Call(_) | Command::Page { .. } => match self.callers.get(begun.turn.player) {
+        Ok(match &begun.turn.command {
+            Command::Call(_) | Command::Page { .. } => match self
+                .callers
+                .get(begun.turn.player as usize)
+            {
                 Some(caller) => caller.number() != begun.number,
                 None => true,
             },
@@ -110,21 +117,21 @@ impl Machine {
     }
 
     /// Makes the step of the one with this number.
-    fn make(&mut self, player: usize, step: Step) -> Result<(), Wrong> {
+    fn make(&mut self, player: u32, step: Step) -> Result<(), Wrong> {
         let made = Made {
             player,
             kind: kind_of(&step),
             is_vain: self.is_vain(&step),
         };
         let kind = made.kind;
-        let seat = player as u32;
-        let answer = match self.world.step(Event { seat, step }) {
+        let answer = match self.world.step(Event { seat: player, step }) {
             Ok(answer) => answer,
             Err(StepError::NotAllowed) => return Err(Wrong::Refused(kind)),
             Err(StepError::Memory) => return Err(Wrong::Memory),
         };
+        let place = player as usize;
         let (alloc, layout) = (self.alloc, &self.layout);
-        let taken = match (self.callers.get_mut(player), self.deals.get(player)) {
+        let taken = match (self.callers.get_mut(place), self.deals.get(place)) {
             (Some(caller), Some(deals)) => {
                 caller.take(&AsCalled, alloc, layout, deals.as_slice(), answer)
             }
@@ -195,7 +202,7 @@ impl Machine {
     }
 
     /// The steps that the one with this number made since the state was.
-    pub(crate) fn steps(&self, player: usize) -> Result<Vec<Made>, Wrong> {
+    pub(crate) fn steps(&self, player: u32) -> Result<Vec<Made>, Wrong> {
         let mut steps = Vec::new(self.alloc);
         for made in &self.made {
             if made.player == player && steps.push(*made).is_err() {
@@ -206,7 +213,7 @@ impl Machine {
     }
 
     /// The records of a seat.
-    pub(crate) fn records(&self, seat: usize) -> &[CallRecord] {
-        self.world.calls(seat as u32)
+    pub(crate) fn records(&self, seat: u32) -> &[CallRecord] {
+        self.world.calls(seat)
     }
 }

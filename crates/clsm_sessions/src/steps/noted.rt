@@ -8,7 +8,7 @@ use std::alloc::{AllocError, Global};
 /// A step that the machine made, and the number of who made it.
 #[derive(Clone, Copy)]
 pub(crate) struct Made {
-    pub(crate) player: usize,
+    pub(crate) player: u32,
     pub(crate) kind: Kind,
     /// Whether it stores in an entry of a run the word that is there.
     pub(crate) is_vain: bool,
@@ -157,7 +157,8 @@ pub(crate) fn shared(
 ) -> Result<Vec<usize>, AllocError> {
     let mut places = Vec::new(alloc);
     let mut searches = false;
-    for (place, made) in steps.iter().enumerate() {
+    for place in 0..steps.len() {
+        let made = &steps[place];
         let is_own = searches && search.is_own(made.kind);
         if !is_own && !made.is_vain && !is_of_runs(made.kind) && !is_of_walk(&steps[place..]) {
             places.push(place)?;
@@ -184,11 +185,8 @@ pub(crate) fn differ(search: Search, store: &[Kind], machine: &[Kind]) -> Option
     for kind in store {
         let next = machine.get(place).copied();
         if next == Some(*kind) {
-            place += 1;
-        } else if !is_of_hints(*kind)
-            && !is_of_runs(*kind)
-            && !(searches && is_of_search(*kind))
-        {
+            place = place.saturating_add(1);
+        } else if !is_of_hints(*kind) && !is_of_runs(*kind) && !(searches && is_of_search(*kind)) {
             let store = Some(*kind);
             return Some(Difference {
                 place,

@@ -161,14 +161,15 @@ fn play_row<'a, R: Threads + Wait + Sync>(
     script: &Script,
     mut players: Vec<Player<'a>>,
 ) -> Result<Vec<Player<'a>>, AllocError> {
-    let first = script.first.player;
+    let first = script.first.player as usize;
     let Some(other) = &script.other else {
         if let Some(player) = players.get_mut(first) {
             player.play(rt, alloc, &script.first.command);
         }
         return Ok(players);
     };
-    let (low, high) = (first.min(other.player), first.max(other.player));
+    let second = other.player as usize;
+    let (low, high) = (first.min(second), first.max(second));
     if low == high || high >= players.len() {
         return Ok(players);
     }
@@ -208,7 +209,7 @@ pub(crate) fn play_store<R: Threads + Wait + Sync>(
     } = opened;
     let mut players = seat_all(alloc, &store, seats, merger)?;
     for turn in &script.state {
-        if let Some(player) = players.get_mut(turn.player) {
+        if let Some(player) = players.get_mut(turn.player as usize) {
             player.play(rt, alloc, &turn.command);
         }
     }
@@ -241,11 +242,7 @@ fn gather(
 }
 
 /// Puts the records of the player with this number behind the others.
-fn append(
-    records: &mut Vec<CallRecord>,
-    players: &[Player],
-    number: usize,
-) -> Result<(), Wrong> {
+fn append(records: &mut Vec<CallRecord>, players: &[Player], number: u32) -> Result<(), Wrong> {
     for player in players {
         if player.is_starved {
             return Err(Wrong::Memory);

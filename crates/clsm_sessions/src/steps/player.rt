@@ -11,7 +11,7 @@ use std::sync::Wait;
 /// A seat with its caller, or the merger.
 #[derive(Drop)]
 pub(crate) struct Player<'a> {
-    pub(crate) number: usize,
+    pub(crate) number: u32,
     caller: Option<Caller<'a, Watch>>,
     merger: Option<Merger<'a, Watch>>,
     /// The records of the calls that were answered.
@@ -23,7 +23,7 @@ pub(crate) struct Player<'a> {
 impl<'a> Player<'a> {
     fn new(
         alloc: Global,
-        number: usize,
+        number: u32,
         caller: Option<Caller<'a, Watch>>,
         merger: Option<Merger<'a, Watch>>,
     ) -> Player<'a> {
@@ -154,7 +154,10 @@ fn read(
 
 fn write<R: Wait>(rt: &R, caller: &mut Caller<Watch>, deal: &Deal) -> Option<(Time, Deed)> {
     match *deal {
-        Deal::Put { key, value } => Some((caller.put(rt, key, value).ok()?, Deed::Put { key, value })),
+        Deal::Put { key, value } => Some((
+            caller.put(rt, key, value).ok()?,
+            Deed::Put { key, value },
+        )),
         Deal::Remove { key } => Some((caller.remove(rt, key).ok()?, Deed::Remove { key })),
         Deal::Add { key, by } => changed(key, caller.add(rt, key, by).ok()?),
         Deal::Claim { key, value } => changed(key, caller.put_if_absent(rt, key, value).ok()?),
@@ -180,8 +183,9 @@ pub(crate) fn seat_all<'a>(
     let merger = Merger::new(store, merger);
     let mut players = Vec::with_capacity(alloc, seats.len())?;
     for seat in seats {
+        let number = seat.number();
         let caller = Caller::new(store, seat);
-        players.push(Player::new(alloc, players.len(), Some(caller), None))?;
+        players.push(Player::new(alloc, number, Some(caller), None))?;
     }
     players.push(Player::new(alloc, MERGER, None, Some(merger)))?;
     Ok(players)

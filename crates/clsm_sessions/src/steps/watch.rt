@@ -2,8 +2,8 @@
 use clsm_words::{Kind, Pace};
 use std::alloc::{AllocError, Global};
 use std::sync::OnceLock;
-use std::sync::atomic::Ordering::SeqCst;
 use std::sync::atomic::AtomicU64;
+use std::sync::atomic::Ordering::SeqCst;
 use std::thread;
 
 /// How many steps are noted.
@@ -34,7 +34,7 @@ struct Noted {
 /// Who is held, and before the last of these steps.
 #[derive(Drop)]
 pub(crate) struct Hold {
-    pub(crate) player: usize,
+    pub(crate) player: u32,
     pub(crate) steps: Vec<Kind>,
 }
 
@@ -99,11 +99,11 @@ impl Watch {
     }
 
     /// The steps that the one with this number made.
-    pub(crate) fn steps(&self, alloc: Global, player: usize) -> Result<Vec<Kind>, AllocError> {
+    pub(crate) fn steps(&self, alloc: Global, player: u32) -> Result<Vec<Kind>, AllocError> {
         let mut steps = Vec::new(alloc);
         for place in &self.noted {
             if let Some(noted) = place.get()
-                && noted.player == player as u64
+                && noted.player == u64::from(player)
             {
                 steps.push(noted.kind)?;
             }
@@ -136,7 +136,7 @@ impl Pace for Watch {
             return;
         }
         self.note(seat, kind);
-        if seat == self.hold.player as u64 && self.is_at_hold(kind) {
+        if seat == u64::from(self.hold.player) && self.is_at_hold(kind) {
             self.wait_while(HELD);
             self.let_go();
         }
