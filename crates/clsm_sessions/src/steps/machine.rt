@@ -64,14 +64,25 @@ impl Machine {
         })
     }
 
+    /// How many of its calls the seat has played; none where it is the merger.
+    fn played(&self, player: u32) -> usize {
+        let place = player as usize;
+        let (Some(caller), Some(deals)) = (self.callers.get(place), self.deals.get(place)) else {
+            return 0;
+        };
+        let mut count = 0;
+        for number in 1..=deals.len() {
+            if caller.is_over(&deals[..number]) {
+                count = number;
+            }
+        }
+        count
+    }
+
     fn begin(&self, turn: &Turn) -> Begun {
-        let number = self
-            .callers
-            .get(turn.player as usize)
-            .map_or(0, |caller| caller.number());
         Begun {
             turn: *turn,
-            number,
+            number: self.played(turn.player),
         }
     }
 
@@ -92,13 +103,9 @@ impl Machine {
     /// Whether the call is over.
     fn is_over(&self, begun: &Begun) -> Result<bool, Wrong> {
         Ok(match &begun.turn.command {
-            Command::Call(_) | Command::Page { .. } => match self
-                .callers
-                .get(begun.turn.player as usize)
-            {
-                Some(caller) => caller.number() != begun.number,
-                None => true,
-            },
+            Command::Call(_) | Command::Page { .. } => {
+                self.played(begun.turn.player) != begun.number
+            }
             Command::Freeze => self.merged == Some(Kind::LeaveExclusive),
             Command::Merge => self.merged == Some(Kind::Publish),
             Command::Reclaim => self.next(MERGER)?.is_none(),
