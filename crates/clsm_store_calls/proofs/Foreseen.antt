@@ -1,5 +1,5 @@
 -- A batch behind the looks ahead for it.
-use Rattle.std.proofs.Common.{◌≡◌, ◌∙◌, ℕ, ◌++◌, ◌∷◌, [], List, length, ap, refl, subst, arith, Result, Ok, Err, IfOk, IfErr}
+use Rattle.std.proofs.Common.{◌≡◌, ◌∙◌, ℕ, ◌++◌, ◌∷◌, [], List, ap, refl, subst, arith, Result, Ok, Err, IfOk, IfErr}
 use Rattle.clsm_model.specs.declared.record.CallRecord.{CallRecord}
 use Rattle.clsm_model.specs.declared.record.Deed.TheVariants.{Batch as Group}
 use Rattle.clsm_model.specs.Right.{Member}

@@ -52,6 +52,8 @@ pub(crate) fn kind_of(step: &Step) -> Kind {
 pub(crate) enum Search {
     /// The place of a write in its list.
     Place,
+    /// The places of a batch's members, before its hold of the lock too.
+    Members,
     /// The rows of a scan.
     Rows,
     /// The writes of an epoch that is merged.
@@ -64,12 +66,9 @@ impl Search {
         match command {
             Command::Call(Deal::Scan { .. }) | Command::Page { .. } => Search::Rows,
             Command::Call(
-                Deal::Put { .. }
-                | Deal::Remove { .. }
-                | Deal::Add { .. }
-                | Deal::Claim { .. }
-                | Deal::Batch { .. },
+                Deal::Put { .. } | Deal::Remove { .. } | Deal::Add { .. } | Deal::Claim { .. },
             ) => Search::Place,
+            Command::Call(Deal::Batch { .. }) => Search::Members,
             Command::Merge => Search::Epoch,
             _ => Search::Nothing,
         }
@@ -78,8 +77,10 @@ impl Search {
     /// Whether the call searches behind a step of this kind, if it did so before it or not.
     fn goes_on(self, kind: Kind, searches: bool) -> bool {
         match (self, kind) {
-            (Search::Place, Kind::Draw | Kind::EnterExclusive) => true,
-            (Search::Place, Kind::LeaveShared | Kind::LeaveExclusive) => false,
+            (Search::Place, Kind::Draw) => true,
+            (Search::Place, Kind::LeaveShared) => false,
+            (Search::Members, Kind::Look(Word::Clock) | Kind::EnterExclusive) => true,
+            (Search::Members, Kind::Unpin | Kind::LeaveExclusive) => false,
             (Search::Rows, Kind::RaiseFront | Kind::Look(Word::Merged)) => true,
             (Search::Rows, Kind::Look(Word::Clock)) => false,
             (Search::Epoch, Kind::Look(Word::Snap(_))) => true,

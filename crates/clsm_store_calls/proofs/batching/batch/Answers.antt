@@ -1,4 +1,4 @@
-use Rattle.std.proofs.Common.{ℕ, ap, sym, subst, ◌∙◌}
+use Rattle.std.proofs.Common.{ℕ, ap, arith, sym, subst, ◌∙◌}
 use Rattle.clsm_model.specs.declared.record.Deed.TheVariants.{Batch as Group}
 use Rattle.clsm_model.specs.Seats.{FitsDeed}
 use Rattle.clsm_law.specs.declared.layout.Layout.{Layout}
@@ -30,3 +30,10 @@ returns-clause-counts g c =
     counts_behind c.args.seat.now.knows c.foresee_members.new.seat.knows c.batch_alone.new.seat.knows c.args.members.now
     c.foresee_members.ensures.foresees
     c.batch_alone.result c.batch_alone.ensures.counts
+
+pub returns-clause-pin : goal.returns-clause-pin
+returns-clause-pin g c =
+    let ahead = c.foresee_members.ensures.pin in
+    let behind = pin_behind c.args.seat.now.knows c.foresee_members.new.seat.knows c.batch_alone.new.seat.knows c.args.members.now
+    c.foresee_members.ensures.foresees c.batch_alone.result c.batch_alone.ensures.written c.batch_alone.ensures.refused in
+    omega (arith, ahead, behind)
