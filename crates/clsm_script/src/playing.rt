@@ -80,8 +80,8 @@ where
     W: Write + Drop,
     E: Write,
     ensures opened { OnOk result (IsSound config) }
-    ensures played { OnOk result (IfSome (R.remaining streams.input) IsScript) }
-    ensures stopped { IfErr result (StopsScript config (R.remaining streams.input)) }
+    ensures played { OnOk result (IfSome (R.remaining streams.entry.input) IsScript) }
+    ensures stopped { IfErr result (StopsScript config (R.remaining streams.entry.input)) }
 {
     let Streams {
         input,
