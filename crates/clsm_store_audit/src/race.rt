@@ -65,15 +65,15 @@ fn race<R: Threads + Wait + Sync>(
     ensures got { let got = result.1.1 in
         Answers (newcomer store.now 1) result.1.0 got.time (Get write.now.key got.value) }
 {
-    let key = write.key;
+    let Write { key, value } = *write;
     let reader = seats.pop().unwrap();
     let writer = seats.pop().unwrap();
     join(
         rt,
         || -> Result<(Seat, Time), Full>
             requires { writer.store ≡ store.now }
-            ensures { IfOk result (λ done. Answers writer done.0 done.1 (Put write.now.key write.now.value)) }
-        { write_once(rt, store, writer, write) },
+            ensures { IfOk result (λ done. Answers writer done.0 done.1 (Put key value)) }
+        { write_once(rt, store, writer, &Write { key, value }) },
         || -> (Seat, Got)
             requires { reader.store ≡ store.now }
             ensures { Answers reader result.0 result.1.time (Get key result.1.value) }
