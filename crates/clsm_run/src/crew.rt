@@ -120,7 +120,7 @@ where
     E: Write + Send,
     requires seats { All (λ seat. seat.store ≡ crew.store.now) crew.seats.items }
     requires merger { crew.merger.merger.store ≡ crew.store.now }
-    ensures { IfOk result.0 (λ worked. AreWorked crew.seats.items worked.items) }
+    ensures { IfOk result.0 (λ worked. AreWorked crew.entry.seats.items worked.items) }
 {
     let Crew {
         store,

@@ -62,7 +62,7 @@ pub(crate) fn remove<'a, R: Wait>(
 }
 
 /// As `SessionCaller::rmw`.
-#[tactic(auto, using(crate::proofs::Waiting::refuses_self, crate::proofs::Waiting::refuses_trans, crate::proofs::Waiting::answers_after, crate::proofs::Waiting::full_after, crate::proofs::Waiting::spared_self, crate::proofs::Waiting::spared_trans))]
+#[tactic(auto, using(crate::proofs::Waiting::refuses_self, crate::proofs::Waiting::refuses_trans, crate::proofs::Waiting::answers_after, crate::proofs::Waiting::full_after, crate::proofs::Waiting::spared_self))]
 pub(crate) fn rmw<'a, R: Wait, F: Fn(Option<Value>) -> Change>(
     rt: &R,
     board: &Board,
@@ -90,7 +90,7 @@ pub(crate) fn rmw<'a, R: Wait, F: Fn(Option<Value>) -> Change>(
 }
 
 /// As `SessionCaller::add`.
-#[tactic(auto, using(crate::proofs::Waiting::refuses_self, crate::proofs::Waiting::refuses_trans, crate::proofs::Waiting::answers_after, crate::proofs::Waiting::full_after, crate::proofs::Waiting::spared_self, crate::proofs::Waiting::spared_trans))]
+#[tactic(auto, using(crate::proofs::Waiting::refuses_self, crate::proofs::Waiting::refuses_trans, crate::proofs::Waiting::answers_after, crate::proofs::Waiting::full_after, crate::proofs::Waiting::spared_self))]
 pub(crate) fn add<'a, R: Wait>(
     rt: &R,
     board: &Board,
@@ -117,7 +117,7 @@ pub(crate) fn add<'a, R: Wait>(
 }
 
 /// As `SessionCaller::put_if_absent`.
-#[tactic(auto, using(crate::proofs::Waiting::refuses_self, crate::proofs::Waiting::refuses_trans, crate::proofs::Waiting::answers_after, crate::proofs::Waiting::full_after, crate::proofs::Waiting::spared_self, crate::proofs::Waiting::spared_trans))]
+#[tactic(auto, using(crate::proofs::Waiting::refuses_self, crate::proofs::Waiting::refuses_trans, crate::proofs::Waiting::answers_after, crate::proofs::Waiting::full_after, crate::proofs::Waiting::spared_self))]
 pub(crate) fn put_if_absent<'a, R: Wait>(
     rt: &R,
     board: &Board,
