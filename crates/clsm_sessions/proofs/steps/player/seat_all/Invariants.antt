@@ -3,4 +3,4 @@ use Rattle.std.specs.Prelude.{All}
 use Rattle.clsm_sessions.proofs.steps.player.seat_all.Given as goal
 
 abbrev pub invariant-loop-seat : goal.invariant-loop-seat
-invariant-loop-seat g l = All (λ seat. seat.store ≡ l.store) l.seat-iterator.rest.items
+invariant-loop-seat l = All (λ seat. seat.store ≡ l.store) l.seat-iterator.rest.items
