@@ -34,18 +34,21 @@ impl Job for Count {
     }
 }
 
-/// Counts in a store, and prints what it then holds.
+/// Counts in a store, and prints what each of its seats then reads.
 fn try_example<R: Threads + Sync + Wait + Print + AllocGlobal>(rt: &R) -> Option<()> {
     let Ended {
         store,
         seats,
         answers,
     } = with_store(rt, rt.alloc(), SIZES, &Count).ok()?;
-    let mut caller = Caller::new(&store, seats.into_iter().next()?);
-    let counts = caller.scan(rt.alloc(), 0, u64::MAX).ok()?;
     println!(rt; "{answers:?}").ok()?;
-    for (length, count) in counts.rows.as_slice() {
-        println!(rt; "{length} letters: {}", count.first()).ok()?;
+    for seat in seats {
+        println!(rt; "seat {}", seat.number()).ok()?;
+        let mut caller = Caller::new(&store, seat);
+        let counts = caller.scan(rt.alloc(), 0, u64::MAX).ok()?;
+        for (length, count) in counts.rows.as_slice() {
+            println!(rt; "{length} letters: {}", count.first()).ok()?;
+        }
     }
     Some(())
 }
