@@ -168,7 +168,7 @@ pub(crate) fn note_look(layout: &Layout, view: &mut View, word: Word, found: u64
     match word {
         Word::Lock => note_lock(view, found),
         Word::Clock => note_clock(view, found),
-        Word::Limit if holds_lock(view) => view.hold_limit = Some(found),
+        Word::Limit => view.hold_limit = Some(found),
         Word::Front => view.reached = view.reached.max(found),
         Word::Merged => note_merged(layout, view, found),
         Word::Head { region, chain } if holds_lock(view) => {

@@ -33,18 +33,13 @@ limit_entered : (s : Setting) (kind : Mode) (b : Bool) (k : ℕ) → cond b kind
 limit_entered s kind true k m e = absurd cc
 limit_entered s kind false k m e = s.law.limits s.me k m e
 
--- a look in a hold notes the word
-limit_seen : (s : Setting) (b : Bool) (k : ℕ) → (v s).mode ≢ Free → cond b (Some (s.memory Limit)) (v s).hold_limit ≡ Some k → k ≡ s.memory Limit
-limit_seen s true k m e = cc
-limit_seen s false k m e = s.law.limits s.me k m e
-
 pub limits_kept : (s : Setting) (step : Step) → Opens s step → AreLimits (each s.z mode_of (V s step)) (each s.z hold_limit_of (V s step)) (M s step Limit)
 limits_kept s (EnterShared l) o = limits_by s (EnterShared l) (limit_entered s Shared (x s (EnterShared l) == l))
 limits_kept s EnterExclusive o = limits_by s EnterExclusive (limit_entered s Exclusive (x s EnterExclusive == 0))
 limits_kept s LeaveShared o = limits_by s LeaveShared (λ k m e. absurd (m refl))
 limits_kept s LeaveExclusive o = limits_by s LeaveExclusive (λ k m e. absurd (m refl))
 limits_kept s (Fill Key n) o = limits_by s (Fill Key n) (s.law.limits s.me)
-limits_kept s (Look Limit) o = limits_by s (Look Limit) (limit_seen s (holds_lock (v s)))
+limits_kept s (Look Limit) o = limits_by s (Look Limit) (λ k m e. cc)
 limits_kept s step o = limits_by s step (s.law.limits s.me)
 
 pub limits_merged : (g : Ground) (step : Step) → OpensTo g step → AreLimits (each g.z mode_of g.views) (each g.z hold_limit_of g.views) (memory' g step Limit)

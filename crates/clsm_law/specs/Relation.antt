@@ -283,8 +283,8 @@ looked z v Clock x = record v {
   pin_clock = cond v.pinned (Some x) v.pin_clock;
   snapshot = timed_by v.snapshot x;
 }
--- the limit of the hold, where there is one
-looked z v Limit x = record v { hold_limit = cond (holds_lock v) (Some x) v.hold_limit }
+-- that is the limit which it looked at last; an entry into the lock blots it out
+looked z v Limit x = record v { hold_limit = Some x }
 -- each time below it is decided
 looked z v Front x = record v { reached = max v.reached x }
 -- the first one under a pin gives the component held, and the times before that are decided

@@ -49,7 +49,7 @@ pub struct View {
     pub fresh_lock: Option<u64>,
     pub fresh_clock: Option<Time>,
     pub fresh_heads: Items<Option<u64>>,
-    /// The looks at LIMIT and CLOCK in the last hold of the lock.
+    /// The last look at LIMIT, unless the lock was taken since; and the last one at CLOCK in a hold.
     pub hold_limit: Option<Time>,
     pub hold_clock: Option<Time>,
     /// The time that it drew and has not decided, the parts of its cell that it filled, and whether

@@ -33,16 +33,13 @@ unfree Exclusive ne = refl
 pub shared_holds : (m : Mode) → m ≡ Shared → m ≢ Free
 shared_holds m shared free = absurd cc
 
--- the view after a look at the limit, in a hold of the lock
+-- the view after a look at the limit
 abbrev with_limit : View → ℕ → View
 with_limit v limit = record v { hold_limit = Some limit }
 
 -- and after one at the clock
 abbrev with_clock : View → ℕ → View
 with_clock v time = record v { fresh_clock = Some time; hold_clock = Some time; clock = Some time; pin_clock = cond v.pinned (Some time) v.pin_clock }
-
-limit_seen : (z : Layout) (v : View) (x : ℕ) → v.mode ≢ Free → looked z v Limit x ≡ with_limit v x
-limit_seen z v x holds = ap (λ (b : Bool). record v { hold_limit = cond (not b) (Some x) v.hold_limit }) (unfree v.mode holds)
 
 clock_seen : (z : Layout) (v : View) (x : ℕ) → v.mode ≢ Free → IsUnnoted v.snapshot → looked z v Clock x ≡ with_clock v x
 clock_seen z v x holds unnoted =
@@ -53,7 +50,7 @@ module _ (k k1 k2 : Known) (limit time : ℕ) (sound : Sound k) (holds : k.view.
     (a : Follows (Look Limit) k limit k1) (b : Follows (Look Clock) k1 time k2) where
   both_seen : k2.view ≡ with_clock (with_limit k.view limit) time
   both_seen = b.view
-      ∙ ap (λ (v : View). looked k1.layout v Clock time) (a.view ∙ limit_seen k.layout k.view limit holds)
+      ∙ ap (λ (v : View). looked k1.layout v Clock time) a.view
       ∙ clock_seen k1.layout (with_limit k.view limit) time holds unnoted
 
   both_place : KeepsPlace k k2

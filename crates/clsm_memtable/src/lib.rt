@@ -28,7 +28,7 @@ pub use chain::Raced;
 pub use clock::{DrawError, Room, draw, look_room};
 pub use entering::{enter, prefetch, try_enter};
 pub use filling::fill;
-pub use foreseeing::{Lookahead, foresee};
+pub use foreseeing::Lookahead;
 pub use found::Found;
 pub use frozen::frozen_value;
 pub use frozen_walk::{FrozenWalk, next_write};

@@ -1,17 +1,17 @@
 -- The sizes of a store: their ranges, and what is answered where one is out of its range.
-use Rattle.std.specs.Prelude.{ℕ, ◌≤◌, Result, Ok, Err}
+use Rattle.std.specs.Prelude.{◌≡◌, ℕ, ◌≤◌, Result, Ok, Err}
 use Rattle.clsm_model.specs.declared.config.Config.{Config}
 use Rattle.clsm_model.specs.declared.config.OpenError.{OpenError}
 use Rattle.clsm_model.specs.declared.config.OpenError.TheVariants.{Cells, Seats, Shards, Run, Memory, Patience}
 
 -- the number of a refusal
 abbrev pub number_of : OpenError → ℕ
-number_of Cells = 1
-number_of Seats = 2
-number_of Shards = 3
-number_of Run = 4
+number_of (Cells n) = 1
+number_of (Seats n) = 2
+number_of (Shards n) = 3
+number_of (Run n) = 4
 number_of Memory = 5
-number_of Patience = 9
+number_of (Patience n) = 9
 
 -- from low to high, both included
 abbrev pub IsBetween : ℕ → ℕ → ℕ → Type 0
@@ -41,13 +41,13 @@ IsPatience c = c.patience ≤ 64
 abbrev pub IsSound : Config → Type 0
 IsSound c = IsCells c × IsSeats c × IsShards c × IsRunRoom c × IsPatience c
 
--- this is the first size out of its range, in the order cells, seats, shards, run, patience
+-- this is the first size out of its range, as it was given, in the order cells, seats, shards, run, patience
 abbrev pub IsFirstFault : Config → OpenError → Type 0
-IsFirstFault c Cells = ¬ IsCells c
-IsFirstFault c Seats = IsCells c × (¬ IsSeats c)
-IsFirstFault c Shards = IsCells c × IsSeats c × (¬ IsShards c)
-IsFirstFault c Run = IsCells c × IsSeats c × IsShards c × (¬ IsRunRoom c)
-IsFirstFault c Patience = IsCells c × IsSeats c × IsShards c × IsRunRoom c × (¬ IsPatience c)
+IsFirstFault c (Cells n) = (n ≡ c.cells) × (¬ IsCells c)
+IsFirstFault c (Seats n) = (n ≡ c.seats) × IsCells c × (¬ IsSeats c)
+IsFirstFault c (Shards n) = (n ≡ c.shards) × IsCells c × IsSeats c × (¬ IsShards c)
+IsFirstFault c (Run n) = (n ≡ c.run) × IsCells c × IsSeats c × IsShards c × (¬ IsRunRoom c)
+IsFirstFault c (Patience n) = (n ≡ c.patience) × IsCells c × IsSeats c × IsShards c × IsRunRoom c × (¬ IsPatience c)
 IsFirstFault c Memory = ⊥
 
 -- a test of the sizes: all are in their ranges, or the first that is not is named

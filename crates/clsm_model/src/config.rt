@@ -18,21 +18,22 @@ pub struct Config {
     pub patience: usize,
 }
 
-/// Why a store is not opened. Nothing is kept after a refusal.
+/// Why a store is not opened: the first size that is out of its range, as it was given, or memory.
+/// Nothing is kept after a refusal.
 #[derive(Clone, Copy, PartialEq, Eq, Debug, Error)]
 pub enum OpenError {
-    #[error("cells")]
-    Cells,
-    #[error("seats")]
-    Seats,
-    #[error("shards")]
-    Shards,
-    #[error("run")]
-    Run,
-    #[error("memory")]
+    #[error("cells: {0} is not in 4 to 65536")]
+    Cells(usize),
+    #[error("seats: {0} is not in 1 to 64")]
+    Seats(usize),
+    #[error("shards: {0} is not in 1 to 1024")]
+    Shards(usize),
+    #[error("run: {0} is not in 4 to 4194304")]
+    Run(usize),
+    #[error("memory ran out")]
     Memory,
-    #[error("patience")]
-    Patience,
+    #[error("patience: {0} is not in 0 to 64")]
+    Patience(usize),
 }
 
 impl OpenError {
@@ -41,12 +42,12 @@ impl OpenError {
         ensures { result ≡ number_of self }
     {
         match self {
-            OpenError::Cells => 1,
-            OpenError::Seats => 2,
-            OpenError::Shards => 3,
-            OpenError::Run => 4,
+            OpenError::Cells(_) => 1,
+            OpenError::Seats(_) => 2,
+            OpenError::Shards(_) => 3,
+            OpenError::Run(_) => 4,
             OpenError::Memory => 5,
-            OpenError::Patience => 9,
+            OpenError::Patience(_) => 9,
         }
     }
 }
@@ -58,19 +59,19 @@ impl Config {
         ensures { IsChecked self.now result }
     {
         if self.cells < 4 || self.cells > 65_536 {
-            return Err(OpenError::Cells);
+            return Err(OpenError::Cells(self.cells));
         }
         if self.seats < 1 || self.seats > 64 {
-            return Err(OpenError::Seats);
+            return Err(OpenError::Seats(self.seats));
         }
         if self.shards < 1 || self.shards > 1_024 {
-            return Err(OpenError::Shards);
+            return Err(OpenError::Shards(self.shards));
         }
         if self.run < 4 || self.run > 4_194_304 {
-            return Err(OpenError::Run);
+            return Err(OpenError::Run(self.run));
         }
         if self.patience > 64 {
-            return Err(OpenError::Patience);
+            return Err(OpenError::Patience(self.patience));
         }
         Ok(())
     }

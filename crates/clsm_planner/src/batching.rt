@@ -1,7 +1,7 @@
 //! The parts of batches.
 use crate::made::{Made, Stop};
 use crate::place::{Place, Setting, Stage};
-use clsm_law::{End, Step, Word};
+use clsm_law::{Step, Word};
 use clsm_model::{Change, Deal, Members};
 use std::alloc::{AllocError, Global};
 
@@ -20,15 +20,6 @@ fn members_of(alloc: Global, deal: &Deal) -> Result<Members, AllocError> {
 }
 
 impl Place {
-    /// Holds a component while it looks ahead. What hints lead to there is left out.
-    pub(crate) fn foresee(&self, made: &mut Made) -> Result<Place, Stop> {
-        made.step(Step::Pin)?;
-        made.look(Word::Merged)?;
-        made.look(Word::Clock)?;
-        made.step(Step::Unpin(End::Neither))?;
-        Ok(self.at(Stage::Enter))
-    }
-
     /// Takes the lock alone; where it is held, it tries again.
     pub(crate) fn enter_alone(&self, made: &mut Made) -> Result<Place, Stop> {
         if !made.wins(Step::EnterExclusive)? {

@@ -5,8 +5,6 @@ use clsm_model::{Deal, Time, Value};
 /// The parts of calls. Each begins where no step of it was made, and has at least one step.
 #[derive(Clone, Copy, PartialEq, Eq, Hash)]
 pub enum Stage {
-    /// A batch looks ahead under a pin.
-    Foresee,
     /// The lock is taken: alone for a batch, else shared.
     Enter,
     /// A read begins.
@@ -83,7 +81,6 @@ impl Place {
         let stage = match deal {
             Deal::Close => Stage::Close,
             Deal::Get { .. } | Deal::GetAt { .. } | Deal::Snap | Deal::Scan { .. } => Stage::Begin,
-            Deal::Batch { .. } => Stage::Foresee,
             _ => Stage::Enter,
         };
         Place::new(stage)

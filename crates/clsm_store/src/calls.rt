@@ -54,10 +54,9 @@ impl<P: Pace> Store<P> {
 
     /// Writes all members as one batch, at consecutive times in their order, and answers the time of
     /// the first. They become visible together, by one step: no read of any seat is answered between
-    /// them, and of members of one key the last one wins. A batch never spans two epochs. First it
-    /// looks under a pin at where its members belong, as far as 512 of them. Then it holds the lock
-    /// alone, once: it waits for that until no writer is inside, and keeps other writers out
-    /// meanwhile, but no reader. It takes no memory, and gives up no time.
+    /// them, and of members of one key the last one wins. A batch never spans two epochs. It holds
+    /// the lock alone, once: it waits for that until no writer is inside, and keeps other writers
+    /// out meanwhile, but no reader. It takes no memory, and gives up no time.
     ///
     /// Refused, in this order: with `Empty` if there is no member, `TooLong` if there are more
     /// than an epoch has cells, `Keep` if a member keeps its key, each before it enters the lock;
@@ -75,7 +74,7 @@ impl<P: Pace> Store<P> {
         ensures counts { CountsBatch seat.old.tally seat.new.tally result }
         ensures refused { IfErr result (IsRefusedBatch seat.old seat.new members.now) }
     {
-        batch(rt, &self.words, &mut seat.raw, &mut seat.pin, members)
+        batch(rt, &self.words, &mut seat.raw, members)
     }
 
     /// Writes the value at the key as `put`, but tries each exchange once and never waits. Refused

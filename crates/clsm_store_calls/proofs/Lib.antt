@@ -16,4 +16,3 @@ pub mod Agreed
 pub mod Asking
 pub mod ReadParts
 pub mod Staged
-pub mod Foreseen

@@ -26,7 +26,7 @@ use Rattle.clsm_store_calls.specs.Tally.{Tally, TakesNoLock, tally_of}
 use Rattle.clsm_store_calls.proofs.Rest.{same_past, stays_open}
 
 -- what the view counts
-abbrev pub counted : View → Tally
+abbrev counted : View → Tally
 counted v = record {
   entries = v.entries;
   busy = v.busy;

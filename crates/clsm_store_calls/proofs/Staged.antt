@@ -5,7 +5,9 @@ use Rattle.std.proofs.lemmas.List.{append_assoc, length-append, length-take-le, 
 use Rattle.clsm_model.specs.declared.slot.Change.{Change}
 use Rattle.clsm_model.specs.declared.slot.Change.TheVariants.{Keep, Set, Remove}
 use Rattle.clsm_model.specs.declared.record.Deed.{Deed}
+use Rattle.clsm_model.specs.declared.record.Deed.TheVariants.{Batch as Group}
 use Rattle.clsm_model.specs.Right.{AreWrites, Member}
+use Rattle.clsm_model.specs.Seats.{FitsDeed}
 use Rattle.clsm_law.specs.declared.view.View.{View}
 use Rattle.clsm_law.specs.Relation.{member_of}
 use Rattle.clsm_words.specs.declared.known.Known.{Known}
@@ -17,7 +19,7 @@ use Rattle.clsm_memtable.specs.Inserting.{Enters, StaysOut}
 use Rattle.clsm_memtable.specs.Writing.{DecidesMember, FindsRoom}
 use Rattle.clsm_store_calls.specs.declared.refusal.BatchError.{BatchError}
 use Rattle.clsm_store_calls.specs.declared.refusal.BatchError.TheVariants.{Full}
-use Rattle.clsm_store_calls.specs.Batching.{FindsNoRoom, FindsNoRoomFor, IsAlone, MayStage, StagesAll, with_staged}
+use Rattle.clsm_store_calls.specs.Batching.{FindsNoRoom, FindsNoRoomFor, IsAlone, MayStage, RefusesBatch, StagesAll, with_staged}
 use Rattle.clsm_store_calls.specs.Changing.{value_set}
 use Rattle.clsm_store_calls.specs.Resting.{deed_of}
 use Rattle.clsm_store_calls.proofs.Rest.{left, still_by, still_trans}
@@ -132,15 +134,18 @@ may_stage a b clock limit members alone uncommitted h room small = record {
   small = small;
 }
 
--- refused in its hold
-pub refused_alone : (a b c d : Known) (members : List Member) (r : Result ℕ BatchError) → EntersExclusively a b → Leaves c d
-    → IfErr r (FindsNoRoomFor b c members) → IfErr r (FindsNoRoomFor a d members)
-refused_alone a b c d members (Ok t) enters leaves h = tt
-refused_alone a b c d members (Err (Full t)) enters leaves h = record {
-  still = still_trans a b d (still_by a b enters.place (ap left enters.view)) (still_trans b c d h.still (still_by c d leaves.place (ap left leaves.view)));
-  clock = ap (λ (v : View). v.hold_clock) leaves.view ∙ h.clock;
-  limit = h.limit;
-  looked = ap (λ (v : View). v.hold_limit) leaves.view ∙ h.looked;
-  short = h.short;
-}
-refused_alone a b c d members (Err error) enters leaves h = absurd h
+-- the whole call, refused in its hold
+pub refused_alone : (a b c d : Known) (members : List Member) (r : Result ℕ BatchError) → FitsDeed a.layout.cells (Group members) → EntersExclusively a b
+    → Leaves c d → IfErr r (FindsNoRoomFor b c members) → IfErr r (RefusesBatch a d members)
+refused_alone a b c d members (Ok t) fits enters leaves h = tt
+refused_alone a b c d members (Err (Full t)) fits enters leaves h = (
+  fits,
+  record {
+    still = still_trans a b d (still_by a b enters.place (ap left enters.view)) (still_trans b c d h.still (still_by c d leaves.place (ap left leaves.view)));
+    clock = ap (λ (v : View). v.hold_clock) leaves.view ∙ h.clock;
+    limit = h.limit;
+    looked = ap (λ (v : View). v.hold_limit) leaves.view ∙ h.looked;
+    short = h.short;
+  },
+)
+refused_alone a b c d members (Err error) fits enters leaves h = absurd h

@@ -1,7 +1,6 @@
 -- A batch at the words: its members, staged one after another in a hold of the lock alone, and its
 -- record.
 use Rattle.std.specs.Prelude.{◌≡◌, ◌≢◌, ℕ, ◌+◌, ◌^◌, ◌<◌, ◌≤◌, ◌++◌, ◌∷◌, [], List, length, false, Result, Ok, Err, Some, None}
-use Rattle.clsm_model.specs.History.{IsBeginning}
 use Rattle.clsm_model.specs.declared.record.Deed.TheVariants.{Batch as Group}
 use Rattle.clsm_model.specs.Right.{AreWrites, Member}
 use Rattle.clsm_model.specs.Seats.{FitsDeed}
@@ -11,12 +10,11 @@ use Rattle.clsm_law.specs.Views.{next_word}
 use Rattle.clsm_law.specs.Relation.{call_of}
 use Rattle.clsm_words.specs.declared.known.Known.{Known}
 use Rattle.clsm_words.specs.Keeping.{KeepsSeat}
-use Rattle.clsm_words.specs.Knowing.{known_of}
 use Rattle.clsm_store_calls.specs.declared.refusal.BatchError.{BatchError}
 use Rattle.clsm_store_calls.specs.declared.refusal.BatchError.TheVariants.{Full, TooLong, Empty, Keep}
 use Rattle.clsm_store_calls.specs.Seats.{Refuses, SeatState}
 use Rattle.clsm_store_calls.specs.Resting.{IsSettled, Keeps, Still}
-use Rattle.clsm_store_calls.specs.Tally.{Tally, looked, tally_of}
+use Rattle.clsm_store_calls.specs.Tally.{Tally, looked}
 
 -- ---- the hold
 
@@ -72,30 +70,10 @@ pub record StagesAll (old new : Known) (members : List Member) : Type 0 where
 
 -- ---- the call
 
--- under a pin it looked at words that the members are to be entered at, and counted nothing
-pub record Foresees (old new : Known) : Type 0 where
-  pub number : new.number ≡ old.number
-  pub layout : new.layout ≡ old.layout
-  pub past : IsBeginning (known_of old) (known_of new)
-  pub snapshot : new.view.snapshot ≡ old.view.snapshot
-  pub calls : new.view.calls ≡ old.view.calls
-  pub due : new.view.due ≡ old.view.due
-  pub tally : tally_of new ≡ tally_of old
-
 -- the members are recorded as one batch at the time, which is its first one; the due is behind the
 -- last one
 pub record RecordsBatch (old new : Known) (t : ℕ) (members : List Member) : Type 0 where
   pub keeps : Keeps old new
-  pub calls : new.view.calls ≡ old.view.calls ++ call_of old.number t (Group members) ∷ []
-  pub due : new.view.due ≡ t + length members
-  pub above : old.view.due ≤ t
-
--- and so they are, behind what it foresaw
-pub record WritesBatch (old new : Known) (t : ℕ) (members : List Member) : Type 0 where
-  pub number : new.number ≡ old.number
-  pub layout : new.layout ≡ old.layout
-  pub past : IsBeginning (known_of old) (known_of new)
-  pub snapshot : new.view.snapshot ≡ old.view.snapshot
   pub calls : new.view.calls ≡ old.view.calls ++ call_of old.number t (Group members) ∷ []
   pub due : new.view.due ≡ t + length members
   pub above : old.view.due ≤ t
@@ -122,19 +100,6 @@ abbrev pub FindsNoRoomFor : Known → Known → List Member → BatchError → T
 FindsNoRoomFor old new members (Full t) = FindsNoRoom old new t (length members)
 FindsNoRoomFor old new members _ = ⊥
 
--- and so it found, behind what it foresaw
-pub record EndsShort (old new : Known) (t members : ℕ) : Type 0 where
-  pub number : new.number ≡ old.number
-  pub layout : new.layout ≡ old.layout
-  pub past : IsBeginning (known_of old) (known_of new)
-  pub snapshot : new.view.snapshot ≡ old.view.snapshot
-  pub calls : new.view.calls ≡ old.view.calls
-  pub due : new.view.due ≡ old.view.due
-  pub clock : new.view.hold_clock ≡ Some t
-  pub limit : ℕ
-  pub looked : new.view.hold_limit ≡ Some limit
-  pub short : limit < t + members
-
 -- why these members are no batch of a store with so many cells: there is no member; or else there
 -- are more than cells; or else one keeps its key
 abbrev pub IsNoBatch : ℕ → List Member → BatchError → Type 0
@@ -146,7 +111,7 @@ IsNoBatch cells members Keep = (members ≢ []) × (length members ≤ cells) ×
 -- why the batch was refused: only because there is no room, in its hold of the lock; or before
 -- that, because it is not a batch, with the seat as it was
 abbrev pub RefusesBatch : Known → Known → List Member → BatchError → Type 0
-RefusesBatch old new members (Full t) = FitsDeed old.layout.cells (Group members) × EndsShort old new t (length members)
+RefusesBatch old new members (Full t) = FitsDeed old.layout.cells (Group members) × FindsNoRoom old new t (length members)
 RefusesBatch old new members error = (new ≡ old) × IsNoBatch old.layout.cells members error
 
 -- what it counts in its hold of the lock: no time is given up and none cancelled; links and

@@ -4,14 +4,8 @@ use Rattle.clsm_words.specs.declared.known.Known.{Known}
 use Rattle.clsm_store_calls.specs.Seats.{CleanState, SeatState}
 use Rattle.clsm_store_calls.specs.Tally.{tally_of}
 
--- so many times are left where a limit and then the clock was found; the clock is not below the due
-pub record IsLeftAt (due clock left : ℕ) : Type 0 where
-  pub above : due ≤ clock
-  pub limit : ℕ
-  pub left_is : left ≡ limit - clock
-
 -- the seat looked at the limit and the clock, and found so many times left: it is as it was, but for
--- the clock that it looked at
+-- what it looked at
 pub record LooksForRoom (old new : Known) (left : ℕ) : Type 0 where
   pub number : new.number ≡ old.number
   pub layout : new.layout ≡ old.layout
@@ -21,17 +15,20 @@ pub record LooksForRoom (old new : Known) (left : ℕ) : Type 0 where
   pub snapshot : new.view.snapshot ≡ old.view.snapshot
   pub calls : new.view.calls ≡ old.view.calls
   pub due : new.view.due ≡ old.view.due
-  pub tally : tally_of new ≡ tally_of old
+  pub limit : ℕ
+  pub tally : tally_of new ≡ record (tally_of old) { limit = Some limit }
   pub clock : ℕ
   pub looked : new.view.clock ≡ Some clock
-  pub room : IsLeftAt old.view.due clock left
+  pub above : old.view.due ≤ clock
+  pub left_is : left ≡ limit - clock
 
 -- the same, as contracts see the seat
 pub record FindsRoom (old new : SeatState) (left : ℕ) : Type 0 where
-  pub same : new ≡ record old { clock = new.clock }
+  pub limit : ℕ
   pub clock : ℕ
-  pub looked : new.clock ≡ Some clock
-  pub room : IsLeftAt old.due clock left
+  pub same : new ≡ record old { clock = Some clock; tally = record old.tally { limit = Some limit } }
+  pub above : old.due ≤ clock
+  pub left_is : left ≡ limit - clock
 
 -- how many times of the epoch were drawn at the merger's last step
 abbrev pub drawn_of : CleanState → ℕ

@@ -40,7 +40,6 @@ pub record BeginsRead (old new : Known) (component t : ℕ) : Type 0 where
   pub from : component * new.layout.cells ≤ t
   pub within : t ≤ (component + 2) * new.layout.cells
   pub unlocked : TakesNoLock (tally_of old) (tally_of new)
-  pub cancelled : new.view.cancelled ≡ old.view.cancelled
 
 -- it read at the time, and the read is recorded
 pub record ReadsAt (old new : Known) (t : ℕ) (deed : Deed) : Type 0 where

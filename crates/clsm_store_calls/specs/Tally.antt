@@ -8,7 +8,7 @@ use Rattle.clsm_store_calls.specs.declared.refusal.TryPutError.TheVariants.{Full
 -- Each modulo 2^64: its entries into the lock; the tries that it lost there, at draws and links,
 -- and to readers that overtook it; the times of its own that it gave up, those of others that it
 -- cancelled, and those among these for which it had not waited as its patience says. And the limit
--- and the clock that it looked at in its last hold of the lock
+-- that it looked at last since it entered the lock, and the clock in its last hold of it
 pub record Tally : Type 0 where
   pub entries : ℕ
   pub busy : ℕ

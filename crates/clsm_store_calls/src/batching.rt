@@ -5,24 +5,18 @@ ghost use Rattle.clsm_model.specs.declared.slot.Change.TheVariants.{Keep};
 ghost use Rattle.clsm_model.specs.declared.record.Deed.TheVariants.{Batch as Group};
 ghost use Rattle.clsm_model.specs.Right.{AreWrites};
 ghost use Rattle.clsm_model.specs.Seats.{FitsDeed};
-ghost use Rattle.clsm_law.specs.Views.{next_word};
 ghost use Rattle.clsm_words.specs.Plays.{IsSeatOf};
-ghost use Rattle.clsm_store_calls.specs.Batching.{CountsAlone, CountsBatch, FindsNoRoomFor, Foresees, HasRoom, IsAlone, IsNoBatch, MayStage};
-ghost use Rattle.clsm_store_calls.specs.Batching.{RecordsBatch, RefusesBatch, StagesAll, WritesBatch};
+ghost use Rattle.clsm_store_calls.specs.Batching.{CountsAlone, CountsBatch, FindsNoRoomFor, HasRoom, IsAlone, IsNoBatch, MayStage, RecordsBatch};
+ghost use Rattle.clsm_store_calls.specs.Batching.{RefusesBatch, StagesAll};
 ghost use Rattle.clsm_store_calls.specs.Resting.{IsAtRest};
 ghost use Rattle.clsm_store_calls.specs.Tally.{tally_of};
 
 use crate::changing::value_set;
-use crate::reading::begin;
 use crate::refusal::BatchError;
 use crate::writing::deed_of;
-use clsm_law::End;
 use clsm_lock::{lock_exclusive, unlock_exclusive};
-use clsm_memtable::{
-    Lookahead, commit, decide_member, enter, foresee, leave_hints, look_room, stage,
-};
+use clsm_memtable::{Lookahead, commit, decide_member, enter, leave_hints, look_room, stage};
 use clsm_model::{Change, Time, are_writes};
-use clsm_pins::unpin;
 use clsm_words::{Pace, RawSeat, Words};
 use std::sync::Wait;
 
@@ -130,73 +124,27 @@ fn batch_in_hold<P: Pace, R: Wait>(
     Ok(room.clock)
 }
 
-/// Writes the members, which are a batch, in one hold of the lock alone.
-fn batch_alone<P: Pace, R: Wait>(
-    rt: &R,
-    words: &Words<P>,
-    seat: &mut RawSeat,
-    members: &[(u64, Change)],
-) -> Result<Time, BatchError>
-    requires of { IsSeatOf words.now seat.old }
-    requires rests { IsAtRest seat.old.knows }
-    requires fits { FitsDeed seat.old.knows.layout.cells (Group members.now) }
-    ensures of { IsSeatOf words.now seat.new }
-    ensures rests { IsAtRest seat.new.knows }
-    ensures written { IfOk result (λ time. RecordsBatch seat.old.knows seat.new.knows time members.now) }
-    ensures room { IfOk result (λ time. HasRoom (tally_of seat.new.knows) time (length members.now)) }
-    ensures refused { IfErr result (FindsNoRoomFor seat.old.knows seat.new.knows members.now) }
-    ensures counts { CountsBatch (tally_of seat.old.knows) (tally_of seat.new.knows) result }
-{
-    seat.show_invariant();
-    lock_exclusive(rt, words, seat);
-    let answer = batch_in_hold(rt, words, seat, members);
-    unlock_exclusive(words, seat);
-    answer
-}
-
-/// Looks ahead for the members under a pin, so that the hold of the lock is shorter.
-fn foresee_members<P: Pace>(
-    words: &Words<P>,
-    seat: &mut RawSeat,
-    pin_word: u64,
-    members: &[(u64, Change)],
-)
-    requires of { IsSeatOf words.now seat.old }
-    requires rests { IsAtRest seat.old.knows }
-    requires pin { pin_word ≡ seat.old.knows.view.pin }
-    ensures of { IsSeatOf words.now seat.new }
-    ensures rests { IsAtRest seat.new.knows }
-    ensures pin { seat.new.knows.view.pin ≡ next_word (next_word pin_word) }
-    ensures foresees { Foresees seat.old.knows seat.new.knows }
-{
-    let (_, time) = begin(words, seat, pin_word);
-    foresee(words, seat, time, members);
-    unpin(words, seat, pin_word.wrapping_add(1), &End::Neither);
-}
-
 /// Writes the members as one batch, at consecutive times in their order, and waits for the lock.
-/// The pin word is counted on where the members are a batch.
 pub fn batch<P: Pace, R: Wait>(
     rt: &R,
     words: &Words<P>,
     seat: &mut RawSeat,
-    pin_word: &mut u64,
     members: &[(u64, Change)],
 ) -> Result<Time, BatchError>
     requires of { IsSeatOf words.now seat.old }
     requires rests { IsAtRest seat.old.knows }
-    requires pin { pin_word.old ≡ seat.old.knows.view.pin }
     ensures of { IsSeatOf words.now seat.new }
     ensures rests { IsAtRest seat.new.knows }
-    ensures pin { pin_word.new ≡ seat.new.knows.view.pin }
-    ensures written { IfOk result (λ time. WritesBatch seat.old.knows seat.new.knows time members.now) }
+    ensures written { IfOk result (λ time. RecordsBatch seat.old.knows seat.new.knows time members.now) }
     ensures fits { IfOk result (λ time. FitsDeed seat.old.knows.layout.cells (Group members.now)) }
     ensures room { IfOk result (λ time. HasRoom (tally_of seat.new.knows) time (length members.now)) }
     ensures refused { IfErr result (RefusesBatch seat.old.knows seat.new.knows members.now) }
     ensures counts { CountsBatch (tally_of seat.old.knows) (tally_of seat.new.knows) result }
 {
     check_members(members, words.cells())?;
-    foresee_members(words, seat, *pin_word, members);
-    *pin_word = pin_word.wrapping_add(2);
-    batch_alone(rt, words, seat, members)
+    seat.show_invariant();
+    lock_exclusive(rt, words, seat);
+    let answer = batch_in_hold(rt, words, seat, members);
+    unlock_exclusive(words, seat);
+    answer
 }

@@ -28,11 +28,23 @@ impl fmt::Display for Failure {
             Failure::Device => write!(f, "device"),
             Failure::Fault => write!(f, "fault"),
             Failure::Refused(error) => {
-                let number = error.number();
-                write!(f, "refused {number} {error}")
+                let (number, size) = (error.number(), name_of(*error));
+                write!(f, "refused {number} {size}")
             }
             Failure::Memory => write!(f, "no memory"),
         }
+    }
+}
+
+/// The size that is out of its range, or `memory`.
+fn name_of(error: OpenError) -> &'static str {
+    match error {
+        OpenError::Cells(_) => "cells",
+        OpenError::Seats(_) => "seats",
+        OpenError::Shards(_) => "shards",
+        OpenError::Run(_) => "run",
+        OpenError::Memory => "memory",
+        OpenError::Patience(_) => "patience",
     }
 }
 

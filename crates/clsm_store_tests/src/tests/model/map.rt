@@ -54,12 +54,15 @@ pub(super) fn values(alloc: Global) -> Result<(), Wrong> {
 }
 
 const REFUSALS: &[(OpenError, &str)] = &[
-    (OpenError::Cells, "1 cells"),
-    (OpenError::Seats, "2 seats"),
-    (OpenError::Shards, "3 shards"),
-    (OpenError::Run, "4 run"),
-    (OpenError::Memory, "5 memory"),
-    (OpenError::Patience, "9 patience"),
+    (OpenError::Cells(3), "1 cells: 3 is not in 4 to 65536"),
+    (OpenError::Seats(80), "2 seats: 80 is not in 1 to 64"),
+    (OpenError::Shards(0), "3 shards: 0 is not in 1 to 1024"),
+    (
+        OpenError::Run(4_194_305),
+        "4 run: 4194305 is not in 4 to 4194304",
+    ),
+    (OpenError::Memory, "5 memory ran out"),
+    (OpenError::Patience(65), "9 patience: 65 is not in 0 to 64"),
 ];
 
 pub(super) fn names(alloc: Global) -> Result<(), Wrong> {
