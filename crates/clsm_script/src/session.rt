@@ -10,7 +10,7 @@ use crate::answer::Answer;
 use crate::call::Call;
 use clsm_audit::{AuditError, audit, explain};
 use clsm_model::{CallRecord, Config, Time};
-use clsm_records::{Listed, write_reason};
+use clsm_text::{Listed, write_reason};
 use clsm_store::{Pace, Seat, Store};
 use std::alloc::{AllocError, Global};
 use std::io::Write;
