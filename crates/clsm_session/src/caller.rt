@@ -13,7 +13,10 @@ use crate::board::Board;
 use crate::job::Place;
 use crate::refusal::{BatchRefused, Refused};
 use crate::writing;
-use clsm_store::{Caller, Change, Free, Got, Memory, Open, Page, Rmw, Scan, Seat, Time, Value};
+use clsm_store::{
+    Caller, Change, Free, Got, Memory, Open, Page, Rmw, Scan, Seat, Time, Value, added,
+    put_if_absent,
+};
 use std::alloc::Global;
 use std::marker::{Model, PhantomData};
 use std::sync::Wait;
@@ -121,7 +124,7 @@ impl<'a, R: Wait, P: Place> SessionCaller<'a, R, P> {
         ensures spared { GivesUpForWrites self.old self.new key }
         ensures refused { IfErr result (λ refused. IsFullAtLast self.old self.new) }
     {
-        writing::add(self.rt, self.board, &mut self.caller, key, by)
+        self.rmw(key, &|old| added(old, by))
     }
 
     /// Writes the value at the key where the key has none, and else keeps what it has: the answer's
@@ -133,7 +136,7 @@ impl<'a, R: Wait, P: Place> SessionCaller<'a, R, P> {
         ensures spared { GivesUpForWrites self.old self.new key }
         ensures refused { IfErr result (λ refused. IsFullAtLast self.old self.new) }
     {
-        writing::put_if_absent(self.rt, self.board, &mut self.caller, key, value)
+        self.rmw(key, &|old| put_if_absent(old, value))
     }
 
     /// Writes all members as one batch, at consecutive times in their order, and answers the time of

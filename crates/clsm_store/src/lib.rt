@@ -16,6 +16,7 @@ mod sweeping;
 mod telling;
 
 pub use caller::Caller;
+pub use changes::{added, put_if_absent};
 pub use clsm_law::{Part, Word};
 pub use clsm_model::{
     CallRecord, Change, Config, Deed, Length, Members, Memory, OpenError, Rows, Time, Value,
