@@ -82,7 +82,8 @@ impl Session {
         let seat = &mut self.seats[self.used];
         let number = seat.number();
         let answer = store.play(rt, alloc, seat, &call);
-        let made = call.into_record(number, answer.clone()?);
+        let copy = answer.clone()?;
+        let made = call.into_record(number, copy);
         keep(&mut self.records, made)?;
         Ok(answer)
     }
