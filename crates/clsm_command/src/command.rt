@@ -2,14 +2,14 @@
 ghost use Rattle.clsm_command.specs.Answers.{IsInRange};
 ghost use Rattle.clsm_command.specs.declared.options.Options.TheVariants.{Run};
 
-use clsm_model::Config;
 use crate::command_line::parse;
 use crate::options::{AuditOptions, ExploreOptions, Options, RunOptions};
 use crate::refusal::Refusal;
-use clsm_text::{AskedAudit, Failure, Streams, audit_lines};
-use clsm_run::{AskedRun, Load, Shows, run};
 use clsm_explore::{Exploration, Shows as ShowsOf, explore_scripts};
+use clsm_model::Config;
+use clsm_run::{AskedRun, Load, Shows, run};
 use clsm_script::script;
+use clsm_text::{AskedAudit, Failure, Streams, audit_lines};
 use std::alloc::Global;
 use std::convert::AsStr;
 use std::io::{self, Read, Write};

@@ -1,14 +1,9 @@
 -- What a worker keeps of its calls.
-use Rattle.std.specs.Prelude.{◌≡◌, ℕ, ◌<◌, List, [], ◌∷◌, ◌++◌, length, slice_index_or, Option, Some, None}
+use Rattle.std.specs.Prelude.{◌≡◌, ℕ, ◌<◌, List, ◌++◌, length, slice_index_or}
 use Rattle.clsm_model.specs.declared.record.CallRecord.{CallRecord}
 use Rattle.clsm_store_calls.specs.Seats.{SeatState}
 use Rattle.clsm_run.specs.declared.worker.Worked.{Worked}
 use Rattle.clsm_run.specs.declared.worker.Worker.{Worker}
-
--- the records with this one, if there is one, behind them
-abbrev pub kept : List CallRecord → Option CallRecord → List CallRecord
-kept records None = records
-kept records (Some r) = records ++ r ∷ []
 
 -- the records are still the calls of the seat after those that it had made before
 pub record KeepsRecords (old new : Worker) : Type 0 where

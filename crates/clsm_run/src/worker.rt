@@ -1,7 +1,7 @@
 //! A worker: a thread that makes the calls of its workload by its seat, and keeps their records.
-ghost use Rattle.std.specs.Prelude.{◌≡◌, ◌<◌, vec_len};
+ghost use Rattle.std.specs.Prelude.{◌≡◌, ◌<◌, ◌++◌, option_to_list, vec_len};
 ghost use Rattle.std.specs.Vec.{vec_capacity};
-ghost use Rattle.clsm_run.specs.Work.{KeepsRecords, Works, kept};
+ghost use Rattle.clsm_run.specs.Work.{KeepsRecords, Works};
 
 use crate::kind::Kind;
 use crate::playing::play;
@@ -112,7 +112,7 @@ impl Worker {
 /// Keeps the record, if there is one. There is room for it.
 fn keep(records: &mut Vec<CallRecord>, answered: Option<CallRecord>)
     requires { vec_len records.old < vec_capacity records.old }
-    ensures { records.new.items ≡ kept records.old.items answered }
+    ensures { records.new.items ≡ records.old.items ++ option_to_list answered }
 {
     if let Some(record) = answered {
         records.push_reserved(record);

@@ -1,13 +1,13 @@
 -- The answers that end a script.
 use Rattle.std.specs.Prelude.{⊤, Err}
 use Rattle.clsm_audit.specs.declared.fault.AuditError.TheVariants.{Fault, Memory}
+use Rattle.clsm_store.specs.Play.{WantsMemory as CallWantsMemory}
 use Rattle.clsm_script.specs.declared.answer.Answer.{Answer}
-use Rattle.clsm_script.specs.declared.answer.Answer.TheVariants.{Scan, Page, Audit}
+use Rattle.clsm_script.specs.declared.answer.Answer.TheVariants.{Call, Audit}
 
 -- the command was refused memory
 abbrev pub WantsMemory : Answer → Type 0
-WantsMemory (Scan (Err _)) = ⊤
-WantsMemory (Page (Err _)) = ⊤
+WantsMemory (Call answer) = CallWantsMemory answer
 WantsMemory (Audit (Err Memory)) = ⊤
 WantsMemory _ = ⊥
 

@@ -1,9 +1,9 @@
 -- The commands of a script, as their words say them.
 use Rattle.std.specs.Prelude.{◌≡◌, ℕ, List, [], ◌∷◌, codes}
 use Rattle.clsm_text.specs.Member.{WritesNumber, WritesValue, WriteMembers}
-use Rattle.clsm_script.specs.declared.call.Call.{Call}
-use Rattle.clsm_script.specs.declared.call.Call.TheVariants.{Put, Remove, Try, Add, Claim}
-use Rattle.clsm_script.specs.declared.call.Call.TheVariants.{Get, Snap, Close, GetAt, Scan, Page, Batch}
+use Rattle.clsm_store.specs.declared.play.call.Call.{Call}
+use Rattle.clsm_store.specs.declared.play.call.Call.TheVariants.{Put, Remove, Try, Add, Claim}
+use Rattle.clsm_store.specs.declared.play.call.Call.TheVariants.{Get, Snap, Close, GetAt, Scan, Page, Batch}
 use Rattle.clsm_script.specs.declared.command.Command.{Command}
 use Rattle.clsm_script.specs.declared.command.Command.TheVariants.{Call as Makes, Seat, Meet, Audit}
 use Rattle.clsm_script.specs.declared.command.Command.TheVariants.{Freeze, Merge, Reclaim}

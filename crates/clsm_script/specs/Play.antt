@@ -3,70 +3,29 @@ use Rattle.std.specs.Prelude.{◌≡◌, ◌≢◌, ℕ, ◌<◌, ◌≤◌, ◌
 use Rattle.std.specs.Prelude.{Option, Some, None, Result, Ok, Err}
 use Rattle.clsm_model.specs.History.{IsBeginning}
 use Rattle.clsm_model.specs.declared.record.CallRecord.{CallRecord}
-use Rattle.clsm_model.specs.declared.record.Deed.TheVariants as deeds
 use Rattle.clsm_audit.specs.Faults.{IsLawful, IsOneHistory, IsRefusal}
 use Rattle.clsm_audit.specs.declared.fault.AuditError.{AuditError}
-use Rattle.clsm_store_calls.specs.Seats.{SeatState, Answers, IsFull, Refuses, known_by}
-use Rattle.clsm_store_calls.specs.Batching.{IsRefusedBatch}
-use Rattle.clsm_store_calls.specs.Trying.{RefusesTry}
-use Rattle.clsm_store.specs.Changes.{added, put_if_absent}
+use Rattle.clsm_store_calls.specs.Seats.{SeatState, known_by}
 use Rattle.clsm_store.specs.Headline.{IsAt}
 use Rattle.clsm_store.specs.Meetings.{Meets}
 use Rattle.clsm_store.specs.Phase.{Freezes, Merges, Reclaims}
+use Rattle.clsm_store.specs.Play.{PlaysCall}
+use Rattle.clsm_store.specs.declared.play.answer.Answer.{Answer as CallAnswer}
+use Rattle.clsm_store.specs.declared.play.call.Call.{Call}
 use Rattle.clsm_script.specs.declared.answer.Answer.{Answer}
-use Rattle.clsm_script.specs.declared.answer.Answer.TheVariants.{Write, Try as Tried, Batch as Batched}
-use Rattle.clsm_script.specs.declared.answer.Answer.TheVariants.{Change as Changed, Read, ReadAt}
-use Rattle.clsm_script.specs.declared.answer.Answer.TheVariants.{Snapshot, Close as Closed}
-use Rattle.clsm_script.specs.declared.answer.Answer.TheVariants.{Scan as Scanned, Page as Paged}
-use Rattle.clsm_script.specs.declared.answer.Answer.TheVariants.{Seat as Took, Meet as Met}
+use Rattle.clsm_script.specs.declared.answer.Answer.TheVariants.{Call as Called, Seat as Took, Meet as Met}
 use Rattle.clsm_script.specs.declared.answer.Answer.TheVariants.{Audit as Audited}
 use Rattle.clsm_script.specs.declared.answer.Answer.TheVariants.{Freeze as Froze, Merge as Merged}
 use Rattle.clsm_script.specs.declared.answer.Answer.TheVariants.{Reclaim as Reclaimed}
-use Rattle.clsm_script.specs.declared.call.Call.{Call}
-use Rattle.clsm_script.specs.declared.call.Call.TheVariants.{Put, Remove, Try, Add, Claim}
-use Rattle.clsm_script.specs.declared.call.Call.TheVariants.{Get, Snap, Close, GetAt, Scan, Page, Batch}
 use Rattle.clsm_script.specs.declared.command.Command.{Command}
 use Rattle.clsm_script.specs.declared.command.Command.TheVariants.{Call as Makes, Seat, Meet, Audit}
 use Rattle.clsm_script.specs.declared.command.Command.TheVariants.{Freeze, Merge, Reclaim}
 use Rattle.clsm_script.specs.declared.session.Session.{Session}
 use Rattle.clsm_store.specs.declared.phase.Phase.{Phase}
 
--- the call takes the seat from its old state to the new one, and is answered so
-abbrev pub PlaysCall : Call → SeatState → SeatState → Answer → Type 0
-PlaysCall (Put key v) old new (Write (Ok t)) = Answers old new t (deeds.Put key v)
-PlaysCall (Put key v) old new (Write (Err full)) = IsFull old new full.time
-PlaysCall (Remove key) old new (Write (Ok t)) = Answers old new t (deeds.Remove key)
-PlaysCall (Remove key) old new (Write (Err full)) = IsFull old new full.time
-PlaysCall (Try key v) old new (Tried (Ok t)) = Answers old new t (deeds.Put key v)
-PlaysCall (Try key v) old new (Tried (Err refusal)) = RefusesTry old new refusal
-PlaysCall (Add key by) old new (Changed (Ok rmw)) =
-    Answers old new rmw.time (deeds.Rmw key rmw.old rmw.change) × (rmw.change ≡ added rmw.old by)
-PlaysCall (Add key by) old new (Changed (Err full)) = IsFull old new full.time
-PlaysCall (Claim key v) old new (Changed (Ok rmw)) =
-    Answers old new rmw.time (deeds.Rmw key rmw.old rmw.change) × (rmw.change ≡ put_if_absent rmw.old v)
-PlaysCall (Claim key v) old new (Changed (Err full)) = IsFull old new full.time
-PlaysCall (Get key) old new (Read got) = Answers old new got.time (deeds.Get key got.value)
-PlaysCall Snap old new (Snapshot (Ok t)) = Answers old new t deeds.Snapshot
-PlaysCall Snap old new (Snapshot (Err refusal)) = (new ≡ old) × (old.snapshot ≡ Some refusal.time)
-PlaysCall Close old new (Closed (Some t)) = Answers old new t deeds.Close
-PlaysCall Close old new (Closed None) = (new ≡ old) × (old.snapshot ≡ None)
-PlaysCall (GetAt key) old new (ReadAt (Some got)) =
-    Answers old new got.time (deeds.GetAt key got.value)
-PlaysCall (GetAt key) old new (ReadAt None) = (new ≡ old) × (old.snapshot ≡ None)
-PlaysCall (Scan lo hi) old new (Scanned (Ok scan)) =
-    Answers old new scan.time (deeds.Scan lo hi scan.rows)
-PlaysCall (Scan lo hi) old new (Scanned (Err _)) = Refuses old new
-PlaysCall (Page from hi max) old new (Paged (Ok page)) =
-    Answers old new page.time (deeds.Page from hi max page.rows page.more)
-PlaysCall (Page from hi max) old new (Paged (Err _)) = Refuses old new
-PlaysCall (Batch members) old new (Batched (Ok t)) = Answers old new t (deeds.Batch members)
-PlaysCall (Batch members) old new (Batched (Err refusal)) =
-    IsRefusedBatch old new members refusal
-PlaysCall _ _ _ _ = ⊥
-
 -- the seat in use makes the call; the records gain what its calls gain, and the other seats stay as
 -- they are
-pub record Calls (call : Call) (old new : Session) (answer : Answer) : Type 0 where
+pub record Calls (call : Call) (old new : Session) (answer : CallAnswer) : Type 0 where
   pub before : SeatState
   pub after : SeatState
   pub made : List CallRecord
@@ -121,7 +80,8 @@ IsAudited session (Err error) = IsRefusal session.config session.records.items e
 
 -- the command takes the session from its old state to the new one, and is answered so
 abbrev pub Plays : Command → Session → Session → Answer → Type 0
-Plays (Makes call) old new answer = Calls call old new answer
+Plays (Makes call) old new (Called answer) = Calls call old new answer
+Plays (Makes _) _ _ _ = ⊥
 Plays (Seat number) old new (Took taken) = TakesSeat number old new taken
 Plays (Seat _) _ _ _ = ⊥
 Plays (Meet number) old new (Met time) = MeetsSeat number old new time

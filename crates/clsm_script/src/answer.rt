@@ -1,39 +1,28 @@
 ghost use Rattle.std.specs.Prelude.{◌↔◌, IsTrue};
 
 use clsm_audit::AuditError;
-use clsm_model::{Change, Memory, Time};
-use clsm_store::{
-    BatchError, FreezeError, Full, Got, MergeError, Open, Page, ReclaimError, Rmw, Scan,
-    TryPutError,
-};
+use clsm_model::{Change, Time};
+use clsm_store::{Answer as Called, FreezeError, MergeError, Page, ReclaimError, Rmw};
 use clsm_text::{Shown, ShownRows};
 use std::fmt;
 
 /// What a command answers. It is shown as the program writes it.
 #[derive(Debug, Drop)]
 pub enum Answer {
-    /// `@T`, or `full @T` where no write more may be made.
-    Write(Result<Time, Full>),
-    /// `@T`, or why nothing was written: `full @T`, `busy`, `raced` or `overtaken`.
-    Try(Result<Time, TryPutError>),
-    /// `@T`, the time of the first member; or why nothing was written: `full @T`, `too long`,
-    /// `empty` or `keep`.
-    Batch(Result<Time, BatchError>),
-    /// `old V new W @T`, with `none` for a key that had no value; `kept V @T`; or `full @T`.
-    Change(Result<Rmw, Full>),
-    /// `V @T`, or `none @T` where the key has no value.
-    Read(Got),
-    /// `snap @T`, or `open @T` where a snapshot of that time is open.
-    Snapshot(Result<Time, Open>),
-    /// `closed @T`, or `no snapshot`.
-    Close(Option<Time>),
-    /// As a read, or `no snapshot`.
-    ReadAt(Option<Got>),
-    /// `K=V` for each row, then `@T`; `empty @T` where there is no row. A script ends where it is
-    /// refused memory, and so it does at a page.
-    Scan(Result<Scan, Memory>),
-    /// As a scan, then `more K` where a row is left out.
-    Page(Result<Page, Memory>),
+    /// What a call answers. A script ends where that is a refusal of memory.
+    ///
+    /// - Of a write `@T`, or why nothing was written: `full @T`, `busy`, `raced` or `overtaken`.
+    /// - Of a batch `@T`, the time of the first member; or why nothing was written: `full @T`,
+    ///   `too long`, `empty` or `keep`.
+    /// - Of a change `old V new W @T`, with `none` for a key that had no value; `kept V @T`; or
+    ///   `full @T`.
+    /// - Of a read `V @T`, or `none @T` where the key has no value; under a snapshot `no snapshot`
+    ///   where none is open.
+    /// - Of `snap` `snap @T`, or `open @T` where a snapshot of that time is open; of `close`
+    ///   `closed @T`, or `no snapshot`.
+    /// - Of a scan `K=V` for each row, then `@T`; `empty @T` where there is no row. Of a page the
+    ///   same, then `more K` where a row is left out.
+    Call(Called),
     /// `seat S` with the number of the seat that is used from then on, or `no seat`.
     Seat(Option<usize>),
     /// `met @T`, or `no seat`.
@@ -57,10 +46,10 @@ impl Answer {
     pub fn wants_memory(&self) -> bool
         ensures { IsTrue result ↔ WantsMemory self.now }
     {
-        matches!(
-            self,
-            Answer::Scan(Err(_)) | Answer::Page(Err(_)) | Answer::Audit(Err(AuditError::Memory))
-        )
+        match self {
+            Answer::Call(answer) => answer.wants_memory(),
+            answer => matches!(answer, Answer::Audit(Err(AuditError::Memory))),
+        }
     }
 
     /// Whether an audit found a fault.
@@ -74,24 +63,7 @@ impl Answer {
 impl fmt::Display for Answer {
     fn fmt<W: fmt::Write>(&self, f: &mut fmt::Formatter<W>) -> fmt::Result {
         match self {
-            Answer::Write(Ok(time)) | Answer::Try(Ok(time)) | Answer::Batch(Ok(time)) => {
-                write!(f, "@{time}")
-            }
-            Answer::Write(Err(refusal)) => write!(f, "{refusal}"),
-            Answer::Try(Err(refusal)) => write!(f, "{refusal}"),
-            Answer::Batch(Err(refusal)) => write!(f, "{refusal}"),
-            Answer::Change(Ok(rmw)) => write_change(f, rmw),
-            Answer::Change(Err(refusal)) => write!(f, "{refusal}"),
-            Answer::Read(got) | Answer::ReadAt(Some(got)) => {
-                write!(f, "{} @{}", Shown(&got.value), got.time)
-            }
-            Answer::Snapshot(Ok(time)) => write!(f, "snap @{time}"),
-            Answer::Snapshot(Err(refusal)) => write!(f, "{refusal}"),
-            Answer::Close(Some(time)) => write!(f, "closed @{time}"),
-            Answer::Close(None) | Answer::ReadAt(None) => write!(f, "no snapshot"),
-            Answer::Scan(Ok(scan)) => write!(f, "{} @{}", ShownRows(&scan.rows), scan.time),
-            Answer::Page(Ok(page)) => write_page(f, page),
-            Answer::Scan(Err(refusal)) | Answer::Page(Err(refusal)) => write!(f, "{refusal}"),
+            Answer::Call(answer) => write_called(f, answer),
             Answer::Seat(Some(number)) => write!(f, "seat {number}"),
             Answer::Meet(Some(time)) => write!(f, "met @{time}"),
             Answer::Seat(None) | Answer::Meet(None) => write!(f, "no seat"),
@@ -103,6 +75,29 @@ impl fmt::Display for Answer {
             Answer::Reclaim(Ok(())) => write!(f, "clean"),
             Answer::Reclaim(Err(refusal)) => write!(f, "{refusal}"),
         }
+    }
+}
+
+fn write_called<W: fmt::Write>(f: &mut fmt::Formatter<W>, answer: &Called) -> fmt::Result {
+    match answer {
+        Called::Write(Ok(time)) | Called::Try(Ok(time)) | Called::Batch(Ok(time)) => {
+            write!(f, "@{time}")
+        }
+        Called::Write(Err(refusal)) => write!(f, "{refusal}"),
+        Called::Try(Err(refusal)) => write!(f, "{refusal}"),
+        Called::Batch(Err(refusal)) => write!(f, "{refusal}"),
+        Called::Change(Ok(rmw)) => write_change(f, rmw),
+        Called::Change(Err(refusal)) => write!(f, "{refusal}"),
+        Called::Read(got) | Called::ReadAt(Some(got)) => {
+            write!(f, "{} @{}", Shown(&got.value), got.time)
+        }
+        Called::Snapshot(Ok(time)) => write!(f, "snap @{time}"),
+        Called::Snapshot(Err(refusal)) => write!(f, "{refusal}"),
+        Called::Close(Some(time)) => write!(f, "closed @{time}"),
+        Called::Close(None) | Called::ReadAt(None) => write!(f, "no snapshot"),
+        Called::Scan(Ok(scan)) => write!(f, "{} @{}", ShownRows(&scan.rows), scan.time),
+        Called::Page(Ok(page)) => write_page(f, page),
+        Called::Scan(Err(refusal)) | Called::Page(Err(refusal)) => write!(f, "{refusal}"),
     }
 }
 

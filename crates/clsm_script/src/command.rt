@@ -1,9 +1,8 @@
 ghost use Rattle.std.specs.Prelude.{◌≡◌, ◌≢◌, ◌∷◌, [], codes, IfNone, IfOk, IfSome, OnOk};
 
 use crate::answer::Answer;
-use crate::call::Call;
 use crate::session::Session;
-use clsm_store::{Pace, Phase, Store};
+use clsm_store::{Call, Pace, Phase, Store};
 use clsm_text::{parse_members, parse_number, parse_value};
 use std::alloc::{AllocError, Global};
 use std::sync::Wait;
@@ -170,7 +169,7 @@ impl Command {
         ensures merger { IfOk result (λ done. (merger_in done.0).store ≡ store.now) }
     {
         let answer = match self {
-            Command::Call(call) => session.call(rt, alloc, store, call)?,
+            Command::Call(call) => Answer::Call(session.call(rt, alloc, store, call)?),
             Command::Seat { number } => Answer::Seat(session.take_seat(number)),
             Command::Meet { number } => Answer::Meet(session.meet(store, number)),
             Command::Audit => Answer::Audit(session.audit(alloc)),

@@ -2,12 +2,10 @@
 #![tactic(auto)]
 
 mod answer;
-mod call;
 mod command;
 mod line;
 mod playing;
 mod session;
-mod snapshots;
 
 pub use answer::Answer;
 pub use playing::{DEFAULT_SIZES, script};

@@ -6,12 +6,10 @@ ghost use Rattle.clsm_store.specs.Meetings.{AreOf};
 ghost use Rattle.clsm_script.specs.Session.{IsSession};
 ghost use Rattle.clsm_script.specs.Play.{IsAudited, Calls, MeetsSeat, PairMeets, TakesSeat};
 
-use crate::answer::Answer;
-use crate::call::Call;
 use clsm_audit::{AuditError, audit, explain};
 use clsm_model::{CallRecord, Config, Time};
+use clsm_store::{Answer, Call, Pace, Seat, Store};
 use clsm_text::{Listed, write_reason};
-use clsm_store::{Pace, Seat, Store};
 use std::alloc::{AllocError, Global};
 use std::io::Write;
 use std::sync::Wait;
@@ -83,8 +81,9 @@ impl Session {
     {
         let seat = &mut self.seats[self.used];
         let number = seat.number();
-        let answer = call.play(rt, alloc, store, seat);
-        let made = call.to_record(number, &answer)?;
+        let answer = store.play(rt, alloc, seat, &call);
+        let copy = answer.clone()?;
+        let made = call.into_record(number, copy);
         keep(&mut self.records, made)?;
         Ok(answer)
     }

@@ -4,4 +4,5 @@ pub mod Meetings
 pub mod Settling
 pub mod Opening
 pub mod Phase
+pub mod Play
 pub mod Sweeping

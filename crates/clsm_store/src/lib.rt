@@ -9,6 +9,7 @@ mod meet;
 pub mod merger;
 mod opening;
 mod phase;
+mod play;
 mod seat;
 mod settling;
 mod store;
@@ -19,7 +20,7 @@ pub use caller::Caller;
 pub use changes::{added, put_if_absent};
 pub use clsm_law::{Part, Word};
 pub use clsm_model::{
-    CallRecord, Change, Config, Deed, Length, Members, Memory, OpenError, Rows, Time, Value,
+    CallRecord, Change, Config, Deal, Deed, Length, Members, Memory, OpenError, Rows, Time, Value,
 };
 pub use clsm_runs::RunFull;
 pub use clsm_store_calls::{
@@ -29,6 +30,7 @@ pub use clsm_words::{Free, Kind, Pace};
 pub use merger::{Clean, Frozen, Merger, Retired};
 pub use opening::{Opened, open, open_paced};
 pub use phase::{FreezeError, MergeError, NotFrozen, Phase, ReclaimError};
+pub use play::{Answer, Call};
 pub use seat::Seat;
 pub use store::Store;
 pub use sweeping::{Stopped, Swept};

@@ -5,13 +5,13 @@ ghost use Rattle.clsm_text.specs.declared.failure.Failure.TheVariants.{Memory};
 ghost use Rattle.clsm_text.specs.Audit.{AreLawful, HasFault, IsListOf, IsStatus, IsVerdict};
 ghost use Rattle.clsm_text.specs.Audit.{StopsLines, StopsAudit};
 
+use crate::failure::Failure;
 use crate::history::write_history;
 use crate::reason::write_reason;
 use crate::record::parse_record;
+use crate::streams::Streams;
 use clsm_audit::{AuditError, Explanation, FaultKind, audit, explain};
 use clsm_model::{CallRecord, Config};
-use crate::failure::Failure;
-use crate::streams::Streams;
 use std::alloc::Global;
 use std::fmt;
 use std::io::{ErrorKind, Read, Write};

@@ -3,10 +3,10 @@ ghost use Rattle.clsm_text.specs.Line.{texts_of};
 ghost use Rattle.clsm_text.specs.Found.{Finds};
 ghost use Rattle.clsm_text.specs.Record.{SayDeed};
 
-use crate::words::{parse_page_rows, parse_reply, parse_rows};
-use clsm_model::Deed;
 use crate::member::{parse_change, parse_members};
 use crate::number::{parse_number, parse_value};
+use crate::words::{parse_page_rows, parse_reply, parse_rows};
+use clsm_model::Deed;
 use std::alloc::{AllocError, Global};
 
 /// The deed that words say: its name, and what follows it. Refused if memory runs out.

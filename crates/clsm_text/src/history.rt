@@ -1,10 +1,10 @@
 ghost use Rattle.std.specs.Prelude.{IfErr};
 ghost use Rattle.clsm_text.specs.Failure.{IsOutside};
 
+use crate::failure::Failure;
 use crate::written::Line;
 use clsm_audit::in_time_order;
 use clsm_model::CallRecord;
-use crate::failure::Failure;
 use std::alloc::Global;
 use std::io::Write;
 

@@ -5,10 +5,10 @@ ghost use Rattle.clsm_text.specs.Lines.{Reads};
 ghost use Rattle.clsm_text.specs.Record.{Say};
 
 use crate::deed::parse_deed;
-use crate::words::parse_seat;
-use clsm_model::CallRecord;
 use crate::line::{LineError, line_words};
 use crate::number::parse_number;
+use crate::words::parse_seat;
+use clsm_model::CallRecord;
 use std::alloc::{AllocError, Global};
 
 /// What a line says, given without its line feed: a record, or `None` where it has no words or is

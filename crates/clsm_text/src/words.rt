@@ -4,8 +4,8 @@ ghost use Rattle.clsm_text.specs.Found.{Finds};
 ghost use Rattle.clsm_text.specs.Record.{WritesSeat, WritesReply};
 ghost use Rattle.clsm_text.specs.Record.{WritesRow, WriteRows, WritePage};
 
-use clsm_model::{Rows, Value};
 use crate::number::{parse_number, parse_value};
+use clsm_model::{Rows, Value};
 use std::alloc::{AllocError, Global};
 
 /// The seat that a text writes. A number past 32 bits stands for the greatest seat.

@@ -3,8 +3,8 @@ ghost use Rattle.std.specs.Prelude.{◌≡◌, All};
 
 use crate::steps::command::{Command, MERGER};
 use crate::steps::watch::Watch;
-use clsm_model::{CallRecord, Deal, Deed, Members, Time};
-use clsm_store::{Caller, Clean, Got, Merger, Page, Rmw, Scan, Seat, Store};
+use clsm_model::{CallRecord, Memory};
+use clsm_store::{Caller, Clean, Merger, Seat, Store};
 use std::alloc::{AllocError, Global};
 use std::sync::Wait;
 
@@ -42,16 +42,10 @@ impl<'a> Player<'a> {
             self.merger = Some(merge(rt, merger, command));
             return;
         }
-        let Some(caller) = &mut self.caller else {
-            return;
-        };
-        let Ok(answered) = answer(rt, alloc, caller, command) else {
+        if let Some(caller) = &mut self.caller
+            && let Err(_) = make(rt, alloc, caller, command, &mut self.records)
+        {
             self.is_starved = true;
-            return;
-        };
-        if let Some((time, deed)) = answered {
-            let record = caller.record_of(time, deed);
-            self.is_starved = self.records.push(record).is_err() || self.is_starved;
         }
     }
 }
@@ -66,108 +60,23 @@ fn merge<'a, R: Wait>(rt: &R, merger: Merger<'a, Watch>, command: &Command) -> M
     }
 }
 
-/// The members of a batch, as its deed has them.
-fn members_of(alloc: Global, deal: &Deal) -> Result<Members, AllocError> {
-    let mut items = Vec::new(alloc);
-    if let Deal::Batch { members } = deal {
-        items.extend_from_slice(members)?;
-    }
-    Ok(Members::new(items))
-}
-
-/// Makes the call. Answers its time and what it did; none where it is refused.
-fn answer<R: Wait>(
+/// Makes the call, and keeps the record of it if it is answered. Refused if memory runs out.
+fn make<R: Wait>(
     rt: &R,
     alloc: Global,
     caller: &mut Caller<Watch>,
     command: &Command,
-) -> Result<Option<(Time, Deed)>, AllocError> {
-    match command {
-        Command::Call(deal) => answer_deal(rt, alloc, caller, deal),
-        Command::Page { from, hi, max } => page(alloc, caller, *from, *hi, *max),
-        Command::Freeze | Command::Merge | Command::Reclaim => Ok(None),
-    }
-}
-
-fn page(
-    alloc: Global,
-    caller: &mut Caller<Watch>,
-    from: u64,
-    hi: u64,
-    max: u64,
-) -> Result<Option<(Time, Deed)>, AllocError> {
-    let Ok(Page { time, rows, more }) = caller.page(alloc, from, hi, max as usize) else {
-        return Err(AllocError);
+    records: &mut Vec<CallRecord>,
+) -> Result<(), Memory> {
+    let Some(call) = command.call(alloc)? else {
+        return Ok(());
     };
-    let deed = Deed::Page {
-        from,
-        hi,
-        max,
-        rows,
-        more,
-    };
-    Ok(Some((time, deed)))
-}
-
-fn answer_deal<R: Wait>(
-    rt: &R,
-    alloc: Global,
-    caller: &mut Caller<Watch>,
-    deal: &Deal,
-) -> Result<Option<(Time, Deed)>, AllocError> {
-    match deal {
-        Deal::Get { .. } | Deal::GetAt { .. } | Deal::Scan { .. } => read(alloc, caller, deal),
-        Deal::Snap => Ok(caller.snapshot().ok().map(|time| (time, Deed::Snapshot))),
-        Deal::Close => Ok(caller.close_snapshot().map(|time| (time, Deed::Close))),
-        Deal::Batch { members } => {
-            let Ok(time) = caller.batch(rt, members) else {
-                return Ok(None);
-            };
-            let members = members_of(alloc, deal)?;
-            Ok(Some((time, Deed::Batch { members })))
-        }
-        _ => Ok(write(rt, caller, deal)),
+    let answer = caller.play(rt, alloc, &call);
+    if answer.wants_memory() {
+        return Err(Memory);
     }
-}
-
-fn read(
-    alloc: Global,
-    caller: &mut Caller<Watch>,
-    deal: &Deal,
-) -> Result<Option<(Time, Deed)>, AllocError> {
-    Ok(match *deal {
-        Deal::Get { key } => {
-            let Got { time, value } = caller.get(key);
-            Some((time, Deed::Get { key, reply: value }))
-        }
-        Deal::GetAt { key } if caller.snapshot_time().is_some() => {
-            let Got { time, value } = caller.get_at(key);
-            Some((time, Deed::GetAt { key, reply: value }))
-        }
-        Deal::Scan { lo, hi } => match caller.scan(alloc, lo, hi) {
-            Ok(Scan { time, rows }) => Some((time, Deed::Scan { lo, hi, rows })),
-            Err(_) => return Err(AllocError),
-        },
-        _ => None,
-    })
-}
-
-fn write<R: Wait>(rt: &R, caller: &mut Caller<Watch>, deal: &Deal) -> Option<(Time, Deed)> {
-    match *deal {
-        Deal::Put { key, value } => Some((
-            caller.put(rt, key, value).ok()?,
-            Deed::Put { key, value },
-        )),
-        Deal::Remove { key } => Some((caller.remove(rt, key).ok()?, Deed::Remove { key })),
-        Deal::Add { key, by } => changed(key, caller.add(rt, key, by).ok()?),
-        Deal::Claim { key, value } => changed(key, caller.put_if_absent(rt, key, value).ok()?),
-        _ => None,
-    }
-}
-
-fn changed(key: u64, rmw: Rmw) -> Option<(Time, Deed)> {
-    let Rmw { time, old, change } = rmw;
-    Some((time, Deed::Rmw { key, old, change }))
+    records.extend(call.into_record(caller.seat.number(), answer))?;
+    Ok(())
 }
 
 /// The players of a new store: its seats, and behind them the merger.

@@ -3,8 +3,8 @@ use super::act::{Act, Answer, Step, Write, read_as};
 use super::drawn::{Load, Mix, after, draw, next};
 use super::gate::Gates;
 use clsm_store::{
-    BatchError, CallRecord, Caller, Change, Deed, Full, Got, Members, MergeError, Merger, Page,
-    ReclaimError, Rmw, Scan, Stopped, Swept, Time, Value,
+    Answer as Called, BatchError, Call, CallRecord, Caller, Change, Deed, Full, Members,
+    MergeError, Merger, ReclaimError, Rmw, Stopped, Swept, Value,
 };
 use std::alloc::Global;
 use std::ops::Range;
@@ -72,160 +72,118 @@ fn answer_of_sweep_if(swept: &Result<Swept, Stopped>) -> Answer {
     }
 }
 
-fn answer_of_refusal(refusal: BatchError) -> Answer {
-    match refusal {
-        BatchError::Full { time } => Answer::Full(time),
-        refusal => Answer::Unbatched(refusal),
+/// How the call is answered.
+fn answer_of(answer: &Called) -> Answer {
+    match answer {
+        Called::Write(Ok(time))
+        | Called::Try(Ok(time))
+        | Called::Batch(Ok(time))
+        | Called::Snapshot(Ok(time))
+        | Called::Close(Some(time)) => Answer::At(*time),
+        Called::Write(Err(full)) => Answer::Full(full.time),
+        Called::Try(Err(refusal)) => Answer::Refused(*refusal),
+        Called::Batch(Err(BatchError::Full { time })) => Answer::Full(*time),
+        Called::Batch(Err(refusal)) => Answer::Unbatched(*refusal),
+        Called::Read(got) | Called::ReadAt(Some(got)) => read_as(got.time, &got.value),
+        Called::Scan(Ok(scan)) => Answer::Rows(scan.time, scan.rows.as_slice().len()),
+        Called::Page(Ok(page)) => { Answer::Page(page.time, page.rows.as_slice().len(), page.more) }
+        _ => Answer::NoMemory,
     }
 }
 
-/// How the call is answered.
-fn answer_of(time: Time, deed: &Deed) -> Answer {
-    match deed {
-        Deed::Put { .. }
-        | Deed::Remove { .. }
-        | Deed::Snapshot
-        | Deed::Close
-        | Deed::Batch { .. } => Answer::At(time),
-        Deed::Rmw {
-            old,
-            change: Change::Keep,
-            ..
-        } => read_as(time, old),
-        Deed::Rmw { .. } => Answer::At(time),
-        Deed::Get { reply, .. } | Deed::GetAt { reply, .. } => read_as(time, reply),
-        Deed::Scan { rows, .. } => Answer::Rows(time, rows.as_slice().len()),
-        Deed::Page { rows, more, .. } => Answer::Page(time, rows.as_slice().len(), *more),
-    }
+fn one_word(rt: &impl Abort, word: u64) -> Value {
+    Value::new(&[word]).expect(rt, "one word")
+}
+
+fn eight_words(rt: &impl Abort) -> Value {
+    Value::new(&[1, 2, 3, 4, 5, 6, 7, 8]).expect(rt, "eight words")
 }
 
 /// The member of a batch that the write is.
 fn member_of(rt: &impl Abort, write: &Write) -> (u64, Change) {
     match *write {
-        Write::Word(key, word) => {
-            let value = Value::new(&[word]).expect(rt, "one word");
-            (key, Change::Set(value))
-        }
-        Write::Eight(key) => {
-            let value = Value::new(&[1, 2, 3, 4, 5, 6, 7, 8]).expect(rt, "eight words");
-            (key, Change::Set(value))
-        }
+        Write::Word(key, word) => (key, Change::Set(one_word(rt, word))),
+        Write::Eight(key) => (key, Change::Set(eight_words(rt))),
         Write::Remove(key) => (key, Change::Remove),
         Write::Keep(key) => (key, Change::Keep),
     }
 }
 
+/// A batch of these writes.
+fn batch_of(rt: &impl Abort, alloc: Global, writes: &[Write]) -> Call {
+    let mut members = Vec::with_capacity(alloc, writes.len()).expect(rt, "memory");
+    for write in writes {
+        members.push(member_of(rt, write)).expect(rt, "memory");
+    }
+    let members = Members::new(members);
+    Call::Batch { members }
+}
+
+/// The call that the act is. A change is none of these.
+fn call_of(rt: &impl Abort, alloc: Global, act: &Act) -> Call {
+    let hi = u64::MAX;
+    match *act {
+        Act::Put(key, word) => {
+            let value = one_word(rt, word);
+            Call::Put { key, value }
+        }
+        Act::PutEight(key) => {
+            let value = eight_words(rt);
+            Call::Put { key, value }
+        }
+        Act::TryPut(key, word) => {
+            let value = one_word(rt, word);
+            Call::Try { key, value }
+        }
+        Act::Remove(key) => Call::Remove { key },
+        Act::Batch(writes) => batch_of(rt, alloc, writes),
+        Act::BatchTwo(key, word) => {
+            let next = key.wrapping_add(1);
+            batch_of(
+                rt,
+                alloc,
+                &[Write::Word(key, word), Write::Word(next, word)],
+            )
+        }
+        Act::Get(key) => Call::Get { key },
+        Act::GetAt(key) => Call::GetAt { key },
+        Act::Scan(lo) => Call::Scan { lo, hi },
+        Act::Page(from, rows) => {
+            let max = rows as u64;
+            Call::Page { from, hi, max }
+        }
+        Act::Snapshot => Call::Snap,
+        Act::Close => Call::Close,
+        _ => panic!(rt; "no call"),
+    }
+}
+
 impl<'a> Actor<'a> {
-    /// A batch of these writes.
-    fn batch<R: Abort + Wait>(
-        &mut self,
-        rt: &R,
-        alloc: Global,
-        writes: &[Write],
-    ) -> Result<(Time, Deed), BatchError> {
-        let mut members = Vec::with_capacity(alloc, writes.len()).expect(rt, "memory");
-        for write in writes {
-            members.push(member_of(rt, write)).expect(rt, "memory");
-        }
-        let time = self.caller.batch(rt, &members)?;
-        let members = Members::new(members);
-        Ok((time, Deed::Batch { members }))
-    }
-
-    /// A write of the seat.
-    fn write<R: Abort + Wait>(&mut self, rt: &R, act: &Act) -> Result<(Time, Deed), Full> {
-        let caller = &mut self.caller;
-        match *act {
-            Act::Put(key, word) => {
-                let value = Value::new(&[word]).expect(rt, "one word");
-                Ok((caller.put(rt, key, value)?, Deed::Put { key, value }))
-            }
-            Act::PutEight(key) => {
-                let value = Value::new(&[1, 2, 3, 4, 5, 6, 7, 8]).expect(rt, "eight words");
-                Ok((caller.put(rt, key, value)?, Deed::Put { key, value }))
-            }
-            Act::Change(key) => {
-                let Rmw { time, old, change } = caller.rmw(rt, key, &|old| next(old))?;
-                Ok((time, Deed::Rmw { key, old, change }))
-            }
-            Act::Remove(key) => Ok((caller.remove(rt, key)?, Deed::Remove { key })),
-            _ => panic!(rt; "no write"),
-        }
-    }
-
-    /// A read of the seat. None where it is refused.
-    fn read(&mut self, alloc: Global, act: &Act) -> Option<(Time, Deed)> {
-        let caller = &mut self.caller;
-        match *act {
-            Act::GetAt(key) if caller.snapshot_time().is_some() => {
-                let Got { time, value } = caller.get_at(key);
-                Some((time, Deed::GetAt { key, reply: value }))
-            }
-            Act::Get(key) => {
-                let Got { time, value } = caller.get(key);
-                Some((time, Deed::Get { key, reply: value }))
-            }
-            Act::Scan(lo) => {
-                let hi = u64::MAX;
-                let Scan { time, rows } = caller.scan(alloc, lo, hi).ok()?;
-                Some((time, Deed::Scan { lo, hi, rows }))
-            }
-            Act::Page(from, max) => {
-                let hi = u64::MAX;
-                let Page { time, rows, more } = caller.page(alloc, from, hi, max).ok()?;
-                let max = max as u64;
-                let deed = Deed::Page {
-                    from,
-                    hi,
-                    max,
-                    rows,
-                    more,
-                };
-                Some((time, deed))
-            }
-            Act::Snapshot => Some((caller.snapshot().ok()?, Deed::Snapshot)),
-            Act::Close => Some((caller.close_snapshot()?, Deed::Close)),
-            _ => None,
+    /// A change of the key's value, whose record is kept.
+    fn change<R: Abort + Wait>(&mut self, rt: &R, key: u64) -> Answer {
+        let Rmw { time, old, change } = match self.caller.rmw(rt, key, &|old| next(old)) {
+            Ok(rmw) => rmw,
+            Err(Full { time }) => return Answer::Full(time),
+        };
+        let record = self.caller.record_of(time, Deed::Rmw { key, old, change });
+        self.records.push(record).expect(rt, "memory");
+        match change {
+            Change::Keep => read_as(time, &old),
+            _ => Answer::At(time),
         }
     }
 
     /// A call of the seat, whose record is kept.
     fn call<R: Abort + Wait>(&mut self, rt: &R, alloc: Global, act: &Act) -> Answer {
-        let (time, deed) = match *act {
-            Act::Put(..) | Act::PutEight(_) | Act::Change(_) | Act::Remove(_) => {
-                match self.write(rt, act) {
-                    Ok(done) => done,
-                    Err(Full { time }) => return Answer::Full(time),
-                }
-            }
-            Act::Batch(writes) => match self.batch(rt, alloc, writes) {
-                Ok(done) => done,
-                Err(refusal) => return answer_of_refusal(refusal),
-            },
-            Act::BatchTwo(key, word) => {
-                let next = key.wrapping_add(1);
-                let writes = [Write::Word(key, word), Write::Word(next, word)];
-                match self.batch(rt, alloc, &writes) {
-                    Ok(done) => done,
-                    Err(refusal) => return answer_of_refusal(refusal),
-                }
-            }
-            Act::TryPut(key, word) => {
-                let value = Value::new(&[word]).expect(rt, "one word");
-                match self.caller.try_put(key, value) {
-                    Ok(time) => (time, Deed::Put { key, value }),
-                    Err(refusal) => return Answer::Refused(refusal),
-                }
-            }
-            _ => match self.read(alloc, act) {
-                Some(done) => done,
-                None => return Answer::NoMemory,
-            },
-        };
-        let answer = answer_of(time, &deed);
-        let seat = self.caller.seat.number();
-        let record = CallRecord { seat, time, deed };
-        self.records.push(record).expect(rt, "memory");
+        if let Act::Change(key) = act {
+            return self.change(rt, *key);
+        }
+        let call = call_of(rt, alloc, act);
+        let called = self.caller.play(rt, alloc, &call);
+        let answer = answer_of(&called);
+        if let Some(record) = call.into_record(self.caller.seat.number(), called) {
+            self.records.push(record).expect(rt, "memory");
+        }
         answer
     }
 

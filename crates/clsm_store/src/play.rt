@@ -1,0 +1,72 @@
+//! Calls as values: a seat makes one, and is answered.
+ghost use Rattle.std.specs.Prelude.{◌≡◌, None, IfNone, IfSome};
+ghost use Rattle.clsm_model.specs.declared.record.Deed.TheVariants.{GetAt};
+ghost use Rattle.clsm_store_calls.specs.Seats.{Answers, IsSameSeat, Refuses};
+ghost use Rattle.clsm_store.specs.Play.{PlaysCall, WantsMemory};
+
+use crate::caller::Caller;
+use crate::seat::Seat;
+use crate::store::Store;
+use clsm_store_calls::Got;
+use clsm_words::Pace;
+use std::alloc::Global;
+use std::sync::Wait;
+
+mod answer;
+mod call;
+
+pub use answer::Answer;
+pub use call::Call;
+
+/// Reads the key under the seat's snapshot; `None` where none is open, and nothing was done then.
+fn get_at<P: Pace>(store: &Store<P>, seat: &mut Seat, key: u64) -> Option<Got>
+    requires { seat.old.store ≡ store.now }
+    ensures answers { IfSome result
+        (λ got. Answers seat.old seat.new got.time (GetAt key got.value)) }
+    ensures none { IfNone result ((seat.new ≡ seat.old) × (seat.old.snapshot ≡ None)) }
+{
+    seat.snapshot_time()?;
+    Some(store.get_at(seat, key))
+}
+
+impl<P: Pace> Store<P> {
+    /// Makes the call by the seat, and answers what the method of its name answers: it waits and is
+    /// refused as that. A read under a snapshot is refused where none is open, and nothing was done
+    /// then.
+    pub fn play<R: Wait>(&self, rt: &R, alloc: Global, seat: &mut Seat, call: &Call) -> Answer
+        requires { seat.old.store ≡ self.now }
+        ensures plays { PlaysCall call.now seat.old seat.new result }
+        ensures memory { WantsMemory result → Refuses seat.old seat.new }
+        ensures same { IsSameSeat seat.old seat.new }
+    {
+        match call {
+            Call::Put { key, value } => Answer::Write(self.put(rt, seat, *key, *value)),
+            Call::Remove { key } => Answer::Write(self.remove(rt, seat, *key)),
+            Call::Try { key, value } => Answer::Try(self.try_put(seat, *key, *value)),
+            Call::Add { key, by } => Answer::Change(self.add(rt, seat, *key, *by)),
+            Call::Claim { key, value } => {
+                Answer::Change(self.put_if_absent(rt, seat, *key, *value))
+            }
+            Call::Get { key } => Answer::Read(self.get(seat, *key)),
+            Call::Snap => Answer::Snapshot(self.snapshot(seat)),
+            Call::Close => Answer::Close(self.close_snapshot(seat)),
+            Call::GetAt { key } => Answer::ReadAt(get_at(self, seat, *key)),
+            Call::Scan { lo, hi } => Answer::Scan(self.scan(alloc, seat, *lo, *hi)),
+            Call::Page { from, hi, max } => {
+                Answer::Page(self.page(alloc, seat, *from, *hi, *max as usize))
+            }
+            Call::Batch { members } => Answer::Batch(self.batch(rt, seat, members.as_slice())),
+        }
+    }
+}
+
+impl<'a, P: Pace> Caller<'a, P> {
+    /// As `Store::play`.
+    pub fn play<R: Wait>(&mut self, rt: &R, alloc: Global, call: &Call) -> Answer
+        ensures plays { PlaysCall call.now self.old.seat self.new.seat result }
+        ensures memory { WantsMemory result → Refuses self.old.seat self.new.seat }
+        ensures same { IsSameSeat self.old.seat self.new.seat }
+    {
+        self.store.play(rt, alloc, &mut self.seat, call)
+    }
+}

@@ -1,0 +1,125 @@
+//! The calls of a seat, and the records of those that were made.
+ghost use Rattle.std.specs.Prelude.{◌≡◌, ◌++◌, IfNone, IfOk, IfSome, option_to_list};
+ghost use Rattle.clsm_store_calls.specs.Seats.{Answers, SeatState};
+ghost use Rattle.clsm_store.specs.Play.{HasList, PlaysCall, call_for};
+
+use super::answer::Answer;
+use clsm_model::{CallRecord, Deal, Deed, Members, Memory, Time, Value};
+use clsm_store_calls::{Page, Scan};
+use std::alloc::Global;
+
+/// A call of a seat.
+#[derive(Debug, Drop)]
+pub enum Call {
+    /// Writes the value at the key.
+    Put { key: u64, value: Value },
+    /// Removes the key.
+    Remove { key: u64 },
+    /// Writes the value at the key, if no other seat is in the way.
+    Try { key: u64, value: Value },
+    /// Adds to the key's word, which is 0 where it has no value; keeps it where the sum passes 64
+    /// bits, or it has several words.
+    Add { key: u64, by: u64 },
+    /// Writes the value at the key where it has none, and else keeps it.
+    Claim { key: u64, value: Value },
+    /// Reads the value at the key.
+    Get { key: u64 },
+    /// Opens a snapshot, where none is open.
+    Snap,
+    /// Closes the open snapshot.
+    Close,
+    /// Reads the value at the key under the open snapshot.
+    GetAt { key: u64 },
+    /// Reads all keys from `lo` to `hi` that have a value, under the open snapshot if one is open.
+    Scan { lo: u64, hi: u64 },
+    /// Reads the first `max` of the keys that a scan would read.
+    Page { from: u64, hi: u64, max: u64 },
+    /// Makes the writes of all members at once.
+    Batch { members: Members },
+}
+
+impl Call {
+    /// The call that the deal asks for. Refused if memory runs out, which a batch alone takes.
+    pub fn of_deal(alloc: Global, deal: Deal) -> Result<Call, Memory>
+        ensures { IfOk result (λ call. call ≡ call_for deal) }
+    {
+        Ok(match deal {
+            Deal::Put { key, value } => Call::Put { key, value },
+            Deal::Remove { key } => Call::Remove { key },
+            Deal::Get { key } => Call::Get { key },
+            Deal::Add { key, by } => Call::Add { key, by },
+            Deal::Claim { key, value } => Call::Claim { key, value },
+            Deal::Snap => Call::Snap,
+            Deal::Close => Call::Close,
+            Deal::GetAt { key } => Call::GetAt { key },
+            Deal::Scan { lo, hi } => Call::Scan { lo, hi },
+            Deal::Batch { members } => {
+                let Ok(members) = Vec::from_array(alloc, members) else {
+                    return Err(Memory);
+                };
+                let members = Members::new(members);
+                Call::Batch { members }
+            }
+        })
+    }
+
+    /// The record of the call that the seat with this number made, where it was answered so; `None`
+    /// where it was refused.
+    pub fn into_record(self, seat: u32, answer: Answer) -> Option<CallRecord>
+        ensures made { (old new : SeatState) → old.number ≡ seat →
+            PlaysCall self old new answer → new.calls ≡ old.calls ++ option_to_list result }
+        ensures seat { IfSome result (λ call. call.seat ≡ seat) }
+    {
+        let (time, deed) = match (self, answer) {
+            (Call::Scan { lo, hi }, Answer::Scan(Ok(Scan { time, rows }))) => {
+                (time, Deed::Scan { lo, hi, rows })
+            }
+            (Call::Page { from, hi, max }, Answer::Page(Ok(Page { time, rows, more }))) => {
+                let deed = Deed::Page {
+                    from,
+                    hi,
+                    max,
+                    rows,
+                    more,
+                };
+                (time, deed)
+            }
+            (Call::Batch { members }, Answer::Batch(Ok(time))) => (time, Deed::Batch { members }),
+            (call, answer) => call.deed_of(&answer)?,
+        };
+        Some(CallRecord { seat, time, deed })
+    }
+
+    /// The time and the deed of the call where it was answered so, with no list on either side; `None`
+    /// where it was refused.
+    fn deed_of(&self, answer: &Answer) -> Option<(Time, Deed)>
+        ensures made { IfSome result (λ made. (old new : SeatState) →
+            PlaysCall self.now old new answer.now → Answers old new made.0 made.1) }
+        ensures none { IfNone result (¬ HasList self.now answer.now → (old new : SeatState) →
+            PlaysCall self.now old new answer.now → new.calls ≡ old.calls) }
+    {
+        Some(match (self, answer) {
+            (Call::Put { key, value }, Answer::Write(Ok(time)))
+            | (Call::Try { key, value }, Answer::Try(Ok(time))) => {
+                let (key, value) = (*key, *value);
+                (*time, Deed::Put { key, value })
+            }
+            (Call::Remove { key }, Answer::Write(Ok(time))) => (*time, Deed::Remove { key: *key }),
+            (Call::Add { key, .. } | Call::Claim { key, .. }, Answer::Change(Ok(rmw))) => {
+                let (key, old, change) = (*key, rmw.old, rmw.change);
+                (rmw.time, Deed::Rmw { key, old, change })
+            }
+            (Call::Get { key }, Answer::Read(got)) => {
+                let (key, reply) = (*key, got.value);
+                (got.time, Deed::Get { key, reply })
+            }
+            (Call::Snap, Answer::Snapshot(Ok(time))) => (*time, Deed::Snapshot),
+            (Call::Close, Answer::Close(Some(time))) => (*time, Deed::Close),
+            (Call::GetAt { key }, Answer::ReadAt(Some(got))) => {
+                let (key, reply) = (*key, got.value);
+                (got.time, Deed::GetAt { key, reply })
+            }
+            _ => return None,
+        })
+    }
+}
