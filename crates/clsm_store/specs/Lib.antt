@@ -3,5 +3,6 @@ pub mod Headline
 pub mod Meetings
 pub mod Settling
 pub mod Opening
+pub mod Paging
 pub mod Phase
 pub mod Sweeping
