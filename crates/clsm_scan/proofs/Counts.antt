@@ -1,8 +1,8 @@
 -- A count of rows, one after another.
-use Rattle.std.proofs.Common.{◌≡◌, ℕ, ◌+◌, ◌<◌, ◌≤◌, min, List, [], ◌∷◌, ◌++◌, length, refl, ap, subst, arith, Option, Some, None}
+use Rattle.std.proofs.Common.{◌≡◌, ℕ, ◌+◌, ◌<◌, ◌≤◌, min, List, [], ◌∷◌, ◌++◌, length, refl, arith, Option, Some, None}
 use Rattle.std.proofs.lemmas.List.{length_push}
 use Rattle.clsm_model.specs.Map.{Pair, value_at}
-use Rattle.clsm_scan.specs.Collected.{AreAll, AreRowsTo, IsCollected, IsCount, IsNextRow}
+use Rattle.clsm_scan.specs.Collected.{AreRowsTo, IsCount, IsNextRow}
 use Rattle.clsm_scan.proofs.ComponentCursors.{collected_same}
 use Rattle.clsm_scan.proofs.Rows.{all_rows, beyond_pushed, rows_none, rows_taken}
 

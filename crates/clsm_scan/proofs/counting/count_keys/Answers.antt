@@ -1,10 +1,10 @@
-use Rattle.std.proofs.Common.{rules, ◌≡◌, ℕ, ◌+◌, ◌≤◌, ◌<◌, Some, None, Option, sym, ap, ◌∙◌, refl, subst, arith, List, inl, inr}
+use Rattle.std.proofs.Common.{rules, ℕ, ◌+◌, ◌≤◌, Some, Option, sym, ap, ◌∙◌, refl, subst, arith, List, inl, inr}
 use Rattle.std.proofs.lemmas.Bool.{cases_lt}
 use Rattle.clsm_model.specs.Map.{Pair}
 use Rattle.clsm_levels.specs.Entry.{value_of}
 use Rattle.clsm_words.proofs.Keeps.{aside_trans}
 use Rattle.clsm_scan.specs.Collected.{IsNextRow, left_at}
-use Rattle.clsm_scan.proofs.Counts.{IsCountTo, count_all, count_ended, count_next, count_none}
+use Rattle.clsm_scan.proofs.Counts.{IsCountTo, count_ended, count_next, count_none}
 use Rattle.clsm_scan.proofs.Rows.{next_row_same}
 use Rattle.clsm_scan.proofs.counting.count_keys.Given.{Over}
 use Rattle.clsm_scan.proofs.counting.count_keys.Goals as goal
