@@ -3,9 +3,9 @@ use Rattle.clsm_model.specs.History.{plain, value}
 use Rattle.clsm_scan.specs.Collected.{left_at}
 use Rattle.clsm_scan.specs.Sources.{found_in_component}
 use Rattle.clsm_scan.proofs.Counts.{count_same}
-use Rattle.clsm_store_calls.proofs.Counted.{key_count}
+use Rattle.clsm_store_calls.proofs.KeyCounts.{key_count}
 use Rattle.clsm_store_calls.proofs.Found.{component_value}
-use Rattle.clsm_store_calls.proofs.counting.count_below.Goals as goal
+use Rattle.clsm_store_calls.proofs.counting_keys.count_below.Goals as goal
 
 pub returns-clause-counts : goal.returns-clause-counts
 returns-clause-counts g c =

@@ -1,8 +1,8 @@
 use Rattle.std.proofs.Common.{refl, ◌∙◌}
 use Rattle.clsm_law.specs.declared.step.End.TheVariants.{Neither}
-use Rattle.clsm_store_calls.proofs.Counted.{counts_at}
+use Rattle.clsm_store_calls.proofs.KeyCounts.{counts_at}
 use Rattle.clsm_store_calls.proofs.ReadParts.{given_up}
-use Rattle.clsm_store_calls.proofs.counting.count_at.Goals as goal
+use Rattle.clsm_store_calls.proofs.counting_keys.count_at.Goals as goal
 
 pub returns-clause-counts : goal.returns-clause-counts
 returns-clause-counts g c =
