@@ -12,7 +12,7 @@ use clsm_store::{BatchError, Caller, Change, Free, Rmw, Time, Value};
 use std::sync::Wait;
 
 /// As `SessionCaller::put`.
-#[tactic(auto, using(crate::proofs::Waiting::refuses_self, crate::proofs::Waiting::refuses_trans, crate::proofs::Waiting::answers_after, crate::proofs::Waiting::full_after, crate::proofs::Waiting::cancels_self, crate::proofs::Waiting::cancels_trans))]
+#[tactic(auto, using(crate::proofs::Waiting::full_after))]
 pub(crate) fn put<'a, R: Wait>(
     rt: &R,
     board: &Board,
@@ -37,7 +37,7 @@ pub(crate) fn put<'a, R: Wait>(
 }
 
 /// As `SessionCaller::remove`.
-#[tactic(auto, using(crate::proofs::Waiting::refuses_self, crate::proofs::Waiting::refuses_trans, crate::proofs::Waiting::answers_after, crate::proofs::Waiting::full_after, crate::proofs::Waiting::cancels_self, crate::proofs::Waiting::cancels_trans))]
+#[tactic(auto, using(crate::proofs::Waiting::full_after))]
 pub(crate) fn remove<'a, R: Wait>(
     rt: &R,
     board: &Board,
@@ -61,7 +61,7 @@ pub(crate) fn remove<'a, R: Wait>(
 }
 
 /// As `SessionCaller::rmw`.
-#[tactic(auto, using(crate::proofs::Waiting::refuses_self, crate::proofs::Waiting::refuses_trans, crate::proofs::Waiting::answers_after, crate::proofs::Waiting::full_after, crate::proofs::Waiting::spared_self))]
+#[tactic(auto, using(crate::proofs::Waiting::full_after))]
 pub(crate) fn rmw<'a, R: Wait, F: Fn(Option<Value>) -> Change>(
     rt: &R,
     board: &Board,
@@ -89,7 +89,7 @@ pub(crate) fn rmw<'a, R: Wait, F: Fn(Option<Value>) -> Change>(
 }
 
 /// As `SessionCaller::batch`.
-#[tactic(auto, using(crate::proofs::Waiting::refuses_self, crate::proofs::Waiting::refuses_trans, crate::proofs::Waiting::answers_after, crate::proofs::Waiting::no_room_after, crate::proofs::Waiting::cancels_self, crate::proofs::Waiting::cancels_trans))]
+#[tactic(auto, using(crate::proofs::Waiting::refuses_trans, crate::proofs::Waiting::cancels_trans, crate::proofs::Waiting::no_room_after))]
 pub(crate) fn batch<'a, R: Wait>(
     rt: &R,
     board: &Board,
