@@ -65,8 +65,8 @@ pub fn explain_rows(
     }
 }
 
-/// The map of the writes below the time of the record, if that is inside no batch. Refused for want
-/// of memory.
+/// The map of the writes below the time of the record, if that is inside no batch. Refused if
+/// memory runs out.
 fn map_below(
     alloc: Global,
     records: &[CallRecord],

@@ -1,8 +1,7 @@
 //! The program `clsm`: a concurrent log-structured merge map, its workload and its audit.
 #![tactic(auto)]
 
-use clsm_command::{command, refuse};
-use clsm_options::words;
+use clsm_command::{command, refuse, words};
 use clsm_text::Streams;
 use std::process::ExitCode;
 

@@ -33,7 +33,7 @@ pub use found::Found;
 pub use frozen::frozen_value;
 pub use frozen_walk::{FrozenWalk, next_write};
 pub use hints::leave_hints;
-pub use inserting::Trace;
+pub use inserting::{DrawnCell, Trace};
 pub use list::{Epoch, has_value, newest_from, seek, value};
 pub use searching::newest;
 pub use settling::settle_below;

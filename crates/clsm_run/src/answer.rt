@@ -5,8 +5,7 @@ ghost use Rattle.clsm_run.specs.Run.{StopsWork};
 use crate::crew::Ran;
 use clsm_audit::AuditError;
 use clsm_model::CallRecord;
-use clsm_records::write_record;
-use clsm_text::Failure;
+use clsm_text::{Failure, write_record};
 use std::alloc::Global;
 use std::io::{self, BufWriter, Write};
 

@@ -1,4 +1,5 @@
 pub mod Rows
+pub mod Counts
 pub mod ComponentCursors
 pub mod EpochCursors
 pub mod AllCursors

@@ -11,7 +11,7 @@ use Rattle.clsm_levels.specs.declared.entry.Entry.{Entry}
 use Rattle.clsm_levels.specs.Entry.{value_of}
 use Rattle.clsm_levels.specs.Yields.{IsNextFrom}
 use Rattle.clsm_scan.specs.Collected.{AreAll, AreRowsTo, IsAtMost, IsHeadRow, IsNextRow, IsStopped, is_full, left_at}
-use Rattle.clsm_scan.specs.Heads.{has_value, key_of, row_of, rows_of}
+use Rattle.clsm_scan.specs.Heads.{has_value, key_of, row_of}
 
 -- none of the keys from one on and below another has a value
 abbrev pub ArePassed : (ℕ → Option (List ℕ)) → ℕ → ℕ → Type 0

@@ -1,5 +1,5 @@
 -- The rows that a scan or a page collects, and where it stopped.
-use Rattle.std.specs.Prelude.{◌≡◌, ℕ, ◌<◌, ◌≤◌, Bool, true, false, nat_le, List, [], ◌∷◌, ◌++◌, length, Option, Some, None}
+use Rattle.std.specs.Prelude.{◌≡◌, ℕ, ◌<◌, ◌≤◌, Bool, true, false, nat_le, min, List, [], ◌∷◌, length, Option, Some, None}
 use Rattle.std.specs.List.{AllByRecursion}
 use Rattle.clsm_model.specs.Map.{KeysRise, Pair, value_at}
 use Rattle.clsm_levels.specs.declared.entry.Entry.{Entry}
@@ -65,3 +65,10 @@ pub record IsStopped (value : ℕ → Option (List ℕ)) (lo hi : ℕ) (max : Op
 abbrev pub IsCollected : (ℕ → Option (List ℕ)) → ℕ → ℕ → Option ℕ → List Pair → Option ℕ → Type 0
 IsCollected value lo hi max rows None = AreAll value lo hi rows × IsAtMost (length rows) max
 IsCollected value lo hi max rows (Some more) = IsStopped value lo hi max rows more
+
+-- So many keys from `lo` to `hi` have a value, as far as a word can hold their number: it is that of
+-- the rows of all of them
+pub record IsCount (value : ℕ → Option (List ℕ)) (lo hi n : ℕ) : Type 0 where
+  pub rows : List Pair
+  pub all : IsCollected value lo hi None rows None
+  pub counted : n ≡ min (length rows) 18446744073709551615

@@ -40,7 +40,7 @@ pub(crate) fn push_row(rows: &mut Vec<(u64, Value)>, key: u64, value: Value) -> 
 
 /// The next key from `from` to `hi` that has a value, if there is one: the cursor has read it, but
 /// not its value. Removed keys are skipped.
-fn next_key<C: Cursor, P: Pace>(
+pub(crate) fn next_key<C: Cursor, P: Pace>(
     words: &Words<P>,
     seat: &mut RawSeat,
     cursor: &mut C,

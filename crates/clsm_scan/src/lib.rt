@@ -3,6 +3,7 @@
 
 mod ahead;
 mod collecting;
+mod counting;
 mod cursor;
 mod epoch_cursor;
 mod merged;
@@ -13,9 +14,10 @@ mod walk;
 
 pub use ahead::{Ahead, Head};
 pub use collecting::{Collected, KeyRange, collect};
+pub use counting::count_keys;
 pub use cursor::Cursor;
 pub use epoch_cursor::EpochCursor;
 pub use merged::Merged;
 pub use run_cursor::RunCursor;
-pub use scanning::{ReadPoint, scan};
+pub use scanning::{ReadPoint, count, scan};
 pub use walk::Walk;

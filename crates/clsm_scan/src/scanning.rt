@@ -3,11 +3,12 @@ ghost use Rattle.std.specs.Prelude.{◌≡◌, ◌+◌, ◌*◌, ◌≤◌, ◌<
 ghost use Rattle.clsm_words.specs.declared.known.Known.{Known};
 ghost use Rattle.clsm_words.specs.Keeping.{LooksAside};
 ghost use Rattle.clsm_words.specs.Plays.{IsSeatOf};
-ghost use Rattle.clsm_scan.specs.Collected.{IsCollected, left_at};
+ghost use Rattle.clsm_scan.specs.Collected.{IsCollected, IsCount, left_at};
 ghost use Rattle.clsm_scan.specs.Sources.{MayScan, epoch_cursor, found_in_component, level_zero_cursor};
 
 use crate::ahead::Ahead;
 use crate::collecting::{Collected, KeyRange, collect};
+use crate::counting::count_keys;
 use crate::cursor::Cursor;
 use crate::epoch_cursor::EpochCursor;
 use crate::merged::Merged;
@@ -114,4 +115,27 @@ pub fn scan<P: Pace>(
     let mut cursor = sources(words, point.component, point.until);
     cursor.seek(words, seat, range.lo);
     collect(words, seat, alloc, &mut cursor, range)
+}
+
+/// How many keys from `lo` to `hi` have a value at the point, or 2^64 - 1 if all 2^64 have one. It
+/// goes along the ordered lists of the epochs and the runs as a scan, but reads no value and takes
+/// no memory. It never waits.
+pub fn count<P: Pace>(
+    words: &Words<P>,
+    seat: &mut RawSeat,
+    point: ReadPoint,
+    lo: u64,
+    hi: u64,
+) -> u64
+    requires of { IsSeatOf words.now seat.old }
+    requires held { seat.old.knows.view.held ≡ Some point.component }
+    requires within { point.until ≤ (point.component + 2) * seat.old.knows.layout.cells }
+    requires settled { point.until ≤ length seat.old.knows.past }
+    ensures of { IsSeatOf words.now seat.new }
+    ensures looks { LooksAside seat.old.knows seat.new.knows }
+    ensures count { IsCount (left_at (found_in_component seat.old.knows point.component point.until)) lo hi result }
+{
+    let mut cursor = sources(words, point.component, point.until);
+    cursor.seek(words, seat, lo);
+    count_keys(words, seat, &mut cursor, lo, hi)
 }

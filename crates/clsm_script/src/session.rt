@@ -8,8 +8,8 @@ ghost use Rattle.clsm_script.specs.Play.{IsAudited, Calls, MeetsSeat, PairMeets,
 
 use clsm_audit::{AuditError, audit, explain};
 use clsm_model::{CallRecord, Config, Time};
-use clsm_records::{Listed, write_reason};
 use clsm_store::{Answer, Call, Pace, Seat, Store};
+use clsm_text::{Listed, write_reason};
 use std::alloc::{AllocError, Global};
 use std::io::Write;
 use std::sync::Wait;

@@ -4,6 +4,8 @@ ghost use Rattle.clsm_model.specs.declared.record.Deed.TheVariants.{Batch as Gro
 ghost use Rattle.clsm_model.specs.declared.record.Deed.TheVariants.{Scan as ScanOf, Snapshot};
 ghost use Rattle.clsm_model.specs.Seats.{FitsDeed};
 ghost use Rattle.clsm_store.specs.Changes.{added, put_if_absent};
+ghost use Rattle.clsm_store.specs.Paging.{ReadsNext};
+ghost use Rattle.clsm_store_calls.specs.Scanning.{CountsKeys};
 ghost use Rattle.clsm_store_calls.specs.Seats.{Answers, GivesUpForWrites, Refuses};
 ghost use Rattle.clsm_store_calls.specs.Tally.{CancelsNone, TakesNoLock};
 ghost use Rattle.clsm_session.specs.Places.{HasPlace};
@@ -13,7 +15,10 @@ use crate::board::Board;
 use crate::job::Place;
 use crate::refusal::{BatchRefused, Refused};
 use crate::writing;
-use clsm_store::{Caller, Change, Free, Got, Memory, Open, Page, Rmw, Scan, Seat, Time, Value};
+use clsm_store::{
+    Caller, Change, Counted, Free, Got, Memory, Open, Page, Pages, Rmw, Scan, Seat, Time, Value,
+    added, put_if_absent,
+};
 use std::alloc::Global;
 use std::marker::{Model, PhantomData};
 use std::sync::Wait;
@@ -121,7 +126,7 @@ impl<'a, R: Wait, P: Place> SessionCaller<'a, R, P> {
         ensures spared { GivesUpForWrites self.old self.new key }
         ensures refused { IfErr result (λ refused. IsFullAtLast self.old self.new) }
     {
-        writing::add(self.rt, self.board, &mut self.caller, key, by)
+        self.rmw(key, &|old| added(old, by))
     }
 
     /// Writes the value at the key where the key has none, and else keeps what it has: the answer's
@@ -133,7 +138,7 @@ impl<'a, R: Wait, P: Place> SessionCaller<'a, R, P> {
         ensures spared { GivesUpForWrites self.old self.new key }
         ensures refused { IfErr result (λ refused. IsFullAtLast self.old self.new) }
     {
-        writing::put_if_absent(self.rt, self.board, &mut self.caller, key, value)
+        self.rmw(key, &|old| put_if_absent(old, value))
     }
 
     /// Writes all members as one batch, at consecutive times in their order, and answers the time of
@@ -202,6 +207,24 @@ impl<'a, R: Wait, P: Place> SessionCaller<'a, R, P> {
         ensures refused { IfErr result (λ refusal. Refuses self.old self.new) }
     {
         self.caller.page(self.alloc, from, hi, max)
+    }
+
+    /// As `Caller::next_page`.
+    pub fn next_page(&mut self, pages: &mut Pages) -> Result<Option<Page>, Memory>
+        ensures read { IfOk result (ReadsNext self.old self.new pages.old pages.new) }
+        ensures lock { TakesNoLock self.old.tally self.new.tally }
+        ensures refused { IfErr result (λ refusal. Refuses self.old self.new) }
+        ensures stands { IfErr result (λ refusal. pages.new ≡ pages.old) }
+    {
+        self.caller.next_page(self.alloc, pages)
+    }
+
+    /// As `Store::count`.
+    pub fn count(&mut self, lo: u64, hi: u64) -> Counted
+        ensures counts { CountsKeys self.old self.new result.time lo hi result.keys }
+        ensures lock { TakesNoLock self.old.tally self.new.tally }
+    {
+        self.caller.count(lo, hi)
     }
 
     /// The time of its open snapshot, if one is open.

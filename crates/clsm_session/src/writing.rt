@@ -2,7 +2,6 @@
 ghost use Rattle.std.specs.Prelude.{◌≡◌, IfErr, IfOk};
 ghost use Rattle.clsm_model.specs.declared.record.Deed.TheVariants.{Batch as Group, Put, Remove, Rmw as ChangeOf};
 ghost use Rattle.clsm_model.specs.Seats.{FitsDeed};
-ghost use Rattle.clsm_store.specs.Changes.{added, put_if_absent};
 ghost use Rattle.clsm_store_calls.specs.Seats.{Answers, GivesUpForWrites};
 ghost use Rattle.clsm_store_calls.specs.Tally.{CancelsNone};
 ghost use Rattle.clsm_session.specs.Waiting.{IsFullAtLast, IsPatient, IsRefusedAtLast};
@@ -79,60 +78,6 @@ pub(crate) fn rmw<'a, R: Wait, F: Fn(Option<Value>) -> Change>(
 {
     for _ in rt.forever() {
         match caller.rmw(rt, key, f) {
-            Ok(changed) => {
-                board.note_write(rt, changed.time);
-                return Ok(changed);
-            }
-            Err(full) => board.wait_for_room(rt, full.time)?,
-        }
-    }
-    unreachable!()
-}
-
-/// As `SessionCaller::add`.
-#[tactic(auto, using(crate::proofs::Waiting::refuses_self, crate::proofs::Waiting::refuses_trans, crate::proofs::Waiting::answers_after, crate::proofs::Waiting::full_after, crate::proofs::Waiting::spared_self))]
-pub(crate) fn add<'a, R: Wait>(
-    rt: &R,
-    board: &Board,
-    caller: &mut Caller<'a, Free>,
-    key: u64,
-    by: u64,
-) -> Result<Rmw, Refused>
-    ensures changed { IfOk result (λ rmw. Answers caller.old.seat caller.new.seat rmw.time (ChangeOf key rmw.old rmw.change)) }
-    ensures added { IfOk result (λ rmw. rmw.change ≡ added rmw.old by) }
-    ensures patient { IsPatient caller.old.seat caller.new.seat }
-    ensures spared { GivesUpForWrites caller.old.seat caller.new.seat key }
-    ensures refused { IfErr result (λ refused. IsFullAtLast caller.old.seat caller.new.seat) }
-{
-    for _ in rt.forever() {
-        match caller.add(rt, key, by) {
-            Ok(changed) => {
-                board.note_write(rt, changed.time);
-                return Ok(changed);
-            }
-            Err(full) => board.wait_for_room(rt, full.time)?,
-        }
-    }
-    unreachable!()
-}
-
-/// As `SessionCaller::put_if_absent`.
-#[tactic(auto, using(crate::proofs::Waiting::refuses_self, crate::proofs::Waiting::refuses_trans, crate::proofs::Waiting::answers_after, crate::proofs::Waiting::full_after, crate::proofs::Waiting::spared_self))]
-pub(crate) fn put_if_absent<'a, R: Wait>(
-    rt: &R,
-    board: &Board,
-    caller: &mut Caller<'a, Free>,
-    key: u64,
-    value: Value,
-) -> Result<Rmw, Refused>
-    ensures changed { IfOk result (λ rmw. Answers caller.old.seat caller.new.seat rmw.time (ChangeOf key rmw.old rmw.change)) }
-    ensures claimed { IfOk result (λ rmw. rmw.change ≡ put_if_absent rmw.old value) }
-    ensures patient { IsPatient caller.old.seat caller.new.seat }
-    ensures spared { GivesUpForWrites caller.old.seat caller.new.seat key }
-    ensures refused { IfErr result (λ refused. IsFullAtLast caller.old.seat caller.new.seat) }
-{
-    for _ in rt.forever() {
-        match caller.put_if_absent(rt, key, value) {
             Ok(changed) => {
                 board.note_write(rt, changed.time);
                 return Ok(changed);

@@ -1,5 +1,5 @@
 //! Sessions of the program `clsm`, below them schedules of the pure machine, and below these rows
-//! of calls whose steps are compared, played from the standard input. They are parted by the first
+//! of calls whose steps are compared, played from the standard input. They are separated by the first
 //! line that begins with `== `, which names a schedule, and the first one that begins with `%% `.
 //! One program plays all, since each program costs the gate a reading of all that it is linked of,
 //! and two compilers.

@@ -11,8 +11,8 @@
 //! Single steps:
 //! - `done SEAT STEP`, `lost SEAT STEP`: it is answered so.
 //! - `found SEAT NUMBER WORD`: a look at the word finds this.
-//! - `refused SEATS STEPS`: each of the steps, which are parted by `; `, is refused to each of the
-//!   seats, which are parted by commas, and the world stays as it was.
+//! - `refused SEATS STEPS`: each of the steps, which are separated by `; `, is refused to each of the
+//!   seats, which are separated by commas, and the world stays as it was.
 //!
 //! What the world tells:
 //! - `has NUMBER WORD`, `has-none WORD`.

@@ -3,6 +3,7 @@ pub mod Headline
 pub mod Meetings
 pub mod Settling
 pub mod Opening
+pub mod Paging
 pub mod Phase
 pub mod Play
 pub mod Sweeping

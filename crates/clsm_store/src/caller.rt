@@ -6,6 +6,7 @@ ghost use Rattle.clsm_model.specs.Seats.{FitsDeed};
 ghost use Rattle.clsm_law.specs.Relation.{call_of};
 ghost use Rattle.clsm_store_calls.specs.Batching.{CountsBatch, IsRefusedBatch};
 ghost use Rattle.clsm_store_calls.specs.Looking.{FindsRoom};
+ghost use Rattle.clsm_store_calls.specs.Scanning.{CountsKeys};
 ghost use Rattle.clsm_store_calls.specs.Seats.{Answers, GivesUpForWrites, IsFull, Refuses};
 ghost use Rattle.clsm_store_calls.specs.Tally.{CancelsNone, CountsTry, TakesLockOnce, TakesNoLock};
 ghost use Rattle.clsm_store_calls.specs.Trying.{RefusesTry};
@@ -13,7 +14,7 @@ ghost use Rattle.clsm_store_calls.specs.Trying.{RefusesTry};
 use crate::seat::Seat;
 use crate::store::Store;
 use clsm_model::{CallRecord, Change, Deed, Memory, Time, Value};
-use clsm_store_calls::{BatchError, Full, Got, Open, Page, Rmw, Scan, TryPutError};
+use clsm_store_calls::{BatchError, Counted, Full, Got, Open, Page, Rmw, Scan, TryPutError};
 use clsm_words::Pace;
 use std::alloc::Global;
 use std::sync::Wait;
@@ -143,6 +144,14 @@ impl<'a, P: Pace> Caller<'a, P> {
         ensures refused { IfErr result (λ refusal. Refuses self.old.seat self.new.seat) }
     {
         self.store.page(alloc, &mut self.seat, from, hi, max)
+    }
+
+    /// As `Store::count`.
+    pub fn count(&mut self, lo: u64, hi: u64) -> Counted
+        ensures counts { CountsKeys self.old.seat self.new.seat result.time lo hi result.keys }
+        ensures lock { TakesNoLock self.old.seat.tally self.new.seat.tally }
+    {
+        self.store.count(&mut self.seat, lo, hi)
     }
 
     /// As `Store::room`.

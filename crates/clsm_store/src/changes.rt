@@ -15,8 +15,8 @@ use std::sync::Wait;
 
 /// The sum of a value's word and another, if it has one word and the sum fits in 64 bits; of no
 /// value, that other.
-fn word_sum(old: &Option<Value>, by: u64) -> Option<u64>
-    ensures { result ≡ word_sum old.now by }
+fn word_sum(old: Option<Value>, by: u64) -> Option<u64>
+    ensures { result ≡ word_sum old by }
 {
     match old {
         None => Some(by),
@@ -27,9 +27,10 @@ fn word_sum(old: &Option<Value>, by: u64) -> Option<u64>
     }
 }
 
-/// What `add` makes of the old value.
-fn added(old: &Option<Value>, by: u64) -> Change
-    ensures { result ≡ added old.now by }
+/// What `add` makes of the old value: the sum with its word, which is 0 if there is no value, or
+/// `Keep` if the sum passes 2^64 - 1 or the value has several words.
+pub fn added(old: Option<Value>, by: u64) -> Change
+    ensures { result ≡ added old by }
 {
     match word_sum(old, by) {
         Some(word) => Change::Set(Value::from(word)),
@@ -37,9 +38,9 @@ fn added(old: &Option<Value>, by: u64) -> Change
     }
 }
 
-/// What `put_if_absent` makes of the old value.
-fn put_if_absent(old: &Option<Value>, value: Value) -> Change
-    ensures { result ≡ put_if_absent old.now value }
+/// What `put_if_absent` makes of the old value: the new one if there was none, else `Keep`.
+pub fn put_if_absent(old: Option<Value>, value: Value) -> Change
+    ensures { result ≡ put_if_absent old value }
 {
     match old {
         None => Change::Set(value),
@@ -59,7 +60,7 @@ impl<P: Pace> Store<P> {
         ensures spared { GivesUpForWrites seat.old seat.new key }
         ensures full { IfErr result (λ full. IsFull seat.old seat.new full.time) }
     {
-        self.rmw(rt, seat, key, &|old| added(&old, by))
+        self.rmw(rt, seat, key, &|old| added(old, by))
     }
 
     /// Writes the value at the key if the key has none, and else keeps what it has, in one
@@ -78,7 +79,7 @@ impl<P: Pace> Store<P> {
         ensures spared { GivesUpForWrites seat.old seat.new key }
         ensures full { IfErr result (λ full. IsFull seat.old seat.new full.time) }
     {
-        self.rmw(rt, seat, key, &|old| put_if_absent(&old, value))
+        self.rmw(rt, seat, key, &|old| put_if_absent(old, value))
     }
 }
 

@@ -1,6 +1,7 @@
 //! The store: its opening, its seats and their calls.
 #![tactic(auto)]
 
+mod binding;
 mod caller;
 mod calls;
 mod changes;
@@ -8,6 +9,7 @@ mod many;
 mod meet;
 pub mod merger;
 mod opening;
+mod pages;
 mod phase;
 mod play;
 mod seat;
@@ -16,18 +18,21 @@ mod store;
 mod sweeping;
 mod telling;
 
+pub use binding::Bound;
 pub use caller::Caller;
+pub use changes::{added, put_if_absent};
 pub use clsm_law::{Part, Word};
 pub use clsm_model::{
     CallRecord, Change, Config, Deal, Deed, Length, Members, Memory, OpenError, Rows, Time, Value,
 };
 pub use clsm_runs::RunFull;
 pub use clsm_store_calls::{
-    BatchError, Full, Got, Open, Page, Pinned, Rmw, Scan, TryPutError, Worn,
+    BatchError, Counted, Full, Got, Open, Page, Pinned, Rmw, Scan, TryPutError, Worn,
 };
 pub use clsm_words::{Free, Kind, Pace};
 pub use merger::{Clean, Frozen, Merger, Retired};
 pub use opening::{Opened, open, open_paced};
+pub use pages::Pages;
 pub use phase::{FreezeError, MergeError, NotFrozen, Phase, ReclaimError};
 pub use play::{Answer, Call};
 pub use seat::Seat;

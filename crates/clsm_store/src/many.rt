@@ -1,14 +1,16 @@
 //! The calls that read many keys at one time.
 ghost use Rattle.std.specs.Prelude.{◌≡◌, IfErr, IfOk};
 ghost use Rattle.clsm_model.specs.declared.record.Deed.TheVariants.{Page as PageOf, Scan as ScanOf};
-ghost use Rattle.clsm_store_calls.specs.Scanning.{IsAnswerTo};
+ghost use Rattle.clsm_store_calls.specs.Scanning.{CountsKeys, IsAnswerTo};
 ghost use Rattle.clsm_store_calls.specs.Seats.{Answers, Refuses};
 ghost use Rattle.clsm_store_calls.specs.Tally.{TakesNoLock};
 
 use crate::seat::Seat;
 use crate::store::Store;
 use clsm_model::{Deed, Memory, Time};
-use clsm_store_calls::{Asked, OpenSnapshot, Page, Scan, scan_at, scan_under};
+use clsm_store_calls::{
+    Asked, Counted, OpenSnapshot, Page, Scan, count_at, count_under, scan_at, scan_under,
+};
 use clsm_words::Pace;
 use std::alloc::Global;
 
@@ -80,5 +82,29 @@ impl<P: Pace> Store<P> {
             Deed::Page { rows, more, .. } => Ok(Page { time, rows, more }),
             _ => unreachable!(),
         }
+    }
+
+    /// How many keys from `lo` to `hi` have a value: at the time of the seat's open snapshot, else
+    /// at a time of its own, as `get`. It is 0 if `lo > hi`. It makes the looks of a scan of that
+    /// range but for those at values, and takes no memory and no lock. It never waits and is never
+    /// refused. It records nothing: no audit holds it, and that it never sees a part of a batch is
+    /// not proved.
+    pub fn count(&self, seat: &mut Seat, lo: u64, hi: u64) -> Counted
+        requires { seat.old.store ≡ self.now }
+        ensures counts { CountsKeys seat.old seat.new result.time lo hi result.keys }
+        ensures lock { TakesNoLock seat.old.tally seat.new.tally }
+    {
+        let (time, keys) = match seat.snapshot {
+            None => count_at(&self.words, &mut seat.raw, seat.pin, lo, hi),
+            Some(time) => {
+                let snapshot = OpenSnapshot {
+                    pin_word: seat.pin,
+                    time,
+                };
+                count_under(&self.words, &mut seat.raw, snapshot, lo, hi)
+            }
+        };
+        seat.pin = seat.pin.wrapping_add(2);
+        Counted { time, keys }
     }
 }

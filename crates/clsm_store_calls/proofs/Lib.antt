@@ -14,5 +14,6 @@ pub mod Prepared
 pub mod Publishing
 pub mod Agreed
 pub mod Asking
+pub mod KeyCounts
 pub mod ReadParts
 pub mod Staged

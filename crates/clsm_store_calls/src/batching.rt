@@ -15,7 +15,9 @@ use crate::changing::value_set;
 use crate::refusal::BatchError;
 use crate::writing::deed_of;
 use clsm_lock::{lock_exclusive, unlock_exclusive};
-use clsm_memtable::{Lookahead, commit, decide_member, enter, leave_hints, look_room, stage};
+use clsm_memtable::{
+    DrawnCell, Lookahead, commit, decide_member, enter, leave_hints, look_room, stage,
+};
 use clsm_model::{Change, Time, are_writes};
 use clsm_words::{Pace, RawSeat, Words};
 use std::sync::Wait;
@@ -66,7 +68,7 @@ fn stage_member<P: Pace, R: Wait>(
     seat.show_invariant();
     let guess = lookahead.next(words, seat, time);
     seat.show_invariant();
-    let trace = enter(rt, words, seat, time, key, &guess);
+    let trace = enter(rt, words, seat, DrawnCell { time, key }, &guess);
     decide_member(words, seat, time, &deed_of(key, &value));
     leave_hints(words, seat, time, &trace);
 }

@@ -22,7 +22,8 @@ use crate::refusal::Full;
 use clsm_law::{End, Word};
 use clsm_lock::{lock_shared, unlock_shared};
 use clsm_memtable::{
-    Decided, DrawError, decide, draw, enter, fill, give_up, newest, prefetch, settle_below,
+    Decided, DrawError, DrawnCell, decide, draw, enter, fill, give_up, newest, prefetch,
+    settle_below,
 };
 use clsm_model::{Change, Deed, Time, Value};
 use clsm_pins::{pin, unpin};
@@ -142,7 +143,7 @@ fn write_drawn<P: Pace, R: Wait>(
     let guess = prefetch(words, seat, time, key);
     seat.show_invariant();
     fill(words, seat, time, key, modified.value.as_ref());
-    let trace = enter(rt, words, seat, time, key, &guess);
+    let trace = enter(rt, words, seat, DrawnCell { time, key }, &guess);
     decide(words, seat, time, &deed, &trace)
 }
 

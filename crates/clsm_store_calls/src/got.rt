@@ -63,3 +63,11 @@ pub struct Page {
     pub rows: Rows,
     pub more: Option<u64>,
 }
+
+/// The answer of a count: its time, and how many keys of the range have a value in the map of the
+/// writes below it.
+#[derive(Clone, Copy, PartialEq, Eq, Debug)]
+pub struct Counted {
+    pub time: Time,
+    pub keys: u64,
+}

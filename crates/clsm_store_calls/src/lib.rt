@@ -5,6 +5,7 @@
 mod agreeing;
 mod batching;
 mod changing;
+mod counting_keys;
 mod flooring;
 mod freezing;
 mod got;
@@ -23,8 +24,9 @@ mod writing;
 pub use agreeing::agree_at;
 pub use batching::batch;
 pub use changing::{Modification, change};
+pub use counting_keys::{count_at, count_under};
 pub use freezing::freeze;
-pub use got::{Got, Page, Rmw, Scan};
+pub use got::{Counted, Got, Page, Rmw, Scan};
 pub use looking::{drawn_at, room_at};
 pub use meeting::{confirm_at, meet_at};
 pub use merger_seat::MergerSeat;

@@ -10,7 +10,9 @@ ghost use Rattle.clsm_store_calls.specs.Trying.{Fails};
 use crate::refusal::TryPutError;
 use crate::writing::deed_of;
 use clsm_lock::{try_lock_shared, unlock_shared};
-use clsm_memtable::{Decided, DrawError, decide, draw, fill, give_up, prefetch, try_enter};
+use clsm_memtable::{
+    Decided, DrawError, DrawnCell, decide, draw, fill, give_up, prefetch, try_enter,
+};
 use clsm_model::{Time, Value};
 use clsm_words::{Pace, RawSeat, Words};
 
@@ -49,7 +51,7 @@ fn try_in_hold<P: Pace>(
     let time = try_draw(words, seat)?;
     let guess = prefetch(words, seat, time, key);
     fill(words, seat, time, key, Some(&value));
-    let Ok(trace) = try_enter(words, seat, time, key, &guess) else {
+    let Ok(trace) = try_enter(words, seat, DrawnCell { time, key }, &guess) else {
         give_up(words, seat, time);
         return Err(TryPutError::Raced);
     };

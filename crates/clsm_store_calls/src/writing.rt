@@ -7,7 +7,7 @@ ghost use Rattle.clsm_store_calls.specs.Resting.{IsAtRest, IsInHold, FindsFull, 
 
 use crate::refusal::Full;
 use clsm_lock::{lock_shared, unlock_shared};
-use clsm_memtable::{Decided, DrawError, decide, draw, enter, fill, prefetch};
+use clsm_memtable::{Decided, DrawError, DrawnCell, decide, draw, enter, fill, prefetch};
 use clsm_model::{Deed, Time, Value};
 use clsm_words::{Pace, RawSeat, Words};
 use std::sync::Wait;
@@ -54,7 +54,7 @@ fn try_write<P: Pace, R: Wait>(
     };
     let guess = prefetch(words, seat, time, key);
     fill(words, seat, time, key, value.as_ref());
-    let trace = enter(rt, words, seat, time, key, &guess);
+    let trace = enter(rt, words, seat, DrawnCell { time, key }, &guess);
     match decide(words, seat, time, &deed_of(key, value), &trace) {
         Decided::Done => Attempt::Written(time),
         Decided::Overtaken => Attempt::Lost,

@@ -4,3 +4,6 @@ pub mod Parts
 pub mod Taken
 pub mod Readings
 pub mod Zips
+pub mod Lists
+pub mod Texts
+pub mod Verdicts

@@ -4,3 +4,7 @@ pub mod Input
 pub mod Line
 pub mod Member
 pub mod Number
+pub mod Audit
+pub mod Lines
+pub mod Record
+pub mod Written

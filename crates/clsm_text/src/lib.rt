@@ -1,19 +1,31 @@
 //! What the programs read and print as lines: lines and their words, numbers, values, rows and the
-//! members of batches; the streams of a program, and how a program ends that fails.
+//! members of batches; records of calls, and the audit of such lines; the streams of a program, and
+//! how a program ends that fails.
 #![tactic(auto)]
 
+mod audit;
+mod deed;
 mod failure;
+mod history;
 mod input;
 mod line;
 mod member;
 mod number;
+mod reason;
+mod record;
 mod shown;
 mod streams;
+mod words;
+mod written;
 
+pub use audit::{AskedAudit, Listed, audit_lines};
 pub use failure::Failure;
 pub use input::read_line;
 pub use line::{LONGEST_LINE, LineError, line_words, plain_words, split_words};
 pub use member::{parse_change, parse_member, parse_members};
 pub use number::{parse_number, parse_value};
+pub use reason::write_reason;
+pub use record::parse_record;
 pub use shown::{Shown, ShownRows};
 pub use streams::Streams;
+pub use written::{Line, MemberWords, Told, write_record};

@@ -15,7 +15,7 @@ impl fmt::Display for Shown<'_> {
     }
 }
 
-/// `K=V` for each row, parted by spaces; `empty` where there is no row.
+/// `K=V` for each row, separated by spaces; `empty` where there is no row.
 #[derive(Drop)]
 pub struct ShownRows<'a>(pub &'a Rows);
 

@@ -1,10 +1,9 @@
 //! Lines whose bytes or length a transcript cannot show well, and texts that no session prints.
 use super::device::{SOUND, play};
 use clsm_audit::{AuditError, FaultKind};
-use clsm_records::{parse_record, write_record};
 use clsm_script::Answer;
 use clsm_store::{FreezeError, Full, Pinned, ReclaimError, TryPutError, Worn};
-use clsm_text::Failure;
+use clsm_text::{Failure, parse_record, write_record};
 use std::io;
 use std::test::Fail;
 

@@ -1,6 +1,6 @@
 //! The words that the environment gives. At most one allocation of a run is made to fail: what is
 //! refused memory is made again.
-use clsm_options::{Refusal, words};
+use clsm_command::{Refusal, words};
 use std::alloc::Global;
 use std::env::{Env, FillError};
 

@@ -2,8 +2,7 @@
 use crate::schedules::play::Wrong;
 use clsm_core::{End, Part, Step, Word};
 use clsm_model::{CallRecord, Deed, Members, Value};
-use clsm_records::parse_record;
-use clsm_text::{LineError, parse_number, parse_value};
+use clsm_text::{LineError, parse_number, parse_record, parse_value};
 use std::alloc::Global;
 
 /// What is left of a row.

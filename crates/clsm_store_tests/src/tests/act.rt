@@ -25,6 +25,10 @@ pub(super) enum Act {
     Scan(u64),
     /// So many keys from this one on.
     Page(u64, usize),
+    /// All pages of so many keys from this one on, in turn.
+    Pages(u64, usize),
+    /// How many keys from this one on have a value.
+    Count(u64),
     Snapshot,
     Close,
     Freeze,
@@ -88,6 +92,8 @@ pub(super) enum Answer {
     Rows(Time, usize),
     /// So many rows of a page, and the key of the next one.
     Page(Time, usize, Option<u64>),
+    /// So many keys.
+    Keys(Time, u64),
     NoMemory,
     Frozen(u64),
     Merged(u64),

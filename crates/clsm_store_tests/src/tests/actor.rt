@@ -3,8 +3,8 @@ use super::act::{Act, Answer, Step, Write, read_as};
 use super::drawn::{Load, Mix, after, draw, next};
 use super::gate::Gates;
 use clsm_store::{
-    Answer as Called, BatchError, Call, CallRecord, Caller, Change, Deed, Full, Members,
-    MergeError, Merger, ReclaimError, Rmw, Stopped, Swept, Value,
+    Answer as Called, BatchError, Call, CallRecord, Caller, Change, Counted, Deed, Full, Got,
+    Members, MergeError, Merger, Page, Pages, ReclaimError, Rmw, Scan, Stopped, Swept, Time, Value,
 };
 use std::alloc::Global;
 use std::ops::Range;
@@ -267,6 +267,36 @@ impl<'a> Actor<'a> {
         Answer::Done
     }
 
+    /// Reads all pages from the key on, in turn: one that is refused memory once more. Answers how
+    /// many there are.
+    fn read_pages(&mut self, rt: &impl Abort, alloc: Global, from: u64, max: usize) -> Answer {
+        let hi = u64::MAX;
+        let mut pages = Pages::new(from, hi, max);
+        let max = pages.max as u64;
+        let mut read = 0_u64;
+        for _ in 0..TRIES {
+            let from = pages.next;
+            let Ok(page) = self.caller.next_page(alloc, &mut pages) else {
+                continue;
+            };
+            let (Some(from), Some(page)) = (from, page) else {
+                return Answer::Count(read);
+            };
+            let Page { time, rows, more } = page;
+            let deed = Deed::Page {
+                from,
+                hi,
+                max,
+                rows,
+                more,
+            };
+            let record = self.caller.record_of(time, deed);
+            self.records.push(record).expect(rt, "memory");
+            read = read.wrapping_add(1);
+        }
+        Answer::Other
+    }
+
     /// Sweeps so often, beside others. Answers how often it did.
     fn sweep_on<R: Wait>(&mut self, rt: &R, sweeps: u64) -> Answer {
         let mut swept = 0_u64;
@@ -303,6 +333,11 @@ impl<'a> Actor<'a> {
                     self.command(rt, act)
                 }
                 Act::Room => Answer::Count(self.caller.room()),
+                Act::Count(lo) => {
+                    let Counted { time, keys } = self.caller.count(*lo, u64::MAX);
+                    Answer::Keys(time, keys)
+                }
+                Act::Pages(from, max) => self.read_pages(rt, alloc, *from, *max),
                 Act::Sweeps(sweeps) => self.sweep_on(rt, *sweeps),
                 Act::Calls(load) => self.call_on(rt, alloc, load),
                 Act::PutInTurn(keys, first, end) => {

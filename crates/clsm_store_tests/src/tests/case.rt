@@ -1,12 +1,9 @@
 //! Cases: what actors play on a store of their own.
-ghost use Rattle.std.specs.Prelude.{◌≡◌, All};
-ghost use Rattle.clsm_store_calls.specs.Seats.{IsNewMerger};
-
 use super::act::Step;
 use super::actor::Actor;
 use super::gate::{Gate, Gates, Hold, NOWHERE};
 use clsm_audit::audit;
-use clsm_store::{Caller, Clean, Config, Merger, Opened, Seat, Store, open_paced};
+use clsm_store::{Bound, Config, Opened, open_paced};
 use std::alloc::Global;
 use std::process::Abort;
 use std::sync::Wait;
@@ -51,22 +48,14 @@ pub(super) const PLAIN: Case = Case {
     round: &[],
 };
 
-/// The actors of these seats, which did nothing yet.
-fn seat_all<'a>(
-    rt: &impl Abort,
-    alloc: Global,
-    store: &'a Store<Gates>,
-    seats: Vec<Seat>,
-    merger: Clean,
-) -> Vec<Actor<'a>>
-    requires seats { All (λ seat. seat.store ≡ store.now) seats.items }
-    requires merger { merger.merger.store ≡ store.now }
-{
-    let mut merger = Some(Merger::new(store, merger));
-    let mut actors = Vec::with_capacity(alloc, seats.len()).expect(rt, "memory");
-    for seat in seats {
+/// The actors of these callers. The first one has the merger.
+fn actors_of<'a>(rt: &impl Abort, alloc: Global, bound: Bound<'a, Gates>) -> Vec<Actor<'a>> {
+    let Bound { callers, merger } = bound;
+    let mut merger = Some(merger);
+    let mut actors = Vec::with_capacity(alloc, callers.len()).expect(rt, "memory");
+    for caller in callers {
         let actor = Actor {
-            caller: Caller::new(store, seat),
+            caller,
             merger: merger.take(),
             records: Vec::new(alloc),
             word: 0,
@@ -110,7 +99,8 @@ pub(super) fn check<R: Abort + Threads + Wait + Sync>(rt: &R, alloc: Global, cas
         seats,
         merger,
     } = open_paced(alloc, case.config, gates).expect(rt, "memory");
-    let mut actors = seat_all(rt, alloc, &store, seats, merger);
+    let bound = store.bind(alloc, seats, merger).expect(rt, "memory");
+    let mut actors = actors_of(rt, alloc, bound);
     play_all(rt, alloc, case.name, &mut actors, case.phases);
     for _ in 0..case.rounds {
         play_all(rt, alloc, case.name, &mut actors, case.round);

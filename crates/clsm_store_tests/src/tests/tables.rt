@@ -81,6 +81,32 @@ const SCANS: &[Step] = &[
     (Act::Page(0, 1), Answer::Page(12, 1, Some(8))),
 ];
 
+/// Pages in turn are as many as the rows fill, but one where there are none, and with a `max` of 0
+/// each has one row. Under a snapshot they are those of its map, and so is a count. Removed keys are
+/// not counted, and the greatest key is.
+const COUNTS: &[Step] = &[
+    (Act::Count(0), Answer::Keys(0, 0)),
+    (Act::Pages(0, 2), Answer::Count(1)),
+    (Act::Put(7, 70), Answer::At(0)),
+    (Act::PutEight(8), Answer::At(1)),
+    (Act::Put(9, 90), Answer::At(2)),
+    (Act::Snapshot, Answer::At(3)),
+    (Act::Remove(7), Answer::At(3)),
+    (Act::Sweep, Answer::Clean),
+    (Act::Put(u64::MAX, 1), Answer::At(4)),
+    (Act::Count(0), Answer::Keys(3, 3)),
+    (Act::Pages(0, 1), Answer::Count(3)),
+    (Act::Pages(0, 2), Answer::Count(2)),
+    (Act::Close, Answer::At(3)),
+    (Act::Count(0), Answer::Keys(5, 3)),
+    (Act::Count(8), Answer::Keys(5, 3)),
+    (Act::Count(9), Answer::Keys(5, 2)),
+    (Act::Count(10), Answer::Keys(5, 1)),
+    (Act::Count(u64::MAX), Answer::Keys(5, 1)),
+    (Act::Pages(8, 0), Answer::Count(3)),
+    (Act::Pages(9, 2), Answer::Count(1)),
+];
+
 /// An epoch has four timestamps. A sweep waits below so many of them, and where more are asked for
 /// than there are it waits for all; an epoch that is frozen already, or a component that is retired,
 /// is swept in any case. A caller finds fewer timestamps left after each write, and all four again
@@ -144,6 +170,11 @@ const ALONE: &[Case] = &[
     Case {
         name: "a scan and a page leave their seat at rest",
         phases: &[&[SCANS]],
+        ..PLAIN
+    },
+    Case {
+        name: "pages are read in turn, and keys are counted",
+        phases: &[&[COUNTS]],
         ..PLAIN
     },
 ];

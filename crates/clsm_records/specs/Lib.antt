@@ -1,4 +1,0 @@
-pub mod Audit
-pub mod Lines
-pub mod Record
-pub mod Written

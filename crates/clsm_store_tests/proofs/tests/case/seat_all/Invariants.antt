@@ -1,6 +1,0 @@
-use Rattle.std.proofs.Common.{◌≡◌}
-use Rattle.std.specs.Prelude.{All}
-use Rattle.clsm_store_tests.proofs.tests.case.seat_all.Given as goal
-
-abbrev pub invariant-loop-seat : goal.invariant-loop-seat
-invariant-loop-seat g l = All (λ seat. seat.store ≡ l.store) l.seat-iterator.rest.items
