@@ -2,6 +2,7 @@
 use Rattle.std.specs.Prelude.{◌≡◌, ℕ, ◌<◌, ◌≤◌, Bool, true, false, nat_le, min, List, [], ◌∷◌, length, Option, Some, None}
 use Rattle.std.specs.List.{AllByRecursion}
 use Rattle.clsm_model.specs.Map.{KeysRise, Pair, value_at}
+use Rattle.clsm_model.specs.Right.{first_key}
 use Rattle.clsm_levels.specs.declared.entry.Entry.{Entry}
 use Rattle.clsm_levels.specs.Entry.{value_of}
 use Rattle.clsm_scan.specs.Heads.{has_value, rows_of}
@@ -67,8 +68,9 @@ IsCollected value lo hi max rows None = AreAll value lo hi rows × IsAtMost (len
 IsCollected value lo hi max rows (Some more) = IsStopped value lo hi max rows more
 
 -- So many keys from `lo` to `hi` have a value, as far as a word can hold their number: it is that of
--- the rows of all of them
-pub record IsCount (value : ℕ → Option (List ℕ)) (lo hi n : ℕ) : Type 0 where
+-- the rows of all of them, and this is the first of the keys
+pub record IsCount (value : ℕ → Option (List ℕ)) (lo hi n : ℕ) (first : Option ℕ) : Type 0 where
   pub rows : List Pair
   pub all : IsCollected value lo hi None rows None
   pub counted : n ≡ min (length rows) 18446744073709551615
+  pub begins : first ≡ first_key rows

@@ -14,7 +14,7 @@ mod walk;
 
 pub use ahead::{Ahead, Head};
 pub use collecting::{Collected, KeyRange, collect};
-pub use counting::count_keys;
+pub use counting::{KeyCount, count_keys};
 pub use cursor::Cursor;
 pub use epoch_cursor::EpochCursor;
 pub use merged::Merged;

@@ -8,7 +8,7 @@ ghost use Rattle.clsm_scan.specs.Sources.{MayScan, epoch_cursor, found_in_compon
 
 use crate::ahead::Ahead;
 use crate::collecting::{Collected, KeyRange, collect};
-use crate::counting::count_keys;
+use crate::counting::{KeyCount, count_keys};
 use crate::cursor::Cursor;
 use crate::epoch_cursor::EpochCursor;
 use crate::merged::Merged;
@@ -117,8 +117,8 @@ pub fn scan<P: Pace>(
     collect(words, seat, alloc, &mut cursor, range)
 }
 
-/// How many keys from `lo` to `hi` have a value at the point, or 2^64 - 1 if all 2^64 have one. It
-/// goes along the ordered lists of the epochs and the runs as a scan, but reads no value and takes
+/// How many keys from `lo` to `hi` have a value at the point, or 2^64 - 1 if all 2^64 have one, and
+/// the first of them. It goes along the ordered lists of the epochs and the runs as a scan, but reads no value and takes
 /// no memory. It never waits.
 pub fn count<P: Pace>(
     words: &Words<P>,
@@ -126,14 +126,14 @@ pub fn count<P: Pace>(
     point: ReadPoint,
     lo: u64,
     hi: u64,
-) -> u64
+) -> KeyCount
     requires of { IsSeatOf words.now seat.old }
     requires held { seat.old.knows.view.held ≡ Some point.component }
     requires within { point.until ≤ (point.component + 2) * seat.old.knows.layout.cells }
     requires settled { point.until ≤ length seat.old.knows.past }
     ensures of { IsSeatOf words.now seat.new }
     ensures looks { LooksAside seat.old.knows seat.new.knows }
-    ensures count { IsCount (left_at (found_in_component seat.old.knows point.component point.until)) lo hi result }
+    ensures count { IsCount (left_at (found_in_component seat.old.knows point.component point.until)) lo hi result.keys result.first }
 {
     let mut cursor = sources(words, point.component, point.until);
     cursor.seek(words, seat, lo);

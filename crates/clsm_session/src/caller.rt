@@ -221,10 +221,10 @@ impl<'a, R: Wait, P: Place> SessionCaller<'a, R, P> {
 
     /// As `Store::count`.
     pub fn count(&mut self, lo: u64, hi: u64) -> Counted
-        ensures counts { CountsKeys self.old self.new result.time lo hi result.keys }
+        ensures counts { CountsKeys self.old self.new result.time lo hi result.keys result.first }
         ensures lock { TakesNoLock self.old.tally self.new.tally }
     {
-        self.caller.count(lo, hi)
+        self.caller.count(self.alloc, lo, hi)
     }
 
     /// The time of its open snapshot, if one is open.

@@ -1,4 +1,5 @@
 pub mod Starts
+mod InOrder
 mod SeatPlaces
 mod Chained
 mod Joint

@@ -8,7 +8,7 @@ use crate::seat::Seat;
 use crate::store::Store;
 use clsm_model::Memory;
 use clsm_words::Pace;
-use std::alloc::Global;
+use std::alloc::{AllocError, Global};
 
 /// The callers of a store, in the order of their seats, and its merger. Each may be moved to another
 /// thread.
@@ -16,6 +16,22 @@ use std::alloc::Global;
 pub struct Bound<'a, P: Pace + Drop> {
     pub callers: Vec<Caller<'a, P>>,
     pub merger: Merger<'a, P>,
+}
+
+/// The callers that have these seats, in their order.
+fn callers_of<'a, P: Pace>(
+    alloc: Global,
+    store: &'a Store<P>,
+    seats: Vec<Seat>,
+) -> Result<Vec<Caller<'a, P>>, AllocError>
+    requires { All (λ seat. seat.store ≡ store.now) seats.items }
+    ensures { IfOk result (λ callers. map (λ caller. caller.seat) callers.items ≡ seats.items) }
+{
+    let mut callers = Vec::with_capacity(alloc, seats.len())?;
+    for seat in seats {
+        callers.push(Caller::new(store, seat))?;
+    }
+    Ok(callers)
 }
 
 impl<P: Pace + Drop> Store<P> {
@@ -33,11 +49,9 @@ impl<P: Pace + Drop> Store<P> {
         ensures callers { IfOk result (λ bound. map (λ caller. caller.seat) bound.callers.items ≡ seats.items) }
         ensures merger { IfOk result (λ bound. bound.merger.phase ≡ CleanPhase merger) }
     {
-        let merger = Merger::new(self, merger);
-        let mut callers = Vec::with_capacity(alloc, seats.len())?;
-        for seat in seats {
-            callers.push(Caller::new(self, seat)).map_err(|_| Memory)?;
-        }
-        Ok(Bound { callers, merger })
+        Ok(Bound {
+            callers: callers_of(alloc, self, seats)?,
+            merger: Merger::new(self, merger),
+        })
     }
 }

@@ -147,11 +147,11 @@ impl<'a, P: Pace> Caller<'a, P> {
     }
 
     /// As `Store::count`.
-    pub fn count(&mut self, lo: u64, hi: u64) -> Counted
-        ensures counts { CountsKeys self.old.seat self.new.seat result.time lo hi result.keys }
+    pub fn count(&mut self, alloc: Global, lo: u64, hi: u64) -> Counted
+        ensures counts { CountsKeys self.old.seat self.new.seat result.time lo hi result.keys result.first }
         ensures lock { TakesNoLock self.old.seat.tally self.new.seat.tally }
     {
-        self.store.count(&mut self.seat, lo, hi)
+        self.store.count(alloc, &mut self.seat, lo, hi)
     }
 
     /// As `Store::room`.

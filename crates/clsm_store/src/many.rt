@@ -9,7 +9,7 @@ use crate::seat::Seat;
 use crate::store::Store;
 use clsm_model::{Deed, Memory, Time};
 use clsm_store_calls::{
-    Asked, Counted, OpenSnapshot, Page, Scan, count_at, count_under, scan_at, scan_under,
+    Asked, Bounds, Counted, OpenSnapshot, Page, Scan, count_at, count_under, scan_at, scan_under,
 };
 use clsm_words::Pace;
 use std::alloc::Global;
@@ -87,24 +87,24 @@ impl<P: Pace> Store<P> {
     /// How many keys from `lo` to `hi` have a value: at the time of the seat's open snapshot, else
     /// at a time of its own, as `get`. It is 0 if `lo > hi`. It makes the looks of a scan of that
     /// range but for those at values, and takes no memory and no lock. It never waits and is never
-    /// refused. It records nothing: no audit holds it, and that it never sees a part of a batch is
-    /// not proved.
-    pub fn count(&self, seat: &mut Seat, lo: u64, hi: u64) -> Counted
+    /// refused. It is recorded as a page of no rows, whose `more` is the first of the keys.
+    pub fn count(&self, alloc: Global, seat: &mut Seat, lo: u64, hi: u64) -> Counted
         requires { seat.old.store ≡ self.now }
-        ensures counts { CountsKeys seat.old seat.new result.time lo hi result.keys }
+        ensures counts { CountsKeys seat.old seat.new result.time lo hi result.keys result.first }
         ensures lock { TakesNoLock seat.old.tally seat.new.tally }
     {
-        let (time, keys) = match seat.snapshot {
-            None => count_at(&self.words, &mut seat.raw, seat.pin, lo, hi),
+        let bounds = Bounds { lo, hi };
+        let counted = match seat.snapshot {
+            None => count_at(&self.words, &mut seat.raw, alloc, seat.pin, bounds),
             Some(time) => {
                 let snapshot = OpenSnapshot {
                     pin_word: seat.pin,
                     time,
                 };
-                count_under(&self.words, &mut seat.raw, snapshot, lo, hi)
+                count_under(&self.words, &mut seat.raw, alloc, snapshot, bounds)
             }
         };
         seat.pin = seat.pin.wrapping_add(2);
-        Counted { time, keys }
+        counted
     }
 }

@@ -1,7 +1,7 @@
 -- What was counted of a held component is the number of a range's rows. These are no more than there
 -- are times below, since each has a write; so a word holds their number.
 use Rattle.std.proofs.Common.{◌≡◌, ◌≢◌, ℕ, zero, suc, ◌<◌, ◌≤◌, ◌==◌, Bool, true, false, not, cond, List, [], ◌∷◌, length, refl, sym, ap, ◌∙◌, subst, arith}
-use Rattle.std.proofs.Common.{inl, inr, true≢false, Some, None}
+use Rattle.std.proofs.Common.{inl, inr, true≢false, Option, Some, None}
 use Rattle.std.proofs.lemmas.Bool.{cases_lt, eq-eqb, eqb-true, ne_eqb}
 use Rattle.std.proofs.lemmas.List.Kept.{IsStrictlySortedBy-filter}
 use Rattle.std.proofs.lemmas.Map.Keys.{sorted_tail}
@@ -11,10 +11,11 @@ use Rattle.std.specs.Ordering.{nat_cmp}
 use Rattle.clsm_model.specs.declared.slot.Slot.{Slot}
 use Rattle.clsm_model.specs.declared.slot.Slot.TheVariants.{Nothing, Wrote}
 use Rattle.clsm_model.specs.History.{History, left_by, newest, or_else, plain, slot_at, value, write_of}
+use Rattle.clsm_model.specs.declared.record.Deed.TheVariants.{Page}
+use Rattle.clsm_model.specs.Right.{Reads}
 use Rattle.clsm_model.specs.Map.{IsRange, KeysRise, Pair, value_at}
 use Rattle.clsm_scan.specs.Collected.{IsCount}
-use Rattle.clsm_words.specs.declared.known.Known.{Known}
-use Rattle.clsm_store_calls.specs.Scanning.{CountsAt, GivesUpRead, IsKeyCount}
+use Rattle.clsm_store_calls.specs.Scanning.{IsKeyCount}
 use Rattle.clsm_model.proofs.Pages.{EachKey, each_weaker, rise_first, value_at-here}
 use Rattle.clsm_model.proofs.Ranges.{keys_of-filter}
 
@@ -95,21 +96,20 @@ few_rows h s lo hi rows range = few h s rows range.rise (each_some (HasValue h s
 
 -- ---- a count of keys
 
-pub key_count : (h : History) (s lo hi n : ℕ) → s ≤ 18446744073709551615 → IsCount (λ key. value h key s) lo hi n → IsKeyCount h s lo hi n
-key_count h s lo hi n small is =
-    let all = is.all.0 in
-    let range : IsRange h s lo hi is.rows = record { rise = all.rise; inside = all.inside; below = all.below; above = all.above } in
+range_counted : (h : History) (s lo hi n : ℕ) (first : Option ℕ) → (is : IsCount (λ key. value h key s) lo hi n first) → IsRange h s lo hi is.rows
+range_counted h s lo hi n first is =
+    let all = is.all.0 in record { rise = all.rise; inside = all.inside; below = all.below; above = all.above }
+
+pub key_count : (h : History) (s lo hi n : ℕ) (first : Option ℕ) → s ≤ 18446744073709551615 → IsCount (λ key. value h key s) lo hi n first
+    → IsKeyCount h s lo hi n
+key_count h s lo hi n first small is =
+    let range = range_counted h s lo hi n first is in
     record {
       rows = is.rows;
       all = range;
       counted = let le = few_rows h s lo hi is.rows range in let counted = is.counted in omega arith;
     }
 
--- the past is the same behind the count
-pub counts_at : (a d e : Known) (t lo hi n : ℕ) → GivesUpRead a e → e.past ≡ d.past → t ≤ length d.past → IsKeyCount (plain d.past) t lo hi n
-    → CountsAt a e t lo hi n
-counts_at a d e t lo hi n gives same reached counts = record {
-  unrecorded = gives;
-  reached = subst (λ (slots : List Slot). t ≤ length slots) (sym same) reached;
-  counts = subst (λ (slots : List Slot). IsKeyCount (plain slots) t lo hi n) (sym same) counts;
-}
+-- a page of no rows has the first of them
+pub empty_page : (h : History) (s lo hi n : ℕ) (first : Option ℕ) → IsCount (λ key. value h key s) lo hi n first → Reads h s (Page lo hi 0 [] first)
+empty_page h s lo hi n first is = (is.rows, range_counted h s lo hi n first is, record { front = refl; next = is.begins })

@@ -1,5 +1,5 @@
 -- Scans, pages and counts at the words.
-use Rattle.std.specs.Prelude.{◌≡◌, ℕ, ◌≤◌, List, length, Option, Some, None}
+use Rattle.std.specs.Prelude.{◌≡◌, ℕ, ◌≤◌, [], List, length, Option, Some, None}
 use Rattle.clsm_model.specs.declared.record.Deed.{Deed}
 use Rattle.clsm_model.specs.declared.record.Deed.TheVariants.{Scan, Page}
 use Rattle.clsm_model.specs.History.{History, IsBeginning, end_of, plain}
@@ -13,7 +13,7 @@ use Rattle.clsm_words.specs.declared.known.Known.{Known}
 use Rattle.clsm_words.specs.Knowing.{known_of}
 use Rattle.clsm_store_calls.specs.declared.scanning.Asked.{Asked}
 use Rattle.clsm_store_calls.specs.declared.scanning.Asked.TheVariants.{All, First}
-use Rattle.clsm_store_calls.specs.Seats.{IsSameSeat, SeatState, known_by}
+use Rattle.clsm_store_calls.specs.Seats.{Answers, SeatState, known_by}
 use Rattle.clsm_store_calls.specs.Tally.{TakesNoLock, tally_of}
 
 -- the first key and the last one that were asked for, and how many pairs at most
@@ -55,19 +55,9 @@ pub record IsKeyCount (h : History) (s lo hi n : ℕ) : Type 0 where
   pub all : IsRange h s lo hi rows
   pub counted : n ≡ length rows
 
--- the seat counted the keys below the time, up to which it knows all, and recorded nothing
-pub record CountsAt (old new : Known) (t lo hi n : ℕ) : Type 0 where
-  pub unrecorded : GivesUpRead old new
-  pub reached : t ≤ length new.past
-  pub counts : IsKeyCount (plain new.past) t lo hi n
-
--- The same, as contracts see the seat: the time is that of the open snapshot, or else not below the
--- due; there are no records more, and due and snapshot are as before
-pub record CountsKeys (old new : SeatState) (t lo hi n : ℕ) : Type 0 where
-  pub same : IsSameSeat old new
-  pub calls : new.calls ≡ old.calls
-  pub due : new.due ≡ old.due
-  pub snapshot : new.snapshot ≡ old.snapshot
-  pub time : IsNextRead old.due old.snapshot t
+-- The seat counted the keys below the time, up to which it knows all. It is recorded as a page of no
+-- rows, which has the first of the keys
+pub record CountsKeys (old new : SeatState) (t lo hi n : ℕ) (first : Option ℕ) : Type 0 where
+  pub answers : Answers old new t (Page lo hi 0 [] first)
   pub reached : t ≤ end_of (known_by new)
   pub counts : IsKeyCount (known_by new) t lo hi n

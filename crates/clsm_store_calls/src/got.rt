@@ -64,10 +64,11 @@ pub struct Page {
     pub more: Option<u64>,
 }
 
-/// The answer of a count: its time, and how many keys of the range have a value in the map of the
-/// writes below it.
+/// The answer of a count: its time, how many keys of the range have a value in the map of the writes
+/// below it, and the first of these keys.
 #[derive(Clone, Copy, PartialEq, Eq, Debug)]
 pub struct Counted {
     pub time: Time,
     pub keys: u64,
+    pub first: Option<u64>,
 }

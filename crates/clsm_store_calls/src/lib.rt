@@ -24,7 +24,7 @@ mod writing;
 pub use agreeing::agree_at;
 pub use batching::batch;
 pub use changing::{Modification, change};
-pub use counting_keys::{count_at, count_under};
+pub use counting_keys::{Bounds, count_at, count_under};
 pub use freezing::freeze;
 pub use got::{Counted, Got, Page, Rmw, Scan};
 pub use looking::{drawn_at, room_at};

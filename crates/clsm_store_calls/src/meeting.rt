@@ -38,6 +38,6 @@ pub fn confirm_at<P: Pace>(words: &Words<P>, seat: &mut RawSeat)
     ensures confirms { Confirms seat.old.knows seat.new.knows }
 {
     seat.show_invariant();
-    words.look(seat, Word::Limit);
+    words.look(seat, Word::Front);
     seat.show_invariant();
 }

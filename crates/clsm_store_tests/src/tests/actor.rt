@@ -4,7 +4,8 @@ use super::drawn::{Load, Mix, after, draw, next};
 use super::gate::Gates;
 use clsm_store::{
     Answer as Called, BatchError, Call, CallRecord, Caller, Change, Counted, Deed, Full, Got,
-    Members, MergeError, Merger, Page, Pages, ReclaimError, Rmw, Scan, Stopped, Swept, Time, Value,
+    Members, MergeError, Merger, Page, Pages, ReclaimError, Rmw, Rows, Scan, Stopped, Swept, Time,
+    Value,
 };
 use std::alloc::Global;
 use std::ops::Range;
@@ -298,6 +299,22 @@ impl<'a> Actor<'a> {
         Answer::Other
     }
 
+    /// Counts the keys from this one on. The count is recorded as a page of no rows.
+    fn count(&mut self, rt: &impl Abort, alloc: Global, from: u64) -> Answer {
+        let hi = u64::MAX;
+        let Counted { time, keys, first } = self.caller.count(alloc, from, hi);
+        let deed = Deed::Page {
+            from,
+            hi,
+            max: 0,
+            rows: Rows::new(Vec::new(alloc)),
+            more: first,
+        };
+        let record = self.caller.record_of(time, deed);
+        self.records.push(record).expect(rt, "memory");
+        Answer::Keys(time, keys)
+    }
+
     /// Sweeps so often, beside others. Answers how often it did.
     fn sweep_on<R: Wait>(&mut self, rt: &R, sweeps: u64) -> Answer {
         let mut swept = 0_u64;
@@ -334,10 +351,7 @@ impl<'a> Actor<'a> {
                     self.command(rt, act)
                 }
                 Act::Room => Answer::Count(self.caller.room()),
-                Act::Count(lo) => {
-                    let Counted { time, keys } = self.caller.count(*lo, u64::MAX);
-                    Answer::Keys(time, keys)
-                }
+                Act::Count(lo) => self.count(rt, alloc, *lo),
                 Act::Pages(from, max) => self.read_pages(rt, alloc, *from, *max),
                 Act::Sweeps(sweeps) => self.sweep_on(rt, *sweeps),
                 Act::Calls(load) => self.call_on(rt, alloc, load),

@@ -36,11 +36,13 @@ next g c =
     let now = left_at (g.C.Cursor.found c.loop-key.seat.knows c.loop-key.cursor) in
     next_row_same (value g c) now c.loop-key.from c.args.hi (Some (row g c)) (λ k. ap value_of (c.loop-key.invariant.same k)) c.in-Some.ensures.next.next
 
-counted : (g : Over) (c : After-checked_add g) → IsCountTo (value g c) c.args.lo (c.in-Some.key + 1) c.args.hi c.saturating_add-count.result
+counted : (g : Over) (c : After-checked_add g) → IsCountTo (value g c) c.args.lo (c.in-Some.key + 1) c.args.hi c.saturating_add-keys.result
+    (Some c.unwrap_or.result)
 counted g c =
     let before = c.loop-key.invariant in
-    count_next (value g c) c.args.lo c.args.hi c.loop-key.from c.loop-key.count c.saturating_add-count.result (row g c) before.counts before.later (next g c)
-    c.saturating_add-count.ensures
+    subst (λ (key : ℕ). IsCountTo (value g c) c.args.lo (c.in-Some.key + 1) c.args.hi c.saturating_add-keys.result (Some key)) (sym c.unwrap_or.ensures)
+    (count_next (value g c) c.args.lo c.args.hi c.loop-key.from c.loop-key.keys c.saturating_add-keys.result (row g c) c.loop-key.first before.counts
+    before.later (next g c) c.saturating_add-keys.ensures)
 
 pub returns-in_default-checked_add-clause-count : goal.returns-in_default-checked_add-clause-count
 returns-in_default-checked_add-clause-count g c =
@@ -49,7 +51,8 @@ returns-in_default-checked_add-clause-count g c =
       | inl lt ↦ absurd (c.in_default-checked_add.ensures (let fits = c.well_formed in omega (arith, fits)))
       | inr le ↦ le
     ] in
-    count_ended (value g turn) c.args.lo c.args.hi c.in-Some.key c.saturating_add-count.result (counted g turn) last
+    count_ended (value g turn) c.args.lo c.args.hi c.in-Some.key c.saturating_add-keys.result (Some c.unwrap_or.result)
+    (counted g turn) last
 
 pub loop-key-preserved : goal.loop-key-preserved
 loop-key-preserved g c =
@@ -65,5 +68,6 @@ loop-key-preserved g c =
       same = λ k. c.next_key.ensures.same k ∙ before.same k;
       stands = subst (g.C.Cursor.stands k1 c.next_key.new.cursor) behind c.in-Some.ensures.stands;
       later = let later = row_next.0 in omega arith;
-      counts = subst (λ (end : ℕ). IsCountTo (value g turn) c.args.lo end c.args.hi c.saturating_add-count.result) behind (counted g turn);
+      counts = subst (λ (end : ℕ). IsCountTo (value g turn) c.args.lo end c.args.hi c.saturating_add-keys.result (Some c.unwrap_or.result))
+          behind (counted g turn);
     }

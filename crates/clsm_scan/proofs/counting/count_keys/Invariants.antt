@@ -13,7 +13,7 @@ invariant-loop-key g l = record {
   same : (k : ℕ) → g.C.Cursor.found l.seat.knows l.cursor k ≡ g.C.Cursor.found l.fn.seat.knows l.fn.cursor k;
   stands : g.C.Cursor.stands l.seat.knows l.cursor l.from;
   later : l.lo ≤ l.from;
-  counts : IsCountTo (left_at (g.C.Cursor.found l.fn.seat.knows l.fn.cursor)) l.lo l.from l.hi l.count;
+  counts : IsCountTo (left_at (g.C.Cursor.found l.fn.seat.knows l.fn.cursor)) l.lo l.from l.hi l.keys l.first;
 }
 
 abbrev pub decreases-loop-key : goal.decreases-loop-key

@@ -18,4 +18,4 @@ returns-clause-count g c =
     let may : MayScan k component until = record { held = c.requires.held; within = c.requires.within; settled = c.requires.settled } in
     let same = λ (key : ℕ) (above : c.args.lo ≤ key) (below : key ≤ c.args.hi). ap value_of
     (sym (c.seek.ensures.same key ∙ c.sources-cursor.ensures.found k c.requires.of.1 may key)) in
-    count_same _ (left_at (found_in_component k component until)) c.args.lo c.args.hi c.count_keys.result same c.count_keys.ensures.count
+    count_same _ (left_at (found_in_component k component until)) c.args.lo c.args.hi c.count_keys.result.keys c.count_keys.result.first same c.count_keys.ensures.count

@@ -1,10 +1,10 @@
 use Rattle.std.proofs.Common.{◌≡◌, ◌++◌, map}
 use Rattle.std.specs.Prelude.{All}
-use Rattle.clsm_store.proofs.store.Store.bind.Given as goal
+use Rattle.clsm_store.proofs.binding.callers_of.Given as goal
 
 -- the seats of the callers so far and those still to come are all of them
 abbrev pub invariant-loop-seat : goal.invariant-loop-seat
 invariant-loop-seat g l = record {
   seats : map (λ caller. caller.seat) l.callers.items ++ l.seat-iterator.rest.items ≡ l.fn.seats.items;
-  at : All (λ seat. seat.store ≡ l.self) l.seat-iterator.rest.items;
+  at : All (λ seat. seat.store ≡ l.store) l.seat-iterator.rest.items;
 }
