@@ -1,5 +1,5 @@
 -- What a call, as a value, makes of its seat, and what it is answered.
-use Rattle.std.specs.Prelude.{◌≡◌, ⊤, Option, Some, None, Result, Ok, Err}
+use Rattle.std.specs.Prelude.{◌≡◌, ⊤, Some, None, Ok, Err}
 use Rattle.clsm_model.specs.declared.deal.Deal.{Deal}
 use Rattle.clsm_model.specs.declared.deal.Deal.TheVariants as deals
 use Rattle.clsm_model.specs.declared.record.Deed.TheVariants as deeds

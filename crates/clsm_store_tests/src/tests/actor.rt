@@ -166,12 +166,13 @@ impl<'a> Actor<'a> {
             Ok(rmw) => rmw,
             Err(Full { time }) => return Answer::Full(time),
         };
-        let record = self.caller.record_of(time, Deed::Rmw { key, old, change });
-        self.records.push(record).expect(rt, "memory");
-        match change {
+        let answer = match &change {
             Change::Keep => read_as(time, &old),
             _ => Answer::At(time),
-        }
+        };
+        let record = self.caller.record_of(time, Deed::Rmw { key, old, change });
+        self.records.push(record).expect(rt, "memory");
+        answer
     }
 
     /// A call of the seat, whose record is kept.
