@@ -1,4 +1,4 @@
--- Writes that were refused for want of room, and tried again.
+-- Writes that were refused because there was no room, and tried again.
 use Rattle.std.proofs.Common.{◌≤◌, ℕ, List, [], ◌∷◌, ◌++◌, length, Option, refl, ap, ◌∙◌, subst, arith, max}
 use Rattle.std.proofs.Math.Nat.{le-max_left, le-max_right, max-le}
 use Rattle.clsm_model.specs.declared.record.CallRecord.{CallRecord}
@@ -76,7 +76,9 @@ spared_trans a b c key h same g g' =
     let between = max b.due (length b.past) in
     let longer : length a.past ≤ length b.past = prefix_length a.past b.past h.same.longer.slots in
     let due = h.due in
-    let later : before ≤ between = max-le (let e = le-max_left b.due (length b.past) in omega (arith, e)) (let e = le-max_right b.due (length b.past) in omega (arith, e)) in
+    let left = le-max_left b.due (length b.past) in
+    let right = le-max_right b.due (length b.past) in
+    let later : before ≤ between = max-le (omega (arith, left)) (omega (arith, right)) in
     counts_both (writes_from b.past key before) (writes_from c.past key between) (writes_from c.past key before) a.tally.gave_up b.tally.gave_up
     c.tally.gave_up
     (writes_apart b.past c.past key before between same.longer.slots later (le-max_right b.due (length b.past))) g g'

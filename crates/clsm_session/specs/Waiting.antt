@@ -29,7 +29,7 @@ pub record IsNoRoomAtLast (old new : SeatState) (members : ℕ) : Type 0 where
   pub looked : new.tally.limit ≡ Some limit
   pub short : limit < time + members
 
--- why a batch was refused: for want of room, or since it is none
+-- why a batch was refused: there was no room, or it is no batch
 abbrev pub IsRefusedAtLast : SeatState → SeatState → List Member → BatchRefused → Type 0
 IsRefusedAtLast old new members (NoRoom _) = IsNoRoomAtLast old new (length members)
 IsRefusedAtLast old new members Empty = Refuses old new × IsNoBatch old.store.layout.cells members errors.Empty
