@@ -2,15 +2,15 @@
 //! refused, and what is done for it.
 #![tactic(auto)]
 
-mod command;
 mod command_line;
+mod dispatch;
 mod help;
 mod matches;
 mod options;
 mod program;
 mod refusal;
 
-pub use command::{command, refuse};
 pub use command_line::{parse, words};
+pub use dispatch::{command, refuse};
 pub use options::{AuditOptions, ExploreOptions, Options, RunOptions};
 pub use refusal::Refusal;
