@@ -2,7 +2,7 @@
 use super::device::{SOUND, play};
 use clsm_audit::{AuditError, FaultKind};
 use clsm_script::Answer;
-use clsm_store::{FreezeError, Full, Pinned, ReclaimError, TryPutError, Worn};
+use clsm_store::{Answer as Called, FreezeError, Full, Pinned, ReclaimError, TryPutError, Worn};
 use clsm_text::{Failure, parse_record, write_record};
 use std::io;
 use std::test::Fail;
@@ -120,14 +120,20 @@ fn rare_refusals_are_shown(rt: HostRuntime) -> Result<(), Fail> {
     };
     for (answer, shown) in [
         (Answer::Audit(Err(fault)), "audit fault WrongReply 3"),
-        (Answer::Write(Err(Full { time: 4 })), "full @4"),
         (
-            Answer::Try(Err(TryPutError::Full { time: u64::MAX })),
+            Answer::Call(Called::Write(Err(Full { time: 4 }))),
+            "full @4",
+        ),
+        (
+            Answer::Call(Called::Try(Err(TryPutError::Full { time: u64::MAX }))),
             "full @18446744073709551615",
         ),
-        (Answer::Try(Err(TryPutError::Busy)), "busy"),
-        (Answer::Try(Err(TryPutError::Raced)), "raced"),
-        (Answer::Try(Err(TryPutError::Overtaken)), "overtaken"),
+        (Answer::Call(Called::Try(Err(TryPutError::Busy))), "busy"),
+        (Answer::Call(Called::Try(Err(TryPutError::Raced))), "raced"),
+        (
+            Answer::Call(Called::Try(Err(TryPutError::Overtaken))),
+            "overtaken",
+        ),
         (Answer::Freeze(Err(FreezeError::Worn(Worn))), "worn"),
         (
             Answer::Reclaim(Err(ReclaimError::Pinned(Pinned(63)))),
