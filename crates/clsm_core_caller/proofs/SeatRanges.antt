@@ -12,7 +12,7 @@ use Rattle.clsm_model.specs.History.{History, left_by, value}
 use Rattle.clsm_model.specs.Map.{Pair, IsRange, KeysRise, value_at}
 use Rattle.clsm_law.specs.SeatReads.{Gives, IsGivenRow, IsGivenWrite}
 use Rattle.clsm_law.specs.Worlds.{history_of}
-use Rattle.clsm_law.proofs.Histories.{settle, slot_of-history}
+use Rattle.clsm_law.proofs.Records.Histories.{settle, slot_of-history}
 use Rattle.clsm_core_caller.proofs.SeatRows.{IsWriteOf, value_at-row, value_at-some, written}
 
 -- ---- the keys rise

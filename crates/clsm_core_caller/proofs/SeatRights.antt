@@ -8,7 +8,7 @@ use Rattle.clsm_model.specs.History.{IsUncut, slot_at as slot_of}
 use Rattle.clsm_model.specs.Right.{IsRight, Reads}
 use Rattle.clsm_law.specs.Worlds.{history_of, past_of, open_past}
 use Rattle.clsm_model.proofs.Histories.{Reads-same}
-use Rattle.clsm_law.proofs.Histories.{settle, slot_of-history, slot_of-past, end_of-past_min}
+use Rattle.clsm_law.proofs.Records.Histories.{settle, slot_of-history, slot_of-past, end_of-past_min}
 
 -- a past has the slots below its time
 seen-same : (slots : List (Option Slot)) (p s : ℕ) → s ≤ p → (t : ℕ) → t < s → slot_of (history_of (take s slots)) t ≡ slot_of (past_of slots p) t

@@ -10,7 +10,7 @@ use Rattle.clsm_model.specs.History.{History, write_of, or_else, newest, value, 
 use Rattle.clsm_model.specs.Map.{Pair, value_at, value_after}
 use Rattle.clsm_model.proofs.Maps.{value-next}
 use Rattle.clsm_law.specs.Worlds.{history_of}
-use Rattle.clsm_law.proofs.Histories.{settle, slot_of-history}
+use Rattle.clsm_law.proofs.Records.Histories.{settle, slot_of-history}
 use Rattle.clsm_law.proofs.Cases.{by_test}
 
 -- ---- the value of a key, slot by slot

@@ -11,7 +11,7 @@ use Rattle.clsm_law.specs.Memory.{Memory, is_same, put}
 use Rattle.clsm_law.specs.Views.{idle}
 use Rattle.clsm_law.specs.Worlds.{view_at, outcome_at}
 use Rattle.clsm_law.specs.Law.{each}
-use Rattle.clsm_law.proofs.LayoutWords.{same_word, is_same-refl}
+use Rattle.clsm_law.proofs.Rows.Words.{same_word, is_same-refl}
 use Rattle.clsm_law.proofs.Cases.{by_bool}
 
 -- g is f, but x at k

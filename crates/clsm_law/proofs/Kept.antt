@@ -2,37 +2,37 @@
 use Rattle.clsm_law.specs.declared.step.Step.{Step}
 use Rattle.clsm_law.specs.Law.{LawOf}
 use Rattle.clsm_law.proofs.Setting.{Setting, Ground, M, V, S, B, C, O, Allows, merger', memory', slots', chains', orders', OpensTo}
-use Rattle.clsm_law.proofs.PlainOpens.{opens_plain}
-use Rattle.clsm_law.proofs.KeptStaging.{staging_kept, staging_merged}
-use Rattle.clsm_law.proofs.KeptBatches.{fitting_kept, front_clock_kept, front_clock_merged, past_clock_kept, past_clock_merged, reached_clock_kept}
-use Rattle.clsm_law.proofs.KeptBatches.{reached_clock_merged, in_turn_kept, in_turn_merged, written_kept, written_merged, uncut_front_kept}
-use Rattle.clsm_law.proofs.KeptBatches.{uncut_front_merged, uncut_pins_kept, uncut_snapshots_kept, uncut_pasts_kept, uncut_kept, listed_kept}
-use Rattle.clsm_law.proofs.KeptCells.{shown_kept, shown_merged, empty_kept, empty_merged}
-use Rattle.clsm_law.proofs.KeptChains.{chained_kept, lies_kept, once_kept, standing_kept, linked_kept, loose_kept}
-use Rattle.clsm_law.proofs.KeptChainsMerger.{chained_merged, lies_merged, once_merged, standing_merged, linked_merged, loose_merged}
-use Rattle.clsm_law.proofs.KeptClock.{clock_kept, clock_merged, limit_kept, limit_merged, begun_kept, begun_merged, bounded_kept, bounded_merged}
-use Rattle.clsm_law.proofs.KeptClock.{current_kept, current_merged, top_kept, top_merged, merged_kept, merged_merged}
-use Rattle.clsm_law.proofs.KeptDecided.{front_kept, front_merged, merged_decided_kept, merged_decided_merged, past_kept, past_merged, reached_kept}
-use Rattle.clsm_law.proofs.KeptDecided.{reached_merged}
-use Rattle.clsm_law.proofs.KeptDrawn.{holding_kept, holding_merged, pending_kept, pending_merged, owned_kept, owned_merged, alone_kept, alone_merged}
-use Rattle.clsm_law.proofs.KeptDrawn.{filled_kept, filled_merged}
-use Rattle.clsm_law.proofs.KeptLock.{seated_kept, seated_merged, lock_kept, lock_merged, locked_out_kept, locked_out_merged, sole_kept, sole_merged}
-use Rattle.clsm_law.proofs.KeptLock.{merger_kept, merger_merged}
-use Rattle.clsm_law.proofs.KeptNotes.{limits_kept, limits_merged, fresh_clocks_kept, fresh_clocks_merged, hold_clocks_kept, hold_clocks_merged, clocks_kept}
-use Rattle.clsm_law.proofs.KeptNotes.{clocks_merged, pin_clocks_kept, pin_clocks_merged}
-use Rattle.clsm_law.proofs.KeptOrders.{ordered_kept, sorted_kept, placed_kept, entered_kept}
-use Rattle.clsm_law.proofs.KeptInserted.{inserted_kept, outside_kept, leading_kept}
-use Rattle.clsm_law.proofs.KeptPlaces.{met_kept, lows_kept, highs_kept}
-use Rattle.clsm_law.proofs.KeptSides.{lower_kept, higher_kept}
-use Rattle.clsm_law.proofs.KeptOrdersMerger.{ordered_merged, sorted_merged, placed_merged, entered_merged, inserted_merged, outside_merged, leading_merged}
-use Rattle.clsm_law.proofs.KeptOrdersMerger.{met_merged, lows_merged, highs_merged, lower_merged, higher_merged}
-use Rattle.clsm_law.proofs.KeptPins.{pins_kept, pins_merged, odd_kept, odd_merged, held_kept, held_merged, notes_kept, notes_merged}
-use Rattle.clsm_law.proofs.KeptRecords.{right_kept, right_merged, stand_kept, stand_merged, recorded_kept, recorded_merged, dues_kept, dues_merged}
-use Rattle.clsm_law.proofs.KeptRecords.{own_dues_kept, own_dues_merged}
-use Rattle.clsm_law.proofs.KeptRising.{rising_kept, rising_merged}
-use Rattle.clsm_law.proofs.KeptRuns.{runs_kept, runs_merged, former_runs_kept, former_runs_merged}
-use Rattle.clsm_law.proofs.KeptShort.{short_kept, short_merged}
-use Rattle.clsm_law.proofs.KeptSnapshots.{snapshots_kept, snapshots_merged, passed_kept, passed_merged, floors_kept, floors_merged}
+use Rattle.clsm_law.proofs.Batches.Opens.{opens_plain}
+use Rattle.clsm_law.proofs.Batches.Staging.{staging_kept, staging_merged}
+use Rattle.clsm_law.proofs.Batches.Kept.{fitting_kept, front_clock_kept, front_clock_merged, past_clock_kept, past_clock_merged, reached_clock_kept}
+use Rattle.clsm_law.proofs.Batches.Kept.{reached_clock_merged, in_turn_kept, in_turn_merged, written_kept, written_merged, uncut_front_kept}
+use Rattle.clsm_law.proofs.Batches.Kept.{uncut_front_merged, uncut_pins_kept, uncut_snapshots_kept, uncut_pasts_kept, uncut_kept, listed_kept}
+use Rattle.clsm_law.proofs.Decided.Cells.{shown_kept, shown_merged, empty_kept, empty_merged}
+use Rattle.clsm_law.proofs.Chains.Kept.{chained_kept, lies_kept, once_kept, standing_kept, linked_kept, loose_kept}
+use Rattle.clsm_law.proofs.Chains.Merged.{chained_merged, lies_merged, once_merged, standing_merged, linked_merged, loose_merged}
+use Rattle.clsm_law.proofs.Clock.Kept.{clock_kept, clock_merged, limit_kept, limit_merged, begun_kept, begun_merged, bounded_kept, bounded_merged}
+use Rattle.clsm_law.proofs.Clock.Kept.{current_kept, current_merged, top_kept, top_merged, merged_kept, merged_merged}
+use Rattle.clsm_law.proofs.Decided.Kept.{front_kept, front_merged, merged_decided_kept, merged_decided_merged, past_kept, past_merged, reached_kept}
+use Rattle.clsm_law.proofs.Decided.Kept.{reached_merged}
+use Rattle.clsm_law.proofs.Drawn.Kept.{holding_kept, holding_merged, pending_kept, pending_merged, owned_kept, owned_merged, alone_kept, alone_merged}
+use Rattle.clsm_law.proofs.Drawn.Kept.{filled_kept, filled_merged}
+use Rattle.clsm_law.proofs.Lock.Kept.{seated_kept, seated_merged, lock_kept, lock_merged, locked_out_kept, locked_out_merged, sole_kept, sole_merged}
+use Rattle.clsm_law.proofs.Lock.Kept.{merger_kept, merger_merged}
+use Rattle.clsm_law.proofs.Noted.Kept.{limits_kept, limits_merged, fresh_clocks_kept, fresh_clocks_merged, hold_clocks_kept, hold_clocks_merged, clocks_kept}
+use Rattle.clsm_law.proofs.Noted.Kept.{clocks_merged, pin_clocks_kept, pin_clocks_merged}
+use Rattle.clsm_law.proofs.Orders.Kept.{ordered_kept, sorted_kept, placed_kept, entered_kept}
+use Rattle.clsm_law.proofs.Orders.Inserted.{inserted_kept, outside_kept, leading_kept}
+use Rattle.clsm_law.proofs.Orders.Known.{met_kept, lows_kept, highs_kept}
+use Rattle.clsm_law.proofs.Orders.Sides.{lower_kept, higher_kept}
+use Rattle.clsm_law.proofs.Orders.Merged.{ordered_merged, sorted_merged, placed_merged, entered_merged, inserted_merged, outside_merged, leading_merged}
+use Rattle.clsm_law.proofs.Orders.Merged.{met_merged, lows_merged, highs_merged, lower_merged, higher_merged}
+use Rattle.clsm_law.proofs.Pins.Kept.{pins_kept, pins_merged, odd_kept, odd_merged, held_kept, held_merged, notes_kept, notes_merged}
+use Rattle.clsm_law.proofs.Records.Kept.{right_kept, right_merged, stand_kept, stand_merged, recorded_kept, recorded_merged, dues_kept, dues_merged}
+use Rattle.clsm_law.proofs.Records.Kept.{own_dues_kept, own_dues_merged}
+use Rattle.clsm_law.proofs.Records.Rising.{rising_kept, rising_merged}
+use Rattle.clsm_law.proofs.Runs.Kept.{runs_kept, runs_merged, former_runs_kept, former_runs_merged}
+use Rattle.clsm_law.proofs.Decided.Short.{short_kept, short_merged}
+use Rattle.clsm_law.proofs.Pins.Snapshots.{snapshots_kept, snapshots_merged, passed_kept, passed_merged, floors_kept, floors_merged}
 
 -- a caller's step
 pub kept : (s : Setting) (step : Step) → Allows s step → LawOf s.z (M s step) (V s step) s.merger (S s step) (B s step) (C s step) (O s step)

@@ -19,7 +19,7 @@ use Rattle.clsm_law.specs.Law.{fresh_clock_of, hold_clock_of, clock_of, pin_cloc
 use Rattle.clsm_law.specs.Batches.{IsStaging}
 use Rattle.clsm_model.specs.Seats.{IsRightRecord, IsStandingRecord, IsUncutRecord, IsListedRecord, FitsRecord, IsRising}
 use Rattle.clsm_law.specs.Machine.{IsLawful, opened}
-use Rattle.clsm_law.proofs.Layouts.{memory-set, memory-zeros}
+use Rattle.clsm_law.proofs.Rows.Memory.{memory-set, memory-zeros}
 
 module _ (z : Layout) where
   -- the opening memory: the limit is the end of the first epoch, and all other words are 0

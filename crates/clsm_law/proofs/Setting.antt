@@ -32,7 +32,7 @@ use Rattle.clsm_law.specs.Law.{LawOf, Shows, each, mode_of, taken_by, drawn_of, 
 use Rattle.clsm_law.specs.Law.{is_held_back}
 use Rattle.clsm_law.proofs.Frames.{put_same, past_end}
 use Rattle.clsm_law.proofs.Cases.{by_bool}
-use Rattle.clsm_law.proofs.Times.{Live}
+use Rattle.clsm_law.proofs.Clock.Times.{Live}
 
 -- a lawful world and one of its seats
 pub record Setting : Type 0 where

@@ -13,7 +13,7 @@ use Rattle.clsm_law.specs.OpenSteps.{HoldsFrom}
 use Rattle.clsm_law.specs.Relation.{again_after, is_met_by_state, counted_cancel, is_seen, is_seen_of, is_own, is_waited_for, given_up, once_more}
 use Rattle.clsm_law.specs.Relation.{one_more_if, view_after, waited_after, reached_after, reached_by_state}
 use Rattle.clsm_law.proofs.Cases.{by_bool}
-use Rattle.clsm_law.proofs.Times.{cell_below}
+use Rattle.clsm_law.proofs.Clock.Times.{cell_below}
 use Rattle.clsm_law.specs.Raising.{MayRaise}
 use Rattle.clsm_words.specs.declared.known.Known.{Known}
 use Rattle.clsm_words.specs.Knowing.{Opens, Follows}

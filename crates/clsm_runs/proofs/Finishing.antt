@@ -18,7 +18,7 @@ use Rattle.clsm_law.specs.Memory.{room_of}
 use Rattle.clsm_law.specs.Merging.{target_of}
 use Rattle.clsm_law.specs.Places.{entries_from, entries_in}
 use Rattle.clsm_law.specs.Worlds.{are_canonical, is_canonical, passes_from}
-use Rattle.clsm_law.proofs.KeptRuns.{entry_canonical}
+use Rattle.clsm_law.proofs.Runs.Kept.{entry_canonical}
 use Rattle.clsm_law.proofs.Passes.{passes_at, passes_if}
 use Rattle.clsm_words.specs.declared.known.Known.{Known}
 use Rattle.clsm_words.specs.Knowing.{row_of}

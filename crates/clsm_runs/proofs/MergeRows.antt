@@ -17,7 +17,7 @@ use Rattle.clsm_law.specs.Memory.{Memory}
 use Rattle.clsm_law.specs.Merging.{place_of, target_of}
 use Rattle.clsm_law.specs.Places.{entry_in, entries_from, entries_in, held_at, is_named, number_of}
 use Rattle.clsm_law.specs.Worlds.{runs_of}
-use Rattle.clsm_law.proofs.KeptRuns.{SamePlace, runs_same}
+use Rattle.clsm_law.proofs.Runs.Kept.{SamePlace, runs_same}
 use Rattle.clsm_words.specs.declared.known.Known.{Known}
 use Rattle.clsm_words.specs.Knowing.{row_of}
 use Rattle.clsm_words.specs.Changing.{Changes, NoWord}

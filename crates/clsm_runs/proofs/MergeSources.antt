@@ -16,7 +16,7 @@ use Rattle.clsm_law.specs.declared.word.Word.TheVariants.{Count}
 use Rattle.clsm_law.specs.Memory.{room_of}
 use Rattle.clsm_law.specs.Places.{held_at, is_named, number_of}
 use Rattle.clsm_law.specs.Worlds.{runs_of}
-use Rattle.clsm_law.proofs.KeptRuns.{all_named}
+use Rattle.clsm_law.proofs.Runs.Kept.{all_named}
 use Rattle.clsm_words.specs.declared.known.Known.{Known}
 use Rattle.clsm_words.specs.Knowing.{row_of}
 use Rattle.clsm_words.specs.Merging.{IsSoundMerger}

@@ -8,7 +8,7 @@ use Rattle.clsm_law.specs.declared.word.Word.TheVariants.{Entry as EntryWord}
 use Rattle.clsm_law.specs.Memory.{Memory}
 use Rattle.clsm_law.specs.Places.{entry_in, entries_from}
 use Rattle.clsm_law.specs.Worlds.{is_canonical, passes_from}
-use Rattle.clsm_law.proofs.KeptRuns.{entry_canonical, entry_same}
+use Rattle.clsm_law.proofs.Runs.Kept.{entry_canonical, entry_same}
 use Rattle.clsm_law.proofs.Passes.{passes_at, passes_if}
 use Rattle.clsm_words.specs.declared.known.Known.{Known}
 use Rattle.clsm_words.specs.Knowing.{row_of}

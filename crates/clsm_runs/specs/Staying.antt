@@ -6,7 +6,7 @@ use Rattle.clsm_law.specs.declared.word.Word.{Word}
 use Rattle.clsm_law.specs.declared.word.Word.TheVariants.{Count, Entry as EntryWord}
 use Rattle.clsm_law.specs.Merging.{is_frozen}
 use Rattle.clsm_law.specs.Places.{entry_in, is_named}
-use Rattle.clsm_law.proofs.KeptRuns.{SamePlace, entry_same}
+use Rattle.clsm_law.proofs.Runs.Kept.{SamePlace, entry_same}
 use Rattle.clsm_words.specs.declared.known.Known.{Known}
 use Rattle.clsm_words.specs.Changing.{Changes, NoWord}
 use Rattle.clsm_words.specs.Keeping.{Looks}

@@ -16,7 +16,7 @@ use Rattle.clsm_model.proofs.Batches.{below_zero}
 use Rattle.clsm_model.proofs.Histories.{Reads-same}
 use Rattle.clsm_model.proofs.Rising.{last_grows}
 use Rattle.clsm_model.proofs.Written.{one_write}
-use Rattle.clsm_law.proofs.Histories.{GoesOn, records_right-go_on}
+use Rattle.clsm_law.proofs.Records.Histories.{GoesOn, records_right-go_on}
 use Rattle.clsm_words.specs.Knowing.{IsListedWithin}
 use Rattle.clsm_store.specs.Headline.{HasAllSeats, IsAt, IsJointHistory, IsSeatIn, IsWholeHistory, longest_past}
 use Rattle.clsm_store.specs.Meetings.{AreChained, AreConfirmed, AreDueBelow, AreMet, AreMetAt, AreOf, IsConfirmedBy, IsLast}

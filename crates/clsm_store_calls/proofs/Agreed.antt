@@ -12,7 +12,7 @@ use Rattle.clsm_law.specs.declared.merger.MergerView.{MergerView}
 use Rattle.clsm_law.specs.declared.word.Word.TheVariants.{Clock}
 use Rattle.clsm_law.specs.declared.step.Step.TheVariants.{Look}
 use Rattle.clsm_law.specs.Law.{AreRuns}
-use Rattle.clsm_law.proofs.KeptRuns.{runs_stay as runs_agree}
+use Rattle.clsm_law.proofs.Runs.Kept.{runs_stay as runs_agree}
 use Rattle.clsm_words.specs.declared.known.Known.{Known}
 use Rattle.clsm_words.specs.Knowing.{row_of}
 use Rattle.clsm_words.specs.Merging.{FollowsMerger, IsSoundMerger}

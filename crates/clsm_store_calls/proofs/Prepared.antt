@@ -14,7 +14,7 @@ use Rattle.clsm_law.specs.declared.word.Word.{Word}
 use Rattle.clsm_law.specs.declared.word.Word.TheVariants.{Count, Entry as EntryWord}
 use Rattle.clsm_law.specs.Merging.{IsRunWord, epoch_end, is_frozen}
 use Rattle.clsm_law.specs.Worlds.{runs_of}
-use Rattle.clsm_law.proofs.KeptRuns.{runs_same}
+use Rattle.clsm_law.proofs.Runs.Kept.{runs_same}
 use Rattle.clsm_words.specs.declared.known.Known.{Known}
 use Rattle.clsm_words.specs.Knowing.{row_of}
 use Rattle.clsm_words.specs.Merging.{IsSoundMerger}

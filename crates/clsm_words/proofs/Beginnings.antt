@@ -9,8 +9,8 @@ use Rattle.clsm_model.specs.declared.slot.Slot.{Slot}
 use Rattle.clsm_model.specs.declared.slot.Slot.TheVariants.{Nothing}
 use Rattle.clsm_law.specs.Worlds.{outcome_at, settled}
 use Rattle.clsm_law.proofs.Frames.{past_end}
-use Rattle.clsm_law.proofs.KeptRuns.{settled_at}
-use Rattle.clsm_law.proofs.Histories.{slot_of-past, end_of-past, past-equal, decided-same}
+use Rattle.clsm_law.proofs.Runs.Kept.{settled_at}
+use Rattle.clsm_law.proofs.Records.Histories.{slot_of-past, end_of-past, past-equal, decided-same}
 use Rattle.clsm_words.specs.Ruled.{Begins}
 
 take_prefix : (xs : List Slot) (p q : ℕ) → p ≤ q → IsPrefix (take p xs) (take q xs)

@@ -9,7 +9,7 @@ use Rattle.clsm_law.specs.Memory.{is_same}
 use Rattle.clsm_law.specs.Merging.{is_frozen, IsRunWord, merger_after}
 use Rattle.clsm_law.proofs.Cases.{by_bool}
 use Rattle.clsm_law.proofs.Frames.{put_other}
-use Rattle.clsm_law.proofs.LayoutWords.{same_word}
+use Rattle.clsm_law.proofs.Rows.Words.{same_word}
 use Rattle.clsm_words.specs.declared.known.Known.{Known}
 use Rattle.clsm_words.specs.Changing.{Changes, NoWord}
 use Rattle.clsm_words.specs.Knowing.{row_of}

@@ -23,7 +23,7 @@ use Rattle.clsm_law.specs.Relation.{Chains, Orders}
 use Rattle.clsm_law.specs.Merging.{opening as opening_merger}
 use Rattle.clsm_law.specs.Worlds.{view_at, settled}
 use Rattle.clsm_law.specs.Machine.{IsLawful, opened}
-use Rattle.clsm_law.proofs.Layouts.{is_layout}
+use Rattle.clsm_law.proofs.Rows.Memory.{is_layout}
 use Rattle.clsm_law.proofs.Opening.{opened_lawful, idle_at}
 use Rattle.clsm_words.specs.declared.known.Known.{Known}
 use Rattle.clsm_words.specs.declared.known.Spot.{Spot}

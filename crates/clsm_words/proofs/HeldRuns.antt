@@ -19,7 +19,7 @@ use Rattle.clsm_levels.specs.Run.{all_of}
 use Rattle.clsm_levels.proofs.Every.{every_weaker}
 use Rattle.clsm_law.specs.Worlds.{history_of, outcome_at, runs_of}
 use Rattle.clsm_law.specs.Law.{AreRuns, IsSnapshot, IsRetiredFor, each, first_live, held_of, pin_of, is_held_back}
-use Rattle.clsm_law.proofs.KeptRuns.{SamePlace, runs_stay, settled_at}
+use Rattle.clsm_law.proofs.Runs.Kept.{SamePlace, runs_stay, settled_at}
 use Rattle.clsm_model.proofs.Histories.{value-same}
 use Rattle.clsm_law.proofs.Setting.{Ground, clock_live, live_below_shown, not_all_quiet, shown_below_merged}
 use Rattle.clsm_words.specs.Knowing.{AreReadable, IsNamedWord}

@@ -34,19 +34,19 @@ use Rattle.clsm_model.specs.Seats.{FitsRecord, IsListedDeed, IsListedRecord, IsR
 use Rattle.clsm_model.specs.Seats.{HasWrite, IsRecordIn, IsRising}
 use Rattle.clsm_law.specs.SeatBounds.{IsSmall, IsSmallFor, IsSmallLook}
 use Rattle.clsm_law.specs.Machine.{WorldState}
-use Rattle.clsm_law.proofs.Histories.{end_of-past}
-use Rattle.clsm_law.proofs.Records.{all_map}
-use Rattle.clsm_law.proofs.SeatSmall.{commit_small, step_small}
+use Rattle.clsm_law.proofs.Records.Histories.{end_of-past}
+use Rattle.clsm_law.proofs.Records.Facts.{all_map}
+use Rattle.clsm_law.proofs.Stepping.Small.{commit_small, step_small}
 use Rattle.clsm_law.proofs.Setting.{Setting, ground, past_below, clock_below, v}
-use Rattle.clsm_law.proofs.Steps.{May, finds as found_by}
-use Rattle.clsm_law.proofs.Lifting.{lifted}
+use Rattle.clsm_law.proofs.Stepping.Steps.{May, finds as found_by}
+use Rattle.clsm_law.proofs.Batches.Lifting.{lifted}
 use Rattle.clsm_law.specs.Raising.{IsRaise}
-use Rattle.clsm_law.proofs.Stepped.{seat_setting}
+use Rattle.clsm_law.proofs.Stepping.Stepped.{seat_setting}
 use Rattle.clsm_law.proofs.Cases.{by_bool}
-use Rattle.clsm_law.proofs.Times.{cell_below, region_of_epoch}
-use Rattle.clsm_law.proofs.OrderFacts.{R, some_place, place_region, member_own}
-use Rattle.clsm_law.proofs.ReadingOrders.{order_short}
-use Rattle.clsm_law.proofs.WordsThere.{word_there}
+use Rattle.clsm_law.proofs.Clock.Times.{cell_below, region_of_epoch}
+use Rattle.clsm_law.proofs.Orders.Facts.{R, some_place, place_region, member_own}
+use Rattle.clsm_law.proofs.Finding.Orders.{order_short}
+use Rattle.clsm_law.proofs.Stepping.Words.{word_there}
 use Rattle.clsm_words.specs.declared.known.Known.{Known}
 use Rattle.clsm_law.specs.Layout.{memory}
 use Rattle.clsm_words.specs.Knowing.{row_of, rank_of, HasSpot, IsHeldEpoch, IsReading, IsCellPlace, IsOwnPlace, IsListedWithin, Agrees, Opens, Sound, known_of}

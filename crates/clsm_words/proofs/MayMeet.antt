@@ -4,7 +4,7 @@ use Rattle.atomic_table.specs.Table.{Me, Splits}
 use Rattle.atomic_table.specs.Seated.{TableId}
 use Rattle.clsm_law.specs.declared.layout.Layout.{Layout}
 use Rattle.clsm_law.specs.declared.word.Word.TheVariants.{Lock}
-use Rattle.clsm_law.proofs.LayoutIndex.{index_inside}
+use Rattle.clsm_law.proofs.Rows.Index.{index_inside}
 use Rattle.clsm_words.specs.declared.known.Known.{Known}
 use Rattle.clsm_words.specs.declared.words.WordTable.{WordTable}
 use Rattle.clsm_words.specs.Seats.{RawState}

@@ -20,7 +20,7 @@ use Rattle.clsm_law.specs.Places.{number_of}
 use Rattle.clsm_law.specs.Merging.{Facts, is_clean, is_frozen, epoch_end, retired_region, target_of, IsOpenToMerger, merger_after}
 use Rattle.clsm_law.specs.Worlds.{settled, passes_from, is_padded, is_headless, is_orderless, is_last, runs_of, epoch_of, facts_of}
 use Rattle.clsm_law.proofs.Setting.{Ground, facts, OpensTo}
-use Rattle.clsm_law.proofs.KeptRuns.{SamePlace, place_same, canonical_same}
+use Rattle.clsm_law.proofs.Runs.Kept.{SamePlace, place_same, canonical_same}
 use Rattle.clsm_words.specs.Merging.{IsLetGo, IsOwn, known_end}
 use Rattle.clsm_words.specs.Ruled.{Begins}
 use Rattle.clsm_words.proofs.Beginnings.{begins_settled}

@@ -16,11 +16,11 @@ use Rattle.clsm_law.specs.Law.{AreRuns}
 use Rattle.clsm_law.specs.Deciding.{IsMergeable}
 use Rattle.clsm_law.specs.Machine.{WorldState}
 use Rattle.clsm_law.proofs.Cases.{by_bool}
-use Rattle.clsm_law.proofs.KeptRuns.{runs_stay}
-use Rattle.clsm_law.proofs.MergingLawful.{lawful_is_mergeable}
+use Rattle.clsm_law.proofs.Runs.Kept.{runs_stay}
+use Rattle.clsm_law.proofs.Runs.Merging.{lawful_is_mergeable}
 use Rattle.clsm_law.proofs.Setting.{Ground, OpensTo, clock_below, clock_merger}
-use Rattle.clsm_law.proofs.Stepped.{lawful_ground}
-use Rattle.clsm_law.proofs.WordsThere.{word_there'}
+use Rattle.clsm_law.proofs.Stepping.Stepped.{lawful_ground}
+use Rattle.clsm_law.proofs.Stepping.Words.{word_there'}
 use Rattle.clsm_words.specs.declared.known.Known.{Known}
 use Rattle.clsm_words.specs.Knowing.{row_of}
 use Rattle.clsm_words.specs.Merging.{OpensToMerger, known_end, IsSoundMerger, IsListed}

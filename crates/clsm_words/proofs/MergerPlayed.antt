@@ -28,14 +28,14 @@ use Rattle.clsm_law.specs.Law.{LawOf, each, held_of}
 use Rattle.clsm_law.specs.Keeping.{KeepsComponent}
 use Rattle.clsm_law.specs.Machine.{IsLawful, memory_of}
 use Rattle.clsm_law.proofs.GrowthMerger.{slots_stay', longer'}
-use Rattle.clsm_law.proofs.KeptDecided.{frozen_decided}
-use Rattle.clsm_law.proofs.Layouts.{memory-at, memory-set}
-use Rattle.clsm_law.proofs.MachineSteps.{merger_word, merger_there}
-use Rattle.clsm_law.proofs.KeptClock.{clock_grows'}
+use Rattle.clsm_law.proofs.Decided.Kept.{frozen_decided}
+use Rattle.clsm_law.proofs.Rows.Memory.{memory-at, memory-set}
+use Rattle.clsm_law.proofs.Stepping.Machine.{merger_word, merger_there}
+use Rattle.clsm_law.proofs.Clock.Kept.{clock_grows'}
 use Rattle.clsm_law.proofs.Setting.{Ground, facts, OpensTo, merger', memory', slots' as law_slots, none_drawn, past_below}
 use Rattle.clsm_law.proofs.Kept.{kept'}
-use Rattle.clsm_law.proofs.Keeping.{held_merged, holds_quiet, linked_merged, places_stay}
-use Rattle.clsm_law.proofs.Stepped.{lawful_ground}
+use Rattle.clsm_law.proofs.Stepping.Keeping.{held_merged, holds_quiet, linked_merged, places_stay}
+use Rattle.clsm_law.proofs.Stepping.Stepped.{lawful_ground}
 use Rattle.clsm_words.specs.declared.known.Known.{Known}
 use Rattle.clsm_words.specs.Knowing.{row_of, told_of, Extends, IsHeldEpoch, IsKnownIn, IsKnownWord, IsNamedWord, LeadsOn}
 use Rattle.clsm_words.specs.Merging.{facts_known, OpensToMerger, known_end}

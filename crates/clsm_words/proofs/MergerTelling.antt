@@ -18,7 +18,7 @@ use Rattle.clsm_law.specs.Worlds.{outcome_at}
 use Rattle.clsm_law.specs.Law.{Shows}
 use Rattle.clsm_law.specs.Reading.{time_in}
 use Rattle.clsm_law.proofs.Frames.{slot_below}
-use Rattle.clsm_law.proofs.KeptDecided.{frozen_decided}
+use Rattle.clsm_law.proofs.Decided.Kept.{frozen_decided}
 use Rattle.clsm_law.proofs.Setting.{shown_below_merged}
 use Rattle.clsm_words.specs.declared.known.Known.{Known}
 use Rattle.clsm_words.specs.Knowing.{row_of, IsPartOf, LeadsTo}

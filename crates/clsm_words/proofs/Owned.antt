@@ -13,14 +13,14 @@ use Rattle.clsm_law.specs.Worlds.{outcome_at}
 use Rattle.clsm_law.specs.Law.{first_shown, each, drawn_of}
 use Rattle.clsm_law.proofs.Cases.{by_test}
 use Rattle.clsm_law.proofs.Frames.{put_other, put_same}
-use Rattle.clsm_law.proofs.PlainOpens.{opens_plain}
-use Rattle.clsm_law.proofs.Steps.{May, memory_by}
+use Rattle.clsm_law.proofs.Batches.Opens.{opens_plain}
+use Rattle.clsm_law.proofs.Stepping.Steps.{May, memory_by}
 use Rattle.clsm_law.proofs.Setting.{Setting, v, M, x, own, own_drawn, Opens, ground, drawn_shown, none_drawn, undecided}
 use Rattle.clsm_law.proofs.Growth.{cancels_shown}
-use Rattle.clsm_law.proofs.KeptCells.{first_if_quiet, retired_end}
-use Rattle.clsm_law.proofs.KeptRuns.{seat_same}
-use Rattle.clsm_law.proofs.OrderFacts.{R, P, region_small, link_same}
-use Rattle.clsm_law.proofs.Times.{region_of_epoch}
+use Rattle.clsm_law.proofs.Decided.Cells.{first_if_quiet, retired_end}
+use Rattle.clsm_law.proofs.Runs.Kept.{seat_same}
+use Rattle.clsm_law.proofs.Orders.Facts.{R, P, region_small, link_same}
+use Rattle.clsm_law.proofs.Clock.Times.{region_of_epoch}
 use Rattle.clsm_words.specs.Merging.{IsLetGo, IsOwn}
 
 -- while the merger holds the lock each drawn time is decided

@@ -24,12 +24,12 @@ use Rattle.clsm_law.specs.Reading.{time_in}
 use Rattle.clsm_law.specs.Merging.{is_frozen, epoch_end, IsRunWord}
 use Rattle.clsm_law.specs.Machine.{WorldState, IsLawful, memory_of}
 use Rattle.clsm_law.proofs.Cases.{by_bool}
-use Rattle.clsm_law.proofs.Layouts.{memory-at, memory-set}
-use Rattle.clsm_law.proofs.MachineSteps.{seat_word, seat_there, seat_writes}
+use Rattle.clsm_law.proofs.Rows.Memory.{memory-at, memory-set}
+use Rattle.clsm_law.proofs.Stepping.Machine.{seat_word, seat_there, seat_writes}
 use Rattle.clsm_law.proofs.Setting.{Setting, Ground, v, ground, past_below, clock_merger}
-use Rattle.clsm_law.proofs.Steps.{May, finds as found_by, memory_by, views_by, slots_by, orders_by, kept_by}
-use Rattle.clsm_law.proofs.StepsKeep.{longer_by, slots_kept_by, linked_kept_by, held_kept_by, ordered_by, keys_by, runs_by, batches_stay, clock_by}
-use Rattle.clsm_law.proofs.Stepped.{lawful_ground}
+use Rattle.clsm_law.proofs.Stepping.Steps.{May, finds as found_by, memory_by, views_by, slots_by, orders_by, kept_by}
+use Rattle.clsm_law.proofs.Stepping.StepsKeep.{longer_by, slots_kept_by, linked_kept_by, held_kept_by, ordered_by, keys_by, runs_by, batches_stay, clock_by}
+use Rattle.clsm_law.proofs.Stepping.Stepped.{lawful_ground}
 use Rattle.clsm_words.specs.declared.known.Known.{Known}
 use Rattle.clsm_words.specs.Knowing.{Extends, IsKnownIn, IsKnownWord, LeadsOn, Opens, told_of}
 use Rattle.clsm_words.specs.Merging.{IsOwn, known_end}

@@ -5,7 +5,7 @@ use Rattle.std.specs.Prelude.{slice_index}
 use Rattle.clsm_law.specs.declared.layout.Layout.{Layout}
 use Rattle.clsm_law.specs.declared.word.Word.TheVariants.{Count}
 use Rattle.clsm_law.specs.Layout.{index_of, size_of}
-use Rattle.clsm_law.proofs.LayoutIndex.{index_inside}
+use Rattle.clsm_law.proofs.Rows.Index.{index_inside}
 use Rattle.clsm_words.specs.Starts.{starts_of}
 
 pub start_at : (z : Layout) (p : ℕ) → p < 5 → slice_index (starts_of z) p ≡ index_of z (Count p)

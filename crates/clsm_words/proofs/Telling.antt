@@ -28,10 +28,10 @@ use Rattle.clsm_law.specs.Worlds.{view_at, settled}
 use Rattle.clsm_law.specs.Law.{Shows, each, drawn_of, mode_of, first_shown}
 use Rattle.clsm_law.proofs.Frames.{put_here, put_same}
 use Rattle.clsm_law.proofs.Setting.{Ground, ground, held_shown, clock_below, drawn_shown, shown_below_merged, undecided}
-use Rattle.clsm_law.proofs.Layouts.{memory-set}
-use Rattle.clsm_law.proofs.Stepped.{lawful_ground}
-use Rattle.clsm_law.proofs.Steps.{finds as found_by, memory_by}
-use Rattle.clsm_law.proofs.KeptLock.{lock_most}
+use Rattle.clsm_law.proofs.Rows.Memory.{memory-set}
+use Rattle.clsm_law.proofs.Stepping.Stepped.{lawful_ground}
+use Rattle.clsm_law.proofs.Stepping.Steps.{finds as found_by, memory_by}
+use Rattle.clsm_law.proofs.Lock.Kept.{lock_most}
 use Rattle.clsm_words.specs.declared.known.Known.{Known}
 use Rattle.clsm_words.specs.Knowing.{row_of, Opens, code_of, HoldsAlone, IsPartOf, IsNearHeld, Tells}
 use Rattle.clsm_words.specs.Ruled.{world_of, Begins, Ruled}

@@ -3,7 +3,7 @@ use Rattle.clsm_levels.specs.declared.entry.Version.{Version}
 use Rattle.clsm_levels.specs.Version.{version_in, version_of}
 use Rattle.clsm_law.specs.declared.word.Word.TheVariants.{Count, Entry as EntryWord}
 use Rattle.clsm_law.specs.Places.{entry_in}
-use Rattle.clsm_law.proofs.KeptRuns.{entry_same}
+use Rattle.clsm_law.proofs.Runs.Kept.{entry_same}
 use Rattle.clsm_words.specs.Knowing.{row_of}
 use Rattle.clsm_words.proofs.Changing.{found_left, looks_only}
 use Rattle.clsm_runs.proofs.MergeRows.{first_past, first_there}

@@ -1,0 +1,3 @@
+-- The clock, its limit and the times of an epoch.
+pub mod Times
+pub mod Kept

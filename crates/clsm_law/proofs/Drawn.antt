@@ -1,0 +1,2 @@
+-- How the clauses on drawn times are kept.
+pub mod Kept

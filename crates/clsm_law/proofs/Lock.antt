@@ -1,0 +1,2 @@
+-- How the clauses on the lock are kept.
+pub mod Kept

@@ -1,0 +1,2 @@
+-- How the clauses on what seats noted are kept.
+pub mod Kept
