@@ -67,6 +67,7 @@ run rows = record {
   keys = number_of (codes "keys") rows;
   seed = number_of (codes "seed") rows;
   batch = flag_of (codes "batch") rows;
+  wait = flag_of (codes "wait") rows;
   stats = flag_of (codes "stats") rows;
   progress = flag_of (codes "progress") rows;
   records = flag_of (codes "records") rows;

@@ -79,6 +79,7 @@ where
     let asked = AskedRun {
         config: options.config,
         load,
+        waits: options.wait,
         shows,
     };
     run(rt, alloc, asked, output, faults)

@@ -107,6 +107,8 @@ pub(crate) const SEED: &str = "What the calls are drawn from";
 
 pub(crate) const BATCH: &str = "Draw batches of two writes, too: one call in sixteen";
 
+pub(crate) const WAIT: &str = "Let a write wait for room, in place of refusing it";
+
 pub(crate) const STATS: &str =
     "Print rates and times of the calls to the standard error, at the end";
 

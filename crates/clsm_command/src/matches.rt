@@ -68,6 +68,7 @@ fn run(matches: &ArgMatches<'_>) -> RunOptions
         keys: number(matches, "keys"),
         seed: number(matches, "seed"),
         batch: flag(matches, "batch"),
+        wait: flag(matches, "wait"),
         stats: flag(matches, "stats"),
         progress: flag(matches, "progress"),
         records: flag(matches, "records"),

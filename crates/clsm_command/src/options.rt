@@ -26,6 +26,8 @@ pub struct RunOptions {
     pub seed: u64,
     /// `--batch`: batches are among the calls.
     pub batch: bool,
+    /// `--wait`: a write waits for room.
+    pub wait: bool,
     /// `--stats`
     pub stats: bool,
     /// `--progress`

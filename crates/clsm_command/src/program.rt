@@ -93,6 +93,7 @@ fn run<'a>(alloc: Global) -> Result<Command<'a>, AllocError>
         .arg(size(alloc, "run", "65536", help::RUN_ROOM))?
         .arg(size(alloc, "patience", "16", help::PATIENCE))?
         .arg(flag(alloc, "batch", help::BATCH))?
+        .arg(flag(alloc, "wait", help::WAIT))?
         .arg(flag(alloc, "stats", help::STATS))?
         .arg(flag(alloc, "progress", help::RUN_PROGRESS))?
         .arg(flag(alloc, "records", help::RECORDS))

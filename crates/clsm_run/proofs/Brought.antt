@@ -19,10 +19,10 @@ gathers all all' w rest ws old more is e =
 
 -- the records are the calls of one seat more
 pub gathers_calls : (seats seats' : List SeatState) (records records' : List CallRecord) (w : Worked) → seats' ≡ seats ++ w.seat ∷ [] → records'
-    ≡ records ++ w.records.items → records ≡ all_calls seats → w.seat.calls ≡ w.records.items → records' ≡ all_calls seats'
+    ≡ records ++ w.made.records.items → records ≡ all_calls seats → w.seat.calls ≡ w.made.records.items → records' ≡ all_calls seats'
 gathers_calls seats seats' records records' w more longer e told =
     longer
-    ∙ (ap (λ (x : List CallRecord). x ++ w.records.items) e
+    ∙ (ap (λ (x : List CallRecord). x ++ w.made.records.items) e
     ∙ (ap (λ (x : List CallRecord). all_calls seats ++ x) (sym told)
     ∙ (flat_map_more (λ (s : SeatState). s.calls) [] seats w.seat
     ∙ ap all_calls (sym more))))

@@ -26,7 +26,7 @@ module _ (store : StoreId) (count : ℕ) (seats : List SeatState) (new : AreNew 
         let inside : i < length seats = (let c = done.count in omega arith) in
         done.each i (newcomer store i) w inside (new.each i inside) e
 
-    pub told : All (λ (w : Worked). w.seat.calls ≡ w.records.items) worked
+    pub told : All (λ (w : Worked). w.seat.calls ≡ w.made.records.items) worked
     told = λ i d lt. (works i (get_or worked i d) lt (get_or_default worked i (get_or worked i d) d lt)).records
 
     pub are_seats : (gathered : List SeatState) → gathered ≡ seats_of worked → AreSeatsOf store count gathered

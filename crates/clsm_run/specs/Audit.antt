@@ -3,6 +3,7 @@ use Rattle.std.specs.Prelude.{◌≡◌, ℕ, ◌<◌, List, length, slice_index
 use Rattle.std.specs.List.{flat_map}
 use Rattle.clsm_model.specs.declared.config.Config.{Config}
 use Rattle.clsm_model.specs.declared.record.CallRecord.{CallRecord}
+use Rattle.clsm_store.specs.Headline.{IsWholeHistory, longest_past}
 use Rattle.clsm_store_calls.specs.Seats.{SeatState, StoreId}
 use Rattle.clsm_audit.specs.declared.fault.AuditError.{AuditError}
 use Rattle.clsm_audit.specs.Faults.{IsLawful, IsOneHistory, IsRefusal}
@@ -27,3 +28,10 @@ pub record IsAudited (config : Config) (store : StoreId) (seats : List SeatState
   pub seats_are : AreSeatsOf store config.seats seats
   pub records_are : records ≡ all_calls seats
   pub verdict_is : IsVerdict config records verdict
+
+-- the seats are all those of some store, their calls are one whole history, and what the verdict
+-- says, it says of all of them
+pub record IsAuditedWhole (config : Config) (seats : List SeatState) (records : List CallRecord) (verdict : Result ⊤ AuditError) : Type 0 where
+  pub store : StoreId
+  pub audited : IsAudited config store seats records verdict
+  pub whole : IsWholeHistory seats (longest_past seats)

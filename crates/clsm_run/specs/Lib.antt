@@ -1,5 +1,6 @@
 pub mod Audit
 pub mod Play
 pub mod Run
+pub mod Waiting
 pub mod Work
 pub mod Workload

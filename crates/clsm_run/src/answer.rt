@@ -2,7 +2,7 @@
 ghost use Rattle.std.specs.Prelude.{IfErr};
 ghost use Rattle.clsm_run.specs.Run.{StopsWork};
 
-use crate::crew::Ran;
+use crate::ran::Ran;
 use clsm_audit::AuditError;
 use clsm_model::CallRecord;
 use clsm_text::{Failure, write_record};

@@ -4,26 +4,24 @@ ghost use Rattle.clsm_store_calls.specs.Seats.{AreNew, IsNewMerger};
 ghost use Rattle.clsm_store.specs.Phase.{merger_in};
 ghost use Rattle.clsm_run.specs.Audit.{IsAudited};
 ghost use Rattle.clsm_run.specs.Run.{StopsWork};
-ghost use Rattle.clsm_run.specs.Work.{AreWorked, Works};
+ghost use Rattle.clsm_run.specs.Work.{AreWorked, IsWorked};
 
-use crate::auditing::verdict_of;
-use crate::gathering::{Gathered, gather};
+use crate::auditing::audited;
+use crate::gathering::gather;
 use crate::load::AskedRun;
 use crate::merger::{merge_beside, merges_of};
 use crate::progress::show_progress;
+use crate::ran::{Calling, Ran};
 use crate::task::Task;
-use crate::watch::Note;
 use crate::worker::{Worked, work};
-use clsm_audit::AuditError;
-use clsm_model::CallRecord;
-use clsm_store::{Clean, Merger, Opened, Pace, Seat, Store};
+use clsm_store::{Caller, Clean, Merger, Opened, Pace, Seat, Store};
 use clsm_text::Failure;
 use std::alloc::{AllocError, Global};
 use std::io::Write;
 use std::rt::Clock;
 use std::sync::Wait;
 use std::thread::{self, Threads, join};
-use std::time::{Duration, Instant};
+use std::time::Instant;
 
 /// Who works at a store: its seats, and its merger.
 #[derive(Drop)]
@@ -31,20 +29,6 @@ pub struct Crew<'a, P: Pace + Drop> {
     pub store: &'a Store<P>,
     pub seats: Vec<Seat>,
     pub merger: Clean,
-}
-
-/// What a run came to: the seats of its store, the records of all their calls, what the audit says
-/// of these, and what was noted meanwhile.
-#[derive(Drop)]
-pub struct Ran {
-    pub seats: Vec<Seat>,
-    pub records: Vec<CallRecord>,
-    pub verdict: Result<(), AuditError>,
-    pub notes: Vec<Note>,
-    pub merges: u64,
-    /// The time of the calls, and that of the audit.
-    pub calling: Duration,
-    pub auditing: Duration,
 }
 
 /// Lets each seat of an opened store, of the sizes that are asked for, make the calls of its
@@ -81,28 +65,17 @@ where
     };
     let start = Instant::now(rt)?;
     let (worked, merges) = work_merging(rt, alloc, crew, &task, faults);
-    let calling = start.elapsed(rt)?;
+    let time = start.elapsed(rt)?;
     let worked = worked?;
     if task.board.is_starved() {
         return Err(Failure::Memory);
     }
-    let Gathered {
-        seats,
-        records,
-        notes,
-    } = gather(alloc, worked)?;
-    let start = Instant::now(rt)?;
-    let verdict = verdict_of(alloc, &asked.config, &records);
-    let auditing = start.elapsed(rt)?;
-    Ok(Ran {
-        seats,
-        records,
-        verdict,
-        notes,
-        merges,
-        calling,
-        auditing,
-    })
+    let gathered = gather(alloc, worked)?;
+    let calling = Calling {
+        time,
+        merges: Some(merges),
+    };
+    audited(rt, alloc, &asked.config, gathered, calling)
 }
 
 /// Lets the workers work while the merger merges and the line moves. Answers what they gave back,
@@ -159,11 +132,27 @@ where
         seats,
         &|seat: Seat| -> Worked
             requires { seat.store ≡ store.now }
-            ensures { Works seat result }
-        { work(rt, alloc, store, seat, task) },
+            ensures { IsWorked seat result }
+        { work_at(rt, alloc, store, seat, task) },
     );
     task.board.end();
     worked
+}
+
+/// Lets the seat's worker work.
+fn work_at<P, R>(rt: &R, alloc: Global, store: &Store<P>, seat: Seat, task: &Task) -> Worked
+where
+    P: Pace + Drop + Sync,
+    R: Clock + Wait,
+    requires { seat.store ≡ store.now }
+    ensures { IsWorked seat result }
+{
+    let mut caller = Caller::new(store, seat);
+    let made = work(rt, alloc, &mut caller, task);
+    Worked {
+        seat: caller.seat,
+        made,
+    }
 }
 
 /// Merges until all workers have ended, while the line moves if it is asked for. Answers the number

@@ -3,7 +3,7 @@ ghost use Rattle.std.specs.Prelude.{◌≡◌, ◌∷◌, [], ◌++◌, All, IfO
 ghost use Rattle.clsm_run.specs.Audit.{all_calls};
 
 use crate::watch::Note;
-use crate::worker::Worked;
+use crate::worker::{Made, Worked};
 use clsm_model::CallRecord;
 use clsm_store::Seat;
 use std::alloc::{AllocError, Global};
@@ -19,7 +19,7 @@ pub struct Gathered {
 /// What all workers gave back: their seats in their order, and all calls of these seats. Refused
 /// if memory runs out.
 pub fn gather(alloc: Global, worked: Vec<Worked>) -> Result<Gathered, AllocError>
-    requires { All (λ w. w.seat.calls ≡ w.records.items) worked.items }
+    requires { All (λ w. w.seat.calls ≡ w.made.records.items) worked.items }
     ensures seats { IfOk result (λ all. all.seats.items ≡ map (λ w. w.seat) worked.items) }
     ensures records { IfOk result (λ all. all.records.items ≡ all_calls all.seats.items) }
 {
@@ -38,13 +38,13 @@ impl Gathered {
     /// Takes in what one worker gave back. Refused if memory runs out.
     fn take(&mut self, one: Worked) -> Result<(), AllocError>
         ensures seats { OnOk result (self.new.seats.items ≡ self.old.seats.items ++ one.seat ∷ []) }
-        ensures records { OnOk result (self.new.records.items ≡ self.old.records.items ++ one.records.items) }
+        ensures records { OnOk result (self.new.records.items ≡ self.old.records.items ++ one.made.records.items) }
     {
-        let Worked {
-            seat,
+        let Worked { seat, made } = one;
+        let Made {
             mut records,
             mut notes,
-        } = one;
+        } = made;
         self.records.append(&mut records)?;
         self.notes.append(&mut notes)?;
         self.seats.push(seat)?;

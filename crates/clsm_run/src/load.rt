@@ -29,11 +29,12 @@ pub struct Shows {
     pub records: bool,
 }
 
-/// What a run is asked for: the sizes of its store, how much each of its workers does, and what it
-/// shows.
+/// What a run is asked for: the sizes of its store, how much each of its workers does, whether a
+/// write waits for room or is refused without, and what it shows.
 #[derive(Clone, Copy, Debug)]
 pub struct AskedRun {
     pub config: Config,
     pub load: Load,
+    pub waits: bool,
     pub shows: Shows,
 }

@@ -7,7 +7,9 @@ use crate::answer::{write_records, write_verdict};
 use crate::auditing::ending;
 use crate::crew::run_on;
 use crate::load::AskedRun;
+use crate::ran::Ran;
 use crate::stats::write_stats;
+use crate::waiting::run_waiting;
 use clsm_store::open;
 use clsm_text::Failure;
 use std::alloc::Global;
@@ -17,7 +19,8 @@ use std::sync::Wait;
 use std::thread::Threads;
 
 /// Opens a store of these sizes, lets a worker for each seat make the calls of its workload while
-/// the merger merges, and audits the records of all answered calls. It prints how many calls were
+/// the merger merges, and audits the records of all answered calls. A write with no room is
+/// refused, or waits where that is asked for. It prints how many calls were
 /// made, refused ones too, and `audit ok` or `audit fault KIND INDEX`; or, where it shows records,
 /// each of them as a line instead. Answers the exit status: 0, or 2 where the audit found a fault,
 /// or 1 where a write to the output failed, or 3 where the sizes or memory were refused; `device`,
@@ -54,8 +57,7 @@ where
     ensures opened { OnOk result (IsSound asked.now.config) }
     ensures stopped { IfErr result (StopsRun asked.now.config) }
 {
-    let opened = open(alloc, asked.config)?;
-    let ran = run_on(rt, alloc, asked, opened, faults)?;
+    let ran = call_all(rt, alloc, asked, faults)?;
     if asked.shows.records {
         write_records(alloc, &mut output, &ran.records)?;
     } else {
@@ -66,4 +68,19 @@ where
         let _ = write_stats(alloc, faults, &ran);
     }
     ending(&ran.verdict)
+}
+
+/// Lets the workers make their calls, which wait for room or do not, and audits them.
+fn call_all<R, E>(rt: &R, alloc: Global, asked: &AskedRun, faults: &mut E) -> Result<Ran, Failure>
+where
+    R: Threads + Sync + Clock + Wait,
+    E: Write + Send,
+    ensures opened { OnOk result (IsSound asked.now.config) }
+    ensures stopped { IfErr result (StopsRun asked.now.config) }
+{
+    if asked.waits {
+        return run_waiting(rt, alloc, asked, faults);
+    }
+    let opened = open(alloc, asked.config)?;
+    run_on(rt, alloc, asked, opened, faults)
 }

@@ -1,7 +1,7 @@
 //! How fast a run was.
-use crate::crew::Ran;
 use crate::kind::{KINDS, Kind};
 use crate::progress::per_second;
+use crate::ran::Ran;
 use crate::watch::Note;
 use clsm_model::Memory;
 use clsm_text::Failure;
@@ -11,16 +11,18 @@ use std::time::Duration;
 
 /// Writes a line for each kind of calls: how many were answered and how many refused, how many a
 /// second, and the median, the 99th and 99.9th percentile and the greatest of their times in
-/// nanoseconds; and a line with the refusals, the merges, and the time of the calls and of the
-/// audit.
+/// nanoseconds; and a line with the refusals, one with the merges if they were counted, and one with
+/// the time of the calls and of the audit.
 pub fn write_stats<E: Write>(alloc: Global, faults: &mut E, ran: &Ran) -> Result<(), Failure> {
     for kind in KINDS {
-        write_kind(alloc, faults, &ran.notes, kind, ran.calling)?;
+        write_kind(alloc, faults, &ran.notes, kind, ran.calling.time)?;
     }
     let full = ran.notes.iter().filter(|note| !note.is_answered).count();
     writeln!(faults, "refused full {full}")?;
-    writeln!(faults, "merges {}", ran.merges)?;
-    let calling = ran.calling.as_millis();
+    if let Some(merges) = ran.calling.merges {
+        writeln!(faults, "merges {merges}")?;
+    }
+    let calling = ran.calling.time.as_millis();
     let auditing = ran.auditing.as_millis();
     writeln!(faults, "milliseconds calls {calling} audit {auditing}")?;
     faults.flush()?;

@@ -4,52 +4,46 @@ ghost use Rattle.std.specs.Vec.{vec_capacity};
 ghost use Rattle.clsm_run.specs.Work.{KeepsRecords, Works};
 
 use crate::kind::Kind;
-use crate::playing::play;
+use crate::player::Player;
 use crate::task::Task;
 use crate::watch::{Note, Watch};
 use crate::workload::Workload;
 use clsm_model::{CallRecord, Memory};
-use clsm_store::{Pace, Seat, Store};
+use clsm_store::Seat;
 use std::alloc::Global;
 use std::rt::Clock;
 use std::sync::Wait;
 
 /// A worker at its work.
 #[derive(Drop)]
-pub struct Worker {
-    seat: Seat,
+struct Worker {
     workload: Workload,
     records: Vec<CallRecord>,
     watch: Watch,
 }
 
-/// What a worker gives back: its seat, the records of the calls that it made, and its notes of
-/// them.
+/// What a worker made: the records of the calls that were answered, and its notes of all.
 #[derive(Drop)]
-pub struct Worked {
-    pub seat: Seat,
+pub struct Made {
     pub records: Vec<CallRecord>,
     pub notes: Vec<Note>,
 }
 
-/// Makes the calls of the seat's workload, and answers the seat with the records of those that were
-/// answered. Where it is refused memory, or another worker was, it ends there, and the board says
-/// so.
-pub fn work<P: Pace + Drop, R: Clock + Wait>(
-    rt: &R,
-    alloc: Global,
-    store: &Store<P>,
-    seat: Seat,
-    task: &Task,
-) -> Worked
-    requires { seat.store ≡ store.now }
-    ensures { Works seat result }
+/// What a worker gives back: its seat, and what it made by it.
+#[derive(Drop)]
+pub struct Worked {
+    pub seat: Seat,
+    pub made: Made,
+}
+
+/// Makes the calls of the seat's workload, and answers the records of those that were answered.
+/// Where it is refused memory, or another worker was, it ends there, and the board says so.
+pub fn work<S: Player, R: Clock + Wait>(rt: &R, alloc: Global, player: &mut S, task: &Task) -> Made
+    ensures { Works (S.seat player.old) (S.seat player.new) result }
 {
     let load = &task.load;
-    let workload = Workload::new(load.seed, seat.number(), load.keys, load.batch);
     let mut worker = Worker {
-        seat,
-        workload,
+        workload: Workload::new(load.seed, player.number(), load.keys, load.batch),
         records: Vec::new(alloc),
         watch: Watch::new(alloc, task.shows.stats),
     };
@@ -57,7 +51,7 @@ pub fn work<P: Pace + Drop, R: Clock + Wait>(
         if task.board.is_starved() {
             break;
         }
-        if let Err(_) = worker.step(rt, alloc, store) {
+        if let Err(_) = worker.step(rt, alloc, player) {
             task.board.starve();
             break;
         }
@@ -71,38 +65,30 @@ pub fn work<P: Pace + Drop, R: Clock + Wait>(
 impl Worker {
     /// Makes the next call, and keeps its record if it was answered. Refused if memory runs out; no
     /// call was made then, or its record is kept too.
-    fn step<P: Pace + Drop, R: Clock + Wait>(
+    fn step<S: Player, R: Clock + Wait>(
         &mut self,
         rt: &R,
         alloc: Global,
-        store: &Store<P>,
+        player: &mut S,
     ) -> Result<(), Memory>
-        requires { self.old.seat.store ≡ store.now }
-        ensures { KeepsRecords self.old self.new }
+        ensures { KeepsRecords (S.seat player.old) (S.seat player.new) self.old.records.items self.new.records.items }
     {
         self.records.reserve(1)?;
-        let deal = self.workload.next(self.seat.snapshot_time().is_some());
+        let deal = self.workload.next(player.has_snapshot());
         let kind = Kind::of(&deal);
         let begun = self.watch.begin(rt);
-        let record = play(rt, alloc, store, &mut self.seat, deal)?;
+        let record = player.play(rt, alloc, deal)?;
         let is_answered = record.is_some();
         keep(&mut self.records, record);
         self.watch.note(rt, begun, kind, is_answered)
     }
 
-    /// What it gives back.
-    fn end(self) -> Worked
-        ensures seat { result.seat ≡ self.seat }
-        ensures records { result.records.items ≡ self.records.items }
+    /// What it made.
+    fn end(self) -> Made
+        ensures { result.records.items ≡ self.records.items }
     {
-        let Worker {
-            seat,
-            records,
-            watch,
-            ..
-        } = self;
-        Worked {
-            seat,
+        let Worker { records, watch, .. } = self;
+        Made {
             records,
             notes: watch.notes,
         }

@@ -1,10 +1,14 @@
 -- What writes that wait for room leave of the seat. Each try that found no room left it as it was,
 -- but for its tally.
-use Rattle.std.specs.Prelude.{◌≡◌, ℕ, ◌+◌, ◌<◌, List, length, Some}
+use Rattle.std.specs.Prelude.{◌≡◌, ℕ, ◌+◌, ◌<◌, List, length, Some, Err, ⊤}
 use Rattle.clsm_model.specs.Right.{Member}
 use Rattle.clsm_store_calls.specs.Batching.{IsNoBatch}
 use Rattle.clsm_store_calls.specs.Seats.{Refuses, SeatState}
 use Rattle.clsm_store_calls.specs.declared.refusal.BatchError.TheVariants as errors
+use Rattle.clsm_store.specs.declared.play.answer.Answer.{Answer}
+use Rattle.clsm_store.specs.declared.play.answer.Answer.TheVariants.{Write, Batch as Batched, Change as Changed}
+use Rattle.clsm_store.specs.declared.play.call.Call.{Call}
+use Rattle.clsm_store.specs.declared.play.call.Call.TheVariants.{Put, Remove, Add, Claim, Batch}
 use Rattle.clsm_session.specs.declared.refusal.BatchRefused.{BatchRefused}
 use Rattle.clsm_session.specs.declared.refusal.BatchRefused.TheVariants.{Empty, TooLong, Keep, NoRoom}
 
@@ -35,3 +39,19 @@ IsRefusedAtLast old new members (NoRoom _) = IsNoRoomAtLast old new (length memb
 IsRefusedAtLast old new members Empty = Refuses old new × IsNoBatch old.store.layout.cells members errors.Empty
 IsRefusedAtLast old new members TooLong = Refuses old new × IsNoBatch old.store.layout.cells members errors.TooLong
 IsRefusedAtLast old new members Keep = Refuses old new × IsNoBatch old.store.layout.cells members errors.Keep
+
+-- the call that is played was refused so
+abbrev pub RefusesCall : Call → SeatState → SeatState → BatchRefused → Type 0
+RefusesCall (Put _ _) old new (NoRoom _) = IsFullAtLast old new
+RefusesCall (Remove _) old new (NoRoom _) = IsFullAtLast old new
+RefusesCall (Add _ _) old new (NoRoom _) = IsFullAtLast old new
+RefusesCall (Claim _ _) old new (NoRoom _) = IsFullAtLast old new
+RefusesCall (Batch members) old new refusal = IsRefusedAtLast old new members refusal
+RefusesCall _ _ _ _ = ⊥
+
+-- the call was answered that the epoch is full, or that there is no room for the batch
+abbrev pub FindsFull : Answer → Type 0
+FindsFull (Write (Err _)) = ⊤
+FindsFull (Changed (Err _)) = ⊤
+FindsFull (Batched (Err _)) = ⊤
+FindsFull _ = ⊥

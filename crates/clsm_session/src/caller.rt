@@ -4,20 +4,21 @@ ghost use Rattle.clsm_model.specs.declared.record.Deed.TheVariants.{Batch as Gro
 ghost use Rattle.clsm_model.specs.declared.record.Deed.TheVariants.{Scan as ScanOf, Snapshot};
 ghost use Rattle.clsm_model.specs.Seats.{FitsDeed};
 ghost use Rattle.clsm_store.specs.Changes.{added, put_if_absent};
+ghost use Rattle.clsm_store.specs.Play.{PlaysCall, WantsMemory};
 ghost use Rattle.clsm_store.specs.Paging.{ReadsNext};
 ghost use Rattle.clsm_store_calls.specs.Scanning.{CountsKeys};
-ghost use Rattle.clsm_store_calls.specs.Seats.{Answers, GivesUpForWrites, Refuses};
+ghost use Rattle.clsm_store_calls.specs.Seats.{Answers, GivesUpForWrites, IsSameSeat, Refuses};
 ghost use Rattle.clsm_store_calls.specs.Tally.{CancelsNone, TakesNoLock};
 ghost use Rattle.clsm_session.specs.Places.{HasPlace};
-ghost use Rattle.clsm_session.specs.Waiting.{IsFullAtLast, IsPatient, IsRefusedAtLast};
+ghost use Rattle.clsm_session.specs.Waiting.{FindsFull, IsFullAtLast, IsPatient, IsRefusedAtLast, RefusesCall};
 
 use crate::board::Board;
 use crate::job::Place;
 use crate::refusal::{BatchRefused, Refused};
 use crate::writing;
 use clsm_store::{
-    Caller, Change, Counted, Free, Got, Memory, Open, Page, Pages, Rmw, Scan, Seat, Time, Value,
-    added, put_if_absent,
+    Answer, Call, Caller, Change, Counted, Free, Got, Memory, Open, Page, Pages, Rmw, Scan, Seat,
+    Time, Value, added, put_if_absent,
 };
 use std::alloc::Global;
 use std::marker::{Model, PhantomData};
@@ -232,5 +233,26 @@ impl<'a, R: Wait, P: Place> SessionCaller<'a, R, P> {
         ensures { result ≡ self.now.snapshot }
     {
         self.caller.snapshot_time()
+    }
+
+    /// Makes the call, and answers what the method of its name answers: it waits and is refused as
+    /// that. A `Try` is made once, as `Store::try_put`.
+    pub fn play(&mut self, call: &Call) -> Result<Answer, BatchRefused>
+        ensures plays { IfOk result (PlaysCall call.now self.old self.new) }
+        ensures waits { IfOk result (λ answer. ¬ FindsFull answer) }
+        ensures memory { IfOk result (λ answer. WantsMemory answer → Refuses self.old self.new) }
+        ensures same { IsSameSeat self.old self.new }
+        ensures refused { IfErr result (RefusesCall call.now self.old self.new) }
+    {
+        match call {
+            Call::Put { key, value } => Ok(Answer::Write(Ok(self.put(*key, *value)?))),
+            Call::Remove { key } => Ok(Answer::Write(Ok(self.remove(*key)?))),
+            Call::Add { key, by } => Ok(Answer::Change(Ok(self.add(*key, *by)?))),
+            Call::Claim { key, value } => {
+                Ok(Answer::Change(Ok(self.put_if_absent(*key, *value)?)))
+            }
+            Call::Batch { members } => Ok(Answer::Batch(Ok(self.batch(members.as_slice())?))),
+            _ => Ok(self.caller.play(self.rt, self.alloc, call)),
+        }
     }
 }

@@ -15,7 +15,7 @@ pub enum Refused {
     Worn,
 }
 
-/// Why a batch of a session is refused. Nothing was written.
+/// Why a batch of a session is refused, or a call that is played. Nothing was written.
 #[derive(Clone, Copy, PartialEq, Eq, Debug, Error)]
 pub enum BatchRefused {
     /// It has no member.
@@ -29,7 +29,7 @@ pub enum BatchRefused {
     Keep,
     /// As a write.
     #[error(transparent)]
-    NoRoom(Refused),
+    NoRoom(#[from] Refused),
 }
 
 /// Why a session hands nothing back.

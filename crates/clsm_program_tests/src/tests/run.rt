@@ -53,6 +53,21 @@ const SHOWING: &[&str] = &[
     "--progress",
 ];
 
+/// Writes find the epoch full again and again.
+const WAITING: &[&str] = &[
+    "clsm",
+    "run",
+    "--wait",
+    "--threads",
+    "2",
+    "--ops",
+    "100",
+    "--cells",
+    "4",
+    "--stats",
+    "--progress",
+];
+
 const RECORDING: &[&str] = &[
     "clsm",
     "run",
@@ -80,6 +95,11 @@ fn runs_are_shown(rt: HostRuntime) -> Result<(), Fail> {
     assert!(rt; faults.contains("\nput answered "));
     assert!(rt; faults.contains("\nbatch answered "));
     assert!(rt; faults.contains("\nrefused full 0\nmerges "));
+    let waiting = play(&rt, alloc, WAITING, none, &SOUND)?;
+    let faults = waiting.faults.as_str();
+    waiting.expect(&rt, "calls 200\naudit ok\n", faults, 0);
+    assert!(rt; faults.starts_with("\rcalls "));
+    assert!(rt; faults.contains("\nrefused full 0\nmilliseconds "));
     let records = play(&rt, alloc, RECORDING, none, &SOUND)?;
     let lines = records.output.as_str();
     assert_eq!(rt; lines.lines().count(), 100);

@@ -88,6 +88,7 @@ fn workers_overlap(rt: HostRuntime) -> Result<(), Fail> {
     };
     let asked = AskedRun {
         config,
+        waits: false,
         load: LOAD,
         shows: PLAIN,
     };

@@ -9,11 +9,11 @@ pub loop-one-preserved : goal.loop-one-preserved
 loop-one-preserved c =
     let is = c.in-Some.ensures.steps.0 in
     let inv = c.loop-one.invariant in
-    let told = subst (λ (ws : List Worked). All (λ (w : Worked). w.seat.calls ≡ w.records.items) ws) is inv.told in
+    let told = subst (λ (ws : List Worked). All (λ (w : Worked). w.seat.calls ≡ w.made.records.items) ws) is inv.told in
     let took = c.in_ok-take.ensures in
     record {
       seats = gathers _ _ c.in-Some.one _ c.next.new.self.rest.items _ took.seats is inv.seats;
       records = gathers_calls _ _ _ _ c.in-Some.one took.seats took.records inv.records
-          (All-head (λ (w : Worked). w.seat.calls ≡ w.records.items) c.in-Some.one c.next.new.self.rest.items told);
-      told = All-tail (λ (w : Worked). w.seat.calls ≡ w.records.items) c.in-Some.one c.next.new.self.rest.items told;
+          (All-head (λ (w : Worked). w.seat.calls ≡ w.made.records.items) c.in-Some.one c.next.new.self.rest.items told);
+      told = All-tail (λ (w : Worked). w.seat.calls ≡ w.made.records.items) c.in-Some.one c.next.new.self.rest.items told;
     }

@@ -9,5 +9,5 @@ abbrev pub invariant-loop-one : goal.invariant-loop-one
 invariant-loop-one l = record {
   seats : l.all.seats.items ++ map (λ (w : Worked). w.seat) l.one-iterator.rest.items ≡ map (λ (w : Worked). w.seat) l.fn.worked.items;
   records : l.all.records.items ≡ all_calls l.all.seats.items;
-  told : All (λ (w : Worked). w.seat.calls ≡ w.records.items) l.one-iterator.rest.items;
+  told : All (λ (w : Worked). w.seat.calls ≡ w.made.records.items) l.one-iterator.rest.items;
 }
