@@ -45,10 +45,11 @@ texts_of id rows = unwrap_or (all_of id rows) []
 
 -- ---- commands
 
-abbrev pub script : List Row → Config
-script rows = record {
+-- the sizes of a store that has as many seats as the option with this name says
+abbrev pub sizes : Text → List Row → Config
+sizes seats rows = record {
   cells = number_of (codes "cells") rows;
-  seats = number_of (codes "seats") rows;
+  seats = number_of seats rows;
   shards = number_of (codes "shards") rows;
   run = number_of (codes "run") rows;
   patience = number_of (codes "patience") rows;
@@ -56,13 +57,7 @@ script rows = record {
 
 abbrev pub run : List Row → RunOptions
 run rows = record {
-  config = record {
-    cells = number_of (codes "cells") rows;
-    seats = number_of (codes "threads") rows;
-    shards = number_of (codes "shards") rows;
-    run = number_of (codes "run") rows;
-    patience = number_of (codes "patience") rows;
-  };
+  config = sizes (codes "threads") rows;
   ops = number_of (codes "ops") rows;
   keys = number_of (codes "keys") rows;
   seed = number_of (codes "seed") rows;
@@ -99,7 +94,7 @@ IsCommand name = (name ≡ codes "script") ⊎ ((name ≡ codes "run")
 
 -- the command with this name was asked for, and its matches give these options
 abbrev pub IsAnswer : Text → List Row → Options → Type 0
-IsAnswer name rows (Script config) = (name ≡ codes "script") × (config ≡ script rows)
+IsAnswer name rows (Script config) = (name ≡ codes "script") × (config ≡ sizes (codes "seats") rows)
 IsAnswer name rows (Run options) = (name ≡ codes "run") × (options ≡ run rows)
 IsAnswer name rows (Audit options) = (name ≡ codes "audit") × (options ≡ audit rows)
 IsAnswer name rows (Explore options) = (name ≡ codes "explore") × IsExplore rows options

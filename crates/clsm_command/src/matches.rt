@@ -40,12 +40,13 @@ fn texts(alloc: Global, matches: &ArgMatches<'_>, id: &str) -> Result<Vec<String
     Ok(texts)
 }
 
-fn script(matches: &ArgMatches<'_>) -> Config
-    ensures { result ≡ spec.script (rows_in matches.now) }
+/// The sizes of a store that has as many seats as the option with this name says.
+fn sizes(matches: &ArgMatches<'_>, seats: &str) -> Config
+    ensures { result ≡ spec.sizes seats.now (rows_in matches.now) }
 {
     Config {
         cells: size(matches, "cells"),
-        seats: size(matches, "seats"),
+        seats: size(matches, seats),
         shards: size(matches, "shards"),
         run: size(matches, "run"),
         patience: size(matches, "patience"),
@@ -55,15 +56,8 @@ fn script(matches: &ArgMatches<'_>) -> Config
 fn run(matches: &ArgMatches<'_>) -> RunOptions
     ensures { result ≡ spec.run (rows_in matches.now) }
 {
-    let config = Config {
-        cells: size(matches, "cells"),
-        seats: size(matches, "threads"),
-        shards: size(matches, "shards"),
-        run: size(matches, "run"),
-        patience: size(matches, "patience"),
-    };
     RunOptions {
-        config,
+        config: sizes(matches, "threads"),
         ops: number(matches, "ops"),
         keys: number(matches, "keys"),
         seed: number(matches, "seed"),
@@ -113,7 +107,7 @@ pub(crate) fn chosen(
     ensures { IfOk result (IsAnswer name.now (rows_in matches.now)) }
 {
     match name {
-        "script" => Ok(Options::Script(script(matches))),
+        "script" => Ok(Options::Script(sizes(matches, "seats"))),
         "run" => Ok(Options::Run(run(matches))),
         "audit" => Ok(Options::Audit(audit(matches))),
         "explore" => Ok(Options::Explore(explore(alloc, matches)?)),
