@@ -1,10 +1,11 @@
 -- What an open step of the merger never takes back: decided slots stay, and the history grows.
-use Rattle.std.proofs.Common.{◌≡◌, ℕ, ◌+◌, ◌-◌, ◌<◌, ◌≤◌, true, false, List, length, refl, ◌∙◌, arith, Option, Some, None, length-append}
+use Rattle.std.proofs.Common.{◌≡◌, ℕ, ◌+◌, ◌-◌, ◌<◌, ◌≤◌, true, false, List, length, refl, ◌∙◌, arith, Option, Some, None, length-append, zero, suc, ◌≢◌, []}
+use Rattle.std.proofs.Common.{◌∷◌, ◌++◌}
 use Rattle.std.specs.Prelude.{replicate}
 use Rattle.std.proofs.Math.Seq.{get_or-append_right}
 use Rattle.std.proofs.lemmas.List.{length-replicate, get_or-replicate, get_or_append_left}
 use Rattle.clsm_model.specs.declared.slot.Slot.{Slot}
-use Rattle.clsm_model.specs.declared.slot.Slot.TheVariants.{Nothing}
+use Rattle.clsm_model.specs.declared.slot.Slot.TheVariants.{Nothing, Wrote}
 use Rattle.clsm_law.specs.declared.word.Word.TheVariants.{Limit}
 use Rattle.clsm_law.specs.declared.step.Step.{Step}
 use Rattle.clsm_law.specs.declared.step.Step.TheVariants.{ExtendClock}
@@ -33,6 +34,19 @@ length_over slots t le = let a : length (passed_over slots t) ≡ length slots +
 -- a decided slot stays where it is
 stays_over : (slots : List (Option Slot)) (t u : ℕ) (b : Slot) → outcome_at slots u ≡ Some b → outcome_at (passed_over slots t) u ≡ Some b
 stays_over slots t u b e = passed_before slots t u (slot_below slots u (λ none. absurd (cc (none, e)))) ∙ e
+
+-- times that came to nothing are no writes
+none_written : (n u i key : ℕ) (written : Option (List ℕ)) → outcome_at (replicate n (Some Nothing)) u ≢ Some (Wrote i key written)
+none_written zero u i key written e = absurd cc
+none_written (suc n) zero i key written e = absurd cc
+none_written (suc n) (suc u) i key written e = none_written n u i key written e
+
+-- so a write after them stood before them
+pub written_before : (slots : List (Option Slot)) (n u i key : ℕ) (written : Option (List ℕ)) → outcome_at (slots ++ replicate n (Some Nothing)) u
+    ≡ Some (Wrote i key written) → outcome_at slots u ≡ Some (Wrote i key written)
+written_before [] n u i key written e = absurd (none_written n u i key written e)
+written_before (a ∷ slots) n zero i key written e = e
+written_before (a ∷ slots) n (suc u) i key written e = written_before slots n u i key written e
 
 -- what is decided stays
 pub slots_stay' : (g : Ground) (step : Step) → OpensTo g step → (u : ℕ) (b : Slot) → outcome_at g.slots u ≡ Some b → outcome_at (slots' g step) u ≡ Some b

@@ -25,12 +25,12 @@ use Rattle.clsm_law.specs.Layout.{IsLayout}
 use Rattle.clsm_law.specs.Views.{is_exclusive, or_zero, own_time}
 use Rattle.clsm_law.specs.OpenSteps.{IsOpen}
 use Rattle.clsm_law.specs.Relation.{Chains, Orders, word_of, changed, view_after, slots_after, batches_after, chains_after, orders_after}
-use Rattle.clsm_law.specs.Merging.{is_clean, Facts, IsOpenToMerger, word_of_merger, changed_by_merger, merger_after, slots_after_merger}
+use Rattle.clsm_law.specs.Merging.{is_clean, Facts, IsOpenToMerger, word_of_merger, changed_by_merger, merger_after, slots_after_merger, epoch_end}
 use Rattle.clsm_law.specs.Merging.{chains_after_merger, orders_after_merger, is_retired, is_frozen, is_all_quiet, reader_at}
 use Rattle.clsm_law.specs.Worlds.{view_at, outcome_at, past_of, open_past, facts_of}
 use Rattle.clsm_law.specs.Law.{LawOf, Shows, each, mode_of, taken_by, drawn_of, held_of, pin_of, past_time_of, IsRetiredFor, first_shown, first_live}
 use Rattle.clsm_law.specs.Law.{is_held_back}
-use Rattle.clsm_law.proofs.Frames.{put_same, past_end}
+use Rattle.clsm_law.proofs.Frames.{at_each, put_same, puts_each, past_end}
 use Rattle.clsm_law.proofs.Cases.{by_bool}
 use Rattle.clsm_law.proofs.Clock.Times.{Live}
 
@@ -97,6 +97,12 @@ own s = own_time (v s)
 -- the step may be made: no batch is in its way either
 abbrev pub Allows : Setting → Step → Type 0
 Allows s step = IsOpen s.z (open_past s.slots s.batches (v s).past) (v s) (plainly step)
+
+-- a fact of each seat after the step, from the one of this seat and those of the others before
+pub by_seat : (s : Setting) (y : View) (P : ℕ → View → Type 0) → P s.me y → ((i : ℕ) → i ≢ s.me → P i (view_at s.z s.views i)) → (i : ℕ)
+    → P i (view_at s.z (set s.views s.me y) i)
+by_seat s y P here other = let p = puts_each s.z (λ (u : View). u) s.views s.me y s.inside in
+    at_each (λ i. P i (view_at s.z (set s.views s.me y) i)) s.me (subst (P s.me) (sym p.here) here) (λ i ne. subst (P i) (sym (p.other i ne)) (other i ne))
 
 pub looked_same : (s : Setting) (c : Word) → M s (Look c) ≡ s.memory
 looked_same s c = put_same s.memory c
@@ -213,6 +219,14 @@ module _ (n merged : ℕ) (extended quiet : Bool) where
   free_live Retired some clean = by_bool (λ e. cond e ((merged + 2) * n) ((merged + 1) * n) ≤ (merged - 1) * n + 2 * n) extended
       (λ e. absurd (let f = clean e in cc)) (λ _. turn (some refl))
 
+-- the time came to a write
+pub record Written (g : Ground) (t : ℕ) : Type 0 where
+  pub drawn : t < length g.slots
+  pub seat : ℕ
+  pub key : ℕ
+  pub value : Option (List ℕ)
+  pub slot : outcome_at g.slots t ≡ Some (Wrote seat key value)
+
 module _ (g : Ground) where
   -- what is shown is live
   pub live_below_shown : first_live g.z g.merger ≤ first_shown g.z g.merger
@@ -261,6 +275,20 @@ module _ (g : Ground) where
 
   pub decided : (t : ℕ) → first_shown g.z g.merger ≤ t → t < length g.slots → g.memory (State (cell_of g.z t)) ≢ 0 → outcome_at g.slots t ≢ None
   decided t from until ne = decided_if (cell_of g.z t) (outcome_at g.slots t) (g.law.shown t from until) ne
+
+  -- and where it is that of a write, the time came to one
+  pub written : (t : ℕ) → first_shown g.z g.merger ≤ t → t < first_live g.z g.merger + 2 * g.z.cells → 2 ≤ g.memory (State (cell_of g.z t)) → Written g t
+  written t from until state = elim (cases_lt t (length g.slots)) [
+    | inl drawn ↦ slot drawn (outcome_at g.slots t) refl (g.law.shown t from drawn)
+    | inr undrawn ↦ absurd (⊎_elim (λ (zero : g.memory (State (cell_of g.z t)) ≡ 0). omega arith)
+        (λ (one : (g.merger.padded ≡ true) × (t < epoch_end g.z g.merger) × (g.memory (State (cell_of g.z t)) ≡ 1)). let is = one.2 in omega arith)
+        (g.law.empty t undrawn until))
+  ]
+    where
+      slot : t < length g.slots → (o : Option Slot) → outcome_at g.slots t ≡ o → Shows g.memory (cell_of g.z t) o → Written g t
+      slot drawn None e h = absurd (omega arith)
+      slot drawn (Some Nothing) e h = absurd (omega arith)
+      slot drawn (Some (Wrote i key value)) e h = record { drawn = drawn; seat = i; key = key; value = value; slot = e }
 
   -- only drawn times are known
   pub past_below : (i : ℕ) → each g.z past_time_of g.views i ≤ length g.slots

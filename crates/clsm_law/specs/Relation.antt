@@ -315,23 +315,29 @@ filled v Length w = record v { length = Some w }
 filled v (Value j) w = record v { words = slice_set v.words j (Some w) }
 filled v Next w = record v { next = Some w }
 
--- the time is drawn: no part of its cell is filled, the cell is neither linked nor inserted, and no
--- place is before or behind it; no look at the clock or at a link is fresh
-abbrev pub taken : View → ℕ → View
-taken v t = record v {
-  drawn = Some t;
-  key = None;
-  length = None;
-  words = blank 8;
-  next = None;
-  linked = false;
-  order_next = None;
-  inserted = false;
-  fresh_link = None;
-  low = 0;
-  high = 0;
+-- The view after an exchange that draws t. Won: t is drawn, no part of its cell is filled, the cell
+-- is neither linked nor inserted, no place is before or behind it, and no look at the clock or at a
+-- link is fresh; lost: the look at the clock is no longer fresh, and it is counted.
+abbrev pub after_draw : Bool → View → ℕ → View
+after_draw won v t = record v {
+  drawn = cond won (Some t) v.drawn;
+  key = cond won None v.key;
+  length = cond won None v.length;
+  words = cond won (blank 8) v.words;
+  next = cond won None v.next;
+  linked = cond won false v.linked;
+  order_next = cond won None v.order_next;
+  inserted = cond won false v.inserted;
+  fresh_link = cond won None v.fresh_link;
+  low = cond won 0 v.low;
+  high = cond won 0 v.high;
   fresh_clock = None;
+  raced = one_more_if (not won) v.raced;
 }
+
+-- the time is drawn
+abbrev pub taken : View → ℕ → View
+taken v t = after_draw true v t
 
 -- The view of the seat i after a step that found x. An exchange is won where it finds the word that
 -- it names, and else lost.
@@ -351,23 +357,8 @@ view_after z i v (EnterShared l) x = let won = x == l in record v {
 -- the lock is given back, no look is fresh, and no place of the list is known; the looks of the hold
 -- are known still
 view_after z i v LeaveShared x = record v { mode = Free; fresh_lock = None; fresh_clock = None; fresh_heads = blank (2 * z.chains); met = 0; low = 0; high = 0 }
--- The look is no longer fresh. Won: t is drawn, no part is filled, the cell is neither linked nor
--- inserted, no place is before or behind it, and no look at a link is fresh; lost: it is counted.
-view_after z i v (Draw t) x = let won = x == t in record v {
-  drawn = cond won (Some t) v.drawn;
-  key = cond won None v.key;
-  length = cond won None v.length;
-  words = cond won (blank 8) v.words;
-  next = cond won None v.next;
-  linked = cond won false v.linked;
-  order_next = cond won None v.order_next;
-  inserted = cond won false v.inserted;
-  fresh_link = cond won None v.fresh_link;
-  low = cond won 0 v.low;
-  high = cond won 0 v.high;
-  fresh_clock = None;
-  raced = one_more_if (not won) v.raced;
-}
+-- t is drawn where it is won
+view_after z i v (Draw t) x = after_draw (x == t) v t
 -- the part is filled
 view_after z i v (Fill part w) x = filled v part w
 -- The look is no longer fresh. Won: the cell is linked; lost: it is counted.

@@ -30,15 +30,15 @@ use Rattle.clsm_law.specs.Worlds.{outcome_at, past_of, open_past}
 use Rattle.clsm_law.specs.Law.{each, past_time_of, reached_of, pin_clock_of, snapshot_of, calls_of, IsSnapshot, AreAtMost}
 use Rattle.clsm_law.specs.Batches.{AreFitting, IsWritten, AreUncutNotes, AreUncutSnapshots, AreUncutPasts, AreUncut, AreListed, snapshot_time}
 use Rattle.clsm_law.proofs.Cases.{by_test, by_bool}
-use Rattle.clsm_law.proofs.Setting.{Setting, Ground, v, x, w, M, V, S, B, Opens, Allows, OpensTo, memory', slots', looked_same, merger_looked_same}
+use Rattle.clsm_law.proofs.Setting.{Setting, Ground, v, x, w, M, V, S, B, Opens, Allows, OpensTo, memory', slots', looked_same, merger_looked_same, by_seat}
 use Rattle.clsm_law.proofs.Growth.{slots_stay}
 use Rattle.clsm_law.proofs.GrowthMerger.{slots_stay'}
 use Rattle.clsm_law.proofs.Records.Histories.{end_of-past_min}
-use Rattle.clsm_law.proofs.Records.Facts.{at_views, all_append, all_map, member_writes}
+use Rattle.clsm_law.proofs.Records.Facts.{all_append, all_map, member_writes}
 use Rattle.clsm_law.proofs.Frames.{slot_below}
 use Rattle.clsm_law.proofs.Batches.Facts.{in_turn_more, in_turn_next, in_turn_uncut, uncut_next, listed_before, listed_last}
 use Rattle.clsm_law.proofs.Batches.Opens.{opens_plain}
-use Rattle.clsm_law.proofs.Clock.Kept.{clock_grows, clock_grows', commits_at}
+use Rattle.clsm_law.proofs.Clock.Kept.{clock_grows, clock_grows', commits_at, below_clock}
 use Rattle.clsm_law.proofs.Decided.Kept.{run_other}
 use Rattle.clsm_law.proofs.Records.Kept.{commits_member}
 
@@ -75,8 +75,7 @@ own_reached s (Fill part n) o = s.law.reached_clock s.me
 own_reached s step o = let a = clock_grows s step o in let b = s.law.reached_clock s.me in omega arith
 
 pub reached_clock_kept : (s : Setting) (step : Step) → Opens s step → AreAtMost (each s.z reached_of (V s step)) (M s step Clock)
-reached_clock_kept s step o = at_views s.z s.views s.me (w s step) s.inside (λ i u. u.reached ≤ M s step Clock) (own_reached s step o)
-    (λ i ne. let a = clock_grows s step o in let b = s.law.reached_clock i in omega arith)
+reached_clock_kept s step o = below_clock s step o reached_of s.law.reached_clock (own_reached s step o)
 
 pub reached_clock_merged : (g : Ground) (step : Step) → OpensTo g step → AreAtMost (each g.z reached_of g.views) (memory' g step Clock)
 reached_clock_merged g step o i = let a = clock_grows' g step o in let b = g.law.reached_clock i in omega arith
@@ -90,8 +89,7 @@ own_past s (Fill part n) o = s.law.past_clock s.me
 own_past s step o = let a = clock_grows s step o in let b = s.law.past_clock s.me in omega arith
 
 pub past_clock_kept : (s : Setting) (step : Step) → Opens s step → AreAtMost (each s.z past_time_of (V s step)) (M s step Clock)
-past_clock_kept s step o = at_views s.z s.views s.me (w s step) s.inside (λ i u. u.past ≤ M s step Clock) (own_past s step o)
-    (λ i ne. let a = clock_grows s step o in let b = s.law.past_clock i in omega arith)
+past_clock_kept s step o = below_clock s step o past_time_of s.law.past_clock (own_past s step o)
 
 pub past_clock_merged : (g : Ground) (step : Step) → OpensTo g step → AreAtMost (each g.z past_time_of g.views) (memory' g step Clock)
 past_clock_merged g step o i = let a = clock_grows' g step o in let b = g.law.past_clock i in omega arith
@@ -190,7 +188,7 @@ own_pin s (Fill Key n) o t e = s.law.uncut_pins s.me t e
 own_pin s step o t e = pin_noted s step o s.me t e
 
 pub uncut_pins_kept : (s : Setting) (step : Step) → Opens s step → AreUncutNotes (B s step) (each s.z pin_clock_of (V s step))
-uncut_pins_kept s step o = at_views s.z s.views s.me (w s step) s.inside (λ i u. (t : ℕ) → u.pin_clock ≡ Some t → IsUncut (B s step) t) (own_pin s step o)
+uncut_pins_kept s step o = by_seat s (w s step) (λ i u. (t : ℕ) → u.pin_clock ≡ Some t → IsUncut (B s step) t) (own_pin s step o)
     (λ i ne. pin_noted s step o i)
 
 -- a snapshot's time
@@ -228,7 +226,7 @@ own_snapshot s (Fill Key n) o t e = s.law.uncut_snapshots s.me t e
 own_snapshot s step o t e = snapshot_noted s step o s.me t e
 
 pub uncut_snapshots_kept : (s : Setting) (step : Step) → Opens s step → AreUncutSnapshots (B s step) (each s.z snapshot_of (V s step))
-uncut_snapshots_kept s step o = at_views s.z s.views s.me (w s step) s.inside (λ i u. (t : ℕ) → snapshot_time u.snapshot ≡ Some t → IsUncut (B s step) t)
+uncut_snapshots_kept s step o = by_seat s (w s step) (λ i u. (t : ℕ) → snapshot_time u.snapshot ≡ Some t → IsUncut (B s step) t)
     (own_snapshot s step o) (λ i ne. snapshot_noted s step o i)
 
 -- the end of a past
@@ -239,7 +237,7 @@ own_end s (Look Clock) o = s.law.uncut_pasts s.me
 own_end s step o = commits_uncut s step (opens_plain s step o) (v s).past (s.law.past_clock s.me) (s.law.uncut_pasts s.me)
 
 pub uncut_pasts_kept : (s : Setting) (step : Step) → Allows s step → AreUncutPasts (B s step) (each s.z past_time_of (V s step))
-uncut_pasts_kept s step o = at_views s.z s.views s.me (w s step) s.inside (λ i u. IsUncut (B s step) u.past) (own_end s step o)
+uncut_pasts_kept s step o = by_seat s (w s step) (λ i u. IsUncut (B s step) u.past) (own_end s step o)
     (λ i ne. commits_uncut s step (opens_plain s step o) (each s.z past_time_of s.views i) (s.law.past_clock i) (s.law.uncut_pasts i))
 
 -- ---- records
@@ -315,7 +313,7 @@ own_uncut s (Look Clock) o = s.law.uncut s.me
 own_uncut s step o = s.law.uncut s.me
 
 pub uncut_kept : (s : Setting) (step : Step) → Allows s step → AreUncut (B s step) (each s.z calls_of (V s step))
-uncut_kept s step o = at_views s.z s.views s.me (w s step) s.inside (λ i u. AllByRecursion (IsUncutRecord (B s step)) u.calls) (own_uncut s step o)
+uncut_kept s step o = by_seat s (w s step) (λ i u. AllByRecursion (IsUncutRecord (B s step)) u.calls) (own_uncut s step o)
     (λ i ne. uncut_before s step (opens_plain s step o) i)
 
 -- a listed batch stays listed
@@ -373,7 +371,7 @@ own_listed s (Look Clock) o = s.law.listed s.me
 own_listed s step o = s.law.listed s.me
 
 pub listed_kept : (s : Setting) (step : Step) → Opens s step → AreListed (B s step) (each s.z calls_of (V s step))
-listed_kept s step o = at_views s.z s.views s.me (w s step) s.inside (λ i u. AllByRecursion (IsListedRecord (B s step)) u.calls) (own_listed s step o)
+listed_kept s step o = by_seat s (w s step) (λ i u. AllByRecursion (IsListedRecord (B s step)) u.calls) (own_listed s step o)
     (λ i ne. listed_stay s step i)
 
 -- ---- what is recorded fits
@@ -434,5 +432,5 @@ own_fits s (Look Clock) o = s.law.fitting s.me
 own_fits s step o = s.law.fitting s.me
 
 pub fitting_kept : (s : Setting) (step : Step) → Opens s step → AreFitting s.z.cells (each s.z calls_of (V s step))
-fitting_kept s step o = at_views s.z s.views s.me (w s step) s.inside (λ i u. AllByRecursion (FitsRecord s.z.cells) u.calls) (own_fits s step o)
+fitting_kept s step o = by_seat s (w s step) (λ i u. AllByRecursion (FitsRecord s.z.cells) u.calls) (own_fits s step o)
     (λ i ne. s.law.fitting i)

@@ -1,5 +1,5 @@
 -- How a caller's step keeps the clauses of the chains.
-use Rattle.std.proofs.Common.{◌≡◌, ◌≢◌, ℕ, ◌+◌, ◌%◌, ◌<◌, ◌≤◌, Bool, true, false, cond, List, [], ◌∷◌, ◌++◌, length, set, sym, refl, ap, ◌∙◌, subst, arith}
+use Rattle.std.proofs.Common.{◌≡◌, ◌≢◌, ℕ, ◌+◌, ◌%◌, ◌≤◌, Bool, true, false, cond, List, [], ◌∷◌, ◌++◌, length, set, sym, refl, ap, ◌∙◌, subst, arith}
 use Rattle.std.proofs.Common.{⊎_elim, Option, Some, None}
 use prog.Atomic.{either}
 use Rattle.clsm_model.specs.declared.slot.Slot.{Slot}
@@ -23,7 +23,7 @@ use Rattle.clsm_law.specs.Worlds.{outcome_at}
 use Rattle.clsm_law.specs.Law.{each, drawn_of, key_of, linked_of, In, Distinct, IsChain, AreChained, AreIn, AreOnce, IsLinkedAt, AreStanding, AreLinked}
 use Rattle.clsm_law.specs.Law.{AreLoose, first_live, first_shown}
 use Rattle.clsm_law.proofs.Cases.{by_test}
-use Rattle.clsm_law.proofs.Frames.{at_each, keep1, put_same, put_other, puts_each, puts_slot, slots_grown}
+use Rattle.clsm_law.proofs.Frames.{at_each, keep1, put_same, put_other, puts_each, slots_grown, writes_settled}
 use Rattle.clsm_law.proofs.Setting.{Setting, ground, v, x, w, M, V, S, C, Opens, own, own_drawn, looked_same, drawn_shown, drawn_live, clock_shared}
 use Rattle.clsm_law.proofs.Growth.{longer, cancels_shown}
 use Rattle.clsm_law.proofs.Chains.Facts.{by_line, chain_same, in_pushed, is_pushed, in_as, own_region, own_chain, is_there, nowhere, other_cell, stays_in}
@@ -103,14 +103,6 @@ key_of_write y (Rmw k old (Set value)) seat i key written says e = cc (says.0, e
 key_of_write y (Rmw k old Erase) seat i key written says e = cc (says.0, e)
 key_of_write y deed seat i key written says e = absurd says
 
--- a slot that is settled, and the others as they were
-standing_settles : (s : Setting) (t : ℕ) (a : Option Slot) → t < length s.slots
-    → ((i key : ℕ) (written : Option (List ℕ)) → a ≡ Some (Wrote i key written) → IsLinkedAt s.z s.chains t key)
-    → AreStanding s.z (first_shown s.z s.merger) (outcome_at (set s.slots t a)) s.chains
-standing_settles s t a lt now u = λ i key written le e. let p = puts_slot s.slots t a lt in
-    at_each (λ u. first_shown s.z s.merger ≤ u → outcome_at (set s.slots t a) u ≡ Some (Wrote i key written) → IsLinkedAt s.z s.chains u key) t
-    (λ _ e. now i key written (sym p.here ∙ e)) (λ u ne le e. s.law.standing u i key written le (sym (p.other u ne) ∙ e)) u le e
-
 pub standing_kept : (s : Setting) (step : Step) → Opens s step → AreStanding s.z (first_shown s.z s.merger) (outcome_at (S s step)) (C s step)
 standing_kept s (Draw t) o = by_test (λ b. AreStanding s.z (first_shown s.z s.merger) (outcome_at (cond b (s.slots ++ None ∷ []) s.slots)) s.chains)
     (x s (Draw t)) t
@@ -118,13 +110,15 @@ standing_kept s (Draw t) o = by_test (λ b. AreStanding s.z (first_shown s.z s.m
 standing_kept s (Decide t deed) o =
     by_test (λ b. AreStanding s.z (first_shown s.z s.merger) (outcome_at (cond b (set s.slots t (write_by s.me deed)) s.slots)) s.chains)
     (x s (Decide t deed)) 0
-    (λ _. let k = s.law.linked s.me t o.0 o.1 in standing_settles s t (write_by s.me deed) (drawn_shown (ground s) s.me t o.0).1
+    (λ _. let k = s.law.linked s.me t o.0 o.1 in
+    writes_settled s.slots (first_shown s.z s.merger) t (write_by s.me deed) (IsLinkedAt s.z s.chains) (drawn_shown (ground s) s.me t o.0).1
     (λ i key written e. let is = key_of_write (v s) deed s.me i key written o.2 e in let same : k.0 ≡ key = cc (k.1, is) in
-    subst (IsLinkedAt s.z s.chains t) same k.2))
+    subst (IsLinkedAt s.z s.chains t) same k.2) s.law.standing)
     (λ _. s.law.standing)
 standing_kept s (Cancel t) o =
     by_test (λ b. AreStanding s.z (first_shown s.z s.merger) (outcome_at (cond b (set s.slots t (Some Nothing)) s.slots)) s.chains) (x s (Cancel t)) 0
-    (λ _. standing_settles s t (Some Nothing) (cancels_shown s t o).1 (λ i key written e. absurd cc))
+    (λ _. writes_settled s.slots (first_shown s.z s.merger) t (Some Nothing) (IsLinkedAt s.z s.chains) (cancels_shown s t o).1
+    (λ i key written e. absurd cc) s.law.standing)
     (λ _. s.law.standing)
 standing_kept s step o = λ t i key written le e. stays_in s step _ _ t (s.law.standing t i key written le e)
 

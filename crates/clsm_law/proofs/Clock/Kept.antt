@@ -24,9 +24,10 @@ use Rattle.clsm_law.specs.Memory.{Memory}
 use Rattle.clsm_law.specs.Views.{IsBelow, SaysWrite, idle, is_exclusive, or_zero}
 use Rattle.clsm_law.specs.Relation.{looked, filled, given_up, member_of}
 use Rattle.clsm_law.specs.Merging.{is_frozen, is_retired, epoch_end, merger_looked}
-use Rattle.clsm_law.specs.Law.{first_free, taken_by}
+use Rattle.clsm_law.specs.Law.{first_free, taken_by, AreAtMost, each}
+use Rattle.clsm_law.specs.Worlds.{view_at}
 use Rattle.clsm_law.proofs.Cases.{by_test, by_bool}
-use Rattle.clsm_law.proofs.Setting.{Setting, ground, v, x, w, M, V, S, Opens, looked_same, Ground, facts, found, merger', memory', slots', OpensTo}
+use Rattle.clsm_law.proofs.Setting.{Setting, ground, v, x, w, M, V, S, Opens, looked_same, Ground, facts, found, merger', memory', slots', OpensTo, by_seat}
 use Rattle.clsm_law.proofs.Setting.{merger_looked_same, merged_below_limit, clock_below, clock_shared, clock_merger}
 use Rattle.clsm_law.proofs.Growth.{undecided_empty}
 use Rattle.clsm_law.proofs.GrowthMerger.{clock_held, length_passed}
@@ -197,6 +198,12 @@ clock_grows s (Draw t) o = by_test (λ b. s.memory Clock ≤ either b (t + 1) (s
 clock_grows s (Commit members) o = let at = commits_at s members o in omega arith
 clock_grows s (Look word) o = let a = ap (λ (m : Memory). m Clock) (looked_same s word) in omega arith
 clock_grows s step o = omega arith
+
+-- a time of each seat's that is not beyond the clock stays so, if that of the seat that made the step does
+pub below_clock : (s : Setting) (step : Step) → Opens s step → (f : View → ℕ) → AreAtMost (each s.z f s.views) (s.memory Clock) → f (w s step) ≤ M s step Clock
+    → AreAtMost (each s.z f (V s step)) (M s step Clock)
+below_clock s step o f was own = by_seat s (w s step) (λ i u. f u ≤ M s step Clock) own
+    (λ i ne. let a = clock_grows s step o in let b : f (view_at s.z s.views i) ≤ s.memory Clock = was i in omega arith)
 
 pub clock_grows' : (g : Ground) (step : Step) → OpensTo g step → g.memory Clock ≤ memory' g step Clock
 clock_grows' g ExtendClock o = let a = clock_below g in let b = clock_held g o.0 in omega arith

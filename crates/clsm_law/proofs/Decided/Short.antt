@@ -1,6 +1,5 @@
 -- How it is kept that no write has more words than a cell, and that a value has at least one.
-use Rattle.std.proofs.Common.{◌≡◌, ◌≢◌, ℕ, zero, suc, ◌-◌, ◌<◌, cond, List, [], ◌∷◌, ◌++◌, length, set, sym, ◌∙◌, subst, Option, Some, None}
-use Rattle.std.specs.Prelude.{replicate}
+use Rattle.std.proofs.Common.{◌≡◌, ℕ, ◌-◌, ◌<◌, cond, List, [], ◌∷◌, ◌++◌, length, set, sym, ◌∙◌, subst, Option, Some, None}
 use Rattle.clsm_model.specs.declared.slot.Slot.{Slot}
 use Rattle.clsm_model.specs.declared.slot.Slot.TheVariants.{Nothing, Wrote}
 use Rattle.clsm_model.specs.declared.slot.Change.TheVariants.{Keep, Set, Remove as Erase}
@@ -18,6 +17,7 @@ use Rattle.clsm_law.proofs.Cases.{by_test}
 use Rattle.clsm_law.proofs.Frames.{keep1, at_each, puts_slot, slots_grown}
 use Rattle.clsm_law.proofs.Setting.{Setting, Ground, ground, v, x, S, Opens, OpensTo, slots', drawn_shown}
 use Rattle.clsm_law.proofs.Growth.{cancels_shown}
+use Rattle.clsm_law.proofs.GrowthMerger.{written_before}
 
 -- one slot more
 short_with : (slots : List (Option Slot)) (t : ℕ) (a : Option Slot) → t < length slots
@@ -47,19 +47,7 @@ short_kept s (Cancel t) o = by_test (λ b. AreShort (outcome_at (cond b (set s.s
     (λ _. short_with s.slots t (Some Nothing) (cancels_shown s t o).1 (λ i key written e. absurd cc) s.law.short) (λ _. s.law.short)
 short_kept s step o = s.law.short
 
--- times that are skipped are no writes
-none_passed : (n u i key : ℕ) (written : Option (List ℕ)) → outcome_at (replicate n (Some Nothing)) u ≢ Some (Wrote i key written)
-none_passed zero u i key written e = absurd cc
-none_passed (suc n) zero i key written e = absurd cc
-none_passed (suc n) (suc u) i key written e = none_passed n u i key written e
-
-passed_write : (slots : List (Option Slot)) (n u i key : ℕ) (written : Option (List ℕ)) → outcome_at (slots ++ replicate n (Some Nothing)) u
-    ≡ Some (Wrote i key written) → outcome_at slots u ≡ Some (Wrote i key written)
-passed_write [] n u i key written e = absurd (none_passed n u i key written e)
-passed_write (a ∷ slots) n zero i key written e = e
-passed_write (a ∷ slots) n (suc u) i key written e = passed_write slots n u i key written e
-
 pub short_merged : (g : Ground) (step : Step) → OpensTo g step → AreShort (outcome_at (slots' g step))
 short_merged g ExtendClock o = λ t i key written e. g.law.short t i key written
-    (passed_write g.slots (epoch_end g.z g.merger - length g.slots) t i key written e)
+    (written_before g.slots (epoch_end g.z g.merger - length g.slots) t i key written e)
 short_merged g step o = g.law.short
