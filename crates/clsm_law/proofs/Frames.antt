@@ -1,10 +1,9 @@
 -- What a step changes, and what it leaves as it was, of the functions that the clauses name.
-use Rattle.std.proofs.Common.{◌≡◌, ◌≢◌, ℕ, zero, suc, ◌<◌, cond, List, [], ◌∷◌, ◌++◌, length, set, sym, refl, ap, ◌∙◌, subst, arith, Option, Some, None, ◌≤◌}
+use Rattle.std.proofs.Common.{◌≡◌, ◌≢◌, ℕ, zero, suc, ◌<◌, cond, List, [], ◌∷◌, ◌++◌, length, set, sym, refl, ap, ◌∙◌, subst, arith, Option, Some, None}
 use Rattle.std.proofs.Common.{get_or-set_other, get_or-set_same}
 use mathlib.Core.Logic.{dite}
 use native.Mathlib.Decide.{ℕ_discrete}
 use Rattle.clsm_model.specs.declared.slot.Slot.{Slot}
-use Rattle.clsm_model.specs.declared.slot.Slot.TheVariants.{Wrote}
 use Rattle.clsm_law.specs.declared.layout.Layout.{Layout}
 use Rattle.clsm_law.specs.declared.word.Word.{Word}
 use Rattle.clsm_law.specs.declared.word.Word.TheVariants.{Lock}
@@ -13,11 +12,11 @@ use Rattle.clsm_law.specs.declared.word.Part.TheVariants.{Key}
 use Rattle.clsm_law.specs.declared.view.View.{View}
 use Rattle.clsm_law.specs.Memory.{Memory, is_same, put}
 use Rattle.clsm_law.specs.Views.{idle}
-use Rattle.clsm_law.specs.Relation.{looked, filled}
+use Rattle.clsm_law.specs.Relation.{given_up, looked, filled}
 use Rattle.clsm_law.specs.Worlds.{view_at, outcome_at}
 use Rattle.clsm_law.specs.Law.{each}
 use Rattle.clsm_law.proofs.Rows.Words.{same_word, is_same-refl}
-use Rattle.clsm_law.proofs.Cases.{by_bool}
+use Rattle.clsm_law.proofs.Cases.{by_test, by_bool}
 
 -- g is f, but x at k
 pub record Puts {A : Type 0} (f g : ℕ → A) (k : ℕ) (x : A) : Type 0 where
@@ -73,19 +72,15 @@ pub filled_hold : (y : View) (part : Part) (n : ℕ) → ((filled y part n).mode
 filled_hold y Key n = (refl, refl)
 filled_hold y part n = (refl, refl)
 
+-- a time that is not given up was drawn
+pub not_given_up : (d : Option ℕ) (t u : ℕ) → given_up d t ≡ Some u → d ≡ Some u
+not_given_up None t u e = e
+not_given_up (Some y) t u e = by_test (λ b. cond b None (Some y) ≡ Some u → Some y ≡ Some u) y t (λ _ e. absurd cc) (λ _ e. e) e
+
 -- ---- slots
 
 pub puts_slot : (slots : List (Option Slot)) (t : ℕ) (s : Option Slot) → t < length slots → Puts (outcome_at slots) (outcome_at (set slots t s)) t s
 puts_slot slots t s lt = record { here = get_or-set_same slots t s None lt; other = λ i ne. get_or-set_other slots t i s None ne }
-
--- a fact of each write from a time on, where one slot is settled and the others stay
-pub writes_settled : (slots : List (Option Slot)) (from t : ℕ) (a : Option Slot) (P : ℕ → ℕ → Type 0) → t < length slots
-    → ((i key : ℕ) (written : Option (List ℕ)) → a ≡ Some (Wrote i key written) → P t key)
-    → ((u i key : ℕ) (written : Option (List ℕ)) → from ≤ u → outcome_at slots u ≡ Some (Wrote i key written) → P u key)
-    → (u i key : ℕ) (written : Option (List ℕ)) → from ≤ u → outcome_at (set slots t a) u ≡ Some (Wrote i key written) → P u key
-writes_settled slots from t a P lt now was u i key written le e = let p = puts_slot slots t a lt in
-    at_each (λ u. from ≤ u → outcome_at (set slots t a) u ≡ Some (Wrote i key written) → P u key) t
-    (λ _ e. now i key written (sym p.here ∙ e)) (λ u ne le e. was u i key written le (sym (p.other u ne) ∙ e)) u le e
 
 -- an undecided slot at the end shows nothing new
 grown_at : (slots : List (Option Slot)) (t : ℕ) → outcome_at (slots ++ None ∷ []) t ≡ outcome_at slots t

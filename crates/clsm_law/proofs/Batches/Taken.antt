@@ -30,9 +30,9 @@ use Rattle.clsm_law.proofs.Records.Histories.{past-equal}
 use Rattle.clsm_law.proofs.Lock.Kept.{exclusive_free, same_count, sole_same, not_both, merger_unheld}
 use Rattle.clsm_law.proofs.Clock.Kept.{counted, taken_undrawn}
 use Rattle.clsm_law.proofs.Drawn.Kept.{drew_pending, drew_owned, drew_alone, drew_filled, holding_by}
-use Rattle.clsm_law.proofs.Chains.Kept.{lies_as, linked_by, loose_else}
+use Rattle.clsm_law.proofs.Chains.Kept.{lies_as, linked_by, loose_by}
 use Rattle.clsm_law.proofs.Orders.Kept.{placed_as}
-use Rattle.clsm_law.proofs.Orders.Inserted.{inserted_by, outside_else, leading_by}
+use Rattle.clsm_law.proofs.Orders.Inserted.{inserted_by, outside_by, leading_by}
 use Rattle.clsm_law.proofs.Runs.Kept.{runs_stay, agree_below}
 
 -- the seat may take the time
@@ -194,13 +194,14 @@ module _ (s : Setting) (t key : ℕ) (o : Stages s t key) where
     once = s.law.once;
     standing = keep1 (λ (f : ℕ → Option Slot). AreStanding s.z (first_shown s.z s.merger) f s.chains) same s.law.standing;
     linked = linked_by s s.chains u (λ r k n i. i) (λ n d l. absurd cc);
-    loose = loose_else s u (λ n d l r k i. let is : t ≡ n = cc in let b = (s.law.lies r k n i).drawn in omega arith);
+    loose = loose_by s s.chains u (λ i n r k ne d m. m) (λ n d l r k i. let is : t ≡ n = cc in let b = (s.law.lies r k n i).drawn in omega arith);
     ordered = s.law.ordered;
     sorted = s.law.sorted;
     placed = placed_as s (length slots') (omega arith);
     entered = keep1 (λ (f : ℕ → Option Slot). AreInOrder s.z (first_shown s.z s.merger) f s.orders) same s.law.entered;
     inserted = inserted_by s s.orders u (λ r p i. i) (λ n d l. absurd cc);
-    outside = outside_else s u (λ n d l r. let is : t ≡ n = cc in subst (λ (k : ℕ). ¬ In (place_of_time s.z k) (s.orders r)) is (outside_taken r));
+    outside = outside_by s s.orders u (λ i n r ne d m. m)
+        (λ n d l r. let is : t ≡ n = cc in subst (λ (k : ℕ). ¬ In (place_of_time s.z k) (s.orders r)) is (outside_taken r));
     leading = leading_by s s.memory u (λ i n ne d l. refl) (λ n w d l k. absurd cc);
     met = members_taken met_of refl s.law.met;
     lows = members_none low_of refl s.law.lows;
@@ -256,18 +257,10 @@ module _ (s : Setting) (t key : ℕ) (o : Stages s t key) where
 
   -- the world with the time taken
   abbrev pub taking : Setting
-  taking = record {
-    z = s.z;
-    sound = s.sound;
-    memory = s.memory;
+  taking = record s {
     views = views';
-    merger = s.merger;
     slots = slots';
-    batches = s.batches;
-    chains = s.chains;
-    orders = s.orders;
     law = taken_law;
-    me = s.me;
     inside = let e = length-set s.views s.me u in let lt = s.inside in omega arith;
   }
 

@@ -25,8 +25,8 @@ use Rattle.clsm_law.specs.Merging.{is_frozen, IsRunWord, merger_looked}
 use Rattle.clsm_law.specs.Worlds.{outcome_at}
 use Rattle.clsm_law.specs.Law.{each, past_time_of, reached_of, IsDecidedBelow, AreDecidedBelow, first_shown}
 use Rattle.clsm_law.proofs.Cases.{by_test, by_bool}
-use Rattle.clsm_law.proofs.Frames.{at_each, keep1, puts_each, puts_slot, put_other}
-use Rattle.clsm_law.proofs.Setting.{Setting, Ground, ground, v, x, w, M, V, S, Opens, OpensTo, found, memory', merger', slots', looked_same}
+use Rattle.clsm_law.proofs.Frames.{keep1, puts_slot, put_other}
+use Rattle.clsm_law.proofs.Setting.{Setting, Ground, ground, v, x, w, M, V, S, Opens, OpensTo, found, memory', merger', slots', looked_same, by_seat}
 use Rattle.clsm_law.proofs.Setting.{merger_looked_same, decided, drawn_shown, held_shown, shown_below_merged, clock_below}
 use Rattle.clsm_law.proofs.Growth.{cancels_shown, slots_stay}
 use Rattle.clsm_law.proofs.GrowthMerger.{slots_stay'}
@@ -92,10 +92,8 @@ merged_decided_merged g step o = λ u lt. decided_stay' g step o u (g.law.merged
 module _ (s : Setting) (step : Step) (o : Opens s step) (bound : View → ℕ) (h : AreDecidedBelow (outcome_at s.slots) (each s.z bound s.views)) where
   -- the seat's own bound after the step is the one thing to be seen
   by_own : ((t : ℕ) → t < bound (w s step) → outcome_at (S s step) t ≢ None) → AreDecidedBelow (outcome_at (S s step)) (each s.z bound (V s step))
-  by_own own = let p = puts_each s.z bound s.views s.me (w s step) s.inside in
-      at_each (λ i. (t : ℕ) → t < each s.z bound (V s step) i → outcome_at (S s step) t ≢ None) s.me
-      (λ t lt. own t (let a = p.here in omega arith))
-      (λ i ne t lt. decided_stay s step o t (h i t (let a = p.other i ne in omega arith)))
+  by_own own = by_seat s (w s step) (λ i u. (t : ℕ) → t < bound u → outcome_at (S s step) t ≢ None) own
+      (λ i ne t lt. decided_stay s step o t (h i t lt))
 
   same_own : bound (w s step) ≡ bound (v s) → AreDecidedBelow (outcome_at (S s step)) (each s.z bound (V s step))
   same_own e = by_own (λ t lt. decided_stay s step o t (h s.me t (omega arith)))

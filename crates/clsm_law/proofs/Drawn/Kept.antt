@@ -26,7 +26,7 @@ use Rattle.clsm_law.specs.Merging.{epoch_end}
 use Rattle.clsm_law.specs.Worlds.{outcome_at}
 use Rattle.clsm_law.specs.Law.{each, mode_of, drawn_of, part_of, AreHolding, ArePending, AreOwned, AreAlone, AreFilled}
 use Rattle.clsm_law.proofs.Cases.{by_test, by_bool}
-use Rattle.clsm_law.proofs.Frames.{keep1, puts_each, puts_slot, slots_grown, past_end, put_here, put_other, looked_hold, filled_hold}
+use Rattle.clsm_law.proofs.Frames.{keep1, puts_each, puts_slot, slots_grown, past_end, put_here, put_other, looked_hold, filled_hold, not_given_up}
 use Rattle.clsm_law.proofs.Clock.Times.{apart}
 use Rattle.clsm_law.proofs.Setting.{Setting, Ground, ground, v, x, w, M, V, S, Opens, OpensTo, memory', slots', own, own_drawn, looked_same, by_seat}
 use Rattle.clsm_law.proofs.Setting.{merger_looked_same, drawn_live, none_drawn, clock_below, clock_shared}
@@ -49,16 +49,11 @@ Keeps _ = Unit {0}
 abbrev pub Fewer : Setting → View → Type 0
 Fewer s y = (u : ℕ) → y.drawn ≡ Some u → (v s).drawn ≡ Some u
 
--- what is still drawn after one time was given up was drawn
-pub wholly : (d : Option ℕ) (t u : ℕ) → given_up d t ≡ Some u → d ≡ Some u
-wholly None t u e = e
-wholly (Some y) t u e = by_test (λ b. cond b None (Some y) ≡ Some u → Some y ≡ Some u) y t (λ _ e. absurd cc) (λ _ e. e) e
-
 -- so it is for every step but a Draw
 pub fewer_after : (s : Setting) (step : Step) → Keeps step → Fewer s (w s step)
 fewer_after s (Draw t) no_draw = absurd no_draw
 fewer_after s (Decide t deed) no_draw = λ u e. absurd cc
-fewer_after s (Cancel t) no_draw = wholly (v s).drawn t
+fewer_after s (Cancel t) no_draw = not_given_up (v s).drawn t
 fewer_after s (Look c) no_draw = λ u e. sym (looked_hold s.z (v s) c (x s (Look c))).1 ∙ e
 fewer_after s (Fill part y) no_draw = λ u e. sym (filled_hold (v s) part y).1 ∙ e
 fewer_after s step no_draw = λ u e. e
@@ -68,17 +63,19 @@ pub holding_by : (s : Setting) (y : View) → ((t : ℕ) → y.drawn ≡ Some t 
     → AreHolding (each s.z drawn_of (set s.views s.me y)) (each s.z mode_of (set s.views s.me y))
 holding_by s y here = by_seat s y (λ i u. (t : ℕ) → u.drawn ≡ Some t → u.mode ≢ Free) here (λ i ne t e. s.law.holding i t e)
 
+holding_after : (s : Setting) (step : Step) → Opens s step → (t : ℕ) → (w s step).drawn ≡ Some t → (w s step).mode ≢ Free
+holding_after s (EnterShared l) o = λ t e free. s.law.holding s.me t e o.0
+holding_after s EnterExclusive o = λ t e free. s.law.holding s.me t e o
+holding_after s LeaveShared o = λ t e. absurd (let none = o.1 in cc)
+holding_after s LeaveExclusive o = λ t e. absurd (let none = o.1 in cc)
+holding_after s (Draw t) o = λ u e free. absurd (let shared = o.0 in cc)
+holding_after s (Look c) o = λ t e free. s.law.holding s.me t (fewer_after s (Look c) tt t e)
+    (sym (looked_hold s.z (v s) c (x s (Look c))).0 ∙ free)
+holding_after s (Fill part y) o = λ t e free. s.law.holding s.me t (fewer_after s (Fill part y) tt t e) (sym (filled_hold (v s) part y).0 ∙ free)
+holding_after s step o = λ t e. s.law.holding s.me t (fewer_after s step tt t e)
+
 pub holding_kept : (s : Setting) (step : Step) → Opens s step → AreHolding (each s.z drawn_of (V s step)) (each s.z mode_of (V s step))
-holding_kept s (EnterShared l) o = holding_by s (w s (EnterShared l)) (λ t e free. s.law.holding s.me t e o.0)
-holding_kept s EnterExclusive o = holding_by s (w s EnterExclusive) (λ t e free. s.law.holding s.me t e o)
-holding_kept s LeaveShared o = holding_by s (w s LeaveShared) (λ t e. absurd (let none = o.1 in cc))
-holding_kept s LeaveExclusive o = holding_by s (w s LeaveExclusive) (λ t e. absurd (let none = o.1 in cc))
-holding_kept s (Draw t) o = holding_by s (w s (Draw t)) (λ u e free. absurd (let shared = o.0 in cc))
-holding_kept s (Look c) o = holding_by s (w s (Look c)) (λ t e free. s.law.holding s.me t (fewer_after s (Look c) tt t e)
-    (sym (looked_hold s.z (v s) c (x s (Look c))).0 ∙ free))
-holding_kept s (Fill part y) o =
-    holding_by s (w s (Fill part y)) (λ t e free. s.law.holding s.me t (fewer_after s (Fill part y) tt t e) (sym (filled_hold (v s) part y).0 ∙ free))
-holding_kept s step o = holding_by s (w s step) (λ t e. s.law.holding s.me t (fewer_after s step tt t e))
+holding_kept s step o = holding_by s (w s step) (holding_after s step o)
 
 pub holding_merged : (g : Ground) (step : Step) → OpensTo g step → AreHolding (each g.z drawn_of g.views) (each g.z mode_of g.views)
 holding_merged g step o = g.law.holding
@@ -132,8 +129,8 @@ pending_kept s (Decide t deed) o =
     (λ _. fewer_pending s (w s (Decide t deed)) (λ u e. absurd cc))
 pending_kept s (Cancel t) o = by_test (λ b. ArePending s.z (s.memory Limit) (each s.z drawn_of (V s (Cancel t)))
     (length (cond b (set s.slots t (Some Nothing)) s.slots)) (outcome_at (cond b (set s.slots t (Some Nothing)) s.slots))) (x s (Cancel t)) 0
-    (λ _. settled_pending s (w s (Cancel t)) t (Some Nothing) (wholly (v s).drawn t) (cancels_shown s t o).1 (inl refl))
-    (λ _. fewer_pending s (w s (Cancel t)) (wholly (v s).drawn t))
+    (λ _. settled_pending s (w s (Cancel t)) t (Some Nothing) (not_given_up (v s).drawn t) (cancels_shown s t o).1 (inl refl))
+    (λ _. fewer_pending s (w s (Cancel t)) (not_given_up (v s).drawn t))
 pending_kept s (Look c) o = keep1 (λ (m : Memory). ArePending s.z (m Limit) (each s.z drawn_of (V s (Look c))) (length s.slots) (outcome_at s.slots))
     (looked_same s c) (fewer_pending s (w s (Look c)) (fewer_after s (Look c) tt))
 pending_kept s step o = fewer_pending s (w s step) (fewer_after s step tt)

@@ -26,8 +26,9 @@ use Rattle.clsm_law.specs.Views.{idle, is_shared, is_exclusive}
 use Rattle.clsm_law.specs.Merging.{is_clean, is_frozen, is_retired, merger_looked, unseen, reader_at, reader_by}
 use Rattle.clsm_law.specs.Law.{each, mode_of, holders, IsLockedOut, AreSole, IsMerger}
 use Rattle.clsm_law.proofs.Cases.{by_test, by_bool}
-use Rattle.clsm_law.proofs.Frames.{at_each, keep1, puts_each, same_each, looked_hold, filled_hold}
+use Rattle.clsm_law.proofs.Frames.{keep1, puts_each, same_each, looked_hold, filled_hold}
 use Rattle.clsm_law.proofs.Setting.{Setting, ground, v, x, w, M, V, S, Opens, looked_same, Ground, found, merger', memory', slots', OpensTo, merger_looked_same}
+use Rattle.clsm_law.proofs.Setting.{by_seat}
 use Rattle.clsm_law.proofs.GrowthMerger.{length_passed}
 use Rattle.clsm_law.proofs.Decided.Kept.{run_other}
 
@@ -249,24 +250,19 @@ lock_merged g step o = g.law.lock
 
 -- ---- the merger locks the callers out, and its end is its own
 
+locked_out_after : (s : Setting) (step : Step) → Opens s step → s.merger.exclusive ≡ true → (w s step).mode ≡ Free
+locked_out_after s (EnterShared l) o e = by_test (λ b. cond b Shared (v s).mode ≡ Free) (x s (EnterShared l)) l
+    (λ won. absurd (not_both e (enters_free s l o won))) (λ _. o.0)
+locked_out_after s EnterExclusive o e = by_test (λ b. cond b Exclusive (v s).mode ≡ Free) (x s EnterExclusive) 0
+    (λ won. absurd (not_both e (unlocked (ground s) won))) (λ _. o)
+locked_out_after s LeaveShared o e = refl
+locked_out_after s LeaveExclusive o e = refl
+locked_out_after s (Fill part n) o e = (filled_hold (v s) part n).0 ∙ s.law.locked_out e s.me
+locked_out_after s (Look word) o e = (looked_hold s.z (v s) word (x s (Look word))).0 ∙ s.law.locked_out e s.me
+locked_out_after s step o e = s.law.locked_out e s.me
+
 pub locked_out_kept : (s : Setting) (step : Step) → Opens s step → IsLockedOut s.merger.exclusive (each s.z mode_of (V s step))
-locked_out_kept s (EnterShared l) o = λ e. let p = puts_each s.z mode_of s.views s.me (w s (EnterShared l)) s.inside in
-    at_each (λ i. each s.z mode_of (V s (EnterShared l)) i ≡ Free) s.me
-    (p.here ∙ by_test (λ b. cond b Shared (v s).mode ≡ Free) (x s (EnterShared l)) l (λ won. absurd (not_both e (enters_free s l o won))) (λ _. o.0))
-    (λ i ne. p.other i ne ∙ s.law.locked_out e i)
-locked_out_kept s EnterExclusive o = λ e. let p = puts_each s.z mode_of s.views s.me (w s EnterExclusive) s.inside in
-    at_each (λ i. each s.z mode_of (V s EnterExclusive) i ≡ Free) s.me
-    (p.here ∙ by_test (λ b. cond b Exclusive (v s).mode ≡ Free) (x s EnterExclusive) 0 (λ won. absurd (not_both e (unlocked (ground s) won))) (λ _. o))
-    (λ i ne. p.other i ne ∙ s.law.locked_out e i)
-locked_out_kept s LeaveShared o = λ e. let p = puts_each s.z mode_of s.views s.me (w s LeaveShared) s.inside in
-    at_each (λ i. each s.z mode_of (V s LeaveShared) i ≡ Free) s.me p.here (λ i ne. p.other i ne ∙ s.law.locked_out e i)
-locked_out_kept s LeaveExclusive o = λ e. let p = puts_each s.z mode_of s.views s.me (w s LeaveExclusive) s.inside in
-    at_each (λ i. each s.z mode_of (V s LeaveExclusive) i ≡ Free) s.me p.here (λ i ne. p.other i ne ∙ s.law.locked_out e i)
-locked_out_kept s (Fill part n) o = keep1 (IsLockedOut s.merger.exclusive)
-    (same_each s.z mode_of s.views s.me (w s (Fill part n)) s.inside (filled_hold (v s) part n).0) s.law.locked_out
-locked_out_kept s (Look word) o = keep1 (IsLockedOut s.merger.exclusive)
-    (same_each s.z mode_of s.views s.me (w s (Look word)) s.inside (looked_hold s.z (v s) word (x s (Look word))).0) s.law.locked_out
-locked_out_kept s step o = keep1 (IsLockedOut s.merger.exclusive) (same_each s.z mode_of s.views s.me (w s step) s.inside refl) s.law.locked_out
+locked_out_kept s step o e = by_seat s (w s step) (λ _ u. u.mode ≡ Free) (locked_out_after s step o e) (λ i ne. s.law.locked_out e i)
 
 pub locked_out_merged : (g : Ground) (step : Step) → OpensTo g step → IsLockedOut (merger' g step).exclusive (each g.z mode_of g.views)
 locked_out_merged g EnterExclusive o = by_test (λ b. IsLockedOut (cond b true g.merger.exclusive) (each g.z mode_of g.views)) (found g EnterExclusive) 0

@@ -29,7 +29,7 @@ use Rattle.clsm_model.specs.Seats.{IsRightRecord, IsStandingRecord, HasWrite}
 use Rattle.clsm_law.specs.Law.{each, drawn_of, past_time_of, due_of, calls_of, IsSnapshot, AreRight, AreRecordsStanding, AreRecorded, AreAtMost}
 use Rattle.clsm_law.specs.Law.{AreDuesBelowOwn}
 use Rattle.clsm_law.proofs.Cases.{by_test, by_bool}
-use Rattle.clsm_law.proofs.Frames.{at_each, puts_each, puts_slot, slots_grown, slot_below}
+use Rattle.clsm_law.proofs.Frames.{at_each, puts_each, puts_slot, slots_grown, slot_below, not_given_up}
 use Rattle.clsm_law.proofs.Setting.{Setting, Ground, ground, v, x, w, M, V, S, Opens, looked_same, merger_looked_same, drawn_shown, past_below, by_seat}
 use Rattle.clsm_law.proofs.Setting.{clock_shared, clock_merger, memory', slots', OpensTo}
 use Rattle.clsm_law.proofs.Clock.Kept.{commits_at, clock_grows, clock_grows', below_clock}
@@ -39,7 +39,6 @@ use Rattle.clsm_law.proofs.GrowthMerger.{slots_stay', longer', written_before}
 use Rattle.clsm_law.proofs.Records.Histories.{GoesOn, records_right-go_on, decided_past-goes_on, end_of-past}
 use Rattle.clsm_law.proofs.Records.Facts.{all_append, has_before, has_last, nothing_stands, once_stands, once_written, batch_at, batch_stands}
 use Rattle.clsm_law.proofs.Records.Facts.{member_writer, all_stand_stay, decided_right, writer_of, ended_right, ended_stands, ended_within}
-use Rattle.clsm_law.proofs.Drawn.Kept.{wholly}
 
 -- a hold is of one kind
 pub only_exclusive : (m : Mode) → is_exclusive m ≡ true → m ≡ Exclusive
@@ -303,7 +302,7 @@ own_due_below s (Draw t) o u = by_test (λ b. cond b (Some t) (v s).drawn ≡ So
     (λ _ d none. own_dues_before s (Draw t) o s.me u d none)
 own_due_below s (Decide t deed) o u = λ d none. absurd cc
 own_due_below s (Commit members) o u = λ d none. absurd (let free = o.1 in cc)
-own_due_below s (Cancel t) o u = λ d none. own_dues_before s (Cancel t) o s.me u (wholly (v s).drawn t u d) none
+own_due_below s (Cancel t) o u = λ d none. own_dues_before s (Cancel t) o s.me u (not_given_up (v s).drawn t u d) none
 own_due_below s (Unpin end) o u = λ d none. let past = past_under s.slots (v s).past u (s.law.past s.me) none in
     ended_within (past_in s s.me) s.me (v s) u (s.law.own_dues s.me u d none) past (let reach = past_ends s in omega arith) (v s).snapshot end refl o.1
   where

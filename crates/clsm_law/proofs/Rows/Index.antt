@@ -9,17 +9,13 @@ use Rattle.clsm_law.specs.declared.word.Part.TheVariants.{Key, Length, Value, Ne
 use Rattle.clsm_law.specs.Memory.{is_part, is_word, room_of}
 use Rattle.clsm_law.specs.Layout.{blocks, block_of, offset_of, part_block, part_offset, cell_offset, entry_offset, place_size, start_of, index_of, size_of}
 use Rattle.clsm_law.proofs.Rows.Blocks.{block_inside, same_block}
+use Rattle.clsm_law.proofs.Cases.{below}
 
 -- ---- each word in its block
 
 -- the block of a place has the place's size
 place_block : (z : Layout) (p : ℕ) → p < 5 → get_or (blocks z) (11 + p) 0 ≡ place_size z p
-place_block z zero h = refl
-place_block z (suc zero) h = refl
-place_block z (suc (suc zero)) h = refl
-place_block z (suc (suc (suc zero))) h = refl
-place_block z (suc (suc (suc (suc zero)))) h = refl
-place_block z (suc (suc (suc (suc (suc p))))) h = absurd (omega arith)
+place_block z = below (λ p. get_or (blocks z) (11 + p) 0 ≡ place_size z p) 5 (refl, (refl, (refl, (refl, (refl, tt)))))
 
 -- an entry's key stands among the keys, and its other words behind them
 pub entry_first : (room e : ℕ) → entry_offset room e 0 ≡ e
