@@ -31,7 +31,6 @@ use Rattle.clsm_law.specs.Worlds.{view_at, outcome_at, past_of, open_past, facts
 use Rattle.clsm_law.specs.Law.{LawOf, Shows, each, mode_of, taken_by, drawn_of, held_of, pin_of, past_time_of, IsRetiredFor, first_shown, first_live}
 use Rattle.clsm_law.specs.Law.{is_held_back}
 use Rattle.clsm_law.proofs.Frames.{at_each, put_same, puts_each, past_end}
-use Rattle.clsm_law.proofs.Cases.{by_bool}
 use Rattle.clsm_law.proofs.Clock.Times.{Live}
 
 -- a lawful world and one of its seats
@@ -183,41 +182,43 @@ not_all_quiet (r ∷ rs) (suc i) lt e = ap (λ b. r.quiet && b) (not_all_quiet r
     and_false true = refl
     and_false false = refl
 
--- where the phase is one of three, and the limit is extended only in the first
-module _ (n merged : ℕ) (extended quiet : Bool) where
-  abbrev shown : Phase → ℕ
-  shown p = cond (is_retired p && not quiet) ((merged - 1) * n) (merged * n)
+-- the first shown time by the phase and by whether all are quiet, and the first live time by the
+-- phase
+module _ (n merged : ℕ) where
+  abbrev pub shown : Phase → Bool → ℕ
+  shown p quiet = cond (is_retired p && not quiet) ((merged - 1) * n) (merged * n)
 
-  abbrev live : Phase → ℕ
+  abbrev pub live : Phase → ℕ
   live p = cond (is_retired p) ((merged - 1) * n) (merged * n)
 
-  abbrev free : Phase → ℕ
-  free p = cond (is_frozen p || extended) ((merged + 2) * n) ((merged + 1) * n)
-
-  below : (merged - 1) * n ≤ merged * n
+  pub below : (merged - 1) * n ≤ merged * n
   below = grind arith
 
-  live_shown : (p : Phase) → live p ≤ shown p
-  live_shown Clean = omega arith
-  live_shown Frozen = omega arith
-  live_shown Retired = elim quiet as (λ q. (merged - 1) * n ≤ cond (not q) ((merged - 1) * n) (merged * n)) [ true ↦ below | false ↦ omega arith ]
+  live_shown : (p : Phase) (quiet : Bool) → live p ≤ shown p quiet
+  live_shown Clean quiet = omega arith
+  live_shown Frozen quiet = omega arith
+  live_shown Retired true = below
+  live_shown Retired false = omega arith
 
-  shown_merged : (p : Phase) → shown p ≤ merged * n
-  shown_merged Clean = omega arith
-  shown_merged Frozen = omega arith
-  shown_merged Retired = elim quiet as (λ q. cond (not q) ((merged - 1) * n) (merged * n) ≤ merged * n) [ true ↦ omega arith | false ↦ below ]
+  pub shown_most : (p : Phase) (quiet : Bool) → shown p quiet ≤ merged * n
+  shown_most Clean quiet = omega arith
+  shown_most Frozen quiet = omega arith
+  shown_most Retired true = omega arith
+  shown_most Retired false = below
 
   turn : 1 ≤ merged → (merged + 1) * n ≤ (merged - 1) * n + 2 * n
   turn some = let e : merged - 1 + 1 ≡ merged = omega arith in subst (λ (k : ℕ). (k + 1) * n ≤ (merged - 1) * n + 2 * n) e (omega arith)
 
-  free_live : (p : Phase) → (is_retired p ≡ true → 1 ≤ merged) → (extended ≡ true → is_clean p ≡ true) → free p ≤ live p + 2 * n
-  free_live Clean some clean = elim extended as (λ e. cond e ((merged + 2) * n) ((merged + 1) * n) ≤ merged * n + 2 * n) [
-    | true ↦ omega arith
-    | false ↦ omega arith
-  ]
-  free_live Frozen some clean = omega arith
-  free_live Retired some clean = by_bool (λ e. cond e ((merged + 2) * n) ((merged + 1) * n) ≤ (merged - 1) * n + 2 * n) extended
-      (λ e. absurd (let f = clean e in cc)) (λ _. turn (some refl))
+  -- the first time that is not free, where the limit is extended only while nothing is frozen
+  abbrev free : Bool → Phase → ℕ
+  free extended p = cond (is_frozen p || extended) ((merged + 2) * n) ((merged + 1) * n)
+
+  free_live : (extended : Bool) (p : Phase) → (is_retired p ≡ true → 1 ≤ merged) → (extended ≡ true → is_clean p ≡ true) → free extended p ≤ live p + 2 * n
+  free_live true Clean some clean = omega arith
+  free_live false Clean some clean = omega arith
+  free_live extended Frozen some clean = omega arith
+  free_live true Retired some clean = absurd (let f = clean refl in cc)
+  free_live false Retired some clean = turn (some refl)
 
 -- the time came to a write
 pub record Written (g : Ground) (t : ℕ) : Type 0 where
@@ -230,15 +231,15 @@ pub record Written (g : Ground) (t : ℕ) : Type 0 where
 module _ (g : Ground) where
   -- what is shown is live
   pub live_below_shown : first_live g.z g.merger ≤ first_shown g.z g.merger
-  live_below_shown = live_shown g.z.cells g.merger.merged g.merger.limit_extended (is_all_quiet g.merger.readers) g.merger.phase
+  live_below_shown = live_shown g.z.cells g.merger.merged g.merger.phase (is_all_quiet g.merger.readers)
 
   pub shown_below_merged : first_shown g.z g.merger ≤ g.merger.merged * g.z.cells
-  shown_below_merged = shown_merged g.z.cells g.merger.merged g.merger.limit_extended (is_all_quiet g.merger.readers) g.merger.phase
+  shown_below_merged = shown_most g.z.cells g.merger.merged g.merger.phase (is_all_quiet g.merger.readers)
 
   -- the limit, and so the clock, is within the live times
   pub limit_live : g.memory Limit ≤ first_live g.z g.merger + 2 * g.z.cells
   limit_live = subst (λ (n : ℕ). n ≤ first_live g.z g.merger + 2 * g.z.cells) (sym g.law.limit)
-      (free_live g.z.cells g.merger.merged g.merger.limit_extended (is_all_quiet g.merger.readers) g.merger.phase g.law.merger.some_merged
+      (free_live g.z.cells g.merger.merged g.merger.limit_extended g.merger.phase g.law.merger.some_merged
       (λ e. g.law.merger.clean (g.law.merger.extends (g.law.merger.limit_after e))))
 
   pub clock_live : length g.slots ≤ first_live g.z g.merger + 2 * g.z.cells

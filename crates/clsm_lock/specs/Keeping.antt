@@ -15,16 +15,7 @@ use Rattle.clsm_words.specs.Merging.{IsOwn}
 -- was refused before is open
 pub record Enters (old new : Known) : Type 0 where
   pub place : KeepsPlace old new
-  pub view : new.view ≡ record old.view {
-    mode = Shared;
-    fresh_lock = None;
-    fresh_clock = None;
-    fresh_heads = blank (2 * old.layout.chains);
-    hold_limit = None;
-    hold_clock = None;
-    entries = next_word old.view.entries;
-    busy = new.view.busy;
-  }
+  pub view : new.view ≡ record (after_entry old.layout Shared true old.view) { busy = new.view.busy }
 
 -- it tried the lock, so many times, and did not enter
 pub record StaysOut (old new : Known) : Type 0 where
@@ -35,15 +26,7 @@ pub record StaysOut (old new : Known) : Type 0 where
 -- of the ordered list
 pub record Leaves (old new : Known) : Type 0 where
   pub place : KeepsPlace old new
-  pub view : new.view ≡ record old.view {
-    mode = Free;
-    fresh_lock = None;
-    fresh_clock = None;
-    fresh_heads = blank (2 * old.layout.chains);
-    met = 0;
-    low = 0;
-    high = 0;
-  }
+  pub view : new.view ≡ after_leave old.layout old.view
 
 -- ---- a caller's hold alone
 
@@ -51,16 +34,7 @@ pub record Leaves (old new : Known) : Type 0 where
 -- nothing; what it tried before that is not counted
 pub record EntersExclusively (old new : Known) : Type 0 where
   pub place : KeepsPlace old new
-  pub view : new.view ≡ record old.view {
-    mode = Exclusive;
-    fresh_lock = None;
-    fresh_clock = None;
-    fresh_heads = blank (2 * old.layout.chains);
-    hold_limit = None;
-    hold_clock = None;
-    committed = false;
-    entries = next_word old.view.entries;
-  }
+  pub view : new.view ≡ record (after_entry old.layout Exclusive true old.view) { committed = false }
 
 -- it tried the lock, and somebody held it
 pub record WaitsOutside (old new : Known) : Type 0 where
