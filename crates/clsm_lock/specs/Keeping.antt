@@ -1,11 +1,12 @@
 -- What the calls on the lock leave of a seat as it was, and what they change.
-use Rattle.std.specs.Prelude.{◌≡◌, ◌*◌, true, false, length, None}
+use Rattle.std.specs.Prelude.{◌≡◌, true, false, length}
 use mathlib.Core.List.{IsPrefix}
 use Rattle.clsm_law.specs.declared.word.Word.{Word}
 use Rattle.clsm_law.specs.declared.word.Word.TheVariants.{Lock, Clock}
-use Rattle.clsm_law.specs.declared.view.Mode.TheVariants.{Free, Shared, Exclusive}
+use Rattle.clsm_law.specs.declared.view.Mode.TheVariants.{Shared, Exclusive}
 use Rattle.clsm_law.specs.Codes.{exclusive_hold}
-use Rattle.clsm_law.specs.Views.{blank, next_word}
+use Rattle.clsm_law.specs.Views.{next_word}
+use Rattle.clsm_law.specs.Relation.{after_entry, after_leave}
 use Rattle.clsm_words.specs.declared.known.Known.{Known}
 use Rattle.clsm_words.specs.Knowing.{row_of}
 use Rattle.clsm_words.specs.Keeping.{KeepsPlace}
