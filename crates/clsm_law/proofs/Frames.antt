@@ -63,14 +63,16 @@ pub same_each : {A : Type 0} (z : Layout) (f : View → A) (views : List View) (
 same_each z f views me w lt e = let p = puts_each z f views me w lt in
     let all = at_each (λ i. each z f (set views me w) i ≡ each z f views i) me (p.here ∙ e) p.other in λ k i. all i k
 
--- a look and a fill change neither how the lock is held nor what is drawn
-pub looked_hold : (z : Layout) (y : View) (word : Word) (n : ℕ) → ((looked z y word n).mode ≡ y.mode) × ((looked z y word n).drawn ≡ y.drawn)
-looked_hold z y Lock n = (refl, refl)
-looked_hold z y word n = (refl, refl)
+-- a look and a fill change neither how the lock is held, nor what is drawn, nor the past
+pub looked_leaves : (z : Layout) (y : View) (word : Word) (n : ℕ) → ((looked z y word n).mode ≡ y.mode) × ((looked z y word n).drawn ≡ y.drawn)
+    × ((looked z y word n).past ≡ y.past)
+looked_leaves z y Lock n = (refl, refl, refl)
+looked_leaves z y word n = (refl, refl, refl)
 
-pub filled_hold : (y : View) (part : Part) (n : ℕ) → ((filled y part n).mode ≡ y.mode) × ((filled y part n).drawn ≡ y.drawn)
-filled_hold y Key n = (refl, refl)
-filled_hold y part n = (refl, refl)
+pub filled_leaves : (y : View) (part : Part) (n : ℕ) → ((filled y part n).mode ≡ y.mode) × ((filled y part n).drawn ≡ y.drawn)
+    × ((filled y part n).past ≡ y.past)
+filled_leaves y Key n = (refl, refl, refl)
+filled_leaves y part n = (refl, refl, refl)
 
 -- a time that is not given up was drawn
 pub not_given_up : (d : Option ℕ) (t u : ℕ) → given_up d t ≡ Some u → d ≡ Some u
@@ -81,6 +83,11 @@ not_given_up (Some y) t u e = by_test (λ b. cond b None (Some y) ≡ Some u →
 
 pub puts_slot : (slots : List (Option Slot)) (t : ℕ) (s : Option Slot) → t < length slots → Puts (outcome_at slots) (outcome_at (set slots t s)) t s
 puts_slot slots t s lt = record { here = get_or-set_same slots t s None lt; other = λ i ne. get_or-set_other slots t i s None ne }
+
+-- a slot that is not undecided is one that is decided
+pub some_of : (o : Option Slot) → o ≢ None → (b : Slot) × (o ≡ Some b)
+some_of None ne = absurd (ne refl)
+some_of (Some b) ne = (b, refl)
 
 -- an undecided slot at the end shows nothing new
 grown_at : (slots : List (Option Slot)) (t : ℕ) → outcome_at (slots ++ None ∷ []) t ≡ outcome_at slots t

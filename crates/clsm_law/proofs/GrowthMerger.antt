@@ -1,5 +1,5 @@
 -- What an open step of the merger never takes back: decided slots stay, and the history grows.
-use Rattle.std.proofs.Common.{◌≡◌, ℕ, ◌+◌, ◌-◌, ◌<◌, ◌≤◌, true, false, List, length, refl, ◌∙◌, arith, Option, Some, None, length-append, zero, suc, ◌≢◌, []}
+use Rattle.std.proofs.Common.{◌≡◌, ℕ, ◌+◌, ◌-◌, ◌<◌, ◌≤◌, true, List, length, refl, ◌∙◌, arith, Option, Some, None, length-append, zero, suc, ◌≢◌, []}
 use Rattle.std.proofs.Common.{◌∷◌, ◌++◌}
 use Rattle.std.specs.Prelude.{replicate}
 use Rattle.std.proofs.Math.Seq.{get_or-append_right}
@@ -9,13 +9,12 @@ use Rattle.clsm_model.specs.declared.slot.Slot.TheVariants.{Nothing, Wrote}
 use Rattle.clsm_law.specs.declared.word.Word.TheVariants.{Limit}
 use Rattle.clsm_law.specs.declared.step.Step.{Step}
 use Rattle.clsm_law.specs.declared.step.Step.TheVariants.{ExtendClock}
-use Rattle.clsm_law.specs.declared.merger.Phase.{Phase}
-use Rattle.clsm_law.specs.declared.merger.Phase.TheVariants.{Clean, Frozen, Retired}
-use Rattle.clsm_law.specs.Merging.{is_clean, is_frozen, epoch_end, passed_over}
+use Rattle.clsm_law.specs.Merging.{epoch_end, passed_over}
 use Rattle.clsm_law.specs.Worlds.{outcome_at}
 use Rattle.clsm_law.proofs.Cases.{by_bool}
 use Rattle.clsm_law.proofs.Frames.{slot_below}
 use Rattle.clsm_law.proofs.Setting.{Ground, slots', OpensTo}
+use Rattle.clsm_law.proofs.Phases.{clean_frozen}
 
 -- a slot below the end stays, and one behind it up to the time t came to nothing
 pub passed_before : (slots : List (Option Slot)) (t u : ℕ) → u < length slots → outcome_at (passed_over slots t) u ≡ outcome_at slots u
@@ -64,13 +63,8 @@ longer' g step = omega arith
 pub clock_held : (g : Ground) → g.merger.exclusive ≡ true → length g.slots ≤ epoch_end g.z g.merger
 clock_held g e = by_bool (λ b. g.merger.limit_extended ≡ b → length g.slots ≤ epoch_end g.z g.merger) g.merger.limit_extended
     (λ _ f. let a = g.law.merger.at_end (g.law.merger.limit_after f) in omega arith)
-    (λ _ f. let b = g.law.bounded in let l = g.law.limit in let c = not_frozen g.merger.phase (g.law.merger.clean e) in
+    (λ _ f. let b = g.law.bounded in let l = g.law.limit in let c = clean_frozen g.merger.phase (g.law.merger.clean e) in
     let k : g.memory Limit ≡ epoch_end g.z g.merger = l ∙ rw (c, f) refl in omega arith) refl
-  where
-    not_frozen : (p : Phase) → is_clean p ≡ true → is_frozen p ≡ false
-    not_frozen Clean e = refl
-    not_frozen Frozen e = absurd cc
-    not_frozen Retired e = refl
 
 -- the length after the clock is moved
 pub length_passed : (g : Ground) → OpensTo g ExtendClock → length (slots' g ExtendClock) ≡ epoch_end g.z g.merger

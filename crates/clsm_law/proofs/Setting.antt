@@ -5,6 +5,7 @@ use mathlib.Core.Logic.{dite}
 use native.Mathlib.Decide.{ℕ_discrete}
 use Rattle.std.proofs.lemmas.Bool.{cases_lt}
 use Rattle.std.proofs.lemmas.List.Sums.{sum_by-cons}
+use Rattle.std.proofs.lemmas.List.{get_or_past}
 use Rattle.clsm_model.specs.declared.batch.Batch.{Batch}
 use Rattle.clsm_model.specs.declared.slot.Slot.{Slot}
 use Rattle.clsm_model.specs.declared.slot.Slot.TheVariants.{Nothing, Wrote}
@@ -22,7 +23,7 @@ use Rattle.clsm_law.specs.declared.merger.Phase.{Phase}
 use Rattle.clsm_law.specs.declared.merger.Phase.TheVariants.{Clean, Frozen, Retired}
 use Rattle.clsm_law.specs.Memory.{Memory, cell_of, put}
 use Rattle.clsm_law.specs.Layout.{IsLayout}
-use Rattle.clsm_law.specs.Views.{is_exclusive, or_zero, own_time}
+use Rattle.clsm_law.specs.Views.{is_exclusive, or_zero, own_time, idle}
 use Rattle.clsm_law.specs.OpenSteps.{IsOpen}
 use Rattle.clsm_law.specs.Relation.{Chains, Orders, word_of, changed, view_after, slots_after, batches_after, chains_after, orders_after}
 use Rattle.clsm_law.specs.Merging.{is_clean, Facts, IsOpenToMerger, word_of_merger, changed_by_merger, merger_after, slots_after_merger, epoch_end}
@@ -328,6 +329,13 @@ module _ (g : Ground) where
   -- and while the merger holds it
   pub clock_merger : g.merger.exclusive ≡ true → g.memory Clock ≡ length g.slots
   clock_merger held = clock_even (λ j e. absurd (let free = g.law.locked_out held j in cc))
+
+  -- only a seat holds a component
+  pub holder_below : (i c : ℕ) → each g.z held_of g.views i ≡ Some c → i < length g.views
+  holder_below i c e = elim (cases_lt i (length g.views)) [
+    | inl lt ↦ lt
+    | inr le ↦ absurd (let none : each g.z held_of g.views i ≡ None = ap held_of (get_or_past g.views i (idle g.z) le) in cc (none, e))
+  ]
 
   -- who holds a component holds one whose cells are shown
   pub held_shown : (i c : ℕ) → i < length g.views → each g.z held_of g.views i ≡ Some c → first_shown g.z g.merger ≤ c * g.z.cells

@@ -34,13 +34,14 @@ use Rattle.clsm_law.proofs.Setting.{Setting, Ground, v, x, w, M, V, S, B, Opens,
 use Rattle.clsm_law.proofs.Growth.{slots_stay}
 use Rattle.clsm_law.proofs.GrowthMerger.{slots_stay'}
 use Rattle.clsm_law.proofs.Records.Histories.{end_of-past_min}
-use Rattle.clsm_law.proofs.Records.Facts.{all_append, all_map, member_writes}
+use Rattle.clsm_law.proofs.Records.Facts.{member_writes}
 use Rattle.clsm_law.proofs.Frames.{slot_below}
 use Rattle.clsm_law.proofs.Batches.Facts.{in_turn_more, in_turn_next, in_turn_uncut, uncut_next, listed_before, listed_last}
 use Rattle.clsm_law.proofs.Batches.Opens.{opens_plain}
 use Rattle.clsm_law.proofs.Clock.Kept.{clock_grows, clock_grows', commits_at, below_clock}
 use Rattle.clsm_law.proofs.Decided.Kept.{run_other}
 use Rattle.clsm_law.proofs.Records.Kept.{commits_member}
+use Rattle.clsm_levels.proofs.Every.{every-append, every_weaker}
 
 -- ---- FRONT, pasts and what is reached are not beyond the clock
 
@@ -126,8 +127,8 @@ write_stays (Some b) o' stays h = let e = stays b refl in ((λ none. absurd cc),
 
 written_stay : (slot slot' : ℕ → Option Slot) (bs : List Batch) → ((t : ℕ) (b : Slot) → slot t ≡ Some b → slot' t ≡ Some b)
     → AllByRecursion (IsWritten slot) bs → AllByRecursion (IsWritten slot') bs
-written_stay slot slot' bs stays all = all_map (IsWritten slot) (IsWritten slot') bs
-    (λ b h t from until. write_stays (slot t) (slot' t) (stays t) (h t from until)) all
+written_stay slot slot' bs stays all = every_weaker (IsWritten slot) (IsWritten slot')
+    (λ b h t from until. write_stays (slot t) (slot' t) (stays t) (h t from until)) bs all
 
 -- the members of a commit are writes
 commits_writes : (s : Setting) (members : List Member) → Opens s (Commit members)
@@ -139,7 +140,7 @@ commits_writes s members o t from until =
     subst (λ (a : Option Slot). (a ≢ None) × (a ≢ Some Nothing)) (sym m.1 ∙ ap (outcome_at s.slots) back) (m.0, member_writes s.me members (t - c))
 
 pub written_kept : (s : Setting) (step : Step) → Opens s step → AllByRecursion (IsWritten (outcome_at (S s step))) (B s step)
-written_kept s (Commit members) o = all_append (IsWritten (outcome_at s.slots)) s.batches
+written_kept s (Commit members) o = every-append (IsWritten (outcome_at s.slots)) s.batches
     (record { first = or_zero (v s).hold_clock; size = length members } ∷ []) s.law.written (commits_writes s members o, tt)
 written_kept s step o = written_stay (outcome_at s.slots) (outcome_at (S s step)) s.batches (slots_stay s step o) s.law.written
 
@@ -300,13 +301,13 @@ own_uncut s (Decide t deed) o =
     by_bool (λ a. AllByRecursion (IsUncutRecord s.batches) (cond a (v s).calls
     (cond (x s (Decide t deed) == 0) ((v s).calls ++ call_of s.me t deed ∷ []) (v s).calls))) (is_exclusive (v s).mode) (λ _. s.law.uncut s.me) (λ _.
     by_test (λ b. AllByRecursion (IsUncutRecord s.batches) (cond b ((v s).calls ++ call_of s.me t deed ∷ []) (v s).calls)) (x s (Decide t deed)) 0
-    (λ _. all_append (IsUncutRecord s.batches) (v s).calls (call_of s.me t deed ∷ []) (s.law.uncut s.me)
+    (λ _. every-append (IsUncutRecord s.batches) (v s).calls (call_of s.me t deed ∷ []) (s.law.uncut s.me)
     (write_uncut (open_past s.slots s.batches (v s).past) (v s) t deed o.2 o.3, tt)) (λ _. s.law.uncut s.me))
-own_uncut s (Unpin end) o = all_append (IsUncutRecord s.batches) (v s).calls (ended_calls s.me (v s) end) (s.law.uncut s.me)
+own_uncut s (Unpin end) o = every-append (IsUncutRecord s.batches) (v s).calls (ended_calls s.me (v s) end) (s.law.uncut s.me)
     (ended_uncut (open_past s.slots s.batches (v s).past) s.me (v s) (v s).snapshot end refl o.1)
-own_uncut s CloseSnapshot o = all_append (IsUncutRecord s.batches) (v s).calls (call_of s.me (or_zero (open_time (v s).snapshot)) Close ∷ [])
+own_uncut s CloseSnapshot o = every-append (IsUncutRecord s.batches) (v s).calls (call_of s.me (or_zero (open_time (v s).snapshot)) Close ∷ [])
     (s.law.uncut s.me) (close_uncut s.batches (v s).snapshot o (s.law.uncut_snapshots s.me), tt)
-own_uncut s (Commit members) o = all_append (IsUncutRecord (B s (Commit members))) (v s).calls
+own_uncut s (Commit members) o = every-append (IsUncutRecord (B s (Commit members))) (v s).calls
     (call_of s.me (or_zero (v s).hold_clock) (Group members) ∷ []) (uncut_before s (Commit members) o s.me) (tt, tt)
 own_uncut s (Fill Key n) o = s.law.uncut s.me
 own_uncut s (Look Clock) o = s.law.uncut s.me
@@ -326,8 +327,8 @@ deed_listed s step t (Group members) h = still_listed s step (record { first = t
 deed_listed s step t deed h = tt
 
 listed_stay : (s : Setting) (step : Step) (i : ℕ) → AllByRecursion (IsListedRecord (B s step)) (each s.z calls_of s.views i)
-listed_stay s step i = all_map (IsListedRecord s.batches) (IsListedRecord (B s step)) (each s.z calls_of s.views i)
-    (λ r h. deed_listed s step r.time r.deed h) (s.law.listed i)
+listed_stay s step i = every_weaker (IsListedRecord s.batches) (IsListedRecord (B s step)) (λ r h. deed_listed s step r.time r.deed h)
+    (each s.z calls_of s.views i) (s.law.listed i)
 
 -- a deed of one write, and one that reads, is no batch
 write_listed : (bs : List Batch) (u : View) (t : ℕ) (deed : Deed) → SaysWrite u (write_by 0 deed) → IsListedDeed bs t deed
@@ -357,13 +358,13 @@ own_listed s (Decide t deed) o =
     by_bool (λ a. AllByRecursion (IsListedRecord s.batches) (cond a (v s).calls
     (cond (x s (Decide t deed) == 0) ((v s).calls ++ call_of s.me t deed ∷ []) (v s).calls))) (is_exclusive (v s).mode) (λ _. s.law.listed s.me) (λ _.
     by_test (λ b. AllByRecursion (IsListedRecord s.batches) (cond b ((v s).calls ++ call_of s.me t deed ∷ []) (v s).calls)) (x s (Decide t deed)) 0
-    (λ _. all_append (IsListedRecord s.batches) (v s).calls (call_of s.me t deed ∷ []) (s.law.listed s.me) (write_listed s.batches (v s) t deed o.2, tt))
+    (λ _. every-append (IsListedRecord s.batches) (v s).calls (call_of s.me t deed ∷ []) (s.law.listed s.me) (write_listed s.batches (v s) t deed o.2, tt))
     (λ _. s.law.listed s.me))
-own_listed s (Unpin end) o = all_append (IsListedRecord s.batches) (v s).calls (ended_calls s.me (v s) end) (s.law.listed s.me)
+own_listed s (Unpin end) o = every-append (IsListedRecord s.batches) (v s).calls (ended_calls s.me (v s) end) (s.law.listed s.me)
     (ended_listed s.batches (past_of s.slots (v s).past) s.me (v s) (v s).snapshot end o.1)
-own_listed s CloseSnapshot o = all_append (IsListedRecord s.batches) (v s).calls (call_of s.me (or_zero (open_time (v s).snapshot)) Close ∷ [])
+own_listed s CloseSnapshot o = every-append (IsListedRecord s.batches) (v s).calls (call_of s.me (or_zero (open_time (v s).snapshot)) Close ∷ [])
     (s.law.listed s.me) (tt, tt)
-own_listed s (Commit members) o = all_append (IsListedRecord (B s (Commit members))) (v s).calls
+own_listed s (Commit members) o = every-append (IsListedRecord (B s (Commit members))) (v s).calls
     (call_of s.me (or_zero (v s).hold_clock) (Group members) ∷ []) (listed_stay s (Commit members) s.me)
     (listed_last s.batches (record { first = or_zero (v s).hold_clock; size = length members }), tt)
 own_listed s (Fill Key n) o = s.law.listed s.me
@@ -420,12 +421,12 @@ own_fits s (Decide t deed) o = let fits = FitsRecord s.z.cells in by_bool
     (λ a. AllByRecursion fits (cond a (v s).calls (cond (x s (Decide t deed) == 0) ((v s).calls ++ call_of s.me t deed ∷ []) (v s).calls)))
     (is_exclusive (v s).mode) (λ _. s.law.fitting s.me) (λ _.
     by_test (λ b. AllByRecursion fits (cond b ((v s).calls ++ call_of s.me t deed ∷ []) (v s).calls)) (x s (Decide t deed)) 0
-    (λ _. all_append fits (v s).calls (call_of s.me t deed ∷ []) (s.law.fitting s.me) (write_fits s.z.cells (v s) deed o.2, tt)) (λ _. s.law.fitting s.me))
-own_fits s (Unpin end) o = all_append (FitsRecord s.z.cells) (v s).calls (ended_calls s.me (v s) end) (s.law.fitting s.me)
+    (λ _. every-append fits (v s).calls (call_of s.me t deed ∷ []) (s.law.fitting s.me) (write_fits s.z.cells (v s) deed o.2, tt)) (λ _. s.law.fitting s.me))
+own_fits s (Unpin end) o = every-append (FitsRecord s.z.cells) (v s).calls (ended_calls s.me (v s) end) (s.law.fitting s.me)
     (ended_fits s.z.cells (past_of s.slots (v s).past) s.me (v s) (v s).snapshot end o.1)
-own_fits s CloseSnapshot o = all_append (FitsRecord s.z.cells) (v s).calls (call_of s.me (or_zero (open_time (v s).snapshot)) Close ∷ [])
+own_fits s CloseSnapshot o = every-append (FitsRecord s.z.cells) (v s).calls (call_of s.me (or_zero (open_time (v s).snapshot)) Close ∷ [])
     (s.law.fitting s.me) (tt, tt)
-own_fits s (Commit members) o = all_append (FitsRecord s.z.cells) (v s).calls (call_of s.me (or_zero (v s).hold_clock) (Group members) ∷ [])
+own_fits s (Commit members) o = every-append (FitsRecord s.z.cells) (v s).calls (call_of s.me (or_zero (v s).hold_clock) (Group members) ∷ [])
     (s.law.fitting s.me) (commits_fit s members o, tt)
 own_fits s (Fill Key n) o = s.law.fitting s.me
 own_fits s (Look Clock) o = s.law.fitting s.me

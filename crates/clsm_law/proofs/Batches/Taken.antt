@@ -12,7 +12,7 @@ use Rattle.clsm_law.specs.declared.view.View.{View}
 use Rattle.clsm_law.specs.declared.view.Mode.{Mode}
 use Rattle.clsm_law.specs.declared.view.Mode.TheVariants.{Free, Exclusive}
 use Rattle.clsm_law.specs.Memory.{cell_of, key_at}
-use Rattle.clsm_law.specs.Views.{IsBelow, is_exclusive, idle}
+use Rattle.clsm_law.specs.Views.{is_exclusive, idle}
 use Rattle.clsm_law.specs.OpenSteps.{IsOpen, IsNextMember}
 use Rattle.clsm_law.specs.Relation.{Before, taken}
 use Rattle.clsm_law.specs.Merging.{is_frozen, epoch_end}
@@ -28,7 +28,7 @@ use Rattle.clsm_law.proofs.Clock.Times.{apart}
 use Rattle.clsm_law.proofs.Setting.{Setting, ground, v, limit_live, live_below_shown, shown_below_merged, clock_below, none_taken, past_below, by_seat}
 use Rattle.clsm_law.proofs.Records.Histories.{past-equal}
 use Rattle.clsm_law.proofs.Lock.Kept.{exclusive_free, same_count, sole_same, not_both, merger_unheld}
-use Rattle.clsm_law.proofs.Clock.Kept.{counted, taken_undrawn}
+use Rattle.clsm_law.proofs.Clock.Kept.{counted, taken_undrawn, below_limit}
 use Rattle.clsm_law.proofs.Drawn.Kept.{drew_pending, drew_owned, drew_alone, drew_filled, holding_by}
 use Rattle.clsm_law.proofs.Chains.Kept.{lies_as, linked_by, loose_by}
 use Rattle.clsm_law.proofs.Orders.Kept.{placed_as}
@@ -74,10 +74,7 @@ module _ (s : Setting) (t key : ℕ) (o : Stages s t key) where
   at_end = let a = next (v s).hold_clock refl o.3 in let b = all_taken in let c = taken_undrawn s o.0 o.1 in let d = s.law.clock in omega arith
 
   below : t < s.memory Limit
-  below = until (v s).hold_limit refl o.4 where
-    until : (n : Option ℕ) → (v s).hold_limit ≡ n → IsBelow t n → t < s.memory Limit
-    until None e h = absurd h
-    until (Some n) e h = let a = s.law.limits s.me n not_free e in omega arith
+  below = below_limit s t not_free o.4
 
   pub long : length slots' ≡ length s.slots + 1
   long = length-append s.slots (None ∷ [])

@@ -32,7 +32,8 @@ use Rattle.clsm_law.proofs.Setting.{merger_looked_same, merged_below_limit, cloc
 use Rattle.clsm_law.proofs.Growth.{undecided_empty}
 use Rattle.clsm_law.proofs.GrowthMerger.{clock_held, length_passed}
 use Rattle.clsm_law.proofs.Decided.Kept.{run_other}
-use Rattle.clsm_law.proofs.Lock.Kept.{decide_length, cancel_length, frozen_not_clean}
+use Rattle.clsm_law.proofs.Lock.Kept.{decide_length, cancel_length}
+use Rattle.clsm_law.proofs.Phases.{frozen_not_clean}
 
 -- ---- words that a step leaves
 
@@ -287,18 +288,18 @@ begun_merged g step o = g.law.begun
 
 -- ---- the clock is at most the limit
 
--- the time of a Draw that wins is below the limit, which did not change in this hold
-below_limit : (s : Setting) (t : ℕ) → Opens s (Draw t) → t < s.memory Limit
-below_limit s t o = below (v s).hold_limit refl o.3
+-- a time below the limit noted in a hold is below LIMIT, which does not change in this hold
+pub below_limit : (s : Setting) (t : ℕ) → (v s).mode ≢ Free → IsBelow t (v s).hold_limit → t < s.memory Limit
+below_limit s t holds = below (v s).hold_limit refl
   where
     below : (n : Option ℕ) → (v s).hold_limit ≡ n → IsBelow t n → t < s.memory Limit
     below None e lt = absurd lt
-    below (Some n) e lt = let a = s.law.limits s.me n (λ free. absurd (let shared = o.0 in cc)) e in omega arith
+    below (Some n) e lt = let a = s.law.limits s.me n holds e in omega arith
 
 pub bounded_kept : (s : Setting) (step : Step) → Opens s step → length (S s step) ≤ M s step Limit
 bounded_kept s (Draw t) o = by_test (λ b. length (cond b (s.slots ++ None ∷ []) s.slots) ≤ s.memory Limit) (x s (Draw t)) t
     (λ e. let same = clock_shared (ground s) s.me o.0 in let l : length (s.slots ++ None ∷ []) ≡ length s.slots + 1 = length-append s.slots (None ∷ []) in
-    let lt = below_limit s t o in omega arith) (λ _. s.law.bounded)
+    let lt = below_limit s t (λ free. absurd (let shared = o.0 in cc)) o.3 in omega arith) (λ _. s.law.bounded)
 bounded_kept s (Decide t deed) o = let a = decide_length s t deed in let b = s.law.bounded in omega arith
 bounded_kept s (Cancel t) o = let a = cancel_length s t in let b = s.law.bounded in omega arith
 bounded_kept s (Look word) o = let a = limit_same s (Look word) in let b = s.law.bounded in omega arith

@@ -26,7 +26,7 @@ use Rattle.clsm_law.specs.Merging.{epoch_end}
 use Rattle.clsm_law.specs.Worlds.{outcome_at}
 use Rattle.clsm_law.specs.Law.{each, mode_of, drawn_of, part_of, AreHolding, ArePending, AreOwned, AreAlone, AreFilled}
 use Rattle.clsm_law.proofs.Cases.{by_test, by_bool}
-use Rattle.clsm_law.proofs.Frames.{keep1, puts_each, puts_slot, slots_grown, past_end, put_here, put_other, looked_hold, filled_hold, not_given_up}
+use Rattle.clsm_law.proofs.Frames.{keep1, puts_each, puts_slot, slots_grown, past_end, put_here, put_other, looked_leaves, filled_leaves, not_given_up}
 use Rattle.clsm_law.proofs.Clock.Times.{apart}
 use Rattle.clsm_law.proofs.Setting.{Setting, Ground, ground, v, x, w, M, V, S, Opens, OpensTo, memory', slots', own, own_drawn, looked_same, by_seat}
 use Rattle.clsm_law.proofs.Setting.{merger_looked_same, drawn_live, none_drawn, clock_below, clock_shared}
@@ -54,8 +54,8 @@ pub fewer_after : (s : Setting) (step : Step) → Keeps step → Fewer s (w s st
 fewer_after s (Draw t) no_draw = absurd no_draw
 fewer_after s (Decide t deed) no_draw = λ u e. absurd cc
 fewer_after s (Cancel t) no_draw = not_given_up (v s).drawn t
-fewer_after s (Look c) no_draw = λ u e. sym (looked_hold s.z (v s) c (x s (Look c))).1 ∙ e
-fewer_after s (Fill part y) no_draw = λ u e. sym (filled_hold (v s) part y).1 ∙ e
+fewer_after s (Look c) no_draw = λ u e. sym (looked_leaves s.z (v s) c (x s (Look c))).1 ∙ e
+fewer_after s (Fill part y) no_draw = λ u e. sym (filled_leaves (v s) part y).1 ∙ e
 fewer_after s step no_draw = λ u e. e
 
 -- ---- who has drawn a time holds the lock
@@ -70,8 +70,8 @@ holding_after s LeaveShared o = λ t e. absurd (let none = o.1 in cc)
 holding_after s LeaveExclusive o = λ t e. absurd (let none = o.1 in cc)
 holding_after s (Draw t) o = λ u e free. absurd (let shared = o.0 in cc)
 holding_after s (Look c) o = λ t e free. s.law.holding s.me t (fewer_after s (Look c) tt t e)
-    (sym (looked_hold s.z (v s) c (x s (Look c))).0 ∙ free)
-holding_after s (Fill part y) o = λ t e free. s.law.holding s.me t (fewer_after s (Fill part y) tt t e) (sym (filled_hold (v s) part y).0 ∙ free)
+    (sym (looked_leaves s.z (v s) c (x s (Look c))).0 ∙ free)
+holding_after s (Fill part y) o = λ t e free. s.law.holding s.me t (fewer_after s (Fill part y) tt t e) (sym (filled_leaves (v s) part y).0 ∙ free)
 holding_after s step o = λ t e. s.law.holding s.me t (fewer_after s step tt t e)
 
 pub holding_kept : (s : Setting) (step : Step) → Opens s step → AreHolding (each s.z drawn_of (V s step)) (each s.z mode_of (V s step))
@@ -183,8 +183,8 @@ owned_kept s (Cancel t) o = λ u lt none. still_owned s (w s (Cancel t)) u
     (still_drawn (v s).drawn t u (λ same. cancel_settles s t o (subst (λ (k : ℕ). outcome_at (S s (Cancel t)) k ≡ None) (sym same) none)))
     (s.law.owned u (by_bool (λ b. u < length (cond b (set s.slots t (Some Nothing)) s.slots) → u < length s.slots) (x s (Cancel t) == 0)
     (λ _ lt. let len = length-set s.slots t (Some Nothing) in omega arith) (λ _ lt. lt) lt) (undecided_before s (Cancel t) o u none))
-owned_kept s (Look c) o = λ u lt none. still_owned s (w s (Look c)) u (λ e. (looked_hold s.z (v s) c (x s (Look c))).1 ∙ e) (s.law.owned u lt none)
-owned_kept s (Fill part y) o = λ u lt none. still_owned s (w s (Fill part y)) u (λ e. (filled_hold (v s) part y).1 ∙ e) (s.law.owned u lt none)
+owned_kept s (Look c) o = λ u lt none. still_owned s (w s (Look c)) u (λ e. (looked_leaves s.z (v s) c (x s (Look c))).1 ∙ e) (s.law.owned u lt none)
+owned_kept s (Fill part y) o = λ u lt none. still_owned s (w s (Fill part y)) u (λ e. (filled_leaves (v s) part y).1 ∙ e) (s.law.owned u lt none)
 owned_kept s step o = λ u lt none. still_owned s (w s step) u (λ e. e) (s.law.owned u lt none)
 
 pub owned_merged : (g : Ground) (step : Step) → OpensTo g step → AreOwned (each g.z drawn_of g.views) (length (slots' g step)) (outcome_at (slots' g step))

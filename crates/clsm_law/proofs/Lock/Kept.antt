@@ -19,40 +19,24 @@ use Rattle.clsm_law.specs.declared.view.View.{View}
 use Rattle.clsm_law.specs.declared.view.Mode.{Mode}
 use Rattle.clsm_law.specs.declared.view.Mode.TheVariants.{Free, Shared, Exclusive}
 use Rattle.clsm_law.specs.declared.merger.MergerView.{MergerView}
-use Rattle.clsm_law.specs.declared.merger.Phase.{Phase}
-use Rattle.clsm_law.specs.declared.merger.Phase.TheVariants.{Clean, Frozen, Retired}
+use Rattle.clsm_law.specs.declared.merger.Phase.TheVariants.{Frozen}
 use Rattle.clsm_law.specs.Memory.{Memory}
 use Rattle.clsm_law.specs.Views.{idle, is_shared, is_exclusive}
-use Rattle.clsm_law.specs.Merging.{is_clean, is_frozen, is_retired, merger_looked, unseen, reader_at, reader_by}
+use Rattle.clsm_law.specs.Merging.{is_retired, merger_looked, unseen, reader_at, reader_by}
 use Rattle.clsm_law.specs.Law.{each, mode_of, holders, IsLockedOut, AreSole, IsMerger}
 use Rattle.clsm_law.proofs.Cases.{by_test, by_bool}
-use Rattle.clsm_law.proofs.Frames.{keep1, puts_each, same_each, looked_hold, filled_hold}
+use Rattle.clsm_law.proofs.Frames.{keep1, puts_each, same_each, looked_leaves, filled_leaves}
 use Rattle.clsm_law.proofs.Setting.{Setting, ground, v, x, w, M, V, S, Opens, looked_same, Ground, found, merger', memory', slots', OpensTo, merger_looked_same}
 use Rattle.clsm_law.proofs.Setting.{by_seat}
 use Rattle.clsm_law.proofs.GrowthMerger.{length_passed}
 use Rattle.clsm_law.proofs.Decided.Kept.{run_other}
+use Rattle.clsm_law.proofs.Phases.{retired_not_clean, frozen_not_clean}
 
--- ---- phases and modes
+-- ---- tests and modes
 
 -- a test does not come out both ways
 pub not_both : {b : Bool} → b ≡ true → b ≡ false → ⊥
 not_both e f = cc
-
--- the three phases exclude one another
-pub retired_not_clean : (p : Phase) → is_retired p ≡ true → is_clean p ≡ true → ⊥
-retired_not_clean Clean e f = cc
-retired_not_clean Frozen e f = cc
-retired_not_clean Retired e f = cc
-
-pub frozen_not_clean : (p : Phase) → is_frozen p ≡ true → is_clean p ≡ true → ⊥
-frozen_not_clean Clean e f = cc
-frozen_not_clean Frozen e f = cc
-frozen_not_clean Retired e f = cc
-
-pub frozen_not_retired : (p : Phase) → is_frozen p ≡ true → is_retired p ≡ true → ⊥
-frozen_not_retired Clean e f = cc
-frozen_not_retired Frozen e f = cc
-frozen_not_retired Retired e f = cc
 
 -- a look leaves the merger's hold
 pub exclusive_looked : (z : Layout) (m : MergerView) (word : Word) (n : ℕ) → (merger_looked z m word n).exclusive ≡ m.exclusive
@@ -229,9 +213,9 @@ lock_kept s EnterExclusive o = by_test (λ b. (n : ℕ) → n + holders (v s) �
     (counted s (w s EnterExclusive))
 lock_kept s LeaveShared o = lock_leaves s (sum_by holders (V s LeaveShared)) o (counted s (w s LeaveShared))
 lock_kept s LeaveExclusive o = lock_gives s (sum_by holders (V s LeaveExclusive)) o (counted s (w s LeaveExclusive))
-lock_kept s (Fill part n) o = s.law.lock ∙ same_count s (w s (Fill part n)) (filled_hold (v s) part n).0
+lock_kept s (Fill part n) o = s.law.lock ∙ same_count s (w s (Fill part n)) (filled_leaves (v s) part n).0
 lock_kept s (Look word) o = ap (λ (m : Memory). m Lock) (looked_same s word) ∙ s.law.lock
-    ∙ same_count s (w s (Look word)) (looked_hold s.z (v s) word (x s (Look word))).0
+    ∙ same_count s (w s (Look word)) (looked_leaves s.z (v s) word (x s (Look word))).0
 lock_kept s step o = s.law.lock ∙ same_count s (w s step) refl
 
 -- the merger leaves the word at 0, and no seat holds the lock
@@ -257,8 +241,8 @@ locked_out_after s EnterExclusive o e = by_test (λ b. cond b Exclusive (v s).mo
     (λ won. absurd (not_both e (unlocked (ground s) won))) (λ _. o)
 locked_out_after s LeaveShared o e = refl
 locked_out_after s LeaveExclusive o e = refl
-locked_out_after s (Fill part n) o e = (filled_hold (v s) part n).0 ∙ s.law.locked_out e s.me
-locked_out_after s (Look word) o e = (looked_hold s.z (v s) word (x s (Look word))).0 ∙ s.law.locked_out e s.me
+locked_out_after s (Fill part n) o e = (filled_leaves (v s) part n).0 ∙ s.law.locked_out e s.me
+locked_out_after s (Look word) o e = (looked_leaves s.z (v s) word (x s (Look word))).0 ∙ s.law.locked_out e s.me
 locked_out_after s step o e = s.law.locked_out e s.me
 
 pub locked_out_kept : (s : Setting) (step : Step) → Opens s step → IsLockedOut s.merger.exclusive (each s.z mode_of (V s step))
@@ -299,8 +283,8 @@ sole_kept s EnterExclusive o = sole_by s (w s EnterExclusive)
     (λ i ne e. by_test (λ b. cond b Exclusive (v s).mode ≡ Free) (x s EnterExclusive) 0 (λ won. absurd (let free = all_free (ground s) won i in cc)) (λ _. o))
 sole_kept s LeaveShared o = sole_by s (w s LeaveShared) (λ e. absurd cc) (λ i ne e. refl)
 sole_kept s LeaveExclusive o = sole_by s (w s LeaveExclusive) (λ e. absurd cc) (λ i ne e. refl)
-sole_kept s (Fill part n) o = sole_same s (w s (Fill part n)) (filled_hold (v s) part n).0
-sole_kept s (Look word) o = sole_same s (w s (Look word)) (looked_hold s.z (v s) word (x s (Look word))).0
+sole_kept s (Fill part n) o = sole_same s (w s (Fill part n)) (filled_leaves (v s) part n).0
+sole_kept s (Look word) o = sole_same s (w s (Look word)) (looked_leaves s.z (v s) word (x s (Look word))).0
 sole_kept s step o = sole_same s (w s step) refl
 
 pub sole_merged : (g : Ground) (step : Step) → OpensTo g step → AreSole (each g.z mode_of g.views)

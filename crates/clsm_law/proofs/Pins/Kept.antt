@@ -24,7 +24,8 @@ use Rattle.clsm_law.specs.Law.{each, pin_of, pinned_of, held_of, snapshot_of, Ar
 use Rattle.clsm_law.proofs.Frames.{keep1, put_here, put_other, same_each}
 use Rattle.clsm_law.proofs.Setting.{Setting, v, x, w, M, V, Opens, looked_same, Ground, found, memory', merger', OpensTo, merger_looked_same, by_seat}
 use Rattle.clsm_law.proofs.Decided.Kept.{run_other}
-use Rattle.clsm_law.proofs.Lock.Kept.{not_both, retired_not_clean, frozen_not_retired}
+use Rattle.clsm_law.proofs.Lock.Kept.{not_both}
+use Rattle.clsm_law.proofs.Phases.{retired_not_clean, frozen_not_retired}
 
 -- ---- the pin words
 

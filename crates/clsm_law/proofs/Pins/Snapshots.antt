@@ -23,7 +23,7 @@ use Rattle.clsm_law.specs.declared.merger.Phase.{Phase}
 use Rattle.clsm_law.specs.declared.merger.Phase.TheVariants.{Clean, Frozen, Retired}
 use Rattle.clsm_law.specs.OpenSteps.{IsEndingWith}
 use Rattle.clsm_law.specs.Relation.{ended_snapshot, timed_by}
-use Rattle.clsm_law.specs.Merging.{is_clean, is_frozen, is_retired, epoch_end, noted_time, least, round_on, round_by, is_whole, lesser, round_end, floor_by}
+use Rattle.clsm_law.specs.Merging.{is_frozen, is_retired, epoch_end, noted_time, least, round_on, round_by, is_whole, lesser, round_end, floor_by}
 use Rattle.clsm_law.specs.Worlds.{past_of}
 use Rattle.clsm_law.specs.Law.{each, past_time_of, pinned_of, snapshot_of, IsSnapshot, AreSnapshots, note_of, IsPassed, ArePassed, AreFloors}
 use Rattle.clsm_law.proofs.Cases.{by_test, by_bool}
@@ -31,6 +31,7 @@ use Rattle.clsm_law.proofs.Frames.{keep1, keep2}
 use Rattle.clsm_law.proofs.Setting.{Setting, ground, v, w, M, V, Opens, Ground, facts, merger', memory', OpensTo, past_below, by_seat}
 use Rattle.clsm_law.proofs.Records.Histories.{end_of-past}
 use Rattle.clsm_law.proofs.Clock.Kept.{frozen_clock, clock_grows, clock_grows'}
+use Rattle.clsm_law.proofs.Phases.{clean_frozen, retired_frozen}
 
 -- ---- each snapshot by itself
 
@@ -354,17 +355,6 @@ floors_same z m m' a b c d h rest = record {
   below_former = keep2 (λ (p q : ℕ). p ≤ (q - 1) * z.cells) d a h.below_former;
 }
 
--- only in phase frozen the floor may be in the epoch
-clean_rests : (p : Phase) → is_clean p ≡ true → is_frozen p ≡ false
-clean_rests Clean e = refl
-clean_rests Frozen e = absurd cc
-clean_rests Retired e = refl
-
-retired_rests : (p : Phase) → is_retired p ≡ true → is_frozen p ≡ false
-retired_rests Clean e = refl
-retired_rests Frozen e = absurd cc
-retired_rests Retired e = refl
-
 -- what a round may raise the floor to
 raised_end : (z : Layout) (m : MergerView) (round : Option Round) → m.floor ≤ epoch_end z m → floor_by z m round ≤ epoch_end z m
 raised_end z m None le = le
@@ -419,13 +409,13 @@ floors_published g = let h = g.law.floors in let m = g.merger in record {
 pub floors_merged : (g : Ground) (step : Step) → OpensTo g step → AreFloors g.z (merger' g step)
 floors_merged g EnterExclusive o = floors_same g.z g.merger (merger' g EnterExclusive) refl refl refl refl g.law.floors g.law.floors.at_rest
 floors_merged g LeaveExclusive o = floors_same g.z g.merger (merger' g LeaveExclusive) refl refl refl refl g.law.floors
-    (λ e. g.law.floors.at_rest (clean_rests g.merger.phase (g.law.merger.clean o.0)))
+    (λ e. g.law.floors.at_rest (clean_frozen g.merger.phase (g.law.merger.clean o.0)))
 floors_merged g (Look (Snap i)) o = floors_looked g i
 floors_merged g (Look (PinOf i)) o = floors_same g.z g.merger (merger' g (Look (PinOf i))) refl refl refl refl g.law.floors g.law.floors.at_rest
 floors_merged g (Look word) o = g.law.floors
 floors_merged g (Pad t) o = floors_same g.z g.merger (merger' g (Pad t)) refl refl refl refl g.law.floors g.law.floors.at_rest
 floors_merged g (ClearState cell) o = floors_same g.z g.merger (merger' g (ClearState cell)) refl refl refl refl g.law.floors
-    (λ e. g.law.floors.at_rest (retired_rests g.merger.phase o.0))
+    (λ e. g.law.floors.at_rest (retired_frozen g.merger.phase o.0))
 floors_merged g Publish o = floors_published g
 floors_merged g ExtendClock o = floors_same g.z g.merger (merger' g ExtendClock) refl refl refl refl g.law.floors g.law.floors.at_rest
 floors_merged g ExtendLimit o = floors_same g.z g.merger (merger' g ExtendLimit) refl refl refl refl g.law.floors g.law.floors.at_rest

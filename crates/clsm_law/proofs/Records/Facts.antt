@@ -27,14 +27,6 @@ use Rattle.clsm_law.proofs.Records.Histories.{GoesOn, IsRightDeed-right, IsRight
 
 -- ---- rows of records
 
-pub all_append : {X : Type 0} (P : X → Type 0) (xs ys : List X) → AllByRecursion P xs → AllByRecursion P ys → AllByRecursion P (xs ++ ys)
-all_append P [] ys a b = b
-all_append P (x ∷ xs) ys a b = (a.0, all_append P xs ys a.1 b)
-
-pub all_map : {X : Type 0} (P Q : X → Type 0) (xs : List X) → ((x : X) → P x → Q x) → AllByRecursion P xs → AllByRecursion Q xs
-all_map P Q [] f a = tt
-all_map P Q (x ∷ xs) f a = (f x a.0, all_map P Q xs f a.1)
-
 -- a write recorded stays so with records behind it
 pub has_before : (i t : ℕ) (write : Slot) (xs ys : List CallRecord) → HasWrite i t write xs → HasWrite i t write (xs ++ ys)
 has_before i t write [] ys h = absurd h

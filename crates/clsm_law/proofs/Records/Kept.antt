@@ -37,8 +37,9 @@ use Rattle.clsm_law.proofs.Decided.Kept.{run_other}
 use Rattle.clsm_law.proofs.Growth.{slots_stay, longer, cancels_shown}
 use Rattle.clsm_law.proofs.GrowthMerger.{slots_stay', longer', written_before}
 use Rattle.clsm_law.proofs.Records.Histories.{GoesOn, records_right-go_on, decided_past-goes_on, end_of-past}
-use Rattle.clsm_law.proofs.Records.Facts.{all_append, has_before, has_last, nothing_stands, once_stands, once_written, batch_at, batch_stands}
+use Rattle.clsm_law.proofs.Records.Facts.{has_before, has_last, nothing_stands, once_stands, once_written, batch_at, batch_stands}
 use Rattle.clsm_law.proofs.Records.Facts.{member_writer, all_stand_stay, decided_right, writer_of, ended_right, ended_stands, ended_within}
+use Rattle.clsm_levels.proofs.Every.{every-append}
 
 -- a hold is of one kind
 pub only_exclusive : (m : Mode) → is_exclusive m ≡ true → m ≡ Exclusive
@@ -86,14 +87,14 @@ own_right s (Decide t deed) o = let h' = past_of (S s (Decide t deed)) (v s).pas
     by_bool (λ a. AllByRecursion (IsRightRecord h') (cond a (v s).calls
     (cond (x s (Decide t deed) == 0) ((v s).calls ++ call_of s.me t deed ∷ []) (v s).calls))) (is_exclusive (v s).mode) (λ _. before) (λ _.
     by_test (λ b. AllByRecursion (IsRightRecord h') (cond b ((v s).calls ++ call_of s.me t deed ∷ []) (v s).calls)) (x s (Decide t deed)) 0
-    (λ _. all_append (IsRightRecord h') (v s).calls (call_of s.me t deed ∷ []) before
+    (λ _. every-append (IsRightRecord h') (v s).calls (call_of s.me t deed ∷ []) before
     (decided_right (past_in s s.me) h' (v s) t deed (past_on s (Decide t deed) o s.me (v s).past (omega arith)) o.2 o.3, tt))
     (λ _. before))
-own_right s (Commit members) o = all_append (IsRightRecord (past_in s s.me)) (v s).calls (call_of s.me (or_zero (v s).hold_clock) (Group members) ∷ [])
+own_right s (Commit members) o = every-append (IsRightRecord (past_in s s.me)) (v s).calls (call_of s.me (or_zero (v s).hold_clock) (Group members) ∷ [])
     (s.law.right s.me) (tt, tt)
-own_right s (Unpin end) o = all_append (IsRightRecord (past_in s s.me)) (v s).calls (ended_calls s.me (v s) end) (s.law.right s.me)
+own_right s (Unpin end) o = every-append (IsRightRecord (past_in s s.me)) (v s).calls (ended_calls s.me (v s) end) (s.law.right s.me)
     (ended_right (past_in s s.me) s.me (v s) (v s).snapshot end refl o.1)
-own_right s CloseSnapshot o = all_append (IsRightRecord (past_in s s.me)) (v s).calls (call_of s.me (or_zero (open_time (v s).snapshot)) Close ∷ [])
+own_right s CloseSnapshot o = every-append (IsRightRecord (past_in s s.me)) (v s).calls (call_of s.me (or_zero (open_time (v s).snapshot)) Close ∷ [])
     (s.law.right s.me)
     (close_right s.slots s.merger.floor (s.memory Clock) (v s).past (v s).pinned (v s).snapshot o (s.law.snapshots s.me) (past_below (ground s) s.me), tt)
 own_right s (Fill Key a) o = right_before s (Fill Key a) o
@@ -137,15 +138,15 @@ own_stand s (Decide t deed) o = let slot' = outcome_at (S s (Decide t deed)) in 
     by_bool (λ a. AllByRecursion (IsStandingRecord slot' s.me) (cond a (v s).calls
     (cond (x s (Decide t deed) == 0) ((v s).calls ++ call_of s.me t deed ∷ []) (v s).calls))) (is_exclusive (v s).mode) (λ _. before) (λ _.
     by_test (λ b. AllByRecursion (IsStandingRecord slot' s.me) (cond b ((v s).calls ++ call_of s.me t deed ∷ []) (v s).calls)) (x s (Decide t deed)) 0
-    (λ e. all_append (IsStandingRecord slot' s.me) (v s).calls (call_of s.me t deed ∷ []) before
+    (λ e. every-append (IsStandingRecord slot' s.me) (v s).calls (call_of s.me t deed ∷ []) before
     ((refl, once_stands (v s) s.me t deed slot' o.2 (decides_slot s t deed o e)), tt))
     (λ _. before))
-own_stand s (Commit members) o = all_append (IsStandingRecord (outcome_at s.slots) s.me) (v s).calls
+own_stand s (Commit members) o = every-append (IsStandingRecord (outcome_at s.slots) s.me) (v s).calls
     (call_of s.me (or_zero (v s).hold_clock) (Group members) ∷ []) (s.law.stand s.me)
     ((refl, batch_stands s.me (or_zero (v s).hold_clock) members (outcome_at s.slots) (λ n lt. (commits_member s members o n lt).1)), tt)
-own_stand s (Unpin end) o = all_append (IsStandingRecord (outcome_at s.slots) s.me) (v s).calls (ended_calls s.me (v s) end) (s.law.stand s.me)
+own_stand s (Unpin end) o = every-append (IsStandingRecord (outcome_at s.slots) s.me) (v s).calls (ended_calls s.me (v s) end) (s.law.stand s.me)
     (ended_stands (past_in s s.me) s.me (v s) (outcome_at s.slots) (v s).snapshot end o.1)
-own_stand s CloseSnapshot o = all_append (IsStandingRecord (outcome_at s.slots) s.me) (v s).calls
+own_stand s CloseSnapshot o = every-append (IsStandingRecord (outcome_at s.slots) s.me) (v s).calls
     (call_of s.me (or_zero (open_time (v s).snapshot)) Close ∷ []) (s.law.stand s.me)
     ((refl, λ t. nothing_stands (or_zero (open_time (v s).snapshot) == t) (outcome_at s.slots t)), tt)
 own_stand s (Fill Key a) o = stand_before s (Fill Key a) o s.me
