@@ -1,7 +1,7 @@
-ghost use Rattle.std.specs.Prelude.{◌≡◌, ◌+◌, ◌<◌, ◌^◌, ◌++◌, ℕ, length, MatchResult};
+ghost use Rattle.std.specs.Prelude.{◌≡◌, ◌+◌, ◌<◌, ◌^◌, ◌++◌, ℕ, length, MatchResult, true};
 ghost use Rattle.clsm_law.specs.Views.{or_zero};
 ghost use Rattle.clsm_core_caller.specs.Settling.{listed};
-ghost use Rattle.clsm_law.specs.Relation.{counted_cancel, filled, given_up, is_own, is_waited_for, member_of, view_after};
+ghost use Rattle.clsm_law.specs.Relation.{after_entry, counted_cancel, filled, given_up, is_own, is_waited_for, member_of, taken, view_after};
 ghost use Rattle.clsm_law.specs.declared.layout.Layout.{Layout};
 ghost use Rattle.clsm_law.specs.declared.step.Step.{Step};
 
@@ -10,6 +10,43 @@ use crate::words::{or_zero, own_line};
 use clsm_law::{Layout, Mode, Part, UNDECIDED_CELL, View, Waiting};
 use clsm_model::{CallRecord, Change, Deed, Members, Time};
 use std::alloc::AllocError;
+
+/// The lock is held in this mode, and no earlier look is fresh or of this hold.
+fn enter(layout: &Layout, view: &mut View, mode: Mode) -> Result<(), AllocError>
+    ensures { MatchResult result
+        (λ _. view.new ≡ after_entry layout.now mode true view.old)
+        (λ _. view.new ≡ view.old) }
+{
+    view.fresh_heads.blank(2 * layout.chains as usize)?;
+    view.mode = mode;
+    view.fresh_lock = None;
+    view.fresh_clock = None;
+    view.hold_limit = None;
+    view.hold_clock = None;
+    view.entries = view.entries.wrapping_add(1);
+    Ok(())
+}
+
+/// The time is drawn, and nothing is known of its cell.
+fn take(view: &mut View, time: Time) -> Result<(), AllocError>
+    ensures { MatchResult result
+        (λ _. view.new ≡ taken view.old time)
+        (λ _. view.new ≡ view.old) }
+{
+    view.words.blank(8)?;
+    view.drawn = Some(time);
+    view.key = None;
+    view.length = None;
+    view.next = None;
+    view.linked = false;
+    view.order_next = None;
+    view.inserted = false;
+    view.fresh_link = None;
+    view.low = 0;
+    view.high = 0;
+    view.fresh_clock = None;
+    Ok(())
+}
 
 /// Notes an exchange on LOCK for one holder more than these.
 pub(crate) fn note_entry(
@@ -23,15 +60,9 @@ pub(crate) fn note_entry(
         (λ _. view.new ≡ view.old) }
 {
     if found == holders {
-        view.fresh_heads.blank(2 * layout.chains as usize)?;
-        view.mode = Mode::Shared;
-        view.fresh_clock = None;
-        view.hold_limit = None;
-        view.hold_clock = None;
-        view.entries = view.entries.wrapping_add(1);
-    } else {
-        view.busy = view.busy.wrapping_add(1);
+        return enter(layout, view, Mode::Shared);
     }
+    view.busy = view.busy.wrapping_add(1);
     view.fresh_lock = None;
     Ok(())
 }
@@ -59,20 +90,9 @@ pub(crate) fn note_draw(view: &mut View, time: Time, found: u64) -> Result<(), A
         (λ _. view.new ≡ view.old) }
 {
     if found == time {
-        view.words.blank(8)?;
-        view.drawn = Some(time);
-        view.key = None;
-        view.length = None;
-        view.next = None;
-        view.linked = false;
-        view.order_next = None;
-        view.inserted = false;
-        view.fresh_link = None;
-        view.low = 0;
-        view.high = 0;
-    } else {
-        view.raced = view.raced.wrapping_add(1);
+        return take(view, time);
     }
+    view.raced = view.raced.wrapping_add(1);
     view.fresh_clock = None;
     Ok(())
 }
@@ -84,13 +104,8 @@ pub(crate) fn note_taking(layout: &Layout, view: &mut View, found: u64) -> Resul
         (λ _. view.new ≡ view.old) }
 {
     if found == 0 {
-        view.fresh_heads.blank(2 * layout.chains as usize)?;
-        view.mode = Mode::Exclusive;
-        view.fresh_clock = None;
-        view.hold_limit = None;
-        view.hold_clock = None;
+        enter(layout, view, Mode::Exclusive)?;
         view.committed = false;
-        view.entries = view.entries.wrapping_add(1);
     }
     view.fresh_lock = None;
     Ok(())
@@ -102,18 +117,8 @@ pub(crate) fn note_stage(view: &mut View, time: Time, key: u64) -> Result<(), Al
         (λ _. (z : Layout) (i x : ℕ) → view.new ≡ view_after z i view.old (Step.Stage time key) x)
         (λ _. view.new ≡ view.old) }
 {
-    view.words.blank(8)?;
-    view.drawn = Some(time);
+    take(view, time)?;
     view.key = Some(key);
-    view.length = None;
-    view.next = None;
-    view.linked = false;
-    view.order_next = None;
-    view.inserted = false;
-    view.fresh_link = None;
-    view.low = 0;
-    view.high = 0;
-    view.fresh_clock = None;
     Ok(())
 }
 

@@ -6,13 +6,17 @@ use native.Mathlib.Decide.{ℕ_discrete}
 use Rattle.clsm_model.specs.declared.slot.Slot.{Slot}
 use Rattle.clsm_law.specs.declared.layout.Layout.{Layout}
 use Rattle.clsm_law.specs.declared.word.Word.{Word}
+use Rattle.clsm_law.specs.declared.word.Word.TheVariants.{Lock}
+use Rattle.clsm_law.specs.declared.word.Part.{Part}
+use Rattle.clsm_law.specs.declared.word.Part.TheVariants.{Key}
 use Rattle.clsm_law.specs.declared.view.View.{View}
 use Rattle.clsm_law.specs.Memory.{Memory, is_same, put}
 use Rattle.clsm_law.specs.Views.{idle}
+use Rattle.clsm_law.specs.Relation.{given_up, looked, filled}
 use Rattle.clsm_law.specs.Worlds.{view_at, outcome_at}
 use Rattle.clsm_law.specs.Law.{each}
 use Rattle.clsm_law.proofs.Rows.Words.{same_word, is_same-refl}
-use Rattle.clsm_law.proofs.Cases.{by_bool}
+use Rattle.clsm_law.proofs.Cases.{by_test, by_bool}
 
 -- g is f, but x at k
 pub record Puts {A : Type 0} (f g : ℕ → A) (k : ℕ) (x : A) : Type 0 where
@@ -59,10 +63,31 @@ pub same_each : {A : Type 0} (z : Layout) (f : View → A) (views : List View) (
 same_each z f views me w lt e = let p = puts_each z f views me w lt in
     let all = at_each (λ i. each z f (set views me w) i ≡ each z f views i) me (p.here ∙ e) p.other in λ k i. all i k
 
+-- a look and a fill change neither how the lock is held, nor what is drawn, nor the past
+pub looked_leaves : (z : Layout) (y : View) (word : Word) (n : ℕ) → ((looked z y word n).mode ≡ y.mode) × ((looked z y word n).drawn ≡ y.drawn)
+    × ((looked z y word n).past ≡ y.past)
+looked_leaves z y Lock n = (refl, refl, refl)
+looked_leaves z y word n = (refl, refl, refl)
+
+pub filled_leaves : (y : View) (part : Part) (n : ℕ) → ((filled y part n).mode ≡ y.mode) × ((filled y part n).drawn ≡ y.drawn)
+    × ((filled y part n).past ≡ y.past)
+filled_leaves y Key n = (refl, refl, refl)
+filled_leaves y part n = (refl, refl, refl)
+
+-- a time that is not given up was drawn
+pub not_given_up : (d : Option ℕ) (t u : ℕ) → given_up d t ≡ Some u → d ≡ Some u
+not_given_up None t u e = e
+not_given_up (Some y) t u e = by_test (λ b. cond b None (Some y) ≡ Some u → Some y ≡ Some u) y t (λ _ e. absurd cc) (λ _ e. e) e
+
 -- ---- slots
 
 pub puts_slot : (slots : List (Option Slot)) (t : ℕ) (s : Option Slot) → t < length slots → Puts (outcome_at slots) (outcome_at (set slots t s)) t s
 puts_slot slots t s lt = record { here = get_or-set_same slots t s None lt; other = λ i ne. get_or-set_other slots t i s None ne }
+
+-- a slot that is not undecided is one that is decided
+pub some_of : (o : Option Slot) → o ≢ None → (b : Slot) × (o ≡ Some b)
+some_of None ne = absurd (ne refl)
+some_of (Some b) ne = (b, refl)
 
 -- an undecided slot at the end shows nothing new
 grown_at : (slots : List (Option Slot)) (t : ℕ) → outcome_at (slots ++ None ∷ []) t ≡ outcome_at slots t

@@ -1,9 +1,9 @@
 -- What an open step of a seat never takes back: decided slots stay, the history grows, and the
 -- pasts with it.
-use Rattle.std.proofs.Common.{◌≡◌, ℕ, ◌+◌, ◌<◌, ◌≤◌, cond, [], ◌∷◌, ◌++◌, length, set, refl, subst, ◌∙◌, arith, ⊎_elim, Option, Some, None, length-set}
-use Rattle.std.proofs.Common.{length-append}
+use Rattle.std.proofs.Common.{◌≡◌, ℕ, ◌+◌, ◌<◌, ◌≤◌, cond, [], ◌∷◌, ◌++◌, length, set, refl, subst, ◌∙◌, arith, ⊎_elim, Option, Some, None, length-set, List}
+use Rattle.std.proofs.Common.{length-append, sym}
 use Rattle.clsm_model.specs.declared.slot.Slot.{Slot}
-use Rattle.clsm_model.specs.declared.slot.Slot.TheVariants.{Nothing}
+use Rattle.clsm_model.specs.declared.slot.Slot.TheVariants.{Nothing, Wrote}
 use Rattle.clsm_model.specs.Right.{write_by}
 use Rattle.clsm_law.specs.declared.step.Step.{Step}
 use Rattle.clsm_law.specs.declared.step.Step.TheVariants.{Draw, Decide, Cancel}
@@ -15,7 +15,7 @@ use Rattle.clsm_law.specs.OpenSteps.{HoldsFrom}
 use Rattle.clsm_law.specs.Worlds.{outcome_at}
 use Rattle.clsm_law.specs.Law.{Shows, first_shown}
 use Rattle.clsm_law.proofs.Cases.{by_test}
-use Rattle.clsm_law.proofs.Frames.{at_each, puts_slot, slots_grown}
+use Rattle.clsm_law.proofs.Frames.{at_each, puts_slot, slots_grown, keep1}
 use Rattle.clsm_law.proofs.Setting.{Setting, ground, v, x, S, Opens, undecided, drawn_shown, held_shown, shown_below_merged, clock_below}
 
 -- the time of an open Cancel is shown
@@ -70,3 +70,32 @@ longer s (Decide t deed) = by_test (λ c. length s.slots ≤ length (cond c (set
 longer s (Cancel t) = by_test (λ c. length s.slots ≤ length (cond c (set s.slots t (Some Nothing)) s.slots)) (x s (Cancel t)) 0
     (λ _. let l = length-set s.slots t (Some Nothing) in omega arith) (λ _. omega arith)
 longer s step = omega arith
+
+-- ---- a fact of each write
+
+-- it holds of each write of a row of slots from a time on
+abbrev pub OfWrites : ℕ → (ℕ → Option Slot) → (ℕ → ℕ → Option (List ℕ) → Type 0) → Type 0
+OfWrites from slot P = (t i key : ℕ) (written : Option (List ℕ)) → from ≤ t → slot t ≡ Some (Wrote i key written) → P t key written
+
+-- and of the one that a Decide makes
+abbrev pub OfDecided : Setting → (ℕ → ℕ → Option (List ℕ) → Type 0) → Step → Type 0
+OfDecided s P (Decide t deed) = (i key : ℕ) (written : Option (List ℕ)) → write_by s.me deed ≡ Some (Wrote i key written) → P t key written
+OfDecided s P step = Unit {0}
+
+writes_settled : (slots : List (Option Slot)) (t : ℕ) (a : Option Slot) (from : ℕ) (P : ℕ → ℕ → Option (List ℕ) → Type 0) → t < length slots
+    → ((i key : ℕ) (written : Option (List ℕ)) → a ≡ Some (Wrote i key written) → P t key written) → OfWrites from (outcome_at slots) P
+    → OfWrites from (outcome_at (set slots t a)) P
+writes_settled slots t a from P lt now was u i key written le e = let p = puts_slot slots t a lt in
+    at_each (λ u. from ≤ u → outcome_at (set slots t a) u ≡ Some (Wrote i key written) → P u key written) t
+    (λ _ e. now i key written (sym p.here ∙ e)) (λ u ne le e. was u i key written le (sym (p.other u ne) ∙ e)) u le e
+
+-- so it holds of each write after the step
+pub writes_kept : (s : Setting) (step : Step) → Opens s step → (from : ℕ) (P : ℕ → ℕ → Option (List ℕ) → Type 0) → OfDecided s P step
+    → OfWrites from (outcome_at s.slots) P → OfWrites from (outcome_at (S s step)) P
+writes_kept s (Draw t) o from P now was = by_test (λ b. OfWrites from (outcome_at (cond b (s.slots ++ None ∷ []) s.slots)) P) (x s (Draw t)) t
+    (λ _. keep1 (λ (f : ℕ → Option Slot). OfWrites from f P) (slots_grown s.slots) was) (λ _. was)
+writes_kept s (Decide t deed) o from P now was = by_test (λ b. OfWrites from (outcome_at (cond b (set s.slots t (write_by s.me deed)) s.slots)) P)
+    (x s (Decide t deed)) 0 (λ _. writes_settled s.slots t (write_by s.me deed) from P (drawn_shown (ground s) s.me t o.0).1 now was) (λ _. was)
+writes_kept s (Cancel t) o from P now was = by_test (λ b. OfWrites from (outcome_at (cond b (set s.slots t (Some Nothing)) s.slots)) P) (x s (Cancel t)) 0
+    (λ _. writes_settled s.slots t (Some Nothing) from P (cancels_shown s t o).1 (λ i key written e. absurd cc) was) (λ _. was)
+writes_kept s step o from P now was = was

@@ -1,20 +1,20 @@
 -- What an open step of the merger never takes back: decided slots stay, and the history grows.
-use Rattle.std.proofs.Common.{◌≡◌, ℕ, ◌+◌, ◌-◌, ◌<◌, ◌≤◌, true, false, List, length, refl, ◌∙◌, arith, Option, Some, None, length-append}
+use Rattle.std.proofs.Common.{◌≡◌, ℕ, ◌+◌, ◌-◌, ◌<◌, ◌≤◌, true, List, length, refl, ◌∙◌, arith, Option, Some, None, length-append, zero, suc, ◌≢◌, []}
+use Rattle.std.proofs.Common.{◌∷◌, ◌++◌}
 use Rattle.std.specs.Prelude.{replicate}
 use Rattle.std.proofs.Math.Seq.{get_or-append_right}
 use Rattle.std.proofs.lemmas.List.{length-replicate, get_or-replicate, get_or_append_left}
 use Rattle.clsm_model.specs.declared.slot.Slot.{Slot}
-use Rattle.clsm_model.specs.declared.slot.Slot.TheVariants.{Nothing}
+use Rattle.clsm_model.specs.declared.slot.Slot.TheVariants.{Nothing, Wrote}
 use Rattle.clsm_law.specs.declared.word.Word.TheVariants.{Limit}
 use Rattle.clsm_law.specs.declared.step.Step.{Step}
 use Rattle.clsm_law.specs.declared.step.Step.TheVariants.{ExtendClock}
-use Rattle.clsm_law.specs.declared.merger.Phase.{Phase}
-use Rattle.clsm_law.specs.declared.merger.Phase.TheVariants.{Clean, Frozen, Retired}
-use Rattle.clsm_law.specs.Merging.{is_clean, is_frozen, epoch_end, passed_over}
+use Rattle.clsm_law.specs.Merging.{epoch_end, passed_over}
 use Rattle.clsm_law.specs.Worlds.{outcome_at}
 use Rattle.clsm_law.proofs.Cases.{by_bool}
 use Rattle.clsm_law.proofs.Frames.{slot_below}
 use Rattle.clsm_law.proofs.Setting.{Ground, slots', OpensTo}
+use Rattle.clsm_law.proofs.Phases.{clean_frozen}
 
 -- a slot below the end stays, and one behind it up to the time t came to nothing
 pub passed_before : (slots : List (Option Slot)) (t u : ℕ) → u < length slots → outcome_at (passed_over slots t) u ≡ outcome_at slots u
@@ -34,6 +34,19 @@ length_over slots t le = let a : length (passed_over slots t) ≡ length slots +
 stays_over : (slots : List (Option Slot)) (t u : ℕ) (b : Slot) → outcome_at slots u ≡ Some b → outcome_at (passed_over slots t) u ≡ Some b
 stays_over slots t u b e = passed_before slots t u (slot_below slots u (λ none. absurd (cc (none, e)))) ∙ e
 
+-- times that came to nothing are no writes
+none_written : (n u i key : ℕ) (written : Option (List ℕ)) → outcome_at (replicate n (Some Nothing)) u ≢ Some (Wrote i key written)
+none_written zero u i key written e = absurd cc
+none_written (suc n) zero i key written e = absurd cc
+none_written (suc n) (suc u) i key written e = none_written n u i key written e
+
+-- so a write after them stood before them
+pub written_before : (slots : List (Option Slot)) (n u i key : ℕ) (written : Option (List ℕ)) → outcome_at (slots ++ replicate n (Some Nothing)) u
+    ≡ Some (Wrote i key written) → outcome_at slots u ≡ Some (Wrote i key written)
+written_before [] n u i key written e = absurd (none_written n u i key written e)
+written_before (a ∷ slots) n zero i key written e = e
+written_before (a ∷ slots) n (suc u) i key written e = written_before slots n u i key written e
+
 -- what is decided stays
 pub slots_stay' : (g : Ground) (step : Step) → OpensTo g step → (u : ℕ) (b : Slot) → outcome_at g.slots u ≡ Some b → outcome_at (slots' g step) u ≡ Some b
 slots_stay' g ExtendClock o = stays_over g.slots (epoch_end g.z g.merger)
@@ -50,13 +63,8 @@ longer' g step = omega arith
 pub clock_held : (g : Ground) → g.merger.exclusive ≡ true → length g.slots ≤ epoch_end g.z g.merger
 clock_held g e = by_bool (λ b. g.merger.limit_extended ≡ b → length g.slots ≤ epoch_end g.z g.merger) g.merger.limit_extended
     (λ _ f. let a = g.law.merger.at_end (g.law.merger.limit_after f) in omega arith)
-    (λ _ f. let b = g.law.bounded in let l = g.law.limit in let c = not_frozen g.merger.phase (g.law.merger.clean e) in
+    (λ _ f. let b = g.law.bounded in let l = g.law.limit in let c = clean_frozen g.merger.phase (g.law.merger.clean e) in
     let k : g.memory Limit ≡ epoch_end g.z g.merger = l ∙ rw (c, f) refl in omega arith) refl
-  where
-    not_frozen : (p : Phase) → is_clean p ≡ true → is_frozen p ≡ false
-    not_frozen Clean e = refl
-    not_frozen Frozen e = absurd cc
-    not_frozen Retired e = refl
 
 -- the length after the clock is moved
 pub length_passed : (g : Ground) → OpensTo g ExtendClock → length (slots' g ExtendClock) ≡ epoch_end g.z g.merger

@@ -1,6 +1,7 @@
 pub mod Rows
 pub mod Cases
 pub mod Frames
+pub mod Phases
 pub mod Clock
 pub mod Setting
 pub mod Growth

@@ -5,6 +5,7 @@ use mathlib.Core.Logic.{dite}
 use native.Mathlib.Decide.{ℕ_discrete}
 use Rattle.std.proofs.lemmas.Bool.{cases_lt}
 use Rattle.std.proofs.lemmas.List.Sums.{sum_by-cons}
+use Rattle.std.proofs.lemmas.List.{get_or_past}
 use Rattle.clsm_model.specs.declared.batch.Batch.{Batch}
 use Rattle.clsm_model.specs.declared.slot.Slot.{Slot}
 use Rattle.clsm_model.specs.declared.slot.Slot.TheVariants.{Nothing, Wrote}
@@ -22,16 +23,15 @@ use Rattle.clsm_law.specs.declared.merger.Phase.{Phase}
 use Rattle.clsm_law.specs.declared.merger.Phase.TheVariants.{Clean, Frozen, Retired}
 use Rattle.clsm_law.specs.Memory.{Memory, cell_of, put}
 use Rattle.clsm_law.specs.Layout.{IsLayout}
-use Rattle.clsm_law.specs.Views.{is_exclusive, or_zero, own_time}
+use Rattle.clsm_law.specs.Views.{is_exclusive, or_zero, own_time, idle}
 use Rattle.clsm_law.specs.OpenSteps.{IsOpen}
 use Rattle.clsm_law.specs.Relation.{Chains, Orders, word_of, changed, view_after, slots_after, batches_after, chains_after, orders_after}
-use Rattle.clsm_law.specs.Merging.{is_clean, Facts, IsOpenToMerger, word_of_merger, changed_by_merger, merger_after, slots_after_merger}
+use Rattle.clsm_law.specs.Merging.{is_clean, Facts, IsOpenToMerger, word_of_merger, changed_by_merger, merger_after, slots_after_merger, epoch_end}
 use Rattle.clsm_law.specs.Merging.{chains_after_merger, orders_after_merger, is_retired, is_frozen, is_all_quiet, reader_at}
 use Rattle.clsm_law.specs.Worlds.{view_at, outcome_at, past_of, open_past, facts_of}
 use Rattle.clsm_law.specs.Law.{LawOf, Shows, each, mode_of, taken_by, drawn_of, held_of, pin_of, past_time_of, IsRetiredFor, first_shown, first_live}
 use Rattle.clsm_law.specs.Law.{is_held_back}
-use Rattle.clsm_law.proofs.Frames.{put_same, past_end}
-use Rattle.clsm_law.proofs.Cases.{by_bool}
+use Rattle.clsm_law.proofs.Frames.{at_each, put_same, puts_each, past_end}
 use Rattle.clsm_law.proofs.Clock.Times.{Live}
 
 -- a lawful world and one of its seats
@@ -97,6 +97,12 @@ own s = own_time (v s)
 -- the step may be made: no batch is in its way either
 abbrev pub Allows : Setting → Step → Type 0
 Allows s step = IsOpen s.z (open_past s.slots s.batches (v s).past) (v s) (plainly step)
+
+-- a fact of each seat after the step, from the one of this seat and those of the others before
+pub by_seat : (s : Setting) (y : View) (P : ℕ → View → Type 0) → P s.me y → ((i : ℕ) → i ≢ s.me → P i (view_at s.z s.views i)) → (i : ℕ)
+    → P i (view_at s.z (set s.views s.me y) i)
+by_seat s y P here other = let p = puts_each s.z (λ (u : View). u) s.views s.me y s.inside in
+    at_each (λ i. P i (view_at s.z (set s.views s.me y) i)) s.me (subst (P s.me) (sym p.here) here) (λ i ne. subst (P i) (sym (p.other i ne)) (other i ne))
 
 pub looked_same : (s : Setting) (c : Word) → M s (Look c) ≡ s.memory
 looked_same s c = put_same s.memory c
@@ -177,54 +183,64 @@ not_all_quiet (r ∷ rs) (suc i) lt e = ap (λ b. r.quiet && b) (not_all_quiet r
     and_false true = refl
     and_false false = refl
 
--- where the phase is one of three, and the limit is extended only in the first
-module _ (n merged : ℕ) (extended quiet : Bool) where
-  abbrev shown : Phase → ℕ
-  shown p = cond (is_retired p && not quiet) ((merged - 1) * n) (merged * n)
+-- the first shown time by the phase and by whether all are quiet, and the first live time by the
+-- phase
+module _ (n merged : ℕ) where
+  abbrev pub shown : Phase → Bool → ℕ
+  shown p quiet = cond (is_retired p && not quiet) ((merged - 1) * n) (merged * n)
 
-  abbrev live : Phase → ℕ
+  abbrev pub live : Phase → ℕ
   live p = cond (is_retired p) ((merged - 1) * n) (merged * n)
 
-  abbrev free : Phase → ℕ
-  free p = cond (is_frozen p || extended) ((merged + 2) * n) ((merged + 1) * n)
-
-  below : (merged - 1) * n ≤ merged * n
+  pub below : (merged - 1) * n ≤ merged * n
   below = grind arith
 
-  live_shown : (p : Phase) → live p ≤ shown p
-  live_shown Clean = omega arith
-  live_shown Frozen = omega arith
-  live_shown Retired = elim quiet as (λ q. (merged - 1) * n ≤ cond (not q) ((merged - 1) * n) (merged * n)) [ true ↦ below | false ↦ omega arith ]
+  live_shown : (p : Phase) (quiet : Bool) → live p ≤ shown p quiet
+  live_shown Clean quiet = omega arith
+  live_shown Frozen quiet = omega arith
+  live_shown Retired true = below
+  live_shown Retired false = omega arith
 
-  shown_merged : (p : Phase) → shown p ≤ merged * n
-  shown_merged Clean = omega arith
-  shown_merged Frozen = omega arith
-  shown_merged Retired = elim quiet as (λ q. cond (not q) ((merged - 1) * n) (merged * n) ≤ merged * n) [ true ↦ omega arith | false ↦ below ]
+  pub shown_most : (p : Phase) (quiet : Bool) → shown p quiet ≤ merged * n
+  shown_most Clean quiet = omega arith
+  shown_most Frozen quiet = omega arith
+  shown_most Retired true = omega arith
+  shown_most Retired false = below
 
   turn : 1 ≤ merged → (merged + 1) * n ≤ (merged - 1) * n + 2 * n
   turn some = let e : merged - 1 + 1 ≡ merged = omega arith in subst (λ (k : ℕ). (k + 1) * n ≤ (merged - 1) * n + 2 * n) e (omega arith)
 
-  free_live : (p : Phase) → (is_retired p ≡ true → 1 ≤ merged) → (extended ≡ true → is_clean p ≡ true) → free p ≤ live p + 2 * n
-  free_live Clean some clean = elim extended as (λ e. cond e ((merged + 2) * n) ((merged + 1) * n) ≤ merged * n + 2 * n) [
-    | true ↦ omega arith
-    | false ↦ omega arith
-  ]
-  free_live Frozen some clean = omega arith
-  free_live Retired some clean = by_bool (λ e. cond e ((merged + 2) * n) ((merged + 1) * n) ≤ (merged - 1) * n + 2 * n) extended
-      (λ e. absurd (let f = clean e in cc)) (λ _. turn (some refl))
+  -- the first time that is not free, where the limit is extended only while nothing is frozen
+  abbrev free : Bool → Phase → ℕ
+  free extended p = cond (is_frozen p || extended) ((merged + 2) * n) ((merged + 1) * n)
+
+  free_live : (extended : Bool) (p : Phase) → (is_retired p ≡ true → 1 ≤ merged) → (extended ≡ true → is_clean p ≡ true) → free extended p ≤ live p + 2 * n
+  free_live true Clean some clean = omega arith
+  free_live false Clean some clean = omega arith
+  free_live extended Frozen some clean = omega arith
+  free_live true Retired some clean = absurd (let f = clean refl in cc)
+  free_live false Retired some clean = turn (some refl)
+
+-- the time came to a write
+pub record Written (g : Ground) (t : ℕ) : Type 0 where
+  pub drawn : t < length g.slots
+  pub seat : ℕ
+  pub key : ℕ
+  pub value : Option (List ℕ)
+  pub slot : outcome_at g.slots t ≡ Some (Wrote seat key value)
 
 module _ (g : Ground) where
   -- what is shown is live
   pub live_below_shown : first_live g.z g.merger ≤ first_shown g.z g.merger
-  live_below_shown = live_shown g.z.cells g.merger.merged g.merger.limit_extended (is_all_quiet g.merger.readers) g.merger.phase
+  live_below_shown = live_shown g.z.cells g.merger.merged g.merger.phase (is_all_quiet g.merger.readers)
 
   pub shown_below_merged : first_shown g.z g.merger ≤ g.merger.merged * g.z.cells
-  shown_below_merged = shown_merged g.z.cells g.merger.merged g.merger.limit_extended (is_all_quiet g.merger.readers) g.merger.phase
+  shown_below_merged = shown_most g.z.cells g.merger.merged g.merger.phase (is_all_quiet g.merger.readers)
 
   -- the limit, and so the clock, is within the live times
   pub limit_live : g.memory Limit ≤ first_live g.z g.merger + 2 * g.z.cells
   limit_live = subst (λ (n : ℕ). n ≤ first_live g.z g.merger + 2 * g.z.cells) (sym g.law.limit)
-      (free_live g.z.cells g.merger.merged g.merger.limit_extended (is_all_quiet g.merger.readers) g.merger.phase g.law.merger.some_merged
+      (free_live g.z.cells g.merger.merged g.merger.limit_extended g.merger.phase g.law.merger.some_merged
       (λ e. g.law.merger.clean (g.law.merger.extends (g.law.merger.limit_after e))))
 
   pub clock_live : length g.slots ≤ first_live g.z g.merger + 2 * g.z.cells
@@ -261,6 +277,20 @@ module _ (g : Ground) where
 
   pub decided : (t : ℕ) → first_shown g.z g.merger ≤ t → t < length g.slots → g.memory (State (cell_of g.z t)) ≢ 0 → outcome_at g.slots t ≢ None
   decided t from until ne = decided_if (cell_of g.z t) (outcome_at g.slots t) (g.law.shown t from until) ne
+
+  -- and where it is that of a write, the time came to one
+  pub written : (t : ℕ) → first_shown g.z g.merger ≤ t → t < first_live g.z g.merger + 2 * g.z.cells → 2 ≤ g.memory (State (cell_of g.z t)) → Written g t
+  written t from until state = elim (cases_lt t (length g.slots)) [
+    | inl drawn ↦ slot drawn (outcome_at g.slots t) refl (g.law.shown t from drawn)
+    | inr undrawn ↦ absurd (⊎_elim (λ (zero : g.memory (State (cell_of g.z t)) ≡ 0). omega arith)
+        (λ (one : (g.merger.padded ≡ true) × (t < epoch_end g.z g.merger) × (g.memory (State (cell_of g.z t)) ≡ 1)). let is = one.2 in omega arith)
+        (g.law.empty t undrawn until))
+  ]
+    where
+      slot : t < length g.slots → (o : Option Slot) → outcome_at g.slots t ≡ o → Shows g.memory (cell_of g.z t) o → Written g t
+      slot drawn None e h = absurd (omega arith)
+      slot drawn (Some Nothing) e h = absurd (omega arith)
+      slot drawn (Some (Wrote i key value)) e h = record { drawn = drawn; seat = i; key = key; value = value; slot = e }
 
   -- only drawn times are known
   pub past_below : (i : ℕ) → each g.z past_time_of g.views i ≤ length g.slots
@@ -299,6 +329,13 @@ module _ (g : Ground) where
   -- and while the merger holds it
   pub clock_merger : g.merger.exclusive ≡ true → g.memory Clock ≡ length g.slots
   clock_merger held = clock_even (λ j e. absurd (let free = g.law.locked_out held j in cc))
+
+  -- only a seat holds a component
+  pub holder_below : (i c : ℕ) → each g.z held_of g.views i ≡ Some c → i < length g.views
+  holder_below i c e = elim (cases_lt i (length g.views)) [
+    | inl lt ↦ lt
+    | inr le ↦ absurd (let none : each g.z held_of g.views i ≡ None = ap held_of (get_or_past g.views i (idle g.z) le) in cc (none, e))
+  ]
 
   -- who holds a component holds one whose cells are shown
   pub held_shown : (i c : ℕ) → i < length g.views → each g.z held_of g.views i ≡ Some c → first_shown g.z g.merger ≤ c * g.z.cells

@@ -1,5 +1,5 @@
 -- The window of the live and of the shown times never falls back under a step of the merger.
-use Rattle.std.proofs.Common.{◌≡◌, ℕ, zero, suc, ◌+◌, ◌-◌, ◌*◌, ◌≤◌, ◌&&◌, not, Bool, true, false, cond, List, [], ◌∷◌, set, replicate, sym, refl, ap}
+use Rattle.std.proofs.Common.{◌≡◌, ℕ, zero, suc, ◌+◌, ◌-◌, ◌*◌, ◌≤◌, Bool, true, false, cond, List, [], ◌∷◌, set, replicate, sym, refl, ap}
 use Rattle.std.proofs.Common.{subst, arith}
 use Rattle.std.proofs.lemmas.Bool.{and_parts}
 use Rattle.clsm_law.specs.declared.word.Word.TheVariants.{Pin}
@@ -10,7 +10,7 @@ use Rattle.clsm_law.specs.declared.merger.Phase.TheVariants.{Clean, Frozen, Reti
 use Rattle.clsm_law.specs.declared.merger.Reader.{Reader}
 use Rattle.clsm_law.specs.Merging.{unseen, is_retired, is_all_quiet, reader_at, reader_by}
 use Rattle.clsm_law.specs.Law.{first_shown, first_live}
-use Rattle.clsm_law.proofs.Setting.{Ground, facts, merger', found, OpensTo}
+use Rattle.clsm_law.proofs.Setting.{Ground, facts, merger', found, OpensTo, shown, live, below, shown_most}
 
 -- a look at a pin word takes no seat's quiet back
 quiet_stays : (r : Reader) (x : ℕ) → r.quiet ≡ true → (reader_by r x).quiet ≡ true
@@ -26,64 +26,38 @@ pub none_quiet : (seats : ℕ) → 1 ≤ seats → is_all_quiet (replicate seats
 none_quiet zero some = absurd (omega arith)
 none_quiet (suc n) some = refl
 
--- the first shown time by the phase and by whether all are quiet, and the first live time by the
--- phase
 module _ (n merged : ℕ) where
-  abbrev shown : Phase → Bool → ℕ
-  shown p quiet = cond (is_retired p && not quiet) ((merged - 1) * n) (merged * n)
-
-  abbrev live : Phase → ℕ
-  live p = cond (is_retired p) ((merged - 1) * n) (merged * n)
-
-  below : (merged - 1) * n ≤ merged * n
-  below = grind arith
-
-  shown_quiet : (p : Phase) → shown p true ≡ merged * n
+  shown_quiet : (p : Phase) → shown n merged p true ≡ merged * n
   shown_quiet Clean = refl
   shown_quiet Frozen = refl
   shown_quiet Retired = refl
 
-  shown_most : (p : Phase) (quiet : Bool) → shown p quiet ≤ merged * n
-  shown_most Clean quiet = omega arith
-  shown_most Frozen quiet = omega arith
-  shown_most Retired true = omega arith
-  shown_most Retired false = below
-
-  live_most : (p : Phase) → live p ≤ merged * n
+  live_most : (p : Phase) → live n merged p ≤ merged * n
   live_most Clean = omega arith
   live_most Frozen = omega arith
-  live_most Retired = below
+  live_most Retired = below n merged
 
   -- where more are quiet, no less is passed
-  quieter : (p : Phase) (a b : Bool) → (a ≡ true → b ≡ true) → shown p a ≤ shown p b
-  quieter p a true more = subst (λ (k : ℕ). shown p a ≤ k) (sym (shown_quiet p)) (shown_most p a)
+  quieter : (p : Phase) (a b : Bool) → (a ≡ true → b ≡ true) → shown n merged p a ≤ shown n merged p b
+  quieter p a true more = subst (λ (k : ℕ). shown n merged p a ≤ k) (sym (shown_quiet p)) (shown_most n merged p a)
   quieter p true false more = absurd (let e = more refl in cc)
   quieter p false false more = omega arith
 
-  -- a freeze begins where nothing is retired
-  frozen_shown : (b : Bool) (p : Phase) (quiet : Bool) → shown p quiet ≤ shown (cond b Frozen p) quiet
-  frozen_shown true p quiet = shown_most p quiet
-  frozen_shown false p quiet = omega arith
+  -- a freeze begins, and a cleaning ends, with nothing retired
+  enters_shown : (q : Phase) → is_retired q ≡ false → (b : Bool) (p : Phase) (quiet : Bool) → shown n merged p quiet ≤ shown n merged (cond b q p) quiet
+  enters_shown q none true p quiet = rw none (shown_most n merged p quiet)
+  enters_shown q none false p quiet = omega arith
 
-  frozen_live : (b : Bool) (p : Phase) → live p ≤ live (cond b Frozen p)
-  frozen_live true p = live_most p
-  frozen_live false p = omega arith
-
-  -- the end of a cleaning
-  cleaned_shown : (b : Bool) (p : Phase) (quiet : Bool) → shown p quiet ≤ shown (cond b Clean p) quiet
-  cleaned_shown true p quiet = shown_most p quiet
-  cleaned_shown false p quiet = omega arith
-
-  cleaned_live : (b : Bool) (p : Phase) → live p ≤ live (cond b Clean p)
-  cleaned_live true p = live_most p
-  cleaned_live false p = omega arith
+  enters_live : (q : Phase) → is_retired q ≡ false → (b : Bool) (p : Phase) → live n merged p ≤ live n merged (cond b q p)
+  enters_live q none true p = rw none (live_most p)
+  enters_live q none false p = omega arith
 
 -- one merge more: the first time of the component that is now retired
 one_back : (merged n : ℕ) → (merged + 1 - 1) * n ≡ merged * n
 one_back merged n = let e : merged + 1 - 1 ≡ merged = omega arith in ap (λ (k : ℕ). k * n) e
 
 pub shown_rises : (g : Ground) (step : Step) → OpensTo g step → first_shown g.z g.merger ≤ first_shown g.z (merger' g step)
-shown_rises g LeaveExclusive o = frozen_shown g.z.cells g.merger.merged g.merger.limit_extended g.merger.phase (is_all_quiet g.merger.readers)
+shown_rises g LeaveExclusive o = enters_shown g.z.cells g.merger.merged Frozen refl g.merger.limit_extended g.merger.phase (is_all_quiet g.merger.readers)
 shown_rises g (Look (Pin i)) o =
     elim (is_retired g.merger.phase) as (λ b. first_shown g.z g.merger ≤ first_shown g.z
     (record g.merger { readers = cond b (set g.merger.readers i (reader_by (reader_at g.merger.readers i) (found g (Look (Pin i))))) g.merger.readers })) [
@@ -91,15 +65,15 @@ shown_rises g (Look (Pin i)) o =
       | false ↦ omega arith
     ]
 shown_rises g (Look word) o = omega arith
-shown_rises g (ClearState cell) o = cleaned_shown g.z.cells g.merger.merged ((facts g).last cell) g.merger.phase (is_all_quiet g.merger.readers)
+shown_rises g (ClearState cell) o = enters_shown g.z.cells g.merger.merged Clean refl ((facts g).last cell) g.merger.phase (is_all_quiet g.merger.readers)
 shown_rises g Publish o = rw (none_quiet g.z.seats g.sound.1.0, one_back g.merger.merged g.z.cells)
     (shown_most g.z.cells g.merger.merged g.merger.phase (is_all_quiet g.merger.readers))
 shown_rises g step o = omega arith
 
 pub live_rises : (g : Ground) (step : Step) → OpensTo g step → first_live g.z g.merger ≤ first_live g.z (merger' g step)
-live_rises g LeaveExclusive o = frozen_live g.z.cells g.merger.merged g.merger.limit_extended g.merger.phase
+live_rises g LeaveExclusive o = enters_live g.z.cells g.merger.merged Frozen refl g.merger.limit_extended g.merger.phase
 live_rises g (Look (Pin i)) o = omega arith
 live_rises g (Look word) o = omega arith
-live_rises g (ClearState cell) o = cleaned_live g.z.cells g.merger.merged ((facts g).last cell) g.merger.phase
+live_rises g (ClearState cell) o = enters_live g.z.cells g.merger.merged Clean refl ((facts g).last cell) g.merger.phase
 live_rises g Publish o = rw (one_back g.merger.merged g.z.cells) (live_most g.z.cells g.merger.merged g.merger.phase)
 live_rises g step o = omega arith

@@ -27,6 +27,7 @@ use Rattle.clsm_law.specs.declared.step.Answer.TheVariants as answers
 use Rattle.clsm_law.specs.declared.view.View.{View}
 use Rattle.clsm_law.specs.declared.view.Waiting.{Waiting}
 use Rattle.clsm_law.specs.declared.view.Mode.TheVariants.{Free, Shared, Exclusive}
+use Rattle.clsm_law.specs.declared.view.Mode.{Mode}
 use Rattle.clsm_law.specs.declared.view.SnapshotState.{SnapshotState}
 use Rattle.clsm_law.specs.declared.view.SnapshotState.TheVariants.{Absent, Noted, Timed, Open}
 use Rattle.clsm_law.specs.Codes.{exclusive_hold, undecided_cell, cancelled_cell, value_cell, removal_cell}
@@ -315,45 +316,29 @@ filled v Length w = record v { length = Some w }
 filled v (Value j) w = record v { words = slice_set v.words j (Some w) }
 filled v Next w = record v { next = Some w }
 
--- the time is drawn: no part of its cell is filled, the cell is neither linked nor inserted, and no
--- place is before or behind it; no look at the clock or at a link is fresh
-abbrev pub taken : View → ℕ → View
-taken v t = record v {
-  drawn = Some t;
-  key = None;
-  length = None;
-  words = blank 8;
-  next = None;
-  linked = false;
-  order_next = None;
-  inserted = false;
-  fresh_link = None;
-  low = 0;
-  high = 0;
-  fresh_clock = None;
-}
-
--- The view of the seat i after a step that found x. An exchange is won where it finds the word that
--- it names, and else lost.
-abbrev pub view_after : Layout → ℕ → View → Step → ℕ → View
--- The look is no longer fresh. Won: the lock is held shared, and no earlier look is fresh or of
--- this hold. Both are counted.
-view_after z i v (EnterShared l) x = let won = x == l in record v {
-  mode = cond won Shared v.mode;
+-- The view after an exchange that enters the lock in this mode. The look at the lock is no longer
+-- fresh. Won: the lock is held, no earlier look is fresh or of this hold, and it is counted.
+abbrev pub after_entry : Layout → Mode → Bool → View → View
+after_entry z mode won v = record v {
+  mode = cond won mode v.mode;
   fresh_lock = None;
   fresh_clock = cond won None v.fresh_clock;
   fresh_heads = cond won (blank (2 * z.chains)) v.fresh_heads;
   hold_limit = cond won None v.hold_limit;
   hold_clock = cond won None v.hold_clock;
   entries = one_more_if won v.entries;
-  busy = one_more_if (not won) v.busy;
 }
+
 -- the lock is given back, no look is fresh, and no place of the list is known; the looks of the hold
 -- are known still
-view_after z i v LeaveShared x = record v { mode = Free; fresh_lock = None; fresh_clock = None; fresh_heads = blank (2 * z.chains); met = 0; low = 0; high = 0 }
--- The look is no longer fresh. Won: t is drawn, no part is filled, the cell is neither linked nor
--- inserted, no place is before or behind it, and no look at a link is fresh; lost: it is counted.
-view_after z i v (Draw t) x = let won = x == t in record v {
+abbrev pub after_leave : Layout → View → View
+after_leave z v = record v { mode = Free; fresh_lock = None; fresh_clock = None; fresh_heads = blank (2 * z.chains); met = 0; low = 0; high = 0 }
+
+-- The view after an exchange that draws t. Won: t is drawn, no part of its cell is filled, the cell
+-- is neither linked nor inserted, no place is before or behind it, and no look at the clock or at a
+-- link is fresh; lost: the look at the clock is no longer fresh, and it is counted.
+abbrev pub after_draw : Bool → View → ℕ → View
+after_draw won v t = record v {
   drawn = cond won (Some t) v.drawn;
   key = cond won None v.key;
   length = cond won None v.length;
@@ -368,6 +353,20 @@ view_after z i v (Draw t) x = let won = x == t in record v {
   fresh_clock = None;
   raced = one_more_if (not won) v.raced;
 }
+
+-- the time is drawn
+abbrev pub taken : View → ℕ → View
+taken v t = after_draw true v t
+
+-- The view of the seat i after a step that found x. An exchange is won where it finds the word that
+-- it names, and else lost.
+abbrev pub view_after : Layout → ℕ → View → Step → ℕ → View
+-- the lock is held shared where it is won; a lost one is counted
+view_after z i v (EnterShared l) x = let won = x == l in record (after_entry z Shared won v) { busy = one_more_if (not won) v.busy }
+-- the lock is given back
+view_after z i v LeaveShared x = after_leave z v
+-- t is drawn where it is won
+view_after z i v (Draw t) x = after_draw (x == t) v t
 -- the part is filled
 view_after z i v (Fill part w) x = filled v part w
 -- The look is no longer fresh. Won: the cell is linked; lost: it is counted.
@@ -398,28 +397,10 @@ view_after z i v (Decide t deed) x = let won = x == 0 in let alone = is_exclusiv
 }
 -- t is found decided, and an own drawn time is given up; what was cancelled is counted
 view_after z i v (Cancel t) x = record (counted_cancel z v t x) { drawn = given_up v.drawn t; reached = reached_after z v t }
--- Won: the lock is held exclusively, no look before is fresh or of this hold, and nothing is
--- committed in it. It is counted.
-view_after z i v EnterExclusive x = let won = x == 0 in record v {
-  mode = cond won Exclusive v.mode;
-  fresh_lock = None;
-  fresh_clock = cond won None v.fresh_clock;
-  fresh_heads = cond won (blank (2 * z.chains)) v.fresh_heads;
-  hold_limit = cond won None v.hold_limit;
-  hold_clock = cond won None v.hold_clock;
-  committed = cond won false v.committed;
-  entries = one_more_if won v.entries;
-}
+-- the lock is held exclusively where it is won, and nothing is committed in this hold
+view_after z i v EnterExclusive x = let won = x == 0 in record (after_entry z Exclusive won v) { committed = cond won false v.committed }
 -- the lock is given back, as after a shared hold
-view_after z i v LeaveExclusive x = record v {
-  mode = Free;
-  fresh_lock = None;
-  fresh_clock = None;
-  fresh_heads = blank (2 * z.chains);
-  met = 0;
-  low = 0;
-  high = 0;
-}
+view_after z i v LeaveExclusive x = after_leave z v
 -- the member's time is taken as a draw takes one, and then its key is filled
 view_after z i v (Stage t key) x = filled (taken v t) Key key
 -- the batch is recorded at its first time, and the due is behind it

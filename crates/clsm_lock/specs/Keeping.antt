@@ -1,11 +1,12 @@
 -- What the calls on the lock leave of a seat as it was, and what they change.
-use Rattle.std.specs.Prelude.{◌≡◌, ◌*◌, true, false, length, None}
+use Rattle.std.specs.Prelude.{◌≡◌, true, false, length}
 use mathlib.Core.List.{IsPrefix}
 use Rattle.clsm_law.specs.declared.word.Word.{Word}
 use Rattle.clsm_law.specs.declared.word.Word.TheVariants.{Lock, Clock}
-use Rattle.clsm_law.specs.declared.view.Mode.TheVariants.{Free, Shared, Exclusive}
+use Rattle.clsm_law.specs.declared.view.Mode.TheVariants.{Shared, Exclusive}
 use Rattle.clsm_law.specs.Codes.{exclusive_hold}
-use Rattle.clsm_law.specs.Views.{blank, next_word}
+use Rattle.clsm_law.specs.Views.{next_word}
+use Rattle.clsm_law.specs.Relation.{after_entry, after_leave}
 use Rattle.clsm_words.specs.declared.known.Known.{Known}
 use Rattle.clsm_words.specs.Knowing.{row_of}
 use Rattle.clsm_words.specs.Keeping.{KeepsPlace}
@@ -15,16 +16,7 @@ use Rattle.clsm_words.specs.Merging.{IsOwn}
 -- was refused before is open
 pub record Enters (old new : Known) : Type 0 where
   pub place : KeepsPlace old new
-  pub view : new.view ≡ record old.view {
-    mode = Shared;
-    fresh_lock = None;
-    fresh_clock = None;
-    fresh_heads = blank (2 * old.layout.chains);
-    hold_limit = None;
-    hold_clock = None;
-    entries = next_word old.view.entries;
-    busy = new.view.busy;
-  }
+  pub view : new.view ≡ record (after_entry old.layout Shared true old.view) { busy = new.view.busy }
 
 -- it tried the lock, so many times, and did not enter
 pub record StaysOut (old new : Known) : Type 0 where
@@ -35,15 +27,7 @@ pub record StaysOut (old new : Known) : Type 0 where
 -- of the ordered list
 pub record Leaves (old new : Known) : Type 0 where
   pub place : KeepsPlace old new
-  pub view : new.view ≡ record old.view {
-    mode = Free;
-    fresh_lock = None;
-    fresh_clock = None;
-    fresh_heads = blank (2 * old.layout.chains);
-    met = 0;
-    low = 0;
-    high = 0;
-  }
+  pub view : new.view ≡ after_leave old.layout old.view
 
 -- ---- a caller's hold alone
 
@@ -51,16 +35,7 @@ pub record Leaves (old new : Known) : Type 0 where
 -- nothing; what it tried before that is not counted
 pub record EntersExclusively (old new : Known) : Type 0 where
   pub place : KeepsPlace old new
-  pub view : new.view ≡ record old.view {
-    mode = Exclusive;
-    fresh_lock = None;
-    fresh_clock = None;
-    fresh_heads = blank (2 * old.layout.chains);
-    hold_limit = None;
-    hold_clock = None;
-    committed = false;
-    entries = next_word old.view.entries;
-  }
+  pub view : new.view ≡ record (after_entry old.layout Exclusive true old.view) { committed = false }
 
 -- it tried the lock, and somebody held it
 pub record WaitsOutside (old new : Known) : Type 0 where

@@ -1,36 +1,32 @@
 -- How the table opens, a seat is dealt, and one tells another.
-use Rattle.std.proofs.Common.{◌≡◌, ◌≢◌, ℕ, zero, suc, ◌+◌, ◌%◌, ◌<◌, ◌≤◌, ◌⊎◌, true, false, List, [], ◌∷◌, ◌++◌, length, take, get_or, set, replicate, refl}
-use Rattle.std.proofs.Common.{ap, ◌∙◌, sym, subst, inl, inr, ⊎_elim, arith, Option, Some, None}
+use Rattle.std.proofs.Common.{◌≡◌, ◌≢◌, ℕ, zero, suc, ◌+◌, ◌<◌, ◌≤◌, ◌⊎◌, true, false, List, [], ◌∷◌, ◌++◌, length, set, replicate, refl}
+use Rattle.std.proofs.Common.{ap, ◌∙◌, sym, subst, inl, inr, ⊎_elim, arith, Option}
 use mathlib.Core.Option.{some, some-injective, some-ne-none}
 use lib.ListN.{get_elem?}
 use Rattle.atomic_table.specs.Table.{State, Splits, Joins, opening}
 use Rattle.atomic_table.proofs.Lists.{at_set, set_again}
 use Rattle.clsm_model.specs.declared.batch.Batch.{Batch}
 use Rattle.clsm_model.specs.declared.slot.Slot.{Slot}
-use Rattle.clsm_model.specs.declared.slot.Slot.TheVariants.{Nothing}
-use Rattle.clsm_model.specs.History.{batches_below, plain}
+use Rattle.clsm_model.specs.History.{plain}
 use Rattle.clsm_model.proofs.Batches.{below_zero}
 use Rattle.clsm_law.specs.declared.layout.Layout.{Layout}
 use Rattle.clsm_law.specs.declared.word.Word.TheVariants.{Clock, Cell, State as StateOf}
 use Rattle.clsm_law.specs.declared.word.Word.{Word}
 use Rattle.clsm_law.specs.declared.view.View.{View}
 use Rattle.clsm_law.specs.declared.merger.MergerView.{MergerView}
-use Rattle.clsm_law.specs.Layout.{size_of, memory}
-use Rattle.clsm_law.specs.Memory.{cell_of, region_of}
+use Rattle.clsm_law.specs.Layout.{memory}
 use Rattle.clsm_law.specs.Views.{idle, own_region}
-use Rattle.clsm_law.specs.OpenSteps.{HoldsFrom}
 use Rattle.clsm_law.specs.Relation.{Chains, Orders}
 use Rattle.clsm_law.specs.Merging.{opening as opening_merger}
-use Rattle.clsm_law.specs.Worlds.{view_at, settled}
+use Rattle.clsm_law.specs.Worlds.{view_at}
 use Rattle.clsm_law.specs.Machine.{IsLawful, opened}
 use Rattle.clsm_law.proofs.Rows.Memory.{is_layout}
 use Rattle.clsm_law.proofs.Opening.{opened_lawful, idle_at}
 use Rattle.clsm_words.specs.declared.known.Known.{Known}
-use Rattle.clsm_words.specs.declared.known.Spot.{Spot}
-use Rattle.clsm_words.specs.Knowing.{unplayed, new_merger, deals, known_of, told_of, messenger, learns, Extends, HasRows, HasSpot, IsHeldEpoch, IsKnownIn}
-use Rattle.clsm_words.specs.Knowing.{IsKnownWord, IsNamedWord, LeadsOn, Sound}
-use Rattle.clsm_words.specs.Merging.{IsOwn, known_end, IsSoundMerger}
-use Rattle.clsm_words.specs.Ruled.{world_of, HasFloor, IsEndOf, IsSpot, IsSeated, Begins, IsTold, IsMerging, IsDealing, AreSeats, Ruled}
+use Rattle.clsm_words.specs.Knowing.{unplayed, new_merger, deals, known_of, told_of, messenger, learns}
+use Rattle.clsm_words.specs.Knowing.{IsKnownWord, Sound}
+use Rattle.clsm_words.specs.Merging.{IsSoundMerger}
+use Rattle.clsm_words.specs.Ruled.{world_of, IsSeated, IsTold, IsMerging, IsDealing, AreSeats, Ruled}
 use Rattle.clsm_words.proofs.Trails.{end_none}
 use Rattle.clsm_words.proofs.Rows.{idle_rows}
 use Rattle.clsm_words.proofs.Knows.{own_batches, own_past, past_clock, past_long, sound_of}
@@ -179,91 +175,51 @@ learns_sound_merger k m s = record {
 
 -- ---- dealing
 
+-- the old view o with what j dealt and was told
+abbrev recounted : Known → Known → Known
+recounted o j = record o { dealt = j.dealt; told = j.told; told_batches = j.told_batches; heard = j.heard }
+
 -- an old view may have other numbers of what it dealt and was told
 pub record Like (o j : Known) : Type 0 where
   pub seated : o.seated ≡ j.seated
   pub merges : o.merges ≡ j.merges
   pub number : o.number ≡ j.number
-  pub layout : o.layout ≡ j.layout
-  pub view : o.view ≡ j.view
-  pub merger : o.merger ≡ j.merger
-  pub row : o.row ≡ j.row
-  pub past : o.past ≡ j.past
-  pub batches : o.batches ≡ j.batches
-  pub trail : o.trail ≡ j.trail
-  pub region : o.region ≡ j.region
-  pub chain : o.chain ≡ j.chain
-  pub spots : o.spots ≡ j.spots
-  pub order : o.order ≡ j.order
-  pub floor : o.floor ≡ j.floor
+  pub rest : recounted o j ≡ j
 
 alike : (k : Known) → Like k k
-alike k = record {
-  seated = refl;
-  merges = refl;
-  number = refl;
-  layout = refl;
-  view = refl;
-  merger = refl;
-  row = refl;
-  past = refl;
-  batches = refl;
-  trail = refl;
-  region = refl;
-  chain = refl;
-  spots = refl;
-  order = refl;
-  floor = refl;
-}
-
-known_like : (o j : Known) → Like o j → (cell t : ℕ) → IsKnownIn j cell t → IsKnownIn o cell t
-known_like o j l cell t known = subst (λ (y : Layout × View × List Slot). (t < length y.2) × (cell_of y.0 t ≡ cell) × HoldsFrom y.0 y.1.held t)
-    (λ i. (sym l.layout i, sym l.view i, sym l.past i)) known
-
-word_like : (o j : Known) → Like o j → (word : Word) → IsKnownWord j word → IsKnownWord o word
-word_like o j l (StateOf cell) known = (known.0, known_like o j l cell known.0 known.1)
-word_like o j l (Cell cell part) known = (
-  known.0,
-  known_like o j l cell known.0 known.1,
-  subst (λ (past : List Slot). get_or past known.0 Nothing ≢ Nothing) (sym l.past) known.2,
-)
-word_like o j l word known = absurd known
+alike k = record { seated = refl; merges = refl; number = refl; rest = refl }
 
 like_seated : (z : Layout) (words : List ℕ) (m : MergerView) (slots : List (Option Slot)) (batches : List Batch) (chains : Chains) (orders : Orders)
     (views : List View) (o j : Known) → Like o j → IsSeated z words m slots batches chains orders views o
     → IsSeated z words m slots batches chains orders views j
-like_seated z words m slots batches chains orders views o j l h = record {
-  layout = sym l.layout ∙ h.layout;
-  inside = let e = l.number in let i = h.inside in omega arith;
-  view = (λ i. view_at z views (sym l.number i)) ∙ h.view ∙ l.view;
-  rows = subst (HasRows z) l.view h.rows;
-  past = sym l.past ∙ h.past ∙ (λ i. take (l.view i).past (settled slots));
-  listed = sym l.batches ∙ h.listed ∙ (λ i. batches_below (l.view i).past batches);
-  row = subst (λ (y : View × List ℕ). (c : ℕ) → y.0.held ≡ Some c → (word : Word) → IsNamedWord c word → memory z y.1 word ≡ memory z words word)
-      (λ i. (l.view i, l.row i)) h.row;
-  floor = subst (λ (y : View × ℕ). (c : ℕ) → y.0.held ≡ Some c → HasFloor m c y.1) (λ i. (l.view i, l.floor i)) h.floor;
-  cells = λ word known. (λ i. memory z (sym l.row i) word) ∙ h.cells word (word_like o j l word known);
-  ways = λ cell t known. subst (λ (row : List ℕ). LeadsOn z (memory z row) (memory z words) (region_of z cell)) l.row
-      (h.ways cell t (known_like o j l cell t known));
-  ends = subst (λ (y : List ℕ × ℕ × ℕ). IsEndOf y.0 (chains y.1 y.2)) (λ i. (l.trail i, l.region i, l.chain i)) h.ends;
-  line = subst (λ (y : List ℕ × View × ℕ × ℕ). y.0 ≢ [] → (e : ℕ) × IsHeldEpoch z y.1.held y.1.past e × (y.2 ≡ e % 2) × (y.3 < z.chains))
-      (λ i. (l.trail i, l.view i, l.region i, l.chain i)) h.line;
-  spots = subst (λ (y : View × List Spot). (p key : ℕ) → HasSpot y.1 p key → IsSpot z (memory z words) orders y.0.held y.0.past p key)
-      (λ i. (l.view i, l.spots i)) h.spots;
-  order = subst (λ (y : View × List ℕ). y.0.drawn ≢ None → Extends y.1 (orders (own_region z y.0))) (λ i. (l.view i, l.order i)) h.order;
+like_seated z words m slots batches chains orders views o j l h = subst (IsSeated z words m slots batches chains orders views) l.rest record {
+  layout = h.layout;
+  inside = h.inside;
+  view = h.view;
+  rows = h.rows;
+  past = h.past;
+  listed = h.listed;
+  row = h.row;
+  floor = h.floor;
+  cells = h.cells;
+  ways = h.ways;
+  ends = h.ends;
+  line = h.line;
+  spots = h.spots;
+  order = h.order;
 }
 
 like_merging : (z : Layout) (words : List ℕ) (m : MergerView) (slots : List (Option Slot)) (orders : Orders) (o j : Known) → Like o j
     → IsMerging z words m slots orders o → IsMerging z words m slots orders j
-like_merging z words m slots orders o j l h = record {
-  layout = sym l.layout ∙ h.layout;
-  unseated = sym l.seated ∙ h.unseated;
-  view = sym l.merger ∙ h.view;
-  past = subst (Begins slots) l.past h.past;
-  reaches = subst (λ (past : List Slot). known_end z m (length slots) ≤ length past) l.past h.reaches;
-  sized = subst (λ (row : List ℕ). length row ≡ size_of z) l.row h.sized;
-  row = subst (λ (row : List ℕ). (word : Word) → IsOwn z m word → memory z row word ≡ memory z words word) l.row h.row;
-  trail = λ frozen. sym l.trail ∙ h.trail frozen;
+like_merging z words m slots orders o j l h = subst (IsMerging z words m slots orders) l.rest record {
+  layout = h.layout;
+  unseated = h.unseated;
+  view = h.view;
+  past = h.past;
+  reaches = h.reaches;
+  sized = h.sized;
+  row = h.row;
+  trail = h.trail;
 }
 
 -- the merger's seat deals the callers' seats, one after another
@@ -281,23 +237,7 @@ module _ (id : ℕ) (k : Known) (merges : k.merges ≡ true) (room : k.dealt < k
       × (j.merges ≡ true → j.dealt ≡ k.dealt + 1)
 
   dealt_like : Like k (deals k)
-  dealt_like = record {
-    seated = refl;
-    merges = refl;
-    number = refl;
-    layout = refl;
-    view = refl;
-    merger = refl;
-    row = refl;
-    past = refl;
-    batches = refl;
-    trail = refl;
-    region = refl;
-    chain = refl;
-    spots = refl;
-    order = refl;
-    floor = refl;
-  }
+  dealt_like = record { seated = refl; merges = refl; number = refl; rest = refl }
 
   old : (i : ℕ) (j : Known) → get_elem? mid i ≡ some j → Old i j
   old i j e = ⊎_elim
@@ -380,10 +320,14 @@ deals_one id k merges room s r at = dealt_on id k merges room s r at
 abbrev IsMessenger : ℕ → List (Option Slot) → List Batch → Known → Type 0
 IsMessenger clock slots batches j = (j.seated ≡ false) × (j.merges ≡ false) × IsTold clock slots batches (told_of j) j.heard
 
+-- it was one of these views, told what it is told, and it dealt as many
+abbrev WasIn : ℕ → List (Option Slot) → List Batch → List Known → ℕ → Known → Type 0
+WasIn clock slots batches a i j = (o : Known) × (get_elem? a i ≡ some o) × Like o j × (o.dealt ≡ j.dealt) × IsTold clock slots batches (told_of j) j.heard
+
 module _ (z : Layout) (words : List ℕ) (m : MergerView) (slots : List (Option Slot)) (batches : List Batch) (chains : Chains) (orders : Orders)
     (views : List View) (a b : List Known) (q : AreSeats z words m slots batches chains orders views a) where
   abbrev Was : ℕ → Known → Type 0
-  Was i j = (o : Known) × (get_elem? a i ≡ some o) × Like o j × (o.dealt ≡ j.dealt) × IsTold (memory z words Clock) slots batches (told_of j) j.heard
+  Was = WasIn (memory z words Clock) slots batches a
 
   module _ (back : (i : ℕ) (j : Known) → get_elem? b i ≡ some j → IsMessenger (memory z words Clock) slots batches j ⊎ Was i j) where
     sat_was : (i : ℕ) (j : Known) → get_elem? b i ≡ some j → j.seated ≡ true → Was i j
@@ -447,23 +391,7 @@ module _ (z : Layout) (id other : ℕ) (k m : Known) (s : State ℕ Known) (r : 
   both = learns k m
 
   both_like : Like k both
-  both_like = record {
-    seated = refl;
-    merges = refl;
-    number = refl;
-    layout = refl;
-    view = refl;
-    merger = refl;
-    row = refl;
-    past = refl;
-    batches = refl;
-    trail = refl;
-    region = refl;
-    chain = refl;
-    spots = refl;
-    order = refl;
-    floor = refl;
-  }
+  both_like = record { seated = refl; merges = refl; number = refl; rest = refl }
 
   abbrev spent : Known
   spent = messenger (plain []) 0
@@ -481,8 +409,7 @@ module _ (z : Layout) (id other : ℕ) (k m : Known) (s : State ℕ Known) (r : 
   }
 
   abbrev WasThere : ℕ → Known → Type 0
-  WasThere i j = (o : Known) × (get_elem? s.views i ≡ some o) × Like o j × (o.dealt ≡ j.dealt)
-      × IsTold (memory z s.words Clock) r.slots r.batches (told_of j) j.heard
+  WasThere = WasIn (memory z s.words Clock) r.slots r.batches s.views
 
   joined_back : (i : ℕ) (j : Known) → get_elem? joined i ≡ some j → IsMessenger (memory z s.words Clock) r.slots r.batches j ⊎ WasThere i j
   joined_back i j e = ⊎_elim

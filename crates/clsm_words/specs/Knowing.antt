@@ -55,10 +55,10 @@ least_layout = record {
   run_in_range = (omega arith, omega arith);
 }
 
--- a caller's seat that has played nothing
-abbrev pub unplayed : Layout → ℕ → Known
-unplayed z number = record {
-  seated = true;
+-- one that is no seat, has played nothing and was told nothing
+abbrev pub nobody : Layout → ℕ → Known
+nobody z number = record {
+  seated = false;
   merges = false;
   number = number;
   dealt = 0;
@@ -79,30 +79,14 @@ unplayed z number = record {
   heard = 0;
 }
 
+-- a caller's seat that has played nothing
+abbrev pub unplayed : Layout → ℕ → Known
+unplayed z number = record (nobody z number) { seated = true }
+
 -- the merger's, which is the first of all and deals the others: its number is the number of the
 -- callers' seats
 abbrev pub new_merger : Layout → Known
-new_merger z = record {
-  seated = false;
-  merges = true;
-  number = z.seats;
-  dealt = 0;
-  layout = z;
-  view = idle z;
-  merger = opening z;
-  row = (opened z).words;
-  trail = [];
-  spots = [];
-  order = [];
-  region = 0;
-  chain = 0;
-  floor = 0;
-  past = [];
-  batches = [];
-  told = [];
-  told_batches = [];
-  heard = 0;
-}
+new_merger z = record (nobody z z.seats) { merges = true; row = (opened z).words }
 
 -- one seat more is dealt
 abbrev pub deals : Known → Known
@@ -117,28 +101,7 @@ told_of k = record { slots = k.told; batches = k.told_batches }
 
 -- one that only carries a past and a due
 abbrev pub messenger : History → ℕ → Known
-messenger told heard = record {
-  seated = false;
-  merges = false;
-  number = 0;
-  dealt = 0;
-  layout = least_layout;
-  view = idle least_layout;
-  merger = opening least_layout;
-  row = [];
-  trail = [];
-  spots = [];
-  order = [];
-  region = 0;
-  chain = 0;
-  floor = 0;
-  past = [];
-  batches = [];
-  told =
-      told.slots;
-  told_batches = told.batches;
-  heard = heard;
-}
+messenger told heard = record (nobody least_layout 0) { told = told.slots; told_batches = told.batches; heard = heard }
 
 -- a seat that takes in what another carries: its beginning of the history, and its due where that
 -- is greater

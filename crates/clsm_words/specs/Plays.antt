@@ -6,8 +6,8 @@ use Rattle.clsm_law.specs.declared.step.Step.{Step}
 use Rattle.clsm_law.specs.declared.step.Answer.{Answer}
 use Rattle.clsm_law.specs.declared.view.View.{View}
 use Rattle.clsm_law.specs.Views.{idle, is_all_some, or_zero}
-use Rattle.clsm_law.specs.Relation.{word_of, answer_of}
-use Rattle.clsm_law.specs.Merging.{opening, word_of_merger}
+use Rattle.clsm_law.specs.Relation.{word_of, answer_of, changed}
+use Rattle.clsm_law.specs.Merging.{opening, word_of_merger, changed_by_merger}
 use Rattle.clsm_words.specs.declared.known.Known.{Known}
 use Rattle.clsm_words.specs.declared.words.WordTable.{WordTable}
 use Rattle.clsm_words.specs.Seats.{RawState, MessageState}
@@ -25,6 +25,10 @@ MayPlay words seat step = IsSeatOf words seat × Opens seat.knows step
 -- this is the word that the step is on
 abbrev pub IsWordOf : Known → Step → Word → Type 0
 IsWordOf k step word = word ≡ word_of k.layout k.number k.view step
+
+-- it may act on the word so, as the step does: f is what becomes of the word
+abbrev pub MayAct : WordTable → RawState → Step → Word → (ℕ → ℕ) → Type 0
+MayAct words seat step word f = MayPlay words seat step × IsWordOf seat.knows step word × (changed seat.knows.layout seat.knows.view step ≡ f)
 
 -- the drawn cell is filled but for its next, and is not linked
 pub record IsFilled (v : View) (t key : ℕ) : Type 0 where
@@ -55,6 +59,11 @@ MayMerge words seat step = IsSeatOf words seat × OpensToMerger seat.knows step
 -- this is the word that the merger's step is on
 abbrev pub IsMergersWord : Known → Step → Word → Type 0
 IsMergersWord k step word = word ≡ word_of_merger k.layout k.merger step
+
+-- it may act on the word so, as the step does: f is what becomes of the word
+abbrev pub MayActAsMerger : WordTable → RawState → Step → Word → (ℕ → ℕ) → Type 0
+MayActAsMerger words seat step word f = MayMerge words seat step × IsMergersWord seat.knows step word
+    × (changed_by_merger seat.knows.layout seat.knows.merger step ≡ f)
 
 -- the merger played the step, which found x
 abbrev pub Merged : WordTable → RawState → Step → ℕ → RawState → Type 0

@@ -30,17 +30,18 @@ use Rattle.clsm_law.specs.Worlds.{outcome_at, past_of, open_past}
 use Rattle.clsm_law.specs.Law.{each, past_time_of, reached_of, pin_clock_of, snapshot_of, calls_of, IsSnapshot, AreAtMost}
 use Rattle.clsm_law.specs.Batches.{AreFitting, IsWritten, AreUncutNotes, AreUncutSnapshots, AreUncutPasts, AreUncut, AreListed, snapshot_time}
 use Rattle.clsm_law.proofs.Cases.{by_test, by_bool}
-use Rattle.clsm_law.proofs.Setting.{Setting, Ground, v, x, w, M, V, S, B, Opens, Allows, OpensTo, memory', slots', looked_same, merger_looked_same}
+use Rattle.clsm_law.proofs.Setting.{Setting, Ground, v, x, w, M, V, S, B, Opens, Allows, OpensTo, memory', slots', looked_same, merger_looked_same, by_seat}
 use Rattle.clsm_law.proofs.Growth.{slots_stay}
 use Rattle.clsm_law.proofs.GrowthMerger.{slots_stay'}
 use Rattle.clsm_law.proofs.Records.Histories.{end_of-past_min}
-use Rattle.clsm_law.proofs.Records.Facts.{at_views, all_append, all_map, member_writes}
+use Rattle.clsm_law.proofs.Records.Facts.{member_writes}
 use Rattle.clsm_law.proofs.Frames.{slot_below}
 use Rattle.clsm_law.proofs.Batches.Facts.{in_turn_more, in_turn_next, in_turn_uncut, uncut_next, listed_before, listed_last}
 use Rattle.clsm_law.proofs.Batches.Opens.{opens_plain}
-use Rattle.clsm_law.proofs.Clock.Kept.{clock_grows, clock_grows', commits_at}
+use Rattle.clsm_law.proofs.Clock.Kept.{clock_grows, clock_grows', commits_at, below_clock}
 use Rattle.clsm_law.proofs.Decided.Kept.{run_other}
 use Rattle.clsm_law.proofs.Records.Kept.{commits_member}
+use Rattle.clsm_levels.proofs.Every.{every-append, every_weaker}
 
 -- ---- FRONT, pasts and what is reached are not beyond the clock
 
@@ -75,8 +76,7 @@ own_reached s (Fill part n) o = s.law.reached_clock s.me
 own_reached s step o = let a = clock_grows s step o in let b = s.law.reached_clock s.me in omega arith
 
 pub reached_clock_kept : (s : Setting) (step : Step) → Opens s step → AreAtMost (each s.z reached_of (V s step)) (M s step Clock)
-reached_clock_kept s step o = at_views s.z s.views s.me (w s step) s.inside (λ i u. u.reached ≤ M s step Clock) (own_reached s step o)
-    (λ i ne. let a = clock_grows s step o in let b = s.law.reached_clock i in omega arith)
+reached_clock_kept s step o = below_clock s step o reached_of s.law.reached_clock (own_reached s step o)
 
 pub reached_clock_merged : (g : Ground) (step : Step) → OpensTo g step → AreAtMost (each g.z reached_of g.views) (memory' g step Clock)
 reached_clock_merged g step o i = let a = clock_grows' g step o in let b = g.law.reached_clock i in omega arith
@@ -90,8 +90,7 @@ own_past s (Fill part n) o = s.law.past_clock s.me
 own_past s step o = let a = clock_grows s step o in let b = s.law.past_clock s.me in omega arith
 
 pub past_clock_kept : (s : Setting) (step : Step) → Opens s step → AreAtMost (each s.z past_time_of (V s step)) (M s step Clock)
-past_clock_kept s step o = at_views s.z s.views s.me (w s step) s.inside (λ i u. u.past ≤ M s step Clock) (own_past s step o)
-    (λ i ne. let a = clock_grows s step o in let b = s.law.past_clock i in omega arith)
+past_clock_kept s step o = below_clock s step o past_time_of s.law.past_clock (own_past s step o)
 
 pub past_clock_merged : (g : Ground) (step : Step) → OpensTo g step → AreAtMost (each g.z past_time_of g.views) (memory' g step Clock)
 past_clock_merged g step o i = let a = clock_grows' g step o in let b = g.law.past_clock i in omega arith
@@ -128,8 +127,8 @@ write_stays (Some b) o' stays h = let e = stays b refl in ((λ none. absurd cc),
 
 written_stay : (slot slot' : ℕ → Option Slot) (bs : List Batch) → ((t : ℕ) (b : Slot) → slot t ≡ Some b → slot' t ≡ Some b)
     → AllByRecursion (IsWritten slot) bs → AllByRecursion (IsWritten slot') bs
-written_stay slot slot' bs stays all = all_map (IsWritten slot) (IsWritten slot') bs
-    (λ b h t from until. write_stays (slot t) (slot' t) (stays t) (h t from until)) all
+written_stay slot slot' bs stays all = every_weaker (IsWritten slot) (IsWritten slot')
+    (λ b h t from until. write_stays (slot t) (slot' t) (stays t) (h t from until)) bs all
 
 -- the members of a commit are writes
 commits_writes : (s : Setting) (members : List Member) → Opens s (Commit members)
@@ -141,7 +140,7 @@ commits_writes s members o t from until =
     subst (λ (a : Option Slot). (a ≢ None) × (a ≢ Some Nothing)) (sym m.1 ∙ ap (outcome_at s.slots) back) (m.0, member_writes s.me members (t - c))
 
 pub written_kept : (s : Setting) (step : Step) → Opens s step → AllByRecursion (IsWritten (outcome_at (S s step))) (B s step)
-written_kept s (Commit members) o = all_append (IsWritten (outcome_at s.slots)) s.batches
+written_kept s (Commit members) o = every-append (IsWritten (outcome_at s.slots)) s.batches
     (record { first = or_zero (v s).hold_clock; size = length members } ∷ []) s.law.written (commits_writes s members o, tt)
 written_kept s step o = written_stay (outcome_at s.slots) (outcome_at (S s step)) s.batches (slots_stay s step o) s.law.written
 
@@ -190,7 +189,7 @@ own_pin s (Fill Key n) o t e = s.law.uncut_pins s.me t e
 own_pin s step o t e = pin_noted s step o s.me t e
 
 pub uncut_pins_kept : (s : Setting) (step : Step) → Opens s step → AreUncutNotes (B s step) (each s.z pin_clock_of (V s step))
-uncut_pins_kept s step o = at_views s.z s.views s.me (w s step) s.inside (λ i u. (t : ℕ) → u.pin_clock ≡ Some t → IsUncut (B s step) t) (own_pin s step o)
+uncut_pins_kept s step o = by_seat s (w s step) (λ i u. (t : ℕ) → u.pin_clock ≡ Some t → IsUncut (B s step) t) (own_pin s step o)
     (λ i ne. pin_noted s step o i)
 
 -- a snapshot's time
@@ -228,7 +227,7 @@ own_snapshot s (Fill Key n) o t e = s.law.uncut_snapshots s.me t e
 own_snapshot s step o t e = snapshot_noted s step o s.me t e
 
 pub uncut_snapshots_kept : (s : Setting) (step : Step) → Opens s step → AreUncutSnapshots (B s step) (each s.z snapshot_of (V s step))
-uncut_snapshots_kept s step o = at_views s.z s.views s.me (w s step) s.inside (λ i u. (t : ℕ) → snapshot_time u.snapshot ≡ Some t → IsUncut (B s step) t)
+uncut_snapshots_kept s step o = by_seat s (w s step) (λ i u. (t : ℕ) → snapshot_time u.snapshot ≡ Some t → IsUncut (B s step) t)
     (own_snapshot s step o) (λ i ne. snapshot_noted s step o i)
 
 -- the end of a past
@@ -239,7 +238,7 @@ own_end s (Look Clock) o = s.law.uncut_pasts s.me
 own_end s step o = commits_uncut s step (opens_plain s step o) (v s).past (s.law.past_clock s.me) (s.law.uncut_pasts s.me)
 
 pub uncut_pasts_kept : (s : Setting) (step : Step) → Allows s step → AreUncutPasts (B s step) (each s.z past_time_of (V s step))
-uncut_pasts_kept s step o = at_views s.z s.views s.me (w s step) s.inside (λ i u. IsUncut (B s step) u.past) (own_end s step o)
+uncut_pasts_kept s step o = by_seat s (w s step) (λ i u. IsUncut (B s step) u.past) (own_end s step o)
     (λ i ne. commits_uncut s step (opens_plain s step o) (each s.z past_time_of s.views i) (s.law.past_clock i) (s.law.uncut_pasts i))
 
 -- ---- records
@@ -302,20 +301,20 @@ own_uncut s (Decide t deed) o =
     by_bool (λ a. AllByRecursion (IsUncutRecord s.batches) (cond a (v s).calls
     (cond (x s (Decide t deed) == 0) ((v s).calls ++ call_of s.me t deed ∷ []) (v s).calls))) (is_exclusive (v s).mode) (λ _. s.law.uncut s.me) (λ _.
     by_test (λ b. AllByRecursion (IsUncutRecord s.batches) (cond b ((v s).calls ++ call_of s.me t deed ∷ []) (v s).calls)) (x s (Decide t deed)) 0
-    (λ _. all_append (IsUncutRecord s.batches) (v s).calls (call_of s.me t deed ∷ []) (s.law.uncut s.me)
+    (λ _. every-append (IsUncutRecord s.batches) (v s).calls (call_of s.me t deed ∷ []) (s.law.uncut s.me)
     (write_uncut (open_past s.slots s.batches (v s).past) (v s) t deed o.2 o.3, tt)) (λ _. s.law.uncut s.me))
-own_uncut s (Unpin end) o = all_append (IsUncutRecord s.batches) (v s).calls (ended_calls s.me (v s) end) (s.law.uncut s.me)
+own_uncut s (Unpin end) o = every-append (IsUncutRecord s.batches) (v s).calls (ended_calls s.me (v s) end) (s.law.uncut s.me)
     (ended_uncut (open_past s.slots s.batches (v s).past) s.me (v s) (v s).snapshot end refl o.1)
-own_uncut s CloseSnapshot o = all_append (IsUncutRecord s.batches) (v s).calls (call_of s.me (or_zero (open_time (v s).snapshot)) Close ∷ [])
+own_uncut s CloseSnapshot o = every-append (IsUncutRecord s.batches) (v s).calls (call_of s.me (or_zero (open_time (v s).snapshot)) Close ∷ [])
     (s.law.uncut s.me) (close_uncut s.batches (v s).snapshot o (s.law.uncut_snapshots s.me), tt)
-own_uncut s (Commit members) o = all_append (IsUncutRecord (B s (Commit members))) (v s).calls
+own_uncut s (Commit members) o = every-append (IsUncutRecord (B s (Commit members))) (v s).calls
     (call_of s.me (or_zero (v s).hold_clock) (Group members) ∷ []) (uncut_before s (Commit members) o s.me) (tt, tt)
 own_uncut s (Fill Key n) o = s.law.uncut s.me
 own_uncut s (Look Clock) o = s.law.uncut s.me
 own_uncut s step o = s.law.uncut s.me
 
 pub uncut_kept : (s : Setting) (step : Step) → Allows s step → AreUncut (B s step) (each s.z calls_of (V s step))
-uncut_kept s step o = at_views s.z s.views s.me (w s step) s.inside (λ i u. AllByRecursion (IsUncutRecord (B s step)) u.calls) (own_uncut s step o)
+uncut_kept s step o = by_seat s (w s step) (λ i u. AllByRecursion (IsUncutRecord (B s step)) u.calls) (own_uncut s step o)
     (λ i ne. uncut_before s step (opens_plain s step o) i)
 
 -- a listed batch stays listed
@@ -328,8 +327,8 @@ deed_listed s step t (Group members) h = still_listed s step (record { first = t
 deed_listed s step t deed h = tt
 
 listed_stay : (s : Setting) (step : Step) (i : ℕ) → AllByRecursion (IsListedRecord (B s step)) (each s.z calls_of s.views i)
-listed_stay s step i = all_map (IsListedRecord s.batches) (IsListedRecord (B s step)) (each s.z calls_of s.views i)
-    (λ r h. deed_listed s step r.time r.deed h) (s.law.listed i)
+listed_stay s step i = every_weaker (IsListedRecord s.batches) (IsListedRecord (B s step)) (λ r h. deed_listed s step r.time r.deed h)
+    (each s.z calls_of s.views i) (s.law.listed i)
 
 -- a deed of one write, and one that reads, is no batch
 write_listed : (bs : List Batch) (u : View) (t : ℕ) (deed : Deed) → SaysWrite u (write_by 0 deed) → IsListedDeed bs t deed
@@ -359,13 +358,13 @@ own_listed s (Decide t deed) o =
     by_bool (λ a. AllByRecursion (IsListedRecord s.batches) (cond a (v s).calls
     (cond (x s (Decide t deed) == 0) ((v s).calls ++ call_of s.me t deed ∷ []) (v s).calls))) (is_exclusive (v s).mode) (λ _. s.law.listed s.me) (λ _.
     by_test (λ b. AllByRecursion (IsListedRecord s.batches) (cond b ((v s).calls ++ call_of s.me t deed ∷ []) (v s).calls)) (x s (Decide t deed)) 0
-    (λ _. all_append (IsListedRecord s.batches) (v s).calls (call_of s.me t deed ∷ []) (s.law.listed s.me) (write_listed s.batches (v s) t deed o.2, tt))
+    (λ _. every-append (IsListedRecord s.batches) (v s).calls (call_of s.me t deed ∷ []) (s.law.listed s.me) (write_listed s.batches (v s) t deed o.2, tt))
     (λ _. s.law.listed s.me))
-own_listed s (Unpin end) o = all_append (IsListedRecord s.batches) (v s).calls (ended_calls s.me (v s) end) (s.law.listed s.me)
+own_listed s (Unpin end) o = every-append (IsListedRecord s.batches) (v s).calls (ended_calls s.me (v s) end) (s.law.listed s.me)
     (ended_listed s.batches (past_of s.slots (v s).past) s.me (v s) (v s).snapshot end o.1)
-own_listed s CloseSnapshot o = all_append (IsListedRecord s.batches) (v s).calls (call_of s.me (or_zero (open_time (v s).snapshot)) Close ∷ [])
+own_listed s CloseSnapshot o = every-append (IsListedRecord s.batches) (v s).calls (call_of s.me (or_zero (open_time (v s).snapshot)) Close ∷ [])
     (s.law.listed s.me) (tt, tt)
-own_listed s (Commit members) o = all_append (IsListedRecord (B s (Commit members))) (v s).calls
+own_listed s (Commit members) o = every-append (IsListedRecord (B s (Commit members))) (v s).calls
     (call_of s.me (or_zero (v s).hold_clock) (Group members) ∷ []) (listed_stay s (Commit members) s.me)
     (listed_last s.batches (record { first = or_zero (v s).hold_clock; size = length members }), tt)
 own_listed s (Fill Key n) o = s.law.listed s.me
@@ -373,7 +372,7 @@ own_listed s (Look Clock) o = s.law.listed s.me
 own_listed s step o = s.law.listed s.me
 
 pub listed_kept : (s : Setting) (step : Step) → Opens s step → AreListed (B s step) (each s.z calls_of (V s step))
-listed_kept s step o = at_views s.z s.views s.me (w s step) s.inside (λ i u. AllByRecursion (IsListedRecord (B s step)) u.calls) (own_listed s step o)
+listed_kept s step o = by_seat s (w s step) (λ i u. AllByRecursion (IsListedRecord (B s step)) u.calls) (own_listed s step o)
     (λ i ne. listed_stay s step i)
 
 -- ---- what is recorded fits
@@ -422,17 +421,17 @@ own_fits s (Decide t deed) o = let fits = FitsRecord s.z.cells in by_bool
     (λ a. AllByRecursion fits (cond a (v s).calls (cond (x s (Decide t deed) == 0) ((v s).calls ++ call_of s.me t deed ∷ []) (v s).calls)))
     (is_exclusive (v s).mode) (λ _. s.law.fitting s.me) (λ _.
     by_test (λ b. AllByRecursion fits (cond b ((v s).calls ++ call_of s.me t deed ∷ []) (v s).calls)) (x s (Decide t deed)) 0
-    (λ _. all_append fits (v s).calls (call_of s.me t deed ∷ []) (s.law.fitting s.me) (write_fits s.z.cells (v s) deed o.2, tt)) (λ _. s.law.fitting s.me))
-own_fits s (Unpin end) o = all_append (FitsRecord s.z.cells) (v s).calls (ended_calls s.me (v s) end) (s.law.fitting s.me)
+    (λ _. every-append fits (v s).calls (call_of s.me t deed ∷ []) (s.law.fitting s.me) (write_fits s.z.cells (v s) deed o.2, tt)) (λ _. s.law.fitting s.me))
+own_fits s (Unpin end) o = every-append (FitsRecord s.z.cells) (v s).calls (ended_calls s.me (v s) end) (s.law.fitting s.me)
     (ended_fits s.z.cells (past_of s.slots (v s).past) s.me (v s) (v s).snapshot end o.1)
-own_fits s CloseSnapshot o = all_append (FitsRecord s.z.cells) (v s).calls (call_of s.me (or_zero (open_time (v s).snapshot)) Close ∷ [])
+own_fits s CloseSnapshot o = every-append (FitsRecord s.z.cells) (v s).calls (call_of s.me (or_zero (open_time (v s).snapshot)) Close ∷ [])
     (s.law.fitting s.me) (tt, tt)
-own_fits s (Commit members) o = all_append (FitsRecord s.z.cells) (v s).calls (call_of s.me (or_zero (v s).hold_clock) (Group members) ∷ [])
+own_fits s (Commit members) o = every-append (FitsRecord s.z.cells) (v s).calls (call_of s.me (or_zero (v s).hold_clock) (Group members) ∷ [])
     (s.law.fitting s.me) (commits_fit s members o, tt)
 own_fits s (Fill Key n) o = s.law.fitting s.me
 own_fits s (Look Clock) o = s.law.fitting s.me
 own_fits s step o = s.law.fitting s.me
 
 pub fitting_kept : (s : Setting) (step : Step) → Opens s step → AreFitting s.z.cells (each s.z calls_of (V s step))
-fitting_kept s step o = at_views s.z s.views s.me (w s step) s.inside (λ i u. AllByRecursion (FitsRecord s.z.cells) u.calls) (own_fits s step o)
+fitting_kept s step o = by_seat s (w s step) (λ i u. AllByRecursion (FitsRecord s.z.cells) u.calls) (own_fits s step o)
     (λ i ne. s.law.fitting i)

@@ -23,8 +23,9 @@ use Rattle.clsm_law.specs.Batches.{IsStaging, AreStaging}
 use Rattle.clsm_law.proofs.Cases.{by_test}
 use Rattle.clsm_law.proofs.Frames.{puts_slot}
 use Rattle.clsm_law.proofs.Setting.{Setting, Ground, ground, v, x, w, M, V, S, Opens, OpensTo, memory', slots', looked_same, merger_looked_same, drawn_shown}
+use Rattle.clsm_law.proofs.Setting.{by_seat}
 use Rattle.clsm_law.proofs.Growth.{cancels_shown}
-use Rattle.clsm_law.proofs.Records.Facts.{at_views, member_before, member_last}
+use Rattle.clsm_law.proofs.Records.Facts.{member_before, member_last}
 use Rattle.clsm_law.proofs.Clock.Kept.{alone_decides, alone_keeps, one_member, free_staged, free_drawn}
 use Rattle.clsm_law.proofs.Decided.Kept.{run_other, says_write}
 
@@ -200,7 +201,7 @@ module _ (s : Setting) where
 
 pub staging_kept : (s : Setting) (step : Step) → Opens s step → AreStaging (M s step Clock) (outcome_at (S s step)) (each s.z mode_of (V s step))
     (each s.z drawn_of (V s step)) (each s.z staged_of (V s step)) (each s.z committed_of (V s step)) (each s.z hold_clock_of (V s step))
-staging_kept s step o = at_views s.z s.views s.me (w s step) s.inside (λ i u. Stages (M s step Clock) i (outcome_at (S s step)) u) (own_stages s step o)
+staging_kept s step o = by_seat s (w s step) (λ i u. Stages (M s step Clock) i (outcome_at (S s step)) u) (own_stages s step o)
     (λ i ne. other_stages s step o i ne (each s.z mode_of s.views i) refl)
 
 pub staging_merged : (g : Ground) (step : Step) → OpensTo g step → AreStaging (memory' g step Clock) (outcome_at (slots' g step)) (each g.z mode_of g.views)

@@ -12,7 +12,7 @@ use Rattle.clsm_law.specs.declared.view.View.{View}
 use Rattle.clsm_law.specs.declared.view.Mode.{Mode}
 use Rattle.clsm_law.specs.declared.view.Mode.TheVariants.{Free, Exclusive}
 use Rattle.clsm_law.specs.Memory.{cell_of, key_at}
-use Rattle.clsm_law.specs.Views.{IsBelow, is_exclusive, idle}
+use Rattle.clsm_law.specs.Views.{is_exclusive, idle}
 use Rattle.clsm_law.specs.OpenSteps.{IsOpen, IsNextMember}
 use Rattle.clsm_law.specs.Relation.{Before, taken}
 use Rattle.clsm_law.specs.Merging.{is_frozen, epoch_end}
@@ -25,15 +25,14 @@ use Rattle.clsm_law.specs.Law.{AreRight, AreRecordsStanding, AreRecorded, AreRis
 use Rattle.clsm_law.specs.Batches.{AreFitting, IsStaging, AreStaging, IsWritten, AreUncutNotes, AreUncutPasts, AreUncutSnapshots, AreUncut, AreListed}
 use Rattle.clsm_law.proofs.Frames.{keep1, keep2, keep3, same_each, slots_grown, past_end}
 use Rattle.clsm_law.proofs.Clock.Times.{apart}
-use Rattle.clsm_law.proofs.Setting.{Setting, ground, v, limit_live, live_below_shown, shown_below_merged, clock_below, none_taken, past_below}
+use Rattle.clsm_law.proofs.Setting.{Setting, ground, v, limit_live, live_below_shown, shown_below_merged, clock_below, none_taken, past_below, by_seat}
 use Rattle.clsm_law.proofs.Records.Histories.{past-equal}
-use Rattle.clsm_law.proofs.Records.Facts.{at_views}
-use Rattle.clsm_law.proofs.Lock.Kept.{exclusive_free, same_count, sole_same, not_both}
-use Rattle.clsm_law.proofs.Clock.Kept.{counted, taken_undrawn}
+use Rattle.clsm_law.proofs.Lock.Kept.{exclusive_free, same_count, sole_same, not_both, merger_unheld}
+use Rattle.clsm_law.proofs.Clock.Kept.{counted, taken_undrawn, below_limit}
 use Rattle.clsm_law.proofs.Drawn.Kept.{drew_pending, drew_owned, drew_alone, drew_filled, holding_by}
-use Rattle.clsm_law.proofs.Chains.Kept.{lies_as, linked_by, loose_else}
+use Rattle.clsm_law.proofs.Chains.Kept.{lies_as, linked_by, loose_by}
 use Rattle.clsm_law.proofs.Orders.Kept.{placed_as}
-use Rattle.clsm_law.proofs.Orders.Inserted.{inserted_by, outside_else, leading_by}
+use Rattle.clsm_law.proofs.Orders.Inserted.{inserted_by, outside_by, leading_by}
 use Rattle.clsm_law.proofs.Runs.Kept.{runs_stay, agree_below}
 
 -- the seat may take the time
@@ -68,17 +67,14 @@ module _ (s : Setting) (t key : ℕ) (o : Stages s t key) where
       none_taken (ground s) (set s.views s.me (record (v s) { mode = Free })) others in omega arith
     where
       others : (i : ℕ) → each s.z mode_of (set s.views s.me (record (v s) { mode = Free })) i ≢ Exclusive
-      others = at_views s.z s.views s.me (record (v s) { mode = Free }) s.inside (λ i y. y.mode ≢ Exclusive) (λ e. absurd cc)
+      others = by_seat s (record (v s) { mode = Free }) (λ i y. y.mode ≢ Exclusive) (λ e. absurd cc)
           (λ i ne e. absurd (let other = s.law.sole s.me i o.0 ne in cc))
 
   pub at_end : length s.slots ≡ t
   at_end = let a = next (v s).hold_clock refl o.3 in let b = all_taken in let c = taken_undrawn s o.0 o.1 in let d = s.law.clock in omega arith
 
   below : t < s.memory Limit
-  below = until (v s).hold_limit refl o.4 where
-    until : (n : Option ℕ) → (v s).hold_limit ≡ n → IsBelow t n → t < s.memory Limit
-    until None e h = absurd h
-    until (Some n) e h = let a = s.law.limits s.me n not_free e in omega arith
+  below = below_limit s t not_free o.4
 
   pub long : length slots' ≡ length s.slots + 1
   long = length-append s.slots (None ∷ [])
@@ -122,7 +118,7 @@ module _ (s : Setting) (t key : ℕ) (o : Stages s t key) where
   -- a place that is forgotten
   members_none : (f : View → ℕ) → f u ≡ 0 → AreMembers s.z (s.memory Limit) s.orders (each s.z mode_of s.views) (each s.z f s.views)
       → AreMembers s.z (s.memory Limit) s.orders (each s.z mode_of views') (each s.z f views')
-  members_none f e h = at_views s.z s.views s.me u s.inside (λ i y. f y ≢ 0 → IsMember s.z (s.memory Limit) s.orders y.mode (f y)) (λ ne. absurd (ne e))
+  members_none f e h = by_seat s u (λ i y. f y ≢ 0 → IsMember s.z (s.memory Limit) s.orders y.mode (f y)) (λ ne. absurd (ne e))
       (λ i ne. h i)
 
   noted_taken : (f : View → Option ℕ) → f u ≡ f (v s) → AreNotedBelow (each s.z f s.views) (s.memory Clock) → AreNotedBelow (each s.z f views') (s.memory Clock)
@@ -133,13 +129,13 @@ module _ (s : Setting) (t key : ℕ) (o : Stages s t key) where
       (λ n lt k. same k n)
 
   right_taken : AreRight (λ i. past_of slots' (each s.z past_time_of views' i)) (each s.z calls_of views')
-  right_taken = at_views s.z s.views s.me u s.inside (λ i y. AllByRecursion (IsRightRecord (past_of slots' y.past)) y.calls)
+  right_taken = by_seat s u (λ i y. AllByRecursion (IsRightRecord (past_of slots' y.past)) y.calls)
       (subst (λ h. AllByRecursion (IsRightRecord h) (v s).calls) (sym (past_taken s.me)) (s.law.right s.me))
       (λ i ne. subst (λ h. AllByRecursion (IsRightRecord h) (each s.z calls_of s.views i)) (sym (past_taken i)) (s.law.right i))
 
   staging_taken : AreStaging (s.memory Clock) (outcome_at slots') (each s.z mode_of views') (each s.z drawn_of views') (each s.z staged_of views')
       (each s.z committed_of views') (each s.z hold_clock_of views')
-  staging_taken = at_views s.z s.views s.me u s.inside (λ i y. IsStaging (s.memory Clock) i
+  staging_taken = by_seat s u (λ i y. IsStaging (s.memory Clock) i
       (outcome_at slots') y.mode y.drawn y.staged y.committed y.hold_clock)
       (record {
         shut = λ ne. absurd (ne o.0);
@@ -171,16 +167,7 @@ module _ (s : Setting) (t key : ℕ) (o : Stages s t key) where
     lock = s.law.lock ∙ same_count s u refl;
     locked_out = keep1 (IsLockedOut s.merger.exclusive) (same_each s.z mode_of s.views s.me u s.inside refl) s.law.locked_out;
     sole = sole_same s u refl;
-    merger = let m = s.law.merger in record {
-      seats = m.seats;
-      some_merged = m.some_merged;
-      clean = m.clean;
-      pads = m.pads;
-      extends = m.extends;
-      limit_after = m.limit_after;
-      at_end = λ f. absurd (not_both (m.extends f) free);
-      top = m.top;
-    };
+    merger = merger_unheld s (length slots') free;
     clock = let a = counted s u in let b = taken_undrawn s o.0 o.1 in let c : taken_by u ≡ length (v s).staged + 1 =
         ap (λ (m : Mode). cond (is_exclusive m) (length (v s).staged + 1) 0) o.0 in let d = s.law.clock in omega arith;
     limit = s.law.limit;
@@ -204,24 +191,25 @@ module _ (s : Setting) (t key : ℕ) (o : Stages s t key) where
     once = s.law.once;
     standing = keep1 (λ (f : ℕ → Option Slot). AreStanding s.z (first_shown s.z s.merger) f s.chains) same s.law.standing;
     linked = linked_by s s.chains u (λ r k n i. i) (λ n d l. absurd cc);
-    loose = loose_else s u (λ n d l r k i. let is : t ≡ n = cc in let b = (s.law.lies r k n i).drawn in omega arith);
+    loose = loose_by s s.chains u (λ i n r k ne d m. m) (λ n d l r k i. let is : t ≡ n = cc in let b = (s.law.lies r k n i).drawn in omega arith);
     ordered = s.law.ordered;
     sorted = s.law.sorted;
     placed = placed_as s (length slots') (omega arith);
     entered = keep1 (λ (f : ℕ → Option Slot). AreInOrder s.z (first_shown s.z s.merger) f s.orders) same s.law.entered;
     inserted = inserted_by s s.orders u (λ r p i. i) (λ n d l. absurd cc);
-    outside = outside_else s u (λ n d l r. let is : t ≡ n = cc in subst (λ (k : ℕ). ¬ In (place_of_time s.z k) (s.orders r)) is (outside_taken r));
+    outside = outside_by s s.orders u (λ i n r ne d m. m)
+        (λ n d l r. let is : t ≡ n = cc in subst (λ (k : ℕ). ¬ In (place_of_time s.z k) (s.orders r)) is (outside_taken r));
     leading = leading_by s s.memory u (λ i n ne d l. refl) (λ n w d l k. absurd cc);
     met = members_taken met_of refl s.law.met;
     lows = members_none low_of refl s.law.lows;
     highs = members_none high_of refl s.law.highs;
-    lower = at_views s.z s.views s.me u s.inside (λ i y. (n k : ℕ) → y.drawn ≡ Some n → y.key ≡ Some k → y.low ≢ 0
+    lower = by_seat s u (λ i y. (n k : ℕ) → y.drawn ≡ Some n → y.key ≡ Some k → y.low ≢ 0
         → Before (key_at s.memory y.low) y.low k (place_of_time s.z n)) (λ n k d f. absurd cc) (λ i ne. s.law.lower i);
-    higher = at_views s.z s.views s.me u s.inside (λ i y. (n k : ℕ) → y.drawn ≡ Some n → y.key ≡ Some k → y.inserted ≡ false → y.high ≢ 0
+    higher = by_seat s u (λ i y. (n k : ℕ) → y.drawn ≡ Some n → y.key ≡ Some k → y.inserted ≡ false → y.high ≢ 0
         → Before k (place_of_time s.z n) (key_at s.memory y.high) y.high) (λ n k d f. absurd cc) (λ i ne. s.law.higher i);
     limits = keep2 (λ (m : ℕ → Mode) (f : ℕ → Option ℕ). AreLimits m f (s.memory Limit)) (same_each s.z mode_of s.views s.me u s.inside refl)
         (same_each s.z hold_limit_of s.views s.me u s.inside refl) s.law.limits;
-    fresh_clocks = at_views s.z s.views s.me u s.inside (λ i y. (k : ℕ) → y.fresh_clock ≡ Some k → k ≤ s.memory Clock) (λ k f. absurd cc)
+    fresh_clocks = by_seat s u (λ i y. (k : ℕ) → y.fresh_clock ≡ Some k → k ≤ s.memory Clock) (λ k f. absurd cc)
         (λ i ne. s.law.fresh_clocks i);
     hold_clocks = noted_taken hold_clock_of refl s.law.hold_clocks;
     clocks = noted_taken clock_of refl s.law.clocks;
@@ -249,7 +237,7 @@ module _ (s : Setting) (t key : ℕ) (o : Stages s t key) where
     rising = keep3 AreRising (same_each s.z calls_of s.views s.me u s.inside refl) (one due_of refl)
         (same_each s.z snapshot_of s.views s.me u s.inside refl) s.law.rising;
     dues = keep1 (λ (f : ℕ → ℕ). AreAtMost f (s.memory Clock)) (one due_of refl) s.law.dues;
-    own_dues = at_views s.z s.views s.me u s.inside (λ i y. (n : ℕ) → y.drawn ≡ Some n → outcome_at slots' n ≡ None → y.due ≤ n)
+    own_dues = by_seat s u (λ i y. (n : ℕ) → y.drawn ≡ Some n → outcome_at slots' n ≡ None → y.due ≤ n)
         (λ n d none. let is : t ≡ n = cc in let due = s.law.dues s.me in omega arith)
         (λ i ne n d none. s.law.own_dues i n d (sym (λ k. same k n) ∙ none));
     staging = staging_taken;
@@ -266,18 +254,10 @@ module _ (s : Setting) (t key : ℕ) (o : Stages s t key) where
 
   -- the world with the time taken
   abbrev pub taking : Setting
-  taking = record {
-    z = s.z;
-    sound = s.sound;
-    memory = s.memory;
+  taking = record s {
     views = views';
-    merger = s.merger;
     slots = slots';
-    batches = s.batches;
-    chains = s.chains;
-    orders = s.orders;
     law = taken_law;
-    me = s.me;
     inside = let e = length-set s.views s.me u in let lt = s.inside in omega arith;
   }
 

@@ -1,9 +1,8 @@
 -- How a caller's step keeps the clauses of the chains.
-use Rattle.std.proofs.Common.{◌≡◌, ◌≢◌, ℕ, ◌+◌, ◌%◌, ◌<◌, ◌≤◌, Bool, true, false, cond, List, [], ◌∷◌, ◌++◌, length, set, sym, refl, ap, ◌∙◌, subst, arith}
+use Rattle.std.proofs.Common.{◌≡◌, ◌≢◌, ℕ, ◌+◌, ◌%◌, ◌≤◌, Bool, true, false, cond, List, ◌∷◌, length, set, sym, refl, ap, ◌∙◌, subst, arith}
 use Rattle.std.proofs.Common.{⊎_elim, Option, Some, None}
 use prog.Atomic.{either}
-use Rattle.clsm_model.specs.declared.slot.Slot.{Slot}
-use Rattle.clsm_model.specs.declared.slot.Slot.TheVariants.{Nothing, Wrote}
+use Rattle.clsm_model.specs.declared.slot.Slot.TheVariants.{Wrote}
 use Rattle.clsm_model.specs.declared.slot.Change.TheVariants.{Keep, Set, Remove as Erase}
 use Rattle.clsm_model.specs.declared.record.Deed.{Deed}
 use Rattle.clsm_model.specs.declared.record.Deed.TheVariants.{Put, Remove, Rmw}
@@ -18,14 +17,14 @@ use Rattle.clsm_law.specs.declared.step.Step.TheVariants.{Draw, Fill, Link, Deci
 use Rattle.clsm_law.specs.declared.view.View.{View}
 use Rattle.clsm_law.specs.Memory.{Memory, cell_of, region_of, put}
 use Rattle.clsm_law.specs.Views.{or_zero, SaysWrite}
-use Rattle.clsm_law.specs.Relation.{Chains, pushed, looked, filled, given_up}
+use Rattle.clsm_law.specs.Relation.{Chains, pushed, looked, filled}
 use Rattle.clsm_law.specs.Worlds.{outcome_at}
 use Rattle.clsm_law.specs.Law.{each, drawn_of, key_of, linked_of, In, Distinct, IsChain, AreChained, AreIn, AreOnce, IsLinkedAt, AreStanding, AreLinked}
 use Rattle.clsm_law.specs.Law.{AreLoose, first_live, first_shown}
 use Rattle.clsm_law.proofs.Cases.{by_test}
-use Rattle.clsm_law.proofs.Frames.{at_each, keep1, put_same, put_other, puts_each, puts_slot, slots_grown}
-use Rattle.clsm_law.proofs.Setting.{Setting, ground, v, x, w, M, V, S, C, Opens, own, own_drawn, looked_same, drawn_shown, drawn_live, clock_shared}
-use Rattle.clsm_law.proofs.Growth.{longer, cancels_shown}
+use Rattle.clsm_law.proofs.Frames.{keep1, put_same, put_other, not_given_up}
+use Rattle.clsm_law.proofs.Setting.{Setting, ground, v, x, w, M, V, S, C, Opens, own, own_drawn, looked_same, drawn_shown, drawn_live, clock_shared, by_seat}
+use Rattle.clsm_law.proofs.Growth.{longer, OfDecided, writes_kept}
 use Rattle.clsm_law.proofs.Chains.Facts.{by_line, chain_same, in_pushed, is_pushed, in_as, own_region, own_chain, is_there, nowhere, other_cell, stays_in}
 
 -- ---- the words lead along the chains
@@ -103,30 +102,15 @@ key_of_write y (Rmw k old (Set value)) seat i key written says e = cc (says.0, e
 key_of_write y (Rmw k old Erase) seat i key written says e = cc (says.0, e)
 key_of_write y deed seat i key written says e = absurd says
 
--- a slot that is settled, and the others as they were
-standing_settles : (s : Setting) (t : ℕ) (a : Option Slot) → t < length s.slots
-    → ((i key : ℕ) (written : Option (List ℕ)) → a ≡ Some (Wrote i key written) → IsLinkedAt s.z s.chains t key)
-    → AreStanding s.z (first_shown s.z s.merger) (outcome_at (set s.slots t a)) s.chains
-standing_settles s t a lt now u = λ i key written le e. let p = puts_slot s.slots t a lt in
-    at_each (λ u. first_shown s.z s.merger ≤ u → outcome_at (set s.slots t a) u ≡ Some (Wrote i key written) → IsLinkedAt s.z s.chains u key) t
-    (λ _ e. now i key written (sym p.here ∙ e)) (λ u ne le e. s.law.standing u i key written le (sym (p.other u ne) ∙ e)) u le e
+decided_linked : (s : Setting) (step : Step) → Opens s step → OfDecided s (λ t key _. IsLinkedAt s.z s.chains t key) step
+decided_linked s (Decide t deed) o = let k = s.law.linked s.me t o.0 o.1 in
+    λ i key written e. let is = key_of_write (v s) deed s.me i key written o.2 e in let same : k.0 ≡ key = cc (k.1, is) in
+    subst (IsLinkedAt s.z s.chains t) same k.2
+decided_linked s step o = tt
 
 pub standing_kept : (s : Setting) (step : Step) → Opens s step → AreStanding s.z (first_shown s.z s.merger) (outcome_at (S s step)) (C s step)
-standing_kept s (Draw t) o = by_test (λ b. AreStanding s.z (first_shown s.z s.merger) (outcome_at (cond b (s.slots ++ None ∷ []) s.slots)) s.chains)
-    (x s (Draw t)) t
-    (λ _. keep1 (λ (f : ℕ → Option Slot). AreStanding s.z (first_shown s.z s.merger) f s.chains) (slots_grown s.slots) s.law.standing) (λ _. s.law.standing)
-standing_kept s (Decide t deed) o =
-    by_test (λ b. AreStanding s.z (first_shown s.z s.merger) (outcome_at (cond b (set s.slots t (write_by s.me deed)) s.slots)) s.chains)
-    (x s (Decide t deed)) 0
-    (λ _. let k = s.law.linked s.me t o.0 o.1 in standing_settles s t (write_by s.me deed) (drawn_shown (ground s) s.me t o.0).1
-    (λ i key written e. let is = key_of_write (v s) deed s.me i key written o.2 e in let same : k.0 ≡ key = cc (k.1, is) in
-    subst (IsLinkedAt s.z s.chains t) same k.2))
-    (λ _. s.law.standing)
-standing_kept s (Cancel t) o =
-    by_test (λ b. AreStanding s.z (first_shown s.z s.merger) (outcome_at (cond b (set s.slots t (Some Nothing)) s.slots)) s.chains) (x s (Cancel t)) 0
-    (λ _. standing_settles s t (Some Nothing) (cancels_shown s t o).1 (λ i key written e. absurd cc))
-    (λ _. s.law.standing)
-standing_kept s step o = λ t i key written le e. stays_in s step _ _ t (s.law.standing t i key written le e)
+standing_kept s step o t i key written le e = stays_in s step _ _ t
+    (writes_kept s step o (first_shown s.z s.merger) (λ t key _. IsLinkedAt s.z s.chains t key) (decided_linked s step o) s.law.standing t i key written le e)
 
 -- ---- a drawn time stands in a chain, its own, just where it is linked
 -- what is drawn, the key and whether it is linked are as they were after a look; after a Fill, two
@@ -140,11 +124,6 @@ filled_as : (y : View) (p : Part) (n : ℕ) (P : Option ℕ → Bool → Type 0)
 filled_as y Key n P h = h
 filled_as y p n P h = h
 
--- a time that is not given up was drawn
-not_given_up : (d : Option ℕ) (t u : ℕ) → given_up d t ≡ Some u → d ≡ Some u
-not_given_up None t u e = e
-not_given_up (Some y) t u e = by_test (λ b. cond b None (Some y) ≡ Some u → Some y ≡ Some u) y t (λ _ e. absurd cc) (λ _ e. e) e
-
 -- a linked time stands in the chain of its key
 abbrev StandsLinked : Setting → Chains → Option ℕ → Option ℕ → Bool → Type 0
 StandsLinked s chains drawn key linked = (t : ℕ) → drawn ≡ Some t → linked ≡ true → (k : ℕ) × (key ≡ Some k) × IsLinkedAt s.z chains t k
@@ -152,72 +131,66 @@ StandsLinked s chains drawn key linked = (t : ℕ) → drawn ≡ Some t → link
 pub linked_by : (s : Setting) (chains : Chains) (y : View) → ((r k t : ℕ) → In t (s.chains r k) → In t (chains r k))
     → StandsLinked s chains y.drawn y.key y.linked
     → AreLinked s.z (each s.z drawn_of (set s.views s.me y)) (each s.z key_of (set s.views s.me y)) (each s.z linked_of (set s.views s.me y)) chains
-linked_by s chains y grow now = let p = puts_each s.z drawn_of s.views s.me y s.inside in let q = puts_each s.z key_of s.views s.me y s.inside in let r =
-    puts_each s.z linked_of s.views s.me y s.inside in let vs = set s.views s.me y in
-    at_each (λ i. StandsLinked s chains (each s.z drawn_of vs i) (each s.z key_of vs i) (each s.z linked_of vs i)) s.me
-    (λ t d l. let n = now t (sym p.here ∙ d) (sym r.here ∙ l) in (n.0, q.here ∙ n.1, n.2))
-    (λ i ne t d l. let n = s.law.linked i t (sym (p.other i ne) ∙ d) (sym (r.other i ne) ∙ l) in (n.0, q.other i ne ∙ n.1, grow _ _ t n.2))
+linked_by s chains y grow now = by_seat s y (λ i u. StandsLinked s chains u.drawn u.key u.linked) now
+    (λ i ne t d l. let n = s.law.linked i t d l in (n.0, n.1, grow _ _ t n.2))
 
-pub linked_kept : (s : Setting) (step : Step) → Opens s step → AreLinked s.z (each s.z drawn_of (V s step)) (each s.z key_of (V s step))
-    (each s.z linked_of (V s step)) (C s step)
-linked_kept s (Draw t) o = linked_by s s.chains (w s (Draw t)) (λ r k t i. i)
-    (by_test (λ b. StandsLinked s s.chains (cond b (Some t) (v s).drawn) (cond b None (v s).key) (cond b false (v s).linked)) (x s (Draw t)) t
-    (λ _ u d l. absurd cc) (λ _. s.law.linked s.me))
-linked_kept s (Fill part y) o = linked_by s s.chains (w s (Fill part y)) (λ r k t i. i)
-    (λ u d l. let f = filled_as (v s) part y (λ _ linked. linked ≡ false) o.1 in absurd (cc (f, l)))
-linked_kept s (Link h) o = linked_by s (C s (Link h)) (w s (Link h)) (stays_in s (Link h))
-    (by_test (λ b. StandsLinked s (cond b (pushed s.chains (own_region s) (own_chain s) (own s)) s.chains) (v s).drawn (v s).key (cond b true (v s).linked))
+linked_after : (s : Setting) (step : Step) → Opens s step → StandsLinked s (C s step) (w s step).drawn (w s step).key (w s step).linked
+linked_after s (Draw t) o =
+    by_test (λ b. StandsLinked s s.chains (cond b (Some t) (v s).drawn) (cond b None (v s).key) (cond b false (v s).linked)) (x s (Draw t)) t
+    (λ _ u d l. absurd cc) (λ _. s.law.linked s.me)
+linked_after s (Fill part y) o = λ u d l. let f = filled_as (v s) part y (λ _ linked. linked ≡ false) o.1 in absurd (cc (f, l))
+linked_after s (Link h) o =
+    by_test (λ b. StandsLinked s (cond b (pushed s.chains (own_region s) (own_chain s) (own s)) s.chains) (v s).drawn (v s).key (cond b true (v s).linked))
     (x s (Link h)) h
     (λ _ u d l. let same : own s ≡ u = ap or_zero d in subst (λ (u : ℕ). (k : ℕ) × ((v s).key ≡ Some k)
     × IsLinkedAt s.z (pushed s.chains (own_region s) (own_chain s) (own s)) u k) same
     (or_zero (v s).key, is_there (v s).key o.2, is_pushed s.chains (own_region s) (own_chain s) (own s)))
-    (λ _. s.law.linked s.me))
-linked_kept s (Decide t deed) o = linked_by s s.chains (w s (Decide t deed)) (λ r k t i. i) (λ u d l. absurd cc)
-linked_kept s (Cancel t) o = linked_by s s.chains (w s (Cancel t)) (λ r k t i. i) (λ u d l. s.law.linked s.me u (not_given_up (v s).drawn t u d) l)
-linked_kept s (Look c) o = linked_by s s.chains (w s (Look c)) (λ r k t i. i)
-    (looked_as s.z (v s) c (x s (Look c)) (StandsLinked s s.chains) (s.law.linked s.me))
-linked_kept s step o = linked_by s s.chains (w s step) (λ r k t i. i) (s.law.linked s.me)
+    (λ _. s.law.linked s.me)
+linked_after s (Decide t deed) o = λ u d l. absurd cc
+linked_after s (Cancel t) o = λ u d l. s.law.linked s.me u (not_given_up (v s).drawn t u d) l
+linked_after s (Look c) o = looked_as s.z (v s) c (x s (Look c)) (StandsLinked s s.chains) (s.law.linked s.me)
+linked_after s step o = s.law.linked s.me
+
+pub linked_kept : (s : Setting) (step : Step) → Opens s step → AreLinked s.z (each s.z drawn_of (V s step)) (each s.z key_of (V s step))
+    (each s.z linked_of (V s step)) (C s step)
+linked_kept s step o = linked_by s (C s step) (w s step) (stays_in s step) (linked_after s step o)
 
 -- a loose time stands in none
 abbrev StandsLoose : Chains → Option ℕ → Bool → Type 0
 StandsLoose chains drawn linked = (t : ℕ) → drawn ≡ Some t → linked ≡ false → (r k : ℕ) → ¬ In t (chains r k)
 
-loose_by : (s : Setting) (chains : Chains) (y : View) → ((i t r k : ℕ) → i ≢ s.me → each s.z drawn_of s.views i ≡ Some t → In t (chains r k)
+pub loose_by : (s : Setting) (chains : Chains) (y : View) → ((i t r k : ℕ) → i ≢ s.me → each s.z drawn_of s.views i ≡ Some t → In t (chains r k)
     → In t (s.chains r k)) → StandsLoose chains y.drawn y.linked
     → AreLoose (each s.z drawn_of (set s.views s.me y)) (each s.z linked_of (set s.views s.me y)) chains
-loose_by s chains y back now = let p = puts_each s.z drawn_of s.views s.me y s.inside in let q = puts_each s.z linked_of s.views s.me y s.inside in let vs =
-    set s.views s.me y in
-    at_each (λ i. StandsLoose chains (each s.z drawn_of vs i) (each s.z linked_of vs i)) s.me
-    (λ t d l. now t (sym p.here ∙ d) (sym q.here ∙ l))
-    (λ i ne t d l r k m. let was : each s.z drawn_of s.views i ≡ Some t = sym (p.other i ne) ∙ d in
-    s.law.loose i t was (sym (q.other i ne) ∙ l) r k (back i t r k ne was m))
+loose_by s chains y back now = by_seat s y (λ i u. StandsLoose chains u.drawn u.linked) now
+    (λ i ne t d l r k m. s.law.loose i t d l r k (back i t r k ne d m))
 
 -- the own time enters a chain, and no other's
-links_own : (s : Setting) (h : ℕ) → Opens s (Link h) → (i t r k : ℕ) → i ≢ s.me → each s.z drawn_of s.views i ≡ Some t → In t (C s (Link h) r k)
+links_own : (s : Setting) (step : Step) → Opens s step → (i t r k : ℕ) → i ≢ s.me → each s.z drawn_of s.views i ≡ Some t → In t (C s step r k)
     → In t (s.chains r k)
-links_own s h o i t r k ne d = by_test (λ b. In t (cond b (pushed s.chains (own_region s) (own_chain s) (own s)) s.chains r k) → In t (s.chains r k))
-    (x s (Link h)) h
+links_own s (Link h) o i t r k ne d = by_test
+    (λ b. In t (cond b (pushed s.chains (own_region s) (own_chain s) (own s)) s.chains r k) → In t (s.chains r k)) (x s (Link h)) h
     (λ _ m. ⊎_elim (λ (e : (own s ≡ t) × (r ≡ own_region s) × (k ≡ own_chain s)). absurd
     (ne (s.law.alone i s.me t d (own_drawn s o.0 ∙ ap (λ (u : ℕ). Some u) e.0))))
     (λ (n : In t (s.chains r k)). n) (in_pushed s.chains (own_region s) (own_chain s) (own s) r k t m))
     (λ _ m. m)
+links_own s step o i t r k ne d = λ m. m
 
-pub loose_else : (s : Setting) (y : View) → StandsLoose s.chains y.drawn y.linked
-    → AreLoose (each s.z drawn_of (set s.views s.me y)) (each s.z linked_of (set s.views s.me y)) s.chains
-loose_else s y now = loose_by s s.chains y (λ i t r k ne d m. m) now
-
-pub loose_kept : (s : Setting) (step : Step) → Opens s step → AreLoose (each s.z drawn_of (V s step)) (each s.z linked_of (V s step)) (C s step)
-loose_kept s (Draw t) o = loose_else s (w s (Draw t)) (by_test (λ b. StandsLoose s.chains (cond b (Some t) (v s).drawn) (cond b false (v s).linked))
+loose_after : (s : Setting) (step : Step) → Opens s step → StandsLoose (C s step) (w s step).drawn (w s step).linked
+loose_after s (Draw t) o = by_test (λ b. StandsLoose s.chains (cond b (Some t) (v s).drawn) (cond b false (v s).linked))
     (x s (Draw t)) t
     (λ e u d l r k i. let same : t ≡ u = ap or_zero d in let b = (s.law.lies r k u i).drawn in let c = clock_shared (ground s) s.me o.0 in omega arith)
-    (λ _. s.law.loose s.me))
-loose_kept s (Fill part y) o = loose_else s (w s (Fill part y)) (filled_as (v s) part y (StandsLoose s.chains) (s.law.loose s.me))
-loose_kept s (Link h) o = loose_by s (C s (Link h)) (w s (Link h)) (links_own s h o)
-    (by_test (λ b. StandsLoose (cond b (pushed s.chains (own_region s) (own_chain s) (own s)) s.chains) (v s).drawn (cond b true (v s).linked))
+    (λ _. s.law.loose s.me)
+loose_after s (Fill part y) o = filled_as (v s) part y (StandsLoose s.chains) (s.law.loose s.me)
+loose_after s (Link h) o =
+    by_test (λ b. StandsLoose (cond b (pushed s.chains (own_region s) (own_chain s) (own s)) s.chains) (v s).drawn (cond b true (v s).linked))
     (x s (Link h)) h
-    (λ _ u d l. absurd cc) (λ _. s.law.loose s.me))
-loose_kept s (Decide t deed) o = loose_else s (w s (Decide t deed)) (λ u d l. absurd cc)
-loose_kept s (Cancel t) o = loose_else s (w s (Cancel t)) (λ u d l. s.law.loose s.me u (not_given_up (v s).drawn t u d) l)
-loose_kept s (Look c) o = loose_else s (w s (Look c)) (looked_as s.z (v s) c (x s (Look c)) (λ drawn _ linked. StandsLoose s.chains drawn linked)
-    (s.law.loose s.me))
-loose_kept s step o = loose_else s (w s step) (s.law.loose s.me)
+    (λ _ u d l. absurd cc) (λ _. s.law.loose s.me)
+loose_after s (Decide t deed) o = λ u d l. absurd cc
+loose_after s (Cancel t) o = λ u d l. s.law.loose s.me u (not_given_up (v s).drawn t u d) l
+loose_after s (Look c) o = looked_as s.z (v s) c (x s (Look c)) (λ drawn _ linked. StandsLoose s.chains drawn linked)
+    (s.law.loose s.me)
+loose_after s step o = s.law.loose s.me
+
+pub loose_kept : (s : Setting) (step : Step) → Opens s step → AreLoose (each s.z drawn_of (V s step)) (each s.z linked_of (V s step)) (C s step)
+loose_kept s step o = loose_by s (C s step) (w s step) (links_own s step o) (loose_after s step o)

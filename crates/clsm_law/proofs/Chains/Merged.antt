@@ -24,24 +24,15 @@ use Rattle.clsm_law.proofs.GrowthMerger.{longer', length_passed, passed_before, 
 use Rattle.clsm_law.proofs.Passes.{passes_at}
 use Rattle.clsm_law.proofs.Windows.{shown_rises}
 use Rattle.clsm_law.proofs.Chains.Facts.{by_line, chain_same, none_behind_zero, in_emptied, stays_emptied, in_as}
+use Rattle.clsm_law.proofs.Phases.{retired_frozen, retired_clean}
 
 -- ---- the epochs of a world whose merger cleans
-not_frozen : (p : Phase) → is_retired p ≡ true → is_frozen p ≡ false
-not_frozen Clean e = refl
-not_frozen Frozen e = absurd cc
-not_frozen Retired e = refl
-
-not_clean : (p : Phase) → is_retired p ≡ true → is_clean p ≡ false
-not_clean Clean e = absurd cc
-not_clean Frozen e = refl
-not_clean Retired e = refl
-
 module _ (g : Ground) (retired : is_retired g.merger.phase ≡ true) where
   -- no freeze is half done, so the limit ends the epoch
   pub limit_retired : g.memory Limit ≡ epoch_end g.z g.merger
   limit_retired = by_bool (λ b. g.merger.limit_extended ≡ b → g.memory Limit ≡ epoch_end g.z g.merger) g.merger.limit_extended
-      (λ _ e. let clean = g.law.merger.clean (g.law.merger.extends (g.law.merger.limit_after e)) in absurd (let f = not_clean g.merger.phase retired in cc))
-      (λ _ e. g.law.limit ∙ rw (not_frozen g.merger.phase retired, e) refl) refl
+      (λ _ e. let clean = g.law.merger.clean (g.law.merger.extends (g.law.merger.limit_after e)) in absurd (let f = retired_clean g.merger.phase retired in cc))
+      (λ _ e. g.law.limit ∙ rw (retired_frozen g.merger.phase retired, e) refl) refl
 
   -- a drawn time of the current epoch lies in the other region
   pub current_region : (t : ℕ) → g.merger.merged * g.z.cells ≤ t → t < length g.slots → region_of g.z (cell_of g.z t) ≢ retired_region g.merger

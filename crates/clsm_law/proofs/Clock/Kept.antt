@@ -24,14 +24,16 @@ use Rattle.clsm_law.specs.Memory.{Memory}
 use Rattle.clsm_law.specs.Views.{IsBelow, SaysWrite, idle, is_exclusive, or_zero}
 use Rattle.clsm_law.specs.Relation.{looked, filled, given_up, member_of}
 use Rattle.clsm_law.specs.Merging.{is_frozen, is_retired, epoch_end, merger_looked}
-use Rattle.clsm_law.specs.Law.{first_free, taken_by}
+use Rattle.clsm_law.specs.Law.{first_free, taken_by, AreAtMost, each}
+use Rattle.clsm_law.specs.Worlds.{view_at}
 use Rattle.clsm_law.proofs.Cases.{by_test, by_bool}
-use Rattle.clsm_law.proofs.Setting.{Setting, ground, v, x, w, M, V, S, Opens, looked_same, Ground, facts, found, merger', memory', slots', OpensTo}
+use Rattle.clsm_law.proofs.Setting.{Setting, ground, v, x, w, M, V, S, Opens, looked_same, Ground, facts, found, merger', memory', slots', OpensTo, by_seat}
 use Rattle.clsm_law.proofs.Setting.{merger_looked_same, merged_below_limit, clock_below, clock_shared, clock_merger}
 use Rattle.clsm_law.proofs.Growth.{undecided_empty}
 use Rattle.clsm_law.proofs.GrowthMerger.{clock_held, length_passed}
 use Rattle.clsm_law.proofs.Decided.Kept.{run_other}
-use Rattle.clsm_law.proofs.Lock.Kept.{decide_length, cancel_length, frozen_not_clean}
+use Rattle.clsm_law.proofs.Lock.Kept.{decide_length, cancel_length}
+use Rattle.clsm_law.proofs.Phases.{frozen_not_clean}
 
 -- ---- words that a step leaves
 
@@ -198,6 +200,12 @@ clock_grows s (Commit members) o = let at = commits_at s members o in omega arit
 clock_grows s (Look word) o = let a = ap (λ (m : Memory). m Clock) (looked_same s word) in omega arith
 clock_grows s step o = omega arith
 
+-- a time of each seat's that is not beyond the clock stays so, if that of the seat that made the step does
+pub below_clock : (s : Setting) (step : Step) → Opens s step → (f : View → ℕ) → AreAtMost (each s.z f s.views) (s.memory Clock) → f (w s step) ≤ M s step Clock
+    → AreAtMost (each s.z f (V s step)) (M s step Clock)
+below_clock s step o f was own = by_seat s (w s step) (λ i u. f u ≤ M s step Clock) own
+    (λ i ne. let a = clock_grows s step o in let b : f (view_at s.z s.views i) ≤ s.memory Clock = was i in omega arith)
+
 pub clock_grows' : (g : Ground) (step : Step) → OpensTo g step → g.memory Clock ≤ memory' g step Clock
 clock_grows' g ExtendClock o = let a = clock_below g in let b = clock_held g o.0 in omega arith
 clock_grows' g (Look word) o = let a = ap (λ (m : Memory). m Clock) (merger_looked_same g word) in omega arith
@@ -280,18 +288,18 @@ begun_merged g step o = g.law.begun
 
 -- ---- the clock is at most the limit
 
--- the time of a Draw that wins is below the limit, which did not change in this hold
-below_limit : (s : Setting) (t : ℕ) → Opens s (Draw t) → t < s.memory Limit
-below_limit s t o = below (v s).hold_limit refl o.3
+-- a time below the limit noted in a hold is below LIMIT, which does not change in this hold
+pub below_limit : (s : Setting) (t : ℕ) → (v s).mode ≢ Free → IsBelow t (v s).hold_limit → t < s.memory Limit
+below_limit s t holds = below (v s).hold_limit refl
   where
     below : (n : Option ℕ) → (v s).hold_limit ≡ n → IsBelow t n → t < s.memory Limit
     below None e lt = absurd lt
-    below (Some n) e lt = let a = s.law.limits s.me n (λ free. absurd (let shared = o.0 in cc)) e in omega arith
+    below (Some n) e lt = let a = s.law.limits s.me n holds e in omega arith
 
 pub bounded_kept : (s : Setting) (step : Step) → Opens s step → length (S s step) ≤ M s step Limit
 bounded_kept s (Draw t) o = by_test (λ b. length (cond b (s.slots ++ None ∷ []) s.slots) ≤ s.memory Limit) (x s (Draw t)) t
     (λ e. let same = clock_shared (ground s) s.me o.0 in let l : length (s.slots ++ None ∷ []) ≡ length s.slots + 1 = length-append s.slots (None ∷ []) in
-    let lt = below_limit s t o in omega arith) (λ _. s.law.bounded)
+    let lt = below_limit s t (λ free. absurd (let shared = o.0 in cc)) o.3 in omega arith) (λ _. s.law.bounded)
 bounded_kept s (Decide t deed) o = let a = decide_length s t deed in let b = s.law.bounded in omega arith
 bounded_kept s (Cancel t) o = let a = cancel_length s t in let b = s.law.bounded in omega arith
 bounded_kept s (Look word) o = let a = limit_same s (Look word) in let b = s.law.bounded in omega arith

@@ -19,13 +19,12 @@ use Rattle.clsm_law.specs.declared.word.Part.TheVariants.{Key, Length, Value}
 use Rattle.clsm_law.specs.declared.step.Step.{Step}
 use Rattle.clsm_law.specs.declared.step.Step.TheVariants.{Draw, Fill, Decide, Cancel, Look, LeaveExclusive, Pad, WriteRun, ClearState, Publish, ExtendClock}
 use Rattle.clsm_law.specs.declared.merger.MergerView.{MergerView}
-use Rattle.clsm_law.specs.declared.merger.Phase.{Phase}
-use Rattle.clsm_law.specs.declared.merger.Phase.TheVariants.{Clean, Frozen, Retired}
+use Rattle.clsm_law.specs.declared.merger.Phase.TheVariants.{Clean, Frozen}
 use Rattle.clsm_law.specs.declared.merger.Reader.{Reader}
 use Rattle.clsm_law.specs.Memory.{Memory, cell_of, region_of, put}
 use Rattle.clsm_law.specs.Views.{IsBelow, SaysWrite, length_of, words_of}
 use Rattle.clsm_law.specs.Relation.{state_by}
-use Rattle.clsm_law.specs.Merging.{is_clean, is_frozen, is_retired, is_all_quiet, retired_region, reader_at, reader_by, unseen, epoch_end}
+use Rattle.clsm_law.specs.Merging.{is_retired, is_all_quiet, retired_region, reader_at, reader_by, unseen, epoch_end}
 use Rattle.clsm_law.specs.Worlds.{outcome_at, passes_from, is_last}
 use Rattle.clsm_law.specs.Law.{Shows, AreShown, AreEmpty, first_shown, first_live}
 use Rattle.clsm_law.proofs.Cases.{by_test, by_bool}
@@ -37,6 +36,7 @@ use Rattle.clsm_law.proofs.Setting.{clock_merger}
 use Rattle.clsm_law.proofs.Growth.{cancels_shown, longer}
 use Rattle.clsm_law.proofs.GrowthMerger.{passed_before, passed_behind, clock_held, length_passed, longer'}
 use Rattle.clsm_law.proofs.Decided.Kept.{says_write, run_other}
+use Rattle.clsm_law.proofs.Phases.{clean_retired, frozen_retired, retired_frozen}
 
 -- ---- a cell shows a slot
 -- the same words show the same
@@ -150,24 +150,6 @@ shown_kept s (Look c) o = keep1 (λ (m : Memory). AreShown s.z m (first_shown s.
 shown_kept s step o = same_shown s.z s.memory (M s step) _ _ (length s.slots) (outcome_at s.slots) (omega arith) (λ c. refl) (λ c p. refl) s.law.shown
 
 -- ---- phases, and where the windows begin
--- nothing is retired in phase Clean
-clean_retired : (p : Phase) → is_clean p ≡ true → is_retired p ≡ false
-clean_retired Clean e = refl
-clean_retired Frozen e = absurd cc
-clean_retired Retired e = absurd cc
-
--- nor in phase Frozen
-frozen_retired : (p : Phase) → is_frozen p ≡ true → is_retired p ≡ false
-frozen_retired Clean e = absurd cc
-frozen_retired Frozen e = refl
-frozen_retired Retired e = absurd cc
-
--- and the other way
-retired_frozen : (p : Phase) → is_retired p ≡ true → is_frozen p ≡ false
-retired_frozen Clean e = absurd cc
-retired_frozen Frozen e = absurd cc
-retired_frozen Retired e = refl
-
 -- one epoch before the merges is not above them
 one_less : (n merged : ℕ) → (merged - 1) * n ≤ merged * n
 one_less n merged = grind arith

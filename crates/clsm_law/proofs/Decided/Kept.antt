@@ -11,7 +11,7 @@ use Rattle.clsm_model.specs.declared.record.Deed.TheVariants.{Put, Remove, Rmw}
 use Rattle.clsm_model.specs.Right.{write_by}
 use Rattle.clsm_law.specs.declared.layout.Layout.{Layout}
 use Rattle.clsm_law.specs.declared.word.Word.{Word}
-use Rattle.clsm_law.specs.declared.word.Word.TheVariants.{Clock, Limit, Front, Merged, Pin as PinOf, Snap, State}
+use Rattle.clsm_law.specs.declared.word.Word.TheVariants.{Limit, Front, Merged, Pin as PinOf, Snap, State}
 use Rattle.clsm_law.specs.declared.word.Part.{Part}
 use Rattle.clsm_law.specs.declared.word.Part.TheVariants.{Key}
 use Rattle.clsm_law.specs.declared.step.Step.{Step}
@@ -20,23 +20,18 @@ use Rattle.clsm_law.specs.declared.view.View.{View}
 use Rattle.clsm_law.specs.declared.merger.MergerView.{MergerView}
 use Rattle.clsm_law.specs.Memory.{Memory, cell_of, put}
 use Rattle.clsm_law.specs.Views.{SaysWrite, is_below}
-use Rattle.clsm_law.specs.Relation.{is_seen, is_seen_of, takes_hold, looked, filled, reached_after, reached_by_state}
+use Rattle.clsm_law.specs.Relation.{is_seen, is_seen_of, takes_hold, filled, reached_after, reached_by_state}
 use Rattle.clsm_law.specs.Merging.{is_frozen, IsRunWord, merger_looked}
 use Rattle.clsm_law.specs.Worlds.{outcome_at}
 use Rattle.clsm_law.specs.Law.{each, past_time_of, reached_of, IsDecidedBelow, AreDecidedBelow, first_shown}
 use Rattle.clsm_law.proofs.Cases.{by_test, by_bool}
-use Rattle.clsm_law.proofs.Frames.{at_each, keep1, puts_each, puts_slot, put_other}
-use Rattle.clsm_law.proofs.Setting.{Setting, Ground, ground, v, x, w, M, V, S, Opens, OpensTo, found, memory', merger', slots', looked_same}
+use Rattle.clsm_law.proofs.Frames.{keep1, puts_slot, put_other, some_of, looked_leaves, filled_leaves}
+use Rattle.clsm_law.proofs.Setting.{Setting, Ground, ground, v, x, w, M, V, S, Opens, OpensTo, found, memory', merger', slots', looked_same, by_seat}
 use Rattle.clsm_law.proofs.Setting.{merger_looked_same, decided, drawn_shown, held_shown, shown_below_merged, clock_below}
 use Rattle.clsm_law.proofs.Growth.{cancels_shown, slots_stay}
 use Rattle.clsm_law.proofs.GrowthMerger.{slots_stay'}
 
 -- ---- what is decided stays decided
--- a slot that is not undecided is one that is decided
-some_of : (o : Option Slot) → o ≢ None → (b : Slot) × (o ≡ Some b)
-some_of None ne = absurd (ne refl)
-some_of (Some b) ne = (b, refl)
-
 -- under a caller's step
 pub decided_stay : (s : Setting) (step : Step) → Opens s step → (t : ℕ) → outcome_at s.slots t ≢ None → outcome_at (S s step) t ≢ None
 decided_stay s step o t ne e = let b = some_of (outcome_at s.slots t) ne in absurd (cc (e, slots_stay s step o t b.0 b.1))
@@ -92,31 +87,19 @@ merged_decided_merged g step o = λ u lt. decided_stay' g step o u (g.law.merged
 module _ (s : Setting) (step : Step) (o : Opens s step) (bound : View → ℕ) (h : AreDecidedBelow (outcome_at s.slots) (each s.z bound s.views)) where
   -- the seat's own bound after the step is the one thing to be seen
   by_own : ((t : ℕ) → t < bound (w s step) → outcome_at (S s step) t ≢ None) → AreDecidedBelow (outcome_at (S s step)) (each s.z bound (V s step))
-  by_own own = let p = puts_each s.z bound s.views s.me (w s step) s.inside in
-      at_each (λ i. (t : ℕ) → t < each s.z bound (V s step) i → outcome_at (S s step) t ≢ None) s.me
-      (λ t lt. own t (let a = p.here in omega arith))
-      (λ i ne t lt. decided_stay s step o t (h i t (let a = p.other i ne in omega arith)))
+  by_own own = by_seat s (w s step) (λ i u. (t : ℕ) → t < bound u → outcome_at (S s step) t ≢ None) own
+      (λ i ne t lt. decided_stay s step o t (h i t lt))
 
   same_own : bound (w s step) ≡ bound (v s) → AreDecidedBelow (outcome_at (S s step)) (each s.z bound (V s step))
   same_own e = by_own (λ t lt. decided_stay s step o t (h s.me t (omega arith)))
-
--- no look changes the past
-looked_past : (z : Layout) (v : View) (word : Word) (y : ℕ) → (looked z v word y).past ≡ v.past
-looked_past z v Clock y = refl
-looked_past z v word y = refl
-
--- nor does a Fill
-filled_past : (v : View) (part : Part) (y : ℕ) → (filled v part y).past ≡ v.past
-filled_past v Key y = refl
-filled_past v part y = refl
 
 pub past_kept : (s : Setting) (step : Step) → Opens s step → AreDecidedBelow (outcome_at (S s step)) (each s.z past_time_of (V s step))
 past_kept s (RaiseFront t) o = by_own s (RaiseFront t) o past_time_of s.law.past (λ u lt. elim (cases_lt u (v s).past) [
   | inl old ↦ s.law.past s.me u old
   | inr le ↦ s.law.reached s.me u (let a = o.0 in omega arith)
 ])
-past_kept s (Look c) o = same_own s (Look c) o past_time_of s.law.past (looked_past s.z (v s) c (x s (Look c)))
-past_kept s (Fill part y) o = same_own s (Fill part y) o past_time_of s.law.past (filled_past (v s) part y)
+past_kept s (Look c) o = same_own s (Look c) o past_time_of s.law.past (looked_leaves s.z (v s) c (x s (Look c))).2
+past_kept s (Fill part y) o = same_own s (Fill part y) o past_time_of s.law.past (filled_leaves (v s) part y).2
 past_kept s step o = same_own s step o past_time_of s.law.past refl
 
 pub past_merged : (g : Ground) (step : Step) → OpensTo g step → AreDecidedBelow (outcome_at (slots' g step)) (each g.z past_time_of g.views)

@@ -1,6 +1,6 @@
 -- How the clauses on drawn times are kept: who drew a time holds the lock, the time is of the
 -- current epoch, it is one seat's, and the filled parts are in its cell.
-use Rattle.std.proofs.Common.{◌≡◌, ◌≢◌, ℕ, zero, suc, ◌+◌, ◌<◌, ◌≤◌, ◌==◌, ◌⊎◌, not, Bool, true, false, cond, List, [], ◌∷◌, ◌++◌, length, set, get_or, sym}
+use Rattle.std.proofs.Common.{◌≡◌, ◌≢◌, ℕ, zero, suc, ◌+◌, ◌<◌, ◌≤◌, ◌==◌, ◌⊎◌, Bool, true, false, cond, List, [], ◌∷◌, ◌++◌, length, set, get_or, sym}
 use Rattle.std.proofs.Common.{refl, ap, ◌∙◌, subst, arith, inl, inr, ⊎_elim, Option, Some, None, length-set, length-append, get_or-set_other}
 use mathlib.Core.Logic.{dite}
 use native.Mathlib.Decide.{ℕ_discrete}
@@ -20,67 +20,25 @@ use Rattle.clsm_law.specs.declared.step.Step.TheVariants.{WriteRun, ExtendClock,
 use Rattle.clsm_law.specs.declared.view.View.{View}
 use Rattle.clsm_law.specs.declared.view.Mode.TheVariants.{Free, Shared}
 use Rattle.clsm_law.specs.Memory.{Memory, cell_of, put}
-use Rattle.clsm_law.specs.Views.{blank, next_word}
-use Rattle.clsm_law.specs.Relation.{one_more_if, given_up, looked, filled}
+use Rattle.clsm_law.specs.Views.{blank}
+use Rattle.clsm_law.specs.Relation.{after_draw, given_up, looked, filled, taken}
 use Rattle.clsm_law.specs.Merging.{epoch_end}
-use Rattle.clsm_law.specs.Worlds.{view_at, outcome_at}
+use Rattle.clsm_law.specs.Worlds.{outcome_at}
 use Rattle.clsm_law.specs.Law.{each, mode_of, drawn_of, part_of, AreHolding, ArePending, AreOwned, AreAlone, AreFilled}
 use Rattle.clsm_law.proofs.Cases.{by_test, by_bool}
-use Rattle.clsm_law.proofs.Frames.{at_each, keep1, puts_each, puts_slot, slots_grown, past_end, put_here, put_other}
+use Rattle.clsm_law.proofs.Frames.{keep1, puts_each, puts_slot, slots_grown, past_end, put_here, put_other, looked_leaves, filled_leaves, not_given_up}
 use Rattle.clsm_law.proofs.Clock.Times.{apart}
-use Rattle.clsm_law.proofs.Setting.{Setting, Ground, ground, v, x, w, M, V, S, Opens, OpensTo, memory', slots', own, own_drawn, looked_same}
+use Rattle.clsm_law.proofs.Setting.{Setting, Ground, ground, v, x, w, M, V, S, Opens, OpensTo, memory', slots', own, own_drawn, looked_same, by_seat}
 use Rattle.clsm_law.proofs.Setting.{merger_looked_same, drawn_live, none_drawn, clock_below, clock_shared}
 use Rattle.clsm_law.proofs.Growth.{cancels_shown, slots_stay}
 use Rattle.clsm_law.proofs.GrowthMerger.{passed_before, passed_behind, length_passed}
 use Rattle.clsm_law.proofs.Decided.Kept.{decide_settles, cancel_settles, run_other}
 
--- ---- seats
--- a fact of each seat after the step, from the one of this seat and those of the others before
-pub by_seat : (s : Setting) (y : View) (P : ℕ → View → Type 0) → P s.me y → ((i : ℕ) → i ≢ s.me → P i (view_at s.z s.views i)) → (i : ℕ)
-    → P i (view_at s.z (set s.views s.me y) i)
-by_seat s y P here other = let p = puts_each s.z (λ (u : View). u) s.views s.me y s.inside in
-    at_each (λ i. P i (view_at s.z (set s.views s.me y) i)) s.me (subst (P s.me) (sym p.here) here) (λ i ne. subst (P i) (sym (p.other i ne)) (other i ne))
-
--- the view after a Draw that won, and one that lost
-abbrev pub drew : Setting → ℕ → View
-drew s t = record (v s) {
-  drawn = Some t;
-  key = None;
-  length = None;
-  words = blank 8;
-  next = None;
-  linked = false;
-  order_next = None;
-  inserted = false;
-  fresh_link = None;
-  low = 0;
-  high = 0;
-  fresh_clock = None;
-}
-
-abbrev pub missed : Setting → View
-missed s = record (v s) { fresh_clock = None; raced = next_word (v s).raced }
-
 -- a clause over the views after a Draw
-pub by_draw : (s : Setting) (P : Bool → List View → Type 0) (t : ℕ) → (v s).mode ≡ Shared → (length s.slots ≡ t → P true (set s.views s.me (drew s t)))
-    → (P false (set s.views s.me (missed s))) → P (x s (Draw t) == t) (V s (Draw t))
-by_draw s P t shared hit miss =
-    by_test (λ b. P b (set s.views s.me (record (v s) {
-      drawn = cond b (Some t) (v s).drawn;
-      key = cond b None (v s).key;
-      length = cond b None (v s).length;
-      words = cond b (blank 8) (v s).words;
-      next = cond b None (v s).next;
-      linked = cond b false (v s).linked;
-      order_next = cond b None (v s).order_next;
-      inserted = cond b false (v s).inserted;
-      fresh_link = cond b None (v s).fresh_link;
-      low = cond b 0 (v s).low;
-      high = cond b 0 (v s).high;
-      fresh_clock =
-          None;
-      raced = one_more_if (not b) (v s).raced;
-    }))) (x s (Draw t)) t
+pub by_draw : (s : Setting) (P : Bool → List View → Type 0) (t : ℕ) → (v s).mode ≡ Shared
+    → (length s.slots ≡ t → P true (set s.views s.me (taken (v s) t))) → P false (set s.views s.me (after_draw false (v s) t))
+    → P (x s (Draw t) == t) (V s (Draw t))
+by_draw s P t shared hit miss = by_test (λ b. P b (set s.views s.me (after_draw b (v s) t))) (x s (Draw t)) t
     (λ e. hit (sym (clock_shared (ground s) s.me shared) ∙ e)) (λ _. miss)
 
 -- all but a Draw that wins leave a seat no more than it had drawn
@@ -91,28 +49,13 @@ Keeps _ = Unit {0}
 abbrev pub Fewer : Setting → View → Type 0
 Fewer s y = (u : ℕ) → y.drawn ≡ Some u → (v s).drawn ≡ Some u
 
--- what is still drawn after one time was given up was drawn
-wholly : (d : Option ℕ) (t u : ℕ) → given_up d t ≡ Some u → d ≡ Some u
-wholly None t u e = e
-wholly (Some y) t u e = by_test (λ b. cond b None (Some y) ≡ Some u → Some y ≡ Some u) y t (λ _ e. absurd cc) (λ _ e. e) e
-
--- no look changes what is drawn
-pub looked_drawn : (z : Layout) (v : View) (word : Word) (y : ℕ) → (looked z v word y).drawn ≡ v.drawn
-looked_drawn z v Lock y = refl
-looked_drawn z v word y = refl
-
--- nor does a Fill
-pub filled_drawn : (v : View) (part : Part) (y : ℕ) → (filled v part y).drawn ≡ v.drawn
-filled_drawn v Key y = refl
-filled_drawn v part y = refl
-
 -- so it is for every step but a Draw
 pub fewer_after : (s : Setting) (step : Step) → Keeps step → Fewer s (w s step)
 fewer_after s (Draw t) no_draw = absurd no_draw
 fewer_after s (Decide t deed) no_draw = λ u e. absurd cc
-fewer_after s (Cancel t) no_draw = wholly (v s).drawn t
-fewer_after s (Look c) no_draw = λ u e. sym (looked_drawn s.z (v s) c (x s (Look c))) ∙ e
-fewer_after s (Fill part y) no_draw = λ u e. sym (filled_drawn (v s) part y) ∙ e
+fewer_after s (Cancel t) no_draw = not_given_up (v s).drawn t
+fewer_after s (Look c) no_draw = λ u e. sym (looked_leaves s.z (v s) c (x s (Look c))).1 ∙ e
+fewer_after s (Fill part y) no_draw = λ u e. sym (filled_leaves (v s) part y).1 ∙ e
 fewer_after s step no_draw = λ u e. e
 
 -- ---- who has drawn a time holds the lock
@@ -120,27 +63,19 @@ pub holding_by : (s : Setting) (y : View) → ((t : ℕ) → y.drawn ≡ Some t 
     → AreHolding (each s.z drawn_of (set s.views s.me y)) (each s.z mode_of (set s.views s.me y))
 holding_by s y here = by_seat s y (λ i u. (t : ℕ) → u.drawn ≡ Some t → u.mode ≢ Free) here (λ i ne t e. s.law.holding i t e)
 
--- no look changes how the lock is held
-pub looked_mode : (z : Layout) (v : View) (word : Word) (y : ℕ) → (looked z v word y).mode ≡ v.mode
-looked_mode z v Lock y = refl
-looked_mode z v word y = refl
-
--- nor does a Fill
-pub filled_mode : (v : View) (part : Part) (y : ℕ) → (filled v part y).mode ≡ v.mode
-filled_mode v Key y = refl
-filled_mode v part y = refl
+holding_after : (s : Setting) (step : Step) → Opens s step → (t : ℕ) → (w s step).drawn ≡ Some t → (w s step).mode ≢ Free
+holding_after s (EnterShared l) o = λ t e free. s.law.holding s.me t e o.0
+holding_after s EnterExclusive o = λ t e free. s.law.holding s.me t e o
+holding_after s LeaveShared o = λ t e. absurd (let none = o.1 in cc)
+holding_after s LeaveExclusive o = λ t e. absurd (let none = o.1 in cc)
+holding_after s (Draw t) o = λ u e free. absurd (let shared = o.0 in cc)
+holding_after s (Look c) o = λ t e free. s.law.holding s.me t (fewer_after s (Look c) tt t e)
+    (sym (looked_leaves s.z (v s) c (x s (Look c))).0 ∙ free)
+holding_after s (Fill part y) o = λ t e free. s.law.holding s.me t (fewer_after s (Fill part y) tt t e) (sym (filled_leaves (v s) part y).0 ∙ free)
+holding_after s step o = λ t e. s.law.holding s.me t (fewer_after s step tt t e)
 
 pub holding_kept : (s : Setting) (step : Step) → Opens s step → AreHolding (each s.z drawn_of (V s step)) (each s.z mode_of (V s step))
-holding_kept s (EnterShared l) o = holding_by s (w s (EnterShared l)) (λ t e free. s.law.holding s.me t e o.0)
-holding_kept s EnterExclusive o = holding_by s (w s EnterExclusive) (λ t e free. s.law.holding s.me t e o)
-holding_kept s LeaveShared o = holding_by s (w s LeaveShared) (λ t e. absurd (let none = o.1 in cc))
-holding_kept s LeaveExclusive o = holding_by s (w s LeaveExclusive) (λ t e. absurd (let none = o.1 in cc))
-holding_kept s (Draw t) o = holding_by s (w s (Draw t)) (λ u e free. absurd (let shared = o.0 in cc))
-holding_kept s (Look c) o = holding_by s (w s (Look c)) (λ t e free. s.law.holding s.me t (fewer_after s (Look c) tt t e)
-    (sym (looked_mode s.z (v s) c (x s (Look c))) ∙ free))
-holding_kept s (Fill part y) o =
-    holding_by s (w s (Fill part y)) (λ t e free. s.law.holding s.me t (fewer_after s (Fill part y) tt t e) (sym (filled_mode (v s) part y) ∙ free))
-holding_kept s step o = holding_by s (w s step) (λ t e. s.law.holding s.me t (fewer_after s step tt t e))
+holding_kept s step o = holding_by s (w s step) (holding_after s step o)
 
 pub holding_merged : (g : Ground) (step : Step) → OpensTo g step → AreHolding (each g.z drawn_of g.views) (each g.z mode_of g.views)
 holding_merged g step o = g.law.holding
@@ -156,13 +91,13 @@ fewer_pending s y less = by_seat s y (λ i a. (u : ℕ) → a.drawn ≡ Some u �
     (λ u e. s.law.pending s.me u (less u e)) (λ i ne u e. s.law.pending i u e)
 
 -- the new time is the last, and undecided
-pub drew_pending : (s : Setting) (t : ℕ) → length s.slots ≡ t → ArePending s.z (s.memory Limit) (each s.z drawn_of (set s.views s.me (drew s t)))
+pub drew_pending : (s : Setting) (t : ℕ) → length s.slots ≡ t → ArePending s.z (s.memory Limit) (each s.z drawn_of (set s.views s.me (taken (v s) t)))
     (length (s.slots ++ None ∷ [])) (outcome_at (s.slots ++ None ∷ []))
 drew_pending s t is = let len : length (s.slots ++ None ∷ []) ≡ length s.slots + 1 = length-append s.slots (None ∷ []) in let current = s.law.current in
     let below = clock_below (ground s) in
-    keep1 (λ (f : ℕ → Option Slot). ArePending s.z (s.memory Limit) (each s.z drawn_of (set s.views s.me (drew s t))) (length (s.slots ++ None ∷ [])) f)
+    keep1 (λ (f : ℕ → Option Slot). ArePending s.z (s.memory Limit) (each s.z drawn_of (set s.views s.me (taken (v s) t))) (length (s.slots ++ None ∷ [])) f)
     (slots_grown s.slots)
-    (by_seat s (drew s t) (λ i a. (u : ℕ) → a.drawn ≡ Some u → Pends s.z (s.memory Limit) (length (s.slots ++ None ∷ [])) (outcome_at s.slots) u)
+    (by_seat s (taken (v s) t) (λ i a. (u : ℕ) → a.drawn ≡ Some u → Pends s.z (s.memory Limit) (length (s.slots ++ None ∷ [])) (outcome_at s.slots) u)
     (λ u e. let same : t ≡ u = cc in (omega arith, omega arith, inl (subst (λ (k : ℕ). outcome_at s.slots k ≡ None) (is ∙ same) (past_end s.slots))))
     (λ i ne u e. let q = s.law.pending i u e in (q.0, let k = q.1 in omega arith, q.2)))
 
@@ -186,7 +121,7 @@ decided_by_none s t deed mine = by_seat s (w s (Decide t deed)) (λ i a. a.drawn
 pub pending_kept : (s : Setting) (step : Step) → Opens s step → ArePending s.z (M s step Limit) (each s.z drawn_of (V s step)) (length (S s step))
     (outcome_at (S s step))
 pending_kept s (Draw t) o = by_draw s (λ b vs. ArePending s.z (s.memory Limit) (each s.z drawn_of vs) (length (cond b (s.slots ++ None ∷ []) s.slots))
-    (outcome_at (cond b (s.slots ++ None ∷ []) s.slots))) t o.0 (drew_pending s t) (fewer_pending s (missed s) (λ u e. e))
+    (outcome_at (cond b (s.slots ++ None ∷ []) s.slots))) t o.0 (drew_pending s t) (fewer_pending s (after_draw false (v s) t) (λ u e. e))
 pending_kept s (Decide t deed) o =
     by_test (λ b. ArePending s.z (s.memory Limit) (each s.z drawn_of (V s (Decide t deed))) (length (cond b (set s.slots t (write_by s.me deed)) s.slots))
     (outcome_at (cond b (set s.slots t (write_by s.me deed)) s.slots))) (x s (Decide t deed)) 0
@@ -194,8 +129,8 @@ pending_kept s (Decide t deed) o =
     (λ _. fewer_pending s (w s (Decide t deed)) (λ u e. absurd cc))
 pending_kept s (Cancel t) o = by_test (λ b. ArePending s.z (s.memory Limit) (each s.z drawn_of (V s (Cancel t)))
     (length (cond b (set s.slots t (Some Nothing)) s.slots)) (outcome_at (cond b (set s.slots t (Some Nothing)) s.slots))) (x s (Cancel t)) 0
-    (λ _. settled_pending s (w s (Cancel t)) t (Some Nothing) (wholly (v s).drawn t) (cancels_shown s t o).1 (inl refl))
-    (λ _. fewer_pending s (w s (Cancel t)) (wholly (v s).drawn t))
+    (λ _. settled_pending s (w s (Cancel t)) t (Some Nothing) (not_given_up (v s).drawn t) (cancels_shown s t o).1 (inl refl))
+    (λ _. fewer_pending s (w s (Cancel t)) (not_given_up (v s).drawn t))
 pending_kept s (Look c) o = keep1 (λ (m : Memory). ArePending s.z (m Limit) (each s.z drawn_of (V s (Look c))) (length s.slots) (outcome_at s.slots))
     (looked_same s c) (fewer_pending s (w s (Look c)) (fewer_after s (Look c) tt))
 pending_kept s step o = fewer_pending s (w s step) (fewer_after s step tt)
@@ -224,11 +159,11 @@ undecided_before s step o u none = is (outcome_at s.slots u) refl where
 
 -- the new time is the own
 pub drew_owned : (s : Setting) (t : ℕ) → (v s).drawn ≡ None → length s.slots ≡ t
-    → AreOwned (each s.z drawn_of (set s.views s.me (drew s t))) (length (s.slots ++ None ∷ [])) (outcome_at (s.slots ++ None ∷ []))
+    → AreOwned (each s.z drawn_of (set s.views s.me (taken (v s) t))) (length (s.slots ++ None ∷ [])) (outcome_at (s.slots ++ None ∷ []))
 drew_owned s t free is u lt none = let len : length (s.slots ++ None ∷ []) ≡ length s.slots + 1 = length-append s.slots (None ∷ []) in
     elim (cases_lt u (length s.slots)) [
-      | inl old ↦ still_owned s (drew s t) u (λ e. absurd cc) (s.law.owned u old (sym (λ k. slots_grown s.slots k u) ∙ none))
-      | inr new ↦ let same : t ≡ u = omega arith in (s.me, (puts_each s.z drawn_of s.views s.me (drew s t) s.inside).here ∙ ap (λ (k : ℕ). Some k) same)
+      | inl old ↦ still_owned s (taken (v s) t) u (λ e. absurd cc) (s.law.owned u old (sym (λ k. slots_grown s.slots k u) ∙ none))
+      | inr new ↦ let same : t ≡ u = omega arith in (s.me, (puts_each s.z drawn_of s.views s.me (taken (v s) t) s.inside).here ∙ ap (λ (k : ℕ). Some k) same)
     ]
 
 -- another time than the one given up stays drawn
@@ -239,7 +174,7 @@ still_drawn (Some y) t u ne e = by_test (λ b. cond b None (Some y) ≡ Some u) 
 pub owned_kept : (s : Setting) (step : Step) → Opens s step → AreOwned (each s.z drawn_of (V s step)) (length (S s step)) (outcome_at (S s step))
 owned_kept s (Draw t) o = by_draw s (λ b vs. AreOwned (each s.z drawn_of vs) (length (cond b (s.slots ++ None ∷ []) s.slots))
     (outcome_at (cond b (s.slots ++ None ∷ []) s.slots))) t o.0 (drew_owned s t o.1)
-    (λ u lt none. still_owned s (missed s) u (λ e. e) (s.law.owned u lt none))
+    (λ u lt none. still_owned s (after_draw false (v s) t) u (λ e. e) (s.law.owned u lt none))
 owned_kept s (Decide t deed) o = λ u lt none. still_owned s (w s (Decide t deed)) u
     (λ e. let same : t ≡ u = cc (o.0, e) in absurd (decide_settles s t deed o (subst (λ (k : ℕ). outcome_at (S s (Decide t deed)) k ≡ None) (sym same) none)))
     (s.law.owned u (by_bool (λ b. u < length (cond b (set s.slots t (write_by s.me deed)) s.slots) → u < length s.slots) (x s (Decide t deed) == 0)
@@ -248,8 +183,8 @@ owned_kept s (Cancel t) o = λ u lt none. still_owned s (w s (Cancel t)) u
     (still_drawn (v s).drawn t u (λ same. cancel_settles s t o (subst (λ (k : ℕ). outcome_at (S s (Cancel t)) k ≡ None) (sym same) none)))
     (s.law.owned u (by_bool (λ b. u < length (cond b (set s.slots t (Some Nothing)) s.slots) → u < length s.slots) (x s (Cancel t) == 0)
     (λ _ lt. let len = length-set s.slots t (Some Nothing) in omega arith) (λ _ lt. lt) lt) (undecided_before s (Cancel t) o u none))
-owned_kept s (Look c) o = λ u lt none. still_owned s (w s (Look c)) u (λ e. looked_drawn s.z (v s) c (x s (Look c)) ∙ e) (s.law.owned u lt none)
-owned_kept s (Fill part y) o = λ u lt none. still_owned s (w s (Fill part y)) u (λ e. filled_drawn (v s) part y ∙ e) (s.law.owned u lt none)
+owned_kept s (Look c) o = λ u lt none. still_owned s (w s (Look c)) u (λ e. (looked_leaves s.z (v s) c (x s (Look c))).1 ∙ e) (s.law.owned u lt none)
+owned_kept s (Fill part y) o = λ u lt none. still_owned s (w s (Fill part y)) u (λ e. (filled_leaves (v s) part y).1 ∙ e) (s.law.owned u lt none)
 owned_kept s step o = λ u lt none. still_owned s (w s step) u (λ e. e) (s.law.owned u lt none)
 
 pub owned_merged : (g : Ground) (step : Step) → OpensTo g step → AreOwned (each g.z drawn_of g.views) (length (slots' g step)) (outcome_at (slots' g step))
@@ -267,15 +202,15 @@ fewer_alone s y less i j t e f = s.law.alone i j t (had i e) (had j f)
     had = by_seat s y (λ i a. a.drawn ≡ Some t → each s.z drawn_of s.views i ≡ Some t) (less t) (λ i ne e. e)
 
 -- the new time is below no clock yet, so no other seat has drawn it
-pub drew_alone : (s : Setting) (t : ℕ) → length s.slots ≡ t → AreAlone (each s.z drawn_of (set s.views s.me (drew s t)))
-drew_alone s t is i j u e f = by_seat s (drew s t) (λ i a. a.drawn ≡ Some u → i ≡ j)
-    (λ e. by_seat s (drew s t) (λ j b. b.drawn ≡ Some u → s.me ≡ j) (λ _. refl)
+pub drew_alone : (s : Setting) (t : ℕ) → length s.slots ≡ t → AreAlone (each s.z drawn_of (set s.views s.me (taken (v s) t)))
+drew_alone s t is i j u e f = by_seat s (taken (v s) t) (λ i a. a.drawn ≡ Some u → i ≡ j)
+    (λ e. by_seat s (taken (v s) t) (λ j b. b.drawn ≡ Some u → s.me ≡ j) (λ _. refl)
     (λ j ne f. let same : t ≡ u = cc in let lt = (s.law.pending j u f).1 in absurd (omega arith)) j f)
-    (λ i ne e. by_seat s (drew s t) (λ j b. b.drawn ≡ Some u → i ≡ j) (λ f. let same : t ≡ u = cc in let lt = (s.law.pending i u e).1 in
+    (λ i ne e. by_seat s (taken (v s) t) (λ j b. b.drawn ≡ Some u → i ≡ j) (λ f. let same : t ≡ u = cc in let lt = (s.law.pending i u e).1 in
     absurd (omega arith)) (λ j ne f. s.law.alone i j u e f) j f) i e
 
 pub alone_kept : (s : Setting) (step : Step) → Opens s step → AreAlone (each s.z drawn_of (V s step))
-alone_kept s (Draw t) o = by_draw s (λ _ vs. AreAlone (each s.z drawn_of vs)) t o.0 (drew_alone s t) (fewer_alone s (missed s) (λ u e. e))
+alone_kept s (Draw t) o = by_draw s (λ _ vs. AreAlone (each s.z drawn_of vs)) t o.0 (drew_alone s t) (fewer_alone s (after_draw false (v s) t) (λ u e. e))
 alone_kept s step o = fewer_alone s (w s step) (fewer_after s step tt)
 
 pub alone_merged : (g : Ground) (step : Step) → OpensTo g step → AreAlone (each g.z drawn_of g.views)
@@ -301,7 +236,7 @@ blank_at (suc n) zero = refl
 blank_at (suc n) (suc j) = blank_at n j
 
 -- so each part is none
-drew_parts : (s : Setting) (t : ℕ) (p : Part) → part_of (drew s t) p ≡ None
+drew_parts : (s : Setting) (t : ℕ) (p : Part) → part_of (taken (v s) t) p ≡ None
 drew_parts s t Key = refl
 drew_parts s t Length = refl
 drew_parts s t (Value j) = blank_at 8 j
@@ -336,9 +271,9 @@ fewer_filled s y m less same words = by_seat s y (λ i a. (t b : ℕ) (p : Part)
     (λ i ne t b p e f. words (cell_of s.z t) p ∙ s.law.filled i t b p e f)
 
 -- after a Draw that won nothing is filled
-pub drew_filled : (s : Setting) (t : ℕ) → AreFilled s.z s.memory (each s.z drawn_of (set s.views s.me (drew s t)))
-    (each s.z part_of (set s.views s.me (drew s t)))
-drew_filled s t = by_seat s (drew s t) (λ i a. (u b : ℕ) (p : Part) → a.drawn ≡ Some u → part_of a p ≡ Some b → s.memory (Cell (cell_of s.z u) p) ≡ b)
+pub drew_filled : (s : Setting) (t : ℕ) → AreFilled s.z s.memory (each s.z drawn_of (set s.views s.me (taken (v s) t)))
+    (each s.z part_of (set s.views s.me (taken (v s) t)))
+drew_filled s t = by_seat s (taken (v s) t) (λ i a. (u b : ℕ) (p : Part) → a.drawn ≡ Some u → part_of a p ≡ Some b → s.memory (Cell (cell_of s.z u) p) ≡ b)
     (λ u b p e f. absurd (cc (drew_parts s t p, f)))
     (λ i ne u b p e f. s.law.filled i u b p e f)
 
@@ -360,7 +295,7 @@ fill_filled s part y mine = by_seat s (w s (Fill part y)) (λ i a. (t b : ℕ) (
 
 pub filled_kept : (s : Setting) (step : Step) → Opens s step → AreFilled s.z (M s step) (each s.z drawn_of (V s step)) (each s.z part_of (V s step))
 filled_kept s (Draw t) o = by_draw s (λ _ vs. AreFilled s.z s.memory (each s.z drawn_of vs) (each s.z part_of vs)) t o.0 (λ _. drew_filled s t)
-    (fewer_filled s (missed s) s.memory (λ u e. e) (same_parts (missed s) (v s) refl refl refl refl) (λ c p. refl))
+    (fewer_filled s (after_draw false (v s) t) s.memory (λ u e. e) (same_parts (after_draw false (v s) t) (v s) refl refl refl refl) (λ c p. refl))
 filled_kept s (Fill part y) o = fill_filled s part y (own_drawn s o.0)
 filled_kept s (Look c) o = fewer_filled s (w s (Look c)) (M s (Look c)) (fewer_after s (Look c) tt) (looked_parts s.z (v s) c (x s (Look c)))
     (λ d p. (λ k. looked_same s c k (Cell d p)))

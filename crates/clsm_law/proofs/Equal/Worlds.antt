@@ -1,5 +1,5 @@
 -- What `==` says of worlds: whether they are the same but for the counts of the seats.
-use Rattle.std.proofs.Common.{◌≡◌, ℕ, true, refl, sym, ap, subst, ◌∙◌}
+use Rattle.std.proofs.Common.{◌≡◌, ℕ, true, refl, sym, ap, subst}
 use Rattle.std.proofs.Math.Bool.{true≢false}
 use Rattle.std.proofs.Math.Bridge.{le_prop}
 use Rattle.std.proofs.lemmas.Bool.Decides.{Decides-and, Decides-like}
@@ -23,123 +23,35 @@ use Rattle.clsm_law.specs.Same.{is_same_world, uncounted_world}
 use Rattle.clsm_law.proofs.Equal.Views.{Views-Decides}
 use Rattle.clsm_law.proofs.Equal.Mergers.{MergerView-Decides}
 
-between_same : {low high n : ℕ} (p q : IsBetween low high n) → p ≡ q
-between_same p q i = (le_prop p.0 q.0 i, le_prop p.1 q.1 i)
+-- a number that is within a range
+abbrev Within : ℕ → ℕ → Type 0
+Within low high = (n : ℕ) × IsBetween low high n
 
--- layouts of the same sizes are the same: that the sizes are in their ranges says no more
-same_sizes : (z : Layout) (cells seats chains run : ℕ) → z.cells ≡ cells → z.seats ≡ seats → z.chains ≡ chains → z.run ≡ run
-    → (c : IsBetween 4 65536 cells) (s : IsBetween 1 64 seats) (h : IsBetween 1 65536 chains) (r : IsBetween 4 4194304 run) → z
-    ≡ record {
-      cells = cells;
-      seats = seats;
-      chains = chains;
-      run = run;
-      patience = z.patience;
-      cells_in_range = c;
-      seats_in_range = s;
-      chains_in_range = h;
-      run_in_range = r;
-    }
-same_sizes z cells seats chains run a b d e c s h r =
-    let with_run : (c : IsBetween 4 65536 z.cells) (s : IsBetween 1 64 z.seats) (h : IsBetween 1 65536 z.chains) → z
-    ≡ record {
-      cells = z.cells;
-      seats = z.seats;
-      chains = z.chains;
-      run = run;
-      patience = z.patience;
-      cells_in_range = c;
-      seats_in_range = s;
-      chains_in_range = h;
-      run_in_range = r;
-    } =
-    λ c s h. subst (λ (n : ℕ). (r : IsBetween 4 4194304 n) → z ≡ record {
-      cells = z.cells;
-      seats = z.seats;
-      chains = z.chains;
-      run = n;
-      patience = z.patience;
-      cells_in_range = c;
-      seats_in_range = s;
-      chains_in_range = h;
-      run_in_range = r;
-    }) e
-    (λ r i. record {
-      cells = z.cells;
-      seats = z.seats;
-      chains = z.chains;
-      run = z.run;
-      patience = z.patience;
-      cells_in_range = between_same z.cells_in_range c i;
-      seats_in_range = between_same z.seats_in_range s i;
-      chains_in_range =
-          between_same z.chains_in_range h i;
-      run_in_range = between_same z.run_in_range r i;
-    }) r in
-    let with_chains : (c : IsBetween 4 65536 z.cells) (s : IsBetween 1 64 z.seats) → z
-    ≡ record {
-      cells = z.cells;
-      seats = z.seats;
-      chains = chains;
-      run = run;
-      patience = z.patience;
-      cells_in_range = c;
-      seats_in_range = s;
-      chains_in_range = h;
-      run_in_range = r;
-    } =
-    λ c s. subst (λ (n : ℕ). (h : IsBetween 1 65536 n) → z ≡ record {
-      cells = z.cells;
-      seats = z.seats;
-      chains = n;
-      run = run;
-      patience = z.patience;
-      cells_in_range = c;
-      seats_in_range = s;
-      chains_in_range = h;
-      run_in_range = r;
-    }) d (with_run c s) h in
-    let with_seats : (c : IsBetween 4 65536 z.cells) → z ≡ record {
-      cells = z.cells;
-      seats = seats;
-      chains = chains;
-      run = run;
-      patience = z.patience;
-      cells_in_range = c;
-      seats_in_range = s;
-      chains_in_range = h;
-      run_in_range = r;
-    } =
-    λ c. subst (λ (n : ℕ). (s : IsBetween 1 64 n) → z ≡ record {
-      cells = z.cells;
-      seats = n;
-      chains = chains;
-      run = run;
-      patience = z.patience;
-      cells_in_range = c;
-      seats_in_range = s;
-      chains_in_range = h;
-      run_in_range = r;
-    }) b (with_chains c) s in
-    subst (λ (n : ℕ). (c : IsBetween 4 65536 n) → z ≡ record {
-      cells = n;
-      seats = seats;
-      chains = chains;
-      run = run;
-      patience = z.patience;
-      cells_in_range = c;
-      seats_in_range = s;
-      chains_in_range = h;
-      run_in_range = r;
-    }) a with_seats c
+-- two of them are the same where the numbers are: that they are within says no more
+within_same : (low high : ℕ) (a b : Within low high) → a.0 ≡ b.0 → a ≡ b
+within_same low high a b e = subst (λ (n : ℕ). (r : IsBetween low high n) → a ≡ (n, r)) e
+    (λ r i. (a.0, (le_prop a.1.0 r.0 i, le_prop a.1.1 r.1 i))) b.1
 
 layout-same : (a b : Layout) → of_layouts.ghosts.eq a b ≡ true → a ≡ b
 layout-same a b h =
     let e = (Decides-and _ _ (unsigned_Decides a.cells b.cells) (Decides-and _ _ (unsigned_Decides a.seats b.seats)
     (Decides-and _ _ (unsigned_Decides a.chains b.chains) (Decides-and _ _ (unsigned_Decides a.run b.run) (unsigned_Decides a.patience b.patience))))).0
     h in
-    (λ i. record a { patience = e.1.1.1.1 i }) ∙ same_sizes (record a { patience = b.patience }) b.cells b.seats b.chains b.run e.0 e.1.0 e.1.1.0 e.1.1.1.0
-    b.cells_in_range b.seats_in_range b.chains_in_range b.run_in_range
+    let cells = within_same 4 65536 (a.cells, a.cells_in_range) (b.cells, b.cells_in_range) e.0 in
+    let seats = within_same 1 64 (a.seats, a.seats_in_range) (b.seats, b.seats_in_range) e.1.0 in
+    let chains = within_same 1 65536 (a.chains, a.chains_in_range) (b.chains, b.chains_in_range) e.1.1.0 in
+    let run = within_same 4 4194304 (a.run, a.run_in_range) (b.run, b.run_in_range) e.1.1.1.0 in
+    λ i. record {
+      cells = (cells i).0;
+      seats = (seats i).0;
+      chains = (chains i).0;
+      run = (run i).0;
+      patience = e.1.1.1.1 i;
+      cells_in_range = (cells i).1;
+      seats_in_range = (seats i).1;
+      chains_in_range = (chains i).1;
+      run_in_range = (run i).1;
+    }
 
 slot-same : (a b : Slot) → of_slots.ghosts.eq a b ≡ true → a ≡ b
 slot-same Nothing Nothing h = refl

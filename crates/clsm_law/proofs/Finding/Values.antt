@@ -15,7 +15,7 @@ use Rattle.clsm_law.specs.declared.layout.Layout.{Layout}
 use Rattle.clsm_law.specs.declared.view.SnapshotState.{SnapshotState}
 use Rattle.clsm_law.specs.declared.view.SnapshotState.TheVariants.{Absent, Noted, Timed, Open}
 use Rattle.clsm_law.specs.Memory.{Memory, cell_of, region_of, link_of, key_at}
-use Rattle.clsm_law.specs.Views.{idle, or_zero}
+use Rattle.clsm_law.specs.Views.{or_zero}
 use Rattle.clsm_law.specs.OpenSteps.{open_time}
 use Rattle.clsm_law.specs.Merging.{is_retired, is_all_quiet}
 use Rattle.clsm_law.specs.Worlds.{outcome_at, history_of, runs_of}
@@ -27,7 +27,7 @@ use Rattle.clsm_law.specs.Machine.{WorldState, IsLawful, memory_of}
 use Rattle.clsm_law.proofs.Cases.{by_test}
 use Rattle.clsm_law.proofs.Clock.Times.{region_of_epoch}
 use Rattle.clsm_law.proofs.Records.Histories.{settle, slot_of-history}
-use Rattle.clsm_law.proofs.Setting.{Ground, clock_live, shown_below_merged, past_below, not_all_quiet}
+use Rattle.clsm_law.proofs.Setting.{Ground, clock_live, shown_below_merged, past_below, not_all_quiet, holder_below}
 use Rattle.clsm_law.proofs.Stepping.Stepped.{lawful_ground}
 use Rattle.clsm_law.proofs.Finding.Chains.{first_epoch, first_epoch_live, one_of_two, of_epoch, chain_found}
 use Rattle.clsm_law.proofs.Finding.Orders.{order_found, order_own}
@@ -213,12 +213,6 @@ snapshots_read w l i s timed key =
     let floor = l.law.floors.merged in
     let past = past_below g i in
     read_right g w.merger.merged w.merger.merged_floor key s (inl (refl, refl)) (omega arith) (omega arith)
-
--- only a seat holds a component
-holder_below : (g : Ground) (i c : ℕ) → each g.z held_of g.views i ≡ Some c → i < length g.views
-holder_below g i c e = ⊎_elim (λ (lt : i < length g.views). lt)
-    (λ (le : length g.views ≤ i). absurd (let none : each g.z held_of g.views i ≡ None = ap held_of (get_or_past g.views i (idle g.z) le) in cc (none, e)))
-    (cases_lt i (length g.views))
 
 -- a held component answers from the floor of its runs on
 held_answers : (g : Ground) (i c : ℕ) → each g.z held_of g.views i ≡ Some c → (floor : ℕ) × AnswersFrom g.merger c floor × (floor ≤ g.merger.merged_floor)

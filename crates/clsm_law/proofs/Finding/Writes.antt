@@ -1,6 +1,6 @@
 -- What the cells of a lawful world hold are the history's writes, and the newest of those in a
 -- chain.
-use Rattle.std.proofs.Common.{◌≡◌, ℕ, zero, suc, ◌<◌, ◌≤◌, ◌==◌, ◌&&◌, Bool, true, false, cond, nat_lt, List, [], ◌∷◌, length, take, sym, refl, ap, ◌∙◌}
+use Rattle.std.proofs.Common.{◌≡◌, ℕ, ◌<◌, ◌≤◌, ◌==◌, ◌&&◌, Bool, true, false, cond, nat_lt, List, [], ◌∷◌, length, take, sym, refl, ap, ◌∙◌}
 use Rattle.std.proofs.Common.{subst, arith, inl, inr, ⊎_elim, Option, Some, None, eq-eqb, ne_eqb}
 use Rattle.std.specs.Prelude.{slice_index}
 use Rattle.std.proofs.lemmas.Bool.{cases_lt, lt-ltb, le-ltb}
@@ -17,20 +17,14 @@ use Rattle.clsm_law.specs.Views.{IsShort, length_of, state_of}
 use Rattle.clsm_law.specs.Law.{In, Shows}
 use Rattle.clsm_law.specs.Reading.{cell_value_words, cell_value, is_written, write_at, later, newest_among}
 use Rattle.clsm_law.proofs.Records.Histories.{settle, at_most_eight}
+use Rattle.clsm_law.proofs.Cases.{below}
 
 -- ---- the value that a cell holds
 
 -- a word of a cell
 word_at : (memory : Memory) (c j : ℕ) → j < 8 → slice_index (cell_value_words memory c) j ≡ memory (Cell c (Value j))
-word_at memory c zero lt = refl
-word_at memory c (suc zero) lt = refl
-word_at memory c (suc (suc zero)) lt = refl
-word_at memory c (suc (suc (suc zero))) lt = refl
-word_at memory c (suc (suc (suc (suc zero)))) lt = refl
-word_at memory c (suc (suc (suc (suc (suc zero))))) lt = refl
-word_at memory c (suc (suc (suc (suc (suc (suc zero)))))) lt = refl
-word_at memory c (suc (suc (suc (suc (suc (suc (suc zero))))))) lt = refl
-word_at memory c (suc (suc (suc (suc (suc (suc (suc (suc j)))))))) lt = absurd (omega arith)
+word_at memory c = below (λ j. slice_index (cell_value_words memory c) j ≡ memory (Cell c (Value j))) 8
+    (refl, (refl, (refl, (refl, (refl, (refl, (refl, (refl, tt))))))))
 
 -- a cell whose first words are these holds them
 words_shown : (memory : Memory) (c : ℕ) (l : List ℕ) → length l ≤ 8 → ((j : ℕ) → j < length l → memory (Cell c (Value j)) ≡ slice_index l j)

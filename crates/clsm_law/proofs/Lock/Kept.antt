@@ -12,8 +12,6 @@ use Rattle.clsm_model.specs.Right.{write_by}
 use Rattle.clsm_law.specs.declared.layout.Layout.{Layout}
 use Rattle.clsm_law.specs.declared.word.Word.{Word}
 use Rattle.clsm_law.specs.declared.word.Word.TheVariants.{Lock, Snap, Pin as PinOf}
-use Rattle.clsm_law.specs.declared.word.Part.{Part}
-use Rattle.clsm_law.specs.declared.word.Part.TheVariants.{Key}
 use Rattle.clsm_law.specs.declared.step.Step.{Step}
 use Rattle.clsm_law.specs.declared.step.Step.TheVariants.{EnterShared, LeaveShared, EnterExclusive, LeaveExclusive, Draw, Fill, Decide, Cancel, Look, Pad}
 use Rattle.clsm_law.specs.declared.step.Step.TheVariants.{WriteRun, ClearState, Publish, ExtendClock, ExtendLimit}
@@ -21,49 +19,24 @@ use Rattle.clsm_law.specs.declared.view.View.{View}
 use Rattle.clsm_law.specs.declared.view.Mode.{Mode}
 use Rattle.clsm_law.specs.declared.view.Mode.TheVariants.{Free, Shared, Exclusive}
 use Rattle.clsm_law.specs.declared.merger.MergerView.{MergerView}
-use Rattle.clsm_law.specs.declared.merger.Phase.{Phase}
-use Rattle.clsm_law.specs.declared.merger.Phase.TheVariants.{Clean, Frozen, Retired}
+use Rattle.clsm_law.specs.declared.merger.Phase.TheVariants.{Frozen}
 use Rattle.clsm_law.specs.Memory.{Memory}
 use Rattle.clsm_law.specs.Views.{idle, is_shared, is_exclusive}
-use Rattle.clsm_law.specs.Relation.{looked, filled}
-use Rattle.clsm_law.specs.Merging.{is_clean, is_frozen, is_retired, merger_looked, unseen, reader_at, reader_by}
+use Rattle.clsm_law.specs.Merging.{is_retired, merger_looked, unseen, reader_at, reader_by}
 use Rattle.clsm_law.specs.Law.{each, mode_of, holders, IsLockedOut, AreSole, IsMerger}
 use Rattle.clsm_law.proofs.Cases.{by_test, by_bool}
-use Rattle.clsm_law.proofs.Frames.{at_each, keep1, puts_each, same_each}
+use Rattle.clsm_law.proofs.Frames.{keep1, puts_each, same_each, looked_leaves, filled_leaves}
 use Rattle.clsm_law.proofs.Setting.{Setting, ground, v, x, w, M, V, S, Opens, looked_same, Ground, found, merger', memory', slots', OpensTo, merger_looked_same}
+use Rattle.clsm_law.proofs.Setting.{by_seat}
 use Rattle.clsm_law.proofs.GrowthMerger.{length_passed}
 use Rattle.clsm_law.proofs.Decided.Kept.{run_other}
+use Rattle.clsm_law.proofs.Phases.{retired_not_clean, frozen_not_clean}
 
--- ---- phases and modes
+-- ---- tests and modes
 
 -- a test does not come out both ways
 pub not_both : {b : Bool} → b ≡ true → b ≡ false → ⊥
 not_both e f = cc
-
--- the three phases exclude one another
-pub retired_not_clean : (p : Phase) → is_retired p ≡ true → is_clean p ≡ true → ⊥
-retired_not_clean Clean e f = cc
-retired_not_clean Frozen e f = cc
-retired_not_clean Retired e f = cc
-
-pub frozen_not_clean : (p : Phase) → is_frozen p ≡ true → is_clean p ≡ true → ⊥
-frozen_not_clean Clean e f = cc
-frozen_not_clean Frozen e f = cc
-frozen_not_clean Retired e f = cc
-
-pub frozen_not_retired : (p : Phase) → is_frozen p ≡ true → is_retired p ≡ true → ⊥
-frozen_not_retired Clean e f = cc
-frozen_not_retired Frozen e f = cc
-frozen_not_retired Retired e f = cc
-
--- a look and a fill leave the mode
-pub mode_looked : (z : Layout) (y : View) (word : Word) (n : ℕ) → (looked z y word n).mode ≡ y.mode
-mode_looked z y Lock n = refl
-mode_looked z y word n = refl
-
-pub mode_filled : (y : View) (part : Part) (n : ℕ) → (filled y part n).mode ≡ y.mode
-mode_filled y Key n = refl
-mode_filled y part n = refl
 
 -- a look leaves the merger's hold
 pub exclusive_looked : (z : Layout) (m : MergerView) (word : Word) (n : ℕ) → (merger_looked z m word n).exclusive ≡ m.exclusive
@@ -240,9 +213,9 @@ lock_kept s EnterExclusive o = by_test (λ b. (n : ℕ) → n + holders (v s) �
     (counted s (w s EnterExclusive))
 lock_kept s LeaveShared o = lock_leaves s (sum_by holders (V s LeaveShared)) o (counted s (w s LeaveShared))
 lock_kept s LeaveExclusive o = lock_gives s (sum_by holders (V s LeaveExclusive)) o (counted s (w s LeaveExclusive))
-lock_kept s (Fill part n) o = s.law.lock ∙ same_count s (w s (Fill part n)) (mode_filled (v s) part n)
+lock_kept s (Fill part n) o = s.law.lock ∙ same_count s (w s (Fill part n)) (filled_leaves (v s) part n).0
 lock_kept s (Look word) o = ap (λ (m : Memory). m Lock) (looked_same s word) ∙ s.law.lock
-    ∙ same_count s (w s (Look word)) (mode_looked s.z (v s) word (x s (Look word)))
+    ∙ same_count s (w s (Look word)) (looked_leaves s.z (v s) word (x s (Look word))).0
 lock_kept s step o = s.law.lock ∙ same_count s (w s step) refl
 
 -- the merger leaves the word at 0, and no seat holds the lock
@@ -261,24 +234,19 @@ lock_merged g step o = g.law.lock
 
 -- ---- the merger locks the callers out, and its end is its own
 
+locked_out_after : (s : Setting) (step : Step) → Opens s step → s.merger.exclusive ≡ true → (w s step).mode ≡ Free
+locked_out_after s (EnterShared l) o e = by_test (λ b. cond b Shared (v s).mode ≡ Free) (x s (EnterShared l)) l
+    (λ won. absurd (not_both e (enters_free s l o won))) (λ _. o.0)
+locked_out_after s EnterExclusive o e = by_test (λ b. cond b Exclusive (v s).mode ≡ Free) (x s EnterExclusive) 0
+    (λ won. absurd (not_both e (unlocked (ground s) won))) (λ _. o)
+locked_out_after s LeaveShared o e = refl
+locked_out_after s LeaveExclusive o e = refl
+locked_out_after s (Fill part n) o e = (filled_leaves (v s) part n).0 ∙ s.law.locked_out e s.me
+locked_out_after s (Look word) o e = (looked_leaves s.z (v s) word (x s (Look word))).0 ∙ s.law.locked_out e s.me
+locked_out_after s step o e = s.law.locked_out e s.me
+
 pub locked_out_kept : (s : Setting) (step : Step) → Opens s step → IsLockedOut s.merger.exclusive (each s.z mode_of (V s step))
-locked_out_kept s (EnterShared l) o = λ e. let p = puts_each s.z mode_of s.views s.me (w s (EnterShared l)) s.inside in
-    at_each (λ i. each s.z mode_of (V s (EnterShared l)) i ≡ Free) s.me
-    (p.here ∙ by_test (λ b. cond b Shared (v s).mode ≡ Free) (x s (EnterShared l)) l (λ won. absurd (not_both e (enters_free s l o won))) (λ _. o.0))
-    (λ i ne. p.other i ne ∙ s.law.locked_out e i)
-locked_out_kept s EnterExclusive o = λ e. let p = puts_each s.z mode_of s.views s.me (w s EnterExclusive) s.inside in
-    at_each (λ i. each s.z mode_of (V s EnterExclusive) i ≡ Free) s.me
-    (p.here ∙ by_test (λ b. cond b Exclusive (v s).mode ≡ Free) (x s EnterExclusive) 0 (λ won. absurd (not_both e (unlocked (ground s) won))) (λ _. o))
-    (λ i ne. p.other i ne ∙ s.law.locked_out e i)
-locked_out_kept s LeaveShared o = λ e. let p = puts_each s.z mode_of s.views s.me (w s LeaveShared) s.inside in
-    at_each (λ i. each s.z mode_of (V s LeaveShared) i ≡ Free) s.me p.here (λ i ne. p.other i ne ∙ s.law.locked_out e i)
-locked_out_kept s LeaveExclusive o = λ e. let p = puts_each s.z mode_of s.views s.me (w s LeaveExclusive) s.inside in
-    at_each (λ i. each s.z mode_of (V s LeaveExclusive) i ≡ Free) s.me p.here (λ i ne. p.other i ne ∙ s.law.locked_out e i)
-locked_out_kept s (Fill part n) o = keep1 (IsLockedOut s.merger.exclusive)
-    (same_each s.z mode_of s.views s.me (w s (Fill part n)) s.inside (mode_filled (v s) part n)) s.law.locked_out
-locked_out_kept s (Look word) o = keep1 (IsLockedOut s.merger.exclusive)
-    (same_each s.z mode_of s.views s.me (w s (Look word)) s.inside (mode_looked s.z (v s) word (x s (Look word)))) s.law.locked_out
-locked_out_kept s step o = keep1 (IsLockedOut s.merger.exclusive) (same_each s.z mode_of s.views s.me (w s step) s.inside refl) s.law.locked_out
+locked_out_kept s step o e = by_seat s (w s step) (λ _ u. u.mode ≡ Free) (locked_out_after s step o e) (λ i ne. s.law.locked_out e i)
 
 pub locked_out_merged : (g : Ground) (step : Step) → OpensTo g step → IsLockedOut (merger' g step).exclusive (each g.z mode_of g.views)
 locked_out_merged g EnterExclusive o = by_test (λ b. IsLockedOut (cond b true g.merger.exclusive) (each g.z mode_of g.views)) (found g EnterExclusive) 0
@@ -315,8 +283,8 @@ sole_kept s EnterExclusive o = sole_by s (w s EnterExclusive)
     (λ i ne e. by_test (λ b. cond b Exclusive (v s).mode ≡ Free) (x s EnterExclusive) 0 (λ won. absurd (let free = all_free (ground s) won i in cc)) (λ _. o))
 sole_kept s LeaveShared o = sole_by s (w s LeaveShared) (λ e. absurd cc) (λ i ne e. refl)
 sole_kept s LeaveExclusive o = sole_by s (w s LeaveExclusive) (λ e. absurd cc) (λ i ne e. refl)
-sole_kept s (Fill part n) o = sole_same s (w s (Fill part n)) (mode_filled (v s) part n)
-sole_kept s (Look word) o = sole_same s (w s (Look word)) (mode_looked s.z (v s) word (x s (Look word)))
+sole_kept s (Fill part n) o = sole_same s (w s (Fill part n)) (filled_leaves (v s) part n).0
+sole_kept s (Look word) o = sole_same s (w s (Look word)) (looked_leaves s.z (v s) word (x s (Look word))).0
 sole_kept s step o = sole_same s (w s step) refl
 
 pub sole_merged : (g : Ground) (step : Step) → OpensTo g step → AreSole (each g.z mode_of g.views)
@@ -333,17 +301,21 @@ pub cancel_length : (s : Setting) (t : ℕ) → length (S s (Cancel t)) ≡ leng
 cancel_length s t = by_test (λ b. length (cond b (set s.slots t (Some Nothing)) s.slots) ≡ length s.slots) (x s (Cancel t)) 0
     (λ _. length-set s.slots t (Some Nothing)) (λ _. refl)
 
-pub merger_kept : (s : Setting) (step : Step) → Opens s step → IsMerger s.z s.merger (length (S s step))
-merger_kept s (Draw t) o = let m = s.law.merger in record {
+-- while the merger does not hold the lock, it says nothing of the clock
+pub merger_unheld : (s : Setting) (clock : ℕ) → s.merger.exclusive ≡ false → IsMerger s.z s.merger clock
+merger_unheld s clock free = let m = s.law.merger in record {
   seats = m.seats;
   some_merged = m.some_merged;
   clean = m.clean;
   pads = m.pads;
   extends = m.extends;
   limit_after = m.limit_after;
-  at_end = λ e. absurd (not_both (m.extends e) (shared_free (ground s) s.me o.0));
+  at_end = λ e. absurd (not_both (m.extends e) free);
   top = m.top;
 }
+
+pub merger_kept : (s : Setting) (step : Step) → Opens s step → IsMerger s.z s.merger (length (S s step))
+merger_kept s (Draw t) o = merger_unheld s (length (S s (Draw t))) (shared_free (ground s) s.me o.0)
 merger_kept s (Decide t deed) o = keep1 (IsMerger s.z s.merger) (decide_length s t deed) s.law.merger
 merger_kept s (Cancel t) o = keep1 (IsMerger s.z s.merger) (cancel_length s t) s.law.merger
 merger_kept s step o = s.law.merger

@@ -21,10 +21,11 @@ use Rattle.clsm_law.specs.Views.{next_word}
 use Rattle.clsm_law.specs.Relation.{takes_hold, ended_snapshot, timed_by}
 use Rattle.clsm_law.specs.Merging.{is_retired, is_all_quiet, unseen, reader_at, reader_by, differs, first_noted}
 use Rattle.clsm_law.specs.Law.{each, pin_of, pinned_of, held_of, snapshot_of, ArePins, AreOdd, IsFirst, IsRetiredFor, AreHeld, AreNotes, note_of}
-use Rattle.clsm_law.proofs.Frames.{at_each, keep1, keep2, put_here, put_other, puts_each, same_each}
-use Rattle.clsm_law.proofs.Setting.{Setting, v, x, w, M, V, Opens, looked_same, Ground, found, memory', merger', OpensTo, merger_looked_same}
+use Rattle.clsm_law.proofs.Frames.{keep1, put_here, put_other, same_each}
+use Rattle.clsm_law.proofs.Setting.{Setting, v, x, w, M, V, Opens, looked_same, Ground, found, memory', merger', OpensTo, merger_looked_same, by_seat}
 use Rattle.clsm_law.proofs.Decided.Kept.{run_other}
-use Rattle.clsm_law.proofs.Lock.Kept.{not_both, retired_not_clean, frozen_not_retired}
+use Rattle.clsm_law.proofs.Lock.Kept.{not_both}
+use Rattle.clsm_law.proofs.Phases.{retired_not_clean, frozen_not_retired}
 
 -- ---- the pin words
 
@@ -36,10 +37,9 @@ pins_same s step m e = keep1 (ArePins s.z (M s step)) (same_each s.z pin_of s.vi
 -- a step that moves the seat's pin and its word alike
 pins_moved : (s : Setting) (step : Step) (n : ℕ) → (w s step).pin ≡ n → ((u : Word) → M s step u ≡ put s.memory (PinOf s.me) n u)
     → ArePins s.z (M s step) (each s.z pin_of (V s step))
-pins_moved s step n e m = let p = puts_each s.z pin_of s.views s.me (w s step) s.inside in
-    at_each (λ i. i < s.z.seats → M s step (PinOf i) ≡ each s.z pin_of (V s step) i) s.me
-    (λ lt. m (PinOf s.me) ∙ put_here s.memory (PinOf s.me) n ∙ sym (p.here ∙ e))
-    (λ i ne lt. m (PinOf i) ∙ put_other s.memory (PinOf s.me) (PinOf i) n (λ same. ne cc) ∙ s.law.pins i lt ∙ sym (p.other i ne))
+pins_moved s step n e m = by_seat s (w s step) (λ i u. i < s.z.seats → M s step (PinOf i) ≡ u.pin)
+    (λ lt. m (PinOf s.me) ∙ put_here s.memory (PinOf s.me) n ∙ sym e)
+    (λ i ne lt. m (PinOf i) ∙ put_other s.memory (PinOf s.me) (PinOf i) n (λ same. ne cc) ∙ s.law.pins i lt)
 
 pub pins_kept : (s : Setting) (step : Step) → Opens s step → ArePins s.z (M s step) (each s.z pin_of (V s step))
 pins_kept s Pin o = pins_moved s Pin (next_word (v s).pin) refl (λ u. refl)
@@ -55,19 +55,15 @@ pins_merged g step o = g.law.pins
 
 -- ---- a pin word is odd where a read runs
 
--- the seat's own pin is odd as it is to be, and the others' are as before
-odd_by : (s : Setting) (step : Step) → (w s step).pin % 2 ≡ cond (w s step).pinned 1 0 → AreOdd (each s.z pin_of (V s step)) (each s.z pinned_of (V s step))
-odd_by s step now = let p = puts_each s.z pin_of s.views s.me (w s step) s.inside in let q = puts_each s.z pinned_of s.views s.me (w s step) s.inside in
-    at_each (λ i. each s.z pin_of (V s step) i % 2 ≡ cond (each s.z pinned_of (V s step) i) 1 0) s.me
-    (keep2 (λ (a : ℕ) (b : Bool). a % 2 ≡ cond b 1 0) p.here q.here now)
-    (λ i ne. keep2 (λ (a : ℕ) (b : Bool). a % 2 ≡ cond b 1 0) (p.other i ne) (q.other i ne) (s.law.odd i))
+odd_after : (s : Setting) (step : Step) → Opens s step → (w s step).pin % 2 ≡ cond (w s step).pinned 1 0
+odd_after s Pin o = let a : (v s).pin % 2 ≡ 0 = s.law.odd s.me ∙ ap (λ b. cond b 1 0) o in omega arith
+odd_after s (Unpin end) o = let a : (v s).pin % 2 ≡ 1 = s.law.odd s.me ∙ ap (λ b. cond b 1 0) o.0 in omega arith
+odd_after s (Fill Key n) o = s.law.odd s.me
+odd_after s (Look Clock) o = s.law.odd s.me
+odd_after s step o = s.law.odd s.me
 
 pub odd_kept : (s : Setting) (step : Step) → Opens s step → AreOdd (each s.z pin_of (V s step)) (each s.z pinned_of (V s step))
-odd_kept s Pin o = odd_by s Pin (let a : (v s).pin % 2 ≡ 0 = s.law.odd s.me ∙ ap (λ b. cond b 1 0) o in omega arith)
-odd_kept s (Unpin end) o = odd_by s (Unpin end) (let a : (v s).pin % 2 ≡ 1 = s.law.odd s.me ∙ ap (λ b. cond b 1 0) o.0 in omega arith)
-odd_kept s (Fill Key n) o = odd_by s (Fill Key n) (s.law.odd s.me)
-odd_kept s (Look Clock) o = odd_by s (Look Clock) (s.law.odd s.me)
-odd_kept s step o = odd_by s step (s.law.odd s.me)
+odd_kept s step o = by_seat s (w s step) (λ i u. u.pin % 2 ≡ cond u.pinned 1 0) (odd_after s step o) (λ i ne. s.law.odd i)
 
 pub odd_merged : (g : Ground) (step : Step) → OpensTo g step → AreOdd (each g.z pin_of g.views) (each g.z pinned_of g.views)
 odd_merged g step o = g.law.odd
@@ -78,28 +74,24 @@ odd_merged g step o = g.law.odd
 abbrev Holds : MergerView → ℕ → ℕ → Bool → ℕ → Type 0
 Holds m i c pinned pin = (pinned ≡ true) × ((c ≡ m.merged) ⊎ IsRetiredFor m i pin c)
 
--- the seat's own component after the step, and the others' as before
-held_by : (s : Setting) (step : Step) → ((c : ℕ) → (w s step).held ≡ Some c → Holds s.merger s.me c (w s step).pinned (w s step).pin)
-    → AreHeld s.merger (each s.z held_of (V s step)) (each s.z pinned_of (V s step)) (each s.z pin_of (V s step))
-held_by s step now = let h = puts_each s.z held_of s.views s.me (w s step) s.inside in let p = puts_each s.z pinned_of s.views s.me (w s step) s.inside in
-    let q = puts_each s.z pin_of s.views s.me (w s step) s.inside in
-    at_each (λ i. (c : ℕ) → each s.z held_of (V s step) i ≡ Some c → Holds s.merger i c (each s.z pinned_of (V s step) i) (each s.z pin_of (V s step) i)) s.me
-    (λ c e. keep2 (Holds s.merger s.me c) p.here q.here (now c (sym h.here ∙ e)))
-    (λ i ne c e. keep2 (Holds s.merger i c) (p.other i ne) (q.other i ne) (s.law.held i c (sym (h.other i ne) ∙ e)))
-
 -- the first look at MERGED under a pin finds the newest component
 takes_newest : (s : Setting) (b : Bool) (c : ℕ) → (b ≡ true → (v s).pinned ≡ true) → cond b (Some (s.memory Merged)) (v s).held ≡ Some c
     → Holds s.merger s.me c (v s).pinned (v s).pin
 takes_newest s true c pins e = let a = s.law.merged in (pins refl, inl cc)
 takes_newest s false c pins e = s.law.held s.me c e
 
+-- the seat's own component after the step
+held_after : (s : Setting) (step : Step) → Opens s step → (c : ℕ) → (w s step).held ≡ Some c → Holds s.merger s.me c (w s step).pinned (w s step).pin
+held_after s Pin o = λ c e. absurd cc
+held_after s (Unpin end) o = λ c e. absurd cc
+held_after s (Fill Key n) o = s.law.held s.me
+held_after s (Look Merged) o = λ c. takes_newest s (takes_hold (v s)) c (λ e. (and_parts (v s).pinned (not (is_some (v s).held)) e).0)
+held_after s step o = s.law.held s.me
+
 pub held_kept : (s : Setting) (step : Step) → Opens s step → AreHeld s.merger (each s.z held_of (V s step)) (each s.z pinned_of (V s step))
     (each s.z pin_of (V s step))
-held_kept s Pin o = held_by s Pin (λ c e. absurd cc)
-held_kept s (Unpin end) o = held_by s (Unpin end) (λ c e. absurd cc)
-held_kept s (Fill Key n) o = held_by s (Fill Key n) (s.law.held s.me)
-held_kept s (Look Merged) o = held_by s (Look Merged) (λ c. takes_newest s (takes_hold (v s)) c (λ e. (and_parts (v s).pinned (not (is_some (v s).held)) e).0))
-held_kept s step o = held_by s step (s.law.held s.me)
+held_kept s step o = by_seat s (w s step) (λ i u. (c : ℕ) → u.held ≡ Some c → Holds s.merger i c u.pinned u.pin) (held_after s step o)
+    (λ i ne. s.law.held i)
 
 -- ---- the merger and the components held
 
@@ -223,10 +215,8 @@ held_merged g step o = g.law.held
 -- the seat's own snapshot word after the step, and the others' as before
 notes_by : (s : Setting) (step : Step) → ((i : ℕ) → i ≢ s.me → M s step (Snap i) ≡ s.memory (Snap i))
     → (s.me < s.z.seats → M s step (Snap s.me) ≡ note_of (w s step).snapshot) → AreNotes s.z (M s step) (each s.z snapshot_of (V s step))
-notes_by s step other now = let p = puts_each s.z snapshot_of s.views s.me (w s step) s.inside in
-    at_each (λ i. i < s.z.seats → M s step (Snap i) ≡ note_of (each s.z snapshot_of (V s step) i)) s.me
-    (λ lt. now lt ∙ sym (ap note_of p.here))
-    (λ i ne lt. other i ne ∙ s.law.notes i lt ∙ sym (ap note_of (p.other i ne)))
+notes_by s step other now = by_seat s (w s step) (λ i u. i < s.z.seats → M s step (Snap i) ≡ note_of u.snapshot) now
+    (λ i ne lt. other i ne ∙ s.law.notes i lt)
 
 -- a timed snapshot and an open one note what was noted
 note_ended : (y : SnapshotState) → note_of y ≡ note_of (ended_snapshot y)

@@ -23,14 +23,15 @@ use Rattle.clsm_law.specs.declared.merger.Phase.{Phase}
 use Rattle.clsm_law.specs.declared.merger.Phase.TheVariants.{Clean, Frozen, Retired}
 use Rattle.clsm_law.specs.OpenSteps.{IsEndingWith}
 use Rattle.clsm_law.specs.Relation.{ended_snapshot, timed_by}
-use Rattle.clsm_law.specs.Merging.{is_clean, is_frozen, is_retired, epoch_end, noted_time, least, round_on, round_by, is_whole, lesser, round_end, floor_by}
+use Rattle.clsm_law.specs.Merging.{is_frozen, is_retired, epoch_end, noted_time, least, round_on, round_by, is_whole, lesser, round_end, floor_by}
 use Rattle.clsm_law.specs.Worlds.{past_of}
 use Rattle.clsm_law.specs.Law.{each, past_time_of, pinned_of, snapshot_of, IsSnapshot, AreSnapshots, note_of, IsPassed, ArePassed, AreFloors}
 use Rattle.clsm_law.proofs.Cases.{by_test, by_bool}
-use Rattle.clsm_law.proofs.Frames.{at_each, keep1, keep2, keep3, puts_each}
-use Rattle.clsm_law.proofs.Setting.{Setting, ground, v, w, M, V, Opens, Ground, facts, merger', memory', OpensTo, past_below}
+use Rattle.clsm_law.proofs.Frames.{keep1, keep2}
+use Rattle.clsm_law.proofs.Setting.{Setting, ground, v, w, M, V, Opens, Ground, facts, merger', memory', OpensTo, past_below, by_seat}
 use Rattle.clsm_law.proofs.Records.Histories.{end_of-past}
 use Rattle.clsm_law.proofs.Clock.Kept.{frozen_clock, clock_grows, clock_grows'}
+use Rattle.clsm_law.proofs.Phases.{clean_frozen, retired_frozen}
 
 -- ---- each snapshot by itself
 
@@ -81,14 +82,9 @@ snapshot_ended h v end floor n past pinned (Open k s) o le i = i
 snapshots_by : (s : Setting) (step : Step) → Opens s step → (v s).past ≤ (w s step).past
     → IsSnapshot s.merger.floor (M s step Clock) (w s step).past (w s step).pinned (w s step).snapshot
     → AreSnapshots s.merger.floor (M s step Clock) (each s.z past_time_of (V s step)) (each s.z pinned_of (V s step)) (each s.z snapshot_of (V s step))
-snapshots_by s step o le now = let a = puts_each s.z past_time_of s.views s.me (w s step) s.inside in let b =
-    puts_each s.z pinned_of s.views s.me (w s step) s.inside in let c = puts_each s.z snapshot_of s.views s.me (w s step) s.inside in
-    at_each (λ i. IsSnapshot s.merger.floor (M s step Clock) (each s.z past_time_of (V s step) i) (each s.z pinned_of (V s step) i)
-    (each s.z snapshot_of (V s step) i)) s.me
-    (keep3 (IsSnapshot s.merger.floor (M s step Clock)) a.here b.here c.here now)
-    (λ i ne. keep3 (IsSnapshot s.merger.floor (M s step Clock)) (a.other i ne) (b.other i ne) (c.other i ne)
-    (snapshot_more s.merger.floor (s.memory Clock) (M s step Clock) (each s.z past_time_of s.views i) (each s.z past_time_of s.views i)
-    (each s.z pinned_of s.views i) (each s.z snapshot_of s.views i) (clock_grows s step o) (omega arith) (s.law.snapshots i)))
+snapshots_by s step o le now = by_seat s (w s step) (λ i u. IsSnapshot s.merger.floor (M s step Clock) u.past u.pinned u.snapshot) now
+    (λ i ne. snapshot_more s.merger.floor (s.memory Clock) (M s step Clock) (each s.z past_time_of s.views i) (each s.z past_time_of s.views i)
+    (each s.z pinned_of s.views i) (each s.z snapshot_of s.views i) (clock_grows s step o) (omega arith) (s.law.snapshots i))
 
 -- a step that leaves the pin and the snapshot
 snapshots_same : (s : Setting) (step : Step) → Opens s step → (v s).past ≤ (w s step).past → (w s step).pinned ≡ (v s).pinned → (w s step).snapshot
@@ -158,16 +154,6 @@ passed_unfrozen : (round : Option Round) (end : ℕ) (snapshot : ℕ → Snapsho
 passed_unfrozen None end snapshot = tt
 passed_unfrozen (Some r) end snapshot = λ e. absurd cc
 
--- the seat's own snapshot is passed as before the step, and so are the others'
-passed_by : (s : Setting) (step : Step) (frozen : Bool) (round : Option Round) (end : ℕ)
-    → ((n : Option ℕ) → frozen ≡ true → IsPassed end n (v s).snapshot → IsPassed end n (w s step).snapshot)
-    → ArePassed frozen round end (each s.z snapshot_of s.views) → ArePassed frozen round end (each s.z snapshot_of (V s step))
-passed_by s step frozen None end now h = tt
-passed_by s step frozen (Some r) end now h = λ e. let p = puts_each s.z snapshot_of s.views s.me (w s step) s.inside in
-    at_each (λ i. i < r.next → IsPassed end r.least (each s.z snapshot_of (V s step) i)) s.me
-    (λ lt. keep1 (IsPassed end r.least) p.here (now r.least e (h e s.me lt)))
-    (λ i ne lt. keep1 (IsPassed end r.least) (p.other i ne) (h e i lt))
-
 -- the clock looked at is at or above the end of the frozen epoch
 passed_timed : (end n : ℕ) (a : Option ℕ) (y : SnapshotState) → end ≤ n → IsPassed end a y → IsPassed end a (timed_by y n)
 passed_timed end n a (Timed k s) le h = h
@@ -193,18 +179,27 @@ passed_absent : (end : ℕ) (a : Option ℕ) → IsPassed end a Absent
 passed_absent end None = tt
 passed_absent end (Some m) = tt
 
+-- what the seat's own snapshot is passed by, it is passed by after the step
+passed_after : (s : Setting) (step : Step) → Opens s step → is_frozen s.merger.phase ≡ true → (n : Option ℕ)
+    → IsPassed (epoch_end s.z s.merger) n (v s).snapshot → IsPassed (epoch_end s.z s.merger) n (w s step).snapshot
+passed_after s (Unpin end) o e n = passed_ended (epoch_end s.z s.merger) n (v s).snapshot
+passed_after s (Look Clock) o e n = passed_timed (epoch_end s.z s.merger) (s.memory Clock) n (v s).snapshot (frozen_clock (ground s) e)
+passed_after s (Note b) o e n = λ h. passed_noted (epoch_end s.z s.merger) n b
+passed_after s CloseSnapshot o e n = λ h. passed_absent (epoch_end s.z s.merger) n
+passed_after s (Fill Key y) o e n = λ h. h
+passed_after s step o e n = λ h. h
+
+-- and so are the others'
+passed_by : (s : Setting) (step : Step) → Opens s step → (round : Option Round)
+    → ArePassed (is_frozen s.merger.phase) round (epoch_end s.z s.merger) (each s.z snapshot_of s.views)
+    → ArePassed (is_frozen s.merger.phase) round (epoch_end s.z s.merger) (each s.z snapshot_of (V s step))
+passed_by s step o None h = tt
+passed_by s step o (Some r) h = λ e. by_seat s (w s step) (λ i u. i < r.next → IsPassed (epoch_end s.z s.merger) r.least u.snapshot)
+    (λ lt. passed_after s step o e r.least (h e s.me lt)) (λ i ne lt. h e i lt)
+
 pub passed_kept : (s : Setting) (step : Step) → Opens s step → ArePassed (is_frozen s.merger.phase) s.merger.round (epoch_end s.z s.merger)
     (each s.z snapshot_of (V s step))
-passed_kept s (Unpin end) o = passed_by s (Unpin end) (is_frozen s.merger.phase) s.merger.round (epoch_end s.z s.merger)
-    (λ n e. passed_ended (epoch_end s.z s.merger) n (v s).snapshot) s.law.passed
-passed_kept s (Look Clock) o = passed_by s (Look Clock) (is_frozen s.merger.phase) s.merger.round (epoch_end s.z s.merger)
-    (λ n e. passed_timed (epoch_end s.z s.merger) (s.memory Clock) n (v s).snapshot (frozen_clock (ground s) e)) s.law.passed
-passed_kept s (Note b) o = passed_by s (Note b) (is_frozen s.merger.phase) s.merger.round (epoch_end s.z s.merger)
-    (λ n e h. passed_noted (epoch_end s.z s.merger) n b) s.law.passed
-passed_kept s CloseSnapshot o = passed_by s CloseSnapshot (is_frozen s.merger.phase) s.merger.round (epoch_end s.z s.merger)
-    (λ n e h. passed_absent (epoch_end s.z s.merger) n) s.law.passed
-passed_kept s (Fill Key n) o = passed_by s (Fill Key n) (is_frozen s.merger.phase) s.merger.round (epoch_end s.z s.merger) (λ n e h. h) s.law.passed
-passed_kept s step o = passed_by s step (is_frozen s.merger.phase) s.merger.round (epoch_end s.z s.merger) (λ n e h. h) s.law.passed
+passed_kept s step o = passed_by s step o s.merger.round s.law.passed
 
 -- a look at the snapshot word of the seat i goes on with the round
 module _ (g : Ground) (i : ℕ) (inside : i < g.z.seats) (frozen : is_frozen g.merger.phase ≡ true) where
@@ -360,17 +355,6 @@ floors_same z m m' a b c d h rest = record {
   below_former = keep2 (λ (p q : ℕ). p ≤ (q - 1) * z.cells) d a h.below_former;
 }
 
--- only in phase frozen the floor may be in the epoch
-clean_rests : (p : Phase) → is_clean p ≡ true → is_frozen p ≡ false
-clean_rests Clean e = refl
-clean_rests Frozen e = absurd cc
-clean_rests Retired e = refl
-
-retired_rests : (p : Phase) → is_retired p ≡ true → is_frozen p ≡ false
-retired_rests Clean e = refl
-retired_rests Frozen e = absurd cc
-retired_rests Retired e = refl
-
 -- what a round may raise the floor to
 raised_end : (z : Layout) (m : MergerView) (round : Option Round) → m.floor ≤ epoch_end z m → floor_by z m round ≤ epoch_end z m
 raised_end z m None le = le
@@ -425,13 +409,13 @@ floors_published g = let h = g.law.floors in let m = g.merger in record {
 pub floors_merged : (g : Ground) (step : Step) → OpensTo g step → AreFloors g.z (merger' g step)
 floors_merged g EnterExclusive o = floors_same g.z g.merger (merger' g EnterExclusive) refl refl refl refl g.law.floors g.law.floors.at_rest
 floors_merged g LeaveExclusive o = floors_same g.z g.merger (merger' g LeaveExclusive) refl refl refl refl g.law.floors
-    (λ e. g.law.floors.at_rest (clean_rests g.merger.phase (g.law.merger.clean o.0)))
+    (λ e. g.law.floors.at_rest (clean_frozen g.merger.phase (g.law.merger.clean o.0)))
 floors_merged g (Look (Snap i)) o = floors_looked g i
 floors_merged g (Look (PinOf i)) o = floors_same g.z g.merger (merger' g (Look (PinOf i))) refl refl refl refl g.law.floors g.law.floors.at_rest
 floors_merged g (Look word) o = g.law.floors
 floors_merged g (Pad t) o = floors_same g.z g.merger (merger' g (Pad t)) refl refl refl refl g.law.floors g.law.floors.at_rest
 floors_merged g (ClearState cell) o = floors_same g.z g.merger (merger' g (ClearState cell)) refl refl refl refl g.law.floors
-    (λ e. g.law.floors.at_rest (retired_rests g.merger.phase o.0))
+    (λ e. g.law.floors.at_rest (retired_frozen g.merger.phase o.0))
 floors_merged g Publish o = floors_published g
 floors_merged g ExtendClock o = floors_same g.z g.merger (merger' g ExtendClock) refl refl refl refl g.law.floors g.law.floors.at_rest
 floors_merged g ExtendLimit o = floors_same g.z g.merger (merger' g ExtendLimit) refl refl refl refl g.law.floors g.law.floors.at_rest

@@ -1,7 +1,7 @@
 -- A seat's records by themselves: one record more, what a read's end adds, and how far the due
 -- moves.
-use Rattle.std.proofs.Common.{◌≡◌, ◌≢◌, ℕ, zero, suc, ◌+◌, ◌-◌, ◌<◌, ◌≤◌, ◌==◌, Bool, true, false, cond, List, [], ◌∷◌, ◌++◌, length, set, sym, refl, ap}
-use Rattle.std.proofs.Common.{◌∙◌, subst, eq-eqb, arith, inl, inr, Option, Some, None, get_or-set_other, get_or-set_same}
+use Rattle.std.proofs.Common.{◌≡◌, ◌≢◌, ℕ, zero, suc, ◌+◌, ◌-◌, ◌<◌, ◌≤◌, ◌==◌, Bool, true, false, cond, List, [], ◌∷◌, ◌++◌, length, sym, refl, ap}
+use Rattle.std.proofs.Common.{◌∙◌, subst, eq-eqb, arith, inl, inr, Option, Some, None}
 use Rattle.std.specs.List.{AllByRecursion}
 use Rattle.clsm_model.specs.declared.slot.Slot.{Slot}
 use Rattle.clsm_model.specs.declared.slot.Slot.TheVariants.{Nothing, Wrote}
@@ -13,37 +13,19 @@ use Rattle.clsm_model.specs.declared.record.Deed.TheVariants.{Put, Remove, Rmw, 
 use Rattle.clsm_model.specs.declared.record.CallRecord.{CallRecord}
 use Rattle.clsm_model.specs.History.{History, end_of}
 use Rattle.clsm_model.specs.Right.{IsRight, Member, change_by, member_write, write_at, write_by}
-use Rattle.clsm_law.specs.declared.layout.Layout.{Layout}
 use Rattle.clsm_law.specs.declared.step.End.{End}
 use Rattle.clsm_law.specs.declared.step.End.TheVariants.{Neither, Meeting, Recorded}
 use Rattle.clsm_law.specs.declared.view.View.{View}
 use Rattle.clsm_law.specs.declared.view.SnapshotState.{SnapshotState}
 use Rattle.clsm_law.specs.declared.view.SnapshotState.TheVariants.{Noted, Timed}
-use Rattle.clsm_law.specs.Views.{idle, or_zero, SaysWrite}
+use Rattle.clsm_law.specs.Views.{or_zero, SaysWrite}
 use Rattle.clsm_law.specs.OpenSteps.{IsReadBelow, timed, time_of_read, is_old, IsRightAt, IsMetAt, IsEndingWith}
 use Rattle.clsm_law.specs.Relation.{member_of, ended_calls, ended_due}
-use Rattle.clsm_law.specs.Worlds.{view_at}
 use Rattle.clsm_model.specs.Seats.{IsRightDeed, IsRightRecord, StandsAs, IsStandingRecord, HasWrite}
 use Rattle.clsm_law.proofs.Cases.{by_test}
-use Rattle.clsm_law.proofs.Frames.{at_each}
 use Rattle.clsm_law.proofs.Records.Histories.{GoesOn, IsRightDeed-right, IsRight-goes_on}
 
--- ---- a fact of each seat's view, from that of the seat that made the step and of the others
-pub at_views : (z : Layout) (views : List View) (me : ℕ) (w : View) → me < length views → (P : ℕ → View → Type 0) → P me w
-    → ((i : ℕ) → i ≢ me → P i (view_at z views i)) → (i : ℕ) → P i (view_at z (set views me w) i)
-at_views z views me w lt P here other = at_each (λ i. P i (view_at z (set views me w) i)) me
-    (subst (P me) (sym (get_or-set_same views me w (idle z) lt)) here)
-    (λ i ne. subst (P i) (sym (get_or-set_other views me i w (idle z) ne)) (other i ne))
-
 -- ---- rows of records
-
-pub all_append : {X : Type 0} (P : X → Type 0) (xs ys : List X) → AllByRecursion P xs → AllByRecursion P ys → AllByRecursion P (xs ++ ys)
-all_append P [] ys a b = b
-all_append P (x ∷ xs) ys a b = (a.0, all_append P xs ys a.1 b)
-
-pub all_map : {X : Type 0} (P Q : X → Type 0) (xs : List X) → ((x : X) → P x → Q x) → AllByRecursion P xs → AllByRecursion Q xs
-all_map P Q [] f a = tt
-all_map P Q (x ∷ xs) f a = (f x a.0, all_map P Q xs f a.1)
 
 -- a write recorded stays so with records behind it
 pub has_before : (i t : ℕ) (write : Slot) (xs ys : List CallRecord) → HasWrite i t write xs → HasWrite i t write (xs ++ ys)

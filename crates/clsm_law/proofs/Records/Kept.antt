@@ -1,8 +1,7 @@
 -- How the clauses of the seats' records are kept: they are right in the seat's past, their writes
 -- stand, each write is recorded, and the dues.
-use Rattle.std.proofs.Common.{◌≡◌, ◌≢◌, ℕ, zero, suc, ◌+◌, ◌-◌, ◌<◌, ◌≤◌, ◌==◌, ◌⊎◌, Bool, true, false, cond, List, [], ◌∷◌, ◌++◌, length, set, sym, refl}
+use Rattle.std.proofs.Common.{◌≡◌, ◌≢◌, ℕ, ◌+◌, ◌-◌, ◌<◌, ◌≤◌, ◌==◌, ◌⊎◌, Bool, true, false, cond, List, [], ◌∷◌, ◌++◌, length, set, sym, refl}
 use Rattle.std.proofs.Common.{ap, ◌∙◌, subst, arith, inl, inr, ⊎_elim, Option, Some, None}
-use Rattle.std.specs.Prelude.{replicate}
 use prog.Atomic.{either}
 use Rattle.std.specs.List.{AllByRecursion}
 use Rattle.std.proofs.lemmas.Bool.{cases_lt}
@@ -23,23 +22,24 @@ use Rattle.clsm_law.specs.declared.view.Mode.TheVariants.{Free, Shared, Exclusiv
 use Rattle.clsm_law.specs.Memory.{Memory}
 use Rattle.clsm_law.specs.Views.{or_zero, is_exclusive}
 use Rattle.clsm_law.specs.OpenSteps.{open_time, IsOpenSnapshot}
-use Rattle.clsm_law.specs.Relation.{ended_calls, call_of, given_up}
+use Rattle.clsm_law.specs.Relation.{ended_calls, call_of}
 use Rattle.clsm_law.specs.Merging.{epoch_end}
 use Rattle.clsm_law.specs.Worlds.{outcome_at, past_of}
 use Rattle.clsm_model.specs.Seats.{IsRightRecord, IsStandingRecord, HasWrite}
 use Rattle.clsm_law.specs.Law.{each, drawn_of, past_time_of, due_of, calls_of, IsSnapshot, AreRight, AreRecordsStanding, AreRecorded, AreAtMost}
 use Rattle.clsm_law.specs.Law.{AreDuesBelowOwn}
 use Rattle.clsm_law.proofs.Cases.{by_test, by_bool}
-use Rattle.clsm_law.proofs.Frames.{at_each, puts_each, puts_slot, slots_grown, slot_below}
-use Rattle.clsm_law.proofs.Setting.{Setting, Ground, ground, v, x, w, M, V, S, Opens, looked_same, merger_looked_same, drawn_shown, past_below}
+use Rattle.clsm_law.proofs.Frames.{at_each, puts_each, puts_slot, slots_grown, slot_below, not_given_up}
+use Rattle.clsm_law.proofs.Setting.{Setting, Ground, ground, v, x, w, M, V, S, Opens, looked_same, merger_looked_same, drawn_shown, past_below, by_seat}
 use Rattle.clsm_law.proofs.Setting.{clock_shared, clock_merger, memory', slots', OpensTo}
-use Rattle.clsm_law.proofs.Clock.Kept.{commits_at, clock_grows, clock_grows'}
+use Rattle.clsm_law.proofs.Clock.Kept.{commits_at, clock_grows, clock_grows', below_clock}
 use Rattle.clsm_law.proofs.Decided.Kept.{run_other}
 use Rattle.clsm_law.proofs.Growth.{slots_stay, longer, cancels_shown}
-use Rattle.clsm_law.proofs.GrowthMerger.{slots_stay', longer'}
+use Rattle.clsm_law.proofs.GrowthMerger.{slots_stay', longer', written_before}
 use Rattle.clsm_law.proofs.Records.Histories.{GoesOn, records_right-go_on, decided_past-goes_on, end_of-past}
-use Rattle.clsm_law.proofs.Records.Facts.{at_views, all_append, has_before, has_last, nothing_stands, once_stands, once_written, batch_at, batch_stands}
+use Rattle.clsm_law.proofs.Records.Facts.{has_before, has_last, nothing_stands, once_stands, once_written, batch_at, batch_stands}
 use Rattle.clsm_law.proofs.Records.Facts.{member_writer, all_stand_stay, decided_right, writer_of, ended_right, ended_stands, ended_within}
+use Rattle.clsm_levels.proofs.Every.{every-append}
 
 -- a hold is of one kind
 pub only_exclusive : (m : Mode) → is_exclusive m ≡ true → m ≡ Exclusive
@@ -87,14 +87,14 @@ own_right s (Decide t deed) o = let h' = past_of (S s (Decide t deed)) (v s).pas
     by_bool (λ a. AllByRecursion (IsRightRecord h') (cond a (v s).calls
     (cond (x s (Decide t deed) == 0) ((v s).calls ++ call_of s.me t deed ∷ []) (v s).calls))) (is_exclusive (v s).mode) (λ _. before) (λ _.
     by_test (λ b. AllByRecursion (IsRightRecord h') (cond b ((v s).calls ++ call_of s.me t deed ∷ []) (v s).calls)) (x s (Decide t deed)) 0
-    (λ _. all_append (IsRightRecord h') (v s).calls (call_of s.me t deed ∷ []) before
+    (λ _. every-append (IsRightRecord h') (v s).calls (call_of s.me t deed ∷ []) before
     (decided_right (past_in s s.me) h' (v s) t deed (past_on s (Decide t deed) o s.me (v s).past (omega arith)) o.2 o.3, tt))
     (λ _. before))
-own_right s (Commit members) o = all_append (IsRightRecord (past_in s s.me)) (v s).calls (call_of s.me (or_zero (v s).hold_clock) (Group members) ∷ [])
+own_right s (Commit members) o = every-append (IsRightRecord (past_in s s.me)) (v s).calls (call_of s.me (or_zero (v s).hold_clock) (Group members) ∷ [])
     (s.law.right s.me) (tt, tt)
-own_right s (Unpin end) o = all_append (IsRightRecord (past_in s s.me)) (v s).calls (ended_calls s.me (v s) end) (s.law.right s.me)
+own_right s (Unpin end) o = every-append (IsRightRecord (past_in s s.me)) (v s).calls (ended_calls s.me (v s) end) (s.law.right s.me)
     (ended_right (past_in s s.me) s.me (v s) (v s).snapshot end refl o.1)
-own_right s CloseSnapshot o = all_append (IsRightRecord (past_in s s.me)) (v s).calls (call_of s.me (or_zero (open_time (v s).snapshot)) Close ∷ [])
+own_right s CloseSnapshot o = every-append (IsRightRecord (past_in s s.me)) (v s).calls (call_of s.me (or_zero (open_time (v s).snapshot)) Close ∷ [])
     (s.law.right s.me)
     (close_right s.slots s.merger.floor (s.memory Clock) (v s).past (v s).pinned (v s).snapshot o (s.law.snapshots s.me) (past_below (ground s) s.me), tt)
 own_right s (Fill Key a) o = right_before s (Fill Key a) o
@@ -103,7 +103,7 @@ own_right s step o = right_before s step o
 
 pub right_kept : (s : Setting) (step : Step) → Opens s step → AreRight (λ i. past_of (S s step) (each s.z past_time_of (V s step) i))
     (each s.z calls_of (V s step))
-right_kept s step o = at_views s.z s.views s.me (w s step) s.inside (λ i u. AllByRecursion (IsRightRecord (past_of (S s step) u.past)) u.calls)
+right_kept s step o = by_seat s (w s step) (λ i u. AllByRecursion (IsRightRecord (past_of (S s step) u.past)) u.calls)
     (own_right s step o)
     (λ i ne. records_right-go_on (past_in s i) (past_of (S s step) (each s.z past_time_of s.views i)) (each s.z calls_of s.views i)
     (past_on s step o i (each s.z past_time_of s.views i) (omega arith)) (s.law.right i))
@@ -138,15 +138,15 @@ own_stand s (Decide t deed) o = let slot' = outcome_at (S s (Decide t deed)) in 
     by_bool (λ a. AllByRecursion (IsStandingRecord slot' s.me) (cond a (v s).calls
     (cond (x s (Decide t deed) == 0) ((v s).calls ++ call_of s.me t deed ∷ []) (v s).calls))) (is_exclusive (v s).mode) (λ _. before) (λ _.
     by_test (λ b. AllByRecursion (IsStandingRecord slot' s.me) (cond b ((v s).calls ++ call_of s.me t deed ∷ []) (v s).calls)) (x s (Decide t deed)) 0
-    (λ e. all_append (IsStandingRecord slot' s.me) (v s).calls (call_of s.me t deed ∷ []) before
+    (λ e. every-append (IsStandingRecord slot' s.me) (v s).calls (call_of s.me t deed ∷ []) before
     ((refl, once_stands (v s) s.me t deed slot' o.2 (decides_slot s t deed o e)), tt))
     (λ _. before))
-own_stand s (Commit members) o = all_append (IsStandingRecord (outcome_at s.slots) s.me) (v s).calls
+own_stand s (Commit members) o = every-append (IsStandingRecord (outcome_at s.slots) s.me) (v s).calls
     (call_of s.me (or_zero (v s).hold_clock) (Group members) ∷ []) (s.law.stand s.me)
     ((refl, batch_stands s.me (or_zero (v s).hold_clock) members (outcome_at s.slots) (λ n lt. (commits_member s members o n lt).1)), tt)
-own_stand s (Unpin end) o = all_append (IsStandingRecord (outcome_at s.slots) s.me) (v s).calls (ended_calls s.me (v s) end) (s.law.stand s.me)
+own_stand s (Unpin end) o = every-append (IsStandingRecord (outcome_at s.slots) s.me) (v s).calls (ended_calls s.me (v s) end) (s.law.stand s.me)
     (ended_stands (past_in s s.me) s.me (v s) (outcome_at s.slots) (v s).snapshot end o.1)
-own_stand s CloseSnapshot o = all_append (IsStandingRecord (outcome_at s.slots) s.me) (v s).calls
+own_stand s CloseSnapshot o = every-append (IsStandingRecord (outcome_at s.slots) s.me) (v s).calls
     (call_of s.me (or_zero (open_time (v s).snapshot)) Close ∷ []) (s.law.stand s.me)
     ((refl, λ t. nothing_stands (or_zero (open_time (v s).snapshot) == t) (outcome_at s.slots t)), tt)
 own_stand s (Fill Key a) o = stand_before s (Fill Key a) o s.me
@@ -154,7 +154,7 @@ own_stand s (Look Clock) o = stand_before s (Look Clock) o s.me
 own_stand s step o = stand_before s step o s.me
 
 pub stand_kept : (s : Setting) (step : Step) → Opens s step → AreRecordsStanding (outcome_at (S s step)) (each s.z calls_of (V s step))
-stand_kept s step o = at_views s.z s.views s.me (w s step) s.inside (λ i u. AllByRecursion (IsStandingRecord (outcome_at (S s step)) i) u.calls)
+stand_kept s step o = by_seat s (w s step) (λ i u. AllByRecursion (IsStandingRecord (outcome_at (S s step)) i) u.calls)
     (own_stand s step o) (λ i ne. stand_before s step o i)
 
 pub stand_merged : (g : Ground) (step : Step) → OpensTo g step → AreRecordsStanding (outcome_at (slots' g step)) (each g.z calls_of g.views)
@@ -180,7 +180,7 @@ more_calls s step u write h = h
 -- and so does what was recorded
 still_recorded : (s : Setting) (step : Step) (i t : ℕ) (write : Slot) → HasWrite i t write (each s.z calls_of s.views i)
     → HasWrite i t write (each s.z calls_of (V s step) i)
-still_recorded s step i t write = at_views s.z s.views s.me (w s step) s.inside
+still_recorded s step i t write = by_seat s (w s step)
     (λ i u. HasWrite i t write (each s.z calls_of s.views i) → HasWrite i t write u.calls) (more_calls s step t write) (λ i ne h. h) i
 
 -- a write below the clock
@@ -247,21 +247,8 @@ recorded_kept s step o u i key written lt e = let write = Wrote i key written in
     (subst (HasWrite s.me u write) (sym (puts_each s.z calls_of s.views s.me (w s step) s.inside).here) new.1))
     (stood_or_new s step o u i key written lt e)
 
--- times that are skipped have no write
-passed_nothing : (n u i key : ℕ) (written : Option (List ℕ)) → outcome_at (replicate n (Some Nothing)) u ≢ Some (Wrote i key written)
-passed_nothing zero u i key written e = absurd cc
-passed_nothing (suc n) zero i key written e = absurd cc
-passed_nothing (suc n) (suc u) i key written e = passed_nothing n u i key written e
-
--- so a write after them stood before them
-passed_stood : (slots : List (Option Slot)) (n u i key : ℕ) (written : Option (List ℕ)) → outcome_at (slots ++ replicate n (Some Nothing)) u
-    ≡ Some (Wrote i key written) → outcome_at slots u ≡ Some (Wrote i key written)
-passed_stood [] n u i key written e = absurd (passed_nothing n u i key written e)
-passed_stood (a ∷ slots) n zero i key written e = e
-passed_stood (a ∷ slots) n (suc u) i key written e = passed_stood slots n u i key written e
-
 pub recorded_merged : (g : Ground) (step : Step) → OpensTo g step → AreRecorded (memory' g step Clock) (outcome_at (slots' g step)) (each g.z calls_of g.views)
-recorded_merged g ExtendClock o u i key written lt e = let was = passed_stood g.slots (epoch_end g.z g.merger - length g.slots) u i key written e in
+recorded_merged g ExtendClock o u i key written lt e = let was = written_before g.slots (epoch_end g.z g.merger - length g.slots) u i key written e in
     let inside = slot_below g.slots u (λ none. absurd (cc (none, was))) in let even = clock_merger g o.0 in g.law.recorded u i key written (omega arith) was
 recorded_merged g (Look word) o u i key written lt e = let same = ap (λ (m : Memory). m Clock) (merger_looked_same g word) in
     g.law.recorded u i key written (omega arith) e
@@ -290,8 +277,7 @@ own_due s (Look Clock) o = s.law.dues s.me
 own_due s step o = let le = clock_grows s step o in let due = s.law.dues s.me in omega arith
 
 pub dues_kept : (s : Setting) (step : Step) → Opens s step → AreAtMost (each s.z due_of (V s step)) (M s step Clock)
-dues_kept s step o = at_views s.z s.views s.me (w s step) s.inside (λ i u. u.due ≤ M s step Clock) (own_due s step o)
-    (λ i ne. let le = clock_grows s step o in let due = s.law.dues i in omega arith)
+dues_kept s step o = below_clock s step o due_of s.law.dues (own_due s step o)
 
 pub dues_merged : (g : Ground) (step : Step) → OpensTo g step → AreAtMost (each g.z due_of g.views) (memory' g step Clock)
 dues_merged g step o i = let le = clock_grows' g step o in let due = g.law.dues i in omega arith
@@ -305,11 +291,6 @@ was_undecided slot slot' t stays none = is (slot t) refl where
   is None e = e
   is (Some b) e = absurd (let kept = stays b e in cc (kept, none))
 
--- a time that is not given up was drawn
-still_drawn : (d : Option ℕ) (t u : ℕ) → given_up d t ≡ Some u → d ≡ Some u
-still_drawn None t u e = e
-still_drawn (Some y) t u e = by_test (λ b. cond b None (Some y) ≡ Some u → Some y ≡ Some u) y t (λ _ e. absurd cc) (λ _ e. e) e
-
 -- each due before the step is not above an own time that is undecided after it
 own_dues_before : (s : Setting) (step : Step) → Opens s step → (i u : ℕ) → each s.z drawn_of s.views i ≡ Some u → outcome_at (S s step) u ≡ None
     → each s.z due_of s.views i ≤ u
@@ -322,7 +303,7 @@ own_due_below s (Draw t) o u = by_test (λ b. cond b (Some t) (v s).drawn ≡ So
     (λ _ d none. own_dues_before s (Draw t) o s.me u d none)
 own_due_below s (Decide t deed) o u = λ d none. absurd cc
 own_due_below s (Commit members) o u = λ d none. absurd (let free = o.1 in cc)
-own_due_below s (Cancel t) o u = λ d none. own_dues_before s (Cancel t) o s.me u (still_drawn (v s).drawn t u d) none
+own_due_below s (Cancel t) o u = λ d none. own_dues_before s (Cancel t) o s.me u (not_given_up (v s).drawn t u d) none
 own_due_below s (Unpin end) o u = λ d none. let past = past_under s.slots (v s).past u (s.law.past s.me) none in
     ended_within (past_in s s.me) s.me (v s) u (s.law.own_dues s.me u d none) past (let reach = past_ends s in omega arith) (v s).snapshot end refl o.1
   where
@@ -335,7 +316,7 @@ own_due_below s step o u = own_dues_before s step o s.me u
 
 pub own_dues_kept : (s : Setting) (step : Step) → Opens s step → AreDuesBelowOwn (each s.z drawn_of (V s step)) (outcome_at (S s step))
     (each s.z due_of (V s step))
-own_dues_kept s step o = at_views s.z s.views s.me (w s step) s.inside (λ i u. (t : ℕ) → u.drawn ≡ Some t → outcome_at (S s step) t ≡ None → u.due ≤ t)
+own_dues_kept s step o = by_seat s (w s step) (λ i u. (t : ℕ) → u.drawn ≡ Some t → outcome_at (S s step) t ≡ None → u.due ≤ t)
     (own_due_below s step o) (λ i ne. own_dues_before s step o i)
 
 pub own_dues_merged : (g : Ground) (step : Step) → OpensTo g step → AreDuesBelowOwn (each g.z drawn_of g.views) (outcome_at (slots' g step))

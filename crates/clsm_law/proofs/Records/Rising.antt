@@ -25,10 +25,9 @@ use Rattle.clsm_model.specs.Seats.{IsNextRead, IsRising}
 use Rattle.clsm_law.specs.Law.{each, due_of, calls_of, snapshot_of, AreRising}
 use Rattle.clsm_model.proofs.Rising.{Follows, rising_later, rising_next}
 use Rattle.clsm_law.proofs.Cases.{by_test, by_bool}
-use Rattle.clsm_law.proofs.Setting.{Setting, Ground, v, x, w, V, Opens, OpensTo}
+use Rattle.clsm_law.proofs.Setting.{Setting, Ground, v, x, w, V, Opens, OpensTo, by_seat}
 use Rattle.clsm_law.proofs.Clock.Kept.{commits_at}
 use Rattle.clsm_law.proofs.Growth.{decides_undecided}
-use Rattle.clsm_law.proofs.Records.Facts.{at_views}
 
 -- ---- a write: its record comes next, and moves the due past its time
 
@@ -173,7 +172,7 @@ own_rising s step o = s.law.rising s.me
 
 pub rising_kept : (s : Setting) (step : Step) → Opens s step → AreRising (each s.z calls_of (V s step)) (each s.z due_of (V s step))
     (each s.z snapshot_of (V s step))
-rising_kept s step o = at_views s.z s.views s.me (w s step) s.inside (λ i u. IsRising u.calls u.due (open_time u.snapshot)) (own_rising s step o)
+rising_kept s step o = by_seat s (w s step) (λ i u. IsRising u.calls u.due (open_time u.snapshot)) (own_rising s step o)
     (λ i ne. s.law.rising i)
 
 pub rising_merged : (g : Ground) (step : Step) → OpensTo g step → AreRising (each g.z calls_of g.views) (each g.z due_of g.views) (each g.z snapshot_of g.views)

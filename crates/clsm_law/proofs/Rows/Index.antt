@@ -9,17 +9,13 @@ use Rattle.clsm_law.specs.declared.word.Part.TheVariants.{Key, Length, Value, Ne
 use Rattle.clsm_law.specs.Memory.{is_part, is_word, room_of}
 use Rattle.clsm_law.specs.Layout.{blocks, block_of, offset_of, part_block, part_offset, cell_offset, entry_offset, place_size, start_of, index_of, size_of}
 use Rattle.clsm_law.proofs.Rows.Blocks.{block_inside, same_block}
+use Rattle.clsm_law.proofs.Cases.{below}
 
 -- ---- each word in its block
 
 -- the block of a place has the place's size
 place_block : (z : Layout) (p : ℕ) → p < 5 → get_or (blocks z) (11 + p) 0 ≡ place_size z p
-place_block z zero h = refl
-place_block z (suc zero) h = refl
-place_block z (suc (suc zero)) h = refl
-place_block z (suc (suc (suc zero))) h = refl
-place_block z (suc (suc (suc (suc zero)))) h = refl
-place_block z (suc (suc (suc (suc (suc p))))) h = absurd (omega arith)
+place_block z = below (λ p. get_or (blocks z) (11 + p) 0 ≡ place_size z p) 5 (refl, (refl, (refl, (refl, (refl, tt)))))
 
 -- an entry's key stands among the keys, and its other words behind them
 pub entry_first : (room e : ℕ) → entry_offset room e 0 ≡ e
@@ -61,23 +57,14 @@ near_word c (suc zero) h = (refl, omega arith)
 near_word c (suc (suc zero)) h = (refl, omega arith)
 near_word c (suc (suc (suc j))) h = absurd (omega arith)
 
-part_block_below : (part : Part) → part_block part < 9
-part_block_below Key = omega arith
-part_block_below Next = omega arith
-part_block_below Length = omega arith
-part_block_below (Value zero) = omega arith
-part_block_below (Value (suc zero)) = omega arith
-part_block_below (Value (suc (suc zero))) = omega arith
-part_block_below (Value (suc (suc (suc j)))) = omega arith
-
-part_block_above : (part : Part) → 7 ≤ part_block part
-part_block_above Key = omega arith
-part_block_above Next = omega arith
-part_block_above Length = omega arith
-part_block_above (Value zero) = omega arith
-part_block_above (Value (suc zero)) = omega arith
-part_block_above (Value (suc (suc zero))) = omega arith
-part_block_above (Value (suc (suc (suc j)))) = omega arith
+part_block_within : (part : Part) → (7 ≤ part_block part) × (part_block part < 9)
+part_block_within Key = (omega arith, omega arith)
+part_block_within Next = (omega arith, omega arith)
+part_block_within Length = (omega arith, omega arith)
+part_block_within (Value zero) = (omega arith, omega arith)
+part_block_within (Value (suc zero)) = (omega arith, omega arith)
+part_block_within (Value (suc (suc zero))) = (omega arith, omega arith)
+part_block_within (Value (suc (suc (suc j)))) = (omega arith, omega arith)
 
 hinted : (z : Layout) (c i : ℕ) → is_word z (Hint c i) ≡ true → (c < 2 * z.cells) × (i < 3)
 hinted z c i h = let a = and_parts (nat_lt c (2 * z.cells)) (nat_lt i 3) h in (ltb-true c (2 * z.cells) a.0, ltb-true i 3 a.1)
@@ -94,7 +81,7 @@ entered z p e i h =
     record { place = ltb-true p 5 b.0; entry = ltb-true e (room_of z p) b.1; part = ltb-true i 11 a.1 }
 
 block_below : (z : Layout) (w : Word) → is_word z w ≡ true → block_of w < length (blocks z)
-block_below z (Cell c part) h = let b = part_block_below part in omega arith
+block_below z (Cell c part) h = let b = (part_block_within part).1 in omega arith
 block_below z (Count p) h = omega (arith, ltb-true p 5 h)
 block_below z (Entry p e i) h = let x = entered z p e i h in omega arith
 block_below z _ h = omega arith
@@ -210,21 +197,21 @@ same_place z (Hint c i) (Hint d j) h k b e =
     let n = hinted z d j k in
     let f = same_hint (2 * z.cells) c d i j m.0 n.0 m.1 n.1 e in
     let g = f.0 in let l = f.1 in cc
-same_place z (Cell c p) (Hint d j) h k b e = let m = part_block_below p in absurd (omega arith)
-same_place z (Hint c i) (Cell d q) h k b e = let m = part_block_below q in absurd (omega arith)
+same_place z (Cell c p) (Hint d j) h k b e = let m = (part_block_within p).1 in absurd (omega arith)
+same_place z (Hint c i) (Cell d q) h k b e = let m = (part_block_within q).1 in absurd (omega arith)
 same_place z (Cell c p) (Order y) h k b e = absurd (part_apart c y 3 p b (inr refl) e)
 same_place z (Order x) (Cell d q) h k b e = absurd (part_apart d x 3 q (sym b) (inr refl) (sym e))
 same_place z (State c) (State d) h k b e = let f : c ≡ d = omega arith in ap State f
 same_place z (Cell c p) (State d) h k b e = absurd (part_apart c (2 + d) 0 p b (inl refl) (omega arith))
 same_place z (State c) (Cell d q) h k b e = absurd (part_apart d (2 + c) 0 q (sym b) (inl refl) (omega arith))
-same_place z (Cell c p) (Count q) h k b e = let m = part_block_below p in absurd (omega arith)
-same_place z (Count q) (Cell c p) h k b e = let m = part_block_below p in absurd (omega arith)
-same_place z (Cell c p) (Entry q y i) h k b e = let m = part_block_below p in absurd (omega arith)
-same_place z (Entry q y i) (Cell c p) h k b e = let m = part_block_below p in absurd (omega arith)
-same_place z (Cell c p) (Head q y) h k b e = let m = part_block_below p in absurd (omega arith)
-same_place z (Head q y) (Cell c p) h k b e = let m = part_block_below p in absurd (omega arith)
-same_place z (Cell c p) w h k b e = let m = part_block_above p in absurd (omega arith)
-same_place z v (Cell c p) h k b e = let m = part_block_above p in absurd (omega arith)
+same_place z (Cell c p) (Count q) h k b e = let m = (part_block_within p).1 in absurd (omega arith)
+same_place z (Count q) (Cell c p) h k b e = let m = (part_block_within p).1 in absurd (omega arith)
+same_place z (Cell c p) (Entry q y i) h k b e = let m = (part_block_within p).1 in absurd (omega arith)
+same_place z (Entry q y i) (Cell c p) h k b e = let m = (part_block_within p).1 in absurd (omega arith)
+same_place z (Cell c p) (Head q y) h k b e = let m = (part_block_within p).1 in absurd (omega arith)
+same_place z (Head q y) (Cell c p) h k b e = let m = (part_block_within p).1 in absurd (omega arith)
+same_place z (Cell c p) w h k b e = let m = (part_block_within p).0 in absurd (omega arith)
+same_place z v (Cell c p) h k b e = let m = (part_block_within p).0 in absurd (omega arith)
 same_place z (Count p) (Count q) h k b e = let f : p ≡ q = omega arith in ap Count f
 same_place z (Entry p x zero) (Entry q y zero) h k b e =
     let m = entered z p x zero h in

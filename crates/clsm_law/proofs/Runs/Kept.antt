@@ -19,7 +19,7 @@ use Rattle.clsm_levels.proofs.Withins.{within_next}
 use Rattle.clsm_law.specs.declared.layout.Layout.{Layout}
 use Rattle.clsm_law.specs.declared.word.Word.{Word}
 use Rattle.clsm_law.specs.declared.word.Word.TheVariants.{Pin, Snap, Count, Entry as EntryWord}
-use Rattle.clsm_law.specs.Merging.{IsRunWord, place_of, is_frozen, is_retired, is_clean, is_all_quiet, reader_at, reader_by, merger_looked}
+use Rattle.clsm_law.specs.Merging.{IsRunWord, place_of, is_retired, is_clean, is_all_quiet, reader_at, reader_by, merger_looked}
 use Rattle.clsm_law.specs.declared.step.Step.{Step}
 use Rattle.clsm_law.specs.declared.step.Step.TheVariants.{Look, LeaveExclusive, WriteRun, ClearState, Publish}
 use Rattle.clsm_law.specs.declared.merger.MergerView.{MergerView}
@@ -30,12 +30,13 @@ use Rattle.clsm_law.specs.Memory.{Memory, room_of, put}
 use Rattle.clsm_law.specs.Places.{number_of, is_named, entry_in, entries_from, entries_in, held_at}
 use Rattle.clsm_law.specs.Worlds.{outcome_at, settled, history_of, runs_of, passes_from, is_length, is_ended, is_canonical, are_canonical}
 use Rattle.clsm_law.specs.Law.{AreRuns, is_held_back}
-use Rattle.clsm_law.proofs.Frames.{put_other, put_same}
+use Rattle.clsm_law.proofs.Frames.{put_other, put_same, some_of}
 use Rattle.clsm_law.proofs.Setting.{facts, Setting, Ground, x, M, S, Opens, OpensTo, memory', slots', merger'}
 use Rattle.clsm_law.proofs.Cases.{by_bool}
 use Rattle.clsm_law.proofs.Windows.{all_quiet_stays}
 use Rattle.clsm_law.proofs.Growth.{slots_stay}
 use Rattle.clsm_law.proofs.GrowthMerger.{slots_stay'}
+use Rattle.clsm_law.proofs.Phases.{frozen_not_retired}
 
 -- ---- histories that agree below a time
 
@@ -43,10 +44,6 @@ pub settled_at : (slots : List (Option Slot)) (t : ℕ) → slice_index_or (sett
 settled_at [] t = refl
 settled_at (s ∷ ss) zero = refl
 settled_at (s ∷ ss) (suc t) = settled_at ss t
-
-some_of : (o : Option Slot) → o ≢ None → (b : Slot) × (o ≡ Some b)
-some_of None ne = absurd (ne refl)
-some_of (Some b) ne = (b, refl)
 
 -- where all slots below a are decided, and decided slots stay
 pub agree_below : (slots slots' : List (Option Slot)) (a : ℕ) → ((t : ℕ) → t < a → outcome_at slots t ≢ None)
@@ -297,11 +294,6 @@ second_true : (a b : Bool) → (a && b) ≡ true → b ≡ true
 second_true true b e = e
 second_true false b e = absurd cc
 
-not_both : (p : Phase) → is_frozen p ≡ true → is_retired p ≡ true → ⊥
-not_both Clean e f = absurd cc
-not_both Frozen e f = absurd cc
-not_both Retired e f = absurd cc
-
 not_left : (extended : Bool) (p : Phase) → is_clean p ≡ true → is_retired (cond extended Frozen p) ≡ true → ⊥
 not_left true p e f = absurd cc
 not_left false Clean e f = absurd cc
@@ -310,7 +302,7 @@ not_left false Retired e f = absurd cc
 
 pub all_same : (g : Ground) (step : Step) → OpensTo g step → is_retired g.merger.phase ≡ true → (p : ℕ) → SamePlace g.memory (memory' g step) p
 all_same g (Look word) o r p = record { count = (λ k. put_same g.memory word k (Count p)); words = λ e i. (λ k. put_same g.memory word k (EntryWord p e i)) }
-all_same g (WriteRun word y) o r p = absurd (not_both g.merger.phase o.0 r)
+all_same g (WriteRun word y) o r p = absurd (frozen_not_retired g.merger.phase o.0 r)
 all_same g step o r p = record { count = refl; words = λ e i. refl }
 
 former' : (g : Ground) (step : Step) → OpensTo g step → is_held_back g.merger ≡ true

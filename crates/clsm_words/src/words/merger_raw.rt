@@ -2,8 +2,7 @@
 //! nothing when it runs.
 ghost use Rattle.std.specs.Prelude.{◌≡◌, ℕ, ◌+◌, ◌-◌, ◌%◌, ◌^◌, ◌==◌};
 ghost use prog.Atomic.{either};
-ghost use Rattle.clsm_law.specs.Merging.{changed_by_merger};
-ghost use Rattle.clsm_words.specs.Plays.{IsMergersWord, MayMerge, Merged, PlaysAsMerger};
+ghost use Rattle.clsm_words.specs.Plays.{MayActAsMerger, Merged, PlaysAsMerger};
 
 use super::{RawMerger, WordTable};
 use crate::rule::{DoesAsMerger, StoresAsMerger, Told};
@@ -12,11 +11,10 @@ use std::marker::Brand;
 
 impl WordTable {
     #[inline(always)]
+    #[tactic(auto, using(crate::proofs::MayMerge::merger_place))]
     fn merger_load_told<E: Told>(&self, seat: &mut RawMerger, step: &Step, word: Word) -> u64
         requires told { E.step ≡ step.now }
-        requires opens { MayMerge self.now seat.old step.now }
-        requires word { IsMergersWord seat.old.knows step.now word }
-        requires changes { changed_by_merger seat.old.knows.layout seat.old.knows.merger step.now ≡ (λ x. x) }
+        requires acts { MayActAsMerger self.now seat.old step.now word (λ x. x) }
         ensures { Merged self.now seat.old step.now result seat.new }
     {
         let known = &mut seat.seat;
@@ -26,20 +24,17 @@ impl WordTable {
 
     #[inline(always)]
     pub(super) fn merger_load(&self, seat: &mut RawMerger, step: &Step, word: Word) -> u64
-        requires opens { MayMerge self.now seat.old step.now }
-        requires word { IsMergersWord seat.old.knows step.now word }
-        requires changes { changed_by_merger seat.old.knows.layout seat.old.knows.merger step.now ≡ (λ x. x) }
+        requires acts { MayActAsMerger self.now seat.old step.now word (λ x. x) }
         ensures { Merged self.now seat.old step.now result seat.new }
     {
         self.merger_load_told::<Brand>(seat, step, word)
     }
 
     #[inline(always)]
+    #[tactic(auto, using(crate::proofs::MayMerge::merger_place))]
     fn merger_store_told<E: Told>(&self, seat: &mut RawMerger, step: &Step, word: Word, new: u64)
         requires told { E.step ≡ step.now }
-        requires opens { MayMerge self.now seat.old step.now }
-        requires word { IsMergersWord seat.old.knows step.now word }
-        requires changes { changed_by_merger seat.old.knows.layout seat.old.knows.merger step.now ≡ (λ x. new) }
+        requires acts { MayActAsMerger self.now seat.old step.now word (λ x. new) }
         ensures { PlaysAsMerger self.now seat.old step.now seat.new }
     {
         let known = &mut seat.seat;
@@ -49,15 +44,14 @@ impl WordTable {
 
     #[inline(always)]
     pub(super) fn merger_store(&self, seat: &mut RawMerger, step: &Step, word: Word, new: u64)
-        requires opens { MayMerge self.now seat.old step.now }
-        requires word { IsMergersWord seat.old.knows step.now word }
-        requires changes { changed_by_merger seat.old.knows.layout seat.old.knows.merger step.now ≡ (λ x. new) }
+        requires acts { MayActAsMerger self.now seat.old step.now word (λ x. new) }
         ensures { PlaysAsMerger self.now seat.old step.now seat.new }
     {
         self.merger_store_told::<Brand>(seat, step, word, new);
     }
 
     #[inline(always)]
+    #[tactic(auto, using(crate::proofs::MayMerge::merger_place))]
     fn merger_subtract_told<E: Told>(
         &self,
         seat: &mut RawMerger,
@@ -66,9 +60,7 @@ impl WordTable {
         by: u64,
     ) -> u64
         requires told { E.step ≡ step.now }
-        requires opens { MayMerge self.now seat.old step.now }
-        requires word { IsMergersWord seat.old.knows step.now word }
-        requires changes { changed_by_merger seat.old.knows.layout seat.old.knows.merger step.now ≡ (λ x. (x + (2 ^ 64 - by)) % 2 ^ 64) }
+        requires acts { MayActAsMerger self.now seat.old step.now word (λ x. (x + (2 ^ 64 - by)) % 2 ^ 64) }
         ensures { Merged self.now seat.old step.now result seat.new }
     {
         let known = &mut seat.seat;
@@ -86,15 +78,14 @@ impl WordTable {
         word: Word,
         by: u64,
     ) -> u64
-        requires opens { MayMerge self.now seat.old step.now }
-        requires word { IsMergersWord seat.old.knows step.now word }
-        requires changes { changed_by_merger seat.old.knows.layout seat.old.knows.merger step.now ≡ (λ x. (x + (2 ^ 64 - by)) % 2 ^ 64) }
+        requires acts { MayActAsMerger self.now seat.old step.now word (λ x. (x + (2 ^ 64 - by)) % 2 ^ 64) }
         ensures { Merged self.now seat.old step.now result seat.new }
     {
         self.merger_subtract_told::<Brand>(seat, step, word, by)
     }
 
     #[inline(always)]
+    #[tactic(auto, using(crate::proofs::MayMerge::merger_place))]
     fn merger_exchange_told<E: Told>(
         &self,
         seat: &mut RawMerger,
@@ -104,9 +95,7 @@ impl WordTable {
         new: u64,
     ) -> u64
         requires told { E.step ≡ step.now }
-        requires opens { MayMerge self.now seat.old step.now }
-        requires word { IsMergersWord seat.old.knows step.now word }
-        requires changes { changed_by_merger seat.old.knows.layout seat.old.knows.merger step.now ≡ (λ x. either (x == old) new x) }
+        requires acts { MayActAsMerger self.now seat.old step.now word (λ x. either (x == old) new x) }
         ensures { Merged self.now seat.old step.now result seat.new }
     {
         let known = &mut seat.seat;
@@ -125,9 +114,7 @@ impl WordTable {
         old: u64,
         new: u64,
     ) -> u64
-        requires opens { MayMerge self.now seat.old step.now }
-        requires word { IsMergersWord seat.old.knows step.now word }
-        requires changes { changed_by_merger seat.old.knows.layout seat.old.knows.merger step.now ≡ (λ x. either (x == old) new x) }
+        requires acts { MayActAsMerger self.now seat.old step.now word (λ x. either (x == old) new x) }
         ensures { Merged self.now seat.old step.now result seat.new }
     {
         self.merger_exchange_told::<Brand>(seat, step, word, old, new)

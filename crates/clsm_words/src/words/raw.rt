@@ -5,8 +5,7 @@ ghost use prog.Atomic.{either};
 ghost use Rattle.clsm_law.specs.declared.word.Word.TheVariants.{Count as CountWord};
 ghost use Rattle.clsm_law.specs.Memory.{is_word};
 ghost use Rattle.clsm_law.specs.Layout.{index_of, size_of};
-ghost use Rattle.clsm_law.specs.Relation.{changed};
-ghost use Rattle.clsm_words.specs.Plays.{IsWordOf, MayPlay, Played, Plays};
+ghost use Rattle.clsm_words.specs.Plays.{MayAct, Played, Plays};
 
 use super::{RawSeat, WordTable};
 use crate::rule::{Does, Stores, Told};
@@ -42,11 +41,10 @@ impl WordTable {
     }
 
     #[inline(always)]
+    #[tactic(auto, using(crate::proofs::May::may_place))]
     fn load_told<E: Told>(&self, seat: &mut RawSeat, step: &Step, word: Word) -> u64
         requires told { E.step ≡ step.now }
-        requires opens { MayPlay self.now seat.old step.now }
-        requires word { IsWordOf seat.old.knows step.now word }
-        requires changes { changed seat.old.knows.layout seat.old.knows.view step.now ≡ (λ x. x) }
+        requires acts { MayAct self.now seat.old step.now word (λ x. x) }
         ensures { Played self.now seat.old step.now result seat.new }
     {
         let known = &mut seat.seat;
@@ -56,20 +54,17 @@ impl WordTable {
 
     #[inline(always)]
     pub(super) fn load(&self, seat: &mut RawSeat, step: &Step, word: Word) -> u64
-        requires opens { MayPlay self.now seat.old step.now }
-        requires word { IsWordOf seat.old.knows step.now word }
-        requires changes { changed seat.old.knows.layout seat.old.knows.view step.now ≡ (λ x. x) }
+        requires acts { MayAct self.now seat.old step.now word (λ x. x) }
         ensures { Played self.now seat.old step.now result seat.new }
     {
         self.load_told::<Brand>(seat, step, word)
     }
 
     #[inline(always)]
+    #[tactic(auto, using(crate::proofs::May::may_place))]
     fn store_told<E: Told>(&self, seat: &mut RawSeat, step: &Step, word: Word, new: u64)
         requires told { E.step ≡ step.now }
-        requires opens { MayPlay self.now seat.old step.now }
-        requires word { IsWordOf seat.old.knows step.now word }
-        requires changes { changed seat.old.knows.layout seat.old.knows.view step.now ≡ (λ x. new) }
+        requires acts { MayAct self.now seat.old step.now word (λ x. new) }
         ensures { Plays self.now seat.old step.now seat.new }
     {
         let known = &mut seat.seat;
@@ -79,20 +74,17 @@ impl WordTable {
 
     #[inline(always)]
     pub(super) fn store(&self, seat: &mut RawSeat, step: &Step, word: Word, new: u64)
-        requires opens { MayPlay self.now seat.old step.now }
-        requires word { IsWordOf seat.old.knows step.now word }
-        requires changes { changed seat.old.knows.layout seat.old.knows.view step.now ≡ (λ x. new) }
+        requires acts { MayAct self.now seat.old step.now word (λ x. new) }
         ensures { Plays self.now seat.old step.now seat.new }
     {
         self.store_told::<Brand>(seat, step, word, new);
     }
 
     #[inline(always)]
+    #[tactic(auto, using(crate::proofs::May::may_place))]
     fn subtract_told<E: Told>(&self, seat: &mut RawSeat, step: &Step, word: Word, by: u64) -> u64
         requires told { E.step ≡ step.now }
-        requires opens { MayPlay self.now seat.old step.now }
-        requires word { IsWordOf seat.old.knows step.now word }
-        requires changes { changed seat.old.knows.layout seat.old.knows.view step.now ≡ (λ x. (x + (2 ^ 64 - by)) % 2 ^ 64) }
+        requires acts { MayAct self.now seat.old step.now word (λ x. (x + (2 ^ 64 - by)) % 2 ^ 64) }
         ensures { Played self.now seat.old step.now result seat.new }
     {
         let known = &mut seat.seat;
@@ -102,20 +94,17 @@ impl WordTable {
 
     #[inline(always)]
     pub(super) fn subtract(&self, seat: &mut RawSeat, step: &Step, word: Word, by: u64) -> u64
-        requires opens { MayPlay self.now seat.old step.now }
-        requires word { IsWordOf seat.old.knows step.now word }
-        requires changes { changed seat.old.knows.layout seat.old.knows.view step.now ≡ (λ x. (x + (2 ^ 64 - by)) % 2 ^ 64) }
+        requires acts { MayAct self.now seat.old step.now word (λ x. (x + (2 ^ 64 - by)) % 2 ^ 64) }
         ensures { Played self.now seat.old step.now result seat.new }
     {
         self.subtract_told::<Brand>(seat, step, word, by)
     }
 
     #[inline(always)]
+    #[tactic(auto, using(crate::proofs::May::may_place))]
     fn raise_told<E: Told>(&self, seat: &mut RawSeat, step: &Step, word: Word, to: u64) -> u64
         requires told { E.step ≡ step.now }
-        requires opens { MayPlay self.now seat.old step.now }
-        requires word { IsWordOf seat.old.knows step.now word }
-        requires changes { changed seat.old.knows.layout seat.old.knows.view step.now ≡ (λ x. max x to) }
+        requires acts { MayAct self.now seat.old step.now word (λ x. max x to) }
         ensures { Played self.now seat.old step.now result seat.new }
     {
         let known = &mut seat.seat;
@@ -125,15 +114,14 @@ impl WordTable {
 
     #[inline(always)]
     pub(super) fn raise(&self, seat: &mut RawSeat, step: &Step, word: Word, to: u64) -> u64
-        requires opens { MayPlay self.now seat.old step.now }
-        requires word { IsWordOf seat.old.knows step.now word }
-        requires changes { changed seat.old.knows.layout seat.old.knows.view step.now ≡ (λ x. max x to) }
+        requires acts { MayAct self.now seat.old step.now word (λ x. max x to) }
         ensures { Played self.now seat.old step.now result seat.new }
     {
         self.raise_told::<Brand>(seat, step, word, to)
     }
 
     #[inline(always)]
+    #[tactic(auto, using(crate::proofs::May::may_place))]
     fn exchange_told<E: Told>(
         &self,
         seat: &mut RawSeat,
@@ -143,9 +131,7 @@ impl WordTable {
         new: u64,
     ) -> u64
         requires told { E.step ≡ step.now }
-        requires opens { MayPlay self.now seat.old step.now }
-        requires word { IsWordOf seat.old.knows step.now word }
-        requires changes { changed seat.old.knows.layout seat.old.knows.view step.now ≡ (λ x. either (x == old) new x) }
+        requires acts { MayAct self.now seat.old step.now word (λ x. either (x == old) new x) }
         ensures { Played self.now seat.old step.now result seat.new }
     {
         let known = &mut seat.seat;
@@ -164,9 +150,7 @@ impl WordTable {
         old: u64,
         new: u64,
     ) -> u64
-        requires opens { MayPlay self.now seat.old step.now }
-        requires word { IsWordOf seat.old.knows step.now word }
-        requires changes { changed seat.old.knows.layout seat.old.knows.view step.now ≡ (λ x. either (x == old) new x) }
+        requires acts { MayAct self.now seat.old step.now word (λ x. either (x == old) new x) }
         ensures { Played self.now seat.old step.now result seat.new }
     {
         self.exchange_told::<Brand>(seat, step, word, old, new)
