@@ -1,9 +1,11 @@
 -- What the calls on the lock leave of a seat as it was, and what they change.
-use Rattle.std.specs.Prelude.{◌≡◌, ◌*◌, true, false, length, None}
+use Rattle.std.specs.Prelude.{◌≡◌, ℕ, ◌*◌, true, false, length, None}
 use mathlib.Core.List.{IsPrefix}
 use Rattle.clsm_law.specs.declared.word.Word.{Word}
 use Rattle.clsm_law.specs.declared.word.Word.TheVariants.{Lock, Clock}
+use Rattle.clsm_law.specs.declared.view.Mode.{Mode}
 use Rattle.clsm_law.specs.declared.view.Mode.TheVariants.{Free, Shared, Exclusive}
+use Rattle.clsm_law.specs.declared.view.View.{View}
 use Rattle.clsm_law.specs.Codes.{exclusive_hold}
 use Rattle.clsm_law.specs.Views.{blank, next_word}
 use Rattle.clsm_words.specs.declared.known.Known.{Known}
@@ -11,20 +13,19 @@ use Rattle.clsm_words.specs.Knowing.{row_of}
 use Rattle.clsm_words.specs.Keeping.{KeepsPlace}
 use Rattle.clsm_words.specs.Merging.{IsOwn}
 
+-- the view of a seat whose looks are no longer fresh, in this mode, where there are so many chains
+abbrev pub unlooked : View → ℕ → Mode → View
+unlooked v chains mode = record v { mode = mode; fresh_lock = None; fresh_clock = None; fresh_heads = blank (2 * chains) }
+
+-- that at the beginning of a hold, in which it has looked at nothing
+abbrev pub begun : View → ℕ → Mode → View
+begun v chains mode = record (unlooked v chains mode) { hold_limit = None; hold_clock = None; entries = next_word v.entries }
+
 -- it entered: it holds the lock shared, in a hold in which it has looked at nothing; how often it
 -- was refused before is open
 pub record Enters (old new : Known) : Type 0 where
   pub place : KeepsPlace old new
-  pub view : new.view ≡ record old.view {
-    mode = Shared;
-    fresh_lock = None;
-    fresh_clock = None;
-    fresh_heads = blank (2 * old.layout.chains);
-    hold_limit = None;
-    hold_clock = None;
-    entries = next_word old.view.entries;
-    busy = new.view.busy;
-  }
+  pub view : new.view ≡ record (begun old.view old.layout.chains Shared) { busy = new.view.busy }
 
 -- it tried the lock, so many times, and did not enter
 pub record StaysOut (old new : Known) : Type 0 where
@@ -35,15 +36,7 @@ pub record StaysOut (old new : Known) : Type 0 where
 -- of the ordered list
 pub record Leaves (old new : Known) : Type 0 where
   pub place : KeepsPlace old new
-  pub view : new.view ≡ record old.view {
-    mode = Free;
-    fresh_lock = None;
-    fresh_clock = None;
-    fresh_heads = blank (2 * old.layout.chains);
-    met = 0;
-    low = 0;
-    high = 0;
-  }
+  pub view : new.view ≡ record (unlooked old.view old.layout.chains Free) { met = 0; low = 0; high = 0 }
 
 -- ---- a caller's hold alone
 
@@ -51,16 +44,7 @@ pub record Leaves (old new : Known) : Type 0 where
 -- nothing; what it tried before that is not counted
 pub record EntersExclusively (old new : Known) : Type 0 where
   pub place : KeepsPlace old new
-  pub view : new.view ≡ record old.view {
-    mode = Exclusive;
-    fresh_lock = None;
-    fresh_clock = None;
-    fresh_heads = blank (2 * old.layout.chains);
-    hold_limit = None;
-    hold_clock = None;
-    committed = false;
-    entries = next_word old.view.entries;
-  }
+  pub view : new.view ≡ record (begun old.view old.layout.chains Exclusive) { committed = false }
 
 -- it tried the lock, and somebody held it
 pub record WaitsOutside (old new : Known) : Type 0 where
