@@ -4,6 +4,9 @@ use Rattle.clsm_law.specs.declared.view.Waiting.{Waiting}
 use Rattle.clsm_law.specs.Memory.{cell_of}
 use Rattle.clsm_law.specs.Raising.{MayRaise}
 use Rattle.clsm_words.specs.declared.known.Known.{Known}
+use Rattle.clsm_words.specs.declared.words.WordTable.{WordTable}
+use Rattle.clsm_words.specs.Plays.{IsSeatOf}
+use Rattle.clsm_words.specs.Seats.{RawState}
 
 -- the seat looked at a clock that is not below the time
 abbrev pub IsClockFrom : Option ℕ → ℕ → Type 0
@@ -18,6 +21,12 @@ pub record MaySettle (k : Known) (component t : ℕ) : Type 0 where
   pub until : t < (component + 2) * k.layout.cells
   pub clock : IsClockFrom k.view.clock (t + 1)
   pub own : (u : ℕ) → k.view.drawn ≡ Some u → t < u
+
+-- it is to settle the time, which it reached
+pub record IsToSettle (words : WordTable) (seat : RawState) (component t : ℕ) : Type 0 where
+  pub of : IsSeatOf words seat
+  pub may : MaySettle seat.knows component t
+  pub reached : t ≤ seat.knows.view.reached
 
 -- the seat may settle all times below s
 pub record MaySettleBelow (k : Known) (component s : ℕ) : Type 0 where

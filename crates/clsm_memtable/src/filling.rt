@@ -1,7 +1,7 @@
 //! The parts of a drawn cell.
-ghost use Rattle.std.specs.Prelude.{◌≡◌, ◌≤◌, length, get_or, map, take, false, Some, option_copied};
+ghost use Rattle.std.specs.Prelude.{◌≡◌, length, get_or, map, take, false, Some, option_copied};
 ghost use Rattle.clsm_words.specs.Plays.{IsSeatOf};
-ghost use Rattle.clsm_memtable.specs.Filling.{Fills, FillsParts};
+ghost use Rattle.clsm_memtable.specs.Filling.{Fills, FillsParts, MayFill};
 
 use clsm_law::Part;
 use clsm_model::{Time, Value};
@@ -9,10 +9,7 @@ use clsm_words::{Pace, RawSeat, Words};
 
 /// Fills the words of the value into the drawn cell.
 pub(crate) fn fill_words<P: Pace>(words: &Words<P>, seat: &mut RawSeat, time: Time, value: &[u64])
-    requires of { IsSeatOf words.now seat.old }
-    requires drawn { seat.old.knows.view.drawn ≡ Some time }
-    requires unlinked { seat.old.knows.view.linked ≡ false }
-    requires short { length value.now ≤ 8 }
+    requires { MayFill words.now seat.old time (length value.now) }
     ensures of { IsSeatOf words.now seat.new }
     ensures filled { FillsParts seat.old.knows seat.new.knows }
     ensures key { seat.new.knows.view.key ≡ seat.old.knows.view.key }
@@ -27,10 +24,7 @@ pub(crate) fn fill_words<P: Pace>(words: &Words<P>, seat: &mut RawSeat, time: Ti
 
 /// Fills the parts of the drawn cell, except its next.
 fn fill_cell<P: Pace>(words: &Words<P>, seat: &mut RawSeat, time: Time, key: u64, value: &[u64])
-    requires of { IsSeatOf words.now seat.old }
-    requires drawn { seat.old.knows.view.drawn ≡ Some time }
-    requires unlinked { seat.old.knows.view.linked ≡ false }
-    requires short { length value.now ≤ 8 }
+    requires { MayFill words.now seat.old time (length value.now) }
     ensures of { IsSeatOf words.now seat.new }
     ensures filled { FillsParts seat.old.knows seat.new.knows }
     ensures key { seat.new.knows.view.key ≡ Some key }

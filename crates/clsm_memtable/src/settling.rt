@@ -3,7 +3,7 @@
 ghost use Rattle.std.specs.Prelude.{◌≡◌, ◌+◌, ◌*◌, ◌<◌, ◌≤◌, ℕ, false, true, length};
 ghost use Rattle.clsm_words.specs.Plays.{IsSeatOf};
 ghost use Rattle.clsm_words.specs.Keeping.{OnlyReads};
-ghost use Rattle.clsm_memtable.specs.Settled.{HasWaited, MaySettle, MaySettleBelow};
+ghost use Rattle.clsm_memtable.specs.Settled.{HasWaited, IsToSettle, MaySettleBelow};
 
 use clsm_law::Word;
 use clsm_model::Time;
@@ -11,9 +11,7 @@ use clsm_words::{Pace, RawSeat, Words};
 
 /// Looks once at the time's state. Answers whether it is decided.
 fn is_decided<P: Pace>(words: &Words<P>, seat: &mut RawSeat, component: u64, time: Time) -> bool
-    requires of { IsSeatOf words.now seat.old }
-    requires may { MaySettle seat.old.knows component time }
-    requires reached { time ≤ seat.old.knows.view.reached }
+    requires { IsToSettle words.now seat.old component time }
     ensures of { IsSeatOf words.now seat.new }
     ensures keeps { OnlyReads seat.old.knows seat.new.knows }
     ensures found { result ≡ true → time + 1 ≤ seat.new.knows.view.reached }
@@ -32,9 +30,7 @@ fn is_found_decided<P: Pace>(
     component: u64,
     time: Time,
 ) -> bool
-    requires of { IsSeatOf words.now seat.old }
-    requires may { MaySettle seat.old.knows component time }
-    requires reached { time ≤ seat.old.knows.view.reached }
+    requires { IsToSettle words.now seat.old component time }
     ensures of { IsSeatOf words.now seat.new }
     ensures keeps { OnlyReads seat.old.knows seat.new.knows }
     ensures found { result ≡ true → time + 1 ≤ seat.new.knows.view.reached }
@@ -54,9 +50,7 @@ fn is_found_decided<P: Pace>(
 
 /// Settles the time: waits for its writer as long as the patience says, and cancels it then.
 fn settle<P: Pace>(words: &Words<P>, seat: &mut RawSeat, component: u64, time: Time)
-    requires of { IsSeatOf words.now seat.old }
-    requires may { MaySettle seat.old.knows component time }
-    requires reached { time ≤ seat.old.knows.view.reached }
+    requires { IsToSettle words.now seat.old component time }
     ensures of { IsSeatOf words.now seat.new }
     ensures keeps { OnlyReads seat.old.knows seat.new.knows }
     ensures settled { time + 1 ≤ seat.new.knows.view.reached }

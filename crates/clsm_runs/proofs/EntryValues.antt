@@ -34,7 +34,7 @@ module _ (memory : Memory) (place entry : ℕ) (valued : memory (EntryWord place
   value_there = ap (λ (b : Bool). cond b None (Some (take count (value_words memory place entry)))) (ne_eqb (memory (EntryWord place entry 1) % 2) 1 valued)
 
   -- its length is at most 8 where no word says more than the entries
-  pub at_most_eight : are_canonical memory place ≡ true → entry < memory (Count place) → count ≤ 8
+  at_most_eight : are_canonical memory place ≡ true → entry < memory (Count place) → count ≤ 8
   at_most_eight canonical inside =
       let here = passes_at (is_canonical memory place) 0 (memory (Count place)) entry canonical (omega arith) (omega arith) in
       let both = and_parts (is_length (memory (EntryWord place entry 1)) count) (is_ended memory place entry) here in
@@ -43,17 +43,25 @@ module _ (memory : Memory) (place entry : ℕ) (valued : memory (EntryWord place
       let lt = ltb-true count 9 few in omega arith
 
   -- and at least 1 where its value has words
-  pub at_least_one : IsShort (entry_in memory place entry).value → 1 ≤ count
+  at_least_one : IsShort (entry_in memory place entry).value → 1 ≤ count
   at_least_one short =
       let some : IsShort (Some (take count (value_words memory place entry))) = subst IsShort value_there short in
       let at_least = some.0 in
       omega (arith, length-take count (value_words memory place entry))
 
   -- so long is its value
-  pub is_long : count ≤ 8 → count ≡ length_of (entry_in memory place entry).value
+  is_long : count ≤ 8 → count ≡ length_of (entry_in memory place entry).value
   is_long few = let long = length-take count (value_words memory place entry) in let same = ap length_of value_there in omega arith
 
-  -- which has at most eight words, and they are those
+  -- all of that of a word that says its length
+  pub length_there : (n : ℕ) → n ≡ count → are_canonical memory place ≡ true → entry < memory (Count place) → IsShort (entry_in memory place entry).value
+      → (n ≡ length_of (entry_in memory place entry).value) × (1 ≤ n) × (n ≤ 8)
+  length_there n is canonical inside short =
+      let few = at_most_eight canonical inside in
+      let some = at_least_one short in
+      (is ∙ is_long few, omega arith, omega arith)
+
+  -- it has at most eight words, and they are those
   pub few_there : length_of (entry_in memory place entry).value ≤ 8
   few_there = let long = length-take count (value_words memory place entry) in let same = ap length_of value_there in omega arith
 

@@ -13,25 +13,6 @@ use clsm_law::Word;
 use clsm_levels::Entry;
 use clsm_words::{Pace, RawMerger, Words};
 
-/// Writes one of the words of the entry.
-fn write_part<P: Pace>(
-    words: &Words<P>,
-    merger: &mut RawMerger,
-    at: PlacedEntry,
-    part: u64,
-    word: u64,
-)
-    requires of { IsSeatOf words.now merger.old }
-    requires free { MayWriteInto merger.old.knows at.place at.entry }
-    requires inside { part < 11 }
-    ensures of { IsSeatOf words.now merger.new }
-    ensures changes { Changes (IsPart at.place at.entry part) merger.old.knows merger.new.knows }
-    ensures made { row_of merger.new.knows (EntryWord at.place at.entry part) ≡ word }
-{
-    let PlacedEntry { place, entry } = at;
-    words.write_run(merger, Word::Entry { place, entry, part }, word);
-}
-
 /// One of the words of the entry.
 fn part<P: Pace>(words: &Words<P>, merger: &mut RawMerger, at: PlacedEntry, part: u64) -> u64
     requires of { IsSeatOf words.now merger.old }
@@ -49,7 +30,7 @@ fn part<P: Pace>(words: &Words<P>, merger: &mut RawMerger, at: PlacedEntry, part
 }
 
 /// Writes one of the words of the entry, unless it is there: a look costs less than a write.
-fn write_other<P: Pace>(
+fn write_part<P: Pace>(
     words: &Words<P>,
     merger: &mut RawMerger,
     at: PlacedEntry,
@@ -66,7 +47,9 @@ fn write_other<P: Pace>(
     if part(words, merger, at, wanted) == word {
         return;
     }
-    write_part(words, merger, at, wanted, word);
+    let PlacedEntry { place, entry } = at;
+    let part = wanted;
+    words.write_run(merger, Word::Entry { place, entry, part }, word);
 }
 
 /// Writes the words of the entry's value, and 0 behind them.
@@ -79,7 +62,7 @@ fn write_words<P: Pace>(words: &Words<P>, merger: &mut RawMerger, at: PlacedEntr
 {
     for index in 0..8_u64 {
         let word = value.get(index as usize).copied().unwrap_or(0);
-        write_other(words, merger, at, VALUE + index, word);
+        write_part(words, merger, at, VALUE + index, word);
     }
 }
 
@@ -119,7 +102,7 @@ pub(crate) fn write_entry<P: Pace>(
 {
     let value = words_of(entry);
     write_words(words, merger, at, value);
-    write_other(words, merger, at, LENGTH, value.len() as u64);
-    write_other(words, merger, at, TIME, spelling(entry));
-    write_other(words, merger, at, KEY, entry.key);
+    write_part(words, merger, at, LENGTH, value.len() as u64);
+    write_part(words, merger, at, TIME, spelling(entry));
+    write_part(words, merger, at, KEY, entry.key);
 }

@@ -1,27 +1,16 @@
-use Rattle.std.proofs.Common.{◌≡◌, ◌%◌, ◌==◌, true, ◌∙◌, ap, sym, subst}
-use Rattle.clsm_law.specs.declared.layout.Layout.{Layout}
+use Rattle.std.proofs.Common.{◌%◌, ◌==◌, ◌∙◌, sym, subst}
 use Rattle.clsm_law.specs.declared.word.Word.{Word}
 use Rattle.clsm_law.specs.declared.step.Step.TheVariants.{Look}
-use Rattle.clsm_law.specs.Memory.{is_word, cell_of, head_of, region_of}
-use Rattle.clsm_law.specs.OpenSteps.{IsLookable}
+use Rattle.clsm_law.specs.Memory.{cell_of, region_of}
 use Rattle.clsm_words.specs.Knowing.{Follows}
-use Rattle.clsm_words.proofs.Heads.{head_there, head_lookable}
 use Rattle.clsm_memtable.proofs.Exchanges.{won, lost}
+use Rattle.clsm_memtable.proofs.Inserts.{head_opens}
 use Rattle.clsm_memtable.proofs.Linked.{links, stays_unlinked, counted}
 use Rattle.clsm_memtable.proofs.chain.try_link.Goals as goal
 
 pub look-head-requires : goal.look-head-requires
-look-head-requires g c =
-    let k = c.args.seat.now.knows in
-    let is : c.head_of.result ≡ head_of k.layout c.args.time c.args.key = c.head_of.ensures
-    ∙ ap (λ (z : Layout). head_of z c.args.time c.args.key) (sym c.requires.of.1) in (
-      c.requires.of,
-      subst (λ (w : Word). (is_word k.layout w ≡ true) × IsLookable k.layout k.view w) (sym is) (
-        head_there k.layout k.view c.args.time c.args.key,
-        head_lookable k.layout k.view c.args.time c.args.key c.requires.holds c.requires.limit
-            (λ limit e. c.show_invariant.ensures.own_region c.args.time limit c.requires.filled.drawn e),
-      ),
-    )
+look-head-requires g c = head_opens c.args.words.now c.args.seat.now c.args.time c.args.key c.head_of.result c.show_invariant.ensures
+    (record { of = c.requires.of; holds = c.requires.holds; limit = c.requires.limit; drawn = c.requires.filled.drawn }) c.head_of.ensures
 
 pub returns-in-Done-clause-linked : goal.returns-in-Done-clause-linked
 returns-in-Done-clause-linked g c =

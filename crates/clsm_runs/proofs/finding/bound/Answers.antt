@@ -1,26 +1,39 @@
 use Rattle.std.proofs.Common.{arith}
 use Rattle.clsm_words.specs.Knowing.{row_of}
+use Rattle.clsm_words.specs.Keeping.{LooksAside}
 use Rattle.clsm_words.proofs.Keeps.{aside_trans}
+use Rattle.clsm_runs.specs.declared.side.Side.{Side}
 use Rattle.clsm_runs.specs.declared.side.Side.TheVariants.{Before, Behind}
-use Rattle.clsm_runs.specs.Searching.{count_of}
+use Rattle.clsm_runs.specs.Searching.{IsSide, count_of}
 use Rattle.clsm_runs.proofs.NamedRuns.{run_there}
 use Rattle.clsm_runs.proofs.Looking.{side_stays}
 use Rattle.clsm_runs.proofs.Halving.{skips, behind, position_at, run_of_all}
+use Rattle.clsm_runs.proofs.finding.bound.Given.{Over}
 use Rattle.clsm_runs.proofs.finding.bound.Goals as goal
+use Rattle.clsm_runs.proofs.finding.bound.Goals.{After-compare}
+
+-- ---- a turn, after the look at an entry
+
+looks : (g : Over) (c : After-compare g) → LooksAside c.args.seat.now.knows c.compare.new.seat.knows
+looks g c = aside_trans c.args.seat.now.knows c.loop-span.seat.knows c.compare.new.seat.knows c.loop-span.invariant.looks c.compare.ensures.looks
+
+-- where it stands it stood before
+stood : (g : Over) (c : After-compare g) (s : Side) → IsSide (row_of c.loop-span.seat.knows) c.args.run.place c.next-at.result c.args.key c.args.until s
+    → IsSide (row_of c.args.seat.now.knows) c.args.run.place c.next-at.result c.args.key c.args.until s
+stood g c s = side_stays c.args.seat.now.knows c.loop-span.seat.knows c.args.run.component c.args.run.place c.next-at.result c.args.key c.args.until s
+    c.loop-span.invariant.looks.looks c.requires.run
 
 pub loop-span-preserved-in-Before : goal.loop-span-preserved-in-Before
 loop-span-preserved-in-Before g c =
     let k = c.args.seat.now.knows in
-    let now = c.loop-span.seat.knows in
     let at = c.next-at.result in
     let place = c.args.run.place in
     let before = c.loop-span.invariant.span in
-    let side = side_stays k now c.args.run.component place at c.args.key c.args.until
-    (Before c.in-Before.found) c.loop-span.invariant.looks.looks c.requires.run c.in-Before.ensures.side in
+    let side = stood g (goal.at.loop-span-preserved-in-Before g c).After-compare (Before c.in-Before.found) c.in-Before.ensures.side in
     let run = (run_there k c.args.run.component place c.show_invariant.ensures c.requires.run).order in
     record {
       of = c.compare.ensures.of;
-      looks = aside_trans k now c.compare.new.seat.knows c.loop-span.invariant.looks c.compare.ensures.looks;
+      looks = looks g (goal.at.loop-span-preserved-in-Before g c).After-compare;
       span = record {
         order = omega arith;
         within = before.within;
@@ -32,16 +45,14 @@ loop-span-preserved-in-Before g c =
 pub loop-span-preserved : goal.loop-span-preserved
 loop-span-preserved g c =
     let k = c.args.seat.now.knows in
-    let now = c.loop-span.seat.knows in
     let at = c.next-at.result in
     let place = c.args.run.place in
     let before = c.loop-span.invariant.span in
-    let side = side_stays k now c.args.run.component place at c.args.key c.args.until
-    (Behind c.in-Behind.found) c.loop-span.invariant.looks.looks c.requires.run c.in-Behind.ensures.side in
+    let side = stood g (goal.at.loop-span-preserved g c).After-compare (Behind c.in-Behind.found) c.in-Behind.ensures.side in
     let run = run_of_all k place (run_there k c.args.run.component place c.show_invariant.ensures c.requires.run).order in
     record {
       of = c.compare.ensures.of;
-      looks = aside_trans k now c.compare.new.seat.knows c.loop-span.invariant.looks c.compare.ensures.looks;
+      looks = looks g (goal.at.loop-span-preserved g c).After-compare;
       span = record {
         order = omega arith;
         within = omega arith;

@@ -6,18 +6,23 @@ use Rattle.clsm_runs.specs.Searching.{IsSearchable}
 use Rattle.clsm_runs.proofs.NamedRuns.{names_zero, names_one}
 use Rattle.clsm_runs.proofs.Looking.{found_stays}
 use Rattle.clsm_runs.proofs.RunAfterRun.{found_here, found_behind, found_last}
+use Rattle.clsm_runs.proofs.searching.search.Given.{Over}
 use Rattle.clsm_runs.proofs.searching.search.Goals as goal
+use Rattle.clsm_runs.proofs.searching.search.Goals.{After-find}
+
+-- the run of a turn is one that the component names
+run : (g : Over) (c : After-find g) → IsSearchable c.args.seat.now.knows c.args.component (c.loop-place.place - 1)
+run g c = record {
+  held = c.requires.held;
+  named = names_zero c.args.component (c.loop-place.place - 1) (let left = c.loop-place.invariant.left in omega arith);
+}
 
 pub returns-in-Some-clause-found : goal.returns-in-Some-clause-found
 returns-in-Some-clause-found g c =
     let k = c.args.seat.now.knows in
     let place = c.loop-place.place - 1 in
-    let run : IsSearchable k c.args.component place = record {
-      held = c.requires.held;
-      named = names_zero c.args.component place (let left = c.loop-place.invariant.left in omega arith);
-    } in
     let found = found_stays k c.loop-place.seat.knows c.args.component place c.args.key c.args.until
-    (Some c.in-Some.entry) c.loop-place.invariant.looks.looks run c.in-Some.ensures.found in
+    (Some c.in-Some.entry) c.loop-place.invariant.looks.looks (run g (goal.at.returns-in-Some-clause-found g c).After-find) c.in-Some.ensures.found in
     found_here (row_of k) c.args.component c.args.key c.args.until c.loop-place.place
     (runs_of (row_of k) c.args.component) c.loop-place.invariant.searched c.in-Some.entry (omega arith) found
 
@@ -25,12 +30,8 @@ pub loop-place-preserved : goal.loop-place-preserved
 loop-place-preserved g c =
     let k = c.args.seat.now.knows in
     let place = c.loop-place.place - 1 in
-    let run : IsSearchable k c.args.component place = record {
-      held = c.requires.held;
-      named = names_zero c.args.component place (let left = c.loop-place.invariant.left in omega arith);
-    } in
-    let found = found_stays k c.loop-place.seat.knows c.args.component place c.args.key c.args.until None c.loop-place.invariant.looks.looks run
-    c.in_default.ensures.found in
+    let found = found_stays k c.loop-place.seat.knows c.args.component place c.args.key c.args.until None c.loop-place.invariant.looks.looks
+    (run g (goal.at.loop-place-preserved g c).After-find) c.in_default.ensures.found in
     record {
       of = c.find.ensures.of;
       looks = aside_trans k c.loop-place.seat.knows c.find.new.seat.knows c.loop-place.invariant.looks c.find.ensures.looks;
