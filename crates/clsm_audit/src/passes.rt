@@ -1,7 +1,7 @@
 ghost use Rattle.std.specs.Prelude.{◌≡◌, ◌↔◌, ◌⊎◌, ℕ, AllPairs, IfErr, IfOk, IsTrue, MatchOption, OnOk, Ok, false, min};
 ghost use Rattle.std.specs.BTreeSet.{contains};
 ghost use Rattle.std.specs.Ordering.{nat_cmp};
-ghost use Rattle.clsm_audit.specs.Faults.{HasNone, IsFirstNot, IsFirstOf, IsLawful, IsOneHistory, IsRefusal, IsSecondAt};
+ghost use Rattle.clsm_audit.specs.Faults.{HasNone, IsFirstFault, IsFirstNot, IsFirstOf, IsLawful, IsOneHistory, IsRefusal, IsSecondAt, Passes};
 ghost use Rattle.clsm_audit.specs.Lawful.{HasTimes, HaveTimes, IsFromDueAt, IsKnownAt, IsRightAt};
 ghost use Rattle.clsm_audit.specs.Order.{IsInTimeOrder};
 ghost use Rattle.clsm_audit.specs.Whole.{HasHistory};
@@ -100,6 +100,7 @@ fn lowest(found: Option<usize>, index: usize) -> usize
 
 /// The lowest index of a record whose reading is not what the writes below its time give, or stands
 /// inside a batch. Refused if memory runs out.
+#[tactic(auto, using(crate::proofs::Played::index_in, crate::proofs::Played::past_here))]
 fn first_wrong(
     alloc: Global,
     records: &[CallRecord],
@@ -151,25 +152,35 @@ pub fn audit(alloc: Global, config: &Config, records: &[CallRecord]) -> Result<(
     ensures fault { IfErr result (IsRefusal config.now records.now) }
     ensures whole { HasHistory config.now records.now → IfErr result (λ error. error ≡ AuditError.Memory) }
 {
+    match first_fault(alloc, config, records)? {
+        Some((kind, index)) => Err(AuditError::Fault { kind, index }),
+        None => Ok(()),
+    }
+}
+
+/// The kind of the first fault and the index of its record, if there is a fault. Refused if memory
+/// runs out.
+fn first_fault(
+    alloc: Global,
+    config: &Config,
+    records: &[CallRecord],
+) -> Result<Option<(FaultKind, usize)>, Memory>
+    ensures { IfOk result (λ found. MatchOption found
+        (Passes config.now records.now)
+        (λ fault. IsFirstFault config.now records.now fault.0 fault.1)) }
+{
     if let Some(index) = first_unknown(alloc, config, records)? {
-        return refuse(FaultKind::Unknown, index);
+        return Ok(Some((FaultKind::Unknown, index)));
     }
     if let Some(index) = first_second(alloc, records)? {
-        return refuse(FaultKind::TwoAtOneTime, index);
+        return Ok(Some((FaultKind::TwoAtOneTime, index)));
     }
     if let Some(index) = first_back(alloc, config, records)? {
-        return refuse(FaultKind::TimeRanBack, index);
+        return Ok(Some((FaultKind::TimeRanBack, index)));
     }
     let stamps = in_time_order(alloc, records)?;
     if let Some(index) = first_wrong(alloc, records, &stamps)? {
-        return refuse(FaultKind::WrongReply, index);
+        return Ok(Some((FaultKind::WrongReply, index)));
     }
-    Ok(())
-}
-
-/// The refusal of the record at this index.
-fn refuse(kind: FaultKind, index: usize) -> Result<(), AuditError>
-    ensures { result ≡ Err (AuditError.Fault kind index) }
-{
-    Err(AuditError::Fault { kind, index })
+    Ok(None)
 }
