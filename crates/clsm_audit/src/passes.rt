@@ -129,7 +129,7 @@ fn first_wrong(
 /// 1. `Unknown`: the seat is not below `config.seats`; the time is not below 2^62, or for a record
 ///    that is no write above 2^62; a batch has no member, more than `config.cells`, one that keeps
 ///    its key, or its last time is not below 2^62; a snapshot is opened where one is open; a close
-///    or a read at the snapshot where none is open; one of these, a scan or a page at another time
+///    or a read at the snapshot if none is open; one of these, a scan or a page at another time
 ///    than the open snapshot's.
 /// 2. `TwoAtOneTime`: a write at a time at which a record with a lower index writes. A batch writes
 ///    at its time and those behind it, one for each member.
