@@ -137,8 +137,7 @@ fn first_wrong(
 ///    than the last time of a write. Closes and reads under an open snapshot are not held against
 ///    it.
 /// 4. `WrongReply`: what was read is not what the writes below the record's time give; or the
-/// record
-///    read, or opened or closed a snapshot, at a time strictly inside a batch.
+///    record read, or opened or closed a snapshot, at a time strictly inside a batch.
 ///
 /// Refused with `Memory` if memory runs out, in place of any of these answers. Records whose seats,
 /// batches and times are in their ranges, and that are the calls of a history, are refused for
