@@ -1,7 +1,7 @@
 ghost use Rattle.std.specs.Prelude.{◌≡◌, ◌+◌, ◌<◌, ◌^◌, ◌++◌, ℕ, length, MatchResult};
 ghost use Rattle.clsm_law.specs.Views.{or_zero};
 ghost use Rattle.clsm_core_caller.specs.Settling.{listed};
-ghost use Rattle.clsm_law.specs.Relation.{counted_cancel, filled, given_up, is_own, is_waited_for, member_of, view_after};
+ghost use Rattle.clsm_law.specs.Relation.{counted_cancel, filled, given_up, is_own, is_waited_for, member_of, taken, view_after};
 ghost use Rattle.clsm_law.specs.declared.layout.Layout.{Layout};
 ghost use Rattle.clsm_law.specs.declared.step.Step.{Step};
 
@@ -52,6 +52,25 @@ pub(crate) fn note_leaving(layout: &Layout, view: &mut View) -> Result<(), Alloc
     Ok(())
 }
 
+/// Takes the time: no part of its cell is filled.
+fn take(view: &mut View, time: Time) -> Result<(), AllocError>
+    ensures { MatchResult result (λ _. view.new ≡ taken view.old time) (λ _. view.new ≡ view.old) }
+{
+    view.words.blank(8)?;
+    view.drawn = Some(time);
+    view.key = None;
+    view.length = None;
+    view.next = None;
+    view.linked = false;
+    view.order_next = None;
+    view.inserted = false;
+    view.fresh_link = None;
+    view.low = 0;
+    view.high = 0;
+    view.fresh_clock = None;
+    Ok(())
+}
+
 /// Notes an exchange on CLOCK from this time.
 pub(crate) fn note_draw(view: &mut View, time: Time, found: u64) -> Result<(), AllocError>
     ensures { MatchResult result
@@ -59,20 +78,9 @@ pub(crate) fn note_draw(view: &mut View, time: Time, found: u64) -> Result<(), A
         (λ _. view.new ≡ view.old) }
 {
     if found == time {
-        view.words.blank(8)?;
-        view.drawn = Some(time);
-        view.key = None;
-        view.length = None;
-        view.next = None;
-        view.linked = false;
-        view.order_next = None;
-        view.inserted = false;
-        view.fresh_link = None;
-        view.low = 0;
-        view.high = 0;
-    } else {
-        view.raced = view.raced.wrapping_add(1);
+        return take(view, time);
     }
+    view.raced = view.raced.wrapping_add(1);
     view.fresh_clock = None;
     Ok(())
 }
@@ -102,18 +110,8 @@ pub(crate) fn note_stage(view: &mut View, time: Time, key: u64) -> Result<(), Al
         (λ _. (z : Layout) (i x : ℕ) → view.new ≡ view_after z i view.old (Step.Stage time key) x)
         (λ _. view.new ≡ view.old) }
 {
-    view.words.blank(8)?;
-    view.drawn = Some(time);
+    take(view, time)?;
     view.key = Some(key);
-    view.length = None;
-    view.next = None;
-    view.linked = false;
-    view.order_next = None;
-    view.inserted = false;
-    view.fresh_link = None;
-    view.low = 0;
-    view.high = 0;
-    view.fresh_clock = None;
     Ok(())
 }
 
