@@ -19,7 +19,7 @@ use Rattle.clsm_audit.specs.Lawful.{HasTimes, HasWrites, HaveTimes, IsFromDue, I
 use Rattle.clsm_audit.specs.Written.{IsWrittenBefore, WritesAt, is_write, span_of, time_past}
 use Rattle.clsm_audit.proofs.Calls.{calls_of-other, calls_of-own}
 use Rattle.clsm_audit.proofs.Indices.{if_here, itself, nobody, taken_more}
-use Rattle.clsm_audit.proofs.Seconds.{here_second, here_some, some_within}
+use Rattle.clsm_audit.proofs.Seconds.{at_index, here_second, some_within}
 use Rattle.clsm_audit.proofs.Times.{writes_each, writes_within}
 
 -- an index at which something does not hold is below the end
@@ -65,8 +65,8 @@ no_second records i r within is none second =
     let here = here_second records i r within is second in
     let earlier = here.2 in
     let inside = some_within (WritesAt here.0) records earlier.0 earlier.2 in
-    none earlier.0 earlier.1 here.0 (here_some (WritesAt here.0) records earlier.0 (get_or records earlier.0 nobody) inside
-    (itself records earlier.0 inside) earlier.2) here.1
+    none earlier.0 earlier.1 here.0 ((at_index (WritesAt here.0) records earlier.0 (get_or records earlier.0 nobody) inside
+    (itself records earlier.0 inside)).1 earlier.2) here.1
 
 -- ---- dues
 

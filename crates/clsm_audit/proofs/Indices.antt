@@ -5,9 +5,12 @@ use Rattle.std.proofs.lemmas.Bool.{cases_lt}
 use Rattle.std.proofs.lemmas.List.{append-nil, drop_all, get_or_default, take_all, take_more}
 use Rattle.std.proofs.lemmas.Option.{slice_get_past, slice_get_read}
 use Rattle.std.specs.List.{slice_get}
+use Rattle.clsm_model.specs.declared.config.Config.{Config}
 use Rattle.clsm_model.specs.declared.record.CallRecord.{CallRecord}
 use Rattle.clsm_model.specs.declared.record.Deed.TheVariants.{Snapshot}
-use Rattle.clsm_audit.specs.Faults.{HasNone, IsFirstNot, IsFirstOf}
+use Rattle.clsm_audit.specs.declared.fault.FaultKind.{FaultKind}
+use Rattle.clsm_audit.specs.declared.fault.FaultKind.TheVariants.{Unknown, TwoAtOneTime, TimeRanBack, WrongReply}
+use Rattle.clsm_audit.specs.Faults.{HasNone, IsFirstFault, IsFirstNot, IsFirstOf, IsLawful}
 
 -- what a list of records has past its end
 abbrev pub nobody : CallRecord
@@ -17,14 +20,18 @@ nobody = record { seat = 0; time = 0; deed = Snapshot }
 pub itself : (records : List CallRecord) (i : ℕ) → i < length records → get_or records i nobody ≡ get_or records i (get_or records i nobody)
 itself records i within = get_or_default records i nobody (get_or records i nobody) within
 
+-- the record at an index is what the list has there
+pub get_here : (records : List CallRecord) (i : ℕ) (r : CallRecord) → i < length records → r ≡ get_or records i r → slice_get records i ≡ Some r
+get_here records i r within is = slice_get_read records (length records) i r refl within is
+
 -- what holds of the record at the index, and back
 pub if_here : (P : CallRecord → Type 0) (records : List CallRecord) (i : ℕ) (r : CallRecord) → i < length records → r ≡ get_or records i r → P r
     → IfSome (slice_get records i) P
-if_here P records i r within is p = subst (λ (o : Option CallRecord). IfSome o P) (sym (slice_get_read records (length records) i r refl within is)) p
+if_here P records i r within is p = rw (get_here records i r within is) p
 
 pub here_if : (P : CallRecord → Type 0) (records : List CallRecord) (i : ℕ) (r : CallRecord) → i < length records → r ≡ get_or records i r
     → IfSome (slice_get records i) P → P r
-here_if P records i r within is p = subst (λ (o : Option CallRecord). IfSome o P) (slice_get_read records (length records) i r refl within is) p
+here_if P records i r within is p = rw (get_here records i r within is) at p
 
 -- from the end on there is no record
 pub past_end : (P : CallRecord → Type 0) (records : List CallRecord) (i : ℕ) → length records ≤ i → IfSome (slice_get records i) P
@@ -53,10 +60,11 @@ all_hold Holds found none is i = is.below i (subst (λ (o : Option ℕ). IfSome 
 pub none_has : (IsFault : ℕ → Type 0) (found : Option ℕ) → found ≡ None → IsFirstOf IsFault found → HasNone IsFault
 none_has IsFault found none is = subst (IsFirstOf IsFault) none is
 
--- ---- and that it found none
+-- ---- and where it found one
 
-pub all_held : (Holds : ℕ → Type 0) → ((i : ℕ) → Holds i) → (found : Option ℕ) (i : ℕ) → found ≡ Some i → IsFirstNot Holds found → ⊥
-all_held Holds all found i some is = subst (λ (o : Option ℕ). IfSome o (λ j. ¬ Holds j)) some is.fails (all i)
-
-pub none_had : (IsFault : ℕ → Type 0) → HasNone IsFault → (found : Option ℕ) (i : ℕ) → found ≡ Some i → IsFirstOf IsFault found → ⊥
-none_had IsFault none found i some is = none i (subst (IsFirstOf IsFault) some is).here
+-- lawful records have no first fault
+pub no_fault : (config : Config) (records : List CallRecord) → IsLawful config records → (kind : FaultKind) (i : ℕ) → IsFirstFault config records kind i → ⊥
+no_fault config records lawful Unknown i first = lawful.known i first.here
+no_fault config records lawful TwoAtOneTime i first = lawful.alone i first.1.here
+no_fault config records lawful TimeRanBack i first = lawful.rises i first.2.here
+no_fault config records lawful WrongReply i first = lawful.right i first.3.here

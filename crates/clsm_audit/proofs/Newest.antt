@@ -15,7 +15,7 @@ use Rattle.clsm_audit.specs.Faults.{HasNone, IsSecondAt}
 use Rattle.clsm_audit.specs.Sought.{Fits, IsLastWrite, IsMade, MakesAt}
 use Rattle.clsm_audit.specs.Written.{history_of, slot_by, write_of}
 use Rattle.clsm_audit.proofs.Indices.{itself, nobody}
-use Rattle.clsm_audit.proofs.Seconds.{here_some, some_here, some_within}
+use Rattle.clsm_audit.proofs.Seconds.{at_index, some_within}
 use Rattle.clsm_audit.proofs.Slots.{slot_at-history_of, slot_written}
 
 -- ---- in a history
@@ -77,11 +77,11 @@ is_newest records key s (Some found) alone last =
     let i = found.index in
     let within = some_within (IsMade (OfKey key) found) records i last.made in
     let r = get_or records i nobody in
-    let made = here_some (IsMade (OfKey key) found) records i r within (itself records i within) last.made in
+    let made = (at_index (IsMade (OfKey key) found) records i r within (itself records i within)).1 last.made in
     let fits = fits_key key found.time found.slot made.fits in
     record {
       before = last.before;
-      made = some_here (λ q. write_of q found.time ≡ Some found.slot) records i r within (itself records i within) made.is;
+      made = (at_index (λ q. write_of q found.time ≡ Some found.slot) records i r within (itself records i within)).0 made.is;
       of_key = ap is_some fits;
       newest_is = newest_some (history_of records) key found.time s (record { time = found.time; value = left_in found.slot }) last.before
           (ap (key_write key found.time) (slot_written records alone i found.time found.slot within made.is) ∙ fits)

@@ -17,14 +17,14 @@ use Rattle.clsm_model.specs.Right.{write_at}
 use Rattle.clsm_model.specs.Seats.{AreCallsIn, HasEachWrite, IsListedRecord, IsNext, IsRecordIn, IsRightRecord, Rises, StandsAs, due_after, last_due}
 use Rattle.clsm_model.specs.Seats.{open_after}
 use Rattle.clsm_model.proofs.Rising.{rises_append}
-use Rattle.clsm_audit.specs.Faults.{HasNone, IsSecondAt}
-use Rattle.clsm_audit.specs.Lawful.{IsAtSnapshot, IsFromDue, IsFromDueAt, IsInRange, IsKnown, IsKnownAt, IsRightAt, calls_of, due_of, open_of}
+use Rattle.clsm_audit.specs.Faults.{HasNone, IsSecondAt, Passes}
+use Rattle.clsm_audit.specs.Lawful.{IsAtSnapshot, IsFromDue, IsInRange, IsKnown, calls_of, due_of, open_of}
 use Rattle.clsm_audit.specs.Whole.{HasHistory}
 use Rattle.clsm_audit.specs.Written.{AreApart, WritesAt, batches_of, end_by, history_of, slot_by, span_of, time_past, write_of}
 use Rattle.clsm_audit.proofs.Batches.{batches_apart as apart_from, listed_at}
 use Rattle.clsm_audit.proofs.Calls.{calls_of-other, calls_of-own}
 use Rattle.clsm_audit.proofs.Indices.{here_if, if_here, itself, nobody, past_end, taken_more}
-use Rattle.clsm_audit.proofs.Seconds.{here_some, some_within, two_writes}
+use Rattle.clsm_audit.proofs.Seconds.{at_index, some_within, two_writes}
 use Rattle.clsm_audit.proofs.Slots.{length-history_of, slot_at-history_of, slot_written}
 use Rattle.clsm_audit.proofs.Times.{is_by_seat}
 
@@ -168,8 +168,8 @@ module _ (records : List CallRecord) (alone : HasNone (IsSecondAt records)) wher
       let j = found.0 in
       let r = get_or records j nobody in
       let within : j < length records = some_within (λ q. write_of q t ≡ Some (Wrote seat key written)) records j found.1 in
-      let here : write_of r t ≡ Some (Wrote seat key written) = here_some (λ q. write_of q t ≡ Some (Wrote seat key written)) records j r within
-      (itself records j within) found.1 in
+      let here : write_of r t ≡ Some (Wrote seat key written) = (at_index (λ q. write_of q t ≡ Some (Wrote seat key written)) records j r within
+      (itself records j within)).1 found.1 in
       let own : r.seat ≡ seat = own_seat r t seat key written here in
       let write : write_at seat r.time r.deed t ≡ Some (Wrote seat key written) = ap (λ (n : ℕ). write_at n r.time r.deed t) (sym own) ∙ here in (
         r,
@@ -219,11 +219,10 @@ rises_to records seat (suc n) next le =
 
 -- ---- all of it
 
-module _ (config : Config) (records : List CallRecord) (known : (i : ℕ) → IsKnownAt config records i) (alone : HasNone (IsSecondAt records))
-    (from_due : (i : ℕ) → IsFromDueAt records i) (right : (i : ℕ) → IsRightAt records i) where
+module _ (config : Config) (records : List CallRecord) (passes : Passes config records) where
   known_here : (i : ℕ) → i < length records → IsKnown config (open_of (take i records) (get_or records i nobody).seat) (get_or records i nobody)
   known_here i within = here_if (λ q. IsKnown config (open_of (take i records) q.seat) q) records i (get_or records i nobody) within
-      (itself records i within) (known i)
+      (itself records i within) (passes.known i)
 
   next_here : (i : ℕ) → i < length records → let r = get_or records i nobody in
       IsNext (due_of (take i records) r.seat) (open_of (take i records) r.seat) r.time r.deed
@@ -231,7 +230,7 @@ module _ (config : Config) (records : List CallRecord) (known : (i : ℕ) → Is
       let r = get_or records i nobody in
       is_next (due_of (take i records) r.seat) (open_of (take i records) r.seat) r.time r.deed (known_here i within).snapshot_use
       (here_if (λ q. IsFromDue (due_of (take i records) q.seat) (open_of (take i records) q.seat) q.time q.deed) records i r within
-      (itself records i within) (from_due i))
+      (itself records i within) (passes.from_due i))
 
   -- what holds of each record of the seat holds of each of its calls
   each_of : (P : CallRecord → Type 0) (seat : ℕ) → ((i : ℕ) → i < length records → (get_or records i nobody).seat ≡ seat → P (get_or records i nobody))
@@ -241,11 +240,11 @@ module _ (config : Config) (records : List CallRecord) (known : (i : ℕ) → Is
   pub calls_in : (seat : ℕ) → AreCallsIn (history_of records) seat (calls_of records seat) (due_of records seat) (open_of records seat)
   calls_in seat = record {
     reached = due_within records seat;
-    stand = each_of (IsRecordIn (history_of records).slots seat) seat (λ i within own. stands records alone seat i within own);
-    each = has_each records alone seat;
+    stand = each_of (IsRecordIn (history_of records).slots seat) seat (λ i within own. stands records passes.alone seat i within own);
+    each = has_each records passes.alone seat;
     listed = each_of (IsListedRecord (history_of records).batches) seat (λ i within own. listed_at records i within);
     right = each_of (IsRightRecord (history_of records)) seat (λ i within own.
-        here_if (IsRightRecord (history_of records)) records i (get_or records i nobody) within (itself records i within) (right i));
+        here_if (IsRightRecord (history_of records)) records i (get_or records i nobody) within (itself records i within) (passes.right i));
     rising = record {
       rises = subst (λ (rs : List CallRecord). Rises 0 None (calls_of rs seat)) (take_all (length records) records (omega arith))
           (rises_to records seat (length records) next_here (omega arith));
@@ -257,7 +256,7 @@ module _ (config : Config) (records : List CallRecord) (known : (i : ℕ) → Is
   -- the batches do not overlap
   pub batches_apart : AllPairs AreApart (batches_of records)
   batches_apart = apart_from records (λ i within. (known_here i within).in_range.times.writes) (λ i j t lt within writes writes'.
-      two_writes records alone i j t (get_or records i nobody) (get_or records j nobody) lt (omega arith) within (itself records i (omega arith))
+      two_writes records passes.alone i j t (get_or records i nobody) (get_or records j nobody) lt (omega arith) within (itself records i (omega arith))
       (itself records j within) writes writes')
 
   -- so they have a history

@@ -50,33 +50,17 @@ comes_next records i seat within own rises =
     let split = calls_split records i seat within own in
     next_middle 0 None (calls_of (take i records) seat) split.0 (get_or records i nobody) (subst (Rises 0 None) split.1 rises)
 
-pub at_snapshot : (due : ℕ) (snapshot : Option ℕ) (t : ℕ) (deed : Deed) → IsNext due snapshot t deed → IsAtSnapshot snapshot t deed
-at_snapshot due snapshot t (Put key written) next = tt
-at_snapshot due snapshot t (Remove key) next = tt
-at_snapshot due snapshot t (Rmw key old change) next = tt
-at_snapshot due snapshot t (Group members) next = tt
-at_snapshot due snapshot t (Get key reply) next = tt
-at_snapshot due snapshot t Snapshot next = next.0
-at_snapshot due snapshot t Close next = next
-at_snapshot due snapshot t (GetAt key reply) next = next
-at_snapshot due None t (Scan lo hi rows) next = tt
-at_snapshot due (Some s) t (Scan lo hi rows) next = next
-at_snapshot due None t (Page from hi max rows more) next = tt
-at_snapshot due (Some s) t (Page from hi max rows more) next = next
-
-pub from_due : (due : ℕ) (snapshot : Option ℕ) (t : ℕ) (deed : Deed) → IsNext due snapshot t deed → IsFromDue due snapshot t deed
-from_due due snapshot t (Put key written) next = next
-from_due due snapshot t (Remove key) next = next
-from_due due snapshot t (Rmw key old change) next = next
-from_due due snapshot t (Group members) next = next
-from_due due snapshot t (Get key reply) next = next
-from_due due snapshot t Snapshot next = next.1
-from_due due snapshot t Close next = tt
-from_due due snapshot t (GetAt key reply) next = tt
-from_due due None t (Scan lo hi rows) next = next
-from_due due (Some s) t (Scan lo hi rows) next = tt
-from_due due None t (Page from hi max rows more) next = next
-from_due due (Some s) t (Page from hi max rows more) next = tt
+-- what comes next suits the open snapshot, and is not below the due
+pub next_suits : (due : ℕ) (snapshot : Option ℕ) (t : ℕ) (deed : Deed) → IsNext due snapshot t deed → IsAtSnapshot snapshot t deed
+    × IsFromDue due snapshot t deed
+next_suits due snapshot t Snapshot next = (next.0, next.1)
+next_suits due snapshot t Close next = (next, tt)
+next_suits due snapshot t (GetAt key reply) next = (next, tt)
+next_suits due None t (Scan lo hi rows) next = (tt, next)
+next_suits due (Some s) t (Scan lo hi rows) next = (next, tt)
+next_suits due None t (Page from hi max rows more) next = (tt, next)
+next_suits due (Some s) t (Page from hi max rows more) next = (next, tt)
+next_suits due snapshot t deed next = (tt, next)
 
 -- ---- no time is past the due that the calls leave
 

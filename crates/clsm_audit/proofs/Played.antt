@@ -1,8 +1,9 @@
 -- A walk over the stamps in the order of time: the map at each turn is the map of the history below
 -- the turn's time, unless that is inside a batch.
-use Rattle.std.proofs.Common.{◌≡◌, ◌≢◌, ℕ, ◌+◌, ◌<◌, ◌≤◌, Bool, true, false, cond, List, length, get_or, Option, Some, None, IfSome, IsTrue, ◌↔◌}
+use Rattle.std.proofs.Common.{◌≡◌, ◌≢◌, ℕ, ◌+◌, ◌^◌, ◌<◌, ◌≤◌, Bool, true, false, cond, List, length, get_or, Option, Some, None, IfSome, IsTrue, ◌↔◌}
 use Rattle.std.proofs.Common.{MatchOption, max, min, refl, sym, ap, ◌∙◌, subst, arith, ⊎_elim}
 use Rattle.std.proofs.lemmas.Bool.{cases_Bool, cases_eq, cases_lt, true≢false}
+use Rattle.std.proofs.lemmas.List.{get_or_default}
 use Rattle.std.specs.List.{slice_get}
 use Rattle.clsm_model.specs.declared.record.CallRecord.{CallRecord}
 use Rattle.clsm_model.specs.declared.slot.Slot.TheVariants.{Nothing}
@@ -17,9 +18,9 @@ use Rattle.clsm_audit.specs.Replayed.{HasComeTo, StandsIn, until_by}
 use Rattle.clsm_audit.specs.Written.{WritesAt, batches_of, history_of, is_write, time_past}
 use Rattle.clsm_audit.proofs.Batches.{inside_record, record_outside, uncut_at, uncut_from}
 use Rattle.clsm_audit.proofs.Indices.{here_if, if_here, itself, nobody, past_end}
-use Rattle.clsm_audit.proofs.Seconds.{here_some, some_within, two_writes}
+use Rattle.clsm_audit.proofs.Seconds.{at_index, some_within, two_writes}
 use Rattle.clsm_audit.proofs.Slots.{IsMap-later, slot_at-none, slot_written, time_within}
-use Rattle.clsm_audit.proofs.Times.{past_time, stands_in, writes_each, writes_within}
+use Rattle.clsm_audit.proofs.Times.{past_time, past_within, stands_in, writes_each, writes_within}
 use Rattle.clsm_audit.proofs.Turns.{nowhere, stamp_for, stamp_in, stamps_apart, stamps_rise}
 
 -- the record of the turn k
@@ -70,8 +71,18 @@ module _ (records : List CallRecord) (stamps : List Stamp) (order : IsInTimeOrde
   abbrev at : ℕ → CallRecord
   at k = turn_of records stamps k
 
-  index_in : (k : ℕ) → k < length stamps → (get_or stamps k nowhere).index < length records
+  pub index_in : (k : ℕ) → k < length stamps → (get_or stamps k nowhere).index < length records
   index_in k within = (stamp_in records stamps order k nowhere within).0
+
+  -- the record that is read at a turn
+  read_here : (k : ℕ) (r : CallRecord) → k < length stamps → r ≡ get_or records (get_or stamps k nowhere).index r → r ≡ at k
+  read_here k r within is = is ∙ get_or_default records (get_or stamps k nowhere).index r nobody (index_in k within)
+
+  -- its times are below the bound
+  pub past_here : (k : ℕ) (r : CallRecord) → k < length stamps → r ≡ get_or records (get_or stamps k nowhere).index r → time_past r < 2 ^ 64
+  past_here k r within is =
+      let i = (get_or stamps k nowhere).index in
+      past_within r (here_if HasTimes records i r (index_in k within) is (times i))
 
   has_times : (k : ℕ) → k < length stamps → HasTimes (at k)
   has_times k within =
@@ -198,7 +209,7 @@ module _ (records : List CallRecord) (stamps : List Stamp) (order : IsInTimeOrde
       let found = stamp_for records stamps order i nowhere inside in
       let is : get_or records i nobody ≡ at found.0 = ap (λ (n : ℕ). get_or records n nobody) (sym found.2) in
       let here = writes_within (at found.0) t
-      (subst (WritesAt t) is (here_some (WritesAt t) records i (get_or records i nobody) inside (itself records i inside) writes)) in
+      (subst (WritesAt t) is ((at_index (WritesAt t) records i (get_or records i nobody) inside (itself records i inside)).1 writes)) in
       none found.0 found.1 here.0 here.1 here.2)
 
   -- ---- the walk
@@ -263,10 +274,12 @@ module _ (records : List CallRecord) (stamps : List Stamp) (order : IsInTimeOrde
   stands_here j within writes = stands_in (history_of records) (at j) (has_times j within).writes writes (λ t w is.
       slot_written records alone (get_or stamps j nowhere).index t w (index_in j within) is)
 
-  -- a turn, as it is played
-  pub played_next : (j until until' : ℕ) (old new : List Pair) → j < length stamps → IsPlayed records stamps j until old → Plays (at j) until until' old new
-      → IsPlayed records stamps (j + 1) until' new
-  played_next j until until' old new within played plays = ⊎_elim
+  -- a turn, as the record that is read there is played
+  pub played_next : (j until until' : ℕ) (old new : List Pair) (r : CallRecord) → j < length stamps → r ≡ get_or records (get_or stamps j nowhere).index r
+      → IsPlayed records stamps j until old → Plays r until until' old new → IsPlayed records stamps (j + 1) until' new
+  played_next j until until' old new r within is played played_r =
+      let plays = subst (λ (q : CallRecord). Plays q until until' old new) (read_here j r within is) played_r in
+      ⊎_elim
       (λ (writes : is_write (at j).deed ≡ true).
       played_write j until until' old new within writes (plays.until_is ∙ until_write until (at j) writes)
       (plays.write (history_of records) (stands_here j within writes) (played.map (at j).time (until_at_write j until old within writes played)
@@ -277,15 +290,18 @@ module _ (records : List CallRecord) (stamps : List Stamp) (order : IsInTimeOrde
       (cases_Bool (is_write (at j).deed))
 
   -- and what is right at it
-  pub right_here : (j until : ℕ) (pairs : List Pair) (right : Bool) → j < length stamps → IsPlayed records stamps j until pairs
-      → ((h : History) → HasComeTo h (at j).time until pairs → IsTrue right ↔ IsRightRecord h (at j))
+  pub right_here : (j until : ℕ) (pairs : List Pair) (r : CallRecord) (right : Bool) → j < length stamps
+      → r ≡ get_or records (get_or stamps j nowhere).index r → IsPlayed records stamps j until pairs
+      → ((h : History) → HasComeTo h r.time until pairs → IsTrue right ↔ IsRightRecord h r)
       → IsTrue right ↔ IsRightAt records (get_or stamps j nowhere).index
-  right_here j until pairs right within played tested =
+  right_here j until pairs r right within is played tested =
       let i = (get_or stamps j nowhere).index in
       let inside = index_in j within in
-      let is = tested (history_of records) (comes_to j until pairs within played) in (
-        λ e. if_here (IsRightRecord (history_of records)) records i (at j) inside (itself records i inside) (is.0 e),
-        λ e. is.1 (here_if (IsRightRecord (history_of records)) records i (at j) inside (itself records i inside) e),
+      let come = subst (λ (q : CallRecord). HasComeTo (history_of records) q.time until pairs) (sym (read_here j r within is))
+      (comes_to j until pairs within played) in
+      let same = tested (history_of records) come in (
+        λ e. if_here (IsRightRecord (history_of records)) records i r inside is (same.0 e),
+        λ e. same.1 (here_if (IsRightRecord (history_of records)) records i r inside is e),
       )
 
   -- and its map

@@ -12,7 +12,7 @@ use Rattle.clsm_audit.specs.declared.wanted.Wanted.{Wanted}
 use Rattle.clsm_audit.specs.Sought.{Fits, HasNoneIn, IsLastIn, IsLastWrite, IsMade, IsMadeAt, MakesAt}
 use Rattle.clsm_audit.specs.Written.{WritesAt, time_past, write_of}
 use Rattle.clsm_audit.proofs.Indices.{if_here, past_end}
-use Rattle.clsm_audit.proofs.Seconds.{some_here}
+use Rattle.clsm_audit.proofs.Seconds.{at_index}
 use Rattle.clsm_audit.proofs.Times.{writes_within}
 
 -- ---- the members of a batch
@@ -105,7 +105,7 @@ module _ (records : List CallRecord) (wanted : Wanted) (n below : ℕ) (r : Call
     record {
       before = here.before;
       made = subst (λ (i : ℕ). IsSomeAnd (slice_get records i) (IsMade wanted found)) (sym here.index_is)
-          (some_here (IsMade wanted found) records n r within is here.made);
+          ((at_index (IsMade wanted found) records n r within is).0 here.made);
       last = λ i t lt low high. next_index t (λ j lt'. quiet records wanted n below from last before j t lt' (let le = here.not_before in omega arith) high)
           (here.last t low high) i lt;
     },

@@ -2,7 +2,7 @@
 use Rattle.std.proofs.Common.{◌≡◌, ◌≢◌, ◌↔◌, ℕ, ◌+◌, ◌<◌, ◌≤◌, ◌==◌, Bool, true, false, cond, not, IsTrue, List, length, get_or, Option, refl, sym, ap, ◌∙◌}
 use Rattle.std.proofs.Common.{subst, arith, ◌⊎◌, inl, inr, ⊎_elim}
 use Rattle.std.proofs.lemmas.Bool.{cases_eq, cases_lt, eq-eqb, ne_eqb, true≢false}
-use Rattle.std.proofs.lemmas.Option.{slice_get_past, slice_get_read}
+use Rattle.std.proofs.lemmas.Option.{slice_get_past}
 use Rattle.std.specs.List.{slice_get}
 use Rattle.std.specs.Option.{IsSomeAnd}
 use Rattle.std.specs.Ordering.{is_eq, nat_cmp}
@@ -11,17 +11,14 @@ use Rattle.clsm_model.proofs.Maps.{is_eq-nat_cmp}
 use Rattle.clsm_audit.specs.Faults.{HasNone, IsSecondAt}
 use Rattle.clsm_audit.specs.Lawful.{HasWrites}
 use Rattle.clsm_audit.specs.Written.{IsWrittenBefore, WritesAt, is_write, time_past}
+use Rattle.clsm_audit.proofs.Indices.{get_here}
 use Rattle.clsm_audit.proofs.Times.{writes_each, writes_within}
 
 -- ---- a record at an index, and what holds of it
 
-pub some_here : (P : CallRecord → Type 0) (records : List CallRecord) (i : ℕ) (r : CallRecord) → i < length records → r ≡ get_or records i r → P r
-    → IsSomeAnd (slice_get records i) P
-some_here P records i r within is p = subst (λ (o : Option CallRecord). IsSomeAnd o P) (sym (slice_get_read records (length records) i r refl within is)) p
-
-pub here_some : (P : CallRecord → Type 0) (records : List CallRecord) (i : ℕ) (r : CallRecord) → i < length records → r ≡ get_or records i r
-    → IsSomeAnd (slice_get records i) P → P r
-here_some P records i r within is p = subst (λ (o : Option CallRecord). IsSomeAnd o P) (slice_get_read records (length records) i r refl within is) p
+pub at_index : (P : CallRecord → Type 0) (records : List CallRecord) (i : ℕ) (r : CallRecord) → i < length records → r ≡ get_or records i r
+    → P r ↔ IsSomeAnd (slice_get records i) P
+at_index P records i r within is = (λ p. rw (get_here records i r within is) p, λ p. rw (get_here records i r within is) at p)
 
 -- an index at which something holds is below the end
 pub some_within : (P : CallRecord → Type 0) (records : List CallRecord) (i : ℕ) → IsSomeAnd (slice_get records i) P → i < length records
@@ -42,7 +39,7 @@ written_cases : {Q : Type 0} (records : List CallRecord) (i : ℕ) (r : CallReco
 written_cases records i r t within is earlier last h =
     ⊎_elim
     (λ (lt : h.0 < i). earlier (h.0, lt, h.2))
-    (λ (le : i ≤ h.0). last (here_some (WritesAt t) records i r within is
+    (λ (le : i ≤ h.0). last ((at_index (WritesAt t) records i r within is).1
     (subst (λ (n : ℕ). IsSomeAnd (slice_get records n) (WritesAt t)) (omega (arith, h.1)) h.2)))
     (cases_lt h.0 i)
 
@@ -52,7 +49,7 @@ pub written_also : (records : List CallRecord) (i : ℕ) (r : CallRecord) (befor
     → ((t : ℕ) → IsTrue (before t) ↔ IsWrittenBefore records i t) → (t : ℕ) → IsTrue (after t) ↔ IsWrittenBefore records (i + 1) t
 written_also records i r before after within is adds all t = (
   λ h. ⊎_elim (λ (earlier : IsTrue (before t)). written_later records i t ((all t).0 earlier))
-      (λ (last : WritesAt t r). (i, (let lt : i < i + 1 = omega arith in lt), some_here (WritesAt t) records i r within is last)) ((adds t).0 h),
+      (λ (last : WritesAt t r). (i, (let lt : i < i + 1 = omega arith in lt), (at_index (WritesAt t) records i r within is).0 last)) ((adds t).0 h),
   λ h. written_cases records i r t within is (λ earlier. (adds t).1 (inl ((all t).1 earlier))) (λ last. (adds t).1 (inr last)) h,
 )
 
@@ -60,18 +57,18 @@ written_also records i r before after within is adds all t = (
 
 pub second_here : (records : List CallRecord) (i t : ℕ) (r : CallRecord) → i < length records → r ≡ get_or records i r → WritesAt t r
     → IsWrittenBefore records i t → IsSecondAt records i
-second_here records i t r within is writes earlier = some_here (λ q. (u : ℕ) × WritesAt u q × IsWrittenBefore records i u) records i r within is
+second_here records i t r within is writes earlier = (at_index (λ q. (u : ℕ) × WritesAt u q × IsWrittenBefore records i u) records i r within is).0
     (t, writes, earlier)
 
 pub here_second : (records : List CallRecord) (i : ℕ) (r : CallRecord) → i < length records → r ≡ get_or records i r → IsSecondAt records i → (t : ℕ)
     × WritesAt t r × IsWrittenBefore records i t
-here_second records i r within is second = here_some (λ q. (t : ℕ) × WritesAt t q × IsWrittenBefore records i t) records i r within is second
+here_second records i r within is second = (at_index (λ q. (t : ℕ) × WritesAt t q × IsWrittenBefore records i t) records i r within is).1 second
 
 -- of two records that write at one time, the one with the higher index is a second one
 pub two_writes : (records : List CallRecord) → HasNone (IsSecondAt records) → (i j t : ℕ) (q r : CallRecord) → i < j → i < length records
     → j < length records → q ≡ get_or records i q → r ≡ get_or records j r → WritesAt t q → WritesAt t r → ⊥
 two_writes records alone i j t q r lt within within' is is' writes writes' =
-    alone j (second_here records j t r within' is' writes' (i, lt, some_here (WritesAt t) records i q within is writes))
+    alone j (second_here records j t r within' is' writes' (i, lt, (at_index (WritesAt t) records i q within is).0 writes))
 
 -- ---- the times of one record, taken in one after another
 

@@ -15,7 +15,7 @@ use Rattle.clsm_model.proofs.Maps.{IsMap-next}
 use Rattle.clsm_audit.specs.Faults.{HasNone, IsSecondAt}
 use Rattle.clsm_audit.specs.Written.{WritesAt, end_by, history_of, slot_by, time_past, write_of}
 use Rattle.clsm_audit.proofs.Indices.{itself, nobody}
-use Rattle.clsm_audit.proofs.Seconds.{second_here, some_here}
+use Rattle.clsm_audit.proofs.Seconds.{at_index, second_here}
 use Rattle.clsm_audit.proofs.Times.{writes_within}
 
 -- ---- the slots of the records
@@ -78,7 +78,7 @@ pub slot_written : (records : List CallRecord) → HasNone (IsSecondAt records) 
 slot_written records alone i t w within writes =
     let r = get_or records i nobody in
     slot_at-history_of records t
-    ∙ slot_by-first records i t w (some_here (λ q. write_of q t ≡ Some w) records i r within (itself records i within) writes)
+    ∙ slot_by-first records i t w ((at_index (λ q. write_of q t ≡ Some w) records i r within (itself records i within)).0 writes)
     (λ j lt earlier. alone i (second_here records i t r within (itself records i within) (ap is_some writes) (j, lt, earlier)))
 
 -- ---- its map

@@ -16,14 +16,14 @@ use Rattle.clsm_model.specs.Right.{write_at}
 use Rattle.clsm_model.specs.Seats.{AreCallsIn, IsListedRecord, IsNext, IsRecordIn, IsRightDeed, IsRightRecord, StandsAs, writes_at}
 use Rattle.clsm_model.proofs.Histories.{Reads-same}
 use Rattle.clsm_audit.specs.Faults.{HasNone, IsLawful, IsSecondAt}
-use Rattle.clsm_audit.specs.Lawful.{FitsRegion, HasWrites, IsFromDue, IsFromDueAt, IsInRange, IsKnown, IsKnownAt, IsRightAt, calls_of, due_of, open_of}
+use Rattle.clsm_audit.specs.Lawful.{FitsRegion, HasWrites, IsAtSnapshot, IsFromDue, IsFromDueAt, IsInRange, IsKnown, IsKnownAt, IsRightAt, calls_of, due_of, open_of}
 use Rattle.clsm_audit.specs.Whole.{HasHistory, IsPartOf}
 use Rattle.clsm_audit.specs.Written.{IsWrittenBefore, WritesAt, history_of, time_past, write_of}
 use Rattle.clsm_audit.proofs.Batches.{outside_record, uncut_from}
 use Rattle.clsm_audit.proofs.Indices.{here_if, if_here, itself, nobody, past_end}
-use Rattle.clsm_audit.proofs.Parts.{IsTimeBelow, at_snapshot, comes_next, from_due, is_below, of_each_call}
+use Rattle.clsm_audit.proofs.Parts.{IsTimeBelow, comes_next, is_below, next_suits, of_each_call}
 use Rattle.clsm_audit.proofs.Passing.{found_in, two_in}
-use Rattle.clsm_audit.proofs.Seconds.{here_second, here_some, some_within}
+use Rattle.clsm_audit.proofs.Seconds.{at_index, here_second, some_within}
 use Rattle.clsm_audit.proofs.Slots.{slot_at-none, slot_written, time_within}
 use Rattle.clsm_audit.proofs.Times.{is_by_seat, some_is, writes_within}
 
@@ -47,15 +47,19 @@ module _ (config : Config) (records : List CallRecord) (has : HasHistory config 
   next : (i : ℕ) → i < length records → IsNext (due_of (take i records) (at i).seat) (open_of (take i records) (at i).seat) (at i).time (at i).deed
   next i within = comes_next records i (at i).seat within refl (part (at i).seat).rising.rises
 
+  suits : (i : ℕ) → i < length records → IsAtSnapshot (open_of (take i records) (at i).seat) (at i).time (at i).deed
+      × IsFromDue (due_of (take i records) (at i).seat) (open_of (take i records) (at i).seat) (at i).time (at i).deed
+  suits i within = next_suits (due_of (take i records) (at i).seat) (open_of (take i records) (at i).seat) (at i).time (at i).deed (next i within)
+
   pub known : (i : ℕ) → IsKnownAt config records i
   known i = each_at (λ q. IsKnown config (open_of (take i records) q.seat) q) i (λ within. record {
     in_range = in_range i within;
-    snapshot_use = at_snapshot (due_of (take i records) (at i).seat) (open_of (take i records) (at i).seat) (at i).time (at i).deed (next i within);
+    snapshot_use = (suits i within).0;
   })
 
   pub in_order : (i : ℕ) → IsFromDueAt records i
   in_order i = each_at (λ q. IsFromDue (due_of (take i records) q.seat) (open_of (take i records) q.seat) q.time q.deed) i (λ within.
-      from_due (due_of (take i records) (at i).seat) (open_of (take i records) (at i).seat) (at i).time (at i).deed (next i within))
+      (suits i within).1)
 
   -- ---- writes
 
@@ -85,7 +89,7 @@ module _ (config : Config) (records : List CallRecord) (has : HasHistory config 
   writes_here : (j t : ℕ) → IsSomeAnd (slice_get records j) (WritesAt t) → (j < length records) × WritesAt t (at j)
   writes_here j t writes =
       let within = some_within (WritesAt t) records j writes in
-      (within, here_some (WritesAt t) records j (at j) within (itself records j within) writes)
+      (within, (at_index (WritesAt t) records j (at j) within (itself records j within)).1 writes)
 
   -- no two write at one time
   alone_at : (j i t : ℕ) → j < i → i < length records → (v w : Slot) → write_of (at j) t ≡ Some v → write_of (at i) t ≡ Some w → ⊥

@@ -21,7 +21,7 @@ use Rattle.clsm_audit.specs.Written.{batch_by, batches_of, history_of}
 use Rattle.clsm_audit.proofs.Backs.{not_within}
 use Rattle.clsm_audit.proofs.Batches.{uncut_from}
 use Rattle.clsm_audit.proofs.Indices.{here_if, if_here, nobody}
-use Rattle.clsm_audit.proofs.Seconds.{here_some, some_here}
+use Rattle.clsm_audit.proofs.Seconds.{at_index}
 use Rattle.clsm_audit.proofs.Slots.{time_within}
 
 -- ---- times inside no batch
@@ -49,10 +49,10 @@ module _ (records : List CallRecord) (i : ℕ) (r : CallRecord) (is : r ≡ get_
 
   -- what holds of the record at the index holds of this one, and back
   pub wrong_has : (P : CallRecord → Type 0) → IsSomeAnd (slice_get records i) P → P r
-  wrong_has P has = here_some P records i r within is has
+  wrong_has P has = (at_index P records i r within is).1 has
 
   pub has_wrong : (P : CallRecord → Type 0) → P r → IsSomeAnd (slice_get records i) P
-  has_wrong P p = some_here P records i r within is p
+  has_wrong P p = (at_index P records i r within is).0 p
 
   -- the map of the writes below its time
   pub wrong_map : (pairs : List Pair) → IsSomeAnd (slice_get records i) (λ q. IsUncut (batches_of records) q.time)

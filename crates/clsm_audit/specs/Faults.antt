@@ -66,6 +66,13 @@ abbrev pub IsRefusal : Config → List CallRecord → AuditError → Type 0
 IsRefusal config records (Fault kind index) = IsFirstFault config records kind index
 IsRefusal config records Memory = Unit {0}
 
+-- each index passes each pass
+pub record Passes (config : Config) (records : List CallRecord) : Type 0 where
+  pub known : (i : ℕ) → IsKnownAt config records i
+  pub alone : HasNone (IsSecondAt records)
+  pub from_due : (i : ℕ) → IsFromDueAt records i
+  pub right : (i : ℕ) → IsRightAt records i
+
 -- no index has a fault of any kind
 pub record IsLawful (config : Config) (records : List CallRecord) : Type 0 where
   pub known : HasNone (IsUnknownAt config records)

@@ -1,7 +1,7 @@
 ghost use Rattle.std.specs.Prelude.{◌≡◌, ◌↔◌, ◌⊎◌, ℕ, AllPairs, IfErr, IfOk, IsTrue, MatchOption, OnOk, Ok, false, min};
 ghost use Rattle.std.specs.BTreeSet.{contains};
 ghost use Rattle.std.specs.Ordering.{nat_cmp};
-ghost use Rattle.clsm_audit.specs.Faults.{HasNone, IsFirstNot, IsFirstOf, IsLawful, IsOneHistory, IsRefusal, IsSecondAt};
+ghost use Rattle.clsm_audit.specs.Faults.{HasNone, IsFirstFault, IsFirstNot, IsFirstOf, IsLawful, IsOneHistory, IsRefusal, IsSecondAt, Passes};
 ghost use Rattle.clsm_audit.specs.Lawful.{HasTimes, HaveTimes, IsFromDueAt, IsKnownAt, IsRightAt};
 ghost use Rattle.clsm_audit.specs.Order.{IsInTimeOrder};
 ghost use Rattle.clsm_audit.specs.Whole.{HasHistory};
@@ -100,6 +100,7 @@ fn lowest(found: Option<usize>, index: usize) -> usize
 
 /// The lowest index of a record whose reading is not what the writes below its time give, or stands
 /// inside a batch. Refused if memory runs out.
+#[tactic(auto, using(crate::proofs::Played::index_in, crate::proofs::Played::past_here))]
 fn first_wrong(
     alloc: Global,
     records: &[CallRecord],
@@ -128,7 +129,7 @@ fn first_wrong(
 /// 1. `Unknown`: the seat is not below `config.seats`; the time is not below 2^62, or for a record
 ///    that is no write above 2^62; a batch has no member, more than `config.cells`, one that keeps
 ///    its key, or its last time is not below 2^62; a snapshot is opened where one is open; a close
-///    or a read at the snapshot where none is open; one of these, a scan or a page at another time
+///    or a read at the snapshot if none is open; one of these, a scan or a page at another time
 ///    than the open snapshot's.
 /// 2. `TwoAtOneTime`: a write at a time at which a record with a lower index writes. A batch writes
 ///    at its time and those behind it, one for each member.
@@ -136,8 +137,7 @@ fn first_wrong(
 ///    than the last time of a write. Closes and reads under an open snapshot are not held against
 ///    it.
 /// 4. `WrongReply`: what was read is not what the writes below the record's time give; or the
-/// record
-///    read, or opened or closed a snapshot, at a time strictly inside a batch.
+///    record read, or opened or closed a snapshot, at a time strictly inside a batch.
 ///
 /// Refused with `Memory` if memory runs out, in place of any of these answers. Records whose seats,
 /// batches and times are in their ranges, and that are the calls of a history, are refused for
@@ -151,25 +151,35 @@ pub fn audit(alloc: Global, config: &Config, records: &[CallRecord]) -> Result<(
     ensures fault { IfErr result (IsRefusal config.now records.now) }
     ensures whole { HasHistory config.now records.now → IfErr result (λ error. error ≡ AuditError.Memory) }
 {
+    match first_fault(alloc, config, records)? {
+        Some((kind, index)) => Err(AuditError::Fault { kind, index }),
+        None => Ok(()),
+    }
+}
+
+/// The kind of the first fault and the index of its record, if there is a fault. Refused if memory
+/// runs out.
+fn first_fault(
+    alloc: Global,
+    config: &Config,
+    records: &[CallRecord],
+) -> Result<Option<(FaultKind, usize)>, Memory>
+    ensures { IfOk result (λ found. MatchOption found
+        (Passes config.now records.now)
+        (λ fault. IsFirstFault config.now records.now fault.0 fault.1)) }
+{
     if let Some(index) = first_unknown(alloc, config, records)? {
-        return refuse(FaultKind::Unknown, index);
+        return Ok(Some((FaultKind::Unknown, index)));
     }
     if let Some(index) = first_second(alloc, records)? {
-        return refuse(FaultKind::TwoAtOneTime, index);
+        return Ok(Some((FaultKind::TwoAtOneTime, index)));
     }
     if let Some(index) = first_back(alloc, config, records)? {
-        return refuse(FaultKind::TimeRanBack, index);
+        return Ok(Some((FaultKind::TimeRanBack, index)));
     }
     let stamps = in_time_order(alloc, records)?;
     if let Some(index) = first_wrong(alloc, records, &stamps)? {
-        return refuse(FaultKind::WrongReply, index);
+        return Ok(Some((FaultKind::WrongReply, index)));
     }
-    Ok(())
-}
-
-/// The refusal of the record at this index.
-fn refuse(kind: FaultKind, index: usize) -> Result<(), AuditError>
-    ensures { result ≡ Err (AuditError.Fault kind index) }
-{
-    Err(AuditError::Fault { kind, index })
+    Ok(None)
 }

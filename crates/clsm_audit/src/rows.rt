@@ -67,6 +67,7 @@ pub fn explain_rows(
 
 /// The map of the writes below the time of the record, if that is inside no batch. Refused if
 /// memory runs out.
+#[tactic(auto, using(crate::proofs::Played::index_in, crate::proofs::Played::past_here))]
 fn map_below(
     alloc: Global,
     records: &[CallRecord],

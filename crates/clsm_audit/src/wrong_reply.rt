@@ -115,7 +115,7 @@ fn value_left(found: &Option<FoundWrite>) -> Option<Value>
     }
 }
 
-/// The last write that leaves this at the key: below the time, or where none is there, above it.
+/// The last write that leaves this at the key: below the time, or above it if none is there.
 pub fn seen_write(
     records: &[CallRecord],
     key: u64,

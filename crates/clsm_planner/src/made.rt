@@ -1,4 +1,5 @@
 //! The steps of a part of a call that were made.
+use crate::planner::PlanError;
 use clsm_law::{Answer, Step, Word};
 use clsm_model::Memory;
 use std::alloc::AllocError;
@@ -40,6 +41,15 @@ impl Stop {
             Stop::Next(_) => Ok(false),
             Stop::Memory => Err(Memory),
         }
+    }
+}
+
+/// The step that comes next, if a part that was played stopped there.
+pub(crate) fn next_step<T: Drop>(played: Result<T, Stop>) -> Result<Step, PlanError> {
+    match played {
+        Err(Stop::Next(step)) => Ok(step),
+        Err(Stop::Memory) => Err(PlanError::Memory),
+        Err(Stop::Again) | Ok(_) => Err(PlanError::Stuck),
     }
 }
 

@@ -28,7 +28,7 @@ fn value_below(
 }
 
 /// What the call makes of the old value.
-fn change_of(deal: &Deal, old: &Option<Value>) -> Change {
+fn change_of(deal: &Deal, old: Option<&Value>) -> Change {
     match deal {
         Deal::Claim { value, .. } if old.is_none() => Change::Set(*value),
         Deal::Add { by, .. } => sum_of(old, *by),
@@ -38,7 +38,7 @@ fn change_of(deal: &Deal, old: &Option<Value>) -> Change {
 
 /// The sum of the old value's word, 0 where it is absent, and another; nothing where it has
 /// several words or the sum is too great.
-fn sum_of(old: &Option<Value>, by: u64) -> Change {
+fn sum_of(old: Option<&Value>, by: u64) -> Change {
     let word = match old {
         None => Some(0),
         Some(value) => match value.words() {
@@ -189,7 +189,7 @@ impl Place {
     /// A change that keeps what it read ends its read with the record; another goes on to draw.
     fn change(&self, made: &mut Made, deal: &Deal, old: Option<Value>) -> Result<Place, Stop> {
         let key = key_of(deal);
-        if change_of(deal, &old) == Change::Keep {
+        if change_of(deal, old.as_ref()) == Change::Keep {
             let change = Change::Keep;
             record(made, Deed::Rmw { key, old, change })?;
             return Ok(Place::new(Stage::Leave));
@@ -214,7 +214,7 @@ impl Place {
     pub(crate) fn deed_of(&self, deal: &Deal) -> Deed {
         let key = self.key_of(deal);
         if is_change(deal) {
-            let change = change_of(deal, &self.old);
+            let change = change_of(deal, self.old.as_ref());
             let old = self.old;
             return Deed::Rmw { key, old, change };
         }
@@ -228,7 +228,7 @@ impl Place {
     pub(crate) fn value_of(&self, deal: &Deal) -> Option<Value> {
         let change = match deal {
             Deal::Put { value, .. } => Change::Set(*value),
-            Deal::Add { .. } | Deal::Claim { .. } => change_of(deal, &self.old),
+            Deal::Add { .. } | Deal::Claim { .. } => change_of(deal, self.old.as_ref()),
             _ => self.member(deal).map_or(Change::Remove, |member| member.1),
         };
         match change {

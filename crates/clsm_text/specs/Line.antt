@@ -1,7 +1,8 @@
 -- The lines of a text, and the words of a line.
-use Rattle.std.specs.Prelude.{◌≡◌, ℕ, ◌≤◌, ◌-◌, ◌==◌, ◌⊎◌, not, ⊤, All, List, [], ◌∷◌}
+use Rattle.std.specs.Prelude.{◌≡◌, ℕ, ◌≤◌, ◌-◌, ◌==◌, ◌⊎◌, not, ⊤, All, List, [], ◌∷◌, MatchOption, Option}
 use Rattle.std.specs.Prelude.{length, map, filter, take, slice_index, slice_index_or}
 use Rattle.std.specs.Borrow.{Bor}
+use Rattle.std.specs.Global.{Vec}
 use Rattle.std.specs.List.{slice_split}
 use Rattle.std.specs.Str.{IsUtf8}
 use Rattle.clsm_text.specs.Input.{is_line_feed}
@@ -18,6 +19,12 @@ words_of line = filter (λ word. not (length word == 0)) (slice_split (λ b. b =
 abbrev pub IsComment : List (List ℕ) → Type 0
 IsComment [] = ⊤
 IsComment (word ∷ _) = slice_index word 0 ≡ 35
+
+-- what a reader of the line says of it: its words, or nothing where it says nothing
+abbrev pub SaysWords : List ℕ → Option (Vec (Bor (List ℕ))) → Type 0
+SaysWords line said = MatchOption said
+    (IsComment (words_of line))
+    (λ words. (¬ IsComment (words_of line)) × (texts_of words.items ≡ words_of line))
 
 -- a line that is text, and not too long
 abbrev pub IsText : List ℕ → Type 0

@@ -1,6 +1,6 @@
-ghost use Rattle.std.specs.Prelude.{◌≡◌, Err, IfOk, OnOk, MatchOption};
+ghost use Rattle.std.specs.Prelude.{◌≡◌, Err, IfOk, OnOk};
 ghost use Rattle.std.specs.Str.{IsUtf8};
-ghost use Rattle.clsm_text.specs.Line.{texts_of, words_of, IsComment, IsText};
+ghost use Rattle.clsm_text.specs.Line.{texts_of, words_of, IsText, SaysWords};
 ghost use Rattle.clsm_text.specs.declared.line.LineError.TheVariants.{Bad};
 
 use crate::failure::Failure;
@@ -46,9 +46,7 @@ impl From<AllocError> for LineError {
 /// not UTF-8, and otherwise only if memory runs out.
 pub fn plain_words(alloc: Global, line: &[u8]) -> Result<Option<Vec<&str>>, LineError>
     ensures text { OnOk result (IsText line.now) }
-    ensures words { IfOk result (λ said. MatchOption said
-        (IsComment (words_of line.now))
-        (λ words. (¬ IsComment (words_of line.now)) × (texts_of words.items ≡ words_of line.now))) }
+    ensures words { IfOk result (SaysWords line.now) }
     ensures bad { result ≡ Err Bad → ¬ IsText line.now }
 {
     if line.len() > LONGEST_LINE {
@@ -60,9 +58,7 @@ pub fn plain_words(alloc: Global, line: &[u8]) -> Result<Option<Vec<&str>>, Line
 /// The same of a line of any length, which is refused as bad only where it is not UTF-8.
 pub fn line_words(alloc: Global, line: &[u8]) -> Result<Option<Vec<&str>>, LineError>
     ensures text { OnOk result (IsUtf8 line.now) }
-    ensures words { IfOk result (λ said. MatchOption said
-        (IsComment (words_of line.now))
-        (λ words. (¬ IsComment (words_of line.now)) × (texts_of words.items ≡ words_of line.now))) }
+    ensures words { IfOk result (SaysWords line.now) }
     ensures bad { result ≡ Err Bad → ¬ IsUtf8 line.now }
 {
     let Ok(text) = std::str::from_utf8(line) else {

@@ -34,6 +34,7 @@ pub fn parse_member(text: &str) -> Option<(u64, Change)>
 
 /// The members that words write, one each; `None` if a word is not a member. Refused if memory
 /// runs out.
+#[tactic(auto, using(crate::proofs::Readings::written_more))]
 pub fn parse_members(alloc: Global, words: &[&str]) -> Result<Option<Members>, AllocError>
     ensures { IfOk result (Finds (WriteMembers (texts_of words.now))) }
 {

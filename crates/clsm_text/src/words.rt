@@ -40,6 +40,7 @@ fn parse_row(text: &str) -> Option<(u64, Value)>
 }
 
 /// The rows that words write, one each. Refused if memory runs out.
+#[tactic(auto, using(crate::proofs::Readings::written_more))]
 pub fn parse_rows(alloc: Global, words: &[&str]) -> Result<Option<Rows>, AllocError>
     ensures { IfOk result (Finds (WriteRows (texts_of words.now))) }
 {

@@ -22,17 +22,16 @@ advance-requires c =
 
 pub loop-index-preserved : goal.loop-index-preserved
 loop-index-preserved c =
-    let records = c.args.records.now in
-    let r = c.index-records-index.result in
     let states = c.loop-index.states in
     let before = c.loop-index.invariant in
-    let seat = known_seat c.args.config.now records c.loop-index.index r c.loop-index-test.true c.index-records-index.is (c.requires c.loop-index.index) in
+    let seat = known_seat c.args.config.now c.args.records.now c.loop-index.index c.index-records-index.result c.loop-index-test.true
+    c.index-records-index.is (c.requires c.loop-index.index) in
     record {
       count = before.count;
-      states = AreStates-next records c.loop-index.index states.len r states.items c.deref_mut.result.now c.advance.new.states c.loop-index-test.true
+      states = AreStates-next c.args.records.now c.loop-index.index _ c.index-records-index.result states.items c.deref_mut.result.now c.advance.new.states c.loop-index-test.true
           c.index-records-index.is c.deref_mut.ensures.value (search rules) (omega arith) before.states c.advance.ensures;
       from_due = below_more _ _ before.from_due
-          (from_due_here records c.loop-index.index r states.items c.index.result.now c.loop-index-test.true c.index-records-index.is before.states
+          (from_due_here c.args.records.now c.loop-index.index c.index-records-index.result states.items c.index.result.now c.loop-index-test.true c.index-records-index.is before.states
           (omega arith) c.index.ensures (c.if-not-is_from_due.ensures.0 refl));
     }
 

@@ -6,16 +6,14 @@ use Rattle.clsm_audit.proofs.passes.first_unknown.Goals as goal
 
 pub loop-index-preserved : goal.loop-index-preserved
 loop-index-preserved c =
-    let records = c.args.records.now in
-    let r = c.index-records-index.result in
     let states = c.loop-index.states in
     let before = c.loop-index.invariant in
     record {
       count = before.count;
-      states = AreStates-next records c.loop-index.index states.len r states.items c.deref_mut.result.now c.advance.new.states c.loop-index-test.true
+      states = AreStates-next c.args.records.now c.loop-index.index _ c.index-records-index.result states.items c.deref_mut.result.now c.advance.new.states c.loop-index-test.true
           c.index-records-index.is c.deref_mut.ensures.value (search rules) (omega arith) before.states c.advance.ensures;
       known = below_more _ _ before.known
-          (known_here c.args.config.now records c.loop-index.index r states.items c.index.result.now c.loop-index-test.true c.index-records-index.is
+          (known_here c.args.config.now c.args.records.now c.loop-index.index c.index-records-index.result states.items c.index.result.now c.loop-index-test.true c.index-records-index.is
           before.states (search rules) c.index.ensures (c.if-not-is_known.ensures.0 refl));
     }
 

@@ -4,18 +4,12 @@ use Rattle.clsm_audit.proofs.wanted.last_write.Goals.{in-Some, in_default}
 
 pub loop-index-preserved : goal.loop-index-preserved
 loop-index-preserved c =
-    let records = c.args.records.now in
-    let wanted = c.args.wanted.now in
-    let n = c.loop-index.index in
-    let r = c.index-records-index.result in
-    let here = c.index-records-index.is in
-    let within = c.loop-index-test.true in
-    let before = c.loop-index.invariant in
+    let searched = c.loop-index.invariant in
     elim c.match-last_in.branch [
       | in-Some w ↦ rw (w.last-is, w.from-is)
-          (searched_found records wanted n c.args.below r within here c.loop-index.from c.loop-index.last w.in-Some.found before w.in-Some.ensures)
+          (searched_found _ _ _ _ _ c.loop-index-test.true c.index-records-index.is _ _ w.in-Some.found searched w.in-Some.ensures)
       | in_default w ↦ rw (w.last-is, w.from-is)
-          (searched_none records wanted n c.args.below r within here c.loop-index.from c.loop-index.last before w.in_default.ensures)
+          (searched_none _ _ _ _ _ c.loop-index-test.true c.index-records-index.is _ _ searched w.in_default.ensures)
     ]
 
 pub returns : goal.returns
