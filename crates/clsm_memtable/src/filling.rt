@@ -1,5 +1,5 @@
 //! The parts of a drawn cell.
-ghost use Rattle.std.specs.Prelude.{◌≡◌, length, get_or, map, take, false, Some, option_copied};
+ghost use Rattle.std.specs.Prelude.{◌≡◌, length, map, take, false, Some, option_copied};
 ghost use Rattle.clsm_words.specs.Plays.{IsSeatOf};
 ghost use Rattle.clsm_memtable.specs.Filling.{Fills, FillsParts, MayFill};
 

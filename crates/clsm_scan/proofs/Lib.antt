@@ -1,3 +1,4 @@
+pub mod ReadOn
 pub mod Rows
 pub mod Counts
 pub mod ComponentCursors

@@ -8,9 +8,9 @@ found_in found None key = None
 found_in found (Some c) key = found c key
 
 -- what was read of the cursor: nothing, where there is none
-abbrev pub head_in : {C : Type 0} → (C → Option Entry) → Option C → Option Entry
-head_in head None = None
-head_in head (Some c) = head c
+abbrev pub last_in : {C : Type 0} → (C → Option Entry) → Option C → Option Entry
+last_in last None = None
+last_in last (Some c) = last c
 
 -- it holds of the cursor, if there is one
 abbrev pub If : {C : Type 0} → (C → Type 0) → Option C → Type 0
@@ -32,7 +32,7 @@ pub found_same : {C : Type 0} (found found' : C → ℕ → Option Entry) (R : C
 found_same found found' R None each over key = refl
 found_same found found' R (Some c) each over key = each c over key
 
-pub head_same : {C : Type 0} (head head' : C → Option Entry) (R : C → Type 0) (o : Option C) → ((c : C) → R c → head' c ≡ head c) → If R o
-    → head_in head' o ≡ head_in head o
-head_same head head' R None each over = refl
-head_same head head' R (Some c) each over = each c over
+pub last_same : {C : Type 0} (head head' : C → Option Entry) (R : C → Type 0) (o : Option C) → ((c : C) → R c → head' c ≡ head c) → If R o
+    → last_in head' o ≡ last_in head o
+last_same head head' R None each over = refl
+last_same head head' R (Some c) each over = each c over

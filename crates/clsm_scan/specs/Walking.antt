@@ -16,8 +16,9 @@ use Rattle.clsm_memtable.specs.Staying.{slot_stays}
 use Rattle.clsm_memtable.proofs.Orders.{lead_after, lead_fewer, spot_after}
 use Rattle.clsm_runs.specs.declared.passing.Passed.{Passed}
 use Rattle.clsm_runs.specs.Passing.{IsPassed, passed_entry}
-use Rattle.clsm_runs.specs.Searching.{IsSearchable}
+use Rattle.clsm_runs.specs.Searching.{IsSearchable, run_at}
 use Rattle.clsm_runs.specs.Staying.{entry_in_stays, has_stays, place_stays}
+use Rattle.clsm_runs.proofs.Looking.{run_stays}
 
 -- looks leave what is found in the epoch
 pub found_on : (k k' : Known) (e : Epoch) → Looks k k' → (key : ℕ) → found_in_epoch k' e key ≡ found_in_epoch k e key
@@ -60,7 +61,15 @@ spot_same k k' e (Some spot) looks =
     ap (λ (t : ℕ). Some (record { key = spot.key; time = t; value = value_in (slot_in k' t) })) (time_same k k' e spot.place looks)
     ∙ ap (λ (v : Slot). Some (record { key = spot.key; time = time_at k e spot.place; value = value_in v })) (slot_stays k k' (time_at k e spot.place) looks)
 
--- and what a passage of a run came by
+-- ---- and of a run
+
+-- looks leave what is found in it
+pub found_in_run_on : (k k' : Known) (component place until key : ℕ) → Looks k k' → IsSearchable k component place
+    → first_below (run_at k' place) key until ≡ first_below (run_at k place) key until
+found_in_run_on k k' component place until key looks run =
+    ap (λ (es : List Entry). first_below es key until) (run_stays k k' component place looks run)
+
+-- and what a passage came by
 pub run_on : (k k' : Known) (component place : ℕ) → Looks k k' → IsSearchable k component place → IsSearchable k' component place
 run_on k k' component place looks run = record { held = ap (λ (v : View). v.held) looks.reads.view ∙ run.held; named = run.named }
 

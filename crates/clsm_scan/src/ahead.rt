@@ -9,6 +9,7 @@ ghost use Rattle.clsm_scan.specs.Heads.{key_of};
 ghost use Rattle.clsm_scan.specs.declared.ahead.Head.TheVariants.{Unread};
 
 use crate::cursor::Cursor;
+use crate::source::Source;
 use crate::walk::Walk;
 use clsm_model::{Memory, Value};
 use clsm_words::{Pace, RawSeat, Words};
@@ -89,24 +90,18 @@ fn read_ahead<W: Walk, P: Pace>(
     *head = Head::Read(walk.next(words, seat, from));
 }
 
-impl<W: Walk> Cursor for Ahead<W> {
+impl<W: Source> Source for Ahead<W> {
     ghost found = { λ k a key. W.found k a.walk key };
 
     ghost is_over = { λ k a. W.is_over k a.walk };
 
     ghost stands = { λ k a from. IsAhead (W.found k a.walk) (W.stands k a.walk) from a.head (W.last k a.walk) };
 
-    ghost head = { λ k a. W.last k a.walk };
+    ghost last = { λ k a. W.last k a.walk };
 
     fn seek<P: Pace>(&mut self, words: &Words<P>, seat: &mut RawSeat, key: u64) {
         self.walk.seek(words, seat, key);
         self.head = Head::Unread;
-    }
-
-    #[inline(always)]
-    fn read<P: Pace>(&mut self, words: &Words<P>, seat: &mut RawSeat, from: u64) -> Option<u64> {
-        read_ahead(words, seat, &mut self.walk, &mut self.head, from);
-        key_in(&self.head)
     }
 
     #[inline(always)]
@@ -134,5 +129,13 @@ impl<W: Walk> Cursor for Ahead<W> {
     ghost stands_later = { λ k a from later le stands. ahead_later (W.found k a.walk) (W.stands k a.walk) from later a.head (W.last k a.walk) le
         (W.stands_later k a.walk) stands };
 
-    ghost head_stays = { λ k k' a looks over. W.last_stays k k' a.walk looks over };
+    ghost last_stays = { λ k k' a looks over. W.last_stays k k' a.walk looks over };
+}
+
+impl<W: Walk> Cursor for Ahead<W> {
+    #[inline(always)]
+    fn read<P: Pace>(&mut self, words: &Words<P>, seat: &mut RawSeat, from: u64) -> Option<u64> {
+        read_ahead(words, seat, &mut self.walk, &mut self.head, from);
+        key_in(&self.head)
+    }
 }

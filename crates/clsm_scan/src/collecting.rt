@@ -54,7 +54,7 @@ pub(crate) fn next_key<C: Cursor, P: Pace>(
     ensures looks { LooksAside seat.old.knows seat.new.knows }
     ensures over { C.is_over seat.new.knows cursor.new }
     ensures same { (k : ℕ) → C.found seat.new.knows cursor.new k ≡ C.found seat.old.knows cursor.old k }
-    ensures next { IsNextKey (left_at (C.found seat.old.knows cursor.old)) from hi (C.head seat.new.knows cursor.new) result }
+    ensures next { IsNextKey (left_at (C.found seat.old.knows cursor.old)) from hi (C.last seat.new.knows cursor.new) result }
     ensures stands { IfSome result (λ key. C.stands seat.new.knows cursor.new (key + 1)) }
 {
     let mut sought = from;

@@ -9,6 +9,7 @@ ghost use Rattle.clsm_scan.specs.Optional.{If, if_so};
 ghost use Rattle.clsm_scan.specs.Walking.{IsWriteAt, found_on, spot_entry, spot_same, stands_later, stands_on, write_on};
 
 use crate::collecting::push_row;
+use crate::source::Source;
 use crate::walk::Walk;
 use clsm_memtable::{Epoch, has_value, newest_from, seek, value};
 use clsm_model::{Memory, Value};
@@ -39,8 +40,8 @@ impl EpochCursor {
 
 /// The key of the spot, if there is one.
 #[inline(always)]
-fn key_of(spot: &Option<Spot>) -> Option<u64>
-    ensures { (k : Known) (e : Epoch) → result ≡ key_of (spot_entry k e spot.now) }
+fn key_of(spot: Option<Spot>) -> Option<u64>
+    ensures { (k : Known) (e : Epoch) → result ≡ key_of (spot_entry k e spot) }
 {
     match spot {
         Some(spot) => Some(spot.key),
@@ -48,7 +49,7 @@ fn key_of(spot: &Option<Spot>) -> Option<u64>
     }
 }
 
-impl Walk for EpochCursor {
+impl Source for EpochCursor {
     ghost found = { λ k w key. found_in_epoch k w.epoch key };
 
     ghost is_over = { λ k w. MayWalk k w.epoch × If (IsWriteAt k w.epoch) w.last };
@@ -60,12 +61,6 @@ impl Walk for EpochCursor {
     fn seek<P: Pace>(&mut self, words: &Words<P>, seat: &mut RawSeat, key: u64) {
         self.ahead = seek(words, seat, &self.epoch, key);
         self.last = None;
-    }
-
-    #[inline(always)]
-    fn next<P: Pace>(&mut self, words: &Words<P>, seat: &mut RawSeat, from: u64) -> Option<u64> {
-        self.last = newest_from(words, seat, &self.epoch, &mut self.ahead, from);
-        key_of(&self.last)
     }
 
     #[inline(always)]
@@ -101,4 +96,12 @@ impl Walk for EpochCursor {
     ghost stands_later = { λ k w from later le stands. stands_later k w.epoch from later w.ahead le stands };
 
     ghost last_stays = { λ k k' w looks over. spot_same k k' w.epoch w.last looks.looks };
+}
+
+impl Walk for EpochCursor {
+    #[inline(always)]
+    fn next<P: Pace>(&mut self, words: &Words<P>, seat: &mut RawSeat, from: u64) -> Option<u64> {
+        self.last = newest_from(words, seat, &self.epoch, &mut self.ahead, from);
+        key_of(self.last)
+    }
 }

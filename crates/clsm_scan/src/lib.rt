@@ -10,6 +10,7 @@ mod merged;
 mod optional;
 mod run_cursor;
 mod scanning;
+mod source;
 mod walk;
 
 pub use ahead::{Ahead, Head};
@@ -20,4 +21,5 @@ pub use epoch_cursor::EpochCursor;
 pub use merged::Merged;
 pub use run_cursor::RunCursor;
 pub use scanning::{ReadPoint, count, scan};
+pub use source::Source;
 pub use walk::Walk;

@@ -5,6 +5,7 @@ ghost use Rattle.clsm_scan.specs.Heads.{is_older};
 ghost use Rattle.clsm_scan.specs.MergedLaws.{first_same, lead_same};
 
 use crate::cursor::Cursor;
+use crate::source::Source;
 use clsm_model::{Memory, Value};
 use clsm_words::{Pace, RawSeat, Words};
 
@@ -42,26 +43,18 @@ fn is_older(newer: Option<u64>, older: Option<u64>) -> bool
     }
 }
 
-impl<A: Cursor, B: Cursor> Cursor for Merged<A, B> {
+impl<A: Source, B: Source> Source for Merged<A, B> {
     ghost found = { λ k m. first_found (A.found k m.newer) (B.found k m.older) };
 
     ghost is_over = { λ k m. A.is_over k m.newer × B.is_over k m.older };
 
     ghost stands = { λ k m from. A.stands k m.newer from × B.stands k m.older from };
 
-    ghost head = { λ k m. cond m.older_leads (B.head k m.older) (A.head k m.newer) };
+    ghost last = { λ k m. cond m.older_leads (B.last k m.older) (A.last k m.newer) };
 
     fn seek<P: Pace>(&mut self, words: &Words<P>, seat: &mut RawSeat, key: u64) {
         self.newer.seek(words, seat, key);
         self.older.seek(words, seat, key);
-    }
-
-    #[inline(always)]
-    fn read<P: Pace>(&mut self, words: &Words<P>, seat: &mut RawSeat, from: u64) -> Option<u64> {
-        let newer = self.newer.read(words, seat, from);
-        let older = self.older.read(words, seat, from);
-        self.older_leads = is_older(newer, older);
-        if self.older_leads { older } else { newer }
     }
 
     #[inline(always)]
@@ -99,5 +92,15 @@ impl<A: Cursor, B: Cursor> Cursor for Merged<A, B> {
 
     ghost stands_later = { λ k m from later le stands. (A.stands_later k m.newer from later le stands.0, B.stands_later k m.older from later le stands.1) };
 
-    ghost head_stays = { λ k k' m looks over. lead_same m.older_leads (A.head_stays k k' m.newer looks over.0) (B.head_stays k k' m.older looks over.1) };
+    ghost last_stays = { λ k k' m looks over. lead_same m.older_leads (A.last_stays k k' m.newer looks over.0) (B.last_stays k k' m.older looks over.1) };
+}
+
+impl<A: Cursor, B: Cursor> Cursor for Merged<A, B> {
+    #[inline(always)]
+    fn read<P: Pace>(&mut self, words: &Words<P>, seat: &mut RawSeat, from: u64) -> Option<u64> {
+        let newer = self.newer.read(words, seat, from);
+        let older = self.older.read(words, seat, from);
+        self.older_leads = is_older(newer, older);
+        if self.older_leads { older } else { newer }
+    }
 }

@@ -1,31 +1,24 @@
 //! A cursor that may be missing: nothing is read of it then.
 ghost use Rattle.std.specs.Prelude.{◌≡◌, None, Some};
-ghost use Rattle.clsm_scan.specs.Optional.{If, found_in, found_same, head_in, head_same, if_both, if_so};
+ghost use Rattle.clsm_scan.specs.Optional.{If, found_in, found_same, last_in, last_same, if_both, if_so};
 
 use crate::cursor::Cursor;
+use crate::source::Source;
 use clsm_model::{Memory, Value};
 use clsm_words::{Pace, RawSeat, Words};
 
-impl<C: Cursor> Cursor for Option<C> {
+impl<C: Source> Source for Option<C> {
     ghost found = { λ k c. found_in (C.found k) c };
 
     ghost is_over = { λ k c. If (C.is_over k) c };
 
     ghost stands = { λ k c from. If (λ cursor. C.stands k cursor from) c };
 
-    ghost head = { λ k c. head_in (C.head k) c };
+    ghost last = { λ k c. last_in (C.last k) c };
 
     fn seek<P: Pace>(&mut self, words: &Words<P>, seat: &mut RawSeat, key: u64) {
         if let Some(cursor) = self {
             cursor.seek(words, seat, key);
-        }
-    }
-
-    #[inline(always)]
-    fn read<P: Pace>(&mut self, words: &Words<P>, seat: &mut RawSeat, from: u64) -> Option<u64> {
-        match self {
-            Some(cursor) => cursor.read(words, seat, from),
-            None => None,
         }
     }
 
@@ -60,5 +53,15 @@ impl<C: Cursor> Cursor for Option<C> {
     ghost stands_later = { λ k c from later le stands. if_so (λ cursor. C.stands k cursor from) (λ cursor. C.stands k cursor later) c
         (λ cursor. C.stands_later k cursor from later le) stands };
 
-    ghost head_stays = { λ k k' c looks over. head_same (C.head k) (C.head k') (C.is_over k) c (λ cursor. C.head_stays k k' cursor looks) over };
+    ghost last_stays = { λ k k' c looks over. last_same (C.last k) (C.last k') (C.is_over k) c (λ cursor. C.last_stays k k' cursor looks) over };
+}
+
+impl<C: Cursor> Cursor for Option<C> {
+    #[inline(always)]
+    fn read<P: Pace>(&mut self, words: &Words<P>, seat: &mut RawSeat, from: u64) -> Option<u64> {
+        match self {
+            Some(cursor) => cursor.read(words, seat, from),
+            None => None,
+        }
+    }
 }

@@ -1,18 +1,16 @@
 //! A walk along a run in the words.
 ghost use Rattle.std.specs.Prelude.{◌≡◌, ℕ, IfSome, None};
-ghost use Rattle.std.proofs.Common.{ap, ◌∙◌};
 ghost use Rattle.clsm_levels.specs.Entry.{first_below};
-ghost use Rattle.clsm_law.specs.declared.view.View.{View};
 ghost use Rattle.clsm_runs.specs.Passing.{IsPassed, passed_entry};
 ghost use Rattle.clsm_runs.specs.Searching.{IsSearchable, StandsFrom, run_at};
-ghost use Rattle.clsm_runs.proofs.Looking.{run_stays};
 ghost use Rattle.clsm_runs.proofs.Standing.{stands_later, stands_stays};
 ghost use Rattle.clsm_words.specs.declared.known.Known.{Known};
 ghost use Rattle.clsm_scan.specs.Heads.{key_of};
 ghost use Rattle.clsm_scan.specs.Optional.{If, if_so};
-ghost use Rattle.clsm_scan.specs.Walking.{passed_on, passed_same, run_on};
+ghost use Rattle.clsm_scan.specs.Walking.{found_in_run_on, passed_on, passed_same, run_on};
 
 use crate::collecting::push_row;
+use crate::source::Source;
 use crate::walk::Walk;
 use clsm_model::{Memory, Time, Value};
 use clsm_runs::{HeldRun, Passed, Sought, next, seek, value};
@@ -45,8 +43,8 @@ impl RunCursor {
 
 /// The key of the entry, if there is one.
 #[inline(always)]
-fn key_of(passed: &Option<Passed>) -> Option<u64>
-    ensures { (k : Known) (component place : ℕ) → IfSome passed.now (IsPassed k component place) → result ≡ key_of (passed_entry k place passed.now) }
+fn key_of(passed: Option<Passed>) -> Option<u64>
+    ensures { (k : Known) (component place : ℕ) → IfSome passed (IsPassed k component place) → result ≡ key_of (passed_entry k place passed) }
 {
     match passed {
         Some(passed) => Some(passed.key),
@@ -54,7 +52,7 @@ fn key_of(passed: &Option<Passed>) -> Option<u64>
     }
 }
 
-impl Walk for RunCursor {
+impl Source for RunCursor {
     ghost found = { λ k w key. first_below (run_at k w.run.place) key w.until };
 
     ghost is_over = { λ k w. IsSearchable k w.run.component w.run.place × If (IsPassed k w.run.component w.run.place) w.last };
@@ -66,14 +64,6 @@ impl Walk for RunCursor {
     fn seek<P: Pace>(&mut self, words: &Words<P>, seat: &mut RawSeat, key: u64) {
         self.position = seek(words, seat, self.run, key, self.until);
         self.last = None;
-    }
-
-    #[inline(always)]
-    fn next<P: Pace>(&mut self, words: &Words<P>, seat: &mut RawSeat, from: u64) -> Option<u64> {
-        let until = self.until;
-        let sought = Sought { from, until };
-        self.last = next(words, seat, self.run, &mut self.position, sought);
-        key_of(&self.last)
     }
 
     #[inline(always)]
@@ -103,11 +93,21 @@ impl Walk for RunCursor {
           (λ passed. passed_on k k' w.run.component w.run.place passed looks.looks) over.1,
     ) };
 
-    ghost found_stays = { λ k k' w looks over key. ap (λ es. first_below es key w.until) (run_stays k k' w.run.component w.run.place looks.looks over.0) };
+    ghost found_stays = { λ k k' w looks over key. found_in_run_on k k' w.run.component w.run.place w.until key looks.looks over.0 };
 
     ghost stands_stays = { λ k k' w from looks over stands. stands_stays k k' w.run.component w.run.place w.until from w.position looks.looks over.0 stands };
 
     ghost stands_later = { λ k w from later le stands. stands_later k w.run.place w.until from later w.position le stands };
 
     ghost last_stays = { λ k k' w looks over. passed_same k k' w.run.component w.run.place w.last looks.looks over.0 };
+}
+
+impl Walk for RunCursor {
+    #[inline(always)]
+    fn next<P: Pace>(&mut self, words: &Words<P>, seat: &mut RawSeat, from: u64) -> Option<u64> {
+        let until = self.until;
+        let sought = Sought { from, until };
+        self.last = next(words, seat, self.run, &mut self.position, sought);
+        key_of(self.last)
+    }
 }

@@ -9,10 +9,10 @@ ghost use Rattle.clsm_scan.specs.Sources.{MayScan, epoch_cursor, found_in_compon
 use crate::ahead::Ahead;
 use crate::collecting::{Collected, KeyRange, collect};
 use crate::counting::{KeyCount, count_keys};
-use crate::cursor::Cursor;
 use crate::epoch_cursor::EpochCursor;
 use crate::merged::Merged;
 use crate::run_cursor::RunCursor;
+use crate::source::Source;
 use clsm_law::level_one_place;
 use clsm_levels::level_zero_runs;
 use clsm_memtable::Epoch;
@@ -67,9 +67,9 @@ fn level_zero(component: u64, place: u64, until: Time) -> Option<Ahead<RunCursor
 
 /// The cursors over the component's epochs and its runs.
 fn sources<P: Pace>(words: &Words<P>, component: u64, until: Time) -> Sources
-    ensures over { (k : Known) → k.layout ≡ words.now.layout → MayScan k component until → ⟦<Sources as Cursor>⟧.is_over k result }
+    ensures over { (k : Known) → k.layout ≡ words.now.layout → MayScan k component until → ⟦<Sources as Source>⟧.is_over k result }
     ensures found { (k : Known) → k.layout ≡ words.now.layout → MayScan k component until → (key : ℕ)
-        → ⟦<Sources as Cursor>⟧.found k result key ≡ found_in_component k component until key }
+        → ⟦<Sources as Source>⟧.found k result key ≡ found_in_component k component until key }
 {
     let cells = words.cells();
     let first = component.saturating_mul(cells);
@@ -93,9 +93,25 @@ pub struct ReadPoint {
     pub until: Time,
 }
 
+/// The cursor over what the point reads, from this key on.
+#[inline]
+fn cursor_from<P: Pace>(words: &Words<P>, seat: &mut RawSeat, point: ReadPoint, key: u64) -> Sources
+    requires of { IsSeatOf words.now seat.old }
+    requires may { MayScan seat.old.knows point.component point.until }
+    ensures of { IsSeatOf words.now seat.new }
+    ensures looks { LooksAside seat.old.knows seat.new.knows }
+    ensures over { ⟦<Sources as Source>⟧.is_over seat.new.knows result }
+    ensures stands { ⟦<Sources as Source>⟧.stands seat.new.knows result key }
+    ensures found { (k : ℕ) → ⟦<Sources as Source>⟧.found seat.new.knows result k ≡ found_in_component seat.old.knows point.component point.until k }
+{
+    let mut cursor = sources(words, point.component, point.until);
+    cursor.seek(words, seat, key);
+    cursor
+}
+
 /// The rows of all keys of the range at the point, by rising key: no more than the range gives. It
-/// goes along the ordered lists of the epochs and the runs, and takes
-/// memory for the rows alone; if memory runs out, the seat is as after looks. It never waits.
+/// goes along the ordered lists of the epochs and the runs, and takes memory for the rows alone; if
+/// memory runs out, the seat is as after looks. It never waits.
 pub fn scan<P: Pace>(
     words: &Words<P>,
     seat: &mut RawSeat,
@@ -112,14 +128,13 @@ pub fn scan<P: Pace>(
     ensures rows { IfOk result (λ all. IsCollected (left_at (found_in_component seat.old.knows point.component point.until))
         range.lo range.hi range.max all.rows.items all.more) }
 {
-    let mut cursor = sources(words, point.component, point.until);
-    cursor.seek(words, seat, range.lo);
+    let mut cursor = cursor_from(words, seat, point, range.lo);
     collect(words, seat, alloc, &mut cursor, range)
 }
 
 /// How many keys from `lo` to `hi` have a value at the point, or 2^64 - 1 if all 2^64 have one, and
-/// the first of them. It goes along the ordered lists of the epochs and the runs as a scan, but reads no value and takes
-/// no memory. It never waits.
+/// the first of them. It goes along the ordered lists of the epochs and the runs as a scan, but
+/// reads no value and takes no memory. It never waits.
 pub fn count<P: Pace>(
     words: &Words<P>,
     seat: &mut RawSeat,
@@ -135,7 +150,6 @@ pub fn count<P: Pace>(
     ensures looks { LooksAside seat.old.knows seat.new.knows }
     ensures count { IsCount (left_at (found_in_component seat.old.knows point.component point.until)) lo hi result.keys result.first }
 {
-    let mut cursor = sources(words, point.component, point.until);
-    cursor.seek(words, seat, lo);
+    let mut cursor = cursor_from(words, seat, point, lo);
     count_keys(words, seat, &mut cursor, lo, hi)
 }

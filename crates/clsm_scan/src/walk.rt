@@ -1,80 +1,26 @@
 //! A walk along the writes of one epoch or run.
-ghost use Rattle.std.specs.Prelude.{◌≡◌, ℕ, ◌≤◌, ◌++◌, OnOk, Option, true};
-ghost use Rattle.clsm_levels.specs.declared.entry.Entry.{Entry};
+ghost use Rattle.std.specs.Prelude.{◌≡◌, ℕ};
 ghost use Rattle.clsm_levels.specs.Yields.{IsNextFrom, behind};
-ghost use Rattle.clsm_words.specs.declared.known.Known.{Known};
 ghost use Rattle.clsm_words.specs.Keeping.{LooksAside};
 ghost use Rattle.clsm_words.specs.Plays.{IsSeatOf};
-ghost use Rattle.clsm_scan.specs.Heads.{has_value, key_of, rows_of};
+ghost use Rattle.clsm_scan.specs.Heads.{key_of};
 
-use clsm_model::{Memory, Value};
+use crate::source::Source;
 use clsm_words::{Pace, RawSeat, Words};
 
-/// A walk along writes of a held component: it goes on by rising key, from each key to the newest
-/// write below its time. It never waits.
-pub trait Walk {
-    ghost found: { Known → Self → ℕ → Option Entry };
-
-    ghost is_over: { Known → Self → Type 0 };
-
-    ghost stands: { Known → Self → ℕ → Type 0 };
-
-    ghost last: { Known → Self → Option Entry };
-
-    /// Goes to the key: what it comes by from there on is still ahead.
-    fn seek<P: Pace>(&mut self, words: &Words<P>, seat: &mut RawSeat, key: u64)
-        requires of { IsSeatOf words.now seat.old }
-        requires over { is_over seat.old.knows self.old }
-        ensures of { IsSeatOf words.now seat.new }
-        ensures looks { LooksAside seat.old.knows seat.new.knows }
-        ensures over { is_over seat.new.knows self.new }
-        ensures same { (k : ℕ) → found seat.new.knows self.new k ≡ found seat.old.knows self.old k }
-        ensures stands { stands seat.new.knows self.new key };
-
+/// A walk along writes of a held component, which passes each write once.
+pub trait Walk: Source {
     /// The key of the newest write below its time of the least key from `from` on that has one. It
     /// goes on behind that key. It takes no memory, and reads no value.
     fn next<P: Pace>(&mut self, words: &Words<P>, seat: &mut RawSeat, from: u64) -> Option<u64>
         requires of { IsSeatOf words.now seat.old }
-        requires over { is_over seat.old.knows self.old }
-        requires stands { stands seat.old.knows self.old from }
+        requires over { Self.is_over seat.old.knows self.old }
+        requires stands { Self.stands seat.old.knows self.old from }
         ensures of { IsSeatOf words.now seat.new }
         ensures looks { LooksAside seat.old.knows seat.new.knows }
-        ensures over { is_over seat.new.knows self.new }
-        ensures same { (k : ℕ) → found seat.new.knows self.new k ≡ found seat.old.knows self.old k }
-        ensures next { IsNextFrom (found seat.old.knows self.old) from (last seat.new.knows self.new) }
-        ensures key { result ≡ key_of (last seat.new.knows self.new) }
-        ensures stands { stands seat.new.knows self.new (behind from (last seat.new.knows self.new)) };
-
-    /// Whether the write that it came by last has a value, which a removal has not.
-    fn has_value<P: Pace>(&self, words: &Words<P>, seat: &mut RawSeat) -> bool
-        requires of { IsSeatOf words.now seat.old }
-        requires over { is_over seat.old.knows self.now }
-        ensures of { IsSeatOf words.now seat.new }
-        ensures looks { LooksAside seat.old.knows seat.new.knows }
-        ensures has { result ≡ has_value (last seat.old.knows self.now) };
-
-    /// Puts the key of the write that it came by last, with its value, behind the rows. It has to
-    /// have one. Refused if memory runs out.
-    fn push<P: Pace>(
-        &self,
-        words: &Words<P>,
-        seat: &mut RawSeat,
-        rows: &mut Vec<(u64, Value)>,
-    ) -> Result<(), Memory>
-        requires of { IsSeatOf words.now seat.old }
-        requires over { is_over seat.old.knows self.now }
-        requires has { has_value (last seat.old.knows self.now) ≡ true }
-        ensures of { IsSeatOf words.now seat.new }
-        ensures looks { LooksAside seat.old.knows seat.new.knows }
-        ensures rows { OnOk result (rows.new.items ≡ rows.old.items ++ rows_of (last seat.old.knows self.now)) };
-
-    ghost over_stays: { (k k' : Known) (w : Self) → LooksAside k k' → is_over k w → is_over k' w };
-
-    ghost found_stays: { (k k' : Known) (w : Self) → LooksAside k k' → is_over k w → (key : ℕ) → found k' w key ≡ found k w key };
-
-    ghost stands_stays: { (k k' : Known) (w : Self) (from : ℕ) → LooksAside k k' → is_over k w → stands k w from → stands k' w from };
-
-    ghost stands_later: { (k : Known) (w : Self) (from later : ℕ) → from ≤ later → stands k w from → stands k w later };
-
-    ghost last_stays: { (k k' : Known) (w : Self) → LooksAside k k' → is_over k w → last k' w ≡ last k w };
+        ensures over { Self.is_over seat.new.knows self.new }
+        ensures same { (k : ℕ) → Self.found seat.new.knows self.new k ≡ Self.found seat.old.knows self.old k }
+        ensures next { IsNextFrom (Self.found seat.old.knows self.old) from (Self.last seat.new.knows self.new) }
+        ensures key { result ≡ key_of (Self.last seat.new.knows self.new) }
+        ensures stands { Self.stands seat.new.knows self.new (behind from (Self.last seat.new.knows self.new)) };
 }

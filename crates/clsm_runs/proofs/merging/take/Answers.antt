@@ -1,9 +1,4 @@
-use Rattle.std.proofs.Common.{◌≡◌, ◌∷◌, ◌∙◌, List, arith, subst}
-use Rattle.clsm_levels.specs.declared.entry.Entry.{Entry}
-use Rattle.clsm_law.specs.Places.{entry_in}
-use Rattle.clsm_words.specs.Changing.{NoWord}
-use Rattle.clsm_words.specs.Knowing.{row_of}
-use Rattle.clsm_runs.specs.Outputs.{LeavesOff}
+use Rattle.std.proofs.Common.{◌≡◌, ◌∷◌, ◌∙◌, arith}
 use Rattle.clsm_runs.proofs.Finishing.{left_looked}
 use Rattle.clsm_runs.proofs.Taking.{more_to_keep, put_behind}
 use Rattle.clsm_runs.proofs.merging.take.Goals as goal

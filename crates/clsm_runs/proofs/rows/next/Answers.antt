@@ -1,4 +1,4 @@
-use Rattle.std.proofs.Common.{◌≡◌, ◌≢◌, ℕ, refl, subst, ◌+◌, ◌<◌, ◌^◌, sym, ◌∙◌, ap, arith, drop, length}
+use Rattle.std.proofs.Common.{◌≡◌, ◌≢◌, ℕ, refl, subst, ◌+◌, ◌<◌, ◌^◌, sym, ◌∙◌, arith, drop, length}
 use Rattle.clsm_levels.specs.declared.entry.Entry.{Entry}
 use Rattle.clsm_levels.specs.declared.cursor.Cursor.{Cursor}
 use Rattle.clsm_levels.specs.Cursors.{IsLeast, cursor_at, row_at}

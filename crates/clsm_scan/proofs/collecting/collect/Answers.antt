@@ -1,9 +1,10 @@
-use Rattle.std.proofs.Common.{rules, ◌≡◌, ℕ, ◌+◌, ◌≤◌, ◌<◌, Some, None, Option, length, true, sym, ap, ◌∙◌, refl, subst, arith, [], ◌∷◌, ◌++◌, List, inl, inr}
+use Rattle.std.proofs.Common.{◌≡◌, ℕ, ◌+◌, ◌≤◌, ◌<◌, Some, None, Option, length, true, sym, ap, ◌∙◌, subst, arith, [], ◌∷◌, ◌++◌, List, inl, inr}
 use Rattle.std.proofs.lemmas.Bool.{cases_lt}
 use Rattle.clsm_model.specs.Map.{Pair, value_at}
 use Rattle.clsm_levels.specs.Entry.{value_of}
 use Rattle.clsm_words.proofs.Keeps.{aside_trans}
 use Rattle.clsm_scan.specs.Collected.{AreAll, AreRowsTo, IsAtMost, IsNextRow, is_full, left_at}
+use Rattle.clsm_scan.proofs.ReadOn.{read_none, read_then}
 use Rattle.clsm_scan.proofs.Rows.{beyond_pushed, just_full, next_row_same, none_at_most, most_pushed, rows_ended, rows_none, rows_stopped, rows_taken}
 use Rattle.clsm_scan.proofs.collecting.collect.Given.{Over}
 use Rattle.clsm_scan.proofs.collecting.collect.Goals as goal
@@ -11,14 +12,11 @@ use Rattle.clsm_scan.proofs.collecting.collect.Goals.{After-checked_add}
 
 pub loop-key-init : goal.loop-key-init
 loop-key-init g c =
-    let value = left_at (g.C.Cursor.found c.args.seat.now.knows c.args.cursor.now) in
+    let value = left_at (g.C.Source.found c.args.seat.now.knows c.args.cursor.now) in
     let empty = sym c.in_ok-rows.ensures.items in
     record {
-      of = c.requires.of;
-      looks = search rules;
-      over = c.requires.over;
-      same = λ k. refl;
-      stands = c.requires.stands;
+      read = read_none g.C.Source.is_over g.C.Source.found g.C.Source.stands c.args.words.now c.args.seat.now c.args.cursor.now c.args.range.lo
+          c.requires.of c.requires.over c.requires.stands;
       later = omega arith;
       rows = subst (AreRowsTo value c.args.range.lo c.args.range.lo) empty (rows_none value c.args.range.lo);
       beyond = λ k lt. ap (λ (rows : List Pair). value_at rows k) c.in_ok-rows.ensures.items;
@@ -27,12 +25,13 @@ loop-key-init g c =
 
 pub returns-then-is_full-clause-rows : goal.returns-then-is_full-clause-rows
 returns-then-is_full-clause-rows g c =
-    let value = left_at (g.C.Cursor.found c.args.seat.now.knows c.args.cursor.now) in
-    let value' = left_at (g.C.Cursor.found c.loop-key.seat.knows c.loop-key.cursor) in
+    let value = left_at (g.C.Source.found c.args.seat.now.knows c.args.cursor.now) in
+    let value' = left_at (g.C.Source.found c.loop-key.seat.knows c.loop-key.cursor) in
     let before = c.loop-key.invariant in
     let old = c.loop-key.rows.items in
     let here = c.in-Some.ensures.next in
-    let next = next_row_same value value' c.loop-key.from c.args.range.hi (Some (c.in-Some.key, here.words)) (λ k. ap value_of (before.same k)) here.next in
+    let next = next_row_same value value' c.loop-key.from c.args.range.hi (Some (c.in-Some.key, here.words)) (λ k. ap value_of (before.read.same k))
+    here.next in
     let full : is_full c.args.range.max (length old) ≡ true = ap (is_full c.args.range.max) (sym (c.len.ensures ∙ c.loop-key.rows.ok.0)) ∙ sym c.is_full.ensures
     ∙ c.if-is_full.true in
     rows_stopped value c.args.range.lo c.loop-key.from c.args.range.hi c.args.range.max old (c.in-Some.key, here.words) before.rows before.later next
@@ -41,7 +40,7 @@ returns-then-is_full-clause-rows g c =
 -- ---- a turn that puts a row
 
 abbrev value : (g : Over) → After-checked_add g → ℕ → Option (List ℕ)
-value g c = left_at (g.C.Cursor.found c.args.seat.now.knows c.args.cursor.now)
+value g c = left_at (g.C.Source.found c.args.seat.now.knows c.args.cursor.now)
 
 abbrev row : (g : Over) → After-checked_add g → Pair
 row g c = (c.in-Some.key, c.in-Some.ensures.next.words)
@@ -57,8 +56,9 @@ most g c =
 
 next : (g : Over) (c : After-checked_add g) → IsNextRow (value g c) c.loop-key.from c.args.range.hi (Some (row g c))
 next g c =
-    let now = left_at (g.C.Cursor.found c.loop-key.seat.knows c.loop-key.cursor) in
-    next_row_same (value g c) now c.loop-key.from c.args.range.hi (Some (row g c)) (λ k. ap value_of (c.loop-key.invariant.same k)) c.in-Some.ensures.next.next
+    let now = left_at (g.C.Source.found c.loop-key.seat.knows c.loop-key.cursor) in
+    next_row_same (value g c) now c.loop-key.from c.args.range.hi (Some (row g c)) (λ k. ap value_of (c.loop-key.invariant.read.same k))
+    c.in-Some.ensures.next.next
 
 pub returns-in_default-checked_add-clause-rows : goal.returns-in_default-checked_add-clause-rows
 returns-in_default-checked_add-clause-rows g c =
@@ -83,15 +83,19 @@ loop-key-preserved g c =
     let k1 = c.next_key.new.seat.knows in
     let k2 = c.push.new.seat.knows in
     let cursor = c.next_key.new.cursor in
+    let looks = c.push.ensures.looks in
+    let over = c.next_key.ensures.over in
     let row_next = next g turn in
     record {
-      of = c.in_ok-push.ensures.of;
-      looks = aside_trans c.args.seat.now.knows k1 k2
-          (aside_trans c.args.seat.now.knows c.loop-key.seat.knows k1 before.looks c.next_key.ensures.looks) c.push.ensures.looks;
-      over = g.met.C.Cursor.over_stays k1 k2 cursor c.push.ensures.looks c.next_key.ensures.over;
-      same = λ k. g.met.C.Cursor.found_stays k1 k2 cursor c.push.ensures.looks c.next_key.ensures.over k ∙ c.next_key.ensures.same k ∙ before.same k;
-      stands = subst (g.C.Cursor.stands k2 cursor) behind
-          (g.met.C.Cursor.stands_stays k1 k2 cursor (c.in-Some.key + 1) c.push.ensures.looks c.next_key.ensures.over c.in-Some.ensures.stands);
+      read = read_then g.C.Source.is_over g.C.Source.found g.C.Source.stands c.args.words.now c.args.seat.now c.loop-key.seat c.push.new.seat
+          c.args.cursor.now c.loop-key.cursor cursor c.loop-key.from c.in-Some-checked_add.behind before.read (record {
+            of = c.in_ok-push.ensures.of;
+            looks = aside_trans c.loop-key.seat.knows k1 k2 c.next_key.ensures.looks looks;
+            over = g.met.C.Source.over_stays k1 k2 cursor looks over;
+            same = λ k. g.met.C.Source.found_stays k1 k2 cursor looks over k ∙ c.next_key.ensures.same k;
+            stands = subst (g.C.Source.stands k2 cursor) behind
+                (g.met.C.Source.stands_stays k1 k2 cursor (c.in-Some.key + 1) looks over c.in-Some.ensures.stands);
+          });
       later = let later = row_next.0 in omega arith;
       rows = subst (AreRowsTo (value g turn) c.args.range.lo c.in-Some-checked_add.behind) (sym (put g turn))
           (subst (λ (end : ℕ). AreRowsTo (value g turn) c.args.range.lo end (old ++ row g turn ∷ [])) behind

@@ -1,19 +1,14 @@
 use Rattle.std.proofs.Common.{◌-◌, ◌≡◌, ℕ, ◌≤◌, ◌<◌, ◌^◌, length, None}
 use Rattle.clsm_model.specs.Map.{value_at}
-use Rattle.clsm_words.specs.Keeping.{LooksAside}
-use Rattle.clsm_words.specs.Plays.{IsSeatOf}
 use Rattle.clsm_scan.specs.Collected.{AreRowsTo, IsAtMost, left_at}
+use Rattle.clsm_scan.proofs.ReadOn.{HasReadTo}
 use Rattle.clsm_scan.proofs.collecting.collect.Given as goal
 
 abbrev pub invariant-loop-key : goal.invariant-loop-key
 invariant-loop-key g l = record {
-  of : IsSeatOf l.words l.seat;
-  looks : LooksAside l.fn.seat.knows l.seat.knows;
-  over : g.C.Cursor.is_over l.seat.knows l.cursor;
-  same : (k : ℕ) → g.C.Cursor.found l.seat.knows l.cursor k ≡ g.C.Cursor.found l.fn.seat.knows l.fn.cursor k;
-  stands : g.C.Cursor.stands l.seat.knows l.cursor l.from;
+  read : HasReadTo g.C.Source.is_over g.C.Source.found g.C.Source.stands l.words l.fn.seat l.seat l.fn.cursor l.cursor l.from;
   later : l.range.lo ≤ l.from;
-  rows : AreRowsTo (left_at (g.C.Cursor.found l.fn.seat.knows l.fn.cursor)) l.range.lo l.from l.rows.items;
+  rows : AreRowsTo (left_at (g.C.Source.found l.fn.seat.knows l.fn.cursor)) l.range.lo l.from l.rows.items;
   beyond : (k : ℕ) → l.range.hi < k → value_at l.rows.items k ≡ None;
   most : IsAtMost (length l.rows.items) l.range.max;
 }

@@ -1,19 +1,14 @@
-use Rattle.std.proofs.Common.{◌+◌, ◌-◌, ◌≡◌, ℕ, ◌≤◌}
-use Rattle.clsm_words.specs.Keeping.{LooksAside}
-use Rattle.clsm_words.specs.Plays.{IsSeatOf}
+use Rattle.std.proofs.Common.{◌+◌, ◌-◌, ◌≤◌}
 use Rattle.clsm_scan.specs.Collected.{left_at}
+use Rattle.clsm_scan.proofs.ReadOn.{HasReadTo}
 use Rattle.clsm_scan.proofs.Rows.{ArePassed}
 use Rattle.clsm_scan.proofs.collecting.next_key.Given as goal
 
 abbrev pub invariant-loop-sought : goal.invariant-loop-sought
 invariant-loop-sought g l = record {
-  of : IsSeatOf l.words l.seat;
-  looks : LooksAside l.fn.seat.knows l.seat.knows;
-  over : g.C.Cursor.is_over l.seat.knows l.cursor;
-  same : (k : ℕ) → g.C.Cursor.found l.seat.knows l.cursor k ≡ g.C.Cursor.found l.fn.seat.knows l.fn.cursor k;
-  stands : g.C.Cursor.stands l.seat.knows l.cursor l.sought;
+  read : HasReadTo g.C.Source.is_over g.C.Source.found g.C.Source.stands l.words l.fn.seat l.seat l.fn.cursor l.cursor l.sought;
   later : l.from ≤ l.sought;
-  passed : ArePassed (left_at (g.C.Cursor.found l.fn.seat.knows l.fn.cursor)) l.from l.sought;
+  passed : ArePassed (left_at (g.C.Source.found l.fn.seat.knows l.fn.cursor)) l.from l.sought;
 }
 
 abbrev pub decreases-loop-sought : goal.decreases-loop-sought

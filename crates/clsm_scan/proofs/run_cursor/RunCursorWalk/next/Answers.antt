@@ -1,16 +1,14 @@
-use Rattle.std.proofs.Common.{ap}
-use Rattle.clsm_levels.specs.Entry.{first_below}
 use Rattle.clsm_levels.specs.Yields.{behind}
 use Rattle.clsm_runs.specs.Passing.{passed_entry}
-use Rattle.clsm_runs.proofs.Looking.{run_stays}
 use Rattle.clsm_runs.proofs.Standing.{stands_stays}
+use Rattle.clsm_scan.specs.Walking.{found_in_run_on}
 use Rattle.clsm_scan.proofs.run_cursor.RunCursorWalk.next.Goals as goal
 
 pub returns-clause-same : goal.returns-clause-same
 returns-clause-same g c =
     let walk = c.args.self.now in
-    λ k. ap (λ es. first_below es k walk.until)
-    (run_stays c.args.seat.now.knows c.next-self.new.seat.knows walk.run.component walk.run.place c.next-self.ensures.looks.looks c.requires.over.0)
+    λ key. found_in_run_on c.args.seat.now.knows c.next-self.new.seat.knows walk.run.component walk.run.place walk.until key
+    c.next-self.ensures.looks.looks c.requires.over.0
 
 pub returns-clause-key : goal.returns-clause-key
 returns-clause-key g c = c.key_of.ensures c.next-self.new.seat.knows c.args.self.now.run.component c.args.self.now.run.place c.next-self.ensures.passed
