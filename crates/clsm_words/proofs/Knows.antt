@@ -35,7 +35,7 @@ use Rattle.clsm_model.specs.Seats.{HasWrite, IsRecordIn, IsRising}
 use Rattle.clsm_law.specs.SeatBounds.{IsSmall, IsSmallFor, IsSmallLook}
 use Rattle.clsm_law.specs.Machine.{WorldState}
 use Rattle.clsm_law.proofs.Records.Histories.{end_of-past}
-use Rattle.clsm_law.proofs.Records.Facts.{all_map}
+use Rattle.clsm_levels.proofs.Every.{every_weaker}
 use Rattle.clsm_law.proofs.Stepping.Small.{commit_small, step_small}
 use Rattle.clsm_law.proofs.Setting.{Setting, ground, past_below, clock_below, v}
 use Rattle.clsm_law.proofs.Stepping.Steps.{May, finds as found_by}
@@ -145,12 +145,12 @@ module _ (s : State ℕ Known) (k : Known) (r : Ruled k.layout s)
   pub agrees_of : (h : History) → Begins r.slots h.slots → h.batches ≡ batches_below (end_of h) r.batches → end_of h ≤ memory k.layout s.words Clock
       → Agrees k.layout.seats k.number k.view.calls h
   agrees_of h b is within = let list = h.slots in record {
-    uncut = all_map (IsUncutRecord r.batches) (IsUncutRecord h.batches) k.view.calls (λ c. deed_uncut h c.time c.deed is)
+    uncut = every_weaker (IsUncutRecord r.batches) (IsUncutRecord h.batches) (λ c. deed_uncut h c.time c.deed is) k.view.calls
         (subst (λ (u : View). AllByRecursion (IsUncutRecord r.batches) u.calls) ok.view (r.lawful.law.uncut k.number));
-    listed = all_map (IsListedRecord r.batches) (λ c. IsListedWithin h c.time c.deed) k.view.calls (λ c. deed_listed h c.time c.deed is)
+    listed = every_weaker (IsListedRecord r.batches) (λ c. IsListedWithin h c.time c.deed) (λ c. deed_listed h c.time c.deed is) k.view.calls
         (subst (λ (u : View). AllByRecursion (IsListedRecord r.batches) u.calls) ok.view (r.lawful.law.listed k.number));
-    stand = all_map (IsStandingRecord (outcome_at r.slots) k.number) (IsRecordIn list k.number) k.view.calls
-        (λ c h. (h.0, λ t lt. subst (λ (o : Option Slot). StandsAs (write_at k.number c.time c.deed t) o) (begins_at r.slots list b t lt) (h.1 t)))
+    stand = every_weaker (IsStandingRecord (outcome_at r.slots) k.number) (IsRecordIn list k.number)
+        (λ c h. (h.0, λ t lt. subst (λ (o : Option Slot). StandsAs (write_at k.number c.time c.deed t) o) (begins_at r.slots list b t lt) (h.1 t))) k.view.calls
         (subst (λ (u : View). AllByRecursion (IsStandingRecord (outcome_at r.slots) k.number) u.calls) ok.view (r.lawful.law.stand k.number));
     recorded = λ t key written lt e. subst (λ (u : View). HasWrite k.number t (Wrote k.number key written) u.calls) ok.view
         (r.lawful.law.recorded t k.number key written (omega arith) (wrote_at list b t lt (Wrote k.number key written) e));

@@ -13,14 +13,14 @@ use Rattle.clsm_law.specs.declared.word.Word.{Word}
 use Rattle.clsm_law.specs.declared.word.Word.TheVariants.{Clock, Head, Order, State, Count, Entry as EntryWord}
 use Rattle.clsm_law.specs.declared.step.Step.{Step}
 use Rattle.clsm_law.specs.declared.step.Step.TheVariants.{Pad, ClearState, Publish, ExtendClock}
-use Rattle.clsm_law.specs.declared.merger.Phase.{Phase}
-use Rattle.clsm_law.specs.declared.merger.Phase.TheVariants.{Clean, Frozen, Retired}
+use Rattle.clsm_law.specs.declared.merger.Phase.TheVariants.{Clean}
 use Rattle.clsm_law.specs.Memory.{Memory, cell_of, region_of}
 use Rattle.clsm_law.specs.Places.{number_of}
-use Rattle.clsm_law.specs.Merging.{Facts, is_clean, is_frozen, epoch_end, retired_region, target_of, IsOpenToMerger, merger_after}
+use Rattle.clsm_law.specs.Merging.{Facts, is_frozen, epoch_end, retired_region, target_of, IsOpenToMerger, merger_after}
 use Rattle.clsm_law.specs.Worlds.{settled, passes_from, is_padded, is_headless, is_orderless, is_last, runs_of, epoch_of, facts_of}
 use Rattle.clsm_law.proofs.Setting.{Ground, facts, OpensTo}
 use Rattle.clsm_law.proofs.Runs.Kept.{SamePlace, place_same, canonical_same}
+use Rattle.clsm_law.proofs.Phases.{frozen_not_clean}
 use Rattle.clsm_words.specs.Merging.{IsLetGo, IsOwn, known_end}
 use Rattle.clsm_words.specs.Ruled.{Begins}
 use Rattle.clsm_words.proofs.Beginnings.{begins_settled}
@@ -96,13 +96,8 @@ module _ (g : Ground) (row : Memory) (past : List Slot) (agree : (word : Word) �
   -- while an epoch is frozen the merger does not hold the lock
   pub free_if_frozen : is_frozen g.merger.phase ≡ true → g.merger.exclusive ≡ false
   free_if_frozen frozen = not_held g.merger.exclusive refl where
-    not_clean : (p : Phase) → is_frozen p ≡ true → is_clean p ≡ true → ⊥
-    not_clean Clean e f = absurd cc
-    not_clean Frozen e f = absurd cc
-    not_clean Retired e f = absurd cc
-
     not_held : (held : Bool) → g.merger.exclusive ≡ held → held ≡ false
-    not_held true e = absurd (not_clean g.merger.phase frozen (g.law.merger.clean e))
+    not_held true e = absurd (frozen_not_clean g.merger.phase frozen (g.law.merger.clean e))
     not_held false e = refl
 
   -- what is open by the facts that it knows is open

@@ -15,13 +15,11 @@ use Rattle.clsm_law.specs.declared.step.Step.{Step}
 use Rattle.clsm_law.specs.declared.step.Step.TheVariants.{LeaveExclusive, Look, ClearHead, ClearState, Publish}
 use Rattle.clsm_law.specs.declared.view.View.{View}
 use Rattle.clsm_law.specs.declared.merger.MergerView.{MergerView}
-use Rattle.clsm_law.specs.declared.merger.Phase.{Phase}
-use Rattle.clsm_law.specs.declared.merger.Phase.TheVariants.{Clean, Frozen, Retired}
 use Rattle.clsm_law.specs.Memory.{Memory, cell_of, region_of, is_word, put}
 use Rattle.clsm_law.specs.Layout.{index_of, memory}
 use Rattle.clsm_law.specs.Relation.{Chains, Orders}
 use Rattle.clsm_law.specs.Views.{or_zero, own_region}
-use Rattle.clsm_law.specs.Merging.{is_clean, is_frozen, is_retired, epoch_end, word_of_merger, changed_by_merger, merger_after, slots_after_merger}
+use Rattle.clsm_law.specs.Merging.{is_frozen, is_retired, epoch_end, word_of_merger, changed_by_merger, merger_after, slots_after_merger}
 use Rattle.clsm_law.specs.Merging.{chains_after_merger, orders_after_merger}
 use Rattle.clsm_law.specs.Worlds.{outcome_at, settled, facts_of}
 use Rattle.clsm_law.specs.Law.{LawOf, each, held_of}
@@ -36,6 +34,7 @@ use Rattle.clsm_law.proofs.Setting.{Ground, facts, OpensTo, merger', memory', sl
 use Rattle.clsm_law.proofs.Kept.{kept'}
 use Rattle.clsm_law.proofs.Stepping.Keeping.{held_merged, holds_quiet, linked_merged, places_stay}
 use Rattle.clsm_law.proofs.Stepping.Stepped.{lawful_ground}
+use Rattle.clsm_law.proofs.Phases.{frozen_not_retired, retired_not_clean}
 use Rattle.clsm_words.specs.declared.known.Known.{Known}
 use Rattle.clsm_words.specs.Knowing.{row_of, told_of, Extends, IsHeldEpoch, IsKnownIn, IsKnownWord, IsNamedWord, LeadsOn}
 use Rattle.clsm_words.specs.Merging.{facts_known, OpensToMerger, known_end}
@@ -59,16 +58,6 @@ end_decided g t = by g.merger.exclusive (is_frozen g.merger.phase) refl refl whe
   by false false e f lt = g.law.merged_decided t lt
 
 -- the floor of a component that is held stays
-frozen_calm : (p : Phase) → is_frozen p ≡ true → is_retired p ≡ true → ⊥
-frozen_calm Clean e f = absurd cc
-frozen_calm Frozen e f = absurd cc
-frozen_calm Retired e f = absurd cc
-
-clean_calm : (p : Phase) → is_clean p ≡ true → is_retired p ≡ true → ⊥
-clean_calm Clean e f = absurd cc
-clean_calm Frozen e f = absurd cc
-clean_calm Retired e f = absurd cc
-
 floor_merged : (g : Ground) (step : Step) → OpensTo g step → (i c floor : ℕ) → each g.z held_of g.views i ≡ Some c → HasFloor g.merger c floor
     → HasFloor (merger' g step) c floor
 floor_merged g (Look (Snap j)) o i c floor held h = h
@@ -77,7 +66,7 @@ floor_merged g (Look word) o i c floor held h = h
 floor_merged g LeaveExclusive o i c floor held h = ⊎_elim
     (λ (new : (c ≡ g.merger.merged) × (floor ≡ g.merger.merged_floor)). inl new)
     (λ (old : (c + 1 ≡ g.merger.merged) × (is_retired g.merger.phase ≡ true) × (floor ≡ g.merger.former_floor)). absurd
-    (clean_calm g.merger.phase (g.law.merger.clean o.0) old.1)) h
+    (retired_not_clean g.merger.phase old.1 (g.law.merger.clean o.0))) h
 floor_merged g (ClearState cell) o i c floor held h = ⊎_elim
     (λ (new : (c ≡ g.merger.merged) × (floor ≡ g.merger.merged_floor)). inl new)
     (λ (old : (c + 1 ≡ g.merger.merged) × (is_retired g.merger.phase ≡ true) × (floor ≡ g.merger.former_floor)). let newest = holds_quiet g i c o.1 held in
@@ -85,7 +74,7 @@ floor_merged g (ClearState cell) o i c floor held h = ⊎_elim
 floor_merged g Publish o i c floor held h = ⊎_elim
     (λ (new : (c ≡ g.merger.merged) × (floor ≡ g.merger.merged_floor)). inr (ap (λ (n : ℕ). n + 1) new.0, refl, new.1))
     (λ (old : (c + 1 ≡ g.merger.merged) × (is_retired g.merger.phase ≡ true) × (floor ≡ g.merger.former_floor)). absurd
-    (frozen_calm g.merger.phase o.0 old.1)) h
+    (frozen_not_retired g.merger.phase o.0 old.1)) h
 floor_merged g step o i c floor held h = h
 
 -- and the words of its runs
