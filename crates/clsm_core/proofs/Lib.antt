@@ -1,2 +1,3 @@
 pub mod WorldSteps
 pub mod Runs
+pub mod SeatSteps

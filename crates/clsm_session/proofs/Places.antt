@@ -1,8 +1,7 @@
 -- The seats that callers give back are all those of the store, in their order, and stay so as they
 -- settle.
-use Rattle.std.proofs.Common.{◌≡◌, ℕ, zero, suc, ◌<◌, List, [], ◌∷◌, length, get_or, map, ◌++◌, append_assoc, refl, sym, ap, ◌∙◌, subst, arith}
+use Rattle.std.proofs.Common.{◌≡◌, ℕ, zero, suc, ◌<◌, List, [], ◌∷◌, length, get_or, map, refl, sym, ap, ◌∙◌, subst, arith}
 use Rattle.std.proofs.lemmas.List.{get_or_default, length-map}
-use Rattle.std.specs.Prelude.{All}
 use Rattle.clsm_model.specs.declared.config.Config.{Config}
 use Rattle.clsm_model.specs.Config.{IsSound}
 use Rattle.clsm_store.specs.Headline.{HasAllSeats, IsAt}
@@ -87,22 +86,6 @@ all_settled store count old new met all = record {
       let is = all.each i before was in
       (read.same.store ∙ is.0, read.same.number ∙ is.1);
 }
-
--- one seat more is given back
-pub gathers : {A : Type 0} (all all' : List SeatState) (w : Worked A) (rest ws old : List (Worked A)) → all' ≡ all ++ w.seat ∷ [] → rest ≡ w ∷ ws
-    → all ++ seats_of rest ≡ seats_of old → all' ++ seats_of ws ≡ seats_of old
-gathers {A} all all' w rest ws old more is e =
-    ap (λ (x : List SeatState). x ++ seats_of ws) more
-    ∙ (append_assoc all (w.seat ∷ []) (seats_of ws)
-    ∙ (ap (λ (x : List (Worked A)). all ++ seats_of x) (sym is) ∙ e))
-
--- and one answer
-pub gathers_answers : {A : Type 0} (all all' : List A) (w : Worked A) (rest ws old : List (Worked A)) → all' ≡ all ++ w.answer ∷ [] → rest ≡ w ∷ ws
-    → all ++ answers_of rest ≡ answers_of old → all' ++ answers_of ws ≡ answers_of old
-gathers_answers {A} all all' w rest ws old more is e =
-    ap (λ (x : List A). x ++ answers_of ws) more
-    ∙ (append_assoc all (w.answer ∷ []) (answers_of ws)
-    ∙ (ap (λ (x : List (Worked A)). all ++ answers_of x) (sym is) ∙ e))
 
 -- an opened store had sizes in their ranges
 pub stops_session : (config : Config) (error : SessionError) → IsSound config → StopsWork error → StopsSession config error

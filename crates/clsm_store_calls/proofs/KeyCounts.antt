@@ -1,6 +1,6 @@
 -- What was counted of a held component is the number of a range's rows. These are no more than there
 -- are times below, since each has a write; so a word holds their number.
-use Rattle.std.proofs.Common.{◌≡◌, ◌≢◌, ℕ, zero, suc, ◌<◌, ◌≤◌, ◌==◌, Bool, true, false, not, cond, List, [], ◌∷◌, length, refl, sym, ap, ◌∙◌, subst, arith}
+use Rattle.std.proofs.Common.{◌≡◌, ◌≢◌, ℕ, zero, suc, ◌<◌, ◌≤◌, ◌==◌, Bool, true, false, not, cond, List, [], ◌∷◌, length, refl, sym, ap, ◌∙◌, arith}
 use Rattle.std.proofs.Common.{inl, inr, true≢false, Option, Some, None}
 use Rattle.std.proofs.lemmas.Bool.{cases_lt, eq-eqb, eqb-true, ne_eqb}
 use Rattle.std.proofs.lemmas.List.Kept.{IsStrictlySortedBy-filter}
@@ -10,7 +10,7 @@ use Rattle.std.specs.Map.{keys_of}
 use Rattle.std.specs.Ordering.{nat_cmp}
 use Rattle.clsm_model.specs.declared.slot.Slot.{Slot}
 use Rattle.clsm_model.specs.declared.slot.Slot.TheVariants.{Nothing, Wrote}
-use Rattle.clsm_model.specs.History.{History, left_by, newest, or_else, plain, slot_at, value, write_of}
+use Rattle.clsm_model.specs.History.{History, left_by, newest, or_else, slot_at, value, write_of}
 use Rattle.clsm_model.specs.declared.record.Deed.TheVariants.{Page}
 use Rattle.clsm_model.specs.Right.{Reads}
 use Rattle.clsm_model.specs.Map.{IsRange, KeysRise, Pair, value_at}

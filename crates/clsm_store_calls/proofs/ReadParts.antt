@@ -3,7 +3,7 @@ use Rattle.std.proofs.Common.{◌≡◌, ℕ, ◌≤◌, ◌++◌, ◌∷◌, []
 use Rattle.std.proofs.Common.{Err, IfErr}
 use Rattle.clsm_model.specs.History.{History, IsBeginning, or_else}
 use Rattle.clsm_model.specs.declared.record.Deed.{Deed}
-use Rattle.clsm_model.specs.declared.record.Deed.TheVariants.{Scan, Page}
+use Rattle.clsm_model.specs.declared.record.Deed.TheVariants.{Get, Scan, Page}
 use Rattle.clsm_model.specs.declared.record.CallRecord.{CallRecord}
 use Rattle.clsm_law.specs.declared.step.End.{End}
 use Rattle.clsm_law.specs.declared.step.End.TheVariants.{Meeting, Neither, Recorded}
@@ -22,22 +22,8 @@ use Rattle.clsm_store_calls.specs.Resting.{IsAtRest}
 use Rattle.clsm_store_calls.specs.declared.scanning.Asked.{Asked}
 use Rattle.clsm_store_calls.specs.declared.scanning.Asked.TheVariants.{All, First}
 use Rattle.clsm_store_calls.specs.Scanning.{GivesUpRead, IsAnswerTo}
-use Rattle.clsm_store_calls.specs.Tally.{Tally, TakesNoLock, tally_of}
+use Rattle.clsm_store_calls.specs.Tally.{Tally, TakesNoLock, counted, tally_of}
 use Rattle.clsm_store_calls.proofs.Rest.{same_past, stays_open}
-
--- what the view counts
-abbrev counted : View → Tally
-counted v = record {
-  entries = v.entries;
-  busy = v.busy;
-  raced = v.raced;
-  overtaken = v.overtaken;
-  gave_up = v.gave_up;
-  cancelled = v.cancelled;
-  hasty = v.hasty;
-  limit = v.hold_limit;
-  clock = v.hold_clock;
-}
 
 -- what holds whatever the refusal is
 pub if_err : {A E G : Type 0} (r : Result A E) → G → IfErr r (λ (e : E). G)
@@ -45,7 +31,7 @@ if_err (Ok x) h = tt
 if_err (Err e) h = h
 
 -- the record of a scan or a page, where no snapshot is open
-pub many_calls : (i t : ℕ) (v : View) (asked : Asked) (deed : Deed) → IsAnswerTo asked deed → open_time v.snapshot ≡ None → v.pin_clock ≡ Some t
+many_calls : (i t : ℕ) (v : View) (asked : Asked) (deed : Deed) → IsAnswerTo asked deed → open_time v.snapshot ≡ None → v.pin_clock ≡ Some t
     → ended_calls i v (Recorded deed) ≡ call_of i t deed ∷ []
 many_calls i t v (All lo hi) (Scan from to rows) is none clock = let deed = Scan from to rows in
     ap (λ (o : Option ℕ). call_of i (or_zero (or_else o v.pin_clock)) deed ∷ []) none ∙ ap (λ (o : Option ℕ). call_of i (or_zero o) deed ∷ []) clock
@@ -54,7 +40,7 @@ many_calls i t v (First lo hi most) (Page from to max rows more) is none clock =
 many_calls i t v asked deed is none clock = absurd is
 
 -- and the due behind it
-pub many_due : (t : ℕ) (v : View) (asked : Asked) (deed : Deed) → IsAnswerTo asked deed → open_time v.snapshot ≡ None → v.pin_clock ≡ Some t
+many_due : (t : ℕ) (v : View) (asked : Asked) (deed : Deed) → IsAnswerTo asked deed → open_time v.snapshot ≡ None → v.pin_clock ≡ Some t
     → ended_due v (Recorded deed) ≡ t
 many_due t v (All lo hi) (Scan from to rows) is none clock =
     ap (λ (o : Option ℕ). cond (is_some o) v.due (or_zero (or_else o v.pin_clock))) none ∙ ap or_zero clock
@@ -63,7 +49,7 @@ many_due t v (First lo hi most) (Page from to max rows more) is none clock =
 many_due t v asked deed is none clock = absurd is
 
 -- a read that began at the time t, settled what is below it, looked, and ended
-module _ (a b c d e : Known) (component t : ℕ) (end : End) (rests : IsAtRest a) (begins : BeginsRead a b component t) (reads : OnlyReads b c)
+module _ {a b c d e : Known} {component t : ℕ} {end : End} (rests : IsAtRest a) (begins : BeginsRead a b component t) (reads : OnlyReads b c)
     (looks : Looks c d) (unpins : Unpins d e end) where
   number : d.number ≡ a.number
   number = looks.reads.seat.number ∙ reads.seat.number ∙ begins.number
@@ -87,13 +73,13 @@ module _ (a b c d e : Known) (component t : ℕ) (end : End) (rests : IsAtRest a
   pub due_before : d.view.due ≡ a.view.due
   due_before = ap (λ (v : View). v.due) looks.reads.view ∙ ap (λ (v : View). v.due) reads.view ∙ begins.due
 
-  pub clock_noted : d.view.pin_clock ≡ Some t
+  clock_noted : d.view.pin_clock ≡ Some t
   clock_noted = ap (λ (v : View). v.pin_clock) looks.reads.view ∙ ap (λ (v : View). v.pin_clock) reads.view ∙ begins.pin_clock
 
   clock_seen : e.view.clock ≡ Some t
   clock_seen = ap (λ (v : View). v.clock) unpins.view ∙ ap (λ (v : View). v.clock) looks.reads.view ∙ ap (λ (v : View). v.clock) reads.view ∙ begins.clock
 
-  pub snapshot_before : d.view.snapshot ≡ a.view.snapshot
+  snapshot_before : d.view.snapshot ≡ a.view.snapshot
   snapshot_before = ap (λ (v : View). v.snapshot) looks.reads.view ∙ ap (λ (v : View). v.snapshot) reads.view ∙ begins.snapshot
 
   abbrev with_cancelled : Tally → Tally
@@ -127,7 +113,7 @@ module _ (a b c d e : Known) (component t : ℕ) (end : End) (rests : IsAtRest a
   }
 
   -- with a record of the deed at the time
-  pub recorded : (deed : Deed) → ended_calls d.number d.view end ≡ call_of d.number t deed ∷ [] → ended_due d.view end ≡ t → ReadsAt a e t deed
+  recorded : (deed : Deed) → ended_calls d.number d.view end ≡ call_of d.number t deed ∷ [] → ended_due d.view end ≡ t → ReadsAt a e t deed
   recorded deed made due = record {
     number = unpins.keeps.number ∙ number;
     layout = layout;
@@ -139,6 +125,19 @@ module _ (a b c d e : Known) (component t : ℕ) (end : End) (rests : IsAtRest a
     above = begins.above;
     unlocked = unlocked;
   }
+
+  -- as a read of one key
+  pub single : (key : ℕ) (reply : Option (List ℕ)) → end ≡ Recorded (Get key reply) → ReadsAt a e t (Get key reply)
+  single key reply is = recorded (Get key reply)
+      (ap (ended_calls d.number d.view) is ∙ ap (λ (o : Option ℕ). call_of d.number (or_zero o) (Get key reply) ∷ []) clock_noted)
+      (ap (ended_due d.view) is ∙ ap or_zero clock_noted)
+
+  -- as a scan, a page or a count, where no snapshot is open
+  pub many : (asked : Asked) (deed : Deed) → end ≡ Recorded deed → IsAnswerTo asked deed → open_time a.view.snapshot ≡ None → ReadsAt a e t deed
+  many asked deed is answers none =
+      let closed = ap open_time snapshot_before ∙ none in
+      recorded deed (ap (ended_calls d.number d.view) is ∙ many_calls d.number t d.view asked deed answers closed clock_noted)
+      (ap (ended_due d.view) is ∙ many_due t d.view asked deed answers closed clock_noted)
 
   -- as a meeting
   pub met : end ≡ Meeting → t ≤ length e.past → MeetsAt a e t

@@ -9,7 +9,7 @@ use Rattle.clsm_law.specs.declared.view.SnapshotState.{SnapshotState}
 use Rattle.clsm_law.specs.declared.view.SnapshotState.TheVariants.{Absent, Noted, Timed, Open}
 use Rattle.clsm_words.specs.declared.known.Known.{Known}
 use Rattle.clsm_words.specs.Knowing.{known_of}
-use Rattle.clsm_words.specs.Keeping.{KeepsPlace, OnlyReads}
+use Rattle.clsm_words.specs.Keeping.{KeepsPlace, KeepsSeat, OnlyReads}
 use Rattle.clsm_model.proofs.Batches.{begins_self, begins_trans}
 use Rattle.clsm_memtable.specs.Writing.{Draws, FindsLimit, GivesUp, LosesDraw, LosesTime, Records as Decides}
 use Rattle.clsm_memtable.specs.Filling.{Fills}
@@ -69,12 +69,21 @@ keeps_by a b place pin snapshot = record {
   snapshot = snapshot;
 }
 
-pub still_by : (a b : Known) → KeepsPlace a b → left b.view ≡ left a.view → Still a b
-still_by a b place e = record {
-  keeps = keeps_by a b place (ap (λ (x : ℕ × SnapshotState × List CallRecord × ℕ). x.0) e) (ap (λ (x : ℕ × SnapshotState × List CallRecord × ℕ). x.1) e);
+pub still_seat : (a b : Known) → KeepsSeat a b → left b.view ≡ left a.view → Still a b
+still_seat a b seat e = record {
+  keeps = record {
+    number = seat.number;
+    layout = seat.layout;
+    past = seat.past;
+    pin = ap (λ (x : ℕ × SnapshotState × List CallRecord × ℕ). x.0) e;
+    snapshot = ap (λ (x : ℕ × SnapshotState × List CallRecord × ℕ). x.1) e;
+  };
   calls = ap (λ (x : ℕ × SnapshotState × List CallRecord × ℕ). x.2) e;
   due = ap (λ (x : ℕ × SnapshotState × List CallRecord × ℕ). x.3) e;
 }
+
+pub still_by : (a b : Known) → KeepsPlace a b → left b.view ≡ left a.view → Still a b
+still_by a b place e = still_seat a b place.seat e
 
 pub still_drawn : (a b : Known) (t : ℕ) → Draws a b t → Still a b
 still_drawn a b t h = still_by a b h.place (ap left h.view)
@@ -105,30 +114,11 @@ lost_by a b t h = still_by a b h.place (ap left h.view)
 
 -- filled and entered
 pub still_entered : (a b c : Known) (key : ℕ) (written : Option (List ℕ)) → Fills a b key written → Enters b c → Still a c
-still_entered a b c key written fills enters = still_trans a b c (still_by a b fills.parts.place (ap left fills.parts.view)) (record {
-  keeps = record {
-    number = enters.seat.number;
-    layout = enters.seat.layout;
-    past = enters.seat.past;
-    pin = ap (λ (v : View). v.pin) enters.view;
-    snapshot = ap (λ (v : View). v.snapshot) enters.view;
-  };
-  calls = ap (λ (v : View). v.calls) enters.view;
-  due = ap (λ (v : View). v.due) enters.view;
-})
+still_entered a b c key written fills enters =
+    still_trans a b c (still_by a b fills.parts.place (ap left fills.parts.view)) (still_seat b c enters.seat (ap left enters.view))
 
 pub still_reads : (a b : Known) → OnlyReads a b → Still a b
-still_reads a b h = record {
-  keeps = record {
-    number = h.seat.number;
-    layout = h.seat.layout;
-    past = h.seat.past;
-    pin = ap (λ (v : View). v.pin) h.view;
-    snapshot = ap (λ (v : View). v.snapshot) h.view;
-  };
-  calls = ap (λ (v : View). v.calls) h.view;
-  due = ap (λ (v : View). v.due) h.view;
-}
+still_reads a b h = still_seat a b h.seat (ap left h.view)
 
 -- where no snapshot waits for its time, the end of a read leaves it
 pub stays_open : (s : SnapshotState) → IsSettled s → ended_snapshot s ≡ s

@@ -6,6 +6,7 @@ use Rattle.clsm_model.specs.declared.record.Deed.TheVariants.{Put, Remove}
 use Rattle.clsm_law.specs.declared.view.Mode.TheVariants.{Free, Shared}
 use Rattle.clsm_law.specs.declared.view.SnapshotState.{SnapshotState}
 use Rattle.clsm_law.specs.declared.view.SnapshotState.TheVariants.{Absent, Open}
+use Rattle.clsm_law.specs.declared.view.View.{View}
 use Rattle.clsm_law.specs.OpenSteps.{open_time}
 use Rattle.clsm_law.specs.Relation.{call_of}
 use Rattle.clsm_words.specs.declared.known.Known.{Known}
@@ -13,13 +14,13 @@ use Rattle.clsm_words.specs.Knowing.{known_of}
 use Rattle.clsm_words.specs.declared.words.WordTable.{WordTable}
 use Rattle.clsm_words.specs.Seats.{RawState as RawState}
 use Rattle.clsm_store_calls.specs.Seats.{SeatState, StoreId}
-use Rattle.clsm_store_calls.specs.Tally.{tally_of}
+use Rattle.clsm_store_calls.specs.Tally.{counted}
 use Rattle.clsm_store_calls.specs.declared.writing.Attempt.{Attempt}
 use Rattle.clsm_store_calls.specs.declared.writing.Attempt.TheVariants.{Written, Full, Lost}
 
--- what contracts see of a seat at the words
-abbrev pub seat_of : RawState → SeatState
-seat_of s = let v = s.knows.view in record {
+-- what contracts see of a seat at the words that has this view
+abbrev pub seat_with : RawState → View → SeatState
+seat_with s v = record {
   store = record { table = s.table; layout = s.knows.layout };
   number = s.knows.number;
   past = s.knows.past;
@@ -27,9 +28,13 @@ seat_of s = let v = s.knows.view in record {
   calls = v.calls;
   due = v.due;
   snapshot = open_time v.snapshot;
-  tally = tally_of s.knows;
+  tally = counted v;
   clock = v.clock;
 }
+
+-- what contracts see of a seat at the words
+abbrev pub seat_of : RawState → SeatState
+seat_of s = seat_with s s.knows.view
 
 -- the store that has these words
 abbrev pub store_of : WordTable → StoreId

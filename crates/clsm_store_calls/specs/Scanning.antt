@@ -2,12 +2,11 @@
 use Rattle.std.specs.Prelude.{◌≡◌, ℕ, ◌≤◌, [], List, length, Option, Some, None}
 use Rattle.clsm_model.specs.declared.record.Deed.{Deed}
 use Rattle.clsm_model.specs.declared.record.Deed.TheVariants.{Scan, Page}
-use Rattle.clsm_model.specs.History.{History, IsBeginning, end_of, plain}
+use Rattle.clsm_model.specs.History.{History, IsBeginning, end_of}
 use Rattle.clsm_law.specs.declared.step.End.{End}
 use Rattle.clsm_law.specs.declared.step.End.TheVariants.{Recorded}
 use Rattle.clsm_model.specs.Map.{IsRange, Pair}
 use Rattle.clsm_model.specs.Right.{IsPage}
-use Rattle.clsm_model.specs.Seats.{IsNextRead}
 use Rattle.clsm_scan.specs.declared.collecting.KeyRange.{KeyRange}
 use Rattle.clsm_words.specs.declared.known.Known.{Known}
 use Rattle.clsm_words.specs.Knowing.{known_of}

@@ -1,5 +1,6 @@
 -- What a seat counts, and what calls make of its counts.
 use Rattle.std.specs.Prelude.{◌≡◌, ℕ, ◌⊎◌, Option, Result, Ok, Err}
+use Rattle.clsm_law.specs.declared.view.View.{View}
 use Rattle.clsm_law.specs.Views.{next_word}
 use Rattle.clsm_words.specs.declared.known.Known.{Known}
 use Rattle.clsm_store_calls.specs.declared.refusal.TryPutError.{TryPutError}
@@ -20,9 +21,9 @@ pub record Tally : Type 0 where
   pub limit : Option ℕ
   pub clock : Option ℕ
 
--- what the seat at the words counts
-abbrev pub tally_of : Known → Tally
-tally_of k = let v = k.view in record {
+-- what the view counts
+abbrev pub counted : View → Tally
+counted v = record {
   entries = v.entries;
   busy = v.busy;
   raced = v.raced;
@@ -33,6 +34,10 @@ tally_of k = let v = k.view in record {
   limit = v.hold_limit;
   clock = v.hold_clock;
 }
+
+-- what the seat at the words counts
+abbrev pub tally_of : Known → Tally
+tally_of k = counted k.view
 
 -- the call took no lock, lost no try, and gave up no time; it may have cancelled times of others,
 -- each after as many looks as its patience says

@@ -1,4 +1,4 @@
-use Rattle.std.proofs.Common.{sym, arith, ℕ, ◌≤◌}
+use Rattle.std.proofs.Common.{sym, arith}
 use Rattle.clsm_model.specs.History.{plain, value}
 use Rattle.clsm_scan.specs.Collected.{IsCount, left_at}
 use Rattle.clsm_scan.specs.Sources.{found_in_component}

@@ -1,6 +1,5 @@
 use Rattle.std.proofs.Common.{ap, refl, arith, length, List}
 use Rattle.clsm_model.specs.declared.slot.Slot.{Slot}
-use Rattle.clsm_law.specs.declared.step.End.TheVariants.{Meeting}
 use Rattle.clsm_words.proofs.Keeps.{looks_none}
 use Rattle.clsm_store_calls.proofs.ReadParts.{met}
 use Rattle.clsm_store_calls.proofs.meeting.meet_at.Goals as goal
@@ -10,5 +9,4 @@ returns-clause-meets g c =
     let s = c.settle_below.new.seat.knows in
     let settled = c.settle_below.ensures.settled in
     let same = ap (λ (l : List Slot). length l) c.unpin.ensures.unpinned.keeps.past in
-    met c.args.seat.now.knows c.begin-component.new.seat.knows s s c.unpin.new.seat.knows c.begin-component.result.0 c.begin-component.result.1 Meeting
-    c.requires.rests c.begin-component.ensures.begins c.settle_below.ensures.keeps (looks_none s) c.unpin.ensures.unpinned refl (omega arith)
+    met c.requires.rests c.begin-component.ensures.begins c.settle_below.ensures.keeps (looks_none s) c.unpin.ensures.unpinned refl (omega arith)
