@@ -8,8 +8,8 @@ use Rattle.clsm_law.specs.declared.view.Mode.{Mode}
 use Rattle.clsm_law.specs.declared.view.Mode.TheVariants.{Free, Shared, Exclusive}
 use Rattle.clsm_law.specs.declared.view.SnapshotState.{SnapshotState}
 use Rattle.clsm_law.specs.declared.view.SnapshotState.TheVariants.{Absent, Noted, Timed, Open}
-use Rattle.clsm_law.specs.Views.{IsBelow, blank, is_free, next_word}
-use Rattle.clsm_law.specs.Relation.{looked, one_more_if, taken, timed_by}
+use Rattle.clsm_law.specs.Views.{IsBelow, is_free, next_word}
+use Rattle.clsm_law.specs.Relation.{looked, taken, timed_by, after_draw}
 use Rattle.clsm_words.specs.declared.known.Known.{Known}
 use Rattle.clsm_words.specs.Knowing.{IsNearHeld, Sound, Follows}
 use Rattle.clsm_words.specs.Keeping.{KeepsPlace}
@@ -84,27 +84,9 @@ module _ (k k1 k2 : Known) (limit time : ℕ) (sound : Sound k) (holds : k.view.
 
   -- ---- the exchange
 
-  -- the view after the exchange, by whether it is won
-  abbrev exchanged : View → Bool → View
-  exchanged v won = record v {
-    drawn = cond won (Some time) v.drawn;
-    key = cond won None v.key;
-    length = cond won None v.length;
-    words = cond won (blank 8) v.words;
-    next = cond won None v.next;
-    linked = cond won false v.linked;
-    order_next = cond won None v.order_next;
-    inserted = cond won false v.inserted;
-    fresh_link = cond won None v.fresh_link;
-    low = cond won 0 v.low;
-    high = cond won 0 v.high;
-    fresh_clock = None;
-    raced = one_more_if (not won) v.raced;
-  }
-
   module _ (k3 : Known) (x : ℕ) (c : Follows (Draw time) k2 x k3) where
-    after : (b : Bool) → (x == time) ≡ b → k3.view ≡ exchanged (with_clock (with_limit k.view limit) time) b
-    after b is = c.view ∙ ap (exchanged k2.view) is ∙ ap (λ (v : View). exchanged v b) both_seen
+    after : (b : Bool) → (x == time) ≡ b → k3.view ≡ after_draw b (with_clock (with_limit k.view limit) time) time
+    after b is = c.view ∙ ap (λ (won : Bool). after_draw won k2.view time) is ∙ ap (λ (v : View). after_draw b v time) both_seen
 
     place : KeepsPlace k k3
     place = place_trans k k2 k3 both_place (place_by (Draw time) k2 k3 x c refl c.walks) (λ m held held'. ap (λ (v : View). v.held) both_seen ∙ held)

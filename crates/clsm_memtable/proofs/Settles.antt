@@ -1,7 +1,7 @@
 -- What the steps of settling make of a seat.
 use Rattle.std.proofs.Common.{◌≡◌, ◌≢◌, ℕ, ◌+◌, ◌*◌, ◌<◌, ◌≤◌, ◌==◌, ◌&&◌, not, nat_lt, Bool, true, false, cond, max, length, refl, sym, ap, ◌∙◌, subst}
 use Rattle.std.proofs.Common.{arith, inl, inr, Option, Some, None, eq-eqb, ne_eqb, lt-ltb}
-use Rattle.std.proofs.lemmas.Bool.{cases_eq, cases_lt, le-leb}
+use Rattle.std.proofs.lemmas.Bool.{cases_eq, cases_lt, le-leb, and_from}
 use Rattle.clsm_law.specs.declared.layout.Layout.{Layout}
 use Rattle.clsm_law.specs.declared.word.Word.TheVariants.{Front, State}
 use Rattle.clsm_law.specs.declared.step.Step.TheVariants.{Cancel, Look, RaiseFront}
@@ -87,13 +87,10 @@ grows z v t = by_bool (λ b. v.reached ≤ cond b (v.reached + 1) v.reached) (t 
 passes : (k : Known) (component t : ℕ) → MaySettle k component t → t ≤ k.view.reached → t + 1 ≤ reached_after k.layout k.view t
 passes k component t may le = elim (cases_eq t k.view.reached) [
   | inl here ↦ let own : (t == k.view.reached) ≡ true = eq-eqb t k.view.reached here in let is = seen k component t may in
-      subst (λ (b : Bool). t + 1 ≤ cond b (k.view.reached + 1) k.view.reached) (sym (both (t == k.view.reached) (is_seen k.layout k.view t) own is))
+      subst (λ (b : Bool). t + 1 ≤ cond b (k.view.reached + 1) k.view.reached) (sym (and_from (t == k.view.reached) (is_seen k.layout k.view t) own is))
       (omega arith)
   | inr ne ↦ let g = grows k.layout k.view t in omega arith
 ]
-  where
-    both : (a b : Bool) → a ≡ true → b ≡ true → (a && b) ≡ true
-    both a b e f = rw (e, f) refl
 
 pub grows_by_state : (z : Layout) (v : View) (cell x : ℕ) → v.reached ≤ reached_by_state z v cell x
 grows_by_state z v cell x =
@@ -107,13 +104,10 @@ found_passes k component t x may le some = elim (cases_eq t k.view.reached) [
       ≡ true = eq-eqb (cell_of k.layout t) (cell_of k.layout k.view.reached) (ap (cell_of k.layout) here) in
       let found : not (x == 0) ≡ true = ap not (ne_eqb x 0 some) in
       subst (λ (b : Bool). t + 1 ≤ cond b (reached_after k.layout k.view k.view.reached) k.view.reached)
-      (sym (both (not (x == 0)) (cell_of k.layout t == cell_of k.layout k.view.reached) found cell))
+      (sym (and_from (not (x == 0)) (cell_of k.layout t == cell_of k.layout k.view.reached) found cell))
       (subst (λ (u : ℕ). t + 1 ≤ reached_after k.layout k.view u) here (passes k component t may le))
   | inr ne ↦ let g = grows_by_state k.layout k.view (cell_of k.layout t) x in omega arith
 ]
-  where
-    both : (a b : Bool) → a ≡ true → b ≡ true → (a && b) ≡ true
-    both a b e f = rw (e, f) refl
 
 -- ---- a look at the time's state
 
