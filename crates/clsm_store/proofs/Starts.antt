@@ -3,12 +3,11 @@ use Rattle.std.proofs.Common.{◌≡◌, ℕ, ◌+◌, List, [], ◌∷◌, ◌+
 use Rattle.std.proofs.lemmas.Bool.{cases_lt}
 use Rattle.std.proofs.lemmas.List.{get_or_append_left, get_or_push}
 use Rattle.clsm_law.specs.declared.view.View.{View}
-use Rattle.clsm_law.specs.OpenSteps.{open_time}
 use Rattle.clsm_words.specs.declared.words.WordTable.{WordTable}
 use Rattle.clsm_words.specs.Seats.{RawState as RawState}
 use Rattle.clsm_words.specs.Plays.{IsSeatOf, IsFresh, AreFreshFrom}
 use Rattle.clsm_store_calls.specs.Seats.{SeatState, StoreId, AreNew, newcomer}
-use Rattle.clsm_store_calls.specs.Resting.{IsAtRest, IsSettled, seat_of, store_of}
+use Rattle.clsm_store_calls.specs.Resting.{IsAtRest, IsSettled, seat_of, seat_with, store_of}
 
 -- one seat more
 pub new_more : (store : StoreId) (n : ℕ) (seats : List SeatState) (x : SeatState) → AreNew store n seats → x ≡ newcomer store n
@@ -26,28 +25,7 @@ new_more store n seats x new e = record {
 -- the seat with this number did nothing yet
 pub fresh_state : (w : WordTable) (r : RawState) (n : ℕ) → IsSeatOf w r → IsFresh n r → seat_of r ≡ newcomer (store_of w) n
 fresh_state w r n s f =
-    ap (λ (v : View). record {
-      store = record { table = r.table; layout = r.knows.layout };
-      number = r.knows.number;
-      past = r.knows.past;
-      batches = r.knows.batches;
-      calls = v.calls;
-      due = v.due;
-      snapshot = open_time v.snapshot;
-      tally =
-          record {
-            entries = v.entries;
-            busy = v.busy;
-            raced = v.raced;
-            overtaken = v.overtaken;
-            gave_up = v.gave_up;
-            cancelled = v.cancelled;
-            hasty = v.hasty;
-            limit = v.hold_limit;
-            clock = v.hold_clock;
-          };
-      clock = v.clock;
-    }) f.1
+    ap (seat_with r) f.1
     ∙ (λ k. record (newcomer (record { table = s.0 k; layout = s.1 k }) (f.0 k)) { past = (f.2 k).slots; batches = (f.2 k).batches })
 
 pub fresh_rests : (r : RawState) (n : ℕ) → IsFresh n r → IsAtRest r.knows

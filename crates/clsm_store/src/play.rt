@@ -18,7 +18,7 @@ mod call;
 pub use answer::Answer;
 pub use call::Call;
 
-/// Reads the key under the seat's snapshot; `None` where none is open, and nothing was done then.
+/// Reads the key under the seat's snapshot; `None` if none is open, and nothing was done then.
 fn get_at<P: Pace>(store: &Store<P>, seat: &mut Seat, key: u64) -> Option<Got>
     requires { seat.old.store ≡ store.now }
     ensures answers { IfSome result
@@ -31,7 +31,7 @@ fn get_at<P: Pace>(store: &Store<P>, seat: &mut Seat, key: u64) -> Option<Got>
 
 impl<P: Pace> Store<P> {
     /// Makes the call by the seat, and answers what the method of its name answers: it waits and is
-    /// refused as that. A read under a snapshot is refused where none is open, and nothing was done
+    /// refused as that. A read under a snapshot is refused if none is open, and nothing was done
     /// then.
     pub fn play<R: Wait>(&self, rt: &R, alloc: Global, seat: &mut Seat, call: &Call) -> Answer
         requires { seat.old.store ≡ self.now }

@@ -19,7 +19,7 @@ pub enum Answer {
     Read(Got),
     Snapshot(Result<Time, Open>),
     Close(Option<Time>),
-    /// A read's under the open snapshot; `None` where none is open.
+    /// A read's under the open snapshot; `None` if none is open.
     ReadAt(Option<Got>),
     Scan(Result<Scan, Memory>),
     Page(Result<Page, Memory>),

@@ -24,7 +24,7 @@ pub enum Call {
     Claim { key: u64, value: Value },
     /// Reads the value at the key.
     Get { key: u64 },
-    /// Opens a snapshot, where none is open.
+    /// Opens a snapshot, if none is open.
     Snap,
     /// Closes the open snapshot.
     Close,
