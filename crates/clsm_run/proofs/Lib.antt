@@ -1,3 +1,4 @@
 pub mod Brought
+pub mod Ended
 pub mod Seated
 pub mod Verdicts

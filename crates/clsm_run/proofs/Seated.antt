@@ -5,7 +5,7 @@ use Rattle.std.proofs.lemmas.List.{get_or_default, length-map}
 use Rattle.std.specs.Prelude.{All}
 use Rattle.clsm_store_calls.specs.Seats.{StoreId, SeatState, AreNew, newcomer}
 use Rattle.clsm_run.specs.Audit.{AreSeatsOf}
-use Rattle.clsm_run.specs.Work.{AreWorked, Works}
+use Rattle.clsm_run.specs.Work.{AreWorked, IsWorked}
 use Rattle.clsm_run.specs.declared.worker.Worked.{Worked}
 use Rattle.clsm_run.proofs.Brought.{seats_of}
 
@@ -21,7 +21,7 @@ module _ (store : StoreId) (count : ℕ) (seats : List SeatState) (new : AreNew 
       ap (λ (seat : SeatState). seat.store) (get_or_default seats i d (newcomer store i) lt ∙ new.each i lt)
 
   module _ (worked : List Worked) (done : AreWorked seats worked) where
-    works : (i : ℕ) (w : Worked) → i < length worked → get_or worked i w ≡ w → Works (newcomer store i) w
+    works : (i : ℕ) (w : Worked) → i < length worked → get_or worked i w ≡ w → IsWorked (newcomer store i) w
     works i w lt e =
         let inside : i < length seats = (let c = done.count in omega arith) in
         done.each i (newcomer store i) w inside (new.each i inside) e

@@ -2,7 +2,7 @@
 use Rattle.std.specs.Prelude.{◌≡◌, List, [], ◌∷◌, Result, Ok, Err}
 use Rattle.clsm_model.specs.declared.config.Config.{Config}
 use Rattle.clsm_store.specs.Headline.{IsWholeHistory, longest_past}
-use Rattle.clsm_store_calls.specs.Seats.{SeatState, StoreId}
+use Rattle.clsm_store_calls.specs.Seats.{SeatState}
 use Rattle.clsm_session.specs.Ended.{AreAllSeats, StopsSession}
 use Rattle.clsm_session.specs.declared.session.Ended.{Ended}
 use Rattle.clsm_session.specs.declared.refusal.SessionError.{SessionError}

@@ -6,10 +6,10 @@ use Rattle.clsm_run.specs.declared.worker.Made.{Made}
 use Rattle.clsm_run.specs.declared.worker.Worked.{Worked}
 
 -- the records that are kept are still the calls of the seat after those that it had made before
-pub record KeepsRecords (old new : SeatState) (records kept : List CallRecord) : Type 0 where
+pub record KeepsRecords (old new : SeatState) (had has : List CallRecord) : Type 0 where
   pub store : new.store ≡ old.store
   pub number : new.number ≡ old.number
-  pub records : (before : List CallRecord) → old.calls ≡ before ++ records → new.calls ≡ before ++ kept
+  pub records : (before : List CallRecord) → old.calls ≡ before ++ had → new.calls ≡ before ++ has
 
 -- the records are exactly the calls that the seat made
 pub record Works (old new : SeatState) (made : Made) : Type 0 where

@@ -4,8 +4,8 @@ ghost use Rattle.clsm_model.specs.declared.config.Config.{Config};
 ghost use Rattle.clsm_model.specs.Config.{IsSound};
 ghost use Rattle.clsm_session.specs.Ended.{StopsSession};
 ghost use Rattle.clsm_run.specs.Audit.{IsAuditedWhole};
-ghost use Rattle.clsm_run.specs.Run.{StopsRun};
-ghost use Rattle.clsm_run.specs.Waiting.{AreMade, EndsSession};
+ghost use Rattle.clsm_run.specs.Run.{StopsRun, StopsWork};
+ghost use Rattle.clsm_run.specs.Waiting.{AreMade, EndsSession, IsEnded};
 
 use crate::auditing::audited;
 use crate::gathering::gather;
@@ -19,11 +19,11 @@ use clsm_session::{Ended, Job, Place, SessionCaller, SessionError, with_store};
 use clsm_store::Seat;
 use clsm_text::Failure;
 use std::alloc::{AllocError, Global};
-use std::io::Write;
+use std::io::{self, Write};
 use std::rt::Clock;
 use std::sync::Wait;
 use std::thread::{Threads, join};
-use std::time::Instant;
+use std::time::{Duration, Instant};
 
 /// The work of each caller of the session: that of a worker.
 #[derive(Drop)]
@@ -63,20 +63,39 @@ where
     ensures audited { IfOk result (λ ran. IsAuditedWhole asked.now.config ran.seats.items ran.records.items ran.verdict) }
     ensures stopped { IfErr result (StopsRun asked.now.config) }
 {
+    if let Err(error) = asked.config.check() {
+        return Err(Failure::Refused(error));
+    }
     let task = Task::new(asked.load, asked.shows);
-    let start = Instant::now(rt)?;
-    let ended = work_showing(rt, alloc, asked.config, &task, faults);
-    let time = start.elapsed(rt)?;
-    let Ended { seats, answers, .. } = match ended {
+    let (ended, time) = work_timed(rt, alloc, asked.config, &task, faults);
+    let ended = match ended {
         Ok(ended) => ended,
         Err(error) => return Err(failure_of(error)),
     };
     if task.board.is_starved() {
         return Err(Failure::Memory);
     }
+    audit_ended(rt, alloc, &asked.config, ended, time)
+}
+
+/// Audits what the callers of a session made in this time. Refused with `Memory`, and with `Device`
+/// where the clock fails.
+fn audit_ended<R: Clock>(
+    rt: &R,
+    alloc: Global,
+    config: &Config,
+    ended: Ended<Made>,
+    time: io::Result<Duration>,
+) -> Result<Ran, Failure>
+    requires { IsEnded config.now ended }
+    ensures audited { IfOk result (λ ran. IsAuditedWhole config.now ran.seats.items ran.records.items ran.verdict) }
+    ensures stopped { IfErr result StopsWork }
+{
+    let time = time?;
+    let Ended { seats, answers, .. } = ended;
     let gathered = gather(alloc, rejoin(alloc, seats, answers)?)?;
     let calling = Calling { time, merges: None };
-    audited(rt, alloc, &asked.config, gathered, calling)
+    audited(rt, alloc, config, gathered, calling)
 }
 
 /// Why the run stops where its session hands nothing back.
@@ -87,6 +106,28 @@ fn failure_of(error: SessionError) -> Failure
         SessionError::Open(error) => Failure::Refused(error),
         SessionError::NoThread | SessionError::Memory => Failure::Memory,
     }
+}
+
+/// Lets the callers work, and says how long that took, unless the clock fails.
+fn work_timed<R, E>(
+    rt: &R,
+    alloc: Global,
+    config: Config,
+    task: &Task,
+    faults: &mut E,
+) -> (Result<Ended<Made>, SessionError>, io::Result<Duration>)
+where
+    R: Threads + Sync + Clock + Wait,
+    E: Write + Send,
+    ensures { EndsSession config result.0 }
+{
+    let start = Instant::now(rt);
+    let ended = work_showing(rt, alloc, config, task, faults);
+    let time = match start {
+        Ok(start) => start.elapsed(rt),
+        Err(error) => Err(error),
+    };
+    (ended, time)
 }
 
 /// Lets the callers work while the line moves, if it is asked for.

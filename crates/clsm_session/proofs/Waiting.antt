@@ -1,5 +1,6 @@
 -- Writes that were refused because there was no room, and tried again.
-use Rattle.std.proofs.Common.{◌≤◌, ℕ, List, [], ◌∷◌, ◌++◌, length, Option, refl, ap, ◌∙◌, subst, arith, max}
+use Rattle.std.proofs.Common.{◌≡◌, ◌≤◌, ℕ, List, [], ◌∷◌, ◌++◌, length, Option, Result, Ok, Err, IfErr, refl, sym, ap, ◌∙◌, subst, arith, max}
+use Rattle.std.specs.Result.{IsErrAnd}
 use Rattle.std.proofs.Math.Nat.{le-max_left, le-max_right, max-le}
 use Rattle.clsm_model.specs.declared.record.CallRecord.{CallRecord}
 use Rattle.clsm_model.specs.declared.record.Deed.{Deed}
@@ -11,6 +12,9 @@ use Rattle.clsm_store_calls.specs.Seats.{Answers, GivesUpForWrites, IsFull, IsSa
 use Rattle.clsm_store_calls.specs.Tally.{CancelsNone, Tally}
 use Rattle.clsm_store_calls.proofs.Counting.{counts_both, counts_none, writes_apart}
 use Rattle.clsm_session.specs.Waiting.{IsFullAtLast, IsNoRoomAtLast}
+use Rattle.clsm_session.specs.declared.refusal.Refused.{Refused}
+use Rattle.clsm_session.specs.declared.refusal.BatchRefused.{BatchRefused}
+use Rattle.clsm_session.specs.declared.refusal.BatchRefused.TheVariants.{NoRoom}
 
 pub same_trans : (a b c : SeatState) → IsSameSeat a b → IsSameSeat b c → IsSameSeat a c
 same_trans a b c h k = record {
@@ -82,3 +86,9 @@ spared_trans a b c key h same g g' =
     counts_both (writes_from b.past key before) (writes_from c.past key between) (writes_from c.past key before) a.tally.gave_up b.tally.gave_up
     c.tally.gave_up
     (writes_apart b.past c.past key before between same.longer.slots later (le-max_right b.due (length b.past))) g g'
+
+-- a refusal that `?` made of one for which there was no room
+pub no_room_is : {A : Type 0} (r : Result A BatchRefused) (refused : Refused) (P : BatchRefused → Type 0) → IsErrAnd r (λ e. e ≡ NoRoom refused)
+    → P (NoRoom refused) → IfErr r P
+no_room_is (Ok _) refused P is h = absurd is
+no_room_is (Err e) refused P is h = subst P (sym is) h

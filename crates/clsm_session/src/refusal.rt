@@ -1,4 +1,6 @@
 //! Why a session, and why a call of it, is refused.
+ghost use Rattle.std.specs.Prelude.{◌≡◌};
+
 use clsm_model::OpenError;
 use thiserror::Error;
 
@@ -29,7 +31,17 @@ pub enum BatchRefused {
     Keep,
     /// As a write.
     #[error(transparent)]
-    NoRoom(#[from] Refused),
+    NoRoom(Refused),
+}
+
+impl From<Refused> for BatchRefused {
+    ghost use Rattle.clsm_session.specs.declared.refusal.BatchRefused.TheVariants.{NoRoom};
+
+    ghost from_gives = { λ refused refusal. refusal ≡ NoRoom refused };
+
+    fn from(refused: Refused) -> BatchRefused {
+        BatchRefused::NoRoom(refused)
+    }
 }
 
 /// Why a session hands nothing back.
