@@ -1,5 +1,5 @@
 //! What an actor does, and how it is answered.
-use super::drawn::Load;
+use super::drawn::Mix;
 use clsm_store::{BatchError, Time, TryPutError, Value};
 
 /// A call of the actor's seat, a command of the merger, or a turn at a gate. A value has one word,
@@ -39,8 +39,9 @@ pub(super) enum Act {
     SweepIfUsed(u64),
     /// How many timestamps the caller finds left in the epoch.
     Room,
-    /// Calls by chance.
-    Calls(&'static Load),
+    /// Calls by chance: of these kinds, at keys below this number and at one key of its own, until
+    /// so many are answered.
+    Calls(Mix, u64, usize),
     /// A get of each key of a scan, and a scan.
     ReadAll,
     /// So many sweeps, each behind a pause.

@@ -354,7 +354,14 @@ impl<'a> Actor<'a> {
                 Act::Count(lo) => self.count(rt, alloc, *lo),
                 Act::Pages(from, max) => self.read_pages(rt, alloc, *from, *max),
                 Act::Sweeps(sweeps) => self.sweep_on(rt, *sweeps),
-                Act::Calls(load) => self.call_on(rt, alloc, load),
+                Act::Calls(mix, keys, answers) => {
+                    let load = Load {
+                        mix: *mix,
+                        keys: *keys,
+                        answers: *answers,
+                    };
+                    self.call_on(rt, alloc, &load)
+                }
                 Act::PutInTurn(keys, first, end) => {
                     self.put_in_turn(rt, alloc, *keys, *first..*end)
                 }

@@ -15,6 +15,7 @@ pub(super) enum Mix {
 
 /// A worker's calls: of these kinds, at keys below this number and at one key of its own, until so
 /// many are answered.
+#[derive(Drop)]
 pub(super) struct Load {
     pub(super) mix: Mix,
     pub(super) keys: u64,

@@ -30,6 +30,22 @@ pub(super) const NOWHERE: Hold = Hold {
 /// A gate that lets so many steps pass only counts them.
 pub(super) const ALL: u64 = u64::MAX;
 
+/// Counts all steps of seat 0.
+pub(super) const ALL_STEPS: Hold = Hold {
+    seat: 0,
+    kind: None,
+    passed: ALL,
+    turn: NOBODY,
+};
+
+/// Seat 1 is held before its decide.
+pub(super) const AT_DECIDE: Hold = Hold {
+    seat: 1,
+    kind: Some(Kind::Decide),
+    passed: 0,
+    turn: NOBODY,
+};
+
 #[derive(Drop)]
 pub(super) struct Gate {
     seat: u64,

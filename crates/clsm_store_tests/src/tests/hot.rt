@@ -1,10 +1,9 @@
 //! Few keys that are written often: each has many versions in one epoch.
 use super::act::{Act, Answer, Step, Turn, WAIT};
 use super::case::{Case, NONE, PLAIN};
-use super::drawn::{Load, Mix};
-use super::gate::{ALL, Hold, NOBODY, NOWHERE};
+use super::drawn::Mix;
+use super::gate::{ALL, ALL_STEPS, AT_DECIDE, NOWHERE};
 use clsm_store::{Config, TryPutError};
-use clsm_words::Kind;
 
 const CONFIG: Config = Config {
     cells: 64,
@@ -81,33 +80,10 @@ const COUNTED: &[Step] = &[
     (Act::First(Turn::Steps), Answer::Fewer(200)),
 ];
 
-/// Seat 1 is held before each of its decides.
-const DECIDES: Hold = Hold {
-    seat: 1,
-    kind: Some(Kind::Decide),
-    passed: 0,
-    turn: NOBODY,
-};
-
 const OVERTAKEN: Answer = Answer::Refused(TryPutError::Overtaken);
 
 /// One put at a key of eight.
-const ONE: Step = (
-    Act::Calls(&Load {
-        mix: Mix::Puts,
-        keys: 8,
-        answers: 1,
-    }),
-    Answer::Done,
-);
-
-/// Counts all steps of seat 0.
-const STEPS: Hold = Hold {
-    seat: 0,
-    kind: None,
-    passed: ALL,
-    turn: NOBODY,
-};
+const ONE: Step = (Act::Calls(Mix::Puts, 8, 1), Answer::Done);
 
 pub(super) const CASES: &[Case] = &[
     Case {
@@ -128,7 +104,7 @@ pub(super) const CASES: &[Case] = &[
     Case {
         name: "many versions of a key have cancelled times",
         config: CONFIG,
-        gates: [DECIDES, NOWHERE],
+        gates: [AT_DECIDE, NOWHERE],
         phases: &[&[&[(Act::Put(5, 50), Answer::At(0))]]],
         rounds: 30,
         round: &[
@@ -150,7 +126,7 @@ pub(super) const CASES: &[Case] = &[
             cells: 4_096,
             ..CONFIG
         },
-        gates: [STEPS, NOWHERE],
+        gates: [ALL_STEPS, NOWHERE],
         phases: &[&[COUNTED]],
         ..PLAIN
     },

@@ -1,21 +1,13 @@
 //! Tables of cases, one for each thing that is looked at.
 use super::act::{Act, Answer, LET_GO, Step, Turn, WAIT};
 use super::case::{Case, FOUR_CELLS, NONE, PLAIN, Phase, check};
-use super::drawn::{Load, Mix};
-use super::gate::{ALL, Hold, NOBODY, NOWHERE, OPEN};
+use super::drawn::Mix;
+use super::gate::{ALL, ALL_STEPS, AT_DECIDE, Hold, NOBODY, NOWHERE, OPEN};
 use super::{batches, held, hot};
 use clsm_law::Word;
 use clsm_store::Config;
 use clsm_words::Kind;
 use std::test::*;
-
-/// Counts all steps of seat 0.
-const ALL_STEPS: Hold = Hold {
-    seat: 0,
-    kind: None,
-    passed: ALL,
-    turn: NOBODY,
-};
 
 /// A write of one word makes 13 steps without its search, one of eight words 20, and a removal 12.
 /// Before its first fill each looks at its chain's head, its own state and the two hints that say
@@ -179,14 +171,6 @@ const ALONE: &[Case] = &[
     },
 ];
 
-/// Seat 1 is held before its decide.
-const UNDECIDED: Hold = Hold {
-    seat: 1,
-    kind: Some(Kind::Decide),
-    passed: 0,
-    turn: NOBODY,
-};
-
 /// The looks of seat 2 at the state of the first time are counted.
 const LOOKED_AT: Hold = Hold {
     seat: 2,
@@ -197,6 +181,10 @@ const LOOKED_AT: Hold = Hold {
 
 const OVERTAKEN: &[Step] = &[(Act::Put(7, 70), Answer::At(1))];
 
+const FINDS_NONE: Step = (Act::Get(8), Answer::None(1));
+
+const LOOKS_NO_MORE: Step = (Act::Second(Turn::Steps), Answer::Count(0));
+
 /// A reader looks once at an undecided time, and as often again as its patience says. Then it
 /// cancels the time, and looks at it no more.
 const LOOKS: &[Case] = &[
@@ -206,16 +194,16 @@ const LOOKS: &[Case] = &[
             patience: 0,
             ..FOUR_CELLS
         },
-        gates: [UNDECIDED, LOOKED_AT],
+        gates: [AT_DECIDE, LOOKED_AT],
         phases: &[&[
             NONE,
             OVERTAKEN,
             &[
                 WAIT,
-                (Act::Get(8), Answer::None(1)),
+                FINDS_NONE,
                 (Act::Second(Turn::Steps), Answer::Count(1)),
-                (Act::Get(8), Answer::None(1)),
-                (Act::Second(Turn::Steps), Answer::Count(0)),
+                FINDS_NONE,
+                LOOKS_NO_MORE,
                 LET_GO,
             ],
         ]],
@@ -223,16 +211,16 @@ const LOOKS: &[Case] = &[
     },
     Case {
         name: "a reader with a patience of eight looks nine times",
-        gates: [UNDECIDED, LOOKED_AT],
+        gates: [AT_DECIDE, LOOKED_AT],
         phases: &[&[
             NONE,
             OVERTAKEN,
             &[
                 WAIT,
-                (Act::Get(8), Answer::None(1)),
+                FINDS_NONE,
                 (Act::Second(Turn::Steps), Answer::Count(9)),
-                (Act::Get(8), Answer::None(1)),
-                (Act::Second(Turn::Steps), Answer::Count(0)),
+                FINDS_NONE,
+                LOOKS_NO_MORE,
                 LET_GO,
             ],
         ]],
@@ -244,16 +232,16 @@ const LOOKS: &[Case] = &[
             patience: 64,
             ..FOUR_CELLS
         },
-        gates: [UNDECIDED, LOOKED_AT],
+        gates: [AT_DECIDE, LOOKED_AT],
         phases: &[&[
             NONE,
             OVERTAKEN,
             &[
                 WAIT,
-                (Act::Get(8), Answer::None(1)),
+                FINDS_NONE,
                 (Act::Second(Turn::Steps), Answer::Count(65)),
-                (Act::Get(8), Answer::None(1)),
-                (Act::Second(Turn::Steps), Answer::Count(0)),
+                FINDS_NONE,
+                LOOKS_NO_MORE,
                 LET_GO,
             ],
         ]],
@@ -285,23 +273,9 @@ const GREAT: Config = Config {
     patience: 64,
 };
 
-const UNCHANGING: Step = (
-    Act::Calls(&Load {
-        mix: Mix::Unchanging,
-        keys: 8,
-        answers: 1_000,
-    }),
-    Answer::Done,
-);
+const UNCHANGING: Step = (Act::Calls(Mix::Unchanging, 8, 1_000), Answer::Done);
 
-const CHANGING: Step = (
-    Act::Calls(&Load {
-        mix: Mix::Changing,
-        keys: 8,
-        answers: 1_000,
-    }),
-    Answer::Done,
-);
+const CHANGING: Step = (Act::Calls(Mix::Changing, 8, 1_000), Answer::Done);
 
 const READS: &[Step] = &[(Act::ReadAll, Answer::Done)];
 
@@ -355,29 +329,13 @@ const THREADS: &[Case] = &[
 
 const LARGE: Config = Config {
     cells: 2_048,
-    seats: 4,
-    shards: 4,
     run: 8_192,
-    patience: 64,
+    ..GREAT
 };
 
-const AT_FEW_KEYS: Step = (
-    Act::Calls(&Load {
-        mix: Mix::Puts,
-        keys: 64,
-        answers: 500,
-    }),
-    Answer::Done,
-);
+const AT_FEW_KEYS: Step = (Act::Calls(Mix::Puts, 64, 500), Answer::Done);
 
-const AT_MANY_KEYS: Step = (
-    Act::Calls(&Load {
-        mix: Mix::Puts,
-        keys: 1_000_000,
-        answers: 500,
-    }),
-    Answer::Done,
-);
+const AT_MANY_KEYS: Step = (Act::Calls(Mix::Puts, 1_000_000, 500), Answer::Done);
 
 const SWEPT: &[Step] = &[(Act::ReadAll, Answer::Done), (Act::Sweep, Answer::Clean)];
 
@@ -466,7 +424,7 @@ const SNAPSHOT_PHASES: &[Phase] = &[
 const SNAPSHOT_ROUND: &[Phase] = &[
     &[&[
         (Act::Sweep, Answer::Clean),
-        (Act::Calls(&ONE_PUT), Answer::Done),
+        (Act::Calls(Mix::Puts, 4, 1), Answer::Done),
     ]],
     &[
         &[],
@@ -478,12 +436,6 @@ const SNAPSHOT_ROUND: &[Phase] = &[
         ],
     ],
 ];
-
-const ONE_PUT: Load = Load {
-    mix: Mix::Puts,
-    keys: 4,
-    answers: 1,
-};
 
 /// A snapshot that is opened before each step of a running merge reads the same through 20 later
 /// ones; five of them are into level 1.

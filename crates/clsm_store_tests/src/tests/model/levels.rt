@@ -73,17 +73,27 @@ struct Merge {
     kept: &'static [Line],
 }
 
+/// The writes of the first epoch.
+const FIRST_EPOCH: &[Line] = &[
+    (1, 3, Some(30)),
+    (2, 2, None),
+    (2, 1, Some(20)),
+    (1, 0, Some(10)),
+];
+
+/// Those of the fourth, and the runs that its merge reads.
+const FOURTH_EPOCH: &[Line] = &[(2, 7, None), (4, 6, Some(46))];
+
+const LEVEL_ZERO: &[Line] = &[(1, 5, Some(15)), (3, 4, None)];
+
+const LEVEL_ONE: &[Line] = &[(1, 0, Some(10)), (2, 1, Some(21)), (3, 2, Some(32))];
+
 const MERGES: &[Merge] = &[
     // into level 0, all above the floor
     Merge {
         merges: 0,
         floor: 0,
-        epoch: &[
-            (1, 3, Some(30)),
-            (2, 2, None),
-            (2, 1, Some(20)),
-            (1, 0, Some(10)),
-        ],
+        epoch: FIRST_EPOCH,
         level_zero: &[],
         level_one: &[],
         kept: &[
@@ -97,12 +107,7 @@ const MERGES: &[Merge] = &[
     Merge {
         merges: 0,
         floor: 4,
-        epoch: &[
-            (1, 3, Some(30)),
-            (2, 2, None),
-            (2, 1, Some(20)),
-            (1, 0, Some(10)),
-        ],
+        epoch: FIRST_EPOCH,
         level_zero: &[],
         level_one: &[],
         kept: &[(1, 3, Some(30)), (2, 2, None)],
@@ -125,18 +130,18 @@ const MERGES: &[Merge] = &[
     Merge {
         merges: 3,
         floor: 8,
-        epoch: &[(2, 7, None), (4, 6, Some(46))],
-        level_zero: &[(1, 5, Some(15)), (3, 4, None)],
-        level_one: &[(1, 0, Some(10)), (2, 1, Some(21)), (3, 2, Some(32))],
+        epoch: FOURTH_EPOCH,
+        level_zero: LEVEL_ZERO,
+        level_one: LEVEL_ONE,
         kept: &[(1, 5, Some(15)), (4, 6, Some(46))],
     },
     // the same, with the floor between the times
     Merge {
         merges: 3,
         floor: 5,
-        epoch: &[(2, 7, None), (4, 6, Some(46))],
-        level_zero: &[(1, 5, Some(15)), (3, 4, None)],
-        level_one: &[(1, 0, Some(10)), (2, 1, Some(21)), (3, 2, Some(32))],
+        epoch: FOURTH_EPOCH,
+        level_zero: LEVEL_ZERO,
+        level_one: LEVEL_ONE,
         kept: &[
             (1, 5, Some(15)),
             (1, 0, Some(10)),
