@@ -19,9 +19,10 @@ are_made : (seats : List SeatState) (made : List Made) → length made ≡ lengt
     ((i : ℕ) (s : SeatState) (m : Made) → IsAt seats i s → i < length made → get_or made i m ≡ m → s.calls ≡ m.records.items) → AreMade seats made
 are_made [] made count told = tt
 are_made (s ∷ ss) [] count told = absurd (omega (arith, count))
-are_made (s ∷ ss) (m ∷ ms) count told =
-    (told 0 s m (omega arith, refl) (omega arith) refl,
-    are_made ss ms (omega (arith, count)) (λ i s' m' at lt e. told (suc i) s' m' (let a = at.0 in omega (arith, a), at.1) (omega (arith, lt)) e))
+are_made (s ∷ ss) (m ∷ ms) count told = (
+  told 0 s m (omega arith, refl) (omega arith) refl,
+  are_made ss ms (omega (arith, count)) (λ i s' m' at lt e. told (suc i) s' m' (let a = at.0 in omega (arith, a), at.1) (omega (arith, lt)) e),
+)
 
 -- a session ends so, by its contract
 pub ends : (config : Config) (ended : Result (Ended Made) SessionError) → IfOk ended (λ e. AreAllSeats e.store config.seats e.seats.items) →
@@ -48,9 +49,9 @@ pub one_seat_more : (worked worked' : List Worked) (w : Worked) (rest rest' seat
 one_seat_more worked worked' w rest rest' seats more is e =
     ap (λ (l : List Worked). seats_of l ++ rest') more ∙ (moved worked w rest' ∙ (ap (λ (l : List SeatState). seats_of worked ++ l) (sym is) ∙ e))
   where
-  moved : (ws : List Worked) (v : Worked) (ss : List SeatState) → seats_of (ws ++ v ∷ []) ++ ss ≡ seats_of ws ++ v.seat ∷ ss
-  moved [] v ss = refl
-  moved (u ∷ us) v ss = ap (λ (l : List SeatState). u.seat ∷ l) (moved us v ss)
+    moved : (ws : List Worked) (v : Worked) (ss : List SeatState) → seats_of (ws ++ v ∷ []) ++ ss ≡ seats_of ws ++ v.seat ∷ ss
+    moved [] v ss = refl
+    moved (u ∷ us) v ss = ap (λ (l : List SeatState). u.seat ∷ l) (moved us v ss)
 
 -- what holds of one holds of a list of it alone
 pub all_one : (P : Worked → Type 0) (w : Worked) → P w → All P (w ∷ [])

@@ -15,8 +15,8 @@ loop-seat-preserved c =
     let inv = c.loop-seat.invariant in
     let seats = c.in-Some.ensures.steps.0 in
     let rest =
-        subst (λ (ms : List Made). AreMade (c.in-Some.seat ∷ c.next.new.self.rest.items) ms) c.in-Some-next.ensures.items
-        (subst (λ (ss : List SeatState). AreMade ss c.loop-seat.made.rest.items) seats inv.rest) in
+    subst (λ (ms : List Made). AreMade (c.in-Some.seat ∷ c.next.new.self.rest.items) ms) c.in-Some-next.ensures.items
+    (subst (λ (ss : List SeatState). AreMade ss c.loop-seat.made.rest.items) seats inv.rest) in
     record {
       seats = one_seat_more c.loop-seat.worked.items c.push.new.self.items w c.loop-seat.seat-iterator.rest.items c.next.new.self.rest.items
           c.args.seats.items c.in_ok-push.ensures.items seats inv.seats;
