@@ -1,9 +1,10 @@
 -- A count of rows, one after another.
-use Rattle.std.proofs.Common.{◌≡◌, ◌∙◌, ℕ, ◌+◌, ◌<◌, ◌≤◌, min, List, [], ◌∷◌, ◌++◌, length, ap, refl, sym, arith, Option, Some, None, unwrap_or}
+use Rattle.std.proofs.Common.{◌≡◌, ◌∙◌, ℕ, ◌+◌, ◌<◌, ◌≤◌, min, List, [], ◌∷◌, ◌++◌, length, ap, refl, subst, sym, arith, Option, Some, None, unwrap_or}
 use Rattle.std.proofs.lemmas.List.{length_push}
+use Rattle.std.specs.List.{FoldsTo}
 use Rattle.clsm_model.specs.Map.{Pair, value_at}
 use Rattle.clsm_model.specs.Right.{first_key}
-use Rattle.clsm_scan.specs.Collected.{AreRowsTo, IsCount, IsNextRow}
+use Rattle.clsm_scan.specs.Collected.{AreRowsTo, IsCount, IsNextRow, IsVisit}
 use Rattle.clsm_scan.proofs.ComponentCursors.{collected_same}
 use Rattle.clsm_scan.proofs.Rows.{all_rows, beyond_pushed, rows_none, rows_taken}
 
@@ -22,11 +23,11 @@ pub record IsCountTo (value : ℕ → Option (List ℕ)) (lo end hi n : ℕ) (fi
   pub begins : first ≡ first_key rows
 
 module _ (value : ℕ → Option (List ℕ)) (lo hi : ℕ) where
-  pub count_none : IsCountTo value lo lo hi 0 None
+  abbrev count_none : IsCountTo value lo lo hi 0 None
   count_none = record { rows = []; are = rows_none value lo; beyond = λ k lt. refl; counted = omega arith; begins = refl }
 
   -- one row more
-  pub count_next : (from n n' : ℕ) (row : Pair) (first : Option ℕ) → IsCountTo value lo from hi n first → lo ≤ from
+  abbrev count_next : (from n n' : ℕ) (row : Pair) (first : Option ℕ) → IsCountTo value lo from hi n first → lo ≤ from
       → IsNextRow value from hi (Some row) → n' ≡ min (n + 1) 18446744073709551615
       → IsCountTo value lo (row.0 + 1) hi n' (Some (unwrap_or first row.0))
   count_next from n n' row first is le next more = record {
@@ -38,7 +39,7 @@ module _ (value : ℕ → Option (List ℕ)) (lo hi : ℕ) where
   }
 
   -- no row is left
-  pub count_all : (from n : ℕ) (first : Option ℕ) → IsCountTo value lo from hi n first → IsNextRow value from hi None → IsCount value lo hi n first
+  abbrev count_all : (from n : ℕ) (first : Option ℕ) → IsCountTo value lo from hi n first → IsNextRow value from hi None → IsCount value lo hi n first
   count_all from n first is next = record {
     rows = is.rows;
     all = (all_rows value lo from hi is.rows is.are next is.beyond, tt);
@@ -46,12 +47,8 @@ module _ (value : ℕ → Option (List ℕ)) (lo hi : ℕ) where
     begins = is.begins;
   }
 
-  -- and none can be behind the last key
-  pub count_ended : (key n : ℕ) (first : Option ℕ) → IsCountTo value lo (key + 1) hi n first → hi ≤ key → IsCount value lo hi n first
-  count_ended key n first is last = count_all (key + 1) n first is (λ k above below. absurd (omega arith))
-
 -- what is found between the bounds decides the count
-pub count_same : (value value' : ℕ → Option (List ℕ)) (lo hi n : ℕ) (first : Option ℕ) → ((k : ℕ) → lo ≤ k → k ≤ hi → value' k ≡ value k)
+abbrev count_same : (value value' : ℕ → Option (List ℕ)) (lo hi n : ℕ) (first : Option ℕ) → ((k : ℕ) → lo ≤ k → k ≤ hi → value' k ≡ value k)
     → IsCount value lo hi n first → IsCount value' lo hi n first
 count_same value value' lo hi n first same is = record {
   rows = is.rows;
@@ -59,3 +56,42 @@ count_same value value' lo hi n first same is = record {
   counted = is.counted;
   begins = is.begins;
 }
+
+-- ---- visits
+
+-- one step more
+folds_push : {V A : Type 0} (Takes : V → A → V → Type 0) (before : V) (xs : List A) (now after : V) (x : A) → FoldsTo Takes before xs now → Takes now x after
+    → FoldsTo Takes before (xs ++ x ∷ []) after
+folds_push Takes before [] now after x same step = (after, subst (λ v. Takes v x after) (sym same) step, refl)
+folds_push Takes before (y ∷ ys) now after x folds step = (folds.0, folds.1, folds_push Takes folds.0 ys now after x folds.2 step)
+
+-- the visitor took the rows of so many keys from `lo` on and below `end`
+pub record IsVisitTo {V : Type 0} (Takes : V → Pair → V → Type 0) (value : ℕ → Option (List ℕ)) (lo end hi n : ℕ) (first : Option ℕ)
+    (before after : V) : Type 0 where
+  pub count : IsCountTo value lo end hi n first
+  pub taken : FoldsTo Takes before count.rows after
+
+module _ {V : Type 0} (Takes : V → Pair → V → Type 0) (value : ℕ → Option (List ℕ)) (lo hi : ℕ) where
+  pub visit_none : (before : V) → IsVisitTo Takes value lo lo hi 0 None before before
+  visit_none before = record { count = count_none value lo hi; taken = refl }
+
+  pub visit_next : (from n n' : ℕ) (row : Pair) (first : Option ℕ) (before now after : V) → IsVisitTo Takes value lo from hi n first before now → lo ≤ from
+      → IsNextRow value from hi (Some row) → n' ≡ min (n + 1) 18446744073709551615 → Takes now row after
+      → IsVisitTo Takes value lo (row.0 + 1) hi n' (Some (unwrap_or first row.0)) before after
+  visit_next from n n' row first before now after is le next more takes = record {
+    count = count_next value lo hi from n n' row first is.count le next more;
+    taken = folds_push Takes before is.count.rows now after row is.taken takes;
+  }
+
+  pub visit_all : (from n : ℕ) (first : Option ℕ) (before after : V) → IsVisitTo Takes value lo from hi n first before after → IsNextRow value from hi None
+      → IsVisit Takes value lo hi n first before after
+  visit_all from n first before after is next = record { count = count_all value lo hi from n first is.count next; taken = is.taken }
+
+  pub visit_ended : (key n : ℕ) (first : Option ℕ) (before after : V) → IsVisitTo Takes value lo (key + 1) hi n first before after → hi ≤ key
+      → IsVisit Takes value lo hi n first before after
+  visit_ended key n first before after is last = visit_all (key + 1) n first before after is (λ k above below. absurd (omega arith))
+
+-- what is found between the bounds decides what is visited
+pub visit_same : {V : Type 0} (Takes : V → Pair → V → Type 0) (value value' : ℕ → Option (List ℕ)) (lo hi n : ℕ) (first : Option ℕ) (before after : V)
+    → ((k : ℕ) → lo ≤ k → k ≤ hi → value' k ≡ value k) → IsVisit Takes value lo hi n first before after → IsVisit Takes value' lo hi n first before after
+visit_same Takes value value' lo hi n first before after same is = record { count = count_same value value' lo hi n first same is.count; taken = is.taken }

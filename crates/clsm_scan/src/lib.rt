@@ -3,7 +3,6 @@
 
 mod ahead;
 mod collecting;
-mod counting;
 mod cursor;
 mod epoch_cursor;
 mod merged;
@@ -11,15 +10,16 @@ mod optional;
 mod run_cursor;
 mod scanning;
 mod source;
+mod visiting;
 mod walk;
 
 pub use ahead::{Ahead, Head};
 pub use collecting::{Collected, KeyRange, collect};
-pub use counting::{KeyCount, count_keys};
 pub use cursor::Cursor;
 pub use epoch_cursor::EpochCursor;
 pub use merged::Merged;
 pub use run_cursor::RunCursor;
-pub use scanning::{ReadPoint, count, scan};
+pub use scanning::{ReadPoint, scan, visit};
 pub use source::Source;
+pub use visiting::{Bounds, Calling, KeyCount, Passing, Visitor, visit_keys};
 pub use walk::Walk;

@@ -6,7 +6,7 @@ ghost use Rattle.clsm_scan.specs.MergedLaws.{first_same, lead_same};
 
 use crate::cursor::Cursor;
 use crate::source::Source;
-use clsm_model::{Memory, Value};
+use clsm_model::Value;
 use clsm_words::{Pace, RawSeat, Words};
 
 /// Two cursors as one, whose writes of a key are those of the newer cursor, if it has any.
@@ -67,16 +67,11 @@ impl<A: Source, B: Source> Source for Merged<A, B> {
     }
 
     #[inline(always)]
-    fn push<P: Pace>(
-        &self,
-        words: &Words<P>,
-        seat: &mut RawSeat,
-        rows: &mut Vec<(u64, Value)>,
-    ) -> Result<(), Memory> {
+    fn value<P: Pace>(&self, words: &Words<P>, seat: &mut RawSeat) -> Value {
         if self.older_leads {
-            self.older.push(words, seat, rows)
+            self.older.value(words, seat)
         } else {
-            self.newer.push(words, seat, rows)
+            self.newer.value(words, seat)
         }
     }
 

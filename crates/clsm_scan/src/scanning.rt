@@ -1,18 +1,18 @@
 //! The rows of a range of keys in a held component.
-ghost use Rattle.std.specs.Prelude.{◌≡◌, ◌+◌, ◌*◌, ◌≤◌, ◌<◌, ◌%◌, ℕ, IfOk, Some, length};
+ghost use Rattle.std.specs.Prelude.{◌≡◌, ◌<◌, ℕ, IfOk, Some};
 ghost use Rattle.clsm_words.specs.declared.known.Known.{Known};
 ghost use Rattle.clsm_words.specs.Keeping.{LooksAside};
 ghost use Rattle.clsm_words.specs.Plays.{IsSeatOf};
-ghost use Rattle.clsm_scan.specs.Collected.{IsCollected, IsCount, left_at};
+ghost use Rattle.clsm_scan.specs.Collected.{IsCollected, IsVisit, left_at};
 ghost use Rattle.clsm_scan.specs.Sources.{MayScan, epoch_cursor, found_in_component, level_zero_cursor};
 
 use crate::ahead::Ahead;
 use crate::collecting::{Collected, KeyRange, collect};
-use crate::counting::{KeyCount, count_keys};
 use crate::epoch_cursor::EpochCursor;
 use crate::merged::Merged;
 use crate::run_cursor::RunCursor;
 use crate::source::Source;
+use crate::visiting::{Bounds, KeyCount, Visitor, visit_keys};
 use clsm_law::level_one_place;
 use clsm_levels::level_zero_runs;
 use clsm_memtable::Epoch;
@@ -120,9 +120,7 @@ pub fn scan<P: Pace>(
     range: KeyRange,
 ) -> Result<Collected, Memory>
     requires of { IsSeatOf words.now seat.old }
-    requires held { seat.old.knows.view.held ≡ Some point.component }
-    requires within { point.until ≤ (point.component + 2) * seat.old.knows.layout.cells }
-    requires settled { point.until ≤ length seat.old.knows.past }
+    requires may { MayScan seat.old.knows point.component point.until }
     ensures of { IsSeatOf words.now seat.new }
     ensures looks { LooksAside seat.old.knows seat.new.knows }
     ensures rows { IfOk result (λ all. IsCollected (left_at (found_in_component seat.old.knows point.component point.until))
@@ -132,24 +130,25 @@ pub fn scan<P: Pace>(
     collect(words, seat, alloc, &mut cursor, range)
 }
 
-/// How many keys from `lo` to `hi` have a value at the point, or 2^64 - 1 if all 2^64 have one, and
-/// the first of them. It goes along the ordered lists of the epochs and the runs as a scan, but
-/// reads no value and takes no memory. It never waits.
-pub fn count<P: Pace>(
+/// Has the visitor take the rows of all keys within the bounds at the point, by rising key. It
+/// answers how many there are, or 2^64 - 1 if all 2^64 keys have a value, and the first of them. It
+/// goes along the ordered lists of the epochs and the runs as a scan, and takes no memory. It never
+/// waits.
+pub fn visit<P: Pace, V: Visitor>(
     words: &Words<P>,
     seat: &mut RawSeat,
     point: ReadPoint,
-    lo: u64,
-    hi: u64,
+    bounds: Bounds,
+    visitor: &mut V,
 ) -> KeyCount
     requires of { IsSeatOf words.now seat.old }
-    requires held { seat.old.knows.view.held ≡ Some point.component }
-    requires within { point.until ≤ (point.component + 2) * seat.old.knows.layout.cells }
-    requires settled { point.until ≤ length seat.old.knows.past }
+    requires may { MayScan seat.old.knows point.component point.until }
+    requires ready { V.is_ready visitor.old }
     ensures of { IsSeatOf words.now seat.new }
     ensures looks { LooksAside seat.old.knows seat.new.knows }
-    ensures count { IsCount (left_at (found_in_component seat.old.knows point.component point.until)) lo hi result.keys result.first }
+    ensures visits { IsVisit V.takes (left_at (found_in_component seat.old.knows point.component point.until))
+        bounds.lo bounds.hi result.keys result.first visitor.old visitor.new }
 {
-    let mut cursor = cursor_from(words, seat, point, lo);
-    count_keys(words, seat, &mut cursor, lo, hi)
+    let mut cursor = cursor_from(words, seat, point, bounds.lo);
+    visit_keys(words, seat, &mut cursor, bounds, visitor)
 }

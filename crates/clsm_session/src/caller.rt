@@ -6,7 +6,7 @@ ghost use Rattle.clsm_model.specs.Seats.{FitsDeed};
 ghost use Rattle.clsm_store.specs.Changes.{added, put_if_absent};
 ghost use Rattle.clsm_store.specs.Play.{PlaysCall, WantsMemory};
 ghost use Rattle.clsm_store.specs.Paging.{ReadsNext};
-ghost use Rattle.clsm_store_calls.specs.Scanning.{CountsKeys};
+ghost use Rattle.clsm_store_calls.specs.Scanning.{CountsKeys, ScansNow, VisitsKeys};
 ghost use Rattle.clsm_store_calls.specs.Seats.{Answers, GivesUpForWrites, IsSameSeat, Refuses};
 ghost use Rattle.clsm_store_calls.specs.Tally.{CancelsNone, TakesNoLock};
 ghost use Rattle.clsm_session.specs.Places.{HasPlace};
@@ -226,6 +226,25 @@ impl<'a, R: Wait, P: Place> SessionCaller<'a, R, P> {
         ensures lock { TakesNoLock self.old.tally self.new.tally }
     {
         self.caller.count(self.alloc, lo, hi)
+    }
+
+    /// As `Store::visit`.
+    pub fn visit<F: FnMut(u64, Value)>(&mut self, lo: u64, hi: u64, call: F) -> Counted
+        requires { F.IsAlwaysCallable call }
+        ensures visits { VisitsKeys (λ before row after. F.step before row.0 row.1 tt after)
+            self.old self.new result.time lo hi result.keys result.first call }
+        ensures lock { TakesNoLock self.old.tally self.new.tally }
+    {
+        self.caller.visit(self.alloc, lo, hi, call)
+    }
+
+    /// As `Store::scan_now`.
+    pub fn scan_now(&mut self, lo: u64, hi: u64) -> Result<Scan, Memory>
+        ensures scans { IfOk result (λ scan. ScansNow self.old self.new scan.time lo hi scan.rows) }
+        ensures lock { TakesNoLock self.old.tally self.new.tally }
+        ensures refused { IfErr result (λ refusal. Refuses self.old self.new) }
+    {
+        self.caller.scan_now(self.alloc, lo, hi)
     }
 
     /// The time of its open snapshot, if one is open.

@@ -4,3 +4,4 @@ mod SeatPlaces
 mod Chained
 mod Joint
 mod SweepParts
+mod Visits

@@ -6,7 +6,7 @@ ghost use Rattle.clsm_model.specs.Seats.{FitsDeed};
 ghost use Rattle.clsm_law.specs.Relation.{call_of};
 ghost use Rattle.clsm_store_calls.specs.Batching.{CountsBatch, IsRefusedBatch};
 ghost use Rattle.clsm_store_calls.specs.Looking.{FindsRoom};
-ghost use Rattle.clsm_store_calls.specs.Scanning.{CountsKeys};
+ghost use Rattle.clsm_store_calls.specs.Scanning.{CountsKeys, ScansNow, VisitsKeys};
 ghost use Rattle.clsm_store_calls.specs.Seats.{Answers, GivesUpForWrites, IsFull, Refuses};
 ghost use Rattle.clsm_store_calls.specs.Tally.{CancelsNone, CountsTry, TakesLockOnce, TakesNoLock};
 ghost use Rattle.clsm_store_calls.specs.Trying.{RefusesTry};
@@ -152,6 +152,31 @@ impl<'a, P: Pace> Caller<'a, P> {
         ensures lock { TakesNoLock self.old.seat.tally self.new.seat.tally }
     {
         self.store.count(alloc, &mut self.seat, lo, hi)
+    }
+
+    /// As `Store::visit`.
+    pub fn visit<F: FnMut(u64, Value)>(
+        &mut self,
+        alloc: Global,
+        lo: u64,
+        hi: u64,
+        call: F,
+    ) -> Counted
+        requires { F.IsAlwaysCallable call }
+        ensures visits { VisitsKeys (λ before row after. F.step before row.0 row.1 tt after)
+            self.old.seat self.new.seat result.time lo hi result.keys result.first call }
+        ensures lock { TakesNoLock self.old.seat.tally self.new.seat.tally }
+    {
+        self.store.visit(alloc, &mut self.seat, lo, hi, call)
+    }
+
+    /// As `Store::scan_now`.
+    pub fn scan_now(&mut self, alloc: Global, lo: u64, hi: u64) -> Result<Scan, Memory>
+        ensures scans { IfOk result (λ scan. ScansNow self.old.seat self.new.seat scan.time lo hi scan.rows) }
+        ensures lock { TakesNoLock self.old.seat.tally self.new.seat.tally }
+        ensures refused { IfErr result (λ refusal. Refuses self.old.seat self.new.seat) }
+    {
+        self.store.scan_now(alloc, &mut self.seat, lo, hi)
     }
 
     /// As `Store::room`.

@@ -1,15 +1,17 @@
 //! The calls that read many keys at one time.
 ghost use Rattle.std.specs.Prelude.{◌≡◌, IfErr, IfOk};
 ghost use Rattle.clsm_model.specs.declared.record.Deed.TheVariants.{Page as PageOf, Scan as ScanOf};
-ghost use Rattle.clsm_store_calls.specs.Scanning.{CountsKeys, IsAnswerTo};
-ghost use Rattle.clsm_store_calls.specs.Seats.{Answers, Refuses};
+ghost use Rattle.clsm_store_calls.specs.Scanning.{CountsKeys, IsAnswerTo, IsKeyVisit, ScansNow, VisitsKeys};
+ghost use Rattle.clsm_store_calls.specs.Seats.{Answers, Refuses, known_by};
 ghost use Rattle.clsm_store_calls.specs.Tally.{TakesNoLock};
 
 use crate::seat::Seat;
 use crate::store::Store;
-use clsm_model::{Deed, Memory, Time};
+use clsm_model::{Deed, Memory, Time, Value};
+use clsm_scan::{Bounds, Calling, Passing, Visitor};
 use clsm_store_calls::{
-    Asked, Bounds, Counted, OpenSnapshot, Page, Scan, count_at, count_under, scan_at, scan_under,
+    Asked, Counted, OpenSnapshot, Page, Scan, Visit, scan_at, scan_now, scan_under, visit_at,
+    visit_under,
 };
 use clsm_words::Pace;
 use std::alloc::Global;
@@ -84,6 +86,45 @@ impl<P: Pace> Store<P> {
         }
     }
 
+    /// All pairs with `lo <= key <= hi` by rising key, as one read at a time of its own, also while
+    /// the seat has an open snapshot: of the present, then, and not of the snapshot. It is recorded
+    /// as a `get` of `lo`, as the record of a scan under a snapshot is of the snapshot's time. It
+    /// takes no lock, never waits and is refused as `scan`.
+    pub fn scan_now(&self, alloc: Global, seat: &mut Seat, lo: u64, hi: u64) -> Result<Scan, Memory>
+        requires { seat.old.store ≡ self.now }
+        ensures scans { IfOk result (λ scan. ScansNow seat.old seat.new scan.time lo hi scan.rows) }
+        ensures lock { TakesNoLock seat.old.tally seat.new.tally }
+        ensures refused { IfErr result (λ refusal. Refuses seat.old seat.new) }
+    {
+        let bounds = Bounds { lo, hi };
+        let scan = scan_now(&self.words, &mut seat.raw, alloc, seat.pin, bounds);
+        seat.pin = seat.pin.wrapping_add(2);
+        scan
+    }
+
+    /// The visit at the time of the seat's open snapshot, or else at one of its own.
+    fn visit_with<V: Visitor>(&self, seat: &mut Seat, visit: &mut Visit<V>) -> Counted
+        requires of { seat.old.store ≡ self.now }
+        requires ready { V.is_ready visit.old.visitor }
+        ensures counts { CountsKeys seat.old seat.new result.time visit.old.bounds.lo visit.old.bounds.hi result.keys result.first }
+        ensures visits { IsKeyVisit V.takes (known_by seat.new) result.time visit.old.bounds.lo visit.old.bounds.hi result.keys
+            visit.old.visitor visit.new.visitor }
+        ensures lock { TakesNoLock seat.old.tally seat.new.tally }
+    {
+        let counted = match seat.snapshot {
+            None => visit_at(&self.words, &mut seat.raw, seat.pin, visit),
+            Some(time) => {
+                let snapshot = OpenSnapshot {
+                    pin_word: seat.pin,
+                    time,
+                };
+                visit_under(&self.words, &mut seat.raw, snapshot, visit)
+            }
+        };
+        seat.pin = seat.pin.wrapping_add(2);
+        counted
+    }
+
     /// How many keys from `lo` to `hi` have a value: at the time of the seat's open snapshot, else
     /// at a time of its own, as `get`. It is 0 if `lo > hi`. It makes the looks of a scan of that
     /// range but for those at values, and takes no memory and no lock. It never waits and is never
@@ -93,18 +134,37 @@ impl<P: Pace> Store<P> {
         ensures counts { CountsKeys seat.old seat.new result.time lo hi result.keys result.first }
         ensures lock { TakesNoLock seat.old.tally seat.new.tally }
     {
-        let bounds = Bounds { lo, hi };
-        let counted = match seat.snapshot {
-            None => count_at(&self.words, &mut seat.raw, alloc, seat.pin, bounds),
-            Some(time) => {
-                let snapshot = OpenSnapshot {
-                    pin_word: seat.pin,
-                    time,
-                };
-                count_under(&self.words, &mut seat.raw, alloc, snapshot, bounds)
-            }
+        let mut passing = Visit {
+            alloc,
+            bounds: Bounds { lo, hi },
+            visitor: Passing,
         };
-        seat.pin = seat.pin.wrapping_add(2);
-        counted
+        self.visit_with(seat, &mut passing)
+    }
+
+    /// Calls the function with each key from `lo` to `hi` that has a value, by rising key, and the
+    /// value: the rows of a scan of that range, for which it takes no memory. It reads, answers and
+    /// is recorded as `count`, and takes no lock. It never waits and is never refused, but while
+    /// the function runs, the seat keeps its component, which no merge can reclaim.
+    pub fn visit<F: FnMut(u64, Value)>(
+        &self,
+        alloc: Global,
+        seat: &mut Seat,
+        lo: u64,
+        hi: u64,
+        call: F,
+    ) -> Counted
+        requires of { seat.old.store ≡ self.now }
+        requires callable { F.IsAlwaysCallable call }
+        ensures visits { VisitsKeys (λ before row after. F.step before row.0 row.1 tt after)
+            seat.old seat.new result.time lo hi result.keys result.first call }
+        ensures lock { TakesNoLock seat.old.tally seat.new.tally }
+    {
+        let mut calling = Visit {
+            alloc,
+            bounds: Bounds { lo, hi },
+            visitor: Calling { call },
+        };
+        self.visit_with(seat, &mut calling)
     }
 }

@@ -85,7 +85,7 @@ few h (suc t) rows rise has = by (slot_at h t) refl (few h t) where
       rows has) in
       let one = one_less key rows rise in omega arith
 
-few_rows : (h : History) (s lo hi : ℕ) (rows : List Pair) → IsRange h s lo hi rows → length rows ≤ s
+pub few_rows : (h : History) (s lo hi : ℕ) (rows : List Pair) → IsRange h s lo hi rows → length rows ≤ s
 few_rows h s lo hi rows range = few h s rows range.rise (each_some (HasValue h s) rows (λ k some none. elim (cases_lt k lo) [
   | inl low ↦ some (range.below k low)
   | inr from ↦ elim (cases_lt hi k) [
@@ -96,11 +96,11 @@ few_rows h s lo hi rows range = few h s rows range.rise (each_some (HasValue h s
 
 -- ---- a count of keys
 
-range_counted : (h : History) (s lo hi n : ℕ) (first : Option ℕ) → (is : IsCount (λ key. value h key s) lo hi n first) → IsRange h s lo hi is.rows
+pub range_counted : (h : History) (s lo hi n : ℕ) (first : Option ℕ) → (is : IsCount (λ key. value h key s) lo hi n first) → IsRange h s lo hi is.rows
 range_counted h s lo hi n first is =
     let all = is.all.0 in record { rise = all.rise; inside = all.inside; below = all.below; above = all.above }
 
-pub key_count : (h : History) (s lo hi n : ℕ) (first : Option ℕ) → s ≤ 18446744073709551615 → IsCount (λ key. value h key s) lo hi n first
+abbrev pub key_count : (h : History) (s lo hi n : ℕ) (first : Option ℕ) → s ≤ 18446744073709551615 → IsCount (λ key. value h key s) lo hi n first
     → IsKeyCount h s lo hi n
 key_count h s lo hi n first small is =
     let range = range_counted h s lo hi n first is in

@@ -15,6 +15,14 @@ use Rattle.clsm_store_calls.specs.Tally.{TakesNoLock, tally_of}
 abbrev pub MayReadAt : Known → ℕ → ℕ → Type 0
 MayReadAt k component time = (component * k.layout.cells ≤ time) ⊎ (open_time k.view.snapshot ≡ Some time)
 
+-- the seat may read what stands below the time: it holds the component, which has all of that, and
+-- knows what each time below came to
+pub record MayReadBelow (k : Known) (component time : ℕ) : Type 0 where
+  pub held : k.view.held ≡ Some component
+  pub may : MayReadAt k component time
+  pub within : time ≤ (component + 2) * k.layout.cells
+  pub settled : time ≤ length k.past
+
 -- it pinned the component, and looked at the clock, which gave it the time
 pub record BeginsRead (old new : Known) (component t : ℕ) : Type 0 where
   pub number : new.number ≡ old.number

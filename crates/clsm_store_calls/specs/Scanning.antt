@@ -1,7 +1,8 @@
 -- Scans, pages and counts at the words.
+use Rattle.std.specs.List.{FoldsTo}
 use Rattle.std.specs.Prelude.{◌≡◌, ℕ, ◌≤◌, [], List, length, Option, Some, None}
 use Rattle.clsm_model.specs.declared.record.Deed.{Deed}
-use Rattle.clsm_model.specs.declared.record.Deed.TheVariants.{Scan, Page}
+use Rattle.clsm_model.specs.declared.record.Deed.TheVariants.{Get, Scan, Page}
 use Rattle.clsm_model.specs.History.{History, IsBeginning, end_of}
 use Rattle.clsm_law.specs.declared.step.End.{End}
 use Rattle.clsm_law.specs.declared.step.End.TheVariants.{Recorded}
@@ -46,7 +47,7 @@ pub record GivesUpRead (old new : Known) : Type 0 where
   pub due : new.view.due ≡ old.view.due
   pub unlocked : TakesNoLock (tally_of old) (tally_of new)
 
--- ---- counts
+-- ---- visits
 
 -- so many keys from `lo` to `hi` have a value below the time: as many as there are rows of them
 pub record IsKeyCount (h : History) (s lo hi n : ℕ) : Type 0 where
@@ -54,9 +55,34 @@ pub record IsKeyCount (h : History) (s lo hi n : ℕ) : Type 0 where
   pub all : IsRange h s lo hi rows
   pub counted : n ≡ length rows
 
+-- and a visitor took their rows, by rising key
+pub record IsKeyVisit {V : Type 0} (Takes : V → Pair → V → Type 0) (h : History) (s lo hi n : ℕ) (before after : V) : Type 0 where
+  pub count : IsKeyCount h s lo hi n
+  pub taken : FoldsTo Takes before count.rows after
+
 -- The seat counted the keys below the time, up to which it knows all. It is recorded as a page of no
 -- rows, which has the first of the keys
 pub record CountsKeys (old new : SeatState) (t lo hi n : ℕ) (first : Option ℕ) : Type 0 where
   pub answers : Answers old new t (Page lo hi 0 [] first)
   pub reached : t ≤ end_of (known_by new)
   pub counts : IsKeyCount (known_by new) t lo hi n
+
+-- The seat visited the keys below the time, up to which it knows all: the function was called with
+-- each of their rows, by rising key. It is recorded as a page of no rows, which has the first of the
+-- keys
+pub record VisitsKeys {F : Type 0} (Calls : F → Pair → F → Type 0) (old new : SeatState) (t lo hi n : ℕ) (first : Option ℕ) (f : F) : Type 0 where
+  pub answers : Answers old new t (Page lo hi 0 [] first)
+  pub reached : t ≤ end_of (known_by new)
+  pub last : F
+  pub visits : IsKeyVisit Calls (known_by new) t lo hi n f last
+
+-- ---- scans of the present
+
+-- The rows are all pairs of the range below the time, up to which the seat knows all. The scan is
+-- recorded as a read of the first key of the range, at its own time, whether or not a snapshot is
+-- open
+pub record ScansNow (old new : SeatState) (t lo hi : ℕ) (rows : List Pair) : Type 0 where
+  pub reply : Option (List ℕ)
+  pub answers : Answers old new t (Get lo reply)
+  pub reached : t ≤ end_of (known_by new)
+  pub range : IsRange (known_by new) t lo hi rows

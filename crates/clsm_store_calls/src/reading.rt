@@ -1,14 +1,14 @@
 //! Reads at the words: a pin, a look at the clock, all below it settled, a search, and the unpin
 //! with the record.
-ghost use Rattle.std.specs.Prelude.{◌≡◌, ◌*◌, ◌+◌, ◌≤◌, None, Some, length};
+ghost use Rattle.std.specs.Prelude.{◌≡◌, None, Some};
 ghost use Rattle.clsm_model.specs.History.{plain, value};
 ghost use Rattle.clsm_model.specs.declared.record.Deed.TheVariants.{Get};
 ghost use Rattle.clsm_law.specs.declared.step.End.TheVariants.{Recorded};
 ghost use Rattle.clsm_law.specs.Views.{next_word};
-ghost use Rattle.clsm_words.specs.Keeping.{Looks, OnlyReads};
+ghost use Rattle.clsm_words.specs.Keeping.{Looks};
 ghost use Rattle.clsm_words.specs.Plays.{IsSeatOf};
 ghost use Rattle.clsm_store_calls.specs.Resting.{IsAtRest};
-ghost use Rattle.clsm_store_calls.specs.Reading.{BeginsRead, MayReadAt, ReadsAt};
+ghost use Rattle.clsm_store_calls.specs.Reading.{BeginsRead, MayReadBelow, ReadsAt};
 
 use crate::got::Got;
 use clsm_law::{End, Word};
@@ -29,10 +29,7 @@ pub(crate) fn value_below<P: Pace>(
     time: Time,
 ) -> Option<Value>
     requires of { IsSeatOf words.now seat.old }
-    requires held { seat.old.knows.view.held ≡ Some component }
-    requires may { MayReadAt seat.old.knows component time }
-    requires within { time ≤ (component + 2) * seat.old.knows.layout.cells }
-    requires settled { time ≤ length seat.old.knows.past }
+    requires may { MayReadBelow seat.old.knows component time }
     ensures of { IsSeatOf words.now seat.new }
     ensures looks { Looks seat.old.knows seat.new.knows }
     ensures value { result ≡ value (plain seat.old.knows.past) key time }
@@ -61,7 +58,7 @@ pub(crate) fn begin<P: Pace>(words: &Words<P>, seat: &mut RawSeat, pin_word: u64
 }
 
 /// The end of a read with this answer.
-fn end_of(key: u64, got: &Got) -> End
+pub(crate) fn end_of(key: u64, got: &Got) -> End
     ensures { result ≡ Recorded (Get key got.now.value) }
 {
     let reply = got.value;

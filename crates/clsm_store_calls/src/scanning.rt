@@ -1,7 +1,9 @@
 //! Scans and pages at the words: one read of many keys, at one time.
-ghost use Rattle.std.specs.Prelude.{◌≡◌, ℕ, ◌+◌, ◌*◌, ◌≤◌, IfErr, IfOk, None, Some, length};
+ghost use Rattle.std.specs.Prelude.{◌≡◌, ℕ, ◌≤◌, List, Option, IfErr, IfOk, None, Some, length};
 ghost use Rattle.clsm_model.specs.History.{History, plain};
+ghost use Rattle.clsm_model.specs.Map.{IsRange};
 ghost use Rattle.clsm_model.specs.Right.{Reads};
+ghost use Rattle.clsm_model.specs.declared.record.Deed.TheVariants.{Get};
 ghost use Rattle.clsm_law.specs.declared.step.End.TheVariants.{Neither, Recorded};
 ghost use Rattle.clsm_law.specs.declared.step.Step.TheVariants.{Unpin};
 ghost use Rattle.clsm_law.specs.Views.{next_word};
@@ -10,17 +12,18 @@ ghost use Rattle.clsm_words.specs.Keeping.{Looks};
 ghost use Rattle.clsm_pins.specs.Pinning.{Unpins};
 ghost use Rattle.clsm_words.specs.Plays.{IsSeatOf, MayPlay};
 ghost use Rattle.clsm_store_calls.specs.Resting.{IsAtRest};
-ghost use Rattle.clsm_store_calls.specs.Reading.{MayReadAt, ReadsAt};
+ghost use Rattle.clsm_store_calls.specs.Reading.{MayReadBelow, ReadsAt};
 ghost use Rattle.clsm_store_calls.specs.Snapshots.{ReadsUnder};
 ghost use Rattle.clsm_store_calls.specs.Scanning.{GivesAsked, GivesUpRead, IsAnswerTo, IsRecord, range_of};
 
-use crate::reading::begin;
+use crate::got::{Got, Scan};
+use crate::reading::{begin, end_of, value_below};
 use crate::snapshotting::OpenSnapshot;
 use clsm_law::End;
 use clsm_memtable::settle_below;
 use clsm_model::{Deed, Memory, Rows, Time};
 use clsm_pins::{pin, unpin};
-use clsm_scan::{Collected, KeyRange, ReadPoint, scan};
+use clsm_scan::{Bounds, Collected, KeyRange, ReadPoint, scan};
 use clsm_words::{Pace, RawSeat, Words};
 use std::alloc::Global;
 
@@ -89,10 +92,7 @@ fn deed_below<P: Pace>(
     asked: Asked,
 ) -> Result<Deed, Memory>
     requires of { IsSeatOf words.now seat.old }
-    requires held { seat.old.knows.view.held ≡ Some point.component }
-    requires may { MayReadAt seat.old.knows point.component point.until }
-    requires within { point.until ≤ (point.component + 2) * seat.old.knows.layout.cells }
-    requires settled { point.until ≤ length seat.old.knows.past }
+    requires may { MayReadBelow seat.old.knows point.component point.until }
     ensures of { IsSeatOf words.now seat.new }
     ensures looks { Looks seat.old.knows seat.new.knows }
     ensures reads { IfOk result (Reads (plain seat.old.knows.past) point.until) }
@@ -190,4 +190,69 @@ pub fn scan_under<P: Pace>(
     let read = deed_below(words, seat, alloc, point, asked);
     let deed = end(words, seat, pin_word.wrapping_add(1), read)?;
     Ok((time, deed))
+}
+
+/// All pairs within the bounds at the point, which is as `deed_below` wants it.
+fn rows_below<P: Pace>(
+    words: &Words<P>,
+    seat: &mut RawSeat,
+    alloc: Global,
+    point: ReadPoint,
+    bounds: Bounds,
+) -> Result<Rows, Memory>
+    requires of { IsSeatOf words.now seat.old }
+    requires may { MayReadBelow seat.old.knows point.component point.until }
+    ensures of { IsSeatOf words.now seat.new }
+    ensures looks { Looks seat.old.knows seat.new.knows }
+    ensures rows { IfOk result (IsRange (plain seat.old.knows.past) point.until bounds.lo bounds.hi) }
+{
+    match deed_below(words, seat, alloc, point, Asked::All(bounds.lo, bounds.hi))? {
+        Deed::Scan { rows, .. } => Ok(rows),
+        _ => unreachable!(),
+    }
+}
+
+/// All pairs within the bounds, at a time of the scan's own, whether or not a snapshot is open. It
+/// is recorded as a read of the first key.
+pub fn scan_now<P: Pace>(
+    words: &Words<P>,
+    seat: &mut RawSeat,
+    alloc: Global,
+    pin_word: u64,
+    bounds: Bounds,
+) -> Result<Scan, Memory>
+    requires of { IsSeatOf words.now seat.old }
+    requires rests { IsAtRest seat.old.knows }
+    requires pin { pin_word ≡ seat.old.knows.view.pin }
+    ensures of { IsSeatOf words.now seat.new }
+    ensures rests { IsAtRest seat.new.knows }
+    ensures pin { seat.new.knows.view.pin ≡ next_word (next_word pin_word) }
+    ensures reads { IfOk result (λ scan. (reply : Option (List ℕ)) × ReadsAt seat.old.knows seat.new.knows scan.time (Get bounds.lo reply)) }
+    ensures reached { IfOk result (λ scan. scan.time ≤ length seat.new.knows.past) }
+    ensures rows { IfOk result (λ scan. IsRange (plain seat.new.knows.past) scan.time bounds.lo bounds.hi scan.rows) }
+    ensures given_up { IfErr result (λ refusal. GivesUpRead seat.old.knows seat.new.knows) }
+{
+    let (component, time) = begin(words, seat, pin_word);
+    settle_below(words, seat, component, time);
+    let value = value_below(words, seat, component, bounds.lo, time);
+    let point = ReadPoint {
+        component,
+        until: time,
+    };
+    let pin_word = pin_word.wrapping_add(1);
+    match rows_below(words, seat, alloc, point, bounds) {
+        Ok(rows) => {
+            unpin(
+                words,
+                seat,
+                pin_word,
+                &end_of(bounds.lo, &Got { time, value }),
+            );
+            Ok(Scan { time, rows })
+        }
+        Err(refusal) => {
+            unpin(words, seat, pin_word, &End::Neither);
+            Err(refusal)
+        }
+    }
 }

@@ -29,6 +29,10 @@ pub(super) enum Act {
     Pages(u64, usize),
     /// How many keys from this one on have a value.
     Count(u64),
+    /// A visit of all keys from this one on.
+    Visit(u64),
+    /// All keys from this one on, of the present.
+    ScanNow(u64),
     Snapshot,
     Close,
     Freeze,

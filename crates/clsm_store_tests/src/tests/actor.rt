@@ -315,6 +315,45 @@ impl<'a> Actor<'a> {
         Answer::Keys(time, keys)
     }
 
+    /// Visits the keys from this one on. What was visited is kept as the record of a scan.
+    fn visit(&mut self, rt: &impl Abort, alloc: Global, lo: u64) -> Answer {
+        let hi = u64::MAX;
+        let mut rows = Vec::new(alloc);
+        let mut is_kept = true;
+        let counted = self.caller.visit(
+            alloc,
+            lo,
+            hi,
+            |key, value| is_kept = is_kept && rows.push((key, value)).is_ok(),
+        );
+        assert!(rt; is_kept && rows.len() as u64 == counted.keys);
+        let answer = Answer::Rows(counted.time, rows.len());
+        let rows = Rows::new(rows);
+        let record = self
+            .caller
+            .record_of(counted.time, Deed::Scan { lo, hi, rows });
+        self.records.push(record).expect(rt, "memory");
+        answer
+    }
+
+    /// Scans the keys from this one on in the present. The scan is recorded as a read of that key.
+    fn scan_now(&mut self, rt: &impl Abort, alloc: Global, lo: u64) -> Answer {
+        let Ok(scan) = self.caller.scan_now(alloc, lo, u64::MAX) else {
+            return Answer::NoMemory;
+        };
+        let rows = scan.rows.as_slice();
+        let reply = match rows.first() {
+            Some((key, value)) if *key == lo => Some(*value),
+            _ => None,
+        };
+        let answer = Answer::Rows(scan.time, rows.len());
+        let record = self
+            .caller
+            .record_of(scan.time, Deed::Get { key: lo, reply });
+        self.records.push(record).expect(rt, "memory");
+        answer
+    }
+
     /// Sweeps so often, beside others. Answers how often it did.
     fn sweep_on<R: Wait>(&mut self, rt: &R, sweeps: u64) -> Answer {
         let mut swept = 0_u64;
@@ -352,6 +391,8 @@ impl<'a> Actor<'a> {
                 }
                 Act::Room => Answer::Count(self.caller.room()),
                 Act::Count(lo) => self.count(rt, alloc, *lo),
+                Act::Visit(lo) => self.visit(rt, alloc, *lo),
+                Act::ScanNow(lo) => self.scan_now(rt, alloc, *lo),
                 Act::Pages(from, max) => self.read_pages(rt, alloc, *from, *max),
                 Act::Sweeps(sweeps) => self.sweep_on(rt, *sweeps),
                 Act::Calls(mix, keys, answers) => {

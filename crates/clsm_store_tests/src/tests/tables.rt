@@ -99,6 +99,30 @@ const COUNTS: &[Step] = &[
     (Act::Pages(9, 2), Answer::Count(1)),
 ];
 
+/// A visit has the rows of a scan. Under a snapshot it reads the snapshot's map, but a scan of the
+/// present does not.
+const VISITS: &[Step] = &[
+    (Act::Visit(0), Answer::Rows(0, 0)),
+    (Act::ScanNow(0), Answer::Rows(0, 0)),
+    (Act::Put(7, 70), Answer::At(0)),
+    (Act::PutEight(8), Answer::At(1)),
+    (Act::Snapshot, Answer::At(2)),
+    (Act::Remove(7), Answer::At(2)),
+    (Act::Sweep, Answer::Clean),
+    (Act::Put(9, 90), Answer::At(4)),
+    (Act::Put(u64::MAX, 1), Answer::At(5)),
+    (Act::Visit(0), Answer::Rows(2, 2)),
+    (Act::Visit(8), Answer::Rows(2, 1)),
+    (Act::ScanNow(0), Answer::Rows(6, 3)),
+    (Act::ScanNow(8), Answer::Rows(6, 3)),
+    (Act::Get(7), Answer::None(6)),
+    (Act::GetAt(7), Answer::Got(2, 70)),
+    (Act::Close, Answer::At(2)),
+    (Act::Visit(0), Answer::Rows(6, 3)),
+    (Act::Visit(u64::MAX), Answer::Rows(6, 1)),
+    (Act::ScanNow(10), Answer::Rows(6, 1)),
+];
+
 /// An epoch has four timestamps. A sweep waits below so many of them, and where more are asked for
 /// than there are it waits for all; an epoch that is frozen already, or a component that is retired,
 /// is swept in any case. A caller finds fewer timestamps left after each write, and all four again
@@ -167,6 +191,11 @@ const ALONE: &[Case] = &[
     Case {
         name: "pages are read in turn, and keys are counted",
         phases: &[&[COUNTS]],
+        ..PLAIN
+    },
+    Case {
+        name: "keys are visited, and the present is scanned under a snapshot",
+        phases: &[&[VISITS]],
         ..PLAIN
     },
 ];

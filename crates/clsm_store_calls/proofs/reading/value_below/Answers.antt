@@ -8,12 +8,12 @@ returns-in-Some-search-clause-value g c =
     let k = c.args.seat.now.knows in
     let none = subst (IsNewest k c.args.component c.args.key c.args.time) c.in_default.is c.newest.ensures.newest in
     runs_answer k c.newest.new.seat.knows c.args.component c.args.key c.args.time
-    (Some c.in-Some-search.entry) c.newest.ensures.looks c.show_invariant.ensures c.requires.held c.requires.may c.requires.settled none
+    (Some c.in-Some-search.entry) c.newest.ensures.looks c.show_invariant.ensures c.requires.may.held c.requires.may.may c.requires.may.settled none
     (sym c.in-Some-search.is ∙ c.search.ensures.found)
 
 pub returns-in-None-clause-value : goal.returns-in-None-clause-value
 returns-in-None-clause-value g c =
     let k = c.args.seat.now.knows in
     let none = subst (IsNewest k c.args.component c.args.key c.args.time) c.in_default.is c.newest.ensures.newest in
-    runs_answer k c.newest.new.seat.knows c.args.component c.args.key c.args.time None c.newest.ensures.looks c.show_invariant.ensures c.requires.held
-    c.requires.may c.requires.settled none (sym c.in-None.is ∙ c.search.ensures.found)
+    runs_answer k c.newest.new.seat.knows c.args.component c.args.key c.args.time None c.newest.ensures.looks c.show_invariant.ensures c.requires.may.held
+    c.requires.may.may c.requires.may.settled none (sym c.in-None.is ∙ c.search.ensures.found)

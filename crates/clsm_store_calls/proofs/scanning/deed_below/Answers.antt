@@ -24,5 +24,5 @@ returns-clause-reads g c =
     subst (λ (r : KeyRange). IsCollected found r.lo r.hi r.max rows more) c.range.ensures c.in_ok-found.ensures.rows in
     c.deed_of.ensures.reads h until (gives_asked h until asked rows more
     (collected_same found (λ key. value h key until) range.lo range.hi range.max rows more
-    (λ key above below. sym (component_value k component until key c.show_invariant.ensures c.requires.held c.requires.may c.requires.settled))
+    (λ key above below. sym (component_value k component until key c.show_invariant.ensures c.requires.may.held c.requires.may.may c.requires.may.settled))
     collected))

@@ -1,14 +1,16 @@
 use Rattle.std.proofs.Common.{◌-◌, ◌≤◌, ◌^◌}
 use Rattle.clsm_scan.specs.Collected.{left_at}
-use Rattle.clsm_scan.proofs.Counts.{IsCountTo}
+use Rattle.clsm_scan.proofs.Counts.{IsVisitTo}
 use Rattle.clsm_scan.proofs.ReadOn.{HasReadTo}
-use Rattle.clsm_scan.proofs.counting.count_keys.Given as goal
+use Rattle.clsm_scan.proofs.visiting.visit_keys.Given as goal
 
 abbrev pub invariant-loop-key : goal.invariant-loop-key
 invariant-loop-key g l = record {
   read : HasReadTo g.C.Source.is_over g.C.Source.found g.C.Source.stands l.words l.fn.seat l.seat l.fn.cursor l.cursor l.from;
-  later : l.lo ≤ l.from;
-  counts : IsCountTo (left_at (g.C.Source.found l.fn.seat.knows l.fn.cursor)) l.lo l.from l.hi l.keys l.first;
+  later : l.bounds.lo ≤ l.from;
+  visits : IsVisitTo g.V.Visitor.takes (left_at (g.C.Source.found l.fn.seat.knows l.fn.cursor)) l.bounds.lo l.from l.bounds.hi l.keys l.first
+      l.fn.visitor l.visitor;
+  ready : g.V.Visitor.is_ready l.visitor;
 }
 
 abbrev pub decreases-loop-key : goal.decreases-loop-key

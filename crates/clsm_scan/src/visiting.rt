@@ -1,0 +1,129 @@
+//! Visits of the keys of a range that have a value, by a cursor.
+ghost use Rattle.std.specs.Prelude.{◌≡◌, ℕ, List, Some, true};
+ghost use Rattle.clsm_model.specs.Map.{Pair};
+ghost use Rattle.clsm_levels.specs.Entry.{value_of};
+ghost use Rattle.clsm_words.specs.Keeping.{LooksAside};
+ghost use Rattle.clsm_words.specs.Plays.{IsSeatOf};
+ghost use Rattle.clsm_scan.specs.Collected.{IsVisit, left_at};
+ghost use Rattle.clsm_scan.specs.Heads.{has_value};
+
+use crate::collecting::next_key;
+use crate::cursor::Cursor;
+use crate::source::Source;
+use clsm_model::Value;
+use clsm_words::{Pace, RawSeat, Words};
+
+/// The keys from `lo` to `hi`.
+#[derive(Clone, Copy)]
+pub struct Bounds {
+    pub lo: u64,
+    pub hi: u64,
+}
+
+/// How many keys of a range have a value, and the first of them.
+#[derive(Clone, Copy)]
+pub struct KeyCount {
+    pub keys: u64,
+    pub first: Option<u64>,
+}
+
+/// What is done at each row of a range.
+pub trait Visitor {
+    ghost takes: { Self → Pair → Self → Type 0 };
+
+    ghost is_ready: { Self → Type 0 };
+
+    /// Takes the row of the key, of which the source came by the newest write last. It reads the
+    /// value only if it wants it.
+    fn take<S: Source, P: Pace>(
+        &mut self,
+        words: &Words<P>,
+        seat: &mut RawSeat,
+        source: &S,
+        key: u64,
+    )
+        requires of { IsSeatOf words.now seat.old }
+        requires over { S.is_over seat.old.knows source.now }
+        requires has { has_value (S.last seat.old.knows source.now) ≡ true }
+        requires ready { is_ready self.old }
+        ensures of { IsSeatOf words.now seat.new }
+        ensures looks { LooksAside seat.old.knows seat.new.knows }
+        ensures ready { is_ready self.new }
+        ensures takes { (value : List ℕ) → value_of (S.last seat.old.knows source.now) ≡ Some value → takes self.old (key, value) self.new };
+}
+
+/// The visitor that only passes: no value is read.
+#[derive(Clone, Copy)]
+pub struct Passing;
+
+impl Visitor for Passing {
+    ghost takes = { λ before row after. Unit {0} };
+
+    ghost is_ready = { λ visitor. Unit {0} };
+
+    #[inline(always)]
+    fn take<S: Source, P: Pace>(
+        &mut self,
+        _words: &Words<P>,
+        _seat: &mut RawSeat,
+        _source: &S,
+        _key: u64,
+    ) {}
+}
+
+/// The visitor that calls a function with the key and the value.
+#[derive(Drop)]
+pub struct Calling<F> {
+    pub call: F,
+}
+
+impl<F: FnMut(u64, Value)> Visitor for Calling<F> {
+    ghost takes = { λ before row after. F.step before.call row.0 row.1 tt after.call };
+
+    ghost is_ready = { λ visitor. F.IsAlwaysCallable visitor.call };
+
+    #[inline(always)]
+    fn take<S: Source, P: Pace>(
+        &mut self,
+        words: &Words<P>,
+        seat: &mut RawSeat,
+        source: &S,
+        key: u64,
+    ) {
+        let value = source.value(words, seat);
+        (self.call)(key, value);
+    }
+}
+
+/// Has the visitor take the rows of all keys within the bounds that have a value, by rising key. It
+/// answers how many there are, or 2^64 - 1 if all 2^64 keys have a value, and the first of them. It
+/// takes no memory.
+pub fn visit_keys<C: Cursor, P: Pace, V: Visitor>(
+    words: &Words<P>,
+    seat: &mut RawSeat,
+    cursor: &mut C,
+    bounds: Bounds,
+    visitor: &mut V,
+) -> KeyCount
+    requires of { IsSeatOf words.now seat.old }
+    requires over { C.is_over seat.old.knows cursor.old }
+    requires stands { C.stands seat.old.knows cursor.old bounds.lo }
+    requires ready { V.is_ready visitor.old }
+    ensures of { IsSeatOf words.now seat.new }
+    ensures looks { LooksAside seat.old.knows seat.new.knows }
+    ensures visits { IsVisit V.takes (left_at (C.found seat.old.knows cursor.old)) bounds.lo bounds.hi result.keys result.first visitor.old visitor.new }
+{
+    let mut keys = 0_u64;
+    let mut first = None;
+    let mut from = bounds.lo;
+    while let Some(key) = next_key(words, seat, cursor, from, bounds.hi) {
+        visitor.take(words, seat, cursor, key);
+        keys = keys.saturating_add(1);
+        first = Some(first.unwrap_or(key));
+        let Some(behind) = key.checked_add(1) else {
+            return KeyCount { keys, first };
+        };
+        from = behind;
+    }
+    KeyCount { keys, first }
+}
