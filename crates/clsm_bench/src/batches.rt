@@ -1,10 +1,10 @@
 //! Writes of threads by batches, beside the same writes by puts.
 ghost use Rattle.std.specs.Prelude.{◌≡◌, IfOk};
 
-use crate::calls::{Lap, work_all};
+use crate::calls::{Lap, Round, work_all};
 use crate::draws::{Call, Draws, FILLER, Series, key_of};
 use crate::failure::Failure;
-use crate::series::targets;
+use crate::series::callers;
 use crate::sizes::Work;
 use crate::target::Target;
 use clsm_model::{Change, Value};
@@ -51,10 +51,10 @@ pub struct Batches {
 }
 
 /// Makes these writes at the target. Refused where one is not answered.
-pub fn work_batches<R: Wait + Clock>(
+pub fn work_batches<T: Target, R: Wait + Clock>(
     rt: &R,
     alloc: Global,
-    target: &mut Target,
+    target: &mut T,
     draws: &mut Draws,
     batches: Batches,
 ) -> Result<Lap, Failure>
@@ -66,7 +66,7 @@ pub fn work_batches<R: Wait + Clock>(
     let start = Instant::now(rt)?;
     for _ in 0..writes / members.max(1) {
         draw_members(draws, first, &mut row);
-        if !target.batch(rt, &row) {
+        if !target.write_all(rt, &row) {
             return Err(Failure::Unanswered);
         }
         first = first.wrapping_add(members);
@@ -101,7 +101,7 @@ pub fn batch_lap<R: Threads + Sync + Clock + Wait>(
         return Err(Failure::Refused);
     };
     let Opened { store, seats, .. } = opened;
-    let mut targets = targets(alloc, &store, seats)?;
-    let _ = targets.pop();
-    work_all(rt, alloc, targets, &series, writes)
+    let mut callers = callers(alloc, &store, seats)?;
+    let _ = callers.pop();
+    work_all(rt, alloc, callers, &Round::new(&series, writes, threads))
 }

@@ -7,6 +7,7 @@ use crate::lines::{Beside, Line, Role};
 use crate::merges::merge_lap;
 use crate::options::Options;
 use crate::series::{map_lap, store_lap};
+use crate::session::session_lap;
 use crate::sizes::Work;
 use std::alloc::{AllocError, Global};
 use std::rt::Clock;
@@ -69,6 +70,7 @@ fn lap<R: Threads + Sync + Clock + Wait>(
         (Role::Batches(_) | Role::HotBatches(_), _) => batch_lap(rt, alloc, work, is_second),
         (Role::Several(..), _) | (_, Beside::Nothing) if is_second => map_lap(rt, alloc, work),
         _ if is_second => store_lap(rt, alloc, work, &Beside::Nothing),
+        (_, Beside::Session) => session_lap(rt, alloc, work),
         _ => store_lap(rt, alloc, work, beside),
     }
 }

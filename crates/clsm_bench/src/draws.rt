@@ -36,7 +36,8 @@ pub enum Call {
 /// too where they are scanned. With members, the puts are made so many at once, as a batch.
 #[derive(Drop)]
 pub struct Series<'a> {
-    line: &'a Line,
+    role: &'a Role,
+    filling: &'a Filling,
     pub keys: u32,
     pub cells: u32,
     sorted: Vec<u64>,
@@ -63,20 +64,22 @@ pub fn key_of(number: u32, index: u32) -> u64 {
 
 impl<'a> Series<'a> {
     pub fn new(alloc: Global, line: &'a Line, options: &Options) -> Result<Series<'a>, AllocError> {
+        let Line(_, _, _, _, role, filling, _) = line;
         let keys = line.filled(options);
         let mut sorted = Vec::new(alloc);
-        if let Role::Scans(_) | Role::Pages(_) | Role::Several(..) = line.4 {
+        if let Role::Scans(_) | Role::Pages(_) | Role::Several(..) = role {
             for index in 0..keys {
                 sorted.push(key_of(FILLER, index))?;
             }
             sorted.sort()?;
         }
-        let draw = match &line.4 {
+        let draw = match role {
             Role::Several(_, draw) => draw,
             _ => &Draw::Uniform,
         };
         Ok(Series {
-            line,
+            role,
+            filling,
             keys,
             cells: options.cells,
             sorted,
@@ -91,7 +94,7 @@ impl<'a> Series<'a> {
         let cells = self.cells;
         let merges = self.keys.div_ceil(cells.max(1));
         let merges = merges.div_ceil(4).saturating_mul(4);
-        match self.line.5 {
+        match self.filling {
             Filling::Epoch => (0, 0, self.keys),
             Filling::Runs => (merges, 0, 0),
             Filling::HalfEpoch => (merges, 0, cells / 2),
@@ -138,12 +141,12 @@ impl<'a> Series<'a> {
     #[inline]
     fn call(&self, words: &mut Pcg32, number: u32, index: u32) -> Call {
         let word = words.next_word();
-        let drawn = match self.line.4 {
+        let drawn = match self.role {
             Role::HotGets | Role::HotMixed if word % 10 != 0 => below(HOT.min(self.keys), word),
             _ => below(self.keys, word),
         };
         let (key, old, new) = (key_of(FILLER, drawn), u64::from(drawn), u64::from(index));
-        match self.line.4 {
+        match self.role {
             Role::AbsentGets => Call::Get {
                 key: key_of(NOBODY, drawn),
                 word: None,
@@ -167,8 +170,8 @@ impl<'a> Series<'a> {
             Role::Mixed | Role::HotMixed if words.next_word() % 10 == 0 => {
                 Call::Put { key, word: old }
             }
-            Role::Scans(rows) => self.range(word, rows, false),
-            Role::Pages(rows) => self.range(word, rows, true),
+            Role::Scans(rows) => self.range(word, *rows, false),
+            Role::Pages(rows) => self.range(word, *rows, true),
             _ => Call::Get {
                 key,
                 word: Some(old),
@@ -187,7 +190,7 @@ impl<'a> Draws<'a> {
     ) -> Result<Draws<'a>, AllocError> {
         let mut words = Pcg32::new(u64::from(number), 1);
         let mut drawn = Vec::new(alloc);
-        if let Role::Several(mix, _) = &series.line.4 {
+        if let Role::Several(mix, _) = series.role {
             for index in 0..calls {
                 drawn.push(series.mixed(mix, &mut words, number, index))?;
             }

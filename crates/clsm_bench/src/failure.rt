@@ -1,4 +1,5 @@
 //! Why a measurement does not end well.
+use clsm_session::SessionError;
 use std::alloc::{AllocError, AllocFailed};
 use std::io;
 
@@ -31,5 +32,14 @@ impl From<AllocError> for Failure {
 impl<T: Drop> From<AllocFailed<T>> for Failure {
     fn from(_error: AllocFailed<T>) -> Failure {
         Failure::Memory
+    }
+}
+
+impl From<SessionError> for Failure {
+    fn from(error: SessionError) -> Failure {
+        match error {
+            SessionError::Open(_) => Failure::Refused,
+            SessionError::NoThread | SessionError::Memory => Failure::Memory,
+        }
     }
 }

@@ -1,5 +1,5 @@
 //! The lines that are printed, by their commands, and what is measured for each.
-use crate::lines::Beside::{Batcher, Merger, Nothing, PacedMerger, Scanner};
+use crate::lines::Beside::{Batcher, Merger, Nothing, Scanner, Session};
 use crate::lines::Filling::{BothEpochs, Epoch, HalfEpoch, Runs};
 use crate::lines::Role::*;
 use crate::mixes::Draw::{self, One, Uniform, Zipf};
@@ -60,8 +60,9 @@ pub enum Beside {
     Nothing,
     /// The merger sweeps again and again.
     Merger,
-    /// The merger sweeps when half of the epoch is drawn.
-    PacedMerger,
+    /// The merger of a session, whose callers make the calls: it sweeps when half of the epoch is
+    /// used.
+    Session,
     /// A seat scans all keys again and again.
     Scanner,
     /// A seat writes batches of 16 at a few of the filled keys again and again, and merges where
@@ -112,7 +113,7 @@ pub const LINES: [Line; 64] = [
         4,
         Several(ScansAndPuts, Uniform),
         HalfEpoch,
-        PacedMerger,
+        Session,
     ),
     Line(
         "mixes",
@@ -121,7 +122,7 @@ pub const LINES: [Line; 64] = [
         4,
         Several(PagesAndInserts, Uniform),
         HalfEpoch,
-        PacedMerger,
+        Session,
     ),
     Line(
         "mixes",
@@ -130,7 +131,7 @@ pub const LINES: [Line; 64] = [
         4,
         Several(MostlyGets, Uniform),
         HalfEpoch,
-        PacedMerger,
+        Session,
     ),
     Line(
         "mixes",
@@ -139,7 +140,7 @@ pub const LINES: [Line; 64] = [
         4,
         Several(MostlyGets, Zipf),
         HalfEpoch,
-        PacedMerger,
+        Session,
     ),
     Line(
         "mixes",
@@ -148,7 +149,7 @@ pub const LINES: [Line; 64] = [
         4,
         Several(GetsAndPuts, Uniform),
         HalfEpoch,
-        PacedMerger,
+        Session,
     ),
     Line(
         "mixes",
@@ -157,7 +158,7 @@ pub const LINES: [Line; 64] = [
         4,
         Several(GetsAndPuts, Zipf),
         HalfEpoch,
-        PacedMerger,
+        Session,
     ),
     Line(
         "mixes",
@@ -166,7 +167,7 @@ pub const LINES: [Line; 64] = [
         4,
         Several(GetsAndPuts, One),
         HalfEpoch,
-        PacedMerger,
+        Session,
     ),
     Line(
         "mixes",
@@ -175,7 +176,7 @@ pub const LINES: [Line; 64] = [
         4,
         Several(FewKeys(65_536), Uniform),
         HalfEpoch,
-        PacedMerger,
+        Session,
     ),
     Line(
         "mixes",
@@ -184,7 +185,7 @@ pub const LINES: [Line; 64] = [
         4,
         Several(FewKeys(4_096), Uniform),
         HalfEpoch,
-        PacedMerger,
+        Session,
     ),
     Line(
         "mixes",
@@ -193,7 +194,7 @@ pub const LINES: [Line; 64] = [
         4,
         Several(Sustained, Uniform),
         HalfEpoch,
-        PacedMerger,
+        Session,
     ),
     Line(
         "mixes",
@@ -202,7 +203,7 @@ pub const LINES: [Line; 64] = [
         4,
         Several(Sustained, Zipf),
         HalfEpoch,
-        PacedMerger,
+        Session,
     ),
     Line("beside", "gets runs, merger", 1, 4, Gets, Runs, Merger),
     Line("beside", "puts, merger", 1, 4, Puts, Epoch, Merger),

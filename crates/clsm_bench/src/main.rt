@@ -14,6 +14,7 @@ mod merges;
 mod mixes;
 mod options;
 mod series;
+mod session;
 mod sizes;
 mod target;
 

@@ -3,7 +3,6 @@ use crate::calls::{Lap, put_filled};
 use crate::failure::Failure;
 use crate::lines::Role;
 use crate::options::Options;
-use crate::target::Target;
 use clsm_store::{Caller, Config, Merger, Opened, open};
 use clsm_words::Free;
 use std::alloc::Global;
@@ -14,7 +13,7 @@ use std::time::Instant;
 /// The seats of a store: one that holds a snapshot, one that puts, and the merger's.
 struct Seats<'a> {
     holder: Caller<'a, Free>,
-    target: Target<'a>,
+    writer: Caller<'a, Free>,
     merger: Merger<'a, Free>,
 }
 
@@ -38,7 +37,7 @@ fn merge_often<R: Clock + Wait>(
 ) -> Result<Lap, Failure> {
     let Seats {
         mut holder,
-        mut target,
+        mut writer,
         mut merger,
     } = seats;
     let (merges, is_merge) = match turns.role {
@@ -52,7 +51,7 @@ fn merge_often<R: Clock + Wait>(
     for number in 0..merges {
         let first = number.saturating_mul(turns.puts);
         let end = first.saturating_add(turns.puts);
-        put_filled(rt, alloc, &mut target, first..end, turns.keys)?;
+        put_filled(rt, alloc, &mut writer, first..end, turns.keys)?;
         let (next, last) = turn(rt, merger, is_merge, turns.is_second)?;
         merger = next;
         lap = Ok(last);
@@ -92,7 +91,7 @@ pub fn merge_lap<R: Clock + Wait>(
     };
     let seats = Seats {
         holder: Caller::new(&store, holder),
-        target: Target::Store(0, Caller::new(&store, writer)),
+        writer: Caller::new(&store, writer),
         merger: Merger::new(&store, merger),
     };
     let turns = Turns {

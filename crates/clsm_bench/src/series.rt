@@ -2,13 +2,13 @@
 ghost use Rattle.std.specs.Prelude.{◌≡◌, All};
 
 use crate::batches::filled_members;
-use crate::calls::{Lap, put_filled, work_all};
+use crate::calls::{Lap, Round, put_filled, work_all};
 use crate::draws::{Call, Series};
 use crate::failure::Failure;
 use crate::lines::Beside;
 use crate::sizes::Work;
-use crate::target::Target;
-use clsm_store::{Caller, Merger, Opened, Seat, Store, Swept, open};
+use crate::target::{MapCaller, Target};
+use clsm_store::{Caller, Merger, Opened, Seat, Store, open};
 use clsm_words::Free;
 use std::alloc::Global;
 use std::collections::BTreeMap;
@@ -16,26 +16,21 @@ use std::rt::Clock;
 use std::sync::atomic::AtomicBool;
 use std::sync::atomic::Ordering::SeqCst;
 use std::sync::{RwLock, Wait};
-use std::thread::{self, Threads, join};
-use std::time::Duration;
+use std::thread::{Threads, join};
 
-/// How long the merger rests in microseconds before it looks again how much of the epoch is drawn.
-const REST: u64 = 20;
-
-/// The targets by these seats, numbered from 0.
-pub fn targets<'a>(
+/// The callers that have these seats.
+pub fn callers<'a>(
     alloc: Global,
     store: &'a Store<Free>,
     seats: Vec<Seat>,
-) -> Result<Vec<Target<'a>>, Failure>
+) -> Result<Vec<Caller<'a, Free>>, Failure>
     requires { All (λ seat. seat.store ≡ store.now) seats.items }
 {
-    let mut targets = Vec::with_capacity(alloc, seats.len())?;
+    let mut callers = Vec::with_capacity(alloc, seats.len())?;
     for seat in seats {
-        let number = seat.number();
-        targets.push(Target::Store(number, Caller::new(store, seat)))?;
+        callers.push(Caller::new(store, seat))?;
     }
-    Ok(targets)
+    Ok(callers)
 }
 
 /// Puts at the filled keys, where they are to be found: for a run of level 1 epoch after epoch, of
@@ -43,7 +38,7 @@ pub fn targets<'a>(
 fn fill<'a, R: Wait>(
     rt: &R,
     alloc: Global,
-    target: &mut Target,
+    caller: &mut Caller<'_, Free>,
     mut merger: Merger<'a, Free>,
     series: &Series,
 ) -> Result<Merger<'a, Free>, Failure> {
@@ -52,7 +47,7 @@ fn fill<'a, R: Wait>(
     let mut first = 0_u32;
     for _ in 0..merges {
         let end = first.saturating_add(cells).min(keys);
-        put_filled(rt, alloc, target, first..end, keys)?;
+        put_filled(rt, alloc, caller, first..end, keys)?;
         first = end;
         let (next, swept) = merger.sweep(rt);
         merger = next;
@@ -61,44 +56,30 @@ fn fill<'a, R: Wait>(
         }
     }
     if frozen > 0 {
-        put_filled(rt, alloc, target, 0..frozen, keys)?;
+        put_filled(rt, alloc, caller, 0..frozen, keys)?;
         merger = merger.freeze(rt).0;
     }
-    put_filled(rt, alloc, target, 0..last, keys)?;
+    put_filled(rt, alloc, caller, 0..last, keys)?;
     Ok(merger)
 }
 
-/// Sweeps where at least half of the epoch is drawn, and rests otherwise.
-fn sweep_from_half<'a, R: Wait + Clock>(
-    rt: &R,
-    merger: Merger<'a, Free>,
-    cells: u32,
-) -> Merger<'a, Free> {
-    let (merger, swept) = merger.sweep_if_used(rt, u64::from(cells / 2));
-    if let Ok(Swept::Waited) = swept {
-        thread::sleep(rt, Duration::from_micros(REST));
-    }
-    merger
-}
-
-/// What goes on beside so many calls of a series.
+/// A round, and what goes on beside its calls.
 #[derive(Drop)]
 struct Scene<'a> {
     beside: &'a Beside,
-    series: &'a Series<'a>,
-    calls: u32,
+    round: &'a Round<'a>,
 }
 
 /// Does what is to go on beside the calls, until it is told to stop.
-fn disturb<R: Wait + Clock>(
+fn disturb<R: Wait>(
     rt: &R,
     alloc: Global,
     scene: &Scene,
-    extra: (Target, Merger<'_, Free>),
+    extra: (Caller<'_, Free>, Merger<'_, Free>),
     stop: &AtomicBool,
 ) -> Result<(), Failure> {
-    let (mut target, mut merger) = extra;
-    let Series { keys, cells, .. } = *scene.series;
+    let (mut caller, mut merger) = extra;
+    let keys = scene.round.series.keys;
     let all = Call::Scan {
         lo: 0,
         hi: u64::MAX,
@@ -110,39 +91,38 @@ fn disturb<R: Wait + Clock>(
             return Ok(());
         }
         match scene.beside {
-            Beside::Nothing => return Ok(()),
+            Beside::Nothing | Beside::Session => return Ok(()),
             Beside::Merger => merger = merger.sweep(rt).0,
-            Beside::PacedMerger => merger = sweep_from_half(rt, merger, cells),
             Beside::Batcher => {
-                if !target.batch(rt, &members) {
+                if !caller.write_all(rt, &members) {
                     merger = merger.sweep(rt).0;
                 }
             }
             Beside::Scanner => {
-                let _ = target.make(rt, alloc, &all);
+                let _ = caller.make(rt, alloc, &all);
             }
         }
     }
     Err(Failure::Unanswered)
 }
 
-/// The calls of the targets but the last one, which fills the store first and is then beside them.
+/// The calls of the callers but the last one, which fills the store first and is then beside them.
 fn work_beside<R: Threads + Sync + Clock + Wait>(
     rt: &R,
     alloc: Global,
-    mut targets: Vec<Target>,
+    mut callers: Vec<Caller<'_, Free>>,
     merger: Merger<'_, Free>,
     scene: &Scene,
 ) -> Result<Lap, Failure> {
-    let mut target = targets.pop().ok_or(Failure::Unanswered)?;
-    let merger = fill(rt, alloc, &mut target, merger, scene.series)?;
-    let extra = (target, merger);
+    let mut caller = callers.pop().ok_or(Failure::Unanswered)?;
+    let merger = fill(rt, alloc, &mut caller, merger, scene.round.series)?;
+    let extra = (caller, merger);
     let stop = AtomicBool::new(false);
     let (disturbed, lap) = join(
         rt,
         || -> Result<(), Failure> { disturb(rt, alloc, scene, extra, &stop) },
         || -> Result<Lap, Failure> {
-            let lap = work_all(rt, alloc, targets, scene.series, scene.calls);
+            let lap = work_all(rt, alloc, callers, scene.round);
             stop.store(true, SeqCst);
             lap
         },
@@ -165,10 +145,7 @@ pub fn store_lap<R: Threads + Sync + Clock + Wait>(
         threads,
     } = *work;
     let series = Series::new(alloc, line, options)?;
-    let is_merged = matches!(
-        beside,
-        Beside::Merger | Beside::PacedMerger | Beside::Batcher
-    );
+    let is_merged = matches!(beside, Beside::Merger | Beside::Batcher);
     let calls = line.calls(is_merged, options, threads);
     let Ok(opened) = open(alloc, line.sizes(is_merged, options, threads)) else {
         return Err(Failure::Refused);
@@ -178,14 +155,14 @@ pub fn store_lap<R: Threads + Sync + Clock + Wait>(
         seats,
         merger,
     } = opened;
-    let targets = targets(alloc, &store, seats)?;
+    let callers = callers(alloc, &store, seats)?;
     let merger = Merger::new(&store, merger);
+    let round = Round::new(&series, calls, threads);
     let scene = Scene {
         beside,
-        series: &series,
-        calls,
+        round: &round,
     };
-    work_beside(rt, alloc, targets, merger, &scene)
+    work_beside(rt, alloc, callers, merger, &scene)
 }
 
 /// The same calls of a map that is made and filled for them.
@@ -202,12 +179,12 @@ pub fn map_lap<R: Threads + Sync + Clock + Wait>(
     let series = Series::new(alloc, line, options)?;
     let calls = line.calls(false, options, threads);
     let map = RwLock::new(BTreeMap::new(alloc));
-    let mut targets = Vec::new(alloc);
+    let mut callers = Vec::new(alloc);
     for number in 0..threads {
-        targets.push(Target::Map(number, &map))?;
+        callers.push(MapCaller { number, map: &map })?;
     }
-    if let Some(target) = targets.first_mut() {
-        put_filled(rt, alloc, target, 0..series.keys, series.keys)?;
+    if let Some(caller) = callers.first_mut() {
+        put_filled(rt, alloc, caller, 0..series.keys, series.keys)?;
     }
-    work_all(rt, alloc, targets, &series, calls)
+    work_all(rt, alloc, callers, &Round::new(&series, calls, threads))
 }
