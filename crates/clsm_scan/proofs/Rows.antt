@@ -11,7 +11,7 @@ use Rattle.clsm_levels.specs.declared.entry.Entry.{Entry}
 use Rattle.clsm_levels.specs.Entry.{value_of}
 use Rattle.clsm_levels.specs.Yields.{IsNextFrom}
 use Rattle.clsm_scan.specs.Collected.{AreAll, AreRowsTo, IsAtMost, IsHeadRow, IsNextRow, IsStopped, is_full, left_at}
-use Rattle.clsm_scan.specs.Heads.{has_value, key_of}
+use Rattle.clsm_scan.specs.Heads.{has_value, key_of, row_of}
 
 -- none of the keys from one on and below another has a value
 abbrev pub ArePassed : (ℕ → Option (List ℕ)) → ℕ → ℕ → Type 0
@@ -71,7 +71,8 @@ module _ (found found' : ℕ → Option Entry) (from sought : ℕ) (same : (k : 
   head_here hi key e None at is some le until next = absurd (true≢false (sym some))
   head_here hi key e (Some words) at is some le until next = record {
     words = words;
-    is = is;
+    is = (λ i. row_of (at i) (is i));
+    left = is;
     has = ap (λ (v : Option (List ℕ)). is_some v) is;
     next = subst (λ (n : ℕ). IsNextRow (left_at found) from hi (Some (n, words))) at (row_here hi e words next le (omega arith) is);
   }

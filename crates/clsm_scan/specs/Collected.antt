@@ -1,11 +1,11 @@
 -- The rows that a scan or a page collects, and where it stopped.
-use Rattle.std.specs.Prelude.{◌≡◌, ℕ, ◌<◌, ◌≤◌, Bool, true, false, nat_le, min, List, length, Option, Some, None}
+use Rattle.std.specs.Prelude.{◌≡◌, ℕ, ◌<◌, ◌≤◌, Bool, true, false, nat_le, min, List, [], ◌∷◌, length, Option, Some, None}
 use Rattle.std.specs.List.{AllByRecursion, FoldsTo}
 use Rattle.clsm_model.specs.Map.{KeysRise, Pair, value_at}
 use Rattle.clsm_model.specs.Right.{first_key}
 use Rattle.clsm_levels.specs.declared.entry.Entry.{Entry}
 use Rattle.clsm_levels.specs.Entry.{value_of}
-use Rattle.clsm_scan.specs.Heads.{has_value}
+use Rattle.clsm_scan.specs.Heads.{has_value, rows_of}
 
 -- the value that the newest write of each key left, where `found` gives that write
 abbrev pub left_at : (ℕ → Option Entry) → ℕ → Option (List ℕ)
@@ -19,7 +19,8 @@ IsNextRow value from hi (Some row) = (from ≤ row.0) × (row.0 ≤ hi) × (valu
 -- the head of a cursor is that row, and this is its key
 pub record IsHeadRow (value : ℕ → Option (List ℕ)) (from hi : ℕ) (head : Option Entry) (key : ℕ) : Type 0 where
   pub words : List ℕ
-  pub is : value_of head ≡ Some words
+  pub is : rows_of head ≡ (key, words) ∷ []
+  pub left : value_of head ≡ Some words
   pub has : has_value head ≡ true
   pub next : IsNextRow value from hi (Some (key, words))
 

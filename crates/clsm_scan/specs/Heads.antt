@@ -1,5 +1,6 @@
 -- What was read of a cursor, and how two of them make one.
-use Rattle.std.specs.Prelude.{ℕ, Bool, true, false, nat_lt, is_some, Option, Some, None}
+use Rattle.std.specs.Prelude.{ℕ, Bool, true, false, nat_lt, is_some, List, [], ◌∷◌, Option, Some, None}
+use Rattle.clsm_model.specs.Map.{Pair}
 use Rattle.clsm_levels.specs.declared.entry.Entry.{Entry}
 use Rattle.clsm_levels.specs.Entry.{value_of}
 
@@ -7,6 +8,16 @@ use Rattle.clsm_levels.specs.Entry.{value_of}
 abbrev pub key_of : Option Entry → Option ℕ
 key_of None = None
 key_of (Some e) = Some e.key
+
+-- the key with this value, if there is one
+abbrev pub row_of : ℕ → Option (List ℕ) → List Pair
+row_of key None = []
+row_of key (Some words) = (key, words) ∷ []
+
+-- the key of an entry with its value, if it has one
+abbrev pub rows_of : Option Entry → List Pair
+rows_of None = []
+rows_of (Some e) = row_of e.key e.value
 
 -- the entry has a value
 abbrev pub has_value : Option Entry → Bool

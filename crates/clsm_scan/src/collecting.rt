@@ -29,7 +29,7 @@ pub struct Collected {
 
 /// Puts the key with its value behind the rows. Refused if memory runs out.
 #[inline(always)]
-fn push_row(rows: &mut Vec<(u64, Value)>, key: u64, value: Value) -> Result<(), Memory>
+pub(crate) fn push_row(rows: &mut Vec<(u64, Value)>, key: u64, value: Value) -> Result<(), Memory>
     ensures { OnOk result (rows.new.items ≡ rows.old.items ++ (key, value) ∷ []) }
 {
     match rows.push((key, value)) {
@@ -114,8 +114,7 @@ pub fn collect<C: Cursor, P: Pace>(
             let more = Some(key);
             return Ok(Collected { rows, more });
         }
-        let value = cursor.value(words, seat);
-        push_row(&mut rows, key, value)?;
+        cursor.push(words, seat, &mut rows)?;
         let Some(behind) = key.checked_add(1) else {
             return Ok(Collected { rows, more: None });
         };

@@ -8,10 +8,11 @@ ghost use Rattle.clsm_scan.specs.Heads.{key_of};
 ghost use Rattle.clsm_scan.specs.Optional.{If, if_so};
 ghost use Rattle.clsm_scan.specs.Walking.{IsWriteAt, found_on, spot_entry, spot_same, stands_later, stands_on, write_on};
 
+use crate::collecting::push_row;
 use crate::source::Source;
 use crate::walk::Walk;
 use clsm_memtable::{Epoch, has_value, newest_from, seek, value};
-use clsm_model::Value;
+use clsm_model::{Memory, Value};
 use clsm_words::{Pace, RawSeat, Spot, Words};
 
 /// A walk along an epoch of the held component.
@@ -76,6 +77,19 @@ impl Source for EpochCursor {
             Some(spot) => value(words, seat, &self.epoch, spot),
             None => unreachable!(),
         }
+    }
+
+    fn push<P: Pace>(
+        &self,
+        words: &Words<P>,
+        seat: &mut RawSeat,
+        rows: &mut Vec<(u64, Value)>,
+    ) -> Result<(), Memory> {
+        let Some(spot) = self.last else {
+            return Ok(());
+        };
+        let value = value(words, seat, &self.epoch, spot);
+        push_row(rows, spot.key, value)
     }
 
     ghost over_stays = { λ k k' w looks over. (

@@ -6,7 +6,7 @@ ghost use Rattle.clsm_scan.specs.MergedLaws.{first_same, lead_same};
 
 use crate::cursor::Cursor;
 use crate::source::Source;
-use clsm_model::Value;
+use clsm_model::{Memory, Value};
 use clsm_words::{Pace, RawSeat, Words};
 
 /// Two cursors as one, whose writes of a key are those of the newer cursor, if it has any.
@@ -72,6 +72,20 @@ impl<A: Source, B: Source> Source for Merged<A, B> {
             self.older.value(words, seat)
         } else {
             self.newer.value(words, seat)
+        }
+    }
+
+    #[inline(always)]
+    fn push<P: Pace>(
+        &self,
+        words: &Words<P>,
+        seat: &mut RawSeat,
+        rows: &mut Vec<(u64, Value)>,
+    ) -> Result<(), Memory> {
+        if self.older_leads {
+            self.older.push(words, seat, rows)
+        } else {
+            self.newer.push(words, seat, rows)
         }
     }
 

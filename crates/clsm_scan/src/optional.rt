@@ -4,7 +4,7 @@ ghost use Rattle.clsm_scan.specs.Optional.{If, found_in, found_same, last_in, la
 
 use crate::cursor::Cursor;
 use crate::source::Source;
-use clsm_model::Value;
+use clsm_model::{Memory, Value};
 use clsm_words::{Pace, RawSeat, Words};
 
 impl<C: Source> Source for Option<C> {
@@ -35,6 +35,19 @@ impl<C: Source> Source for Option<C> {
         match self {
             Some(cursor) => cursor.value(words, seat),
             None => unreachable!(),
+        }
+    }
+
+    #[inline(always)]
+    fn push<P: Pace>(
+        &self,
+        words: &Words<P>,
+        seat: &mut RawSeat,
+        rows: &mut Vec<(u64, Value)>,
+    ) -> Result<(), Memory> {
+        match self {
+            Some(cursor) => cursor.push(words, seat, rows),
+            None => Ok(()),
         }
     }
 

@@ -9,9 +9,10 @@ ghost use Rattle.clsm_scan.specs.Heads.{key_of};
 ghost use Rattle.clsm_scan.specs.Optional.{If, if_so};
 ghost use Rattle.clsm_scan.specs.Walking.{found_in_run_on, passed_on, passed_same, run_on};
 
+use crate::collecting::push_row;
 use crate::source::Source;
 use crate::walk::Walk;
-use clsm_model::{Time, Value};
+use clsm_model::{Memory, Time, Value};
 use clsm_runs::{HeldRun, Passed, Sought, next, seek, value};
 use clsm_words::{Pace, RawSeat, Words};
 
@@ -79,6 +80,19 @@ impl Source for RunCursor {
             Some(passed) => value(words, seat, self.run, &passed),
             None => unreachable!(),
         }
+    }
+
+    fn push<P: Pace>(
+        &self,
+        words: &Words<P>,
+        seat: &mut RawSeat,
+        rows: &mut Vec<(u64, Value)>,
+    ) -> Result<(), Memory> {
+        let Some(passed) = self.last else {
+            return Ok(());
+        };
+        let value = value(words, seat, self.run, &passed);
+        push_row(rows, passed.key, value)
     }
 
     ghost over_stays = { λ k k' w looks over. (

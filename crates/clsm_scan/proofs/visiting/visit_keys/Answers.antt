@@ -44,7 +44,7 @@ visited g c =
     c.args.visitor.now c.take.new.self) (sym c.unwrap_or.ensures)
     (visit_next g.V.Visitor.takes (value g c) c.args.bounds.lo c.args.bounds.hi c.loop-key.from c.loop-key.keys c.saturating_add-keys.result (row g c)
     c.loop-key.first c.args.visitor.now c.loop-key.visitor c.take.new.self before.visits before.later (next g c) c.saturating_add-keys.ensures
-    (c.take.ensures.takes c.in-Some.ensures.next.words c.in-Some.ensures.next.is))
+    (c.take.ensures.takes c.in-Some.ensures.next.words c.in-Some.ensures.next.left))
 
 pub returns-in_default-checked_add-clause-visits : goal.returns-in_default-checked_add-clause-visits
 returns-in_default-checked_add-clause-visits g c =
