@@ -82,8 +82,8 @@ due_low due t s snapshot Close le own = le
 due_low due t s snapshot (GetAt key reply) le own = le
 due_low due t s None (Scan lo hi rows) le own = own
 due_low due t s (Some at) (Scan lo hi rows) le own = le
-due_low due t s None (Page from hi max rows more) le own = own
-due_low due t s (Some at) (Page from hi max rows more) le own = le
+due_low due t s None (Page range rows more) le own = own
+due_low due t s (Some at) (Page range rows more) le own = le
 due_low due t s snapshot (Group members) le own = own
 
 -- no record of the seat has a due above the time
@@ -106,8 +106,8 @@ from_low due t snapshot Close le = tt
 from_low due t snapshot (GetAt key reply) le = tt
 from_low due t None (Scan lo hi rows) le = le
 from_low due t (Some at) (Scan lo hi rows) le = tt
-from_low due t None (Page from hi max rows more) le = le
-from_low due t (Some at) (Page from hi max rows more) le = tt
+from_low due t None (Page range rows more) le = le
+from_low due t (Some at) (Page range rows more) le = tt
 from_low due t snapshot deed le = le
 
 -- where no earlier record of its seat has a due above its time, the record did not run back

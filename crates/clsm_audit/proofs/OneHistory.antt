@@ -66,8 +66,8 @@ due_after-le due snapshot t Close = omega arith
 due_after-le due snapshot t (GetAt key reply) = omega arith
 due_after-le due None t (Scan lo hi rows) = omega arith
 due_after-le due (Some s) t (Scan lo hi rows) = omega arith
-due_after-le due None t (Page from hi max rows more) = omega arith
-due_after-le due (Some s) t (Page from hi max rows more) = omega arith
+due_after-le due None t (Page range rows more) = omega arith
+due_after-le due (Some s) t (Page range rows more) = omega arith
 
 last_due-le : (due : ℕ) (snapshot : Option ℕ) (calls : List CallRecord) → last_due due snapshot calls ≤ max due (end_by calls)
 last_due-le due snapshot [] = omega arith
@@ -193,8 +193,8 @@ is_next due snapshot t Close at from = at
 is_next due snapshot t (GetAt key reply) at from = at
 is_next due None t (Scan lo hi rows) at from = from
 is_next due (Some s) t (Scan lo hi rows) at from = at
-is_next due None t (Page lo hi max rows more) at from = from
-is_next due (Some s) t (Page lo hi max rows more) at from = at
+is_next due None t (Page range rows more) at from = from
+is_next due (Some s) t (Page range rows more) at from = at
 
 -- with one record more, which may come next after the calls of its own seat
 rises_more : (before : List CallRecord) (r : CallRecord) (seat : ℕ) → IsNext (due_of before r.seat) (open_of before r.seat) r.time r.deed

@@ -58,8 +58,8 @@ next_suits due snapshot t Close next = (next, tt)
 next_suits due snapshot t (GetAt key reply) next = (next, tt)
 next_suits due None t (Scan lo hi rows) next = (tt, next)
 next_suits due (Some s) t (Scan lo hi rows) next = (next, tt)
-next_suits due None t (Page from hi max rows more) next = (tt, next)
-next_suits due (Some s) t (Page from hi max rows more) next = (next, tt)
+next_suits due None t (Page range rows more) next = (tt, next)
+next_suits due (Some s) t (Page range rows more) next = (next, tt)
 next_suits due snapshot t deed next = (tt, next)
 
 -- ---- no time is past the due that the calls leave
@@ -98,8 +98,8 @@ time_below due t snapshot Close below next = subst (IsOpenBelow due) next below
 time_below due t snapshot (GetAt key reply) below next = subst (IsOpenBelow due) next below
 time_below due t None (Scan lo hi rows) below next = omega arith
 time_below due t (Some s) (Scan lo hi rows) below next = omega arith
-time_below due t None (Page from hi max rows more) below next = omega arith
-time_below due t (Some s) (Page from hi max rows more) below next = omega arith
+time_below due t None (Page range rows more) below next = omega arith
+time_below due t (Some s) (Page range rows more) below next = omega arith
 
 bound_later : (writes : Bool) (t past bound bound' : ℕ) → bound ≤ bound' → MatchBool writes (past ≤ bound) (t ≤ bound)
     → MatchBool writes (past ≤ bound') (t ≤ bound')

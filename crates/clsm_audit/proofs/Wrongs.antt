@@ -5,6 +5,7 @@ use Rattle.std.specs.List.{slice_get}
 use Rattle.std.specs.Option.{IsSomeAnd}
 use Rattle.clsm_model.specs.declared.batch.Batch.{Batch}
 use Rattle.clsm_model.specs.declared.config.Config.{Config}
+use Rattle.clsm_model.specs.declared.page_range.PageRange.{PageRange}
 use Rattle.clsm_model.specs.declared.record.CallRecord.{CallRecord}
 use Rattle.clsm_model.specs.declared.record.Deed.{Deed}
 use Rattle.clsm_model.specs.declared.record.Deed.TheVariants.{Put, Remove, Rmw, Get, GetAt, Scan, Page, Batch as Group}
@@ -135,32 +136,33 @@ pub scan_reads : (h : History) (r : CallRecord) (lo hi : ℕ) (own rows right_ro
 scan_reads h r lo hi own rows right_rows is same range agree =
     subst (λ (d : Deed). Reads h r.time d) (sym is) (subst (λ (xs : List Pair). IsRange h r.time lo hi xs) (sym agree ∙ same) range)
 
-pub page_explains : (config : Config) (records : List CallRecord) (i : ℕ) (r : CallRecord) (from hi max : ℕ) (own rows front all : List Pair)
-    (more next : Option ℕ) (e : Explanation) → r.deed ≡ Page from hi max own more → rows ≡ own
-    → IsRange (history_of records) r.time from hi all → IsPage all max front next → SaysRow records r.time rows front e → Explains config records i r e
-page_explains config records i r from hi max own rows front all more next e is same range page says =
+pub page_explains : (config : Config) (records : List CallRecord) (i : ℕ) (r : CallRecord) (range : PageRange) (own rows front all : List Pair)
+    (more next : Option ℕ) (e : Explanation) → r.deed ≡ Page range own more → rows ≡ own → IsRange (history_of records) r.time range.from range.hi all
+    → IsPage all range.max front next → SaysRow records r.time rows front e → Explains config records i r e
+page_explains config records i r range own rows front all more next e is same whole page says =
     row_explains config records i r rows front next e (subst (λ (d : Deed). AreRightRows (history_of records) r.time d front next) (sym is)
-    (all, range, page)) (same ∙ sym (ap rows_of is)) says
+    (all, whole, page)) (same ∙ sym (ap rows_of is)) says
 
-next_reads : (h : History) (s from hi max : ℕ) (own all : List Pair) (more next : Option ℕ) (deed : Deed) → deed ≡ Page from hi max own more
-    → IsRange h s from hi all → IsPage all max own next → more ≡ next → Reads h s deed
-next_reads h s from hi max own all more next deed is range page agree =
-    subst (λ (d : Deed). Reads h s d) (sym is) (all, range, subst (λ (o : Option ℕ). IsPage all max own o) (sym agree) page)
+next_reads : (h : History) (s : ℕ) (range : PageRange) (own all : List Pair) (more next : Option ℕ) (deed : Deed) → deed ≡ Page range own more
+    → IsRange h s range.from range.hi all → IsPage all range.max own next → more ≡ next → Reads h s deed
+next_reads h s range own all more next deed is whole page agree =
+    subst (λ (d : Deed). Reads h s d) (sym is) (all, whole, subst (λ (o : Option ℕ). IsPage all range.max own o) (sym agree) page)
 
-pub next_explains : (config : Config) (records : List CallRecord) (i : ℕ) (r : CallRecord) (from hi max : ℕ) (own rows front all : List Pair)
-    (more next : Option ℕ) → (Reads (history_of records) r.time r.deed → ⊥) → r.deed ≡ Page from hi max own more → rows ≡ own
-    → IsRange (history_of records) r.time from hi all → IsPage all max front next → rows ≡ front → Explains config records i r (WrongNext more next)
-next_explains config records i r from hi max own rows front all more next wrong is same range page agree =
-    let here : IsPage all max own next = subst (λ (xs : List Pair). IsPage all max xs next) (sym agree ∙ same) page in (
+pub next_explains : (config : Config) (records : List CallRecord) (i : ℕ) (r : CallRecord) (range : PageRange) (own rows front all : List Pair)
+    (more next : Option ℕ) → (Reads (history_of records) r.time r.deed → ⊥) → r.deed ≡ Page range own more → rows ≡ own
+    → IsRange (history_of records) r.time range.from range.hi all → IsPage all range.max front next → rows ≡ front
+    → Explains config records i r (WrongNext more next)
+next_explains config records i r range own rows front all more next wrong is same whole page agree =
+    let here : IsPage all range.max own next = subst (λ (xs : List Pair). IsPage all range.max xs next) (sym agree ∙ same) page in (
       sym (ap next_of is),
-      λ e. wrong (next_reads (history_of records) r.time from hi max own all more next r.deed is range here e),
-      subst (λ (d : Deed). AreRightRows (history_of records) r.time d (rows_of d) next) (sym is) (all, range, here),
+      λ e. wrong (next_reads (history_of records) r.time range own all more next r.deed is whole here e),
+      subst (λ (d : Deed). AreRightRows (history_of records) r.time d (rows_of d) next) (sym is) (all, whole, here),
     )
 
 -- ---- other deeds
 
 pub rows_read : (deed : Deed) → ReadsRows deed → ((lo hi : ℕ) (rows : List Pair) → deed ≡ Scan lo hi rows → ⊥)
-    → ((from hi max : ℕ) (rows : List Pair) (more : Option ℕ) → deed ≡ Page from hi max rows more → ⊥) → ⊥
+    → ((range : PageRange) (rows : List Pair) (more : Option ℕ) → deed ≡ Page range rows more → ⊥) → ⊥
 rows_read (Scan lo hi rows) reads scan page = scan lo hi rows refl
-rows_read (Page from hi max rows more) reads scan page = page from hi max rows more refl
+rows_read (Page range rows more) reads scan page = page range rows more refl
 rows_read deed reads scan page = reads

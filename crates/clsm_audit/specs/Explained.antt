@@ -74,25 +74,25 @@ pub record IsRightValue (records : List CallRecord) (s key : ℕ) (answered righ
 -- the deed reads rows
 abbrev pub ReadsRows : Deed → Type 0
 ReadsRows (Scan lo hi rows) = Unit {0}
-ReadsRows (Page from hi max rows more) = Unit {0}
+ReadsRows (Page range rows more) = Unit {0}
 ReadsRows deed = ⊥
 
 -- the rows, and the key of the next one, that the deed has to read below the time s
 abbrev pub AreRightRows : History → ℕ → Deed → List Pair → Option ℕ → Type 0
 AreRightRows h s (Scan lo hi rows) right next = IsRange h s lo hi right × (next ≡ None)
-AreRightRows h s (Page from hi max rows more) right next =
-    (all : List Pair) × IsRange h s from hi all × IsPage all max right next
+AreRightRows h s (Page range rows more) right next =
+    (all : List Pair) × IsRange h s range.from range.hi all × IsPage all range.max right next
 AreRightRows h s deed right next = ⊥
 
 -- the rows that it read
 abbrev pub rows_of : Deed → List Pair
 rows_of (Scan lo hi rows) = rows
-rows_of (Page from hi max rows more) = rows
+rows_of (Page range rows more) = rows
 rows_of deed = []
 
 -- the key of the next row that it read
 abbrev pub next_of : Deed → Option ℕ
-next_of (Page from hi max rows more) = more
+next_of (Page range rows more) = more
 next_of deed = None
 
 -- the lower one of the keys of two rows, of which one may be missing

@@ -56,7 +56,7 @@ IsAtSnapshot snapshot t Snapshot = snapshot ≡ None
 IsAtSnapshot snapshot t Close = snapshot ≡ Some t
 IsAtSnapshot snapshot t (GetAt key reply) = snapshot ≡ Some t
 IsAtSnapshot snapshot t (Scan lo hi rows) = IfSome snapshot (λ s. t ≡ s)
-IsAtSnapshot snapshot t (Page from hi max rows more) = IfSome snapshot (λ s. t ≡ s)
+IsAtSnapshot snapshot t (Page range rows more) = IfSome snapshot (λ s. t ≡ s)
 IsAtSnapshot snapshot t _ = Unit {0}
 
 -- what the record says is in its ranges, and the snapshot is used as it may be
@@ -69,7 +69,7 @@ abbrev pub IsFromDue : ℕ → Option ℕ → ℕ → Deed → Type 0
 IsFromDue due snapshot t Close = Unit {0}
 IsFromDue due snapshot t (GetAt key reply) = Unit {0}
 IsFromDue due snapshot t (Scan lo hi rows) = IfNone snapshot (due ≤ t)
-IsFromDue due snapshot t (Page from hi max rows more) = IfNone snapshot (due ≤ t)
+IsFromDue due snapshot t (Page range rows more) = IfNone snapshot (due ≤ t)
 IsFromDue due snapshot t _ = due ≤ t
 
 -- ---- the same of the record at an index, if there is one

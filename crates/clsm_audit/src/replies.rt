@@ -30,15 +30,9 @@ pub fn is_reply(map: &PlainMap, deed: &Deed) -> Result<bool, Memory>
         Deed::Rmw { key, old, .. } => Ok(*old == map.get(*key)),
         Deed::Get { key, reply } | Deed::GetAt { key, reply } => Ok(*reply == map.get(*key)),
         Deed::Scan { lo, hi, rows } => Ok(rows.as_slice() == map.range(*lo, *hi)?.as_slice()),
-        Deed::Page {
-            from,
-            hi,
-            max,
-            rows,
-            more,
-        } => Ok(is_page(
-            map.range(*from, *hi)?.as_slice(),
-            *max,
+        Deed::Page { range, rows, more } => Ok(is_page(
+            map.range(range.from, range.hi)?.as_slice(),
+            range.max,
             rows.as_slice(),
             *more,
         )),

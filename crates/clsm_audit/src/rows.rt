@@ -44,15 +44,9 @@ pub fn explain_rows(
                 None => unreachable!(),
             }
         }
-        Deed::Page {
-            from,
-            hi,
-            max,
-            rows,
-            more,
-        } => {
-            let all = map.range(*from, *hi)?;
-            let (front, next) = page_of(&all, *max);
+        Deed::Page { range, rows, more } => {
+            let all = map.range(range.from, range.hi)?;
+            let (front, next) = page_of(&all, range.max);
             match explain_row(records, call.time, rows.as_slice(), front) {
                 Some(explanation) => Ok(explanation),
                 None => Ok(Explanation::WrongNext {

@@ -3,7 +3,7 @@ ghost use Rattle.clsm_law.specs.SeatReads.{IsNextKey, IsPageOf, IsRangeBelow};
 ghost use Rattle.clsm_law.specs.Worlds.{history_of};
 
 use crate::ranges::{is_range, value_of};
-use clsm_model::{Slot, Value};
+use clsm_model::{PageRange, Slot, Value};
 
 /// Whether the rows are all keys from `lo` on, below `hi`, that have a value after the slots, by
 /// rising key.
@@ -16,17 +16,9 @@ fn is_range_below(seen: &[Option<Slot>], lo: u64, hi: u64, rows: &[(u64, Value)]
     is_range(seen, lo, hi - 1, rows)
 }
 
-/// What a page asks for: the first `max` pairs of the keys from `from` to `hi`.
-#[derive(Clone, Copy)]
-pub(crate) struct Asked {
-    pub(crate) from: u64,
-    pub(crate) hi: u64,
-    pub(crate) max: u64,
-}
-
 /// Whether the rows are the last of the pairs that are asked for after the slots, and no more than
 /// that.
-fn is_last_page(seen: &[Option<Slot>], asked: Asked, rows: &[(u64, Value)]) -> bool
+fn is_last_page(seen: &[Option<Slot>], asked: PageRange, rows: &[(u64, Value)]) -> bool
     ensures { IsTrue result ↔ IsPageOf (history_of seen.now) (length seen.now) asked.from asked.hi asked.max rows.now None }
 {
     rows.len() as u64 <= asked.max && is_range(seen, asked.from, asked.hi, rows)
@@ -40,7 +32,7 @@ fn is_next_key(seen: &[Option<Slot>], from: u64, hi: u64, key: u64) -> bool
 
 /// Whether they are the first of those pairs, as many as are asked for, and the next one's key is
 /// `next`.
-fn is_page_before(seen: &[Option<Slot>], asked: Asked, rows: &[(u64, Value)], next: u64) -> bool
+fn is_page_before(seen: &[Option<Slot>], asked: PageRange, rows: &[(u64, Value)], next: u64) -> bool
     ensures { IsTrue result ↔ IsPageOf (history_of seen.now) (length seen.now) asked.from asked.hi asked.max rows.now (Some next) }
 {
     rows.len() as u64 == asked.max
@@ -52,7 +44,7 @@ fn is_page_before(seen: &[Option<Slot>], asked: Asked, rows: &[(u64, Value)], ne
 /// the next one.
 pub(crate) fn is_page(
     seen: &[Option<Slot>],
-    asked: Asked,
+    asked: PageRange,
     rows: &[(u64, Value)],
     more: Option<u64>,
 ) -> bool

@@ -3,7 +3,7 @@ ghost use Rattle.clsm_model.specs.Right.{IsRight, Reads};
 ghost use Rattle.clsm_law.specs.Worlds.{history_of, open_past};
 
 use crate::batches::is_uncut;
-use crate::pages::{Asked, is_page};
+use crate::pages::is_page;
 use crate::ranges::{is_range, is_value};
 use clsm_model::{Batch, Deed, Slot, Time};
 
@@ -16,20 +16,7 @@ fn reads(seen: &[Option<Slot>], deed: &Deed) -> bool
         Deed::Get { key, reply } => is_value(seen, *key, *reply),
         Deed::GetAt { key, reply } => is_value(seen, *key, *reply),
         Deed::Scan { lo, hi, rows } => is_range(seen, *lo, *hi, rows.as_slice()),
-        Deed::Page {
-            from,
-            hi,
-            max,
-            rows,
-            more,
-        } => {
-            let asked = Asked {
-                from: *from,
-                hi: *hi,
-                max: *max,
-            };
-            is_page(seen, asked, rows.as_slice(), *more)
-        }
+        Deed::Page { range, rows, more } => is_page(seen, *range, rows.as_slice(), *more),
         _ => true,
     }
 }

@@ -77,14 +77,14 @@ time_of_read v (Get key reply) = v.pin_clock
 time_of_read v (Rmw key old Keep) = v.pin_clock
 time_of_read v (GetAt key reply) = open_time v.snapshot
 time_of_read v (Scan lo hi rows) = or_else (open_time v.snapshot) v.pin_clock
-time_of_read v (Page from hi max rows more) = or_else (open_time v.snapshot) v.pin_clock
+time_of_read v (Page range rows more) = or_else (open_time v.snapshot) v.pin_clock
 time_of_read v _ = None
 
 -- a read under an open snapshot: it may stand below the due, and leaves it
 abbrev pub is_old : View → Deed → Bool
 is_old v (GetAt key reply) = true
 is_old v (Scan lo hi rows) = is_some (open_time v.snapshot)
-is_old v (Page from hi max rows more) = is_some (open_time v.snapshot)
+is_old v (Page range rows more) = is_some (open_time v.snapshot)
 is_old v _ = false
 
 -- the time of the snapshot that this pin noted

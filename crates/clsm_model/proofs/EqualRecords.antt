@@ -7,11 +7,14 @@ use Rattle.std.specs.Cmp.{unsigned_Decides}
 use Rattle.std.specs.Cmp.Lexicographic.{pointwise_decides}
 use Rattle.clsm_model.specs.declared.slot.Change.{Change}
 use Rattle.clsm_model.specs.declared.slot.Change.TheVariants.{Keep, Set, Remove as Erase}
+use Rattle.clsm_model.specs.declared.page_range.PageRange.{PageRange}
 use Rattle.clsm_model.specs.declared.record.Deed.{Deed}
 use Rattle.clsm_model.specs.declared.record.Deed.TheVariants.{Put, Remove, Rmw, Get, Snapshot, Close, GetAt, Scan, Page, Batch as Group}
 use Rattle.clsm_model.specs.declared.record.CallRecord.{CallRecord}
 use Rattle.clsm_model.specs.contracts.slot.ChangePartialEq.TheImpl as of_changes
 use Rattle.clsm_model.specs.contracts.slot.ChangeEq.TheImpl.Laws as change_laws
+use Rattle.clsm_model.specs.contracts.page_range.PageRangePartialEq.TheImpl as of_ranges
+use Rattle.clsm_model.specs.contracts.page_range.PageRangeEq.TheImpl.Laws as range_laws
 use Rattle.clsm_model.specs.contracts.record.DeedPartialEq.TheImpl as of_deeds
 use Rattle.clsm_model.specs.contracts.record.DeedEq.TheImpl.Laws as deed_laws
 use Rattle.clsm_model.specs.contracts.record.CallRecordPartialEq.TheImpl as of_records
@@ -32,6 +35,14 @@ Change-Decides = Decides-by_same change_laws.laws-law change-same
 pub Members-Decides : (a b : List Member) → Decides (of_members.ghosts.eq a b) (a ≡ b)
 Members-Decides = pointwise_decides (pair-Decides unsigned_Decides Change-Decides)
 
+range-same : (a b : PageRange) → of_ranges.ghosts.eq a b ≡ true → a ≡ b
+range-same a b h =
+    let e = (Decides-and _ _ (unsigned_Decides a.from b.from) (Decides-and _ _ (unsigned_Decides a.hi b.hi) (unsigned_Decides a.max b.max))).0 h in
+    λ i. record { from = e.0 i; hi = e.1.0 i; max = e.1.1 i }
+
+pub PageRange-Decides : (a b : PageRange) → Decides (of_ranges.ghosts.eq a b) (a ≡ b)
+PageRange-Decides = Decides-by_same range_laws.laws-law range-same
+
 deed-same : (a b : Deed) → of_deeds.ghosts.eq a b ≡ true → a ≡ b
 deed-same (Put key value) (Put key' value') h =
     let e = (Decides-and _ _ (unsigned_Decides key key') (Value-Decides value value')).0 h in λ i. Put (e.0 i) (e.1 i)
@@ -48,10 +59,10 @@ deed-same (GetAt key reply) (GetAt key' reply') h =
 deed-same (Scan lo hi rows) (Scan lo' hi' rows') h =
     let e = (Decides-and _ _ (unsigned_Decides lo lo') (Decides-and _ _ (unsigned_Decides hi hi') (Rows-Decides rows rows'))).0 h in
     λ i. Scan (e.0 i) (e.1.0 i) (e.1.1 i)
-deed-same (Page from hi max rows more) (Page from' hi' max' rows' more') h =
-    let e = (Decides-and _ _ (unsigned_Decides from from') (Decides-and _ _ (unsigned_Decides hi hi')
-    (Decides-and _ _ (unsigned_Decides max max') (Decides-and _ _ (Rows-Decides rows rows') (option_eq-Decides unsigned_Decides more more'))))).0 h in
-    λ i. Page (e.0 i) (e.1.0 i) (e.1.1.0 i) (e.1.1.1.0 i) (e.1.1.1.1 i)
+deed-same (Page range rows more) (Page range' rows' more') h =
+    let e = (Decides-and _ _ (PageRange-Decides range range')
+    (Decides-and _ _ (Rows-Decides rows rows') (option_eq-Decides unsigned_Decides more more'))).0 h in
+    λ i. Page (e.0 i) (e.1.0 i) (e.1.1 i)
 deed-same (Group members) (Group members') h = ap Group ((Members-Decides members members').0 h)
 deed-same _ _ h = absurd (true≢false (sym h))
 

@@ -23,8 +23,8 @@ due_grows due t snapshot Close next = omega arith
 due_grows due t snapshot (GetAt key reply) next = omega arith
 due_grows due t None (Scan lo hi rows) next = next
 due_grows due t (Some s) (Scan lo hi rows) next = omega arith
-due_grows due t None (Page from hi max rows more) next = next
-due_grows due t (Some s) (Page from hi max rows more) next = omega arith
+due_grows due t None (Page range rows more) next = next
+due_grows due t (Some s) (Page range rows more) next = omega arith
 
 -- nor do several
 pub last_grows : (due : ℕ) (snapshot : Option ℕ) (calls : List CallRecord) → Rises due snapshot calls → due ≤ last_due due snapshot calls

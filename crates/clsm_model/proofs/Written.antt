@@ -42,7 +42,7 @@ writes_due i due s t snapshot Snapshot next is = absurd (true≢false (sym (at_t
 writes_due i due s t snapshot Close next is = absurd (true≢false (sym (at_time i s t Close is).1))
 writes_due i due s t snapshot (GetAt key reply) next is = absurd (true≢false (sym (at_time i s t (GetAt key reply) is).1))
 writes_due i due s t snapshot (Scan lo hi rows) next is = absurd (true≢false (sym (at_time i s t (Scan lo hi rows) is).1))
-writes_due i due s t snapshot (Page from hi max rows more) next is = absurd (true≢false (sym (at_time i s t (Page from hi max rows more) is).1))
+writes_due i due s t snapshot (Page range rows more) next is = absurd (true≢false (sym (at_time i s t (Page range rows more) is).1))
 writes_due i due s t snapshot (Group members) next is =
     let both = tested (nat_le s t) (member_write i members (t - s)) is in
     let a = leb-true s t both.0 in let b = member_inside i members (t - s) both.1 in (omega arith, omega arith)

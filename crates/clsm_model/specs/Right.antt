@@ -53,13 +53,18 @@ pub record IsPage (all : List Pair) (max : ℕ) (rows : List Pair) (more : Optio
   pub front : rows ≡ take max all
   pub next : more ≡ first_key (drop max all)
 
+-- the page of the first `max` pairs with keys from `from` to `hi`
+abbrev pub page_deed : ℕ → ℕ → ℕ → List Pair → Option ℕ → Deed
+page_deed from hi max rows more = Page (record { from = from; hi = hi; max = max }) rows more
+
 -- what the deed says of the history below the time s: nothing, for a deed that read nothing
 abbrev pub Reads : History → ℕ → Deed → Type 0
 Reads h s (Rmw key old change) = old ≡ value h key s
 Reads h s (Get key reply) = reply ≡ value h key s
 Reads h s (GetAt key reply) = reply ≡ value h key s
 Reads h s (Scan lo hi rows) = IsRange h s lo hi rows
-Reads h s (Page from hi max rows more) = (all : List Pair) × IsRange h s from hi all × IsPage all max rows more
+Reads h s (Page range rows more) =
+    (all : List Pair) × IsRange h s range.from range.hi all × IsPage all range.max rows more
 Reads h s _ = Unit {0}
 
 -- the deed stands at a time of the history, and what it read is what the writes below that time

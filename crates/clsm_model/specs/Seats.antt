@@ -97,7 +97,7 @@ due_after due snapshot t Snapshot = t
 due_after due snapshot t Close = due
 due_after due snapshot t (GetAt key reply) = due
 due_after due snapshot t (Scan lo hi rows) = cond (is_some snapshot) due t
-due_after due snapshot t (Page from hi max rows more) = cond (is_some snapshot) due t
+due_after due snapshot t (Page range rows more) = cond (is_some snapshot) due t
 
 -- a scan or page at the time t may come next: at the open snapshot, or else at or above the due
 abbrev pub IsNextRead : ℕ → Option ℕ → ℕ → Type 0
@@ -111,7 +111,7 @@ IsNext due snapshot t Snapshot = (snapshot ≡ None) × (due ≤ t)
 IsNext due snapshot t Close = snapshot ≡ Some t
 IsNext due snapshot t (GetAt key reply) = snapshot ≡ Some t
 IsNext due snapshot t (Scan lo hi rows) = IsNextRead due snapshot t
-IsNext due snapshot t (Page from hi max rows more) = IsNextRead due snapshot t
+IsNext due snapshot t (Page range rows more) = IsNextRead due snapshot t
 IsNext due snapshot t _ = due ≤ t
 
 -- each of the calls may come next after those before it

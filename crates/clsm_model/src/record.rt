@@ -2,6 +2,7 @@ ghost use Rattle.std.specs.Prelude.{◌≡◌};
 
 use crate::Time;
 use crate::members::Members;
+use crate::page_range::PageRange;
 use crate::rows::Rows;
 use crate::slot::Change;
 use crate::value::Value;
@@ -41,12 +42,9 @@ pub enum Deed {
         hi: u64,
         rows: Rows,
     },
-    /// The first `max` pairs with `from <= key <= hi`, and the key of the next pair, if there is
-    /// one.
+    /// The pairs of the range, and the key of the next pair, if there is one.
     Page {
-        from: u64,
-        hi: u64,
-        max: u64,
+        range: PageRange,
         rows: Rows,
         more: Option<u64>,
     },

@@ -1,7 +1,8 @@
 //! A caller of a session: the calls of the store, of which writes wait for room.
 ghost use Rattle.std.specs.Prelude.{◌≡◌, ◌≢◌, None, Some, IfErr, IfNone, IfOk, IfSome};
-ghost use Rattle.clsm_model.specs.declared.record.Deed.TheVariants.{Batch as Group, Close, Get, GetAt, Page as PageOf, Put, Remove, Rmw as ChangeOf};
+ghost use Rattle.clsm_model.specs.declared.record.Deed.TheVariants.{Batch as Group, Close, Get, GetAt, Put, Remove, Rmw as ChangeOf};
 ghost use Rattle.clsm_model.specs.declared.record.Deed.TheVariants.{Scan as ScanOf, Snapshot};
+ghost use Rattle.clsm_model.specs.Right.{page_deed};
 ghost use Rattle.clsm_model.specs.Seats.{FitsDeed};
 ghost use Rattle.clsm_store.specs.Changes.{added, put_if_absent};
 ghost use Rattle.clsm_store.specs.Play.{PlaysCall, WantsMemory};
@@ -203,7 +204,7 @@ impl<'a, R: Wait, P: Place> SessionCaller<'a, R, P> {
 
     /// As `Store::page`.
     pub fn page(&mut self, from: u64, hi: u64, max: usize) -> Result<Page, Memory>
-        ensures answers { IfOk result (λ page. Answers self.old self.new page.time (PageOf from hi max page.rows page.more)) }
+        ensures answers { IfOk result (λ page. Answers self.old self.new page.time (page_deed from hi max page.rows page.more)) }
         ensures lock { TakesNoLock self.old.tally self.new.tally }
         ensures refused { IfErr result (λ refusal. Refuses self.old self.new) }
     {

@@ -1,6 +1,6 @@
 -- Pages one after another.
 use Rattle.std.specs.Prelude.{◌≡◌, ℕ, max, Option, Some, None}
-use Rattle.clsm_model.specs.declared.record.Deed.TheVariants.{Page as PageOf}
+use Rattle.clsm_model.specs.Right.{page_deed}
 use Rattle.clsm_store_calls.specs.declared.got.Page.{Page}
 use Rattle.clsm_store_calls.specs.Seats.{Answers, SeatState}
 use Rattle.clsm_store.specs.declared.pages.Pages.{Pages}
@@ -13,7 +13,7 @@ at_least_one n = max n 1
 pub record ReadsPage (old new : SeatState) (before after : Pages) (page : Page) : Type 0 where
   pub from : ℕ
   pub stood : before.next ≡ Some from
-  pub answers : Answers old new page.time (PageOf from before.hi before.max page.rows page.more)
+  pub answers : Answers old new page.time (page_deed from before.hi before.max page.rows page.more)
   pub stands : after ≡ record before { next = page.more }
 
 -- so was the next page; or there was none, and nothing was done

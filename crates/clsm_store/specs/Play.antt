@@ -3,6 +3,7 @@ use Rattle.std.specs.Prelude.{◌≡◌, ⊤, Some, None, Ok, Err}
 use Rattle.clsm_model.specs.declared.deal.Deal.{Deal}
 use Rattle.clsm_model.specs.declared.deal.Deal.TheVariants as deals
 use Rattle.clsm_model.specs.declared.record.Deed.TheVariants as deeds
+use Rattle.clsm_model.specs.Right.{page_deed}
 use Rattle.clsm_store_calls.specs.Seats.{SeatState, Answers, IsFull, Refuses}
 use Rattle.clsm_store_calls.specs.Batching.{IsRefusedBatch}
 use Rattle.clsm_store_calls.specs.Trying.{RefusesTry}
@@ -42,7 +43,7 @@ PlaysCall (Scan lo hi) old new (Scanned (Ok scan)) =
     Answers old new scan.time (deeds.Scan lo hi scan.rows)
 PlaysCall (Scan lo hi) old new (Scanned (Err _)) = Refuses old new
 PlaysCall (Page from hi max) old new (Paged (Ok page)) =
-    Answers old new page.time (deeds.Page from hi max page.rows page.more)
+    Answers old new page.time (page_deed from hi max page.rows page.more)
 PlaysCall (Page from hi max) old new (Paged (Err _)) = Refuses old new
 PlaysCall (Batch members) old new (Batched (Ok t)) = Answers old new t (deeds.Batch members)
 PlaysCall (Batch members) old new (Batched (Err refusal)) =

@@ -1,7 +1,8 @@
 //! A caller with its store: the calls of the store. Only `get_at` asks for an open snapshot.
 ghost use Rattle.std.specs.Prelude.{◌≡◌, ◌≢◌, None, Some, IfNone, IfOk, IfErr, IfSome};
-ghost use Rattle.clsm_model.specs.declared.record.Deed.TheVariants.{Batch as Group, Close, Get, GetAt, Page as PageOf, Put, Remove, Rmw as ChangeOf};
+ghost use Rattle.clsm_model.specs.declared.record.Deed.TheVariants.{Batch as Group, Close, Get, GetAt, Put, Remove, Rmw as ChangeOf};
 ghost use Rattle.clsm_model.specs.declared.record.Deed.TheVariants.{Scan as ScanOf, Snapshot};
+ghost use Rattle.clsm_model.specs.Right.{page_deed};
 ghost use Rattle.clsm_model.specs.Seats.{FitsDeed};
 ghost use Rattle.clsm_law.specs.Relation.{call_of};
 ghost use Rattle.clsm_store_calls.specs.Batching.{CountsBatch, IsRefusedBatch};
@@ -139,7 +140,7 @@ impl<'a, P: Pace> Caller<'a, P> {
 
     /// As `Store::page`.
     pub fn page(&mut self, alloc: Global, from: u64, hi: u64, max: usize) -> Result<Page, Memory>
-        ensures answers { IfOk result (λ page. Answers self.old.seat self.new.seat page.time (PageOf from hi max page.rows page.more)) }
+        ensures answers { IfOk result (λ page. Answers self.old.seat self.new.seat page.time (page_deed from hi max page.rows page.more)) }
         ensures lock { TakesNoLock self.old.seat.tally self.new.seat.tally }
         ensures refused { IfErr result (λ refusal. Refuses self.old.seat self.new.seat) }
     {

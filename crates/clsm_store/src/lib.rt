@@ -23,7 +23,8 @@ pub use caller::Caller;
 pub use changes::{added, put_if_absent};
 pub use clsm_law::{Part, Word};
 pub use clsm_model::{
-    CallRecord, Change, Config, Deal, Deed, Length, Members, Memory, OpenError, Rows, Time, Value,
+    CallRecord, Change, Config, Deal, Deed, Length, Members, Memory, OpenError, PageRange, Rows,
+    Time, Value,
 };
 pub use clsm_runs::RunFull;
 pub use clsm_store_calls::{

@@ -1,6 +1,7 @@
 //! The calls that read many keys at one time.
 ghost use Rattle.std.specs.Prelude.{◌≡◌, IfErr, IfOk};
-ghost use Rattle.clsm_model.specs.declared.record.Deed.TheVariants.{Page as PageOf, Scan as ScanOf};
+ghost use Rattle.clsm_model.specs.declared.record.Deed.TheVariants.{Scan as ScanOf};
+ghost use Rattle.clsm_model.specs.Right.{page_deed};
 ghost use Rattle.clsm_store_calls.specs.Scanning.{CountsKeys, IsAnswerTo, IsKeyVisit, ScansNow, VisitsKeys};
 ghost use Rattle.clsm_store_calls.specs.Seats.{Answers, Refuses, known_by};
 ghost use Rattle.clsm_store_calls.specs.Tally.{TakesNoLock};
@@ -75,7 +76,7 @@ impl<P: Pace> Store<P> {
         max: usize,
     ) -> Result<Page, Memory>
         requires { seat.old.store ≡ self.now }
-        ensures answers { IfOk result (λ page. Answers seat.old seat.new page.time (PageOf from hi max page.rows page.more)) }
+        ensures answers { IfOk result (λ page. Answers seat.old seat.new page.time (page_deed from hi max page.rows page.more)) }
         ensures lock { TakesNoLock seat.old.tally seat.new.tally }
         ensures refused { IfErr result (λ refusal. Refuses seat.old seat.new) }
     {

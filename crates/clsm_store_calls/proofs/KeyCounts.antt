@@ -11,7 +11,6 @@ use Rattle.std.specs.Ordering.{nat_cmp}
 use Rattle.clsm_model.specs.declared.slot.Slot.{Slot}
 use Rattle.clsm_model.specs.declared.slot.Slot.TheVariants.{Nothing, Wrote}
 use Rattle.clsm_model.specs.History.{History, left_by, newest, or_else, slot_at, value, write_of}
-use Rattle.clsm_model.specs.declared.record.Deed.TheVariants.{Page}
 use Rattle.clsm_model.specs.Right.{Reads}
 use Rattle.clsm_model.specs.Map.{IsRange, KeysRise, Pair, value_at}
 use Rattle.clsm_scan.specs.Collected.{IsCount}
@@ -111,5 +110,5 @@ key_count h s lo hi n first small is =
     }
 
 -- a page of no rows has the first of them
-pub empty_page : (h : History) (s lo hi n : ℕ) (first : Option ℕ) → IsCount (λ key. value h key s) lo hi n first → Reads h s (Page lo hi 0 [] first)
+pub empty_page : (h : History) (s lo hi n : ℕ) (first : Option ℕ) → IsCount (λ key. value h key s) lo hi n first → Reads h s (page_deed lo hi 0 [] first)
 empty_page h s lo hi n first is = (is.rows, range_counted h s lo hi n first is, record { front = refl; next = is.begins })

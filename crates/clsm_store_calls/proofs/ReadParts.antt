@@ -35,7 +35,7 @@ many_calls : (i t : ℕ) (v : View) (asked : Asked) (deed : Deed) → IsAnswerTo
     → ended_calls i v (Recorded deed) ≡ call_of i t deed ∷ []
 many_calls i t v (All lo hi) (Scan from to rows) is none clock = let deed = Scan from to rows in
     ap (λ (o : Option ℕ). call_of i (or_zero (or_else o v.pin_clock)) deed ∷ []) none ∙ ap (λ (o : Option ℕ). call_of i (or_zero o) deed ∷ []) clock
-many_calls i t v (First lo hi most) (Page from to max rows more) is none clock = let deed = Page from to max rows more in
+many_calls i t v (First lo hi most) (Page range rows more) is none clock = let deed = Page range rows more in
     ap (λ (o : Option ℕ). call_of i (or_zero (or_else o v.pin_clock)) deed ∷ []) none ∙ ap (λ (o : Option ℕ). call_of i (or_zero o) deed ∷ []) clock
 many_calls i t v asked deed is none clock = absurd is
 
@@ -44,7 +44,7 @@ many_due : (t : ℕ) (v : View) (asked : Asked) (deed : Deed) → IsAnswerTo ask
     → ended_due v (Recorded deed) ≡ t
 many_due t v (All lo hi) (Scan from to rows) is none clock =
     ap (λ (o : Option ℕ). cond (is_some o) v.due (or_zero (or_else o v.pin_clock))) none ∙ ap or_zero clock
-many_due t v (First lo hi most) (Page from to max rows more) is none clock =
+many_due t v (First lo hi most) (Page range rows more) is none clock =
     ap (λ (o : Option ℕ). cond (is_some o) v.due (or_zero (or_else o v.pin_clock))) none ∙ ap or_zero clock
 many_due t v asked deed is none clock = absurd is
 

@@ -7,7 +7,7 @@ use Rattle.clsm_model.specs.History.{History, IsBeginning, end_of}
 use Rattle.clsm_law.specs.declared.step.End.{End}
 use Rattle.clsm_law.specs.declared.step.End.TheVariants.{Recorded}
 use Rattle.clsm_model.specs.Map.{IsRange, Pair}
-use Rattle.clsm_model.specs.Right.{IsPage}
+use Rattle.clsm_model.specs.Right.{IsPage, page_deed}
 use Rattle.clsm_scan.specs.declared.collecting.KeyRange.{KeyRange}
 use Rattle.clsm_words.specs.declared.known.Known.{Known}
 use Rattle.clsm_words.specs.Knowing.{known_of}
@@ -34,7 +34,7 @@ IsRecord end = ⊥
 -- the deed answers what was asked
 abbrev pub IsAnswerTo : Asked → Deed → Type 0
 IsAnswerTo (All lo hi) (Scan from to rows) = (from ≡ lo) × (to ≡ hi)
-IsAnswerTo (First lo hi most) (Page from to max rows more) = (from ≡ lo) × (to ≡ hi) × (max ≡ most)
+IsAnswerTo (First lo hi most) (Page range rows more) = range ≡ record { from = lo; hi = hi; max = most }
 IsAnswerTo asked deed = ⊥
 
 -- the read was given up: nothing is recorded
@@ -63,7 +63,7 @@ pub record IsKeyVisit {V : Type 0} (Takes : V → Pair → V → Type 0) (h : Hi
 -- The seat counted the keys below the time, up to which it knows all. It is recorded as a page of no
 -- rows, which has the first of the keys
 pub record CountsKeys (old new : SeatState) (t lo hi n : ℕ) (first : Option ℕ) : Type 0 where
-  pub answers : Answers old new t (Page lo hi 0 [] first)
+  pub answers : Answers old new t (page_deed lo hi 0 [] first)
   pub reached : t ≤ end_of (known_by new)
   pub counts : IsKeyCount (known_by new) t lo hi n
 
@@ -71,7 +71,7 @@ pub record CountsKeys (old new : SeatState) (t lo hi n : ℕ) (first : Option �
 -- each of their rows, by rising key. It is recorded as a page of no rows, which has the first of the
 -- keys
 pub record VisitsKeys {F : Type 0} (Calls : F → Pair → F → Type 0) (old new : SeatState) (t lo hi n : ℕ) (first : Option ℕ) (f : F) : Type 0 where
-  pub answers : Answers old new t (Page lo hi 0 [] first)
+  pub answers : Answers old new t (page_deed lo hi 0 [] first)
   pub reached : t ≤ end_of (known_by new)
   pub last : F
   pub visits : IsKeyVisit Calls (known_by new) t lo hi n f last

@@ -21,7 +21,7 @@ use crate::reading::{begin, end_of, value_below};
 use crate::snapshotting::OpenSnapshot;
 use clsm_law::End;
 use clsm_memtable::settle_below;
-use clsm_model::{Deed, Memory, Rows, Time};
+use clsm_model::{Deed, Memory, PageRange, Rows, Time};
 use clsm_pins::{pin, unpin};
 use clsm_scan::{Bounds, Collected, KeyRange, ReadPoint, scan};
 use clsm_words::{Pace, RawSeat, Words};
@@ -45,13 +45,11 @@ fn deed_of(asked: Asked, found: Collected) -> Deed
     let rows = Rows::new(rows);
     match asked {
         Asked::All(lo, hi) => Deed::Scan { lo, hi, rows },
-        Asked::First(from, hi, max) => Deed::Page {
-            from,
-            hi,
-            max: max as u64,
-            rows,
-            more,
-        },
+        Asked::First(from, hi, max) => {
+            let max = max as u64;
+            let range = PageRange { from, hi, max };
+            Deed::Page { range, rows, more }
+        }
     }
 }
 

@@ -1,8 +1,7 @@
 //! Visits of keys at the words: reads of many keys, at one time. Each is recorded as a page of no rows.
 ghost use Rattle.std.specs.Prelude.{◌≡◌, ◌≤◌, [], None, Option, Some, length};
 ghost use Rattle.clsm_model.specs.History.{plain};
-ghost use Rattle.clsm_model.specs.Right.{Reads};
-ghost use Rattle.clsm_model.specs.declared.record.Deed.TheVariants.{Page as PageOf};
+ghost use Rattle.clsm_model.specs.Right.{Reads, page_deed};
 ghost use Rattle.clsm_law.specs.declared.step.End.TheVariants.{Recorded};
 ghost use Rattle.clsm_law.specs.Views.{next_word};
 ghost use Rattle.clsm_law.specs.OpenSteps.{open_time};
@@ -18,7 +17,7 @@ use crate::reading::begin;
 use crate::snapshotting::OpenSnapshot;
 use clsm_law::End;
 use clsm_memtable::settle_below;
-use clsm_model::{Deed, Rows};
+use clsm_model::{Deed, PageRange, Rows};
 use clsm_pins::{pin, unpin};
 use clsm_scan::{Bounds, KeyCount, ReadPoint, Visitor, visit};
 use clsm_words::{Pace, RawSeat, Words};
@@ -39,23 +38,20 @@ fn visit_below<P: Pace, V: Visitor>(
     ensures of { IsSeatOf words.now seat.new }
     ensures looks { Looks seat.old.knows seat.new.knows }
     ensures visits { IsKeyVisit V.takes (plain seat.old.knows.past) point.until bounds.lo bounds.hi result.keys visitor.old visitor.new }
-    ensures reads { Reads (plain seat.old.knows.past) point.until (PageOf bounds.lo bounds.hi 0 [] result.first) }
+    ensures reads { Reads (plain seat.old.knows.past) point.until (page_deed bounds.lo bounds.hi 0 [] result.first) }
 {
     seat.show_invariant();
     visit(words, seat, point, bounds, visitor)
 }
 
 /// The end of a visit, which is recorded as a page of no rows. It takes no memory.
-fn end_of_visit(alloc: Global, bounds: Bounds, first: Option<u64>) -> End
-    ensures { result ≡ Recorded (PageOf bounds.lo bounds.hi 0 [] first) }
+fn end_of_visit(alloc: Global, bounds: Bounds, more: Option<u64>) -> End
+    ensures { result ≡ Recorded (page_deed bounds.lo bounds.hi 0 [] more) }
 {
-    End::Recorded(Deed::Page {
-        from: bounds.lo,
-        hi: bounds.hi,
-        max: 0,
-        rows: Rows::new(Vec::new(alloc)),
-        more: first,
-    })
+    let (from, hi, max) = (bounds.lo, bounds.hi, 0);
+    let range = PageRange { from, hi, max };
+    let rows = Rows::new(Vec::new(alloc));
+    End::Recorded(Deed::Page { range, rows, more })
 }
 
 /// A visit of the keys within the bounds: what takes their rows, and what its record needs.
@@ -81,7 +77,7 @@ pub fn visit_at<P: Pace, V: Visitor>(
     ensures of { IsSeatOf words.now seat.new }
     ensures rests { IsAtRest seat.new.knows }
     ensures pin { seat.new.knows.view.pin ≡ next_word (next_word pin_word) }
-    ensures reads { ReadsAt seat.old.knows seat.new.knows result.time (PageOf visit.old.bounds.lo visit.old.bounds.hi 0 [] result.first) }
+    ensures reads { ReadsAt seat.old.knows seat.new.knows result.time (page_deed visit.old.bounds.lo visit.old.bounds.hi 0 [] result.first) }
     ensures reached { result.time ≤ length seat.new.knows.past }
     ensures visits { IsKeyVisit V.takes (plain seat.new.knows.past) result.time visit.old.bounds.lo visit.old.bounds.hi result.keys
         visit.old.visitor visit.new.visitor }
@@ -115,7 +111,7 @@ pub fn visit_under<P: Pace, V: Visitor>(
     ensures rests { IsAtRest seat.new.knows }
     ensures pin { seat.new.knows.view.pin ≡ next_word (next_word snapshot.pin_word) }
     ensures time { result.time ≡ snapshot.time }
-    ensures reads { ReadsUnder seat.old.knows seat.new.knows snapshot.time (PageOf visit.old.bounds.lo visit.old.bounds.hi 0 [] result.first) }
+    ensures reads { ReadsUnder seat.old.knows seat.new.knows snapshot.time (page_deed visit.old.bounds.lo visit.old.bounds.hi 0 [] result.first) }
     ensures reached { result.time ≤ length seat.new.knows.past }
     ensures visits { IsKeyVisit V.takes (plain seat.new.knows.past) result.time visit.old.bounds.lo visit.old.bounds.hi result.keys
         visit.old.visitor visit.new.visitor }

@@ -117,7 +117,7 @@ apart a b less same = omega (arith, less, same)
 page_only : (f h m : List ℕ) (words : List (List ℕ)) (deed : Deed) →
     ((page : List (ℕ × List ℕ) × Option ℕ) → ¬ WritePage words page.0 page.1) →
     ¬ SayDeed (codes "page" ∷ f ∷ h ∷ m ∷ words) deed
-page_only f h m words (Page from hi max rows more) refused says = refused (rows, more) says.1.3
+page_only f h m words (Page range rows more) refused says = refused (rows, more) says.1.3
 page_only f h m words (Put key value) refused says =
     let letter : 97 ≡ 117 = ap (λ (l : List ℕ). get_or l 1 0) says.0 in
     absurd (apart 97 117 (lit< tt) letter)

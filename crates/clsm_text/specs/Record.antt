@@ -53,7 +53,7 @@ name_of Snapshot = codes "snap"
 name_of Close = codes "close"
 name_of (GetAt key reply) = codes "getat"
 name_of (Scan lo hi rows) = codes "scan"
-name_of (Page from hi max rows more) = codes "page"
+name_of (Page range rows more) = codes "page"
 name_of (Batch members) = codes "batch"
 
 -- the words after its name write the deed
@@ -68,8 +68,9 @@ WriteDeed Close [] = ⊤
 WriteDeed (GetAt key reply) (k ∷ r ∷ []) = WritesNumber k key × WritesReply r reply
 WriteDeed (Scan lo hi rows) (l ∷ h ∷ words) =
     WritesNumber l lo × WritesNumber h hi × WriteRows words rows
-WriteDeed (Page from hi max rows more) (f ∷ h ∷ m ∷ words) =
-    WritesNumber f from × WritesNumber h hi × WritesNumber m max × WritePage words rows more
+WriteDeed (Page range rows more) (f ∷ h ∷ m ∷ words) =
+    WritesNumber f range.from × WritesNumber h range.hi × WritesNumber m range.max
+    × WritePage words rows more
 WriteDeed (Batch members) words = WriteMembers words members
 WriteDeed _ _ = ⊥
 

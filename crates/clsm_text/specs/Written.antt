@@ -45,8 +45,8 @@ deed_words Snapshot = []
 deed_words Close = []
 deed_words (GetAt key reply) = decimal key ∷ reply_text reply ∷ []
 deed_words (Scan lo hi rows) = decimal lo ∷ decimal hi ∷ map row_text rows
-deed_words (Page from hi max rows more) =
-    decimal from ∷ decimal hi ∷ decimal max ∷ (map row_text rows ++ more_words more)
+deed_words (Page range rows more) =
+    decimal range.from ∷ decimal range.hi ∷ decimal range.max ∷ (map row_text rows ++ more_words more)
 deed_words (Batch members) = map member_text members
 
 -- the words of a record

@@ -6,7 +6,7 @@ ghost use Rattle.clsm_text.specs.Record.{SayDeed};
 use crate::member::{parse_change, parse_members};
 use crate::number::{parse_number, parse_value};
 use crate::words::{parse_page_rows, parse_reply, parse_rows};
-use clsm_model::Deed;
+use clsm_model::{Deed, PageRange};
 use std::alloc::{AllocError, Global};
 
 /// The deed that words say: its name, and what follows it. Refused if memory runs out.
@@ -137,13 +137,8 @@ fn parse_page(alloc: Global, words: &[&str]) -> Result<Option<Deed>, AllocError>
     let Some((rows, more)) = parse_page_rows(alloc, rows)? else {
         return Ok(None);
     };
-    Ok(Some(Deed::Page {
-        from,
-        hi,
-        max,
-        rows,
-        more,
-    }))
+    let range = PageRange { from, hi, max };
+    Ok(Some(Deed::Page { range, rows, more }))
 }
 
 fn parse_batch(alloc: Global, words: &[&str]) -> Result<Option<Deed>, AllocError>

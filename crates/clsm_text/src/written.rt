@@ -3,7 +3,7 @@ ghost use Rattle.std.specs.Io.KnownBytes.{Appends};
 ghost use Rattle.clsm_text.specs.Written.{reply_text, change_text, row_text, more_words, spaced, member_text};
 ghost use Rattle.clsm_text.specs.Written.{deed_text, line_of};
 
-use clsm_model::{CallRecord, Change, Deed, Members, Rows, Value};
+use clsm_model::{CallRecord, Change, Deed, Members, PageRange, Rows, Value};
 use std::fmt;
 use std::io::{self, Write};
 
@@ -63,13 +63,8 @@ impl fmt::Display for Told<'_> {
                 let rows = RowWords(rows);
                 write!(f, "scan {lo} {hi}{rows}")
             }
-            Deed::Page {
-                from,
-                hi,
-                max,
-                rows,
-                more,
-            } => {
+            Deed::Page { range, rows, more } => {
+                let PageRange { from, hi, max } = range;
                 let rows = RowWords(rows);
                 let more = More(more);
                 write!(f, "page {from} {hi} {max}{rows}{more}")

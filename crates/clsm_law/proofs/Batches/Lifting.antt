@@ -57,7 +57,7 @@ module _ (s : Setting) where
   read_uncut (Rmw key old Erase) t e = absurd cc
   read_uncut (GetAt key reply) t e = opened_uncut (v s).snapshot t refl e
   read_uncut (Scan lo hi rows) t e = ranged_uncut (open_time (v s).snapshot) t refl e
-  read_uncut (Page from hi max rows more) t e = ranged_uncut (open_time (v s).snapshot) t refl e
+  read_uncut (Page range rows more) t e = ranged_uncut (open_time (v s).snapshot) t refl e
   read_uncut (Put key written) t e = absurd cc
   read_uncut (Remove key) t e = absurd cc
   read_uncut Snapshot t e = absurd cc

@@ -86,9 +86,9 @@ module _ (h : History) (u : View) (i : ℕ) where
     opens = refl;
   }
   read_next (Group members) r = absurd r
-  read_next (Page from hi max rows more) r = record {
-    next = ranged_next h u (Page from hi max rows more) u.pin_clock (open_time u.snapshot) r refl;
-    within = ranged_within h u (Page from hi max rows more) u.pin_clock (open_time u.snapshot) r;
+  read_next (Page range rows more) r = record {
+    next = ranged_next h u (Page range rows more) u.pin_clock (open_time u.snapshot) r refl;
+    within = ranged_within h u (Page range rows more) u.pin_clock (open_time u.snapshot) r;
     opens = refl;
   }
 

@@ -6,7 +6,7 @@ use crate::steps::player::{Player, seat_all};
 use crate::steps::sizes::SIZES;
 use crate::steps::watch::{Hold, Watch};
 use crate::steps::wrong::Wrong;
-use clsm_model::{CallRecord, Deed, Rows};
+use clsm_model::{CallRecord, Deed, PageRange, Rows};
 use clsm_store::{Opened, open_paced};
 use clsm_words::Kind;
 use std::alloc::{AllocError, Global};
@@ -94,13 +94,8 @@ fn paged(alloc: Global, scan: &CallRecord, max: u64) -> Result<CallRecord, Alloc
         kept.push(*row)?;
     }
     let rows = Rows::new(kept);
-    let deed = Deed::Page {
-        from,
-        hi,
-        max,
-        rows,
-        more,
-    };
+    let range = PageRange { from, hi, max };
+    let deed = Deed::Page { range, rows, more };
     Ok(CallRecord { deed, ..*scan })
 }
 

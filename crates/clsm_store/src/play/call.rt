@@ -4,7 +4,7 @@ ghost use Rattle.clsm_store_calls.specs.Seats.{Answers, SeatState};
 ghost use Rattle.clsm_store.specs.Play.{HasList, PlaysCall, call_for};
 
 use super::answer::Answer;
-use clsm_model::{CallRecord, Deal, Deed, Members, Memory, Time, Value};
+use clsm_model::{CallRecord, Deal, Deed, Members, Memory, PageRange, Time, Value};
 use clsm_store_calls::{Page, Scan};
 use std::alloc::Global;
 
@@ -75,14 +75,8 @@ impl Call {
                 (time, Deed::Scan { lo, hi, rows })
             }
             (Call::Page { from, hi, max }, Answer::Page(Ok(Page { time, rows, more }))) => {
-                let deed = Deed::Page {
-                    from,
-                    hi,
-                    max,
-                    rows,
-                    more,
-                };
-                (time, deed)
+                let range = PageRange { from, hi, max };
+                (time, Deed::Page { range, rows, more })
             }
             (Call::Batch { members }, Answer::Batch(Ok(time))) => (time, Deed::Batch { members }),
             (call, answer) => call.deed_of(&answer)?,

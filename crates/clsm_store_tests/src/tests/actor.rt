@@ -4,8 +4,8 @@ use super::drawn::{Load, Mix, after, draw, next};
 use super::gate::Gates;
 use clsm_store::{
     Answer as Called, BatchError, Call, CallRecord, Caller, Change, Counted, Deed, Full, Got,
-    Members, MergeError, Merger, Page, Pages, ReclaimError, Rmw, Rows, Scan, Stopped, Swept, Time,
-    Value,
+    Members, MergeError, Merger, Page, PageRange, Pages, ReclaimError, Rmw, Rows, Scan, Stopped,
+    Swept, Time, Value,
 };
 use std::alloc::Global;
 use std::ops::Range;
@@ -285,13 +285,8 @@ impl<'a> Actor<'a> {
                 return Answer::Count(read);
             };
             let Page { time, rows, more } = page;
-            let deed = Deed::Page {
-                from,
-                hi,
-                max,
-                rows,
-                more,
-            };
+            let range = PageRange { from, hi, max };
+            let deed = Deed::Page { range, rows, more };
             let record = self.caller.record_of(time, deed);
             self.records.push(record).expect(rt, "memory");
             read = read.wrapping_add(1);
@@ -301,15 +296,11 @@ impl<'a> Actor<'a> {
 
     /// Counts the keys from this one on. The count is recorded as a page of no rows.
     fn count(&mut self, rt: &impl Abort, alloc: Global, from: u64) -> Answer {
-        let hi = u64::MAX;
+        let (hi, max) = (u64::MAX, 0);
         let Counted { time, keys, first } = self.caller.count(alloc, from, hi);
-        let deed = Deed::Page {
-            from,
-            hi,
-            max: 0,
-            rows: Rows::new(Vec::new(alloc)),
-            more: first,
-        };
+        let range = PageRange { from, hi, max };
+        let (rows, more) = (Rows::new(Vec::new(alloc)), first);
+        let deed = Deed::Page { range, rows, more };
         let record = self.caller.record_of(time, deed);
         self.records.push(record).expect(rt, "memory");
         Answer::Keys(time, keys)

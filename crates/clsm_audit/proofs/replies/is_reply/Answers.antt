@@ -29,9 +29,10 @@ returns-in_ok-range-in-Scan c = λ h s map.
 
 pub returns-in_ok-range-in-Page : goal.returns-in_ok-range-in-Page
 returns-in_ok-range-in-Page c = λ h s map.
-    let from = c.in-Page.from in
-    let hi = c.in-Page.hi in
+    let asked = c.in-Page.range in
     let rows = c.as_slice-in-Page-2.result.now in
     let got = c.as_slice-in-Page.result.now in
-    let range = subst (λ (xs : List Pair). IsRange h s from hi xs) (sym c.as_slice-in-Page.ensures.value) (c.in_ok-range-in-Page.ensures.history h s map) in
-    rw c.in-Page.is (rw c.as_slice-in-Page-2.ensures at (reads_page h s from hi c.in-Page.max rows got c.in-Page.more c.is_page.result range c.is_page.ensures))
+    let range = subst (λ (xs : List Pair). IsRange h s asked.from asked.hi xs) (sym c.as_slice-in-Page.ensures.value)
+    (c.in_ok-range-in-Page.ensures.history h s map) in
+    rw c.in-Page.is (rw c.as_slice-in-Page-2.ensures at
+    (reads_page h s asked.from asked.hi asked.max rows got c.in-Page.more c.is_page.result range c.is_page.ensures))

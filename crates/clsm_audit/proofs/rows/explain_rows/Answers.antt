@@ -40,10 +40,10 @@ returns-in-Some-explain_row-clause-explains c = λ config.
     let page = c.page_of-next.result in
     let e = c.in-Some-explain_row.explanation in
     let map = wrong_map records c.args.index r c.index-records-index.is c.requires.wrong c.in_ok-map.map c.requires.uncut c.in_ok-map.ensures in
-    let range = subst (λ (xs : List Pair). IsRange (history_of records) r.time c.in-Page.from c.in-Page.hi xs) (sym c.deref-in-Page.ensures.value)
+    let range = subst (λ (xs : List Pair). IsRange (history_of records) r.time c.in-Page.range.from c.in-Page.range.hi xs) (sym c.deref-in-Page.ensures.value)
     (c.in_ok-all-in-Page.ensures.history (history_of records) r.time map) in
     has_wrong records c.args.index r c.index-records-index.is c.requires.wrong (λ q. Explains config records c.args.index q e)
-    (page_explains config records c.args.index r c.in-Page.from c.in-Page.hi c.in-Page.max c.in-Page.rows c.as_slice-in-Page.result.now page.0.now
+    (page_explains config records c.args.index r c.in-Page.range c.in-Page.rows c.as_slice-in-Page.result.now page.0.now
     c.deref-in-Page.result.now c.in-Page.more page.1 e c.in-Page.is c.as_slice-in-Page.ensures range c.page_of-next.ensures c.in-Some-explain_row.ensures)
 
 pub returns-in-Page-clause-explains : goal.returns-in-Page-clause-explains
@@ -54,10 +54,10 @@ returns-in-Page-clause-explains c = λ config.
     let page = c.page_of-next.result in
     let uncut = wrong_has records c.args.index r c.index-records-index.is c.requires.wrong (λ q. IsUncut (batches_of records) q.time) c.requires.uncut in
     let map = wrong_map records c.args.index r c.index-records-index.is c.requires.wrong c.in_ok-map.map c.requires.uncut c.in_ok-map.ensures in
-    let range = subst (λ (xs : List Pair). IsRange h r.time c.in-Page.from c.in-Page.hi xs) (sym c.deref-in-Page.ensures.value)
+    let range = subst (λ (xs : List Pair). IsRange h r.time c.in-Page.range.from c.in-Page.range.hi xs) (sym c.deref-in-Page.ensures.value)
     (c.in_ok-all-in-Page.ensures.history h r.time map) in
     has_wrong records c.args.index r c.index-records-index.is c.requires.wrong (λ q. Explains config records c.args.index q (WrongNext c.in-Page.more page.1))
-    (next_explains config records c.args.index r c.in-Page.from c.in-Page.hi c.in-Page.max c.in-Page.rows c.as_slice-in-Page.result.now page.0.now
+    (next_explains config records c.args.index r c.in-Page.range c.in-Page.rows c.as_slice-in-Page.result.now page.0.now
     c.deref-in-Page.result.now c.in-Page.more page.1
     (wrong_reads records c.args.index r c.index-records-index.is c.requires.wrong uncut) c.in-Page.is c.as_slice-in-Page.ensures range
     c.page_of-next.ensures c.in-None-explain_row.ensures)

@@ -32,7 +32,7 @@ pub explain_rows-requires-clause-rows : goal.explain_rows-requires-clause-rows
 explain_rows-requires-clause-rows c = has_wrong c.args.records.now c.args.index c.index-records-index.result c.index-records-index.is c.requires.wrong
     (λ q. ReadsRows q.deed) (elim c.in-Scan.is [
       | inl e ↦ subst ReadsRows (sym e.3) tt
-      | inr e ↦ subst ReadsRows (sym e.5) tt
+      | inr e ↦ subst ReadsRows (sym e.3) tt
     ])
 
 pub explain_rows-requires-clause-uncut : goal.explain_rows-requires-clause-uncut

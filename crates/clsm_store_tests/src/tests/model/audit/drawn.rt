@@ -1,7 +1,9 @@
 //! Short lists of records that are drawn: lawful ones, made by calls that are played on plain maps,
 //! and such lists with one field altered.
 use super::{END, KEYS};
-use clsm_model::{CallRecord, Change, Deed, Members, Memory, PlainMap, Rows, Slot, Time, Value};
+use clsm_model::{
+    CallRecord, Change, Deed, Members, Memory, PageRange, PlainMap, Rows, Slot, Time, Value,
+};
 use rand_core::utils::NextWord;
 use rand_pcg::Pcg32;
 use std::alloc::{AllocError, Global};
@@ -117,14 +119,8 @@ impl Played {
             None => None,
         };
         let rows = Rows::new(all[..count].to_vec(alloc)?);
-        let deed = Deed::Page {
-            from,
-            hi,
-            max,
-            rows,
-            more,
-        };
-        Ok((time, deed))
+        let range = PageRange { from, hi, max };
+        Ok((time, Deed::Page { range, rows, more }))
     }
 
     /// A batch of one, two or three writes.

@@ -1,7 +1,7 @@
 //! A second check of records, quadratic and straight from the words of the audit's four passes.
 use super::{CELLS, END, KEYS};
 use clsm_audit::FaultKind;
-use clsm_model::{CallRecord, Change, Deed, Time, Value};
+use clsm_model::{CallRecord, Change, Deed, PageRange, Time, Value};
 
 /// What the change writes, if it does.
 fn left_by(change: &Change) -> Option<Option<Value>> {
@@ -164,22 +164,21 @@ fn value_below(records: &[CallRecord], key: u64, time: Time) -> Option<Value> {
     value
 }
 
-/// Whether these are the first `max` pairs of the range below the call's time, and `more` the next
+/// Whether these are the pairs that the page asks for below the call's time, and `more` the next
 /// key.
 fn is_page(
     records: &[CallRecord],
     time: Time,
-    (lo, hi): (u64, u64),
-    max: u64,
+    range: PageRange,
     rows: &[(u64, Value)],
     more: Option<u64>,
 ) -> bool {
     let mut rest = rows.iter();
-    let mut left = max;
+    let mut left = range.max;
     for key in 0..KEYS {
         let value = value_below(records, key, time);
         if let Some(value) = value {
-            if lo <= key && key <= hi {
+            if range.from <= key && key <= range.hi {
                 if left == 0 {
                     return more == Some(key) && rest.next().is_none();
                 }
@@ -204,15 +203,11 @@ fn is_wrong(records: &[CallRecord], call: &CallRecord) -> bool {
             *reply != value_below(records, *key, time)
         }
         Deed::Scan { lo, hi, rows } => {
-            !is_page(records, time, (*lo, *hi), u64::MAX, rows.as_slice(), None)
+            let (from, hi, max) = (*lo, *hi, u64::MAX);
+            let range = PageRange { from, hi, max };
+            !is_page(records, time, range, rows.as_slice(), None)
         }
-        Deed::Page {
-            from,
-            hi,
-            max,
-            rows,
-            more,
-        } => !is_page(records, time, (*from, *hi), *max, rows.as_slice(), *more),
+        Deed::Page { range, rows, more } => !is_page(records, time, *range, rows.as_slice(), *more),
         _ => false,
     }
 }
