@@ -15,6 +15,11 @@ use Rattle.clsm_store.specs.Meetings.{AreOf}
 use Rattle.clsm_script.specs.Play.{PairMeets}
 use Rattle.clsm_script.specs.Session.{AreRecorded, IsRecorded}
 
+-- a record of the seat with one number is one of the seat with an equal one
+pub of_seat : (made : Option CallRecord) (n m : ℕ) → n ≡ m → IfSome made (λ r. r.seat ≡ n) →
+    IfSome made (λ r. r.seat ≡ m)
+of_seat made n m e is = subst (λ number. IfSome made (λ r. r.seat ≡ number)) e is
+
 -- ---- places
 
 -- there is one seat at a place

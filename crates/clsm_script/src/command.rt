@@ -170,7 +170,7 @@ impl Command {
         ensures merger { IfOk result (λ done. (merger_in done.0).store ≡ store.now) }
     {
         let answer = match self {
-            Command::Call(call) => Answer::Call(session.call(rt, alloc, store, call)?),
+            Command::Call(call) => Answer::Call(session.call(rt, alloc, store, &call)?),
             Command::Seat { number } => Answer::Seat(session.take_seat(number)),
             Command::Meet { number } => Answer::Meet(session.meet(store, number)),
             Command::Audit => Answer::Audit(session.audit(alloc)),

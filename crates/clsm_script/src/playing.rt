@@ -8,6 +8,7 @@ ghost use Rattle.clsm_text.specs.declared.failure.Failure.TheVariants.{Device, F
 ghost use Rattle.clsm_model.specs.Config.{IsSound};
 
 use crate::answer::Answer;
+use crate::command::Command;
 use crate::line::parse_line;
 use crate::session::Session;
 use clsm_store::{Config, Merger, Opened, Pace, Phase, open};
@@ -154,6 +155,15 @@ fn play_lines<T: Wait, R: Read, W: Write + Drop, P: Pace + Drop>(
             Ok(Some(command)) => command,
             Ok(None) => continue,
             Err(error) => return Err(error.at(number)),
+        };
+        // Most lines are calls, which leave the merger where it is.
+        let command = match command {
+            Command::Call(call) => {
+                let answer = Answer::Call(session.call(rt, alloc, store, &call)?);
+                write_answer(&mut console.answers, &answer)?;
+                continue;
+            }
+            command => command,
         };
         let (next, answer) = command.play(rt, alloc, store, session, phase)?;
         phase = next;

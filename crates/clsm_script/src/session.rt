@@ -73,17 +73,16 @@ impl Session {
         rt: &R,
         alloc: Global,
         store: &Store<P>,
-        call: Call,
+        call: &Call,
     ) -> Result<Answer, AllocError>
         requires { IsSession store.now self.old }
-        ensures calls { IfOk result (Calls call self.old self.new) }
+        ensures calls { IfOk result (Calls call.now self.old self.new) }
         ensures session { OnOk result (IsSession store.now self.new) }
     {
         let seat = &mut self.seats[self.used];
         let number = seat.number();
-        let answer = store.play(rt, alloc, seat, &call);
-        let copy = answer.clone()?;
-        let made = call.into_record(number, copy);
+        let answer = store.play(rt, alloc, seat, call);
+        let made = call.to_record(number, &answer)?;
         keep(&mut self.records, made)?;
         Ok(answer)
     }

@@ -6,7 +6,7 @@ ghost use Rattle.clsm_store.specs.Play.{HasList, PlaysCall, call_for};
 use super::answer::Answer;
 use clsm_model::{CallRecord, Deal, Deed, Members, Memory, PageRange, Time, Value};
 use clsm_store_calls::{Page, Scan};
-use std::alloc::Global;
+use std::alloc::{AllocError, Global};
 
 /// A call of a seat.
 #[derive(Debug, Drop)]
@@ -82,6 +82,42 @@ impl Call {
             (call, answer) => call.deed_of(&answer)?,
         };
         Some(CallRecord { seat, time, deed })
+    }
+
+    /// As `into_record`, of a call and an answer that are used again: their lists are copied. Refused
+    /// if memory runs out.
+    pub fn to_record(&self, seat: u32, answer: &Answer) -> Result<Option<CallRecord>, AllocError>
+        ensures made { IfOk result (λ made. (old new : SeatState) → old.number ≡ seat →
+            PlaysCall self.now old new answer.now → new.calls ≡ old.calls ++ option_to_list made) }
+        ensures seat { IfOk result (λ made. IfSome made (λ call. call.seat ≡ seat)) }
+    {
+        let (time, deed) = match (self, answer) {
+            (Call::Scan { lo, hi }, Answer::Scan(Ok(scan))) => {
+                let (lo, hi, rows) = (*lo, *hi, scan.rows.clone()?);
+                (scan.time, Deed::Scan { lo, hi, rows })
+            }
+            (Call::Page { from, hi, max }, Answer::Page(Ok(page))) => {
+                let deed = Deed::Page {
+                    from: *from,
+                    hi: *hi,
+                    max: *max,
+                    rows: page.rows.clone()?,
+                    more: page.more,
+                };
+                (page.time, deed)
+            }
+            (Call::Batch { members }, Answer::Batch(Ok(time))) => {
+                let members = members.clone()?;
+                (*time, Deed::Batch { members })
+            }
+            (call, answer) => {
+                let Some(made) = call.deed_of(answer) else {
+                    return Ok(None);
+                };
+                made
+            }
+        };
+        Ok(Some(CallRecord { seat, time, deed }))
     }
 
     /// The time and the deed of the call where it was answered so, with no list on either side; `None`

@@ -39,3 +39,14 @@ loop-number-preserved g c =
       session = c.in_ok-next.ensures.session;
       merger = c.in_ok-next.ensures.merger;
     }
+
+pub loop-number-preserved-in-Call : goal.loop-number-preserved-in-Call
+loop-number-preserved-in-Call g c =
+    record {
+      leads = subst (LeadsTo IsCommand _ _) (omega arith)
+          (leads_past _ _ _ _ _ _ _ _ c.loop-number.invariant.leads
+          c.in_ok-read_line.ensures.found c.if-not-branch.false
+          c.in_ok-read_line.ensures.takes c.deref.ensures.value c.in-Ok-Some.ensures);
+      session = c.in_ok-call-in-Call.ensures.session;
+      merger = c.loop-number.invariant.merger;
+    }

@@ -5,22 +5,19 @@ use Rattle.clsm_store_calls.specs.Seats.{SeatState}
 use Rattle.clsm_store.specs.Headline.{IsAt}
 use Rattle.clsm_store.specs.Play.{PlaysCall}
 use Rattle.clsm_script.specs.Session.{AreRecorded}
-use Rattle.clsm_script.proofs.Sessions.{known_made, recorded_made}
+use Rattle.clsm_script.proofs.Sessions.{known_made, of_seat, recorded_made}
 use Rattle.clsm_script.proofs.session.Session.call.Goals as goal
 
 pub returns-clause-calls : goal.returns-clause-calls
 returns-clause-calls g c =
     let before : SeatState = c.index_mut-seat.result.now in
-    let plays =
-    subst (PlaysCall c.args.call before c.play-answer.new.seat) (sym c.in_ok-copy.ensures.cases)
-    c.play-answer.ensures.plays in
     record {
       before = before;
       after = c.play-answer.new.seat;
-      made = option_to_list c.into_record-made.result;
+      made = _;
       at = (c.requires.used, sym c.index_mut-seat.ensures.value);
       plays = c.play-answer.ensures.plays;
-      calls = c.into_record-made.ensures.made _ _ (sym c.number-number.ensures) plays;
+      calls = c.in_ok-made.ensures.made _ _ (sym c.number-number.ensures) c.play-answer.ensures.plays;
       seats = refl;
       records = c.in_ok-keep.ensures;
       used = refl;
@@ -33,24 +30,19 @@ returns-clause-session g c =
     let k = c.args.self.now.used in
     let old : SeatState = c.index_mut-seat.result.now in
     let new : SeatState = c.play-answer.new.seat in
-    let made = c.into_record-made.result in
     let at : IsAt seats k old = (c.requires.used, sym c.index_mut-seat.ensures.value) in
-    let plays =
-    subst (PlaysCall c.args.call old new) (sym c.in_ok-copy.ensures.cases) c.play-answer.ensures.plays in
-    let calls = c.into_record-made.ensures.made _ _ (sym c.number-number.ensures) plays in
+    let calls = c.in_ok-made.ensures.made _ _ (sym c.number-number.ensures) c.play-answer.ensures.plays in
     let records = c.in_ok-keep.ensures in
     record {
       used = lt-length-set seats k new c.requires.used;
       seats =
           subst (λ rs. AreRecorded c.args.store.now rs (set seats k new)) (sym records)
-          (recorded_made seats _ k old new at c.args.store.now made c.requires.seats
+          (recorded_made seats _ k old new at c.args.store.now _ c.requires.seats
           c.play-answer.ensures.same.store c.play-answer.ensures.same.number calls
-          (subst (λ n. IfSome made (λ r. r.seat ≡ n)) c.number-number.ensures
-          c.into_record-made.ensures.seat));
+          (of_seat _ _ _ c.number-number.ensures c.in_ok-made.ensures.seat));
       known =
           subst (λ rs. All (λ r. r.seat < length (set seats k new)) rs) (sym records)
-          (known_made seats _ k old new at made c.requires.known
-          (subst (λ n. IfSome made (λ r. r.seat ≡ n))
-          (c.number-number.ensures ∙ (c.requires.seats k old at).number)
-          c.into_record-made.ensures.seat));
+          (known_made seats _ k old new at _ c.requires.known
+          (of_seat _ _ _ (c.number-number.ensures ∙ (c.requires.seats k old at).number)
+          c.in_ok-made.ensures.seat));
     }
