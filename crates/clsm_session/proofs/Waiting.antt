@@ -11,7 +11,8 @@ use Rattle.clsm_store_calls.specs.Batching.{IsNoRoom}
 use Rattle.clsm_store_calls.specs.Seats.{Answers, GivesUpForWrites, IsFull, IsSameSeat, Refuses, SeatState, known_by, writes_from}
 use Rattle.clsm_store_calls.specs.Tally.{CancelsNone, Tally}
 use Rattle.clsm_store_calls.proofs.Counting.{counts_both, counts_none, writes_apart}
-use Rattle.clsm_session.specs.Waiting.{IsFullAtLast, IsNoRoomAtLast}
+use Rattle.clsm_store.specs.declared.play.call.Call.{Call}
+use Rattle.clsm_session.specs.Waiting.{IsFullAtLast, IsNoRoomAtLast, RefusesCall}
 use Rattle.clsm_session.specs.declared.refusal.Refused.{Refused}
 use Rattle.clsm_session.specs.declared.refusal.BatchRefused.{BatchRefused}
 use Rattle.clsm_session.specs.declared.refusal.BatchRefused.TheVariants.{NoRoom}
@@ -88,7 +89,13 @@ spared_trans a b c key h same g g' =
     (writes_apart b.past c.past key before between same.longer.slots later (le-max_right b.due (length b.past))) g g'
 
 -- a refusal that `?` made of one for which there was no room
-pub no_room_is : {A : Type 0} (r : Result A BatchRefused) (refused : Refused) (P : BatchRefused → Type 0) → IsErrAnd r (λ e. e ≡ NoRoom refused)
+no_room_is : {A : Type 0} (r : Result A BatchRefused) (refused : Refused) (P : BatchRefused → Type 0) → IsErrAnd r (λ e. e ≡ NoRoom refused)
     → P (NoRoom refused) → IfErr r P
 no_room_is (Ok _) refused P is h = absurd is
 no_room_is (Err e) refused P is h = subst P (sym is) h
+
+-- the call that is played was refused because there was no room
+pub refuses_so : {A : Type 0} (call made : Call) (old new : SeatState) (refused : Refused) (r : Result A BatchRefused) → call ≡ made
+    → IsErrAnd r (λ e. e ≡ NoRoom refused) → RefusesCall made old new (NoRoom refused) → IfErr r (RefusesCall call old new)
+refuses_so call made old new refused r same is h =
+    no_room_is r refused (RefusesCall call old new) is (subst (λ (c : Call). RefusesCall c old new (NoRoom refused)) (sym same) h)

@@ -92,7 +92,7 @@ impl<'a, R: Wait, P: Place> SessionCaller<'a, R, P> {
         ensures cancels { CancelsNone self.old.tally self.new.tally }
         ensures refused { IfErr result (λ refused. IsFullAtLast self.old self.new) }
     {
-        writing::put(self.rt, self.board, &mut self.caller, key, value)
+        writing::write(self.rt, self.board, &mut self.caller, key, Some(&value))
     }
 
     /// Removes the key, and answers the removal's time, whether or not the key had a value. It
@@ -102,7 +102,7 @@ impl<'a, R: Wait, P: Place> SessionCaller<'a, R, P> {
         ensures cancels { CancelsNone self.old.tally self.new.tally }
         ensures refused { IfErr result (λ refused. IsFullAtLast self.old self.new) }
     {
-        writing::remove(self.rt, self.board, &mut self.caller, key)
+        writing::write(self.rt, self.board, &mut self.caller, key, None)
     }
 
     /// Reads the key, and makes of its value what the function answers to it, as `Store::rmw`. The

@@ -1,55 +1,49 @@
 //! Writes that wait for room: each is tried again once the merger has made room for it.
-ghost use Rattle.std.specs.Prelude.{◌≡◌, IfErr, IfOk};
-ghost use Rattle.clsm_model.specs.declared.record.Deed.TheVariants.{Batch as Group, Put, Remove, Rmw as ChangeOf};
+ghost use Rattle.std.specs.Prelude.{◌≡◌, IfErr, IfOk, option_copied};
+ghost use Rattle.clsm_model.specs.declared.record.Deed.TheVariants.{Batch as Group, Rmw as ChangeOf};
 ghost use Rattle.clsm_model.specs.Seats.{FitsDeed};
-ghost use Rattle.clsm_store_calls.specs.Seats.{Answers, GivesUpForWrites};
+ghost use Rattle.clsm_store_calls.specs.Resting.{deed_of};
+ghost use Rattle.clsm_store_calls.specs.Seats.{Answers, GivesUpForWrites, IsFull};
 ghost use Rattle.clsm_store_calls.specs.Tally.{CancelsNone};
 ghost use Rattle.clsm_session.specs.Waiting.{IsFullAtLast, IsPatient, IsRefusedAtLast};
 
 use crate::board::Board;
 use crate::refusal::{BatchRefused, Refused};
-use clsm_store::{BatchError, Caller, Change, Free, Rmw, Time, Value};
+use clsm_store::{BatchError, Caller, Change, Free, Full, Rmw, Time, Value};
 use std::sync::Wait;
 
-/// As `SessionCaller::put`.
-#[tactic(auto, using(crate::proofs::Waiting::full_after))]
-pub(crate) fn put<'a, R: Wait>(
+/// Tries to write the value at the key, or with none to remove it.
+fn try_write<'a, R: Wait>(
     rt: &R,
-    board: &Board,
     caller: &mut Caller<'a, Free>,
     key: u64,
-    value: Value,
-) -> Result<Time, Refused>
-    ensures written { IfOk result (λ time. Answers caller.old.seat caller.new.seat time (Put key value)) }
+    value: Option<&Value>,
+) -> Result<Time, Full>
+    ensures full { IfErr result (λ full. IsFull caller.old.seat caller.new.seat full.time) }
+    ensures written { IfOk result (λ time. Answers caller.old.seat caller.new.seat time (deed_of key (option_copied value.entry))) }
     ensures cancels { CancelsNone caller.old.seat.tally caller.new.seat.tally }
-    ensures refused { IfErr result (λ refused. IsFullAtLast caller.old.seat caller.new.seat) }
 {
-    for _ in rt.forever() {
-        match caller.put(rt, key, value) {
-            Ok(time) => {
-                board.note_write(rt, time);
-                return Ok(time);
-            }
-            Err(full) => board.wait_for_room(rt, full.time)?,
-        }
+    match value {
+        Some(value) => caller.put(rt, key, *value),
+        None => caller.remove(rt, key),
     }
-    unreachable!()
 }
 
-/// As `SessionCaller::remove`.
+/// As `SessionCaller::put`, or with no value as `SessionCaller::remove`.
 #[tactic(auto, using(crate::proofs::Waiting::full_after))]
-pub(crate) fn remove<'a, R: Wait>(
+pub(crate) fn write<'a, R: Wait>(
     rt: &R,
     board: &Board,
     caller: &mut Caller<'a, Free>,
     key: u64,
+    value: Option<&Value>,
 ) -> Result<Time, Refused>
-    ensures written { IfOk result (λ time. Answers caller.old.seat caller.new.seat time (Remove key)) }
+    ensures written { IfOk result (λ time. Answers caller.old.seat caller.new.seat time (deed_of key (option_copied value.entry))) }
     ensures cancels { CancelsNone caller.old.seat.tally caller.new.seat.tally }
     ensures refused { IfErr result (λ refused. IsFullAtLast caller.old.seat caller.new.seat) }
 {
     for _ in rt.forever() {
-        match caller.remove(rt, key) {
+        match try_write(rt, caller, key, value) {
             Ok(time) => {
                 board.note_write(rt, time);
                 return Ok(time);

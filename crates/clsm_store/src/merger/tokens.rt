@@ -2,8 +2,10 @@
 ghost use Rattle.std.specs.Prelude.{◌≡◌, ◌+◌, ◌*◌, ◌^◌, ◌<◌, replicate, IfOk, IfErr};
 ghost use Rattle.clsm_law.specs.Merging.{unseen};
 ghost use Rattle.clsm_law.specs.Views.{next_word};
+ghost use Rattle.clsm_store_calls.specs.Freezing.{IsClean, IsFrozen};
 ghost use Rattle.clsm_store_calls.specs.Looking.{LooksAtClock, drawn_of};
-ghost use Rattle.clsm_store_calls.specs.Merging.{IsRunFull, TakesFloor};
+ghost use Rattle.clsm_store_calls.specs.Merging.{IsReady, IsRetiring, IsRunFull, TakesFloor, clean_of, frozen_of, retired_of};
+ghost use Rattle.clsm_store_calls.specs.Seats.{CleanState, FrozenState, RetiredState};
 
 use crate::seat::Seat;
 use crate::store::Store;
@@ -25,18 +27,6 @@ pub struct Clean {
     pub(crate) merger: MergerSeat,
 }
 
-impl Model for Clean {
-    ghost use Rattle.clsm_store_calls.specs.Seats.{CleanState};
-    ghost use Rattle.clsm_store_calls.specs.Freezing.{IsClean};
-    ghost use Rattle.clsm_store_calls.specs.Merging.{IsReady, clean_of};
-
-    ghost Value = { CleanState };
-
-    ghost view = { λ c. clean_of c.merger };
-
-    ghost invariant = { λ c. IsClean c.merger.raw.knows c.merger.merges × IsReady c.merger };
-}
-
 /// The merger's token, while an epoch is frozen. It may be moved to another thread. Contracts see
 /// its store and the number of merges, which is also the number of the frozen epoch; the floor of
 /// the last try to merge, how many rounds of looks at the snapshot words were made, and the least
@@ -44,18 +34,6 @@ impl Model for Clean {
 #[derive(Drop)]
 pub struct Frozen {
     pub(crate) merger: MergerSeat,
-}
-
-impl Model for Frozen {
-    ghost use Rattle.clsm_store_calls.specs.Seats.{FrozenState};
-    ghost use Rattle.clsm_store_calls.specs.Freezing.{IsFrozen};
-    ghost use Rattle.clsm_store_calls.specs.Merging.{IsReady, frozen_of};
-
-    ghost Value = { FrozenState };
-
-    ghost view = { λ f. frozen_of f.merger };
-
-    ghost invariant = { λ f. IsFrozen f.merger.raw.knows f.merger.merges × IsReady f.merger };
 }
 
 /// The merger's token, while a component is retired. It may be moved to another thread. Contracts
@@ -67,10 +45,23 @@ pub struct Retired {
     pub(crate) merger: MergerSeat,
 }
 
-impl Model for Retired {
-    ghost use Rattle.clsm_store_calls.specs.Seats.{RetiredState};
-    ghost use Rattle.clsm_store_calls.specs.Merging.{IsRetiring, retired_of};
+impl Model for Clean {
+    ghost Value = { CleanState };
 
+    ghost view = { λ c. clean_of c.merger };
+
+    ghost invariant = { λ c. IsClean c.merger.raw.knows c.merger.merges × IsReady c.merger };
+}
+
+impl Model for Frozen {
+    ghost Value = { FrozenState };
+
+    ghost view = { λ f. frozen_of f.merger };
+
+    ghost invariant = { λ f. IsFrozen f.merger.raw.knows f.merger.merges × IsReady f.merger };
+}
+
+impl Model for Retired {
     ghost Value = { RetiredState };
 
     ghost view = { λ r. retired_of r.merger };

@@ -117,6 +117,13 @@ pub(super) enum Answer {
     Other,
 }
 
+/// Refusals of a try.
+pub(super) const BUSY: Answer = Answer::Refused(TryPutError::Busy);
+
+pub(super) const OVERTAKEN: Answer = Answer::Refused(TryPutError::Overtaken);
+
+pub(super) const RACED: Answer = Answer::Refused(TryPutError::Raced);
+
 impl Answer {
     /// Whether this is the answer that is expected.
     pub(super) fn is(&self, expected: &Answer) -> bool {

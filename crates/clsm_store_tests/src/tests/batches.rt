@@ -1,11 +1,11 @@
 //! Batches: what one call writes at once is seen as a whole or not at all.
-use super::act::{Act, Answer, END, LET_END, LET_GO, LET_GO_TOO, Step, WAIT, WAIT_TOO, Write};
-use super::case::{Case, FOUR_CELLS, NONE, PLAIN, Phase, check};
+use super::act::{
+    Act, Answer, BUSY, END, LET_END, LET_GO, LET_GO_TOO, Step, WAIT, WAIT_TOO, Write,
+};
+use super::case::{Case, FOUR_CELLS, NONE, PLAIN, Phase, alone, check};
 use super::gate::{Hold, NOBODY, NOWHERE};
-use clsm_store::{BatchError, Config, Kind, TryPutError};
+use clsm_store::{BatchError, Config, Kind};
 use std::test::*;
-
-const BUSY: Answer = Answer::Refused(TryPutError::Busy);
 
 const EMPTY: Answer = Answer::Unbatched(BatchError::Empty);
 
@@ -271,26 +271,13 @@ const BATCH_WAITS: &[Phase] = &[
 const OTHER_TWO: &[Write] = &[Write::Word(9, 92), Write::Word(7, 72)];
 
 pub(super) const CASES: &[Case] = &[
-    Case {
-        name: "batches of each length, and those that are refused",
-        phases: &[&[LENGTHS]],
-        ..PLAIN
-    },
-    Case {
-        name: "a batch of one key",
-        phases: &[&[ONE_KEY]],
-        ..PLAIN
-    },
-    Case {
-        name: "batches of eight words",
-        phases: &[&[EIGHT_WORDS]],
-        ..PLAIN
-    },
-    Case {
-        name: "batches of removals",
-        phases: &[&[REMOVALS]],
-        ..PLAIN
-    },
+    alone!(
+        "batches of each length, and those that are refused",
+        LENGTHS
+    ),
+    alone!("a batch of one key", ONE_KEY),
+    alone!("batches of eight words", EIGHT_WORDS),
+    alone!("batches of removals", REMOVALS),
     Case {
         name: "a snapshot that is older than a batch, through merges",
         phases: OLDER,

@@ -48,6 +48,19 @@ pub(super) const PLAIN: Case = Case {
     round: &[],
 };
 
+/// The case of this name in which the first actor makes these steps, and the others rest.
+macro_rules! alone {
+    ($name:expr, $steps:expr) => {
+        Case {
+            name: $name,
+            phases: &[&[$steps]],
+            ..PLAIN
+        }
+    };
+}
+
+pub(super) use alone;
+
 /// The actors of these callers. The first one has the merger.
 fn actors_of<'a>(rt: &impl Abort, alloc: Global, bound: Bound<'a, Gates>) -> Vec<Actor<'a>> {
     let Bound { callers, merger } = bound;

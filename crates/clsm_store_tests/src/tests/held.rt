@@ -1,11 +1,12 @@
 //! A seat is held at a step of its call while others make theirs.
 use super::act::{
-    Act, Answer, END, END_TOO, LET_END, LET_END_TOO, LET_GO, LET_GO_TOO, Step, Turn, WAIT, WAIT_TOO,
+    Act, Answer, BUSY, END, END_TOO, LET_END, LET_END_TOO, LET_GO, LET_GO_TOO, OVERTAKEN, RACED,
+    Step, Turn, WAIT, WAIT_TOO,
 };
 use super::case::{Case, FOUR_CELLS, NONE, PLAIN, Phase, check};
 use super::gate::{Hold, NOBODY, NOWHERE, OPEN};
 use clsm_law::Word;
-use clsm_store::{Config, TryPutError};
+use clsm_store::Config;
 use clsm_words::Kind;
 use std::alloc::Global;
 use std::process::Abort;
@@ -28,12 +29,6 @@ const GET: Act = Act::Get(KEY);
 
 const LOOK: Kind = Kind::Look(Word::Clock);
 
-const OVERTAKEN: Answer = Answer::Refused(TryPutError::Overtaken);
-
-const RACED: Answer = Answer::Refused(TryPutError::Raced);
-
-const BUSY: Answer = Answer::Refused(TryPutError::Busy);
-
 const IMPATIENT: Config = Config {
     patience: 0,
     ..FOUR_CELLS
@@ -46,6 +41,7 @@ struct Row {
     phases: &'static [Phase],
 }
 
+/// What seat 2 does meanwhile.
 const PUT_AT_0: &[Step] = &[WAIT, (PUT_TOO, Answer::At(0)), LET_GO];
 
 const PUT_AT_1: &[Step] = &[WAIT, (PUT_TOO, Answer::At(1)), LET_GO];
@@ -54,125 +50,86 @@ const TRY_AT_1: &[Step] = &[WAIT, (Act::TryPut(KEY, 2), Answer::At(1)), LET_GO];
 
 const NONE_AT_1: &[Step] = &[WAIT, (GET, Answer::None(1)), LET_GO];
 
+/// The call of seat 1, and its get.
+const PUT_FIRST: &[Step] = &[(PUT, Answer::At(0)), (GET, Answer::Got(2, 2))];
+
+const PUT_LAST: &[Step] = &[(PUT, Answer::At(1)), (GET, Answer::Got(2, 1))];
+
+const TRY_FIRST: &[Step] = &[(TRY, Answer::At(0)), (GET, Answer::Got(2, 2))];
+
+const TRY_OVERTAKEN: &[Step] = &[(TRY, OVERTAKEN), (GET, Answer::None(1))];
+
+const TRY_NOT_DRAWN: &[Step] = &[(TRY, RACED), (GET, Answer::Got(1, 2))];
+
+const TRY_NOT_LINKED: &[Step] = &[(TRY, RACED), (GET, Answer::Got(2, 2))];
+
+const GOT: &[Step] = &[(GET, Answer::Got(1, 2)), (GET, Answer::Got(1, 2))];
+
+const GOT_NONE: &[Step] = &[(GET, Answer::None(0)), (GET, Answer::Got(1, 2))];
+
+/// The row in which seat 1 is held at these steps of the first acts, while seat 2 plays the others.
+macro_rules! row {
+    ($kinds:expr, $held:expr, $beside:expr) => {
+        Row {
+            kinds: $kinds,
+            phases: &[&[NONE, $held, $beside]],
+        }
+    };
+}
+
 /// Rows at a new store.
 const NEW: &[Row] = &[
     // writers overlap, and one that is held holds up no other
-    Row {
-        kinds: &[Kind::Link, Kind::Insert, Kind::Decide],
-        phases: &[&[
-            NONE,
-            &[(PUT, Answer::At(0)), (GET, Answer::Got(2, 2))],
-            PUT_AT_1,
-        ]],
-    },
-    Row {
-        kinds: &[Kind::Decide],
-        phases: &[&[
-            NONE,
-            &[(PUT, Answer::At(0)), (GET, Answer::Got(2, 2))],
-            TRY_AT_1,
-        ]],
-    },
-    Row {
-        kinds: &[Kind::Decide],
-        phases: &[&[
-            NONE,
-            &[(TRY, Answer::At(0)), (GET, Answer::Got(2, 2))],
-            PUT_AT_1,
-        ]],
-    },
+    row!(TO_DECIDE, PUT_FIRST, PUT_AT_1),
+    row!(&[Kind::Decide], PUT_FIRST, TRY_AT_1),
+    row!(&[Kind::Decide], TRY_FIRST, PUT_AT_1),
     // a reader overtakes it
-    Row {
-        kinds: &[Kind::Decide],
-        phases: &[&[
-            NONE,
-            &[(PUT, Answer::At(1)), (GET, Answer::Got(2, 1))],
-            NONE_AT_1,
-        ]],
-    },
-    Row {
-        kinds: &[Kind::Decide],
-        phases: &[&[NONE, &[(TRY, OVERTAKEN), (GET, Answer::None(1))], NONE_AT_1]],
-    },
+    row!(&[Kind::Decide], PUT_LAST, NONE_AT_1),
+    row!(&[Kind::Decide], TRY_OVERTAKEN, NONE_AT_1),
     // another seat is faster
-    Row {
-        kinds: &[Kind::Draw],
-        phases: &[&[
-            NONE,
-            &[(PUT, Answer::At(1)), (GET, Answer::Got(2, 1))],
-            PUT_AT_0,
-        ]],
-    },
-    Row {
-        kinds: &[Kind::Draw],
-        phases: &[&[NONE, &[(TRY, RACED), (GET, Answer::Got(1, 2))], PUT_AT_0]],
-    },
-    Row {
-        kinds: &[Kind::Link, Kind::Insert],
-        phases: &[&[NONE, &[(TRY, RACED), (GET, Answer::Got(2, 2))], PUT_AT_1]],
-    },
+    row!(&[Kind::Draw], PUT_LAST, PUT_AT_0),
+    row!(&[Kind::Draw], TRY_NOT_DRAWN, PUT_AT_0),
+    row!(&[Kind::Link, Kind::Insert], TRY_NOT_LINKED, PUT_AT_1),
     // a read is at the clock that it found
-    Row {
-        kinds: &[LOOK],
-        phases: &[&[
-            NONE,
-            &[(GET, Answer::Got(1, 2)), (GET, Answer::Got(1, 2))],
-            PUT_AT_0,
-        ]],
-    },
-    Row {
-        kinds: &[Kind::RaiseFront, Kind::Unpin],
-        phases: &[&[
-            NONE,
-            &[(GET, Answer::None(0)), (GET, Answer::Got(1, 2))],
-            PUT_AT_0,
-        ]],
-    },
+    row!(&[LOOK], GOT, PUT_AT_0),
+    row!(&[Kind::RaiseFront, Kind::Unpin], GOT_NONE, PUT_AT_0),
 ];
 
+const TO_DECIDE: &[Kind] = &[Kind::Link, Kind::Insert, Kind::Decide];
+
 const OLD: &[Step] = &[(Act::Put(KEY, 10), Answer::At(0))];
+
+const OLD_AT_1: &[Step] = &[WAIT, (GET, Answer::Got(1, 10)), LET_GO];
+
+const OLD_AT_2: &[Step] = &[WAIT, (GET, Answer::Got(2, 10)), LET_GO];
+
+const NEW_AT_2: &[Step] = &[WAIT, (GET, Answer::Got(2, 1)), LET_GO];
+
+/// A put whose first time was cancelled.
+const PUT_AGAIN: &[Step] = &[(PUT, Answer::At(2)), (GET, Answer::Got(3, 1))];
+
+const TO_WRITE: &[Kind] = &[
+    Kind::Fill,
+    Kind::Link,
+    Kind::FillOrder,
+    Kind::Insert,
+    Kind::Decide,
+];
 
 /// Rows at a store whose key has a value: a writer is held before each kind of its steps, and a
 /// reader does not wait for it.
 const WRITTEN: &[Row] = &[
     Row {
         kinds: &[Kind::EnterShared, Kind::Draw],
-        phases: &[
-            &[OLD],
-            &[
-                NONE,
-                &[(PUT, Answer::At(1)), (GET, Answer::Got(2, 1))],
-                &[WAIT, (GET, Answer::Got(1, 10)), LET_GO],
-            ],
-        ],
+        phases: &[&[OLD], &[NONE, PUT_LAST, OLD_AT_1]],
     },
     Row {
-        kinds: &[
-            Kind::Fill,
-            Kind::Link,
-            Kind::FillOrder,
-            Kind::Insert,
-            Kind::Decide,
-        ],
-        phases: &[
-            &[OLD],
-            &[
-                NONE,
-                &[(PUT, Answer::At(2)), (GET, Answer::Got(3, 1))],
-                &[WAIT, (GET, Answer::Got(2, 10)), LET_GO],
-            ],
-        ],
+        kinds: TO_WRITE,
+        phases: &[&[OLD], &[NONE, PUT_AGAIN, OLD_AT_2]],
     },
     Row {
         kinds: &[Kind::LeaveShared],
-        phases: &[
-            &[OLD],
-            &[
-                NONE,
-                &[(PUT, Answer::At(1)), (GET, Answer::Got(2, 1))],
-                &[WAIT, (GET, Answer::Got(2, 1)), LET_GO],
-            ],
-        ],
+        phases: &[&[OLD], &[NONE, PUT_LAST, NEW_AT_2]],
     },
 ];
 

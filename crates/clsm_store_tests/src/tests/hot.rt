@@ -1,9 +1,9 @@
 //! Few keys that are written often: each has many versions in one epoch.
-use super::act::{Act, Answer, Step, Turn, WAIT};
+use super::act::{Act, Answer, OVERTAKEN, Step, Turn, WAIT};
 use super::case::{Case, NONE, PLAIN};
 use super::drawn::Mix;
 use super::gate::{ALL, ALL_STEPS, AT_DECIDE, NOWHERE};
-use clsm_store::{Config, TryPutError};
+use clsm_store::Config;
 
 const CONFIG: Config = Config {
     cells: 64,
@@ -79,8 +79,6 @@ const COUNTED: &[Step] = &[
     (Act::Scan(0), Answer::Rows(4_000, 4)),
     (Act::First(Turn::Steps), Answer::Fewer(200)),
 ];
-
-const OVERTAKEN: Answer = Answer::Refused(TryPutError::Overtaken);
 
 /// One put at a key of eight.
 const ONE: Step = (Act::Calls(Mix::Puts, 8, 1), Answer::Done);

@@ -1,6 +1,6 @@
 //! Tables of cases, one for each thing that is looked at.
 use super::act::{Act, Answer, LET_GO, Step, Turn, WAIT};
-use super::case::{Case, FOUR_CELLS, NONE, PLAIN, Phase, check};
+use super::case::{Case, FOUR_CELLS, NONE, PLAIN, Phase, alone, check};
 use super::drawn::Mix;
 use super::gate::{ALL, ALL_STEPS, AT_DECIDE, Hold, NOBODY, NOWHERE, OPEN};
 use super::{batches, held, hot};
@@ -162,42 +162,24 @@ const SMALL_RUN: Config = Config {
 
 const ALONE: &[Case] = &[
     Case {
-        name: "each write makes its steps",
         gates: [ALL_STEPS, NOWHERE],
-        phases: &[&[STEPS]],
-        ..PLAIN
+        ..alone!("each write makes its steps", STEPS)
     },
+    alone!("read-modify-writes remove and keep", CHANGES),
     Case {
-        name: "read-modify-writes remove and keep",
-        phases: &[&[CHANGES]],
-        ..PLAIN
-    },
-    Case {
-        name: "merges are counted, until a run is full",
         config: SMALL_RUN,
-        phases: &[&[MERGES]],
-        ..PLAIN
+        ..alone!("merges are counted, until a run is full", MERGES)
     },
-    Case {
-        name: "a sweep waits until enough of an epoch is used, and the room of an epoch is told",
-        phases: &[&[USES]],
-        ..PLAIN
-    },
-    Case {
-        name: "a scan and a page leave their seat at rest",
-        phases: &[&[SCANS]],
-        ..PLAIN
-    },
-    Case {
-        name: "pages are read in turn, and keys are counted",
-        phases: &[&[COUNTS]],
-        ..PLAIN
-    },
-    Case {
-        name: "keys are visited, and the present is scanned under a snapshot",
-        phases: &[&[VISITS]],
-        ..PLAIN
-    },
+    alone!(
+        "a sweep waits until enough of an epoch is used, and the room of an epoch is told",
+        USES
+    ),
+    alone!("a scan and a page leave their seat at rest", SCANS),
+    alone!("pages are read in turn, and keys are counted", COUNTS),
+    alone!(
+        "keys are visited, and the present is scanned under a snapshot",
+        VISITS
+    ),
 ];
 
 /// The looks of seat 2 at the state of the first time are counted.
@@ -214,68 +196,36 @@ const FINDS_NONE: Step = (Act::Get(8), Answer::None(1));
 
 const LOOKS_NO_MORE: Step = (Act::Second(Turn::Steps), Answer::Count(0));
 
+/// The case of this name in which seat 2, with so much patience, looks so many times at the time
+/// that seat 1 is about to decide.
+macro_rules! overtaking {
+    ($name:expr, $patience:expr, $looks:expr) => {
+        Case {
+            name: $name,
+            config: Config {
+                patience: $patience,
+                ..FOUR_CELLS
+            },
+            gates: [AT_DECIDE, LOOKED_AT],
+            phases: &[&[NONE, OVERTAKEN, &[
+                WAIT,
+                FINDS_NONE,
+                (Act::Second(Turn::Steps), Answer::Count($looks)),
+                FINDS_NONE,
+                LOOKS_NO_MORE,
+                LET_GO,
+            ]]],
+            ..PLAIN
+        }
+    };
+}
+
 /// A reader looks once at an undecided time, and as often again as its patience says. Then it
 /// cancels the time, and looks at it no more.
 const LOOKS: &[Case] = &[
-    Case {
-        name: "a reader with no patience looks once",
-        config: Config {
-            patience: 0,
-            ..FOUR_CELLS
-        },
-        gates: [AT_DECIDE, LOOKED_AT],
-        phases: &[&[
-            NONE,
-            OVERTAKEN,
-            &[
-                WAIT,
-                FINDS_NONE,
-                (Act::Second(Turn::Steps), Answer::Count(1)),
-                FINDS_NONE,
-                LOOKS_NO_MORE,
-                LET_GO,
-            ],
-        ]],
-        ..PLAIN
-    },
-    Case {
-        name: "a reader with a patience of eight looks nine times",
-        gates: [AT_DECIDE, LOOKED_AT],
-        phases: &[&[
-            NONE,
-            OVERTAKEN,
-            &[
-                WAIT,
-                FINDS_NONE,
-                (Act::Second(Turn::Steps), Answer::Count(9)),
-                FINDS_NONE,
-                LOOKS_NO_MORE,
-                LET_GO,
-            ],
-        ]],
-        ..PLAIN
-    },
-    Case {
-        name: "a reader with all patience looks 65 times",
-        config: Config {
-            patience: 64,
-            ..FOUR_CELLS
-        },
-        gates: [AT_DECIDE, LOOKED_AT],
-        phases: &[&[
-            NONE,
-            OVERTAKEN,
-            &[
-                WAIT,
-                FINDS_NONE,
-                (Act::Second(Turn::Steps), Answer::Count(65)),
-                FINDS_NONE,
-                LOOKS_NO_MORE,
-                LET_GO,
-            ],
-        ]],
-        ..PLAIN
-    },
+    overtaking!("a reader with no patience looks once", 0, 1),
+    overtaking!("a reader with a patience of eight looks nine times", 8, 9),
+    overtaking!("a reader with all patience looks 65 times", 64, 65),
     Case {
         name: "a reader looks once at a decided time",
         gates: [NOWHERE, LOOKED_AT],
@@ -302,9 +252,9 @@ const GREAT: Config = Config {
     patience: 64,
 };
 
-const UNCHANGING: Step = (Act::Calls(Mix::Unchanging, 8, 1_000), Answer::Done);
+const UNCHANGING: &[Step] = &[(Act::Calls(Mix::Unchanging, 8, 1_000), Answer::Done)];
 
-const CHANGING: Step = (Act::Calls(Mix::Changing, 8, 1_000), Answer::Done);
+const CHANGING: &[Step] = &[(Act::Calls(Mix::Changing, 8, 1_000), Answer::Done)];
 
 const READS: &[Step] = &[(Act::ReadAll, Answer::Done)];
 
@@ -316,19 +266,13 @@ const THREADS: &[Case] = &[
             patience: 2,
             ..GREAT
         },
-        phases: &[
-            &[&[UNCHANGING], &[UNCHANGING], &[UNCHANGING], &[UNCHANGING]],
-            &[READS],
-        ],
+        phases: &[&[UNCHANGING, UNCHANGING, UNCHANGING, UNCHANGING], &[READS]],
         ..PLAIN
     },
     Case {
         name: "four threads make calls of all kinds",
         config: GREAT,
-        phases: &[
-            &[&[CHANGING], &[CHANGING], &[CHANGING], &[CHANGING]],
-            &[READS],
-        ],
+        phases: &[&[CHANGING, CHANGING, CHANGING, CHANGING], &[READS]],
         ..PLAIN
     },
     // An open snapshot keeps every later version, so runs have room for all writes. Level 1 is
@@ -345,10 +289,10 @@ const THREADS: &[Case] = &[
         phases: &[
             &[
                 &[(Act::Sweeps(104), Answer::Count(104))],
-                &[CHANGING],
-                &[CHANGING],
-                &[CHANGING],
-                &[CHANGING],
+                CHANGING,
+                CHANGING,
+                CHANGING,
+                CHANGING,
             ],
             &[READS],
         ],
@@ -362,9 +306,9 @@ const LARGE: Config = Config {
     ..GREAT
 };
 
-const AT_FEW_KEYS: Step = (Act::Calls(Mix::Puts, 64, 500), Answer::Done);
+const FEW_KEYS: &[Step] = &[(Act::Calls(Mix::Puts, 64, 500), Answer::Done)];
 
-const AT_MANY_KEYS: Step = (Act::Calls(Mix::Puts, 1_000_000, 500), Answer::Done);
+const MANY_KEYS: &[Step] = &[(Act::Calls(Mix::Puts, 1_000_000, 500), Answer::Done)];
 
 const SWEPT: &[Step] = &[(Act::ReadAll, Answer::Done), (Act::Sweep, Answer::Clean)];
 
@@ -375,15 +319,7 @@ const ORDERED: &[Case] = &[
         name: "few keys stand in chains and lists alike",
         config: LARGE,
         rounds: 2,
-        round: &[
-            &[
-                &[AT_FEW_KEYS],
-                &[AT_FEW_KEYS],
-                &[AT_FEW_KEYS],
-                &[AT_FEW_KEYS],
-            ],
-            &[SWEPT],
-        ],
+        round: &[&[FEW_KEYS, FEW_KEYS, FEW_KEYS, FEW_KEYS], &[SWEPT]],
         ..PLAIN
     },
     // The third epoch takes the cells of the first, whose hints are still there.
@@ -391,15 +327,7 @@ const ORDERED: &[Case] = &[
         name: "many keys stand in chains and lists alike",
         config: LARGE,
         rounds: 3,
-        round: &[
-            &[
-                &[AT_MANY_KEYS],
-                &[AT_MANY_KEYS],
-                &[AT_MANY_KEYS],
-                &[AT_MANY_KEYS],
-            ],
-            &[SWEPT],
-        ],
+        round: &[&[MANY_KEYS, MANY_KEYS, MANY_KEYS, MANY_KEYS], &[SWEPT]],
         ..PLAIN
     },
 ];

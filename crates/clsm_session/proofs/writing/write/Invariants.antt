@@ -1,6 +1,6 @@
 use Rattle.clsm_store_calls.specs.Seats.{Refuses}
 use Rattle.clsm_store_calls.specs.Tally.{CancelsNone}
-use Rattle.clsm_session.proofs.writing.put.Given as goal
+use Rattle.clsm_session.proofs.writing.write.Given as goal
 
 -- each try so far was refused
 abbrev pub invariant-loop : goal.invariant-loop
