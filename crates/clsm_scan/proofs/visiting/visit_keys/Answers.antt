@@ -37,14 +37,14 @@ next g c =
     c.in-Some.ensures.next.next
 
 visited : (g : Over) (c : After-checked_add g) → IsVisitTo g.V.Visitor.takes (value g c) c.args.bounds.lo (c.in-Some.key + 1) c.args.bounds.hi
-    c.saturating_add-keys.result (Some c.unwrap_or.result) c.args.visitor.now c.take.new.self
+    c.saturating_add-keys.result (Some c.unwrap_or.result) c.args.visitor.now c.visit.new.self
 visited g c =
     let before = c.loop-key.invariant in
     subst (λ (key : ℕ). IsVisitTo g.V.Visitor.takes (value g c) c.args.bounds.lo (c.in-Some.key + 1) c.args.bounds.hi c.saturating_add-keys.result (Some key)
-    c.args.visitor.now c.take.new.self) (sym c.unwrap_or.ensures)
+    c.args.visitor.now c.visit.new.self) (sym c.unwrap_or.ensures)
     (visit_next g.V.Visitor.takes (value g c) c.args.bounds.lo c.args.bounds.hi c.loop-key.from c.loop-key.keys c.saturating_add-keys.result (row g c)
-    c.loop-key.first c.args.visitor.now c.loop-key.visitor c.take.new.self before.visits before.later (next g c) c.saturating_add-keys.ensures
-    (c.take.ensures.takes c.in-Some.ensures.next.words c.in-Some.ensures.next.left))
+    c.loop-key.first c.args.visitor.now c.loop-key.visitor c.visit.new.self before.visits before.later (next g c) c.saturating_add-keys.ensures
+    (c.visit.ensures.takes (row g c) c.in-Some.ensures.next.is))
 
 pub returns-in_default-checked_add-clause-visits : goal.returns-in_default-checked_add-clause-visits
 returns-in_default-checked_add-clause-visits g c =
@@ -54,7 +54,7 @@ returns-in_default-checked_add-clause-visits g c =
       | inr le ↦ le
     ] in
     visit_ended g.V.Visitor.takes (value g turn) c.args.bounds.lo c.args.bounds.hi c.in-Some.key c.saturating_add-keys.result (Some c.unwrap_or.result)
-    c.args.visitor.now c.take.new.self (visited g turn) last
+    c.args.visitor.now c.visit.new.self (visited g turn) last
 
 pub returns-clause-visits : goal.returns-clause-visits
 returns-clause-visits g c =
@@ -71,15 +71,15 @@ loop-key-preserved g c =
     let before = c.loop-key.invariant in
     let behind = sym c.in-Some-checked_add.ensures.1 in
     let k1 = c.next_key.new.seat.knows in
-    let k2 = c.take.new.seat.knows in
+    let k2 = c.visit.new.seat.knows in
     let cursor = c.next_key.new.cursor in
-    let looks = c.take.ensures.looks in
+    let looks = c.visit.ensures.looks in
     let over = c.next_key.ensures.over in
     let row_next = next g turn in
     record {
-      read = read_then g.C.Source.is_over g.C.Source.found g.C.Source.stands c.args.words.now c.args.seat.now c.loop-key.seat c.take.new.seat
+      read = read_then g.C.Source.is_over g.C.Source.found g.C.Source.stands c.args.words.now c.args.seat.now c.loop-key.seat c.visit.new.seat
           c.args.cursor.now c.loop-key.cursor cursor c.loop-key.from c.in-Some-checked_add.behind before.read (record {
-            of = c.take.ensures.of;
+            of = c.visit.ensures.of;
             looks = aside_trans c.loop-key.seat.knows k1 k2 c.next_key.ensures.looks looks;
             over = g.met.C.Source.over_stays k1 k2 cursor looks over;
             same = λ k. g.met.C.Source.found_stays k1 k2 cursor looks over k ∙ c.next_key.ensures.same k;
@@ -88,6 +88,6 @@ loop-key-preserved g c =
           });
       later = let later = row_next.0 in omega arith;
       visits = subst (λ (end : ℕ). IsVisitTo g.V.Visitor.takes (value g turn) c.args.bounds.lo end c.args.bounds.hi c.saturating_add-keys.result
-          (Some c.unwrap_or.result) c.args.visitor.now c.take.new.self) behind (visited g turn);
-      ready = c.take.ensures.ready;
+          (Some c.unwrap_or.result) c.args.visitor.now c.visit.new.self) behind (visited g turn);
+      ready = c.visit.ensures.ready;
     }
