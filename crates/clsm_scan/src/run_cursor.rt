@@ -88,7 +88,7 @@ impl Source for RunCursor {
           (λ passed. passed_on k k' w.run.component w.run.place passed looks.looks) over.1,
     ) };
 
-    ghost found_stays = { λ k k' w looks over key. found_in_run_on k k' w.run.component w.run.place w.until key looks.looks over.0 };
+    ghost found_stays = { λ k k' w looks over. found_in_run_on k k' w.run.component w.run.place w.until looks.looks over.0 };
 
     ghost stands_stays = { λ k k' w from looks over stands. stands_stays k k' w.run.component w.run.place w.until from w.position looks.looks over.0 stands };
 

@@ -1,11 +1,10 @@
-use Rattle.std.proofs.Common.{ℕ, ◌+◌, ◌≤◌, None, Some, Option, sym, ap, ◌∙◌, subst, arith, List, inl, inr}
+use Rattle.std.proofs.Common.{ℕ, ◌+◌, ◌≤◌, None, Some, Option, sym, ap, subst, arith, List, inl, inr}
 use Rattle.std.proofs.lemmas.Bool.{cases_lt}
 use Rattle.clsm_model.specs.Map.{Pair}
 use Rattle.clsm_levels.specs.Entry.{value_of}
-use Rattle.clsm_words.proofs.Keeps.{aside_trans}
 use Rattle.clsm_scan.specs.Collected.{IsNextRow, left_at}
 use Rattle.clsm_scan.proofs.Counts.{IsVisitTo, visit_all, visit_ended, visit_next, visit_none}
-use Rattle.clsm_scan.proofs.ReadOn.{read_none, read_then}
+use Rattle.clsm_scan.proofs.ReadOn.{HasReadTo, read_none, read_on}
 use Rattle.clsm_scan.proofs.Rows.{next_row_same}
 use Rattle.clsm_scan.proofs.visiting.visit_keys.Given.{Over}
 use Rattle.clsm_scan.proofs.visiting.visit_keys.Goals as goal
@@ -68,24 +67,16 @@ returns-clause-visits g c =
 pub loop-key-preserved : goal.loop-key-preserved
 loop-key-preserved g c =
     let turn = (goal.at.loop-key-preserved g c).After-checked_add in
-    let before = c.loop-key.invariant in
     let behind = sym c.in-Some-checked_add.ensures.1 in
-    let k1 = c.next_key.new.seat.knows in
-    let k2 = c.visit.new.seat.knows in
-    let cursor = c.next_key.new.cursor in
-    let looks = c.visit.ensures.looks in
-    let over = c.next_key.ensures.over in
+    let read = c.next_key.ensures in
     let row_next = next g turn in
     record {
-      read = read_then g.C.Source.is_over g.C.Source.found g.C.Source.stands c.args.words.now c.args.seat.now c.loop-key.seat c.visit.new.seat
-          c.args.cursor.now c.loop-key.cursor cursor c.loop-key.from c.in-Some-checked_add.behind before.read (record {
-            of = c.visit.ensures.of;
-            looks = aside_trans c.loop-key.seat.knows k1 k2 c.next_key.ensures.looks looks;
-            over = g.met.C.Source.over_stays k1 k2 cursor looks over;
-            same = λ k. g.met.C.Source.found_stays k1 k2 cursor looks over k ∙ c.next_key.ensures.same k;
-            stands = subst (g.C.Source.stands k2 cursor) behind
-                (g.met.C.Source.stands_stays k1 k2 cursor (c.in-Some.key + 1) looks over c.in-Some.ensures.stands);
-          });
+      read = subst (HasReadTo g.C.Source.is_over g.C.Source.found g.C.Source.stands c.args.words.now c.args.seat.now c.visit.new.seat c.args.cursor.now
+          c.next_key.new.cursor) behind
+          (read_on g.C.Source.is_over g.C.Source.found g.C.Source.stands c.args.words.now g.met.C.Source.over_stays g.met.C.Source.found_stays
+          g.met.C.Source.stands_stays c.args.seat.now c.loop-key.seat c.next_key.new.seat c.visit.new.seat c.args.cursor.now c.loop-key.cursor
+          c.next_key.new.cursor c.loop-key.from (c.in-Some.key + 1) c.loop-key.invariant.read read.looks read.over read.same c.in-Some.ensures.stands
+          c.visit.ensures.of c.visit.ensures.looks);
       later = let later = row_next.0 in omega arith;
       visits = subst (λ (end : ℕ). IsVisitTo g.V.Visitor.takes (value g turn) c.args.bounds.lo end c.args.bounds.hi c.saturating_add-keys.result
           (Some c.unwrap_or.result) c.args.visitor.now c.visit.new.self) behind (visited g turn);
