@@ -28,12 +28,17 @@ module _ {C : Type 0} (IsOver : Known → C → Type 0) (found : Known → C →
     stands = here;
   }
 
-  pub read_then : (a b c : RawState) (x y z : C) (from to : ℕ) → HasReadTo IsOver found StandsAt words a b x y from
-      → HasReadTo IsOver found StandsAt words b c y z to → HasReadTo IsOver found StandsAt words a c x z to
-  read_then a b c x y z from to h k = record {
-    of = k.of;
-    looks = aside_trans a.knows b.knows c.knows h.looks k.looks;
-    over = k.over;
-    same = λ key. k.same key ∙ h.same key;
-    stands = k.stands;
+  -- From there it read on to another key, and then looked aside. The laws are those of a source.
+  pub read_on : ((k k' : Known) (s : C) → LooksAside k k' → IsOver k s → IsOver k' s)
+      → ((k k' : Known) (s : C) → LooksAside k k' → IsOver k s → (key : ℕ) → found k' s key ≡ found k s key)
+      → ((k k' : Known) (s : C) (from : ℕ) → LooksAside k k' → IsOver k s → StandsAt k s from → StandsAt k' s from)
+      → (first a b c : RawState) (x y z : C) (from to : ℕ) → HasReadTo IsOver found StandsAt words first a x y from
+      → LooksAside a.knows b.knows → IsOver b.knows z → ((key : ℕ) → found b.knows z key ≡ found a.knows y key) → StandsAt b.knows z to
+      → IsSeatOf words c → LooksAside b.knows c.knows → HasReadTo IsOver found StandsAt words first c x z to
+  read_on over_stays found_stays stands_stays first a b c x y z from to before looks over same stands of aside = record {
+    of = of;
+    looks = aside_trans first.knows b.knows c.knows (aside_trans first.knows a.knows b.knows before.looks looks) aside;
+    over = over_stays b.knows c.knows z aside over;
+    same = λ key. found_stays b.knows c.knows z aside over key ∙ same key ∙ before.same key;
+    stands = stands_stays b.knows c.knows z to aside over stands;
   }

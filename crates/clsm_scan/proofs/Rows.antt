@@ -72,7 +72,6 @@ module _ (found found' : ℕ → Option Entry) (from sought : ℕ) (same : (k : 
   head_here hi key e (Some words) at is some le until next = record {
     words = words;
     is = (λ i. row_of (at i) (is i));
-    left = is;
     has = ap (λ (v : Option (List ℕ)). is_some v) is;
     next = subst (λ (n : ℕ). IsNextRow (left_at found) from hi (Some (n, words))) at (row_here hi e words next le (omega arith) is);
   }

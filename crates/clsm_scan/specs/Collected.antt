@@ -20,7 +20,6 @@ IsNextRow value from hi (Some row) = (from ≤ row.0) × (row.0 ≤ hi) × (valu
 pub record IsHeadRow (value : ℕ → Option (List ℕ)) (from hi : ℕ) (head : Option Entry) (key : ℕ) : Type 0 where
   pub words : List ℕ
   pub is : rows_of head ≡ (key, words) ∷ []
-  pub left : value_of head ≡ Some words
   pub has : has_value head ≡ true
   pub next : IsNextRow value from hi (Some (key, words))
 

@@ -64,9 +64,9 @@ spot_same k k' e (Some spot) looks =
 -- ---- and of a run
 
 -- looks leave what is found in it
-pub found_in_run_on : (k k' : Known) (component place until key : ℕ) → Looks k k' → IsSearchable k component place
+pub found_in_run_on : (k k' : Known) (component place until : ℕ) → Looks k k' → IsSearchable k component place → (key : ℕ)
     → first_below (run_at k' place) key until ≡ first_below (run_at k place) key until
-found_in_run_on k k' component place until key looks run =
+found_in_run_on k k' component place until looks run key =
     ap (λ (es : List Entry). first_below es key until) (run_stays k k' component place looks run)
 
 -- and what a passage came by

@@ -9,9 +9,9 @@ ghost use Rattle.clsm_scan.specs.Heads.{key_of};
 ghost use Rattle.clsm_scan.specs.declared.ahead.Head.TheVariants.{Unread};
 
 use crate::cursor::Cursor;
+use crate::sink::Sink;
 use crate::source::Source;
 use crate::walk::Walk;
-use clsm_model::{Memory, Value};
 use clsm_words::{Pace, RawSeat, Words};
 
 /// How far a walk was read ahead.
@@ -110,17 +110,8 @@ impl<W: Source> Source for Ahead<W> {
     }
 
     #[inline(always)]
-    fn value<P: Pace>(&self, words: &Words<P>, seat: &mut RawSeat) -> Value {
-        self.walk.value(words, seat)
-    }
-
-    fn push<P: Pace>(
-        &self,
-        words: &Words<P>,
-        seat: &mut RawSeat,
-        rows: &mut Vec<(u64, Value)>,
-    ) -> Result<(), Memory> {
-        self.walk.push(words, seat, rows)
+    fn give<P: Pace, S: Sink>(&self, words: &Words<P>, seat: &mut RawSeat, to: &mut S) -> S::Reply {
+        self.walk.give(words, seat, to)
     }
 
     ghost over_stays = { λ k k' a looks over. W.over_stays k k' a.walk looks over };

@@ -1,5 +1,5 @@
 //! The rows of a range of keys, by a cursor.
-ghost use Rattle.std.specs.Prelude.{◌≡◌, ℕ, ◌+◌, ◌∷◌, ◌++◌, [], IfOk, IfSome, OnOk};
+ghost use Rattle.std.specs.Prelude.{◌≡◌, ℕ, ◌+◌, IfOk, IfSome};
 ghost use Rattle.clsm_words.specs.Keeping.{LooksAside};
 ghost use Rattle.clsm_words.specs.Plays.{IsSeatOf};
 ghost use Rattle.clsm_scan.specs.Collected.{IsCollected, IsNextKey, is_full, left_at};
@@ -25,17 +25,6 @@ pub struct KeyRange {
 pub struct Collected {
     pub rows: Vec<(u64, Value)>,
     pub more: Option<u64>,
-}
-
-/// Puts the key with its value behind the rows. Refused if memory runs out.
-#[inline(always)]
-pub(crate) fn push_row(rows: &mut Vec<(u64, Value)>, key: u64, value: Value) -> Result<(), Memory>
-    ensures { OnOk result (rows.new.items ≡ rows.old.items ++ (key, value) ∷ []) }
-{
-    match rows.push((key, value)) {
-        Ok(()) => Ok(()),
-        Err(_) => Err(Memory),
-    }
 }
 
 /// The next key from `from` to `hi` that has a value, if there is one: the cursor has read it, but
@@ -114,7 +103,7 @@ pub fn collect<C: Cursor, P: Pace>(
             let more = Some(key);
             return Ok(Collected { rows, more });
         }
-        cursor.push(words, seat, &mut rows)?;
+        cursor.give(words, seat, &mut rows)?;
         let Some(behind) = key.checked_add(1) else {
             return Ok(Collected { rows, more: None });
         };

@@ -8,11 +8,10 @@ ghost use Rattle.clsm_scan.specs.Heads.{key_of};
 ghost use Rattle.clsm_scan.specs.Optional.{If, if_so};
 ghost use Rattle.clsm_scan.specs.Walking.{IsWriteAt, found_on, spot_entry, spot_same, stands_later, stands_on, write_on};
 
-use crate::collecting::push_row;
+use crate::sink::Sink;
 use crate::source::Source;
 use crate::walk::Walk;
 use clsm_memtable::{Epoch, has_value, newest_from, seek, value};
-use clsm_model::{Memory, Value};
 use clsm_words::{Pace, RawSeat, Spot, Words};
 
 /// A walk along an epoch of the held component.
@@ -72,24 +71,11 @@ impl Source for EpochCursor {
     }
 
     #[inline(always)]
-    fn value<P: Pace>(&self, words: &Words<P>, seat: &mut RawSeat) -> Value {
+    fn give<P: Pace, S: Sink>(&self, words: &Words<P>, seat: &mut RawSeat, to: &mut S) -> S::Reply {
         match self.last {
-            Some(spot) => value(words, seat, &self.epoch, spot),
+            Some(spot) => to.take(spot.key, value(words, seat, &self.epoch, spot)),
             None => unreachable!(),
         }
-    }
-
-    fn push<P: Pace>(
-        &self,
-        words: &Words<P>,
-        seat: &mut RawSeat,
-        rows: &mut Vec<(u64, Value)>,
-    ) -> Result<(), Memory> {
-        let Some(spot) = self.last else {
-            return Ok(());
-        };
-        let value = value(words, seat, &self.epoch, spot);
-        push_row(rows, spot.key, value)
     }
 
     ghost over_stays = { λ k k' w looks over. (

@@ -5,8 +5,8 @@ ghost use Rattle.clsm_scan.specs.Heads.{is_older};
 ghost use Rattle.clsm_scan.specs.MergedLaws.{first_same, lead_same};
 
 use crate::cursor::Cursor;
+use crate::sink::Sink;
 use crate::source::Source;
-use clsm_model::{Memory, Value};
 use clsm_words::{Pace, RawSeat, Words};
 
 /// Two cursors as one, whose writes of a key are those of the newer cursor, if it has any.
@@ -67,25 +67,11 @@ impl<A: Source, B: Source> Source for Merged<A, B> {
     }
 
     #[inline(always)]
-    fn value<P: Pace>(&self, words: &Words<P>, seat: &mut RawSeat) -> Value {
+    fn give<P: Pace, S: Sink>(&self, words: &Words<P>, seat: &mut RawSeat, to: &mut S) -> S::Reply {
         if self.older_leads {
-            self.older.value(words, seat)
+            self.older.give(words, seat, to)
         } else {
-            self.newer.value(words, seat)
-        }
-    }
-
-    #[inline(always)]
-    fn push<P: Pace>(
-        &self,
-        words: &Words<P>,
-        seat: &mut RawSeat,
-        rows: &mut Vec<(u64, Value)>,
-    ) -> Result<(), Memory> {
-        if self.older_leads {
-            self.older.push(words, seat, rows)
-        } else {
-            self.newer.push(words, seat, rows)
+            self.newer.give(words, seat, to)
         }
     }
 

@@ -3,8 +3,8 @@ ghost use Rattle.std.specs.Prelude.{◌≡◌, None, Some};
 ghost use Rattle.clsm_scan.specs.Optional.{If, found_in, found_same, last_in, last_same, if_both, if_so};
 
 use crate::cursor::Cursor;
+use crate::sink::Sink;
 use crate::source::Source;
-use clsm_model::{Memory, Value};
 use clsm_words::{Pace, RawSeat, Words};
 
 impl<C: Source> Source for Option<C> {
@@ -31,23 +31,10 @@ impl<C: Source> Source for Option<C> {
     }
 
     #[inline(always)]
-    fn value<P: Pace>(&self, words: &Words<P>, seat: &mut RawSeat) -> Value {
+    fn give<P: Pace, S: Sink>(&self, words: &Words<P>, seat: &mut RawSeat, to: &mut S) -> S::Reply {
         match self {
-            Some(cursor) => cursor.value(words, seat),
+            Some(cursor) => cursor.give(words, seat, to),
             None => unreachable!(),
-        }
-    }
-
-    #[inline(always)]
-    fn push<P: Pace>(
-        &self,
-        words: &Words<P>,
-        seat: &mut RawSeat,
-        rows: &mut Vec<(u64, Value)>,
-    ) -> Result<(), Memory> {
-        match self {
-            Some(cursor) => cursor.push(words, seat, rows),
-            None => Ok(()),
         }
     }
 

@@ -9,10 +9,10 @@ ghost use Rattle.clsm_scan.specs.Heads.{key_of};
 ghost use Rattle.clsm_scan.specs.Optional.{If, if_so};
 ghost use Rattle.clsm_scan.specs.Walking.{found_in_run_on, passed_on, passed_same, run_on};
 
-use crate::collecting::push_row;
+use crate::sink::Sink;
 use crate::source::Source;
 use crate::walk::Walk;
-use clsm_model::{Memory, Time, Value};
+use clsm_model::Time;
 use clsm_runs::{HeldRun, Passed, Sought, next, seek, value};
 use clsm_words::{Pace, RawSeat, Words};
 
@@ -75,24 +75,11 @@ impl Source for RunCursor {
     }
 
     #[inline(always)]
-    fn value<P: Pace>(&self, words: &Words<P>, seat: &mut RawSeat) -> Value {
+    fn give<P: Pace, S: Sink>(&self, words: &Words<P>, seat: &mut RawSeat, to: &mut S) -> S::Reply {
         match self.last {
-            Some(passed) => value(words, seat, self.run, &passed),
+            Some(passed) => to.take(passed.key, value(words, seat, self.run, &passed)),
             None => unreachable!(),
         }
-    }
-
-    fn push<P: Pace>(
-        &self,
-        words: &Words<P>,
-        seat: &mut RawSeat,
-        rows: &mut Vec<(u64, Value)>,
-    ) -> Result<(), Memory> {
-        let Some(passed) = self.last else {
-            return Ok(());
-        };
-        let value = value(words, seat, self.run, &passed);
-        push_row(rows, passed.key, value)
     }
 
     ghost over_stays = { λ k k' w looks over. (
@@ -101,7 +88,7 @@ impl Source for RunCursor {
           (λ passed. passed_on k k' w.run.component w.run.place passed looks.looks) over.1,
     ) };
 
-    ghost found_stays = { λ k k' w looks over key. found_in_run_on k k' w.run.component w.run.place w.until key looks.looks over.0 };
+    ghost found_stays = { λ k k' w looks over. found_in_run_on k k' w.run.component w.run.place w.until looks.looks over.0 };
 
     ghost stands_stays = { λ k k' w from looks over stands. stands_stays k k' w.run.component w.run.place w.until from w.position looks.looks over.0 stands };
 

@@ -1,13 +1,13 @@
 //! What yields writes of a held component by rising key.
-ghost use Rattle.std.specs.Prelude.{◌≡◌, ℕ, ◌≤◌, ◌++◌, OnOk, Option, Some, true};
+ghost use Rattle.std.specs.Prelude.{◌≡◌, ℕ, ◌≤◌, ◌∷◌, [], Option, true};
+ghost use Rattle.clsm_model.specs.Map.{Pair};
 ghost use Rattle.clsm_levels.specs.declared.entry.Entry.{Entry};
-ghost use Rattle.clsm_levels.specs.Entry.{value_of};
 ghost use Rattle.clsm_words.specs.declared.known.Known.{Known};
 ghost use Rattle.clsm_words.specs.Keeping.{LooksAside};
 ghost use Rattle.clsm_words.specs.Plays.{IsSeatOf};
 ghost use Rattle.clsm_scan.specs.Heads.{has_value, rows_of};
 
-use clsm_model::{Memory, Value};
+use crate::sink::Sink;
 use clsm_words::{Pace, RawSeat, Words};
 
 /// A source of the newest write of each key below a time, by rising key, which has come by one of
@@ -39,29 +39,17 @@ pub trait Source {
         ensures looks { LooksAside seat.old.knows seat.new.knows }
         ensures has { result ≡ has_value (last seat.old.knows self.now) };
 
-    /// The value of the write that it came by last, which has to have one.
-    fn value<P: Pace>(&self, words: &Words<P>, seat: &mut RawSeat) -> Value
+    /// Gives the sink the key of the write that it came by last with its value, which it has to
+    /// have. No value is handed on between the two.
+    fn give<P: Pace, S: Sink>(&self, words: &Words<P>, seat: &mut RawSeat, to: &mut S) -> S::Reply
         requires of { IsSeatOf words.now seat.old }
         requires over { is_over seat.old.knows self.now }
         requires has { has_value (last seat.old.knows self.now) ≡ true }
+        requires ready { S.is_ready to.old }
         ensures of { IsSeatOf words.now seat.new }
         ensures looks { LooksAside seat.old.knows seat.new.knows }
-        ensures value { value_of (last seat.old.knows self.now) ≡ Some result };
-
-    /// Puts the key of the write that it came by last, with its value, behind the rows. It has to
-    /// have one. Refused if memory runs out.
-    fn push<P: Pace>(
-        &self,
-        words: &Words<P>,
-        seat: &mut RawSeat,
-        rows: &mut Vec<(u64, Value)>,
-    ) -> Result<(), Memory>
-        requires of { IsSeatOf words.now seat.old }
-        requires over { is_over seat.old.knows self.now }
-        requires has { has_value (last seat.old.knows self.now) ≡ true }
-        ensures of { IsSeatOf words.now seat.new }
-        ensures looks { LooksAside seat.old.knows seat.new.knows }
-        ensures rows { OnOk result (rows.new.items ≡ rows.old.items ++ rows_of (last seat.old.knows self.now)) };
+        ensures ready { S.is_ready to.new }
+        ensures takes { (row : Pair) → rows_of (last seat.old.knows self.now) ≡ row ∷ [] → S.takes to.old row result to.new };
 
     ghost over_stays: { (k k' : Known) (s : Self) → LooksAside k k' → is_over k s → is_over k' s };
 

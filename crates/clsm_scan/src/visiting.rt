@@ -1,14 +1,14 @@
 //! Visits of the keys of a range that have a value, by a cursor.
-ghost use Rattle.std.specs.Prelude.{◌≡◌, ℕ, List, Some, true};
+ghost use Rattle.std.specs.Prelude.{◌≡◌, ℕ, ◌∷◌, [], true};
 ghost use Rattle.clsm_model.specs.Map.{Pair};
-ghost use Rattle.clsm_levels.specs.Entry.{value_of};
 ghost use Rattle.clsm_words.specs.Keeping.{LooksAside};
 ghost use Rattle.clsm_words.specs.Plays.{IsSeatOf};
 ghost use Rattle.clsm_scan.specs.Collected.{IsVisit, left_at};
-ghost use Rattle.clsm_scan.specs.Heads.{has_value};
+ghost use Rattle.clsm_scan.specs.Heads.{has_value, rows_of};
 
 use crate::collecting::next_key;
 use crate::cursor::Cursor;
+use crate::sink::Sink;
 use crate::source::Source;
 use clsm_model::Value;
 use clsm_words::{Pace, RawSeat, Words};
@@ -33,15 +33,9 @@ pub trait Visitor {
 
     ghost is_ready: { Self → Type 0 };
 
-    /// Takes the row of the key, of which the source came by the newest write last. It reads the
-    /// value only if it wants it.
-    fn take<S: Source, P: Pace>(
-        &mut self,
-        words: &Words<P>,
-        seat: &mut RawSeat,
-        source: &S,
-        key: u64,
-    )
+    /// Takes the row of the write that the source came by last. It has the row given to it only if
+    /// it wants the value.
+    fn visit<S: Source, P: Pace>(&mut self, words: &Words<P>, seat: &mut RawSeat, source: &S)
         requires of { IsSeatOf words.now seat.old }
         requires over { S.is_over seat.old.knows source.now }
         requires has { has_value (S.last seat.old.knows source.now) ≡ true }
@@ -49,7 +43,7 @@ pub trait Visitor {
         ensures of { IsSeatOf words.now seat.new }
         ensures looks { LooksAside seat.old.knows seat.new.knows }
         ensures ready { is_ready self.new }
-        ensures takes { (value : List ℕ) → value_of (S.last seat.old.knows source.now) ≡ Some value → takes self.old (key, value) self.new };
+        ensures takes { (row : Pair) → rows_of (S.last seat.old.knows source.now) ≡ row ∷ [] → takes self.old row self.new };
 }
 
 /// The visitor that only passes: no value is read.
@@ -62,13 +56,7 @@ impl Visitor for Passing {
     ghost is_ready = { λ visitor. Unit {0} };
 
     #[inline(always)]
-    fn take<S: Source, P: Pace>(
-        &mut self,
-        _words: &Words<P>,
-        _seat: &mut RawSeat,
-        _source: &S,
-        _key: u64,
-    ) {}
+    fn visit<S: Source, P: Pace>(&mut self, _words: &Words<P>, _seat: &mut RawSeat, _source: &S) {}
 }
 
 /// The visitor that calls a function with the key and the value.
@@ -77,21 +65,27 @@ pub struct Calling<F> {
     pub call: F,
 }
 
+impl<F: FnMut(u64, Value)> Sink for Calling<F> {
+    type Reply = ();
+
+    ghost takes = { λ before row reply after. F.step before.call row.0 row.1 tt after.call };
+
+    ghost is_ready = { λ sink. F.IsAlwaysCallable sink.call };
+
+    #[inline(always)]
+    fn take(&mut self, key: u64, value: Value) {
+        (self.call)(key, value);
+    }
+}
+
 impl<F: FnMut(u64, Value)> Visitor for Calling<F> {
     ghost takes = { λ before row after. F.step before.call row.0 row.1 tt after.call };
 
     ghost is_ready = { λ visitor. F.IsAlwaysCallable visitor.call };
 
     #[inline(always)]
-    fn take<S: Source, P: Pace>(
-        &mut self,
-        words: &Words<P>,
-        seat: &mut RawSeat,
-        source: &S,
-        key: u64,
-    ) {
-        let value = source.value(words, seat);
-        (self.call)(key, value);
+    fn visit<S: Source, P: Pace>(&mut self, words: &Words<P>, seat: &mut RawSeat, source: &S) {
+        source.give(words, seat, self);
     }
 }
 
@@ -117,7 +111,7 @@ pub fn visit_keys<C: Cursor, P: Pace, V: Visitor>(
     let mut first = None;
     let mut from = bounds.lo;
     while let Some(key) = next_key(words, seat, cursor, from, bounds.hi) {
-        visitor.take(words, seat, cursor, key);
+        visitor.visit(words, seat, cursor);
         keys = keys.saturating_add(1);
         first = Some(first.unwrap_or(key));
         let Some(behind) = key.checked_add(1) else {

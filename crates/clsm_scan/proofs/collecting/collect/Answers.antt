@@ -2,9 +2,8 @@ use Rattle.std.proofs.Common.{◌≡◌, ℕ, ◌+◌, ◌≤◌, ◌<◌, Some,
 use Rattle.std.proofs.lemmas.Bool.{cases_lt}
 use Rattle.clsm_model.specs.Map.{Pair, value_at}
 use Rattle.clsm_levels.specs.Entry.{value_of}
-use Rattle.clsm_words.proofs.Keeps.{aside_trans}
 use Rattle.clsm_scan.specs.Collected.{AreAll, AreRowsTo, IsAtMost, IsNextRow, is_full, left_at}
-use Rattle.clsm_scan.proofs.ReadOn.{read_none, read_then}
+use Rattle.clsm_scan.proofs.ReadOn.{HasReadTo, read_none, read_on}
 use Rattle.clsm_scan.proofs.Rows.{beyond_pushed, just_full, next_row_same, none_at_most, most_pushed, rows_ended, rows_none, rows_stopped, rows_taken}
 use Rattle.clsm_scan.proofs.collecting.collect.Given.{Over}
 use Rattle.clsm_scan.proofs.collecting.collect.Goals as goal
@@ -45,14 +44,14 @@ value g c = left_at (g.C.Source.found c.args.seat.now.knows c.args.cursor.now)
 abbrev row : (g : Over) → After-checked_add g → Pair
 row g c = (c.in-Some.key, c.in-Some.ensures.next.words)
 
-put : (g : Over) (c : After-checked_add g) → c.push.new.rows.items ≡ c.loop-key.rows.items ++ row g c ∷ []
-put g c = c.in_ok-push.ensures.rows ∙ ap (λ (l : List Pair). c.loop-key.rows.items ++ l) c.in-Some.ensures.next.is
+put : (g : Over) (c : After-checked_add g) → c.give.new.to.items ≡ c.loop-key.rows.items ++ row g c ∷ []
+put g c = c.in_ok-give.ensures.takes (row g c) c.in-Some.ensures.next.is
 
-most : (g : Over) (c : After-checked_add g) → IsAtMost (length c.push.new.rows.items) c.args.range.max
+most : (g : Over) (c : After-checked_add g) → IsAtMost (length c.give.new.to.items) c.args.range.max
 most g c =
     let old = c.loop-key.rows.items in
     let room = ap (is_full c.args.range.max) (sym (c.len.ensures ∙ c.loop-key.rows.ok.0)) ∙ sym c.is_full.ensures ∙ c.if-is_full.false in
-    most_pushed c.args.range.max old c.push.new.rows.items (row g c) (put g c) room
+    most_pushed c.args.range.max old c.give.new.to.items (row g c) (put g c) room
 
 next : (g : Over) (c : After-checked_add g) → IsNextRow (value g c) c.loop-key.from c.args.range.hi (Some (row g c))
 next g c =
@@ -80,22 +79,15 @@ loop-key-preserved g c =
     let before = c.loop-key.invariant in
     let old = c.loop-key.rows.items in
     let behind = sym c.in-Some-checked_add.ensures.1 in
-    let k1 = c.next_key.new.seat.knows in
-    let k2 = c.push.new.seat.knows in
-    let cursor = c.next_key.new.cursor in
-    let looks = c.push.ensures.looks in
-    let over = c.next_key.ensures.over in
+    let read = c.next_key.ensures in
     let row_next = next g turn in
     record {
-      read = read_then g.C.Source.is_over g.C.Source.found g.C.Source.stands c.args.words.now c.args.seat.now c.loop-key.seat c.push.new.seat
-          c.args.cursor.now c.loop-key.cursor cursor c.loop-key.from c.in-Some-checked_add.behind before.read (record {
-            of = c.in_ok-push.ensures.of;
-            looks = aside_trans c.loop-key.seat.knows k1 k2 c.next_key.ensures.looks looks;
-            over = g.met.C.Source.over_stays k1 k2 cursor looks over;
-            same = λ k. g.met.C.Source.found_stays k1 k2 cursor looks over k ∙ c.next_key.ensures.same k;
-            stands = subst (g.C.Source.stands k2 cursor) behind
-                (g.met.C.Source.stands_stays k1 k2 cursor (c.in-Some.key + 1) looks over c.in-Some.ensures.stands);
-          });
+      read = subst (HasReadTo g.C.Source.is_over g.C.Source.found g.C.Source.stands c.args.words.now c.args.seat.now c.give.new.seat c.args.cursor.now
+          c.next_key.new.cursor) behind
+          (read_on g.C.Source.is_over g.C.Source.found g.C.Source.stands c.args.words.now g.met.C.Source.over_stays g.met.C.Source.found_stays
+          g.met.C.Source.stands_stays c.args.seat.now c.loop-key.seat c.next_key.new.seat c.give.new.seat c.args.cursor.now c.loop-key.cursor
+          c.next_key.new.cursor c.loop-key.from (c.in-Some.key + 1) before.read read.looks read.over read.same c.in-Some.ensures.stands
+          c.in_ok-give.ensures.of c.give.ensures.looks);
       later = let later = row_next.0 in omega arith;
       rows = subst (AreRowsTo (value g turn) c.args.range.lo c.in-Some-checked_add.behind) (sym (put g turn))
           (subst (λ (end : ℕ). AreRowsTo (value g turn) c.args.range.lo end (old ++ row g turn ∷ [])) behind

@@ -1,8 +1,7 @@
 use Rattle.std.proofs.Common.{◌+◌, ◌≤◌, Option, sym, ◌∙◌, subst, arith}
 use Rattle.clsm_levels.specs.declared.entry.Entry.{Entry}
-use Rattle.clsm_words.proofs.Keeps.{aside_trans}
 use Rattle.clsm_scan.specs.Collected.{IsHeadRow, left_at}
-use Rattle.clsm_scan.proofs.ReadOn.{HasReadTo, read_then}
+use Rattle.clsm_scan.proofs.ReadOn.{HasReadTo, read_on}
 use Rattle.clsm_scan.proofs.Rows.{ArePassed, head_later, key_found, key_passed}
 use Rattle.clsm_scan.proofs.collecting.next_key.Given.{Over}
 use Rattle.clsm_scan.proofs.collecting.next_key.Goals as goal
@@ -20,21 +19,13 @@ turn : (g : Over) (c : After-has_value g)
     → HasReadTo g.C.Source.is_over g.C.Source.found g.C.Source.stands c.args.words.now c.args.seat.now c.has_value.new.seat c.args.cursor.now c.read.new.self
     (c.in-Some.key + 1)
 turn g c =
-    let k1 = c.read.new.seat.knows in
-    let k2 = c.has_value.new.seat.knows in
-    let cursor = c.read.new.self in
-    let looks = c.has_value.ensures.looks in
-    let over = c.read.ensures.over in
+    let read = c.read.ensures in
     let le = later g c in
-    read_then g.C.Source.is_over g.C.Source.found g.C.Source.stands c.args.words.now c.args.seat.now c.loop-sought.seat c.has_value.new.seat
-    c.args.cursor.now c.loop-sought.cursor cursor c.loop-sought.sought (c.in-Some.key + 1) c.loop-sought.invariant.read (record {
-      of = c.has_value.ensures.of;
-      looks = aside_trans c.loop-sought.seat.knows k1 k2 c.read.ensures.looks looks;
-      over = g.met.C.Source.over_stays k1 k2 cursor looks over;
-      same = λ key. g.met.C.Source.found_stays k1 k2 cursor looks over key ∙ c.read.ensures.same key;
-      stands = g.met.C.Source.stands_later k2 cursor c.loop-sought.sought (c.in-Some.key + 1) (omega arith)
-          (g.met.C.Source.stands_stays k1 k2 cursor c.loop-sought.sought looks over c.read.ensures.stands);
-    })
+    read_on g.C.Source.is_over g.C.Source.found g.C.Source.stands c.args.words.now g.met.C.Source.over_stays g.met.C.Source.found_stays
+    g.met.C.Source.stands_stays c.args.seat.now c.loop-sought.seat c.read.new.seat c.has_value.new.seat c.args.cursor.now c.loop-sought.cursor c.read.new.self
+    c.loop-sought.sought (c.in-Some.key + 1) c.loop-sought.invariant.read read.looks read.over read.same
+    (g.met.C.Source.stands_later c.read.new.seat.knows c.read.new.self c.loop-sought.sought (c.in-Some.key + 1) (omega arith) read.stands)
+    c.has_value.ensures.of c.has_value.ensures.looks
 
 pub returns-then-has_value-clause-over : goal.returns-then-has_value-clause-over
 returns-then-has_value-clause-over g c = (turn g (goal.at.returns-then-has_value-clause-over g c).After-has_value).over

@@ -1,11 +1,10 @@
-use Rattle.std.proofs.Common.{ℕ, ◌+◌, ◌≤◌, None, Some, Option, sym, ap, ◌∙◌, subst, arith, List, inl, inr}
+use Rattle.std.proofs.Common.{ℕ, ◌+◌, ◌≤◌, None, Some, Option, sym, ap, subst, arith, List, inl, inr}
 use Rattle.std.proofs.lemmas.Bool.{cases_lt}
 use Rattle.clsm_model.specs.Map.{Pair}
 use Rattle.clsm_levels.specs.Entry.{value_of}
-use Rattle.clsm_words.proofs.Keeps.{aside_trans}
 use Rattle.clsm_scan.specs.Collected.{IsNextRow, left_at}
 use Rattle.clsm_scan.proofs.Counts.{IsVisitTo, visit_all, visit_ended, visit_next, visit_none}
-use Rattle.clsm_scan.proofs.ReadOn.{read_none, read_then}
+use Rattle.clsm_scan.proofs.ReadOn.{HasReadTo, read_none, read_on}
 use Rattle.clsm_scan.proofs.Rows.{next_row_same}
 use Rattle.clsm_scan.proofs.visiting.visit_keys.Given.{Over}
 use Rattle.clsm_scan.proofs.visiting.visit_keys.Goals as goal
@@ -37,14 +36,14 @@ next g c =
     c.in-Some.ensures.next.next
 
 visited : (g : Over) (c : After-checked_add g) → IsVisitTo g.V.Visitor.takes (value g c) c.args.bounds.lo (c.in-Some.key + 1) c.args.bounds.hi
-    c.saturating_add-keys.result (Some c.unwrap_or.result) c.args.visitor.now c.take.new.self
+    c.saturating_add-keys.result (Some c.unwrap_or.result) c.args.visitor.now c.visit.new.self
 visited g c =
     let before = c.loop-key.invariant in
     subst (λ (key : ℕ). IsVisitTo g.V.Visitor.takes (value g c) c.args.bounds.lo (c.in-Some.key + 1) c.args.bounds.hi c.saturating_add-keys.result (Some key)
-    c.args.visitor.now c.take.new.self) (sym c.unwrap_or.ensures)
+    c.args.visitor.now c.visit.new.self) (sym c.unwrap_or.ensures)
     (visit_next g.V.Visitor.takes (value g c) c.args.bounds.lo c.args.bounds.hi c.loop-key.from c.loop-key.keys c.saturating_add-keys.result (row g c)
-    c.loop-key.first c.args.visitor.now c.loop-key.visitor c.take.new.self before.visits before.later (next g c) c.saturating_add-keys.ensures
-    (c.take.ensures.takes c.in-Some.ensures.next.words c.in-Some.ensures.next.left))
+    c.loop-key.first c.args.visitor.now c.loop-key.visitor c.visit.new.self before.visits before.later (next g c) c.saturating_add-keys.ensures
+    (c.visit.ensures.takes (row g c) c.in-Some.ensures.next.is))
 
 pub returns-in_default-checked_add-clause-visits : goal.returns-in_default-checked_add-clause-visits
 returns-in_default-checked_add-clause-visits g c =
@@ -54,7 +53,7 @@ returns-in_default-checked_add-clause-visits g c =
       | inr le ↦ le
     ] in
     visit_ended g.V.Visitor.takes (value g turn) c.args.bounds.lo c.args.bounds.hi c.in-Some.key c.saturating_add-keys.result (Some c.unwrap_or.result)
-    c.args.visitor.now c.take.new.self (visited g turn) last
+    c.args.visitor.now c.visit.new.self (visited g turn) last
 
 pub returns-clause-visits : goal.returns-clause-visits
 returns-clause-visits g c =
@@ -68,26 +67,18 @@ returns-clause-visits g c =
 pub loop-key-preserved : goal.loop-key-preserved
 loop-key-preserved g c =
     let turn = (goal.at.loop-key-preserved g c).After-checked_add in
-    let before = c.loop-key.invariant in
     let behind = sym c.in-Some-checked_add.ensures.1 in
-    let k1 = c.next_key.new.seat.knows in
-    let k2 = c.take.new.seat.knows in
-    let cursor = c.next_key.new.cursor in
-    let looks = c.take.ensures.looks in
-    let over = c.next_key.ensures.over in
+    let read = c.next_key.ensures in
     let row_next = next g turn in
     record {
-      read = read_then g.C.Source.is_over g.C.Source.found g.C.Source.stands c.args.words.now c.args.seat.now c.loop-key.seat c.take.new.seat
-          c.args.cursor.now c.loop-key.cursor cursor c.loop-key.from c.in-Some-checked_add.behind before.read (record {
-            of = c.take.ensures.of;
-            looks = aside_trans c.loop-key.seat.knows k1 k2 c.next_key.ensures.looks looks;
-            over = g.met.C.Source.over_stays k1 k2 cursor looks over;
-            same = λ k. g.met.C.Source.found_stays k1 k2 cursor looks over k ∙ c.next_key.ensures.same k;
-            stands = subst (g.C.Source.stands k2 cursor) behind
-                (g.met.C.Source.stands_stays k1 k2 cursor (c.in-Some.key + 1) looks over c.in-Some.ensures.stands);
-          });
+      read = subst (HasReadTo g.C.Source.is_over g.C.Source.found g.C.Source.stands c.args.words.now c.args.seat.now c.visit.new.seat c.args.cursor.now
+          c.next_key.new.cursor) behind
+          (read_on g.C.Source.is_over g.C.Source.found g.C.Source.stands c.args.words.now g.met.C.Source.over_stays g.met.C.Source.found_stays
+          g.met.C.Source.stands_stays c.args.seat.now c.loop-key.seat c.next_key.new.seat c.visit.new.seat c.args.cursor.now c.loop-key.cursor
+          c.next_key.new.cursor c.loop-key.from (c.in-Some.key + 1) c.loop-key.invariant.read read.looks read.over read.same c.in-Some.ensures.stands
+          c.visit.ensures.of c.visit.ensures.looks);
       later = let later = row_next.0 in omega arith;
       visits = subst (λ (end : ℕ). IsVisitTo g.V.Visitor.takes (value g turn) c.args.bounds.lo end c.args.bounds.hi c.saturating_add-keys.result
-          (Some c.unwrap_or.result) c.args.visitor.now c.take.new.self) behind (visited g turn);
-      ready = c.take.ensures.ready;
+          (Some c.unwrap_or.result) c.args.visitor.now c.visit.new.self) behind (visited g turn);
+      ready = c.visit.ensures.ready;
     }

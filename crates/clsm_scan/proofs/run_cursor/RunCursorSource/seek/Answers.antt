@@ -4,8 +4,7 @@ use Rattle.clsm_scan.proofs.run_cursor.RunCursorSource.seek.Goals as goal
 
 pub returns-clause-same : goal.returns-clause-same
 returns-clause-same g c =
-    let walk = c.args.self.now in
-    λ key. found_in_run_on c.args.seat.now.knows c.seek-self.new.seat.knows walk.run.component walk.run.place walk.until key
+    found_in_run_on c.args.seat.now.knows c.seek-self.new.seat.knows c.args.self.now.run.component c.args.self.now.run.place c.args.self.now.until
     c.seek-self.ensures.looks.looks c.requires.over.0
 
 pub returns-clause-stands : goal.returns-clause-stands
