@@ -7,7 +7,7 @@ use Rattle.clsm_audit.specs.declared.fault.AuditError.{AuditError}
 use Rattle.clsm_audit.specs.declared.fault.AuditError.TheVariants.{Fault, Memory}
 use Rattle.clsm_audit.specs.declared.fault.FaultKind.{FaultKind}
 use Rattle.clsm_audit.specs.declared.fault.FaultKind.TheVariants.{Unknown, TwoAtOneTime, TimeRanBack, WrongReply}
-use Rattle.clsm_audit.specs.Lawful.{IsFromDueAt, IsKnownAt, IsRightAt, calls_of, due_of, open_of}
+use Rattle.clsm_audit.specs.Lawful.{HaveTimes, IsFromDueAt, IsKnownAt, IsRightAt, calls_of, due_of, open_of}
 use Rattle.clsm_audit.specs.Written.{IsWrittenBefore, WritesAt, history_of}
 
 -- ---- the faults, in the order of the passes
@@ -34,6 +34,12 @@ IsWrongAt records i = ¬ IsRightAt records i
 -- no index has the fault
 abbrev pub HasNone : (ℕ → Type 0) → Type 0
 HasNone IsFault = (i : ℕ) → ¬ IsFault i
+
+-- each record has a time in its range, no two write at one, and the reading at the index is wrong
+pub record IsOnlyWrong (records : List CallRecord) (i : ℕ) : Type 0 where
+  pub times : HaveTimes records
+  pub alone : HasNone (IsSecondAt records)
+  pub wrong : IsWrongAt records i
 
 -- the index has the fault, and no lower one has it
 pub record IsFirst (IsFault : ℕ → Type 0) (i : ℕ) : Type 0 where

@@ -5,7 +5,7 @@ ghost use Rattle.clsm_model.specs.Map.{IsMap};
 ghost use Rattle.clsm_model.specs.Right.{IsPage};
 ghost use Rattle.clsm_audit.specs.Explained.{IsDifference, IsExplanation, ReadsRows, SaysRow, kind_of, lower_key, value_in};
 ghost use Rattle.clsm_audit.specs.declared.fault.FaultKind.TheVariants.{WrongReply};
-ghost use Rattle.clsm_audit.specs.Faults.{HasNone, IsSecondAt, IsWrongAt};
+ghost use Rattle.clsm_audit.specs.Faults.{HasNone, IsOnlyWrong, IsSecondAt};
 ghost use Rattle.clsm_audit.specs.Lawful.{HaveTimes};
 ghost use Rattle.clsm_audit.specs.Order.{IsInTimeOrder};
 ghost use Rattle.clsm_audit.specs.Written.{batches_of, history_of};
@@ -25,9 +25,7 @@ pub fn explain_rows(
     records: &[CallRecord],
     index: usize,
 ) -> Result<Explanation, Memory>
-    requires times { HaveTimes records.now }
-    requires alone { HasNone (IsSecondAt records.now) }
-    requires wrong { IsWrongAt records.now index }
+    requires reply { IsOnlyWrong records.now index }
     requires rows { IsSomeAnd (slice_get records.now index) (λ r. ReadsRows r.deed) }
     requires uncut { IsSomeAnd (slice_get records.now index) (λ r. IsUncut (batches_of records.now) r.time) }
     ensures kind { IfOk result (λ explanation. kind_of explanation ≡ WrongReply) }

@@ -3,7 +3,7 @@ ghost use Rattle.clsm_model.specs.declared.config.Config.{Config};
 ghost use Rattle.clsm_model.specs.History.{IsUncut};
 ghost use Rattle.clsm_audit.specs.Explained.{IsAround, IsExplanation, IsNewest, IsSeen, SaysValue, kind_of, value_left};
 ghost use Rattle.clsm_audit.specs.declared.fault.FaultKind.TheVariants.{WrongReply};
-ghost use Rattle.clsm_audit.specs.Faults.{HasNone, IsSecondAt, IsWrongAt};
+ghost use Rattle.clsm_audit.specs.Faults.{HasNone, IsOnlyWrong, IsSecondAt};
 ghost use Rattle.clsm_audit.specs.Lawful.{HaveTimes};
 ghost use Rattle.clsm_audit.specs.Written.{batches_of};
 
@@ -22,9 +22,7 @@ pub fn explain_wrong(
     records: &[CallRecord],
     index: usize,
 ) -> Result<Explanation, Memory>
-    requires times { HaveTimes records.now }
-    requires alone { HasNone (IsSecondAt records.now) }
-    requires wrong { IsWrongAt records.now index }
+    requires { IsOnlyWrong records.now index }
     ensures kind { IfOk result (λ explanation. kind_of explanation ≡ WrongReply) }
     ensures explains { IfOk result (λ explanation. (config : Config) → IsExplanation config records.now index explanation) }
 {

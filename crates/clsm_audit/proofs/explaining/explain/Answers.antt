@@ -13,7 +13,7 @@ explain_back-requires-clause-times c =
     let first = subst (λ kind. IsFirstFault c.args.config.now c.args.records.now kind c.args.index) c.in-TimeRanBack.is c.requires in
     none_unknown c.args.config.now c.args.records.now first.0
 
-pub explain_wrong-requires-clause-times : goal.explain_wrong-requires-clause-times
-explain_wrong-requires-clause-times c =
+pub explain_wrong-requires : goal.explain_wrong-requires
+explain_wrong-requires c =
     let first = subst (λ kind. IsFirstFault c.args.config.now c.args.records.now kind c.args.index) c.in-WrongReply.is c.requires in
-    none_unknown c.args.config.now c.args.records.now first.0
+    record { times = none_unknown c.args.config.now c.args.records.now first.0; alone = first.1; wrong = first.3.here }

@@ -13,10 +13,10 @@ returns-in-Some-clause-explains c = λ config.
     let r = c.index-records-index.result in
     let e = c.in-Some.explanation in
     let right = c.deref-in-Scan.result.now in
-    let map = wrong_map records c.args.index r c.index-records-index.is c.requires.wrong c.in_ok-map.map c.requires.uncut c.in_ok-map.ensures in
+    let map = wrong_map records c.args.index r c.index-records-index.is c.requires.reply.wrong c.in_ok-map.map c.requires.uncut c.in_ok-map.ensures in
     let range = subst (λ (xs : List Pair). IsRange (history_of records) r.time c.in-Scan.lo c.in-Scan.hi xs) (sym c.deref-in-Scan.ensures.value)
     (c.in_ok-right-in-Scan.ensures.history (history_of records) r.time map) in
-    has_wrong records c.args.index r c.index-records-index.is c.requires.wrong (λ q. Explains config records c.args.index q e)
+    has_wrong records c.args.index r c.index-records-index.is c.requires.reply.wrong (λ q. Explains config records c.args.index q e)
     (scan_explains config records c.args.index r c.in-Scan.lo c.in-Scan.hi c.in-Scan.rows c.as_slice.result.now right e c.in-Scan.is c.as_slice.ensures
     range c.in-Some.ensures)
 
@@ -25,11 +25,11 @@ unreachable-requires c =
     let records = c.args.records.now in
     let h = history_of records in
     let r = c.index-records-index.result in
-    let uncut = wrong_has records c.args.index r c.index-records-index.is c.requires.wrong (λ q. IsUncut (batches_of records) q.time) c.requires.uncut in
-    let map = wrong_map records c.args.index r c.index-records-index.is c.requires.wrong c.in_ok-map.map c.requires.uncut c.in_ok-map.ensures in
+    let uncut = wrong_has records c.args.index r c.index-records-index.is c.requires.reply.wrong (λ q. IsUncut (batches_of records) q.time) c.requires.uncut in
+    let map = wrong_map records c.args.index r c.index-records-index.is c.requires.reply.wrong c.in_ok-map.map c.requires.uncut c.in_ok-map.ensures in
     let range = subst (λ (xs : List Pair). IsRange h r.time c.in-Scan.lo c.in-Scan.hi xs) (sym c.deref-in-Scan.ensures.value)
     (c.in_ok-right-in-Scan.ensures.history h r.time map) in
-    wrong_reads records c.args.index r c.index-records-index.is c.requires.wrong uncut
+    wrong_reads records c.args.index r c.index-records-index.is c.requires.reply.wrong uncut
     (scan_reads h r c.in-Scan.lo c.in-Scan.hi c.in-Scan.rows c.as_slice.result.now c.deref-in-Scan.result.now c.in-Scan.is c.as_slice.ensures range
     c.in-None.ensures)
 
@@ -39,10 +39,10 @@ returns-in-Some-explain_row-clause-explains c = λ config.
     let r = c.index-records-index.result in
     let page = c.page_of-next.result in
     let e = c.in-Some-explain_row.explanation in
-    let map = wrong_map records c.args.index r c.index-records-index.is c.requires.wrong c.in_ok-map.map c.requires.uncut c.in_ok-map.ensures in
+    let map = wrong_map records c.args.index r c.index-records-index.is c.requires.reply.wrong c.in_ok-map.map c.requires.uncut c.in_ok-map.ensures in
     let range = subst (λ (xs : List Pair). IsRange (history_of records) r.time c.in-Page.range.from c.in-Page.range.hi xs) (sym c.deref-in-Page.ensures.value)
     (c.in_ok-all-in-Page.ensures.history (history_of records) r.time map) in
-    has_wrong records c.args.index r c.index-records-index.is c.requires.wrong (λ q. Explains config records c.args.index q e)
+    has_wrong records c.args.index r c.index-records-index.is c.requires.reply.wrong (λ q. Explains config records c.args.index q e)
     (page_explains config records c.args.index r c.in-Page.range c.in-Page.rows c.as_slice-in-Page.result.now page.0.now
     c.deref-in-Page.result.now c.in-Page.more page.1 e c.in-Page.is c.as_slice-in-Page.ensures range c.page_of-next.ensures c.in-Some-explain_row.ensures)
 
@@ -52,18 +52,18 @@ returns-in-Page-clause-explains c = λ config.
     let h = history_of records in
     let r = c.index-records-index.result in
     let page = c.page_of-next.result in
-    let uncut = wrong_has records c.args.index r c.index-records-index.is c.requires.wrong (λ q. IsUncut (batches_of records) q.time) c.requires.uncut in
-    let map = wrong_map records c.args.index r c.index-records-index.is c.requires.wrong c.in_ok-map.map c.requires.uncut c.in_ok-map.ensures in
+    let uncut = wrong_has records c.args.index r c.index-records-index.is c.requires.reply.wrong (λ q. IsUncut (batches_of records) q.time) c.requires.uncut in
+    let map = wrong_map records c.args.index r c.index-records-index.is c.requires.reply.wrong c.in_ok-map.map c.requires.uncut c.in_ok-map.ensures in
     let range = subst (λ (xs : List Pair). IsRange h r.time c.in-Page.range.from c.in-Page.range.hi xs) (sym c.deref-in-Page.ensures.value)
     (c.in_ok-all-in-Page.ensures.history h r.time map) in
-    has_wrong records c.args.index r c.index-records-index.is c.requires.wrong (λ q. Explains config records c.args.index q (WrongNext c.in-Page.more page.1))
+    has_wrong records c.args.index r c.index-records-index.is c.requires.reply.wrong (λ q. Explains config records c.args.index q (WrongNext c.in-Page.more page.1))
     (next_explains config records c.args.index r c.in-Page.range c.in-Page.rows c.as_slice-in-Page.result.now page.0.now
     c.deref-in-Page.result.now c.in-Page.more page.1
-    (wrong_reads records c.args.index r c.index-records-index.is c.requires.wrong uncut) c.in-Page.is c.as_slice-in-Page.ensures range
+    (wrong_reads records c.args.index r c.index-records-index.is c.requires.reply.wrong uncut) c.in-Page.is c.as_slice-in-Page.ensures range
     c.page_of-next.ensures c.in-None-explain_row.ensures)
 
 pub unreachable-requires-in_default : goal.unreachable-requires-in_default
 unreachable-requires-in_default c =
     let r = c.index-records-index.result in
-    let rows = wrong_has c.args.records.now c.args.index r c.index-records-index.is c.requires.wrong (λ q. ReadsRows q.deed) c.requires.rows in
+    let rows = wrong_has c.args.records.now c.args.index r c.index-records-index.is c.requires.reply.wrong (λ q. ReadsRows q.deed) c.requires.rows in
     rows_read r.deed rows c.in_default.not-Scan c.in_default.not-Page
