@@ -3,8 +3,8 @@ ghost use Rattle.std.specs.Prelude.{◌≡◌, Some};
 ghost use Rattle.clsm_law.specs.declared.step.Step.TheVariants.{Decide};
 ghost use Rattle.clsm_law.specs.declared.view.Mode.TheVariants.{Shared};
 ghost use Rattle.clsm_words.specs.Plays.{IsSeatOf, MayPlay};
-ghost use Rattle.clsm_memtable.specs.Inserting.{MayLeaveHints};
 ghost use Rattle.clsm_memtable.specs.Writing.{Decides, GivesUp};
+ghost use Rattle.clsm_memtable.specs.Inserting.{MayLeaveHints};
 
 use crate::hints::leave_hints;
 use crate::inserting::Trace;

@@ -35,19 +35,32 @@ pub(crate) fn state<P: Pace>(words: &Words<P>, seat: &mut RawSeat, at: &KnownCel
     words.look(seat, Word::State(at.cell))
 }
 
-/// What the key of the time's cell is.
-#[inline]
-pub(crate) fn key<P: Pace>(words: &Words<P>, seat: &mut RawSeat, at: &KnownCell) -> u64
-    requires of { IsSeatOf words.now seat.old }
-    requires known { IsKnownTime seat.old.knows at.now.component at.now.time at.now.cell }
-    ensures of { IsSeatOf words.now seat.new }
-    ensures looks { LooksAside seat.old.knows seat.new.knows }
-    ensures told { IsPartOf (slot_in seat.old.knows at.now.time) Key result }
-{
-    seat.show_invariant();
-    let cell = at.cell;
-    let part = Part::Key;
-    words.look(seat, Word::Cell { cell, part })
+impl KnownCell {
+    /// What the key of the time's cell is.
+    #[inline]
+    fn key<P: Pace>(&self, words: &Words<P>, seat: &mut RawSeat) -> u64
+        requires of { IsSeatOf words.now seat.old }
+        requires known { IsKnownTime seat.old.knows self.now.component self.now.time self.now.cell }
+        ensures of { IsSeatOf words.now seat.new }
+        ensures looks { LooksAside seat.old.knows seat.new.knows }
+        ensures told { IsPartOf (slot_in seat.old.knows self.now.time) Key result }
+    {
+        seat.show_invariant();
+        let cell = self.cell;
+        let part = Part::Key;
+        words.look(seat, Word::Cell { cell, part })
+    }
+
+    /// Whether the time is a write of the key.
+    pub(crate) fn is_write<P: Pace>(&self, words: &Words<P>, seat: &mut RawSeat, key: u64) -> bool
+        requires of { IsSeatOf words.now seat.old }
+        requires known { IsKnownTime seat.old.knows self.now.component self.now.time self.now.cell }
+        ensures of { IsSeatOf words.now seat.new }
+        ensures looks { LooksAside seat.old.knows seat.new.knows }
+        ensures told { result ≡ is_write key (slot_in seat.old.knows self.now.time) }
+    {
+        self.key(words, seat) == key && state(words, seat, self) >= 2
+    }
 }
 
 impl Load<RawSeat> for KnownCell {
@@ -99,20 +112,4 @@ pub(crate) fn found<P: Pace>(words: &Words<P>, seat: &mut RawSeat, at: &KnownCel
     };
     let time = at.time;
     Found { time, value }
-}
-
-/// Whether the time is a write of the key.
-pub(crate) fn is_write<P: Pace>(
-    words: &Words<P>,
-    seat: &mut RawSeat,
-    at: &KnownCell,
-    wanted: u64,
-) -> bool
-    requires of { IsSeatOf words.now seat.old }
-    requires known { IsKnownTime seat.old.knows at.now.component at.now.time at.now.cell }
-    ensures of { IsSeatOf words.now seat.new }
-    ensures looks { LooksAside seat.old.knows seat.new.knows }
-    ensures told { result ≡ is_write wanted (slot_in seat.old.knows at.now.time) }
-{
-    key(words, seat, at) == wanted && state(words, seat, at) >= 2
 }

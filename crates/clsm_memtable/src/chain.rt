@@ -5,8 +5,8 @@ ghost use Rattle.clsm_law.specs.Views.{next_word};
 ghost use Rattle.clsm_words.specs.Plays.{IsSeatOf, IsFilled};
 ghost use Rattle.clsm_memtable.specs.Filling.{Links, StaysUnlinked};
 
+use crate::inserting::DrawnCell;
 use clsm_law::{Answer, Part};
-use clsm_model::Time;
 use clsm_words::{Pace, RawSeat, Words};
 use std::sync::Wait;
 use thiserror::Error;
@@ -26,13 +26,12 @@ pub struct Raced;
 pub(crate) fn try_link<P: Pace>(
     words: &Words<P>,
     seat: &mut RawSeat,
-    time: Time,
-    key: u64,
+    cell: DrawnCell,
 ) -> Result<(), Raced>
     requires of { IsSeatOf words.now seat.old }
     requires holds { seat.old.knows.view.mode ≢ Free }
     requires limit { seat.old.knows.view.hold_limit ≢ None }
-    requires filled { IsFilled seat.old.knows.view time key }
+    requires filled { IsFilled seat.old.knows.view cell.time cell.key }
     ensures of { IsSeatOf words.now seat.new }
     ensures linked { OnOk result (Links seat.old.knows seat.new.knows) }
     ensures uncounted { OnOk result (seat.new.knows.view.raced ≡ seat.old.knows.view.raced) }
@@ -40,6 +39,7 @@ pub(crate) fn try_link<P: Pace>(
     ensures counted { OnErr result (seat.new.knows.view.raced ≡ next_word seat.old.knows.view.raced) }
 {
     seat.show_invariant();
+    let DrawnCell { time, key } = cell;
     let head = words.look(seat, words.head_of(time, key));
     words.fill(seat, time, Part::Next, head);
     match words.link(seat, time, key, head) {
@@ -51,22 +51,16 @@ pub(crate) fn try_link<P: Pace>(
 /// Links the drawn cell, and tries until it is linked, as long as that takes. Each try that lost
 /// has moved the seat's count of such refusals by one: another cell was linked, so it tries again at
 /// once. A walk of a chain that the seat had begun is ended.
-pub(crate) fn link<P: Pace, R: Wait>(
-    rt: &R,
-    words: &Words<P>,
-    seat: &mut RawSeat,
-    time: Time,
-    key: u64,
-)
+pub(crate) fn link<P: Pace, R: Wait>(rt: &R, words: &Words<P>, seat: &mut RawSeat, cell: DrawnCell)
     requires of { IsSeatOf words.now seat.old }
     requires holds { seat.old.knows.view.mode ≢ Free }
     requires limit { seat.old.knows.view.hold_limit ≢ None }
-    requires filled { IsFilled seat.old.knows.view time key }
+    requires filled { IsFilled seat.old.knows.view cell.time cell.key }
     ensures of { IsSeatOf words.now seat.new }
     ensures linked { Links seat.old.knows seat.new.knows }
 {
     for _ in rt.forever() {
-        if try_link(words, seat, time, key).is_ok() {
+        if try_link(words, seat, cell).is_ok() {
             return;
         }
     }

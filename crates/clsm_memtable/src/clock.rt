@@ -53,8 +53,8 @@ pub fn look_room<P: Pace>(words: &Words<P>, seat: &mut RawSeat) -> Room
 pub fn draw<P: Pace>(words: &Words<P>, seat: &mut RawSeat) -> Result<Time, DrawError>
     requires of { IsSeatOf words.now seat.old }
     requires holds { seat.old.knows.view.mode ≡ Shared }
-    requires undrawn { seat.old.knows.view.drawn ≡ None }
     requires unnoted { IsUnnoted seat.old.knows.view.snapshot }
+    requires undrawn { seat.old.knows.view.drawn ≡ None }
     ensures of { IsSeatOf words.now seat.new }
     ensures drawn { IfOk result (λ time. Draws seat.old.knows seat.new.knows time) }
     ensures refused { IfErr result (λ refusal. RefusesDraw seat.old.knows seat.new.knows refusal) }

@@ -7,7 +7,7 @@ ghost use Rattle.clsm_memtable.specs.Ordering.{MayWalk};
 ghost use Rattle.clsm_memtable.specs.Searching.{GoesOn, IsOnChain, IsWalked, MayLookInto, IsNewest, IsNewestIn, IsNewestTime, better, is_later, is_write};
 ghost use Rattle.clsm_memtable.specs.Searching.{slot_in};
 
-use crate::cells::{KnownCell, found, is_write};
+use crate::cells::{KnownCell, found};
 use crate::found::Found;
 use crate::list::{Epoch, time_at};
 use crate::versions::{Unsure, newest_version};
@@ -69,7 +69,7 @@ fn better<P: Pace>(
         time,
         cell,
     };
-    if is_write(words, seat, &at, walk.key) {
+    if at.is_write(words, seat, walk.key) {
         Some(time)
     } else {
         walk.best
@@ -142,63 +142,56 @@ fn newest_listed<P: Pace>(
     }
 }
 
-/// The time of the newest write of the key in the epoch, which is begun: by the key's chain or,
-/// where that has many cells, by the ordered list. A walk along a chain passes every version of the
-/// key, since links do not stand in it by time.
-fn newest_time<P: Pace>(
-    words: &Words<P>,
-    seat: &mut RawSeat,
-    epoch: &Epoch,
-    key: u64,
-) -> Option<Time>
-    requires of { IsSeatOf words.now seat.old }
-    requires may { MayWalk seat.old.knows epoch.now }
-    requires begun { epoch.now.first < epoch.now.until }
-    ensures of { IsSeatOf words.now seat.new }
-    ensures looks { Looks seat.old.knows seat.new.knows }
-    ensures newest { IsNewestTime seat.old.knows epoch.now.first key epoch.now.until result }
-{
-    seat.show_invariant();
-    let chain = words.chain_of(key);
-    let region = epoch.number % 2;
-    let next = words.look(seat, Word::Head { region, chain });
-    let best = None;
-    let walk = walk_chain(words, seat, epoch, ChainWalk { key, next, best }, FEW);
-    if walk.next == 0 {
-        return walk.best;
+impl Epoch {
+    /// The time of the newest write of the key in the epoch, which is begun: by the key's chain or,
+    /// where that has many cells, by the ordered list. A walk along a chain passes every version of
+    /// the key, since links do not stand in it by time.
+    fn newest_time<P: Pace>(&self, words: &Words<P>, seat: &mut RawSeat, key: u64) -> Option<Time>
+        requires of { IsSeatOf words.now seat.old }
+        requires may { MayWalk seat.old.knows self.now }
+        requires begun { self.now.first < self.now.until }
+        ensures of { IsSeatOf words.now seat.new }
+        ensures looks { Looks seat.old.knows seat.new.knows }
+        ensures newest { IsNewestTime seat.old.knows self.now.first key self.now.until result }
+    {
+        seat.show_invariant();
+        let chain = words.chain_of(key);
+        let region = self.number % 2;
+        let next = words.look(seat, Word::Head { region, chain });
+        let best = None;
+        let walk = walk_chain(words, seat, self, ChainWalk { key, next, best }, FEW);
+        if walk.next == 0 {
+            return walk.best;
+        }
+        if let Ok(newest) = newest_listed(words, seat, self, key) {
+            return newest;
+        }
+        walk_chain(words, seat, self, walk, words.cells()).best
     }
-    if let Ok(newest) = newest_listed(words, seat, epoch, key) {
-        return newest;
-    }
-    walk_chain(words, seat, epoch, walk, words.cells()).best
-}
 
-/// The newest write of the key in the epoch. Its bound may be behind its end, or before it begins.
-fn newest_in<P: Pace>(
-    words: &Words<P>,
-    seat: &mut RawSeat,
-    epoch: &Epoch,
-    key: u64,
-) -> Option<Found>
-    requires of { IsSeatOf words.now seat.old }
-    requires held { seat.old.knows.view.held ≡ Some epoch.now.component }
-    requires may { MayLookInto seat.old.knows epoch.now.number epoch.now.first epoch.now.until }
-    ensures of { IsSeatOf words.now seat.new }
-    ensures looks { Looks seat.old.knows seat.new.knows }
-    ensures newest { IsNewestIn seat.old.knows epoch.now.first key epoch.now.until result }
-{
-    if epoch.first >= epoch.until {
-        return None;
+    /// The newest write of the key in the epoch. Its bound may be behind its end, or before it
+    /// begins.
+    fn newest_in<P: Pace>(&self, words: &Words<P>, seat: &mut RawSeat, key: u64) -> Option<Found>
+        requires of { IsSeatOf words.now seat.old }
+        requires held { seat.old.knows.view.held ≡ Some self.now.component }
+        requires may { MayLookInto seat.old.knows self.now.number self.now.first self.now.until }
+        ensures of { IsSeatOf words.now seat.new }
+        ensures looks { Looks seat.old.knows seat.new.knows }
+        ensures newest { IsNewestIn seat.old.knows self.now.first key self.now.until result }
+    {
+        if self.first >= self.until {
+            return None;
+        }
+        let end = self.first.saturating_add(words.cells());
+        let until = self.until.min(end);
+        let time = Epoch { until, ..*self }.newest_time(words, seat, key)?;
+        let at = KnownCell {
+            component: self.component,
+            time,
+            cell: words.cell_of(time),
+        };
+        Some(found(words, seat, &at))
     }
-    let end = epoch.first.saturating_add(words.cells());
-    let until = epoch.until.min(end);
-    let time = newest_time(words, seat, &Epoch { until, ..*epoch }, key)?;
-    let at = KnownCell {
-        component: epoch.component,
-        time,
-        cell: words.cell_of(time),
-    };
-    Some(found(words, seat, &at))
 }
 
 /// The newest write of the key below `until` in the two epochs of the held component: in the later
@@ -236,8 +229,8 @@ pub fn newest<P: Pace>(
         first,
         until,
     };
-    match newest_in(words, seat, &later, key) {
+    match later.newest_in(words, seat, key) {
         Some(found) => Some(found),
-        None => newest_in(words, seat, &earlier, key),
+        None => earlier.newest_in(words, seat, key),
     }
 }

@@ -9,44 +9,39 @@ ghost use Rattle.clsm_memtable.specs.Filling.{Stages, staged_view};
 ghost use Rattle.clsm_memtable.specs.Writing.{Commits, DecidesMember};
 
 use crate::filling::fill_words;
+use crate::inserting::DrawnCell;
 use clsm_law::Part;
 use clsm_model::{Change, Deed, Time, Value};
 use clsm_words::{Pace, RawSeat, Words};
 
 /// Stages the key, the length and the words of the next member.
-fn stage_cell<P: Pace>(words: &Words<P>, seat: &mut RawSeat, time: Time, key: u64, value: &[u64])
-    requires opens { MayPlay words.now seat.old (Stage time key) }
+fn stage_cell<P: Pace>(words: &Words<P>, seat: &mut RawSeat, cell: DrawnCell, value: &[u64])
+    requires opens { MayPlay words.now seat.old (Stage cell.time cell.key) }
     requires short { length value.now ≤ 8 }
     ensures of { IsSeatOf words.now seat.new }
     ensures place { KeepsPlace seat.old.knows seat.new.knows }
-    ensures view { seat.new.knows.view ≡ staged_view seat.old.knows.view time (Some key) (Some (length value.now)) seat.new.knows.view }
+    ensures view { seat.new.knows.view ≡ staged_view seat.old.knows.view cell.time (Some cell.key) (Some (length value.now)) seat.new.knows.view }
     ensures words { take (length value.now) seat.new.knows.view.words ≡ map (λ w. Some w) value.now }
 {
-    words.stage(seat, time, key);
+    words.stage(seat, cell.time, cell.key);
     seat.show_invariant();
-    words.fill(seat, time, Part::Length, value.len() as u64);
-    fill_words(words, seat, time, value);
+    words.fill(seat, cell.time, Part::Length, value.len() as u64);
+    fill_words(words, seat, cell.time, value);
 }
 
 /// Stages the next member of the seat's batch, in its exclusive hold of the lock, in which it looked
-/// at LIMIT and CLOCK: takes the time, which is behind the members before it and below the limit,
-/// and fills this write in its cell, a value or, with `None`, a removal. The time is the seat's then
-/// as a drawn one is, and the cell has to be entered and decided before the next member. It never
-/// waits and is never refused.
-pub fn stage<P: Pace>(
-    words: &Words<P>,
-    seat: &mut RawSeat,
-    time: Time,
-    key: u64,
-    value: Option<&Value>,
-)
-    requires opens { MayPlay words.now seat.old (Stage time key) }
+/// at LIMIT and CLOCK: takes the cell's time, which is behind the members before it and below the
+/// limit, and fills this write in the cell, a value or, with `None`, a removal. The time is the
+/// seat's then as a drawn one is, and the cell has to be entered and decided before the next member.
+/// It never waits and is never refused.
+pub fn stage<P: Pace>(words: &Words<P>, seat: &mut RawSeat, cell: DrawnCell, value: Option<&Value>)
+    requires opens { MayPlay words.now seat.old (Stage cell.time cell.key) }
     ensures of { IsSeatOf words.now seat.new }
-    ensures staged { Stages seat.old.knows seat.new.knows time key (option_copied value.entry) }
+    ensures staged { Stages seat.old.knows seat.new.knows cell.time cell.key (option_copied value.entry) }
 {
     match value {
-        Some(value) => stage_cell(words, seat, time, key, value.words()),
-        None => stage_cell(words, seat, time, key, &[]),
+        Some(value) => stage_cell(words, seat, cell, value.words()),
+        None => stage_cell(words, seat, cell, &[]),
     }
 }
 

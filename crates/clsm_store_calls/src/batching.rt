@@ -63,12 +63,13 @@ fn stage_member<P: Pace, R: Wait>(
 {
     let time = turn.time;
     let key = turn.member.0;
+    let cell = DrawnCell { time, key };
     let value = value_set(&turn.member.1);
-    stage(words, seat, time, key, value.as_ref());
+    stage(words, seat, cell, value.as_ref());
     seat.show_invariant();
     let guess = lookahead.next(words, seat, time);
     seat.show_invariant();
-    let trace = enter(rt, words, seat, DrawnCell { time, key }, &guess);
+    let trace = enter(rt, words, seat, cell, &guess);
     decide_member(words, seat, time, &deed_of(key, &value));
     leave_hints(words, seat, time, &trace);
 }

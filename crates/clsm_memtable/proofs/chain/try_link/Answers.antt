@@ -9,7 +9,7 @@ use Rattle.clsm_memtable.proofs.Linked.{links, stays_unlinked, counted}
 use Rattle.clsm_memtable.proofs.chain.try_link.Goals as goal
 
 pub look-head-requires : goal.look-head-requires
-look-head-requires g c = head_opens c.args.words.now c.args.seat.now c.args.time c.args.key c.head_of.result c.show_invariant.ensures
+look-head-requires g c = head_opens c.args.words.now c.args.seat.now c.args.cell.time c.args.cell.key c.head_of.result c.show_invariant.ensures
     (record { of = c.requires.of; holds = c.requires.holds; limit = c.requires.limit; drawn = c.requires.filled.drawn }) c.head_of.ensures
 
 pub returns-in-Done-clause-linked : goal.returns-in-Done-clause-linked
@@ -18,8 +18,8 @@ returns-in-Done-clause-linked g c =
     let k1 = c.look-head.new.seat.knows in
     let head = c.look-head.result in
     let z = c.args.words.now.layout in
-    let region = region_of z (cell_of z c.args.time) in
-    let chain = c.args.key % z.chains in
+    let region = region_of z (cell_of z c.args.cell.time) in
+    let chain = c.args.cell.key % z.chains in
     let x = c.link.ensures.0 in
     links k k1 c.fill.new.seat.knows c.link.new.seat.knows region chain head c.fill.ensures.0 x c.show_invariant.ensures
     (subst (λ (w : Word). Follows (Look w) k head k1) c.head_of.ensures c.look-head.ensures.1) c.fill.ensures.1.1 c.link.ensures.1.1
@@ -33,8 +33,8 @@ returns-in_default g c =
     let k3 = c.link.new.seat.knows in
     let head = c.look-head.result in
     let z = c.args.words.now.layout in
-    let region = region_of z (cell_of z c.args.time) in
-    let chain = c.args.key % z.chains in
+    let region = region_of z (cell_of z c.args.cell.time) in
+    let chain = c.args.cell.key % z.chains in
     let x = c.link.ensures.0 in
     let looks = subst (λ (w : Word). Follows (Look w) k head k1) c.head_of.ensures c.look-head.ensures.1 in
     let miss = lost (x == head) (λ e. c.in_default.not-Done (c.link.ensures.2 ∙ e)) in record {

@@ -7,8 +7,8 @@ pub returns-then-not-is_found_decided-clause-keeps : goal.returns-then-not-is_fo
 returns-then-not-is_found_decided-clause-keeps g c =
     let k = c.args.seat.now.knows in
     let k1 = c.is_found_decided.new.seat.knows in
-    let k2 = c.cancel.new.seat.knows in
     let keeps = c.is_found_decided.ensures.keeps in
+    let k2 = c.cancel.new.seat.knows in
     reads_trans k k1 k2 keeps
     (cancel_keeps k1 k2 c.args.component c.args.time c.cancel.ensures.0 (may_stays k k1 c.args.component c.args.time keeps c.requires.may)
     (c.if-not-is_found_decided.ensures.waited refl) c.cancel.ensures.1.1)

@@ -6,33 +6,33 @@ use Rattle.clsm_words.proofs.Keeps.{looks_trans}
 use Rattle.clsm_memtable.specs.Searching.{IsOnChain, IsWalked, MaySearch}
 use Rattle.clsm_memtable.proofs.Looking.{looks_at_head}
 use Rattle.clsm_memtable.proofs.Chains.{chain_short, chain_stays, on_chain, walked_all, walked_nothing}
-use Rattle.clsm_memtable.proofs.searching.newest_time.Given.{Over}
-use Rattle.clsm_memtable.proofs.searching.newest_time.Goals as goal
-use Rattle.clsm_memtable.proofs.searching.newest_time.Goals.{After-look-next, After-newest_listed}
+use Rattle.clsm_memtable.proofs.list.Epoch.newest_time.Given.{Over}
+use Rattle.clsm_memtable.proofs.list.Epoch.newest_time.Goals as goal
+use Rattle.clsm_memtable.proofs.list.Epoch.newest_time.Goals.{After-look-next, After-newest_listed}
 
 -- the look at the head of the key's chain, on which the seat's trail stands then
 looks : (g : Over) (c : After-look-next g) → Looks c.args.seat.now.knows c.look-next.new.seat.knows
 looks g c = looks_at_head c.args.seat.now.knows c.look-next.new.seat.knows
-    (c.args.epoch.now.number % 2) c.chain_of-chain.result c.look-next.result c.show_invariant.ensures c.look-next.ensures.1
+    (c.args.self.now.number % 2) c.chain_of-chain.result c.look-next.result c.show_invariant.ensures c.look-next.ensures.1
 
 trail : (g : Over) (c : After-look-next g)
-    → IsTrail c.look-next.new.seat.knows c.args.epoch.now.number (c.args.key % c.look-next.new.seat.knows.layout.chains) c.look-next.result
+    → IsTrail c.look-next.new.seat.knows c.args.self.now.number (c.args.key % c.look-next.new.seat.knows.layout.chains) c.look-next.result
 trail g c =
-    let e = c.args.epoch.now in
+    let e = c.args.self.now in
     let chain = c.chain_of-chain.ensures ∙ ap (λ (z : Layout). c.args.key % z.chains) (sym c.requires.of.1 ∙ sym (looks g c).reads.seat.layout) in
     subst (λ (n : ℕ). IsTrail c.look-next.new.seat.knows e.number n c.look-next.result) chain (c.look-next.ensures.1.walks e.number c.requires.may.walked refl)
 
-may_search : (g : Over) (c : After-look-next g) → MaySearch c.args.seat.now.knows c.args.epoch.now.number c.args.epoch.now.first c.args.epoch.now.until
+may_search : (g : Over) (c : After-look-next g) → MaySearch c.args.seat.now.knows c.args.self.now.number c.args.self.now.first c.args.self.now.until
 may_search g c = record { held = c.requires.may.walked; begins = c.requires.may.begins; begun = c.requires.begun; settled = c.requires.may.settled }
 
 -- the walk along the chain begins there
-begins : (g : Over) (c : After-look-next g) → IsOnChain c.look-next.new.seat.knows c.args.epoch.now.first c.look-next.result
-    × IsWalked c.look-next.new.seat.knows.past c.look-next.new.seat.knows.layout.cells c.args.epoch.now.first c.args.key c.args.epoch.now.until None
+begins : (g : Over) (c : After-look-next g) → IsOnChain c.look-next.new.seat.knows c.args.self.now.first c.look-next.result
+    × IsWalked c.look-next.new.seat.knows.past c.look-next.new.seat.knows.layout.cells c.args.self.now.first c.args.key c.args.self.now.until None
     c.look-next.new.seat.knows.trail
 begins g c =
     let k = c.args.seat.now.knows in
     let k1 = c.look-next.new.seat.knows in
-    let e = c.args.epoch.now in (
+    let e = c.args.self.now in (
       on_chain k k1 e.number e.first e.until c.args.key c.look-next.result (may_search g c) (looks g c) (trail g c),
       walked_nothing k k1 e.number e.first e.until c.args.key c.look-next.result (may_search g c) (looks g c) (trail g c),
     )
@@ -49,7 +49,7 @@ listed g c =
     let k = c.args.seat.now.knows in
     let k1 = c.look-next.new.seat.knows in
     let k2 = c.walk_chain-walk.new.seat.knows in
-    let first = looks_at_head k k1 (c.args.epoch.now.number % 2) c.chain_of-chain.result c.look-next.result c.show_invariant.ensures c.look-next.ensures.1 in
+    let first = looks_at_head k k1 (c.args.self.now.number % 2) c.chain_of-chain.result c.look-next.result c.show_invariant.ensures c.look-next.ensures.1 in
     looks_trans k k2 c.newest_listed.new.seat.knows (looks_trans k k1 k2 first c.walk_chain-walk.ensures.looks) c.newest_listed.ensures.looks.looks
 
 pub returns-in-Ok-clause-looks : goal.returns-in-Ok-clause-looks
@@ -57,7 +57,7 @@ returns-in-Ok-clause-looks g c = listed g (goal.at.returns-in-Ok-clause-looks g 
 
 pub walk_chain-requires-clause-chain : goal.walk_chain-requires-clause-chain
 walk_chain-requires-clause-chain g c =
-    chain_stays c.walk_chain-walk.new.seat.knows c.newest_listed.new.seat.knows c.args.epoch.now.first c.walk_chain-walk.result.next
+    chain_stays c.walk_chain-walk.new.seat.knows c.newest_listed.new.seat.knows c.args.self.now.first c.walk_chain-walk.result.next
     c.newest_listed.ensures.looks c.walk_chain-walk.ensures.chain
 
 pub returns-clause-looks : goal.returns-clause-looks
@@ -69,7 +69,7 @@ pub returns-clause-newest : goal.returns-clause-newest
 returns-clause-newest g c =
     let k3 = c.newest_listed.new.seat.knows in
     let k4 = c.walk_chain.new.seat.knows in
-    let e = c.args.epoch.now in
+    let e = c.args.self.now in
     let best = c.walk_chain.result.best in
     let chain = chain_stays c.walk_chain-walk.new.seat.knows k3 e.first c.walk_chain-walk.result.next c.newest_listed.ensures.looks
     c.walk_chain-walk.ensures.chain in

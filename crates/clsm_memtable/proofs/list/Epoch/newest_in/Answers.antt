@@ -4,12 +4,12 @@ use Rattle.clsm_law.specs.declared.layout.Layout.{Layout}
 use Rattle.clsm_memtable.specs.Searching.{IsNewestIn, value_in}
 use Rattle.clsm_memtable.specs.Staying.{slot_stays}
 use Rattle.clsm_memtable.proofs.NewestWrites.{found_none, found_some, found_within}
-use Rattle.clsm_memtable.proofs.searching.newest_in.Given.{Over}
-use Rattle.clsm_memtable.proofs.searching.newest_in.Goals as goal
-use Rattle.clsm_memtable.proofs.searching.newest_in.Goals.{After-newest_time}
+use Rattle.clsm_memtable.proofs.list.Epoch.newest_in.Given.{Over}
+use Rattle.clsm_memtable.proofs.list.Epoch.newest_in.Goals as goal
+use Rattle.clsm_memtable.proofs.list.Epoch.newest_in.Goals.{After-newest_time}
 
 -- the bound is the epoch's, or its end
-cut : (g : Over) (c : After-newest_time g) → c.min-until.result ≡ min c.args.epoch.now.until (c.args.epoch.now.first + c.args.seat.now.knows.layout.cells)
+cut : (g : Over) (c : After-newest_time g) → c.min-until.result ≡ min c.args.self.now.until (c.args.self.now.first + c.args.seat.now.knows.layout.cells)
 cut g c =
     let cells : c.args.words.now.layout.cells ≡ c.args.seat.now.knows.layout.cells = sym (ap (λ (z : Layout). z.cells) c.requires.of.1) in
     let m = c.min-until.ensures in
@@ -23,8 +23,8 @@ some_cells g c = let b = c.args.seat.now.knows.layout.cells_in_range.0 in omega 
 pub returns-in_err-time-clause-newest : goal.returns-in_err-time-clause-newest
 returns-in_err-time-clause-newest g c =
     let k = c.args.seat.now.knows in
-    let e = c.args.epoch.now in
-    let begun = c.if-epoch.false in
+    let e = c.args.self.now in
+    let begun = c.if-self.false in
     let searched = (goal.at.returns-in_err-time-clause-newest g c).After-newest_time in
     let some = some_cells g searched in
     let is = cut g searched in
@@ -35,9 +35,9 @@ returns-in_err-time-clause-newest g c =
 pub returns-clause-newest : goal.returns-clause-newest
 returns-clause-newest g c =
     let k = c.args.seat.now.knows in
-    let e = c.args.epoch.now in
+    let e = c.args.self.now in
     let t = c.in_ok-time.time in
-    let begun = c.if-epoch.false in
+    let begun = c.if-self.false in
     let searched = (goal.at.returns-clause-newest g c).After-newest_time in
     let some = some_cells g searched in
     let is = cut g searched in
