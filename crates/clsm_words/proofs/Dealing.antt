@@ -15,7 +15,7 @@ use Rattle.clsm_law.specs.declared.word.Word.{Word}
 use Rattle.clsm_law.specs.declared.view.View.{View}
 use Rattle.clsm_law.specs.declared.merger.MergerView.{MergerView}
 use Rattle.clsm_law.specs.Layout.{memory}
-use Rattle.clsm_law.specs.Views.{idle, own_region}
+use Rattle.clsm_law.specs.Views.{idle}
 use Rattle.clsm_law.specs.Relation.{Chains, Orders}
 use Rattle.clsm_law.specs.Merging.{opening as opening_merger}
 use Rattle.clsm_law.specs.Worlds.{view_at}

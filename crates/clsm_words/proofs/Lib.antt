@@ -27,6 +27,5 @@ pub mod MayMeet
 pub mod Heads
 pub mod MergerTelling
 pub mod MergerAllowed
-pub mod MayMerge
 pub mod Changing
 pub mod Starts

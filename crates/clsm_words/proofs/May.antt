@@ -7,49 +7,97 @@ use Rattle.clsm_law.specs.declared.word.Word.{Word}
 use Rattle.clsm_law.specs.declared.step.Step.{Step}
 use Rattle.clsm_law.specs.Memory.{is_word}
 use Rattle.clsm_law.specs.Layout.{index_of, size_of}
+use Rattle.clsm_law.specs.Merging.{word_of_merger, changed_by_merger}
 use Rattle.clsm_law.specs.Relation.{word_of, changed}
 use Rattle.clsm_words.specs.declared.known.Known.{Known}
+use Rattle.clsm_words.specs.declared.operation.Operation.{Operation}
 use Rattle.clsm_words.specs.declared.words.WordTable.{WordTable}
+use Rattle.clsm_words.specs.Acting.{made_by}
 use Rattle.clsm_words.specs.Seats.{RawState}
-use Rattle.clsm_words.specs.Knowing.{Sound, Follows, FollowsBlind}
-use Rattle.clsm_words.specs.Plays.{IsWordOf, MayPlay}
+use Rattle.clsm_words.specs.Knowing.{Opens, Sound, Follows}
+use Rattle.clsm_words.specs.Merging.{IsSoundMerger, OpensToMerger, FollowsMerger}
+use Rattle.clsm_words.specs.Plays.{IsSeatOf, MayActBy}
 use Rattle.clsm_words.specs.Ruled.{Ruled}
 use Rattle.clsm_words.proofs.Allowed.{allows}
+use Rattle.clsm_words.proofs.MergerAllowed.{allows_merger}
+
+-- one who plays: what holds of what it knows, which steps are open to it, on which word each is and
+-- what it makes of that, and what it knows after
+pub record Role : Type 1 where
+  pub IsSound : Known → Type 0
+  pub IsOpen : Known → Step → Type 0
+  pub word : Known → Step → Word
+  pub change : Known → Step → ℕ → ℕ
+  pub Then : Step → Known → ℕ → Known → Type 0
+  pub there : (k : Known) (step : Step) → IsSound k → IsOpen k step → is_word k.layout (word k step) ≡ true
+  pub allows : (slots id : ℕ) (me : Me ℕ Known) (step : Step) → IsSound me.0 → IsOpen me.0 step
+      → Allows (Ruled me.0.layout) slots id me (index_of me.0.layout (word me.0 step)) (change me.0 step) (λ x after. Then step me.0 x after.0)
+
+abbrev pub caller : Role
+caller = record {
+  IsSound = Sound;
+  IsOpen = Opens;
+  word = λ k step. word_of k.layout k.number k.view step;
+  change = λ k step. changed k.layout k.view step;
+  Then = Follows;
+  there = λ k step sound. sound.there step;
+  allows = λ slots id me step sound. allows slots id me step sound.seated;
+}
+
+abbrev pub merger : Role
+merger = record {
+  IsSound = IsSoundMerger;
+  IsOpen = OpensToMerger;
+  word = λ k step. word_of_merger k.layout k.merger step;
+  change = λ k step. changed_by_merger k.layout k.merger step;
+  Then = FollowsMerger;
+  there = λ k step sound. sound.there step;
+  allows = λ slots id me step sound. allows_merger slots id me step sound.merges;
+}
 
 -- the seat `now` at the words has the table's view `me.0`
-module _ (w : WordTable) (table : TableId) (me : Me ℕ Known) (sound : Sound me.0) (now : RawState) (is : record { table = table; knows = me.0 } ≡ now)
-    (step : Step) (word : Word) (may : MayPlay w now step) (there : IsWordOf now.knows step word) where
-  may' : MayPlay w record { table = table; knows = me.0 } step
-  may' = subst (λ (v : RawState). MayPlay w v step) (sym is) may
+module _ (role : Role) (w : WordTable) (table : TableId) (id : ℕ) (me : Me ℕ Known) (sound : role.IsSound me.0) (now : RawState)
+    (is : record { table = table; knows = me.0 } ≡ now) (step : Step) (word : Word) (of : IsSeatOf w now) (opens : role.IsOpen now.knows step)
+    (there : word ≡ role.word now.knows step) where
+  of' : IsSeatOf w record { table = table; knows = me.0 }
+  of' = subst (IsSeatOf w) (sym is) of
 
-  there' : IsWordOf me.0 step word
-  there' = subst (λ (v : RawState). IsWordOf v.knows step word) (sym is) there
+  opens' : role.IsOpen me.0 step
+  opens' = subst (λ (v : RawState). role.IsOpen v.knows step) (sym is) opens
+
+  there' : word ≡ role.word me.0 step
+  there' = subst (λ (v : RawState). word ≡ role.word v.knows step) (sym is) there
 
   pub may_place : is_word w.layout word ≡ true
-  may_place = subst (λ (z : Layout × Word). is_word z.0 z.1 ≡ true) (λ i. (may'.0.1 i, sym there' i)) (sound.there step may'.1)
+  may_place = subst (λ (z : Layout × Word). is_word z.0 z.1 ≡ true) (λ i. (of'.1 i, sym there' i)) (role.there me.0 step sound opens')
 
-  module _ (id : ℕ) (told : Step) (e : told ≡ step) (at : ℕ) (place : at ≡ index_of w.layout word) (inside : at < size_of w.layout) where
-    pub may_step : (f : ℕ → ℕ) → changed now.knows.layout now.knows.view step ≡ f
-        → (table ≡ w.table.shared.table_id) × (at < w.table.shared.table_id.words)
-        × Allows (Ruled w.table.shared.key) w.table.shared.table_id.slots id me at f (λ x after. Follows told me.0 x after.0)
-    may_step f changes =
-        let g : changed me.0.layout me.0.view step ≡ f = subst (λ (v : RawState). changed v.knows.layout v.knows.view step ≡ f) (sym is) changes in
-        let key : me.0.layout ≡ w.table.shared.key = may'.0.1 ∙ sym w.sized.1 in
-        let there : index_of me.0.layout (word_of me.0.layout me.0.number me.0.view step) ≡ at = sym (place ∙ (λ i. index_of (sym may'.0.1 i) (there' i))) in
-        let size = w.sized.0 in (
-          may'.0.0,
-          omega arith,
-          subst (λ (z : Layout × ℕ × (ℕ → ℕ) × Step). Allows (Ruled z.0) w.table.shared.table_id.slots id me z.1 z.2
-              (λ x after. Follows z.3 me.0 x after.0)) (λ i. (key i, there i, g i, sym e i))
-              (allows w.table.shared.table_id.slots id me step sound.seated may'.1),
-        )
+  pub may_act : (inner : WordTable) → inner ≡ w → (operation : Operation) → role.change now.knows step ≡ made_by operation
+      → MayActBy inner id me (role.Then step) word operation
+  may_act inner inside operation changes =
+      let slots = w.table.shared.table_id.slots in
+      let makes : role.change me.0 step ≡ made_by operation = subst (λ (v : RawState). role.change v.knows step ≡ made_by operation) (sym is) changes in
+      let key : me.0.layout ≡ w.table.shared.key = of'.1 ∙ sym w.sized.1 in
+      subst (λ (v : WordTable). MayActBy v id me (role.Then step) word operation) (sym inside)
+      (subst (λ (z : Layout × ℕ × (ℕ → ℕ)). Allows (Ruled z.0) slots id me z.1 z.2 (λ x after. role.Then step me.0 x after.0))
+      (λ i. (key i, index_of (of'.1 i) (sym there' i), makes i)) (role.allows slots id me step sound opens'))
 
-    pub may_store : (new : ℕ) → changed now.knows.layout now.knows.view step ≡ (λ x. new)
-        → (table ≡ w.table.shared.table_id) × (at < w.table.shared.table_id.words)
-        × Allows (Ruled w.table.shared.key) w.table.shared.table_id.slots id me at (λ x. new) (λ x after. FollowsBlind told me.0 after.0)
-    may_store new changes = let m = may_step (λ x. new) changes in (
-      m.0,
-      m.1,
-      λ t r deep here fits. let a = m.2 t r deep here fits in
-          (a.0, a.1, a.2, a.3, (get_or t.words at 0, a.4)),
-    )
+-- what the table asks of an operation at this place that makes f of the word
+abbrev pub Asks : WordTable → TableId → ℕ → Me ℕ Known → ℕ → (ℕ → ℕ) → (ℕ → Known → Type 0) → Type 0
+Asks w table id me at f then = let of = w.table.shared.table_id in (table ≡ of) × (at < of.words)
+    × Allows (Ruled w.table.shared.key) of.slots id me at f (λ x after. then x after.0)
+
+-- where the word stands, the table allows the step
+module _ (w : WordTable) (table : TableId) (id : ℕ) (me : Me ℕ Known) (follows : Known → ℕ → Known → Type 0) (word : Word) (operation : Operation) (at : ℕ)
+    (of : table ≡ w.table.shared.table_id) (place : (at ≡ index_of w.layout word) × (at < size_of w.layout))
+    (may : MayActBy w id me follows word operation) where
+  pub may_step : (f : ℕ → ℕ) → made_by operation ≡ f → Asks w table id me at f (follows me.0)
+  may_step f makes = let size = w.sized.0 in let inside = place.1 in (
+    of,
+    omega arith,
+    subst (λ (z : ℕ × (ℕ → ℕ)). Allows (Ruled w.table.shared.key) w.table.shared.table_id.slots id me z.0 z.1 (λ x after. follows me.0 x after.0))
+        (λ i. (sym place.0 i, makes i)) may,
+  )
+
+  pub may_store : (new : ℕ) → made_by operation ≡ (λ x. new) → Asks w table id me at (λ x. new) (λ x after. (y : ℕ) × follows me.0 y after)
+  may_store new makes = let m = may_step (λ x. new) makes in
+      (m.0, m.1, λ t r deep here fits. let a = m.2 t r deep here fits in (a.0, a.1, a.2, a.3, (get_or t.words at 0, a.4)))

@@ -40,10 +40,6 @@ module _ (s : State ℕ Known) (id : ℕ) (k : Known) (r : Ruled k.layout s) (at
 
   pub follows_merger : FollowsMerger step k (found s id k r at merges step o) (next s id k r at merges step o)
   follows_merger = record {
-    number = refl;
-    dealt = refl;
-    layout = refl;
-    told = refl;
     view = refl;
     found = found_known;
     made = (λ i. same_memory s id k r at merges step o i (word s id k r at merges step o))
@@ -57,6 +53,10 @@ module _ (s : State ℕ Known) (id : ℕ) (k : Known) (r : Ruled k.layout s) (at
     within = λ le. begins_prefix (slots' s id k r at merges step o) (next s id k r at merges step o).past k.told
         (next_past s id k r at merges step o) told_past le;
     trail = trail_stays s id k r at merges step o;
+    number = refl;
+    dealt = refl;
+    layout = refl;
+    told = refl;
     tells = tells_merger s id k r at merges step o;
     sound = sound_merger (after s id k r at merges step o) (next s id k r at merges step o) (ruled' s id k r at merges step o)
         (next_merging s id k r at merges step o) merges;

@@ -3,6 +3,7 @@ pub mod Knowing
 pub mod Keeping
 pub mod Merging
 pub mod Ruled
+pub mod Acting
 pub mod Plays
 pub mod Changing
 pub mod Starts

@@ -1,15 +1,20 @@
 -- What the step functions ask and tell.
 use Rattle.std.specs.Prelude.{◌≡◌, ◌≢◌, ℕ, ◌+◌, ◌<◌, max, true, false, [], List, length, take, slice_index_or, Some, None}
+use Rattle.atomic_table.specs.Table.{Me, Allows}
 use Rattle.clsm_model.specs.History.{plain}
 use Rattle.clsm_law.specs.declared.word.Word.{Word}
 use Rattle.clsm_law.specs.declared.step.Step.{Step}
 use Rattle.clsm_law.specs.declared.step.Answer.{Answer}
 use Rattle.clsm_law.specs.declared.view.View.{View}
+use Rattle.clsm_law.specs.Layout.{index_of}
 use Rattle.clsm_law.specs.Views.{idle, is_all_some, or_zero}
 use Rattle.clsm_law.specs.Relation.{word_of, answer_of, changed}
 use Rattle.clsm_law.specs.Merging.{opening, word_of_merger, changed_by_merger}
 use Rattle.clsm_words.specs.declared.known.Known.{Known}
 use Rattle.clsm_words.specs.declared.words.WordTable.{WordTable}
+use Rattle.clsm_words.specs.declared.operation.Operation.{Operation}
+use Rattle.clsm_words.specs.Acting.{made_by}
+use Rattle.clsm_words.specs.Ruled.{Ruled}
 use Rattle.clsm_words.specs.Seats.{RawState, MessageState}
 use Rattle.clsm_words.specs.Knowing.{Opens, Follows, known_of, told_of}
 use Rattle.clsm_words.specs.Merging.{OpensToMerger, FollowsMerger}
@@ -22,13 +27,10 @@ IsSeatOf words seat = (seat.table ≡ words.table.shared.table_id) × (seat.know
 abbrev pub MayPlay : WordTable → RawState → Step → Type 0
 MayPlay words seat step = IsSeatOf words seat × Opens seat.knows step
 
--- this is the word that the step is on
-abbrev pub IsWordOf : Known → Step → Word → Type 0
-IsWordOf k step word = word ≡ word_of k.layout k.number k.view step
-
--- it may act on the word so, as the step does: f is what becomes of the word
-abbrev pub MayAct : WordTable → RawState → Step → Word → (ℕ → ℕ) → Type 0
-MayAct words seat step word f = MayPlay words seat step × IsWordOf seat.knows step word × (changed seat.knows.layout seat.knows.view step ≡ f)
+-- this operation on the word plays the step, which is open to it
+abbrev pub MayAct : WordTable → RawState → Step → Word → Operation → Type 0
+MayAct words seat step word operation = let k = seat.knows in MayPlay words seat step × (word ≡ word_of k.layout k.number k.view step)
+    × (changed k.layout k.view step ≡ made_by operation)
 
 -- the drawn cell is filled but for its next, and is not linked
 pub record IsFilled (v : View) (t key : ℕ) : Type 0 where
@@ -50,20 +52,21 @@ Plays words seat step seat' = (x : ℕ) × Played words seat step x seat'
 abbrev pub PlaysTo : WordTable → RawState → Step → Answer → RawState → Type 0
 PlaysTo words seat step answer seat' = (x : ℕ) × Played words seat step x seat' × (answer ≡ answer_of step x)
 
+-- the table allows it this operation on the word, and what it knows follows so
+abbrev pub MayActBy : WordTable → ℕ → Me ℕ Known → (Known → ℕ → Known → Type 0) → Word → Operation → Type 0
+MayActBy words id me follows word operation = Allows (Ruled words.table.shared.key) words.table.shared.table_id.slots id me (index_of words.layout word)
+    (made_by operation) (λ x after. follows me.0 x after.0)
+
 -- ---- the merger's steps
 
 -- the step is open to the merger's seat
 abbrev pub MayMerge : WordTable → RawState → Step → Type 0
 MayMerge words seat step = IsSeatOf words seat × OpensToMerger seat.knows step
 
--- this is the word that the merger's step is on
-abbrev pub IsMergersWord : Known → Step → Word → Type 0
-IsMergersWord k step word = word ≡ word_of_merger k.layout k.merger step
-
--- it may act on the word so, as the step does: f is what becomes of the word
-abbrev pub MayActAsMerger : WordTable → RawState → Step → Word → (ℕ → ℕ) → Type 0
-MayActAsMerger words seat step word f = MayMerge words seat step × IsMergersWord seat.knows step word
-    × (changed_by_merger seat.knows.layout seat.knows.merger step ≡ f)
+-- this operation on the word plays the merger's step, which is open to it
+abbrev pub MayActAsMerger : WordTable → RawState → Step → Word → Operation → Type 0
+MayActAsMerger words seat step word operation = let k = seat.knows in MayMerge words seat step × (word ≡ word_of_merger k.layout k.merger step)
+    × (changed_by_merger k.layout k.merger step ≡ made_by operation)
 
 -- the merger played the step, which found x
 abbrev pub Merged : WordTable → RawState → Step → ℕ → RawState → Type 0

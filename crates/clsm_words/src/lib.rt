@@ -5,6 +5,7 @@
 mod divisor;
 mod known;
 mod load;
+mod operation;
 mod pace;
 mod rule;
 mod words;

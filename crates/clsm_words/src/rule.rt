@@ -1,4 +1,4 @@
-ghost use Rattle.clsm_law.specs.declared.step.Step.{Step};
+ghost use Rattle.std.specs.Prelude.{ℕ};
 
 use crate::known::Known;
 use atomic_table::{Join, Play, Split, TableRule};
@@ -17,15 +17,18 @@ impl TableRule<u64, Known, Layout> for Law {
     ghost first = { new_merger };
 }
 
-/// Which step it is. Each call picks it.
+/// What a step leaves of what its seat knows. Each call picks it.
 pub trait Told {
-    ghost step: { Step };
+    ghost use Rattle.clsm_words.specs.declared.known.Known.{Known};
+
+    // Of what it knew, the word that was found, and what it knows after.
+    ghost follows: { Known → ℕ → Known → Type 0 };
 }
 
 impl Told for Brand {
-    ghost use Rattle.clsm_law.specs.declared.step.Step.TheVariants.{Pin};
+    ghost use Rattle.std.specs.Prelude.{◌≡◌};
 
-    ghost step = { Pin };
+    ghost follows = { λ before found after. before ≡ after };
 }
 
 /// A seat plays the step.
@@ -34,9 +37,7 @@ pub struct Does<E> {
 }
 
 impl<E: Told> Play<u64, Known> for Does<E> {
-    ghost use Rattle.clsm_words.specs.Knowing.{Follows};
-
-    ghost then = { λ at before found after. Follows E.step before.0 found after.0 };
+    ghost then = { λ at before found after. E.follows before.0 found after.0 };
 }
 
 /// A seat plays the step by a store, which is not told what it found.
@@ -45,31 +46,7 @@ pub struct Stores<E> {
 }
 
 impl<E: Told> Play<u64, Known> for Stores<E> {
-    ghost use Rattle.clsm_words.specs.Knowing.{FollowsBlind};
-
-    ghost then = { λ at before stored after. FollowsBlind E.step before.0 after.0 };
-}
-
-/// The merger's seat plays the step.
-pub struct DoesAsMerger<E> {
-    of: PhantomData<E>,
-}
-
-impl<E: Told> Play<u64, Known> for DoesAsMerger<E> {
-    ghost use Rattle.clsm_words.specs.Merging.{FollowsMerger};
-
-    ghost then = { λ at before found after. FollowsMerger E.step before.0 found after.0 };
-}
-
-/// The merger's seat plays the step by a store, which is not told what it found.
-pub struct StoresAsMerger<E> {
-    of: PhantomData<E>,
-}
-
-impl<E: Told> Play<u64, Known> for StoresAsMerger<E> {
-    ghost use Rattle.clsm_words.specs.Merging.{FollowsMergerBlind};
-
-    ghost then = { λ at before stored after. FollowsMergerBlind E.step before.0 after.0 };
+    ghost then = { λ at before stored after. (x : ℕ) × E.follows before.0 x after.0 };
 }
 
 /// The merger's seat deals a caller's.

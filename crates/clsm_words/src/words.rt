@@ -14,7 +14,6 @@ use std::marker::Model;
 mod batching;
 mod cells;
 mod meet;
-mod merger_raw;
 mod merging;
 mod open;
 mod pins;

@@ -6,33 +6,12 @@ ghost use Rattle.clsm_words.specs.Plays.{MayPlay, Plays, PlaysTo};
 
 use super::cells::won_if;
 use super::merging::HELD;
-use super::{RawSeat, WordTable, Words};
+use super::{RawSeat, Words};
+use crate::operation::Operation::{Exchange, Store, Subtract};
 use crate::pace::{Kind, Pace};
-use crate::rule::{Stores, Told};
 use clsm_law::{Answer, Part, Step, Word};
 use clsm_model::{Change, Time};
 use std::marker::Brand;
-
-impl WordTable {
-    /// Commits the members by this step.
-    #[inline(always)]
-    pub(super) fn commit_told<E: Told>(
-        &self,
-        seat: &mut RawSeat,
-        first: Time,
-        members: &[(u64, Change)],
-    )
-        requires told { E.step ≡ Commit members.now }
-        requires opens { MayPlay self.now seat.old (Commit members.now) }
-        requires first { seat.old.knows.view.hold_clock ≡ Some first }
-        ensures { Plays self.now seat.old (Commit members.now) seat.new }
-    {
-        let known = &mut seat.seat;
-        let at = self.place(Word::Clock);
-        let end = first + members.len() as u64;
-        self.table.shared.store::<Stores<E>>(known, at, end);
-    }
-}
 
 impl<P: Pace> Words<P> {
     /// Enters the lock alone, if nobody holds it. Answers `Lost` where somebody does: the seat is
@@ -42,10 +21,7 @@ impl<P: Pace> Words<P> {
         requires { MayPlay self.now seat.old EnterExclusive }
         ensures { PlaysTo self.now seat.old EnterExclusive result seat.new }
     {
-        self.pace.step(seat.number(), Kind::EnterExclusive);
-        let found = self
-            .words
-            .exchange(seat, &Step::EnterExclusive, Word::Lock, 0, HELD);
+        let found = self.play(seat, &Step::EnterExclusive, Word::Lock, Exchange(0, HELD));
         won_if(found == 0)
     }
 
@@ -55,9 +31,7 @@ impl<P: Pace> Words<P> {
         requires { MayPlay self.now seat.old LeaveExclusive }
         ensures { Plays self.now seat.old LeaveExclusive seat.new }
     {
-        self.pace.step(seat.number(), Kind::LeaveExclusive);
-        self.words
-            .subtract(seat, &Step::LeaveExclusive, Word::Lock, HELD);
+        self.play(seat, &Step::LeaveExclusive, Word::Lock, Subtract(HELD));
     }
 
     /// Takes the time for the next member of the seat's batch, and fills this key in its cell. The
@@ -67,12 +41,10 @@ impl<P: Pace> Words<P> {
         requires { MayPlay self.now seat.old (Stage time key) }
         ensures { Plays self.now seat.old (Stage time key) seat.new }
     {
-        self.pace.step(seat.number(), Kind::Fill);
         let cell = self.words.cell_of(time);
         let part = Part::Key;
         let step = Step::Stage(time, key);
-        self.words
-            .store(seat, &step, Word::Cell { cell, part }, key);
+        self.play(seat, &step, Word::Cell { cell, part }, Store(key));
     }
 
     /// Commits the members that the seat decided, at the times from `first` on, which is the clock
@@ -85,6 +57,8 @@ impl<P: Pace> Words<P> {
         ensures { Plays self.now seat.old (Commit members.now) seat.new }
     {
         self.pace.step(seat.number(), Kind::Commit);
-        self.words.commit_told::<Brand>(seat, first, members);
+        let end = Store(first + members.len() as u64);
+        self.words
+            .act_told::<Brand, &[(u64, Change)]>(&mut seat.seat, &members, Word::Clock, end);
     }
 }

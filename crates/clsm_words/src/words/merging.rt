@@ -8,7 +8,8 @@ ghost use Rattle.clsm_words.specs.Plays.{MayMerge, Merged, PlaysAsMerger, Merger
 
 use super::cells::won_if;
 use super::{RawMerger, Words};
-use crate::pace::{Kind, Pace};
+use crate::operation::Operation::{Exchange, Load, Store, Subtract};
+use crate::pace::Pace;
 use clsm_law::{Answer, Step, Word};
 use clsm_model::Time;
 
@@ -16,12 +17,6 @@ use clsm_model::Time;
 pub(super) const HELD: u64 = 1 << 32;
 
 impl<P: Pace> Words<P> {
-    /// Calls the pace: the merger's number is the number of the callers' seats.
-    #[inline(always)]
-    fn pace_merger(&self, kind: Kind) {
-        self.pace.step(self.words.layout.seats, kind);
-    }
-
     /// Enters the lock alone, if nobody holds it. Answers `Lost` where somebody does: the merger is
     /// outside then.
     #[inline(always)]
@@ -29,10 +24,7 @@ impl<P: Pace> Words<P> {
         requires { MayMerge self.now seat.old EnterExclusive }
         ensures { MergerAnswers self.now seat.old EnterExclusive result seat.new }
     {
-        self.pace_merger(Kind::EnterExclusive);
-        let found = self
-            .words
-            .merger_exchange(seat, &Step::EnterExclusive, Word::Lock, 0, HELD);
+        let found = self.play_as_merger(seat, &Step::EnterExclusive, Word::Lock, Exchange(0, HELD));
         won_if(found == 0)
     }
 
@@ -42,9 +34,7 @@ impl<P: Pace> Words<P> {
         requires { MayMerge self.now seat.old LeaveExclusive }
         ensures { PlaysAsMerger self.now seat.old LeaveExclusive seat.new }
     {
-        self.pace_merger(Kind::LeaveExclusive);
-        self.words
-            .merger_subtract(seat, &Step::LeaveExclusive, Word::Lock, HELD);
+        self.play_as_merger(seat, &Step::LeaveExclusive, Word::Lock, Subtract(HELD));
     }
 
     /// Looks at the word.
@@ -53,8 +43,7 @@ impl<P: Pace> Words<P> {
         requires { MayMerge self.now seat.old (Look word) }
         ensures { Merged self.now seat.old (Look word) result seat.new }
     {
-        self.pace_merger(Kind::Look(word));
-        self.words.merger_load(seat, &Step::Look(word), word)
+        self.play_as_merger(seat, &Step::Look(word), word, Load)
     }
 
     /// Cancels the cell of an undrawn time of the epoch.
@@ -63,9 +52,8 @@ impl<P: Pace> Words<P> {
         requires { MayMerge self.now seat.old (Pad time) }
         ensures { PlaysAsMerger self.now seat.old (Pad time) seat.new }
     {
-        self.pace_merger(Kind::Pad);
         let word = Word::State(self.words.cell_of(time));
-        self.words.merger_store(seat, &Step::Pad(time), word, 1);
+        self.play_as_merger(seat, &Step::Pad(time), word, Store(1));
     }
 
     /// Writes a word of a place that no reader searches.
@@ -74,9 +62,8 @@ impl<P: Pace> Words<P> {
         requires { MayMerge self.now seat.old (WriteRun word written) }
         ensures { PlaysAsMerger self.now seat.old (WriteRun word written) seat.new }
     {
-        self.pace_merger(Kind::WriteRun);
-        self.words
-            .merger_store(seat, &Step::WriteRun(word, written), word, written);
+        let step = Step::WriteRun(word, written);
+        self.play_as_merger(seat, &step, word, Store(written));
     }
 
     /// Ends a merge: readers search the place that was written from now on. `merged` is the number
@@ -87,10 +74,8 @@ impl<P: Pace> Words<P> {
         requires merged { merged ≡ seat.old.knows.merger.merged }
         ensures { PlaysAsMerger self.now seat.old Publish seat.new }
     {
-        self.pace_merger(Kind::Publish);
         seat.show_invariant();
-        self.words
-            .merger_store(seat, &Step::Publish, Word::Merged, merged + 1);
+        self.play_as_merger(seat, &Step::Publish, Word::Merged, Store(merged + 1));
     }
 
     /// Empties a chain of the retired region.
@@ -99,10 +84,8 @@ impl<P: Pace> Words<P> {
         requires { MayMerge self.now seat.old (ClearHead region chain) }
         ensures { PlaysAsMerger self.now seat.old (ClearHead region chain) seat.new }
     {
-        self.pace_merger(Kind::ClearHead);
         let step = Step::ClearHead { region, chain };
-        self.words
-            .merger_store(seat, &step, Word::Head { region, chain }, 0);
+        self.play_as_merger(seat, &step, Word::Head { region, chain }, Store(0));
     }
 
     /// Empties the ordered list of the retired region.
@@ -111,9 +94,8 @@ impl<P: Pace> Words<P> {
         requires { MayMerge self.now seat.old (ClearOrder region) }
         ensures { PlaysAsMerger self.now seat.old (ClearOrder region) seat.new }
     {
-        self.pace_merger(Kind::ClearOrder);
-        self.words
-            .merger_store(seat, &Step::ClearOrder(region), Word::Order(region), 0);
+        let step = Step::ClearOrder(region);
+        self.play_as_merger(seat, &step, Word::Order(region), Store(0));
     }
 
     /// Empties a cell of the retired region.
@@ -122,9 +104,7 @@ impl<P: Pace> Words<P> {
         requires { MayMerge self.now seat.old (ClearState cell) }
         ensures { PlaysAsMerger self.now seat.old (ClearState cell) seat.new }
     {
-        self.pace_merger(Kind::ClearState);
-        self.words
-            .merger_store(seat, &Step::ClearState(cell), Word::State(cell), 0);
+        self.play_as_merger(seat, &Step::ClearState(cell), Word::State(cell), Store(0));
     }
 
     /// Moves the clock to the end of the epoch. `merged` is the number of merges.
@@ -134,11 +114,9 @@ impl<P: Pace> Words<P> {
         requires merged { merged ≡ seat.old.knows.merger.merged }
         ensures { PlaysAsMerger self.now seat.old ExtendClock seat.new }
     {
-        self.pace_merger(Kind::ExtendClock);
         seat.show_invariant();
         let end = (merged + 1) * self.words.layout.cells;
-        self.words
-            .merger_store(seat, &Step::ExtendClock, Word::Clock, end);
+        self.play_as_merger(seat, &Step::ExtendClock, Word::Clock, Store(end));
     }
 
     /// Moves the limit to the end of the next epoch. `merged` is the number of merges.
@@ -148,10 +126,8 @@ impl<P: Pace> Words<P> {
         requires merged { merged ≡ seat.old.knows.merger.merged }
         ensures { PlaysAsMerger self.now seat.old ExtendLimit seat.new }
     {
-        self.pace_merger(Kind::ExtendLimit);
         seat.show_invariant();
         let end = (merged + 2) * self.words.layout.cells;
-        self.words
-            .merger_store(seat, &Step::ExtendLimit, Word::Limit, end);
+        self.play_as_merger(seat, &Step::ExtendLimit, Word::Limit, Store(end));
     }
 }

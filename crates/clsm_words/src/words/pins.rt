@@ -3,30 +3,12 @@ ghost use Rattle.std.specs.Prelude.{◌≡◌, ◌+◌, ◌%◌, ◌^◌};
 ghost use Rattle.clsm_law.specs.declared.step.Step.TheVariants.{Pin, Unpin, Note, CloseSnapshot};
 ghost use Rattle.clsm_words.specs.Plays.{MayPlay, Plays};
 
-use super::{RawSeat, WordTable, Words};
+use super::{RawSeat, Words};
+use crate::operation::Operation::Store;
 use crate::pace::{Kind, Pace};
-use crate::rule::{Stores, Told};
 use clsm_law::{End, Step, Word};
 use clsm_model::Time;
 use std::marker::Brand;
-
-impl WordTable {
-    /// Ends a read by this step.
-    #[inline(always)]
-    pub(super) fn unpin_told<E: Told>(&self, seat: &mut RawSeat, pin: u64, end: &End)
-        requires told { E.step ≡ Unpin end.now }
-        requires opens { MayPlay self.now seat.old (Unpin end.now) }
-        requires pin { pin ≡ seat.old.knows.view.pin }
-        ensures { Plays self.now seat.old (Unpin end.now) seat.new }
-    {
-        let word = Word::Pin(seat.number);
-        let known = &mut seat.seat;
-        let at = self.place(word);
-        self.table
-            .shared
-            .store::<Stores<E>>(known, at, pin.wrapping_add(1));
-    }
-}
 
 impl<P: Pace> Words<P> {
     /// Begins a read. `pin` is the seat's pin word.
@@ -36,10 +18,8 @@ impl<P: Pace> Words<P> {
         requires pin { pin ≡ seat.old.knows.view.pin }
         ensures { Plays self.now seat.old Pin seat.new }
     {
-        self.pace.step(seat.number(), Kind::Pin);
         let word = Word::Pin(seat.number);
-        self.words
-            .store(seat, &Step::Pin, word, pin.wrapping_add(1));
+        self.play(seat, &Step::Pin, word, Store(pin.wrapping_add(1)));
     }
 
     /// Ends a read. `pin` is the seat's pin word. How it ends is for the proof alone.
@@ -50,7 +30,10 @@ impl<P: Pace> Words<P> {
         ensures { Plays self.now seat.old (Unpin end.now) seat.new }
     {
         self.pace.step(seat.number(), Kind::Unpin);
-        self.words.unpin_told::<Brand>(seat, pin, end);
+        let word = Word::Pin(seat.number);
+        let next = Store(pin.wrapping_add(1));
+        self.words
+            .act_told::<Brand, End>(&mut seat.seat, end, word, next);
     }
 
     /// Notes the time in the seat's snapshot word.
@@ -59,10 +42,9 @@ impl<P: Pace> Words<P> {
         requires { MayPlay self.now seat.old (Note time) }
         ensures { Plays self.now seat.old (Note time) seat.new }
     {
-        self.pace.step(seat.number(), Kind::Note);
         seat.show_invariant();
         let word = Word::Snap(seat.number);
-        self.words.store(seat, &Step::Note(time), word, time + 1);
+        self.play(seat, &Step::Note(time), word, Store(time + 1));
     }
 
     /// Closes the seat's snapshot.
@@ -71,8 +53,7 @@ impl<P: Pace> Words<P> {
         requires { MayPlay self.now seat.old CloseSnapshot }
         ensures { Plays self.now seat.old CloseSnapshot seat.new }
     {
-        self.pace.step(seat.number(), Kind::CloseSnapshot);
         let word = Word::Snap(seat.number);
-        self.words.store(seat, &Step::CloseSnapshot, word, 0);
+        self.play(seat, &Step::CloseSnapshot, word, Store(0));
     }
 }

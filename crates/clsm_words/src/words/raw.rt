@@ -1,14 +1,17 @@
-//! One function for each operation on a word, told which step it is. The step costs nothing when it
-//! runs.
-ghost use Rattle.std.specs.Prelude.{◌≡◌, ℕ, ◌+◌, ◌-◌, ◌%◌, ◌^◌, ◌<◌, ◌==◌, true, max};
-ghost use prog.Atomic.{either};
+//! The operations on a word by which a seat plays a step.
+ghost use Rattle.std.specs.Prelude.{◌≡◌, ◌<◌, true};
 ghost use Rattle.clsm_law.specs.declared.word.Word.TheVariants.{Count as CountWord};
 ghost use Rattle.clsm_law.specs.Memory.{is_word};
 ghost use Rattle.clsm_law.specs.Layout.{index_of, size_of};
-ghost use Rattle.clsm_words.specs.Plays.{MayAct, Played, Plays};
+ghost use Rattle.clsm_words.specs.Acting.{OfFound};
+ghost use Rattle.clsm_words.specs.Plays.{MayAct, MayActAsMerger, MayActBy, Merged, Played};
 
-use super::{RawSeat, WordTable};
+use super::{RawMerger, RawSeat, WordTable, Words};
+use crate::known::Known;
+use crate::operation::Operation;
+use crate::pace::{Kind, Pace};
 use crate::rule::{Does, Stores, Told};
+use atomic_table::Seat;
 use clsm_law::{Step, Word};
 use std::marker::Brand;
 
@@ -40,119 +43,69 @@ impl WordTable {
         }
     }
 
+    /// Operates on the word for a seat to which a step is open. Which step that is `by` says, for
+    /// the proof alone: it costs nothing when it runs.
     #[inline(always)]
-    #[tactic(auto, using(crate::proofs::May::may_place))]
-    fn load_told<E: Told>(&self, seat: &mut RawSeat, step: &Step, word: Word) -> u64
-        requires told { E.step ≡ step.now }
-        requires acts { MayAct self.now seat.old step.now word (λ x. x) }
-        ensures { Played self.now seat.old step.now result seat.new }
+    pub(super) fn act_told<E: Told, B>(
+        &self,
+        seat: &mut Seat<u64, Known>,
+        by: &B,
+        word: Word,
+        operation: Operation,
+    ) -> u64
+        requires word { is_word self.now.layout word ≡ true }
+        requires seat { seat.old.table_id ≡ self.now.table.shared.table_id }
+        requires allows { MayActBy self.now seat.old.id seat.old.me E.follows word operation }
+        ensures { OfFound operation (λ x. (seat.new.table_id ≡ seat.old.table_id) × E.follows seat.old.me.0 x seat.new.me.0) result }
     {
-        let known = &mut seat.seat;
         let at = self.place(word);
-        self.table.shared.load::<Does<E>>(known, at)
+        let words = &self.table.shared;
+        match operation {
+            Operation::Load => words.load::<Does<E>>(seat, at),
+            Operation::Store(new) => {
+                words.store::<Stores<E>>(seat, at, new);
+                0
+            }
+            Operation::Subtract(by) => words.fetch_sub::<Does<E>>(seat, at, by),
+            Operation::Raise(to) => words.fetch_max::<Does<E>>(seat, at, to),
+            Operation::Exchange(old, new) => words.compare_exchange::<Does<E>>(seat, at, old, new),
+        }
     }
+}
 
+impl<P: Pace> Words<P> {
+    /// Plays the step by this operation on its word.
     #[inline(always)]
-    pub(super) fn load(&self, seat: &mut RawSeat, step: &Step, word: Word) -> u64
-        requires acts { MayAct self.now seat.old step.now word (λ x. x) }
-        ensures { Played self.now seat.old step.now result seat.new }
-    {
-        self.load_told::<Brand>(seat, step, word)
-    }
-
-    #[inline(always)]
-    #[tactic(auto, using(crate::proofs::May::may_place))]
-    fn store_told<E: Told>(&self, seat: &mut RawSeat, step: &Step, word: Word, new: u64)
-        requires told { E.step ≡ step.now }
-        requires acts { MayAct self.now seat.old step.now word (λ x. new) }
-        ensures { Plays self.now seat.old step.now seat.new }
-    {
-        let known = &mut seat.seat;
-        let at = self.place(word);
-        self.table.shared.store::<Stores<E>>(known, at, new);
-    }
-
-    #[inline(always)]
-    pub(super) fn store(&self, seat: &mut RawSeat, step: &Step, word: Word, new: u64)
-        requires acts { MayAct self.now seat.old step.now word (λ x. new) }
-        ensures { Plays self.now seat.old step.now seat.new }
-    {
-        self.store_told::<Brand>(seat, step, word, new);
-    }
-
-    #[inline(always)]
-    #[tactic(auto, using(crate::proofs::May::may_place))]
-    fn subtract_told<E: Told>(&self, seat: &mut RawSeat, step: &Step, word: Word, by: u64) -> u64
-        requires told { E.step ≡ step.now }
-        requires acts { MayAct self.now seat.old step.now word (λ x. (x + (2 ^ 64 - by)) % 2 ^ 64) }
-        ensures { Played self.now seat.old step.now result seat.new }
-    {
-        let known = &mut seat.seat;
-        let at = self.place(word);
-        self.table.shared.fetch_sub::<Does<E>>(known, at, by)
-    }
-
-    #[inline(always)]
-    pub(super) fn subtract(&self, seat: &mut RawSeat, step: &Step, word: Word, by: u64) -> u64
-        requires acts { MayAct self.now seat.old step.now word (λ x. (x + (2 ^ 64 - by)) % 2 ^ 64) }
-        ensures { Played self.now seat.old step.now result seat.new }
-    {
-        self.subtract_told::<Brand>(seat, step, word, by)
-    }
-
-    #[inline(always)]
-    #[tactic(auto, using(crate::proofs::May::may_place))]
-    fn raise_told<E: Told>(&self, seat: &mut RawSeat, step: &Step, word: Word, to: u64) -> u64
-        requires told { E.step ≡ step.now }
-        requires acts { MayAct self.now seat.old step.now word (λ x. max x to) }
-        ensures { Played self.now seat.old step.now result seat.new }
-    {
-        let known = &mut seat.seat;
-        let at = self.place(word);
-        self.table.shared.fetch_max::<Does<E>>(known, at, to)
-    }
-
-    #[inline(always)]
-    pub(super) fn raise(&self, seat: &mut RawSeat, step: &Step, word: Word, to: u64) -> u64
-        requires acts { MayAct self.now seat.old step.now word (λ x. max x to) }
-        ensures { Played self.now seat.old step.now result seat.new }
-    {
-        self.raise_told::<Brand>(seat, step, word, to)
-    }
-
-    #[inline(always)]
-    #[tactic(auto, using(crate::proofs::May::may_place))]
-    fn exchange_told<E: Told>(
+    pub(super) fn play(
         &self,
         seat: &mut RawSeat,
         step: &Step,
         word: Word,
-        old: u64,
-        new: u64,
+        operation: Operation,
     ) -> u64
-        requires told { E.step ≡ step.now }
-        requires acts { MayAct self.now seat.old step.now word (λ x. either (x == old) new x) }
-        ensures { Played self.now seat.old step.now result seat.new }
+        requires { MayAct self.now seat.old step.now word operation }
+        ensures { OfFound operation (λ x. Played self.now seat.old step.now x seat.new) result }
     {
-        let known = &mut seat.seat;
-        let at = self.place(word);
-        self.table
-            .shared
-            .compare_exchange::<Does<E>>(known, at, old, new)
+        self.pace.step(seat.number, Kind::of(step));
+        self.words
+            .act_told::<Brand, Step>(&mut seat.seat, step, word, operation)
     }
 
+    /// Plays the merger's step by this operation on its word. The merger's number is the number of
+    /// the callers' seats.
     #[inline(always)]
-    pub(super) fn exchange(
+    pub(super) fn play_as_merger(
         &self,
-        seat: &mut RawSeat,
+        seat: &mut RawMerger,
         step: &Step,
         word: Word,
-        old: u64,
-        new: u64,
+        operation: Operation,
     ) -> u64
-        requires acts { MayAct self.now seat.old step.now word (λ x. either (x == old) new x) }
-        ensures { Played self.now seat.old step.now result seat.new }
+        requires { MayActAsMerger self.now seat.old step.now word operation }
+        ensures { OfFound operation (λ x. Merged self.now seat.old step.now x seat.new) result }
     {
-        self.exchange_told::<Brand>(seat, step, word, old, new)
+        self.pace.step(self.words.layout.seats, Kind::of(step));
+        self.words
+            .act_told::<Brand, Step>(&mut seat.seat, step, word, operation)
     }
 }

@@ -4,7 +4,8 @@ ghost use Rattle.clsm_words.specs.Plays.{MayPlay, Played, Plays, PlaysTo};
 
 use super::cells::won_if;
 use super::{RawSeat, Words};
-use crate::pace::{Kind, Pace};
+use crate::operation::Operation::{Exchange, Load, Raise, Subtract};
+use crate::pace::Pace;
 use clsm_law::{Answer, Step, Word};
 use clsm_model::Time;
 
@@ -17,11 +18,8 @@ impl<P: Pace> Words<P> {
         requires { MayPlay self.now seat.old (EnterShared holders) }
         ensures { PlaysTo self.now seat.old (EnterShared holders) result seat.new }
     {
-        self.pace.step(seat.number(), Kind::EnterShared);
         let step = Step::EnterShared(holders);
-        let found = self
-            .words
-            .exchange(seat, &step, Word::Lock, holders, holders + 1);
+        let found = self.play(seat, &step, Word::Lock, Exchange(holders, holders + 1));
         won_if(found == holders)
     }
 
@@ -31,8 +29,7 @@ impl<P: Pace> Words<P> {
         requires { MayPlay self.now seat.old LeaveShared }
         ensures { Plays self.now seat.old LeaveShared seat.new }
     {
-        self.pace.step(seat.number(), Kind::LeaveShared);
-        self.words.subtract(seat, &Step::LeaveShared, Word::Lock, 1);
+        self.play(seat, &Step::LeaveShared, Word::Lock, Subtract(1));
     }
 
     /// Draws the time, if it is the next. Answers `Lost` where it is not: nothing is drawn then,
@@ -42,23 +39,10 @@ impl<P: Pace> Words<P> {
         requires { MayPlay self.now seat.old (Draw time) }
         ensures { PlaysTo self.now seat.old (Draw time) result seat.new }
     {
-        self.pace.step(seat.number(), Kind::Draw);
         seat.show_invariant();
         let step = Step::Draw(time);
-        let found = self
-            .words
-            .exchange(seat, &step, Word::Clock, time, time + 1);
+        let found = self.play(seat, &step, Word::Clock, Exchange(time, time + 1));
         won_if(found == time)
-    }
-
-    /// Looks at the word.
-    #[inline(always)]
-    pub fn look(&self, seat: &mut RawSeat, word: Word) -> u64
-        requires { MayPlay self.now seat.old (Look word) }
-        ensures { Played self.now seat.old (Look word) result seat.new }
-    {
-        self.pace.step(seat.number(), Kind::Look(word));
-        self.words.load(seat, &Step::Look(word), word)
     }
 
     /// Raises FRONT to the time, and the seat's past with it.
@@ -67,8 +51,15 @@ impl<P: Pace> Words<P> {
         requires { MayPlay self.now seat.old (RaiseFront time) }
         ensures { Plays self.now seat.old (RaiseFront time) seat.new }
     {
-        self.pace.step(seat.number(), Kind::RaiseFront);
-        self.words
-            .raise(seat, &Step::RaiseFront(time), Word::Front, time);
+        self.play(seat, &Step::RaiseFront(time), Word::Front, Raise(time));
+    }
+
+    /// Looks at the word.
+    #[inline(always)]
+    pub fn look(&self, seat: &mut RawSeat, word: Word) -> u64
+        requires { MayPlay self.now seat.old (Look word) }
+        ensures { Played self.now seat.old (Look word) result seat.new }
+    {
+        self.play(seat, &Step::Look(word), word, Load)
     }
 }

@@ -1,5 +1,6 @@
 use Rattle.clsm_law.specs.declared.step.Step.TheVariants.{Commit}
+use Rattle.clsm_words.specs.Knowing.{Follows}
 use Rattle.clsm_words.proofs.words.Words.commit.Given as goal
 
-abbrev pub ghosts-commit_told : goal.ghosts-commit_told
-ghosts-commit_told g a = record { step = Commit a.members.now }
+abbrev pub ghosts-act_told : goal.ghosts-act_told
+ghosts-act_told g a = record { follows = Follows (Commit a.by.now.now) }

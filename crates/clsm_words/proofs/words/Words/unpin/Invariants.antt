@@ -1,5 +1,6 @@
 use Rattle.clsm_law.specs.declared.step.Step.TheVariants.{Unpin}
+use Rattle.clsm_words.specs.Knowing.{Follows}
 use Rattle.clsm_words.proofs.words.Words.unpin.Given as goal
 
-abbrev pub ghosts-unpin_told : goal.ghosts-unpin_told
-ghosts-unpin_told g a = record { step = Unpin a.end.now }
+abbrev pub ghosts-act_told : goal.ghosts-act_told
+ghosts-act_told g a = record { follows = Follows (Unpin a.by.now) }

@@ -1,7 +1,0 @@
-use Rattle.clsm_words.proofs.May.{may_store}
-use Rattle.clsm_words.proofs.words.WordTable.store_told.Goals as goal
-
-pub store-requires : goal.store-requires
-store-requires g c = may_store c.args.self.now c.seat.inside.seat.table_id c.seat.inside.seat.me c.seat.invariant.1 c.args.seat.now c.seat.view_is
-    c.args.step.now c.args.word c.requires.acts.0 c.requires.acts.1
-    c.seat.inside.seat.id g.E.Told.step c.requires.told c.place-at.result c.place-at.ensures.0 c.place-at.ensures.1 _ c.requires.acts.2
