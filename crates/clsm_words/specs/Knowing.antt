@@ -436,7 +436,3 @@ pub record Follows (step : Step) (k : Known) (x : ℕ) (k' : Known) : Type 0 whe
   pub extends : k.view.drawn ≢ None → k'.view.drawn ≡ k.view.drawn → Extends k.order k'.order
   pub along : TellsAlong step k x k'
   pub sound : Sound k'
-
--- the same, whatever it found
-abbrev pub FollowsBlind : Step → Known → Known → Type 0
-FollowsBlind step k k' = (x : ℕ) × Follows step k x k'

@@ -148,7 +148,3 @@ pub record FollowsMerger (step : Step) (k : Known) (x : ℕ) (k' : Known) : Type
   pub trail : is_frozen k.merger.phase ≡ true → is_frozen k'.merger.phase ≡ true → k'.trail ≡ k.trail
   pub tells : TellsMerger step k' x
   pub sound : IsSoundMerger k'
-
--- the same, whatever it found
-abbrev pub FollowsMergerBlind : Step → Known → Known → Type 0
-FollowsMergerBlind step k k' = (x : ℕ) × FollowsMerger step k x k'

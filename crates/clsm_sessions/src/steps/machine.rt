@@ -1,6 +1,6 @@
 //! The pure machine, played by its planner.
 use crate::steps::command::{Command, FIRST, MERGER, OTHER, Script, Turn};
-use crate::steps::noted::{Made, kind_of};
+use crate::steps::noted::Made;
 use crate::steps::sizes::SIZES;
 use crate::steps::wrong::Wrong;
 use clsm_core::World;
@@ -127,7 +127,7 @@ impl Machine {
     fn make(&mut self, player: u32, step: Step) -> Result<(), Wrong> {
         let made = Made {
             player,
-            kind: kind_of(&step),
+            kind: Kind::of(&step),
             is_vain: self.is_vain(&step),
         };
         let kind = made.kind;

@@ -1,6 +1,6 @@
 //! Steps as both sides tell them, and which of them are compared.
 use crate::steps::command::Command;
-use clsm_law::{Part, Step, Word};
+use clsm_law::{Part, Word};
 use clsm_model::Deal;
 use clsm_words::Kind;
 use std::alloc::{AllocError, Global};
@@ -12,39 +12,6 @@ pub(crate) struct Made {
     pub(crate) kind: Kind,
     /// Whether it stores in an entry of a run the word that is there.
     pub(crate) is_vain: bool,
-}
-
-/// The kind of the machine's step.
-pub(crate) fn kind_of(step: &Step) -> Kind {
-    match step {
-        Step::EnterShared(_) => Kind::EnterShared,
-        Step::LeaveShared => Kind::LeaveShared,
-        Step::EnterExclusive => Kind::EnterExclusive,
-        Step::LeaveExclusive => Kind::LeaveExclusive,
-        Step::Draw(_) => Kind::Draw,
-        Step::Fill(..) | Step::Stage(..) => Kind::Fill,
-        Step::Link(_) => Kind::Link,
-        Step::FillOrder(_) => Kind::FillOrder,
-        Step::Insert(..) => Kind::Insert,
-        Step::StoreHint { .. } => Kind::StoreHint,
-        Step::Decide(..) => Kind::Decide,
-        Step::Cancel(_) => Kind::Cancel,
-        Step::Commit(_) => Kind::Commit,
-        Step::Pin => Kind::Pin,
-        Step::Unpin(_) => Kind::Unpin,
-        Step::Look(word) => Kind::Look(*word),
-        Step::RaiseFront(_) => Kind::RaiseFront,
-        Step::Note(_) => Kind::Note,
-        Step::CloseSnapshot => Kind::CloseSnapshot,
-        Step::Pad(_) => Kind::Pad,
-        Step::WriteRun(..) => Kind::WriteRun,
-        Step::ClearHead { .. } => Kind::ClearHead,
-        Step::ClearOrder(_) => Kind::ClearOrder,
-        Step::ClearState(_) => Kind::ClearState,
-        Step::Publish => Kind::Publish,
-        Step::ExtendClock => Kind::ExtendClock,
-        Step::ExtendLimit => Kind::ExtendLimit,
-    }
 }
 
 /// What the two sides look for in ways of their own.
