@@ -76,19 +76,13 @@ impl WordTable {
 impl<P: Pace> Words<P> {
     /// Plays the step by this operation on its word.
     #[inline(always)]
-    pub(super) fn play(
-        &self,
-        seat: &mut RawSeat,
-        step: &Step,
-        word: Word,
-        operation: Operation,
-    ) -> u64
-        requires { MayAct self.now seat.old step.now word operation }
-        ensures { OfFound operation (λ x. Played self.now seat.old step.now x seat.new) result }
+    pub(super) fn play(&self, seat: &mut RawSeat, step: &Step, word: Word, by: Operation) -> u64
+        requires { MayAct self.now seat.old step.now word by }
+        ensures { OfFound by (λ x. Played self.now seat.old step.now x seat.new) result }
     {
         self.pace.step(seat.number, Kind::of(step));
         self.words
-            .act_told::<Brand, Step>(&mut seat.seat, step, word, operation)
+            .act_told::<Brand, Step>(&mut seat.seat, step, word, by)
     }
 
     /// Plays the merger's step by this operation on its word. The merger's number is the number of
