@@ -57,19 +57,21 @@ pub(crate) fn count<P: Pace>(words: &Words<P>, seat: &mut RawSeat, run: HeldRun)
     words.look(seat, Word::Count(run.place))
 }
 
-/// One of the words of the entry.
-#[inline]
-pub(crate) fn part<P: Pace>(words: &Words<P>, seat: &mut RawSeat, at: HeldEntry, part: u64) -> u64
-    requires of { IsSeatOf words.now seat.old }
-    requires has { HasEntry seat.old.knows at.run.component at.run.place at.entry }
-    requires inside { part < 11 }
-    ensures of { IsSeatOf words.now seat.new }
-    ensures looks { LooksAside seat.old.knows seat.new.knows }
-    ensures told { result ≡ entry_word seat.old.knows at.run.place at.entry part }
-{
-    seat.show_invariant();
-    let (place, entry) = (at.run.place, at.entry);
-    words.look(seat, Word::Entry { place, entry, part })
+impl HeldEntry {
+    /// One of its words.
+    #[inline]
+    pub(crate) fn part<P: Pace>(self, words: &Words<P>, seat: &mut RawSeat, part: u64) -> u64
+        requires of { IsSeatOf words.now seat.old }
+        requires has { HasEntry seat.old.knows self.run.component self.run.place self.entry }
+        requires inside { part < 11 }
+        ensures of { IsSeatOf words.now seat.new }
+        ensures looks { LooksAside seat.old.knows seat.new.knows }
+        ensures told { result ≡ entry_word seat.old.knows self.run.place self.entry part }
+    {
+        seat.show_invariant();
+        let (place, entry) = (self.run.place, self.entry);
+        words.look(seat, Word::Entry { place, entry, part })
+    }
 }
 
 /// The value of an entry that is no removal.
@@ -84,12 +86,12 @@ impl Load<RawSeat> for HeldEntry {
     #[inline]
     fn length<P: Pace>(&self, words: &Words<P>, seat: &mut RawSeat) -> usize {
         seat.show_invariant();
-        part(words, seat, *self, LENGTH) as usize
+        self.part(words, seat, LENGTH) as usize
     }
 
     #[inline]
     fn word<P: Pace>(&self, words: &Words<P>, seat: &mut RawSeat, index: usize) -> u64 {
-        part(words, seat, *self, VALUE + index as u64)
+        self.part(words, seat, VALUE + index as u64)
     }
 
     ghost stands_on = { λ words a b at is looks. (

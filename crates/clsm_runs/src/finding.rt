@@ -7,95 +7,87 @@ ghost use Rattle.clsm_words.specs.Keeping.{LooksAside};
 ghost use Rattle.clsm_words.specs.Plays.{IsSeatOf};
 ghost use Rattle.clsm_runs.specs.Searching.{HasEntry, IsPosition, IsSearchable, IsSide, StandsFrom};
 
-use crate::entry::{HeldEntry, HeldRun, KEY, TIME, count, entry, part};
+use crate::entry::{HeldEntry, HeldRun, KEY, TIME, count, entry};
 use crate::side::{Side, Span, Turn};
 use clsm_levels::Entry;
 use clsm_model::Time;
 use clsm_words::{Pace, RawSeat, Words};
 
-/// Where the entry stands to the first of the key with a time below `until`. Its time is looked at
-/// only where it is of the key.
-fn compare<P: Pace>(
-    words: &Words<P>,
-    seat: &mut RawSeat,
-    at: HeldEntry,
-    key: u64,
-    until: Time,
-) -> Side
-    requires of { IsSeatOf words.now seat.old }
-    requires has { HasEntry seat.old.knows at.run.component at.run.place at.entry }
-    ensures of { IsSeatOf words.now seat.new }
-    ensures looks { LooksAside seat.old.knows seat.new.knows }
-    ensures side { IsSide (row_of seat.old.knows) at.run.place at.entry key until result }
-{
-    let found = part(words, seat, at, KEY);
-    if found < key {
-        return Side::Before(found);
-    }
-    if found > key {
-        return Side::Behind(found);
-    }
-    let spelled = part(words, seat, at, TIME);
-    if spelled / 2 < until {
-        Side::Hit(spelled)
-    } else {
-        Side::Before(found)
-    }
+/// What a search is for: the newest version of the key with a time below `until`.
+#[derive(Clone, Copy)]
+pub struct Wanted {
+    pub key: u64,
+    pub until: Time,
 }
 
-/// The empty span at the first entry of the key with a time below `until`, which it then hit; where
-/// there is none, at the first entry of a greater key, or at the run's end.
-pub(crate) fn bound<P: Pace>(
-    words: &Words<P>,
-    seat: &mut RawSeat,
-    run: HeldRun,
-    key: u64,
-    until: Time,
-) -> Span
-    requires of { IsSeatOf words.now seat.old }
-    requires run { IsSearchable seat.old.knows run.component run.place }
-    ensures of { IsSeatOf words.now seat.new }
-    ensures looks { LooksAside seat.old.knows seat.new.knows }
-    ensures stands { StandsFrom seat.old.knows run.place until key result.low }
-    ensures found { IsPosition seat.old.knows run.place key until result.hit }
-{
-    seat.show_invariant();
-    let mut span = Span::whole(count(words, seat, run));
-    let mut turn = Turn::Last;
-    while span.low < span.high {
-        let at = span.next(key, turn);
-        turn = turn.next();
-        match compare(words, seat, HeldEntry { run, entry: at }, key, until) {
-            Side::Before(found) => (span.low, span.low_key) = (at + 1, found),
-            Side::Hit(spelled) => {
-                (span.high, span.high_key, span.hit) = (at, key, Some((at, spelled)));
-            }
-            Side::Behind(found) => (span.high, span.high_key, span.hit) = (at, found, None),
+impl Wanted {
+    /// Where the entry stands to the first of the key with a time below `until`. Its time is looked
+    /// at only where it is of the key.
+    fn compare<P: Pace>(self, words: &Words<P>, seat: &mut RawSeat, at: HeldEntry) -> Side
+        requires of { IsSeatOf words.now seat.old }
+        requires has { HasEntry seat.old.knows at.run.component at.run.place at.entry }
+        ensures of { IsSeatOf words.now seat.new }
+        ensures looks { LooksAside seat.old.knows seat.new.knows }
+        ensures side { IsSide (row_of seat.old.knows) at.run.place at.entry self.key self.until result }
+    {
+        let found = at.part(words, seat, KEY);
+        if found < self.key {
+            return Side::Before(found);
+        }
+        if found > self.key {
+            return Side::Behind(found);
+        }
+        let spelled = at.part(words, seat, TIME);
+        if spelled / 2 < self.until {
+            Side::Hit(spelled)
+        } else {
+            Side::Before(found)
         }
     }
-    span
-}
 
-/// The first entry of the key with a time below `until` in the run, which the held component
-/// names. The run's last and first keys may exclude the key; else the search guesses by how evenly
-/// the keys stand, and halves in turn. As in LevelDB the newest entry of a key stands first, so it
-/// is the newest version below `until`; a removal is found as an entry without a value. Only the
-/// found entry's value is read. It never waits, takes no memory and is never refused.
-pub fn find<P: Pace>(
-    words: &Words<P>,
-    seat: &mut RawSeat,
-    run: HeldRun,
-    key: u64,
-    until: Time,
-) -> Option<Entry>
-    requires of { IsSeatOf words.now seat.old }
-    requires held { seat.old.knows.view.held ≡ Some run.component }
-    requires named { is_named run.component run.place ≡ true }
-    ensures of { IsSeatOf words.now seat.new }
-    ensures looks { LooksAside seat.old.knows seat.new.knows }
-    ensures found { result ≡ first_below (entries_in (row_of seat.old.knows) run.place) key until }
-{
-    let (number, spelled) = bound(words, seat, run, key, until).hit?;
-    let at = HeldEntry { run, entry: number };
-    Some(entry(words, seat, at, key, spelled))
+    /// The empty span at the first entry of the key with a time below `until`, which it then hit;
+    /// where there is none, at the first entry of a greater key, or at the run's end.
+    pub(crate) fn bound<P: Pace>(self, words: &Words<P>, seat: &mut RawSeat, run: HeldRun) -> Span
+        requires of { IsSeatOf words.now seat.old }
+        requires run { IsSearchable seat.old.knows run.component run.place }
+        ensures of { IsSeatOf words.now seat.new }
+        ensures looks { LooksAside seat.old.knows seat.new.knows }
+        ensures stands { StandsFrom seat.old.knows run.place self.until self.key result.low }
+        ensures found { IsPosition seat.old.knows run.place self.key self.until result.hit }
+    {
+        seat.show_invariant();
+        let mut span = Span::whole(count(words, seat, run));
+        let mut turn = Turn::Last;
+        while span.low < span.high {
+            let at = span.next(self.key, turn);
+            turn = turn.next();
+            match self.compare(words, seat, HeldEntry { run, entry: at }) {
+                Side::Before(found) => (span.low, span.low_key) = (at + 1, found),
+                Side::Hit(spelled) => {
+                    (span.high, span.high_key, span.hit) = (at, self.key, Some((at, spelled)));
+                }
+                Side::Behind(found) => (span.high, span.high_key, span.hit) = (at, found, None),
+            }
+        }
+        span
+    }
+
+    /// The first entry of the wanted key with a time below `until` in the run, which the held
+    /// component names. The run's last and first keys may exclude the key; else the search guesses
+    /// by how evenly the keys stand, and halves in turn. As in LevelDB the newest entry of a key
+    /// stands first, so it is the newest version below `until`; a removal is found as an entry
+    /// without a value. Only the found entry's value is read. It never waits, takes no memory and is
+    /// never refused.
+    pub fn find<P: Pace>(self, words: &Words<P>, seat: &mut RawSeat, run: HeldRun) -> Option<Entry>
+        requires of { IsSeatOf words.now seat.old }
+        requires held { seat.old.knows.view.held ≡ Some run.component }
+        requires named { is_named run.component run.place ≡ true }
+        ensures of { IsSeatOf words.now seat.new }
+        ensures looks { LooksAside seat.old.knows seat.new.knows }
+        ensures found { result ≡ first_below (entries_in (row_of seat.old.knows) run.place) self.key self.until }
+    {
+        let (number, spelled) = self.bound(words, seat, run).hit?;
+        let at = HeldEntry { run, entry: number };
+        Some(entry(words, seat, at, self.key, spelled))
+    }
 }

@@ -14,7 +14,6 @@ mod sources;
 mod writing;
 
 pub use entry::HeldRun;
-pub use finding::find;
+pub use finding::Wanted;
 pub use merging::{RunFull, merge};
 pub use passing::{Passed, Sought, next, seek, value};
-pub use searching::search;

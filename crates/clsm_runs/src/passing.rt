@@ -10,8 +10,8 @@ ghost use Rattle.clsm_words.specs.declared.known.Known.{Known};
 ghost use Rattle.clsm_runs.specs.Passing.{IsPassed, passed_entry};
 ghost use Rattle.clsm_runs.specs.Searching.{StandsFrom, run_at};
 
-use crate::entry::{HeldEntry, HeldRun, KEY, TIME, count, part};
-use crate::finding::bound;
+use crate::entry::{HeldEntry, HeldRun, KEY, TIME, count};
+use crate::finding::Wanted;
 use clsm_model::{Time, Value};
 use clsm_words::{Pace, RawSeat, Words, load_value};
 
@@ -33,7 +33,7 @@ pub fn seek<P: Pace>(
     ensures looks { LooksAside seat.old.knows seat.new.knows }
     ensures stands { StandsFrom seat.old.knows run.place until key result }
 {
-    bound(words, seat, run, key, until).low
+    Wanted { key, until }.bound(words, seat, run).low
 }
 
 /// An entry of a run that a passage came by: its number, its key and its time word.
@@ -89,11 +89,11 @@ pub fn next<P: Pace>(
         let number = *position;
         *position += 1;
         let at = HeldEntry { run, entry: number };
-        let key = part(words, seat, at, KEY);
+        let key = at.part(words, seat, KEY);
         if key < sought.from {
             continue;
         }
-        let spelled = part(words, seat, at, TIME);
+        let spelled = at.part(words, seat, TIME);
         if spelled / 2 < sought.until {
             return Some(Passed {
                 number,

@@ -40,14 +40,9 @@ struct RowEntry {
 }
 
 /// The entry there without its value, if the run has so many.
-fn version_at<P: Pace>(
-    words: &Words<P>,
-    merger: &mut RawMerger,
-    merges: u64,
-    at: PlacedEntry,
-) -> Option<Version>
+fn version_at<P: Pace>(words: &Words<P>, merger: &mut RawMerger, at: PlacedEntry) -> Option<Version>
     requires of { IsSeatOf words.now merger.old }
-    requires merging { IsFrozenBehind merger.old.knows merges }
+    requires merging { IsFrozenBehind merger.old.knows merger.old.knows.merger.merged }
     requires named { is_named merger.old.knows.merger.merged at.place ≡ true }
     requires there { at.place < 5 }
     ensures of { IsSeatOf words.now merger.new }
@@ -79,43 +74,27 @@ fn place_of_row(merges: u64, row: usize) -> Option<u64>
     })
 }
 
-/// The entry of a row behind the first without its value, if the row has so many.
-fn run_head<P: Pace>(
-    words: &Words<P>,
-    merger: &mut RawMerger,
-    merges: u64,
-    at: RowEntry,
-) -> Option<Version>
-    requires of { IsSeatOf words.now merger.old }
-    requires merging { IsFrozenBehind merger.old.knows merges }
-    requires inside { (0 < at.row) × (at.row < 5) }
-    ensures of { IsSeatOf words.now merger.new }
-    ensures looks { Changes NoWord merger.old.knows merger.new.knows }
-    ensures head { result ≡ version_in (first_of (drop at.position (row_at (rows_of merger.old.knows) at.row))) }
-{
-    let place = place_of_row(merges, at.row)?;
-    let entry = at.position;
-    version_at(words, merger, merges, PlacedEntry { place, entry })
-}
-
-/// A cursor at the entry of a row behind the first.
-fn run_cursor<P: Pace>(
-    words: &Words<P>,
-    merger: &mut RawMerger,
-    merges: u64,
-    at: RowEntry,
-) -> Cursor
-    requires of { IsSeatOf words.now merger.old }
-    requires merging { IsFrozenBehind merger.old.knows merges }
-    requires inside { (0 < at.row) × (at.row < 5) }
-    ensures of { IsSeatOf words.now merger.new }
-    ensures looks { Changes NoWord merger.old.knows merger.new.knows }
-    ensures position { result.position ≡ at.position }
-    ensures head { result.head ≡ version_in (first_of (drop at.position (row_at (rows_of merger.old.knows) at.row))) }
-{
-    let head = run_head(words, merger, merges, at);
-    let position = at.position;
-    Cursor { position, head }
+impl RowEntry {
+    /// A cursor at the entry, which is of a row behind the first.
+    fn cursor<P: Pace>(self, words: &Words<P>, merger: &mut RawMerger, merges: u64) -> Cursor
+        requires of { IsSeatOf words.now merger.old }
+        requires merging { IsFrozenBehind merger.old.knows merges }
+        requires inside { (0 < self.row) × (self.row < 5) }
+        ensures of { IsSeatOf words.now merger.new }
+        ensures looks { Changes NoWord merger.old.knows merger.new.knows }
+        ensures position { result.position ≡ self.position }
+        ensures head { result.head ≡ version_in (first_of (drop self.position (row_at (rows_of merger.old.knows) self.row))) }
+    {
+        let RowEntry { row, position } = self;
+        let head = match place_of_row(merges, row) {
+            Some(place) => {
+                let entry = position;
+                version_at(words, merger, PlacedEntry { place, entry })
+            }
+            None => None,
+        };
+        Cursor { position, head }
+    }
 }
 
 /// A cursor at the position of the first row, which is the epoch's writes: the walk has yielded
@@ -162,7 +141,7 @@ pub(crate) fn open_cursors<P: Pace>(
     for row in 1..ROWS {
         merger.show_invariant();
         let at = RowEntry { row, position: 0 };
-        cursors[row] = run_cursor(words, merger, merges, at);
+        cursors[row] = at.cursor(words, merger, merges);
     }
     cursors
 }
@@ -191,7 +170,7 @@ fn cursor_to<P: Pace>(
     if at.row == 0 {
         epoch_cursor(words, merger, walk, at.position)
     } else {
-        run_cursor(words, merger, merges, at)
+        at.cursor(words, merger, merges)
     }
 }
 

@@ -7,35 +7,35 @@ ghost use Rattle.clsm_words.specs.Keeping.{LooksAside};
 ghost use Rattle.clsm_words.specs.Plays.{IsSeatOf};
 
 use crate::entry::HeldRun;
-use crate::finding::find;
+use crate::finding::Wanted;
 use clsm_law::level_one_place;
 use clsm_levels::{Entry, level_zero_runs};
-use clsm_model::Time;
 use clsm_words::{Pace, RawSeat, Words};
 
-/// The newest entry of the key with a time below `until` in the runs of the held component: through
-/// the runs of level 0, the newest first, and then that of level 1, up to the first that has one.
-/// This is LevelDB's order: each run holds newer versions of a key than those behind it. It never
-/// waits, takes no memory and is never refused.
-pub fn search<P: Pace>(
-    words: &Words<P>,
-    seat: &mut RawSeat,
-    component: u64,
-    key: u64,
-    until: Time,
-) -> Option<Entry>
-    requires of { IsSeatOf words.now seat.old }
-    requires held { seat.old.knows.view.held ≡ Some component }
-    ensures of { IsSeatOf words.now seat.new }
-    ensures looks { LooksAside seat.old.knows seat.new.knows }
-    ensures found { result ≡ first_in_runs (runs_of (row_of seat.old.knows) component) key until }
-{
-    for place in (0..level_zero_runs(component)).rev() {
-        let run = HeldRun { component, place };
-        if let Some(entry) = find(words, seat, run, key, until) {
-            return Some(entry);
+impl Wanted {
+    /// The newest entry of the wanted key with a time below `until` in the runs of the held
+    /// component: through the runs of level 0, the newest first, and then that of level 1, up to
+    /// the first that has one. This is LevelDB's order: each run holds newer versions of a key than
+    /// those behind it. It never waits, takes no memory and is never refused.
+    pub fn search<P: Pace>(
+        self,
+        words: &Words<P>,
+        seat: &mut RawSeat,
+        component: u64,
+    ) -> Option<Entry>
+        requires of { IsSeatOf words.now seat.old }
+        requires held { seat.old.knows.view.held ≡ Some component }
+        ensures of { IsSeatOf words.now seat.new }
+        ensures looks { LooksAside seat.old.knows seat.new.knows }
+        ensures found { result ≡ first_in_runs (runs_of (row_of seat.old.knows) component) self.key self.until }
+    {
+        for place in (0..level_zero_runs(component)).rev() {
+            let run = HeldRun { component, place };
+            if let Some(entry) = self.find(words, seat, run) {
+                return Some(entry);
+            }
         }
+        let place = level_one_place(component);
+        self.find(words, seat, HeldRun { component, place })
     }
-    let place = level_one_place(component);
-    find(words, seat, HeldRun { component, place }, key, until)
 }

@@ -1,14 +1,14 @@
 //! Looks of the merger at the merged runs.
 ghost use Rattle.std.specs.Prelude.{◌≡◌, ◌≢◌, ◌%◌, ◌<◌};
 ghost use Rattle.std.proofs.Common.{ap};
+ghost use Rattle.clsm_words.proofs.Changing.{changes_trans};
+ghost use Rattle.clsm_law.specs.Places.{entry_in};
 ghost use Rattle.clsm_levels.specs.declared.entry.Entry.{Entry};
 ghost use Rattle.clsm_levels.specs.Entry.{is_removal};
 ghost use Rattle.clsm_levels.specs.Version.{version_of};
-ghost use Rattle.clsm_law.specs.Places.{entry_in};
+ghost use Rattle.clsm_words.specs.Changing.{Changes, NoWord};
 ghost use Rattle.clsm_words.specs.Knowing.{row_of};
 ghost use Rattle.clsm_words.specs.Plays.{IsSeatOf};
-ghost use Rattle.clsm_words.specs.Changing.{Changes, NoWord};
-ghost use Rattle.clsm_words.proofs.Changing.{changes_trans};
 ghost use Rattle.clsm_runs.specs.Placing.{IsMergedEntry};
 ghost use Rattle.clsm_runs.specs.Searching.{entry_word};
 ghost use Rattle.clsm_runs.specs.Staying.{merged_entry_stays, merged_stays, merged_valued_stays};

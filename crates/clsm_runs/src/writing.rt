@@ -13,43 +13,23 @@ use clsm_law::Word;
 use clsm_levels::Entry;
 use clsm_words::{Pace, RawMerger, Words};
 
-/// One of the words of the entry.
-fn part<P: Pace>(words: &Words<P>, merger: &mut RawMerger, at: PlacedEntry, part: u64) -> u64
-    requires of { IsSeatOf words.now merger.old }
-    requires free { MayWriteInto merger.old.knows at.place at.entry }
-    requires inside { part < 11 }
-    ensures of { IsSeatOf words.now merger.new }
-    ensures looks { Changes NoWord merger.old.knows merger.new.knows }
-    ensures free { MayWriteInto merger.new.knows at.place at.entry }
-    ensures told { result ≡ row_of merger.old.knows (EntryWord at.place at.entry part) }
-    ensures still { result ≡ row_of merger.new.knows (EntryWord at.place at.entry part) }
-{
-    merger.show_invariant();
-    let PlacedEntry { place, entry } = at;
-    words.look_as_merger(merger, Word::Entry { place, entry, part })
-}
-
-/// Writes one of the words of the entry, unless it is there: a look costs less than a write.
-fn write_part<P: Pace>(
-    words: &Words<P>,
-    merger: &mut RawMerger,
-    at: PlacedEntry,
-    wanted: u64,
-    word: u64,
-)
-    requires of { IsSeatOf words.now merger.old }
-    requires free { MayWriteInto merger.old.knows at.place at.entry }
-    requires inside { wanted < 11 }
-    ensures of { IsSeatOf words.now merger.new }
-    ensures changes { Changes (IsPart at.place at.entry wanted) merger.old.knows merger.new.knows }
-    ensures made { row_of merger.new.knows (EntryWord at.place at.entry wanted) ≡ word }
-{
-    if part(words, merger, at, wanted) == word {
-        return;
+impl PlacedEntry {
+    /// Writes one of the words of the entry, unless it is there: a look costs less than a write.
+    fn write<P: Pace>(self, words: &Words<P>, merger: &mut RawMerger, part: u64, word: u64)
+        requires of { IsSeatOf words.now merger.old }
+        requires free { MayWriteInto merger.old.knows self.place self.entry }
+        requires inside { part < 11 }
+        ensures of { IsSeatOf words.now merger.new }
+        ensures changes { Changes (IsPart self.place self.entry part) merger.old.knows merger.new.knows }
+        ensures made { row_of merger.new.knows (EntryWord self.place self.entry part) ≡ word }
+    {
+        merger.show_invariant();
+        let PlacedEntry { place, entry } = self;
+        let at = Word::Entry { place, entry, part };
+        if words.look_as_merger(merger, at) != word {
+            words.write_run(merger, at, word);
+        }
     }
-    let PlacedEntry { place, entry } = at;
-    let part = wanted;
-    words.write_run(merger, Word::Entry { place, entry, part }, word);
 }
 
 /// Writes the words of the entry's value, and 0 behind them.
@@ -62,7 +42,7 @@ fn write_words<P: Pace>(words: &Words<P>, merger: &mut RawMerger, at: PlacedEntr
 {
     for index in 0..8_u64 {
         let word = value.get(index as usize).copied().unwrap_or(0);
-        write_part(words, merger, at, VALUE + index, word);
+        at.write(words, merger, VALUE + index, word);
     }
 }
 
@@ -102,7 +82,7 @@ pub(crate) fn write_entry<P: Pace>(
 {
     let value = words_of(entry);
     write_words(words, merger, at, value);
-    write_part(words, merger, at, LENGTH, value.len() as u64);
-    write_part(words, merger, at, TIME, spelling(entry));
-    write_part(words, merger, at, KEY, entry.key);
+    at.write(words, merger, LENGTH, value.len() as u64);
+    at.write(words, merger, TIME, spelling(entry));
+    at.write(words, merger, KEY, entry.key);
 }

@@ -15,7 +15,7 @@ use clsm_law::{End, Word};
 use clsm_memtable::{newest, settle_below};
 use clsm_model::{Deed, Time, Value};
 use clsm_pins::{pin, unpin};
-use clsm_runs::search;
+use clsm_runs::Wanted;
 use clsm_words::{Pace, RawSeat, Words};
 
 /// The value of the key below the time: by the chains of the component's epochs, and else by its
@@ -38,7 +38,8 @@ pub(crate) fn value_below<P: Pace>(
         return found.value;
     }
     seat.show_invariant();
-    match search(words, seat, component, key, time) {
+    let wanted = Wanted { key, until: time };
+    match wanted.search(words, seat, component) {
         Some(entry) => entry.value,
         None => None,
     }

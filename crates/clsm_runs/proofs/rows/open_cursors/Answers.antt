@@ -17,23 +17,23 @@ loop-row-preserved g c =
     let k' = c.loop-row.merger.knows in
     let rows = rows_of k in
     let i = c.loop-row.row in
-    let new = c.run_cursor.result in
+    let new = c.cursor.result in
     record {
-      of = c.run_cursor.ensures.of;
-      looks = changes_trans NoWord k k' c.run_cursor.new.merger.knows c.loop-row.invariant.looks c.run_cursor.ensures.looks;
+      of = c.cursor.ensures.of;
+      looks = changes_trans NoWord k k' c.cursor.new.merger.knows c.loop-row.invariant.looks c.cursor.ensures.looks;
       some = omega arith;
-      walked = walked_on NoWord k' c.run_cursor.new.merger.knows c.epoch_cursor-first.new.walk 1 c.run_cursor.ensures.looks
+      walked = walked_on NoWord k' c.cursor.new.merger.knows c.epoch_cursor-first.new.walk 1 c.cursor.ensures.looks
           c.show_invariant-in-loop-row.ensures c.loop-row.invariant.walked;
       long = length-set c.loop-row.cursors i new ∙ c.loop-row.invariant.long;
       opened = at_set (λ (j : ℕ) (x : Cursor). j < i + 1
           → (x.head ≡ version_in (first_of (drop x.position (row_at rows j)))) × (x.position ≡ 0)) c.loop-row.cursors i new
           (let long = c.loop-row.invariant.long in omega arith)
           (λ _. (
-            c.run_cursor.ensures.head
+            c.cursor.ensures.head
                 ∙ ap (λ (l : List (List Entry)). version_in (first_of (row_at l i)))
                 (rows_looked k k' c.args.merges c.show_invariant.ensures c.requires.merging c.loop-row.invariant.looks)
-                ∙ ap (λ (n : ℕ). version_in (first_of (drop n (row_at rows i)))) (sym c.run_cursor.ensures.position),
-            c.run_cursor.ensures.position,
+                ∙ ap (λ (n : ℕ). version_in (first_of (drop n (row_at rows i)))) (sym c.cursor.ensures.position),
+            c.cursor.ensures.position,
           ))
           (λ j ne lt. c.loop-row.invariant.opened j (omega arith));
     }

@@ -8,9 +8,9 @@ use Rattle.clsm_runs.specs.Searching.{IsSide, count_of}
 use Rattle.clsm_runs.proofs.NamedRuns.{run_there}
 use Rattle.clsm_runs.proofs.Looking.{side_stays}
 use Rattle.clsm_runs.proofs.Halving.{skips, behind, position_at, run_of_all}
-use Rattle.clsm_runs.proofs.finding.bound.Given.{Over}
-use Rattle.clsm_runs.proofs.finding.bound.Goals as goal
-use Rattle.clsm_runs.proofs.finding.bound.Goals.{After-compare}
+use Rattle.clsm_runs.proofs.finding.Wanted.bound.Given.{Over}
+use Rattle.clsm_runs.proofs.finding.Wanted.bound.Goals as goal
+use Rattle.clsm_runs.proofs.finding.Wanted.bound.Goals.{After-compare}
 
 -- ---- a turn, after the look at an entry
 
@@ -18,9 +18,9 @@ looks : (g : Over) (c : After-compare g) → LooksAside c.args.seat.now.knows c.
 looks g c = aside_trans c.args.seat.now.knows c.loop-span.seat.knows c.compare.new.seat.knows c.loop-span.invariant.looks c.compare.ensures.looks
 
 -- where it stands it stood before
-stood : (g : Over) (c : After-compare g) (s : Side) → IsSide (row_of c.loop-span.seat.knows) c.args.run.place c.next-at.result c.args.key c.args.until s
-    → IsSide (row_of c.args.seat.now.knows) c.args.run.place c.next-at.result c.args.key c.args.until s
-stood g c s = side_stays c.args.seat.now.knows c.loop-span.seat.knows c.args.run.component c.args.run.place c.next-at.result c.args.key c.args.until s
+stood : (g : Over) (c : After-compare g) (s : Side) → IsSide (row_of c.loop-span.seat.knows) c.args.run.place c.next-at.result c.args.self.key c.args.self.until s
+    → IsSide (row_of c.args.seat.now.knows) c.args.run.place c.next-at.result c.args.self.key c.args.self.until s
+stood g c s = side_stays c.args.seat.now.knows c.loop-span.seat.knows c.args.run.component c.args.run.place c.next-at.result c.args.self.key c.args.self.until s
     c.loop-span.invariant.looks.looks c.requires.run
 
 pub loop-span-preserved-in-Before : goal.loop-span-preserved-in-Before
@@ -37,7 +37,7 @@ loop-span-preserved-in-Before g c =
       span = record {
         order = omega arith;
         within = before.within;
-        stands = skips k place c.args.key c.args.until c.loop-span.span.low at run before.stands (omega arith) (omega arith) side;
+        stands = skips k place c.args.self.key c.args.self.until c.loop-span.span.low at run before.stands (omega arith) (omega arith) side;
         at_high = before.at_high;
       };
     }
@@ -57,12 +57,12 @@ loop-span-preserved g c =
         order = omega arith;
         within = omega arith;
         stands = before.stands;
-        at_high = behind (row_of k) place (count_of k place) c.args.key c.args.until at run (omega arith) side;
+        at_high = behind (row_of k) place (count_of k place) c.args.self.key c.args.self.until at run (omega arith) side;
       };
     }
 
 pub returns-clause-found : goal.returns-clause-found
 returns-clause-found g c =
     let span = c.loop-span.invariant.span in
-    position_at c.args.seat.now.knows c.args.run.place c.args.key c.args.until c.loop-span.span.low c.loop-span.span.high c.loop-span.span.hit
+    position_at c.args.seat.now.knows c.args.run.place c.args.self.key c.args.self.until c.loop-span.span.low c.loop-span.span.high c.loop-span.span.hit
     (omega arith) span.stands span.at_high
