@@ -3,7 +3,7 @@ use Rattle.std.proofs.lemmas.Bool.{ltb-false, ltb-true}
 use Rattle.clsm_law.specs.declared.layout.Layout.{Layout}
 use Rattle.clsm_store_calls.proofs.Unchanged.{unchanged_found, unchanged_none}
 use Rattle.clsm_store_calls.proofs.Giving.{written_found}
-use Rattle.clsm_store_calls.proofs.changing.is_unchanged.Goals as goal
+use Rattle.clsm_store_calls.proofs.site.Site.is_unchanged.Goals as goal
 
 pub returns-in-Some-clause-unchanged : goal.returns-in-Some-clause-unchanged
 returns-in-Some-clause-unchanged g c = λ early.
