@@ -48,9 +48,10 @@ struct Modified {
     value: Option<Value>,
 }
 
-/// The times from `from` on and below `until`.
+/// A key, and the times from `from` on and below `until`.
 #[derive(Clone, Copy)]
 struct Span {
+    key: u64,
     from: Time,
     until: Time,
 }
@@ -98,45 +99,44 @@ pub(crate) fn value_set(change: &Change) -> Option<Value>
     }
 }
 
+/// The value of the key at the clock, below which all is settled.
+fn value_now<P: Pace>(words: &Words<P>, seat: &mut RawSeat, component: u64, key: u64) -> Got
+    requires of { IsSeatOf words.now seat.old }
+    requires pinned { IsPinnedInHold seat.old.knows component }
+    ensures of { IsSeatOf words.now seat.new }
+    ensures stays { StaysPinned seat.old.knows seat.new.knows component }
+    ensures still { Still seat.old.knows seat.new.knows }
+    ensures spared { seat.new.knows.view.gave_up ≡ seat.old.knows.view.gave_up }
+    ensures lost { seat.new.knows.view.overtaken ≡ seat.old.knows.view.overtaken }
+    ensures reads { ReadsNow seat.new.knows component key result.time result.value }
+    ensures beyond { length seat.old.knows.past ≤ result.time }
+{
+    let time = words.look(seat, Word::Clock);
+    settle_below(words, seat, component, time);
+    let value = value_below(words, seat, component, key, time);
+    Got { time, value }
+}
+
+/// Settles all below the span's end, and answers whether no write of its key is in it.
+fn is_unchanged<P: Pace>(words: &Words<P>, seat: &mut RawSeat, component: u64, span: Span) -> bool
+    requires of { IsSeatOf words.now seat.old }
+    requires may { MaySettleBelow seat.old.knows component span.until }
+    requires merged { component * seat.old.knows.layout.cells ≤ span.from }
+    requires later { span.from ≤ span.until }
+    ensures of { IsSeatOf words.now seat.new }
+    ensures reads { OnlyReads seat.old.knows seat.new.knows }
+    ensures settled { span.until ≤ length seat.new.knows.past }
+    ensures written { result ≡ false → IsWrittenFrom seat.new.knows.past span.key span.from }
+    ensures unchanged { result ≡ true → value (plain seat.new.knows.past) span.key span.until ≡ value (plain seat.new.knows.past) span.key span.from }
+{
+    settle_below(words, seat, component, span.until);
+    match newest(words, seat, component, span.key, span.until) {
+        Some(found) => found.time < span.from,
+        None => true,
+    }
+}
+
 impl<'a, P: Pace, R: Wait> Site<'a, P, R> {
-    /// The value of the key at the clock, below which all is settled.
-    fn value_now(&self, seat: &mut RawSeat, component: u64, key: u64) -> Got
-        requires of { IsSeatOf self.now.words.now seat.old }
-        requires pinned { IsPinnedInHold seat.old.knows component }
-        ensures of { IsSeatOf self.now.words.now seat.new }
-        ensures stays { StaysPinned seat.old.knows seat.new.knows component }
-        ensures still { Still seat.old.knows seat.new.knows }
-        ensures spared { seat.new.knows.view.gave_up ≡ seat.old.knows.view.gave_up }
-        ensures lost { seat.new.knows.view.overtaken ≡ seat.old.knows.view.overtaken }
-        ensures reads { ReadsNow seat.new.knows component key result.time result.value }
-        ensures beyond { length seat.old.knows.past ≤ result.time }
-    {
-        let words = self.words;
-        let time = words.look(seat, Word::Clock);
-        settle_below(words, seat, component, time);
-        let value = value_below(words, seat, component, key, time);
-        Got { time, value }
-    }
-
-    /// Settles all below the span's end, and answers whether no write of the key is in the span.
-    fn is_unchanged(&self, seat: &mut RawSeat, component: u64, key: u64, span: Span) -> bool
-        requires of { IsSeatOf self.now.words.now seat.old }
-        requires may { MaySettleBelow seat.old.knows component span.until }
-        requires merged { component * seat.old.knows.layout.cells ≤ span.from }
-        requires later { span.from ≤ span.until }
-        ensures of { IsSeatOf self.now.words.now seat.new }
-        ensures reads { OnlyReads seat.old.knows seat.new.knows }
-        ensures settled { span.until ≤ length seat.new.knows.past }
-        ensures written { result ≡ false → IsWrittenFrom seat.new.knows.past key span.from }
-        ensures unchanged { result ≡ true → value (plain seat.new.knows.past) key span.until ≡ value (plain seat.new.knows.past) key span.from }
-    {
-        settle_below(self.words, seat, component, span.until);
-        match newest(self.words, seat, component, key, span.until) {
-            Some(found) => found.time < span.from,
-            None => true,
-        }
-    }
-
     /// Fills the drawn cell, enters it and decides it.
     fn write_drawn(&self, seat: &mut RawSeat, time: Time, modified: &Modified) -> Decided
         requires of { IsSeatOf self.now.words.now seat.old }
@@ -200,10 +200,11 @@ impl<'a, P: Pace, R: Wait> Site<'a, P, R> {
             Err(attempt) => return attempt,
         };
         let span = Span {
+            key: modified.key,
             from: modified.read.time,
             until: time,
         };
-        if !self.is_unchanged(seat, component, modified.key, span) {
+        if !is_unchanged(self.words, seat, component, span) {
             give_up(self.words, seat, time);
             return ChangeAttempt::Lost;
         }
@@ -231,7 +232,7 @@ impl<'a, P: Pace, R: Wait> Site<'a, P, R> {
         ensures answered { IsAnsweredBy (F.post modification.now.f.now) result }
     {
         let key = modification.key;
-        let got = self.value_now(seat, component, key);
+        let got = value_now(self.words, seat, component, key);
         let read = got.with(ask(modification.f, &got.value));
         if is_keep(&read.change) {
             return ChangeAttempt::Done(read);

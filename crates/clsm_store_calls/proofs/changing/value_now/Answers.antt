@@ -1,6 +1,6 @@
 use Rattle.std.proofs.Common.{arith}
 use Rattle.clsm_model.proofs.Batches.{prefix_length}
-use Rattle.clsm_store_calls.proofs.site.Site.value_now.Goals as goal
+use Rattle.clsm_store_calls.proofs.changing.value_now.Goals as goal
 
 pub returns-clause-beyond : goal.returns-clause-beyond
 returns-clause-beyond g c =
