@@ -7,7 +7,8 @@ use Rattle.clsm_model.specs.Seats.{due_by}
 use Rattle.clsm_model.specs.declared.record.Deed.TheVariants.{Rmw}
 use Rattle.clsm_model.specs.declared.record.CallRecord.{CallRecord}
 use Rattle.clsm_law.specs.declared.view.View.{View}
-use Rattle.clsm_law.specs.declared.step.End.TheVariants.{Neither}
+use Rattle.clsm_law.specs.declared.step.End.{End}
+use Rattle.clsm_law.specs.declared.step.End.TheVariants.{Neither, Recorded}
 use Rattle.clsm_law.specs.Views.{or_zero}
 use Rattle.clsm_law.specs.Relation.{call_of, ended_snapshot}
 use Rattle.clsm_words.specs.declared.known.Known.{Known}
@@ -19,7 +20,7 @@ use Rattle.clsm_pins.specs.Pinning.{Pins, Unpins}
 use Rattle.clsm_store_calls.specs.declared.got.Rmw.{Rmw as Answered}
 use Rattle.clsm_store_calls.specs.declared.refusal.Full.{Full as Refusal}
 use Rattle.clsm_store_calls.specs.Resting.{IsAtRest, Keeps, Records}
-use Rattle.clsm_store_calls.specs.Changing.{ChangesAt, Does, read_end}
+use Rattle.clsm_store_calls.specs.Changing.{ChangesAt, Does, IsSameSeat, read_end}
 use Rattle.clsm_store_calls.proofs.Rest.{same_past, stays_open}
 
 module _ (a b c d e f : Known) (component key : ℕ) (rests : IsAtRest a) (enters : Enters a b) (pins : Pins b c component) (leaves : Leaves e f) where
@@ -47,6 +48,14 @@ module _ (a b c d e f : Known) (component key : ℕ) (rests : IsAtRest a) (enter
       ap ended_snapshot (keeps.snapshot ∙ ap (λ (v : View). v.snapshot) pins.view ∙ ap (λ (v : View). v.snapshot) enters.view)
       ∙ stays_open a.view.snapshot rests.settled
 
+  kept : Keeps c d → (end : End) → Unpins d e end → IsSameSeat a f
+  kept keeps end unpins = record {
+    number = leaves.place.seat.number ∙ unpins.keeps.number ∙ keeps.number ∙ number;
+    layout = leaves.place.seat.layout ∙ unpins.keeps.layout ∙ keeps.layout ∙ layout;
+    past = ended keeps unpins.keeps;
+    snapshot = ap (λ (v : View). v.snapshot) leaves.view ∙ ap (λ (v : View). v.snapshot) unpins.view ∙ snapshot keeps;
+  }
+
   -- a write at the time
   wrote : (change : Change) (t : ℕ) (o : Option (List ℕ)) → Records c d t (Rmw key o change) → Unpins d e Neither
       → (f.view.calls ≡ a.view.calls ++ call_of a.number t (Rmw key o change) ∷ []) × (f.view.due ≡ t + 1)
@@ -60,10 +69,7 @@ module _ (a b c d e f : Known) (component key : ℕ) (rests : IsAtRest a) (enter
   written : (change : Change) (t : ℕ) (o : Option (List ℕ)) → Records c d t (Rmw key o change) → Unpins d e Neither → t + 1 ≡ due_by t change
       → ChangesAt a f t key o change
   written change t o records unpins same = let both = wrote change t o records unpins in record {
-    number = leaves.place.seat.number ∙ unpins.keeps.number ∙ records.keeps.number ∙ number;
-    layout = leaves.place.seat.layout ∙ unpins.keeps.layout ∙ records.keeps.layout ∙ layout;
-    past = ended records.keeps unpins.keeps;
-    snapshot = ap (λ (v : View). v.snapshot) leaves.view ∙ ap (λ (v : View). v.snapshot) unpins.view ∙ snapshot records.keeps;
+    same = kept records.keeps Neither unpins;
     calls = both.0;
     due = both.1 ∙ same;
     above = let x = due in let y = records.above in omega arith;
@@ -73,10 +79,7 @@ module _ (a b c d e f : Known) (component key : ℕ) (rests : IsAtRest a) (enter
   pub changed : (change : Change) (t : ℕ) (o : Option (List ℕ)) → Does change c d component key t o
       → Unpins d e (read_end key (Ok (record { time = t; old = o; change = change }))) → ChangesAt a f t key o change
   changed Keep t o (still, reads) unpins = record {
-    number = leaves.place.seat.number ∙ unpins.keeps.number ∙ still.keeps.number ∙ number;
-    layout = leaves.place.seat.layout ∙ unpins.keeps.layout ∙ still.keeps.layout ∙ layout;
-    past = ended still.keeps unpins.keeps;
-    snapshot = ap (λ (v : View). v.snapshot) leaves.view ∙ ap (λ (v : View). v.snapshot) unpins.view ∙ snapshot still.keeps;
+    same = kept still.keeps (Recorded (Rmw key o Keep)) unpins;
     calls = ap (λ (v : View). v.calls) leaves.view ∙ ap (λ (v : View). v.calls) unpins.view
         ∙ ap (λ (clock : Option ℕ). d.view.calls ++ call_of d.number (or_zero clock) (Rmw key o Keep) ∷ []) reads.pin_clock
         ∙ ap (λ (l : List CallRecord). l ++ call_of d.number t (Rmw key o Keep) ∷ []) (still.calls ∙ calls)

@@ -14,6 +14,7 @@ use Rattle.clsm_law.specs.Views.{IsBelow, next_word}
 use Rattle.clsm_law.specs.Relation.{call_of, taken}
 use Rattle.clsm_model.specs.Seats.{due_by}
 use Rattle.clsm_law.specs.declared.view.Mode.TheVariants.{Shared}
+use Rattle.clsm_law.specs.declared.view.View.{View}
 use Rattle.clsm_words.specs.declared.known.Known.{Known}
 use Rattle.clsm_words.specs.Knowing.{IsNearHeld, known_of}
 use Rattle.clsm_words.specs.Keeping.{KeepsPlace}
@@ -35,6 +36,13 @@ pub record IsPinnedInHold (k : Known) (component : ℕ) : Type 0 where
   pub held : k.view.held ≡ Some component
   pub settled : IsSettled k.view.snapshot
   pub merged : component * k.layout.cells ≤ k.view.reached
+
+-- it goes on in its hold of the lock with the component pinned, and cancelled no time of others
+-- before it had waited for it
+pub record StaysPinned (old new : Known) (component : ℕ) : Type 0 where
+  pub pinned : IsPinnedInHold new component
+  pub entered : new.view.entries ≡ old.view.entries
+  pub patient : new.view.hasty ≡ old.view.hasty
 
 -- at the clock that it looked at last in this read, which is t, the key has this value
 pub record ReadsNow (k : Known) (component key t : ℕ) (reply : Option (List ℕ)) : Type 0 where
@@ -65,28 +73,27 @@ GivesUpOnce old new key from =
 
 -- ---- a draw that goes on until it has a time
 
+-- the view v, but what draws that are lost change of it is as in w
+abbrev pub with_draws : View → View → View
+with_draws = λ v w. record v {
+  fresh_clock = w.fresh_clock;
+  hold_limit = w.hold_limit;
+  hold_clock = w.hold_clock;
+  clock = w.clock;
+  pin_clock = w.pin_clock;
+  raced = w.raced;
+}
+
 -- it has drawn nothing yet: at most it lost draws to other seats
 pub record LosesDraws (old new : Known) : Type 0 where
   pub place : KeepsPlace old new
-  pub view : new.view ≡ record old.view {
-    fresh_clock = new.view.fresh_clock;
-    hold_limit = new.view.hold_limit;
-    hold_clock = new.view.hold_clock;
-    clock = new.view.clock;
-    pin_clock = new.view.pin_clock;
-    raced = new.view.raced;
-  }
+  pub view : new.view ≡ with_draws old.view new.view
 
 -- it drew the time, whatever draws it lost before
 pub record DrawsAtLast (old new : Known) (t : ℕ) : Type 0 where
   pub place : KeepsPlace old new
-  pub view : new.view ≡ record (taken old.view t) {
-    hold_limit = new.view.hold_limit;
-    hold_clock = Some t;
-    clock = Some t;
-    pin_clock = new.view.pin_clock;
-    raced = new.view.raced;
-  }
+  pub view : new.view ≡ taken (with_draws old.view new.view) t
+  pub clock : (new.view.hold_clock ≡ Some t) × (new.view.clock ≡ Some t)
   pub looked : new.view.hold_limit ≢ None
   pub below : IsBelow t new.view.hold_limit
   pub due : old.view.due ≤ t
@@ -113,9 +120,9 @@ deed_by m = Rmw m.key m.read.old m.read.change
 -- what became of the drawn time
 pub record EndsDrawn (old new : Known) : Type 0 where
   pub mode : new.view.mode ≡ Shared
-  pub drawn : new.view.drawn ≡ None
   pub pinned : new.view.pinned ≡ old.view.pinned
   pub held : new.view.held ≡ old.view.held
+  pub drawn : new.view.drawn ≡ None
   pub entries : new.view.entries ≡ old.view.entries
   pub hasty : new.view.hasty ≡ old.view.hasty
   pub gave_up : new.view.gave_up ≡ old.view.gave_up
@@ -173,22 +180,23 @@ abbrev pub read_end : ℕ → Result Answered Refusal → End
 read_end key (Ok rmw) = cond (is_keep rmw.change) (Recorded (Rmw key rmw.old rmw.change)) Neither
 read_end key (Err full) = Neither
 
--- the change of the old value is recorded at the time
-pub record ChangesAt (old new : Known) (t key : ℕ) (o : Option (List ℕ)) (change : Change) : Type 0 where
+-- it is the seat that it was, with the snapshot that it had, and its past only grew
+pub record IsSameSeat (old new : Known) : Type 0 where
   pub number : new.number ≡ old.number
   pub layout : new.layout ≡ old.layout
   pub past : IsBeginning (known_of old) (known_of new)
   pub snapshot : new.view.snapshot ≡ old.view.snapshot
+
+-- the change of the old value is recorded at the time
+pub record ChangesAt (old new : Known) (t key : ℕ) (o : Option (List ℕ)) (change : Change) : Type 0 where
+  pub same : IsSameSeat old new
   pub calls : new.view.calls ≡ old.view.calls ++ call_of old.number t (Rmw key o change) ∷ []
   pub due : new.view.due ≡ due_by t change
   pub above : old.view.due ≤ t
 
 -- in the one hold of the call the clock was found at the limit
 pub record EndsFull (old new : Known) (t : ℕ) : Type 0 where
-  pub number : new.number ≡ old.number
-  pub layout : new.layout ≡ old.layout
-  pub past : IsBeginning (known_of old) (known_of new)
-  pub snapshot : new.view.snapshot ≡ old.view.snapshot
+  pub same : IsSameSeat old new
   pub calls : new.view.calls ≡ old.view.calls
   pub due : new.view.due ≡ old.view.due
   pub entered : new.view.entries ≡ next_word old.view.entries

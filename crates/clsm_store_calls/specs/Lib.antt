@@ -1,6 +1,7 @@
 pub mod Tally
 pub mod Seats
 pub mod Resting
+pub mod Writing
 pub mod Reading
 pub mod Snapshots
 pub mod Scanning

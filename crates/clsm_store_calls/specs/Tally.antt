@@ -23,7 +23,7 @@ pub record Tally : Type 0 where
 
 -- what the view counts
 abbrev pub counted : View → Tally
-counted v = record {
+counted = λ v. record {
   entries = v.entries;
   busy = v.busy;
   raced = v.raced;
@@ -34,10 +34,6 @@ counted v = record {
   limit = v.hold_limit;
   clock = v.hold_clock;
 }
-
--- what the seat at the words counts
-abbrev pub tally_of : Known → Tally
-tally_of k = counted k.view
 
 -- the call took no lock, lost no try, and gave up no time; it may have cancelled times of others,
 -- each after as many looks as its patience says
@@ -54,6 +50,10 @@ pub record CancelsNone (old new : Tally) : Type 0 where
   pub own : new.gave_up ≡ old.gave_up
   pub others : new.cancelled ≡ old.cancelled
   pub hasty : new.hasty ≡ old.hasty
+
+-- what the seat at the words counts
+abbrev pub tally_of : Known → Tally
+tally_of k = counted k.view
 
 -- ---- a try
 

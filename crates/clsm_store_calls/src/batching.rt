@@ -13,6 +13,7 @@ ghost use Rattle.clsm_store_calls.specs.Tally.{tally_of};
 
 use crate::changing::value_set;
 use crate::refusal::BatchError;
+use crate::site::Site;
 use crate::writing::deed_of;
 use clsm_lock::{lock_exclusive, unlock_exclusive};
 use clsm_memtable::{
@@ -46,85 +47,75 @@ struct Turn {
     member: (u64, Change),
 }
 
-/// Stages the next member: takes its time, fills its cell, enters that into its chain and into the
-/// ordered list, and decides it.
-fn stage_member<P: Pace, R: Wait>(
-    rt: &R,
-    words: &Words<P>,
-    seat: &mut RawSeat,
-    turn: &Turn,
-    lookahead: &mut Lookahead,
-)
-    requires of { IsSeatOf words.now seat.old }
-    requires may { MayStage seat.old.knows turn.now.time 1 }
-    requires writes { turn.now.member.1 ≢ Keep }
-    ensures of { IsSeatOf words.now seat.new }
-    ensures staged { StagesAll seat.old.knows seat.new.knows (turn.now.member ∷ []) }
-{
-    let time = turn.time;
-    let key = turn.member.0;
-    let cell = DrawnCell { time, key };
-    let value = value_set(&turn.member.1);
-    stage(words, seat, cell, value.as_ref());
-    seat.show_invariant();
-    let guess = lookahead.next(words, seat, time);
-    seat.show_invariant();
-    let trace = enter(rt, words, seat, cell, &guess);
-    decide_member(words, seat, time, &deed_of(key, &value));
-    leave_hints(words, seat, time, &trace);
-}
-
-/// Stages all members, in their order, from this time on.
-fn stage_all<P: Pace, R: Wait>(
-    rt: &R,
-    words: &Words<P>,
-    seat: &mut RawSeat,
-    first: Time,
-    members: &[(u64, Change)],
-)
-    requires of { IsSeatOf words.now seat.old }
-    requires may { MayStage seat.old.knows first (length members.now) }
-    requires writes { AreWrites members.now }
-    ensures of { IsSeatOf words.now seat.new }
-    ensures staged { StagesAll seat.old.knows seat.new.knows members.now }
-{
-    let mut lookahead = Lookahead::new(members);
-    let mut time = first;
-    for member in members {
-        let turn = Turn {
-            time,
-            member: *member,
-        };
-        stage_member(rt, words, seat, &turn, &mut lookahead);
-        time += 1;
+impl<'a, P: Pace, R: Wait> Site<'a, P, R> {
+    /// Stages the next member: takes its time, fills its cell, enters that into its chain and into
+    /// the ordered list, and decides it.
+    fn stage_member(&self, seat: &mut RawSeat, turn: &Turn, lookahead: &mut Lookahead)
+        requires of { IsSeatOf self.now.words.now seat.old }
+        requires may { MayStage seat.old.knows turn.now.time 1 }
+        requires writes { turn.now.member.1 ≢ Keep }
+        ensures of { IsSeatOf self.now.words.now seat.new }
+        ensures staged { StagesAll seat.old.knows seat.new.knows (turn.now.member ∷ []) }
+    {
+        let words = self.words;
+        let time = turn.time;
+        let key = turn.member.0;
+        let cell = DrawnCell { time, key };
+        let value = value_set(&turn.member.1);
+        stage(words, seat, cell, value.as_ref());
+        seat.show_invariant();
+        let guess = lookahead.next(words, seat, time);
+        seat.show_invariant();
+        let trace = enter(self.rt, words, seat, cell, &guess);
+        decide_member(words, seat, time, &deed_of(key, &value));
+        leave_hints(words, seat, time, &trace);
     }
-}
 
-/// Stages the batch and commits it, if its members fit between the clock and the limit.
-fn batch_in_hold<P: Pace, R: Wait>(
-    rt: &R,
-    words: &Words<P>,
-    seat: &mut RawSeat,
-    members: &[(u64, Change)],
-) -> Result<Time, BatchError>
-    requires of { IsSeatOf words.now seat.old }
-    requires alone { IsAlone seat.old.knows }
-    requires uncommitted { seat.old.knows.view.committed ≡ false }
-    requires fits { FitsDeed seat.old.knows.layout.cells (Group members.now) }
-    ensures of { IsSeatOf words.now seat.new }
-    ensures alone { IsAlone seat.new.knows }
-    ensures counts { CountsAlone (tally_of seat.old.knows) (tally_of seat.new.knows) result }
-    ensures written { IfOk result (λ time. RecordsBatch seat.old.knows seat.new.knows time members.now) }
-    ensures room { IfOk result (λ time. HasRoom (tally_of seat.new.knows) time (length members.now)) }
-    ensures refused { IfErr result (FindsNoRoomFor seat.old.knows seat.new.knows members.now) }
-{
-    let room = look_room(words, seat);
-    if members.len() as u64 > room.limit - room.clock {
-        return Err(BatchError::Full { time: room.clock });
+    /// Stages all members, in their order, from this time on.
+    fn stage_all(&self, seat: &mut RawSeat, first: Time, members: &[(u64, Change)])
+        requires of { IsSeatOf self.now.words.now seat.old }
+        requires may { MayStage seat.old.knows first (length members.now) }
+        requires writes { AreWrites members.now }
+        ensures of { IsSeatOf self.now.words.now seat.new }
+        ensures staged { StagesAll seat.old.knows seat.new.knows members.now }
+    {
+        let mut lookahead = Lookahead::new(members);
+        let mut time = first;
+        for member in members {
+            let turn = Turn {
+                time,
+                member: *member,
+            };
+            self.stage_member(seat, &turn, &mut lookahead);
+            time += 1;
+        }
     }
-    stage_all(rt, words, seat, room.clock, members);
-    commit(words, seat, room.clock, members);
-    Ok(room.clock)
+
+    /// Stages the batch and commits it, if its members fit between the clock and the limit.
+    fn batch_in_hold(
+        &self,
+        seat: &mut RawSeat,
+        members: &[(u64, Change)],
+    ) -> Result<Time, BatchError>
+        requires of { IsSeatOf self.now.words.now seat.old }
+        requires alone { IsAlone seat.old.knows }
+        requires uncommitted { seat.old.knows.view.committed ≡ false }
+        requires fits { FitsDeed seat.old.knows.layout.cells (Group members.now) }
+        ensures of { IsSeatOf self.now.words.now seat.new }
+        ensures alone { IsAlone seat.new.knows }
+        ensures counts { CountsAlone (tally_of seat.old.knows) (tally_of seat.new.knows) result }
+        ensures written { IfOk result (λ time. RecordsBatch seat.old.knows seat.new.knows time members.now) }
+        ensures room { IfOk result (λ time. HasRoom (tally_of seat.new.knows) time (length members.now)) }
+        ensures refused { IfErr result (FindsNoRoomFor seat.old.knows seat.new.knows members.now) }
+    {
+        let room = look_room(self.words, seat);
+        if members.len() as u64 > room.limit - room.clock {
+            return Err(BatchError::Full { time: room.clock });
+        }
+        self.stage_all(seat, room.clock, members);
+        commit(self.words, seat, room.clock, members);
+        Ok(room.clock)
+    }
 }
 
 /// Writes the members as one batch, at consecutive times in their order, and waits for the lock.
@@ -147,7 +138,7 @@ pub fn batch<P: Pace, R: Wait>(
     check_members(members, words.cells())?;
     seat.show_invariant();
     lock_exclusive(rt, words, seat);
-    let answer = batch_in_hold(rt, words, seat, members);
+    let answer = Site { rt, words }.batch_in_hold(seat, members);
     unlock_exclusive(words, seat);
     answer
 }

@@ -1,24 +1,25 @@
 //! Read-modify-writes at the words: a read in a hold of the lock, and a write at a later time if no
 //! write of the key came between.
 ghost use Rattle.std.specs.Prelude.{◌≡◌, ◌≢◌, ◌*◌, ◌≤◌, false, true, max, None, Some, length, IfOk, IfErr};
+ghost use Rattle.clsm_model.specs.declared.record.Deed.TheVariants.{Rmw as ChangeOf};
 ghost use Rattle.clsm_model.specs.declared.slot.Slot.TheVariants.{Wrote};
 ghost use Rattle.clsm_model.specs.History.{plain, value};
 ghost use Rattle.clsm_model.specs.Right.{write_by};
-ghost use Rattle.clsm_law.specs.declared.view.Mode.TheVariants.{Shared};
 ghost use Rattle.clsm_law.specs.Views.{next_word};
 ghost use Rattle.clsm_law.specs.OpenSteps.{IsReadBelow};
+ghost use Rattle.clsm_law.specs.declared.view.Mode.TheVariants.{Shared};
 ghost use Rattle.clsm_words.specs.Keeping.{OnlyReads};
 ghost use Rattle.clsm_words.specs.Plays.{IsSeatOf};
+ghost use Rattle.clsm_store_calls.specs.Resting.{FindsFull, IsAtRest, Still};
 ghost use Rattle.clsm_memtable.specs.Settled.{MaySettleBelow};
 ghost use Rattle.clsm_memtable.specs.Writing.{IsUnnoted};
-ghost use Rattle.clsm_store_calls.specs.Resting.{FindsFull, IsAtRest, Still};
-ghost use Rattle.clsm_model.specs.declared.record.Deed.TheVariants.{Rmw as ChangeOf};
 ghost use Rattle.clsm_store_calls.specs.Changing.{TriesChange, ChangesAt, Does, DrawsAtLast, EndsDraw, EndsFull, GivesUpFor, GivesUpOnce, IsAnsweredBy};
-ghost use Rattle.clsm_store_calls.specs.Changing.{IsPinnedInHold, IsWrittenFrom, ReadsNow, DecidesDrawn, WritesLater, deed_by, read_end, is_keep, value_set};
+ghost use Rattle.clsm_store_calls.specs.Changing.{IsPinnedInHold, IsWrittenFrom, ReadsNow, DecidesDrawn, StaysPinned, WritesLater, deed_by, read_end, is_keep, value_set};
 
 use crate::got::{Got, Rmw};
 use crate::reading::value_below;
 use crate::refusal::Full;
+use crate::site::Site;
 use clsm_law::{End, Word};
 use clsm_lock::{lock_shared, unlock_shared};
 use clsm_memtable::{
@@ -47,9 +48,10 @@ struct Modified {
     value: Option<Value>,
 }
 
-/// The times from `from` on and below `until`.
+/// A key, and the times from `from` on and below `until`.
 #[derive(Clone, Copy)]
 struct Span {
+    key: u64,
     from: Time,
     until: Time,
 }
@@ -64,51 +66,6 @@ pub(crate) enum ChangeAttempt {
     Lost,
 }
 
-/// The value of the key at the clock, below which all is settled.
-fn value_now<P: Pace>(words: &Words<P>, seat: &mut RawSeat, component: u64, key: u64) -> Got
-    requires of { IsSeatOf words.now seat.old }
-    requires pinned { IsPinnedInHold seat.old.knows component }
-    ensures of { IsSeatOf words.now seat.new }
-    ensures pinned { IsPinnedInHold seat.new.knows component }
-    ensures still { Still seat.old.knows seat.new.knows }
-    ensures entered { seat.new.knows.view.entries ≡ seat.old.knows.view.entries }
-    ensures patient { seat.new.knows.view.hasty ≡ seat.old.knows.view.hasty }
-    ensures spared { seat.new.knows.view.gave_up ≡ seat.old.knows.view.gave_up }
-    ensures lost { seat.new.knows.view.overtaken ≡ seat.old.knows.view.overtaken }
-    ensures reads { ReadsNow seat.new.knows component key result.time result.value }
-    ensures beyond { length seat.old.knows.past ≤ result.time }
-{
-    let time = words.look(seat, Word::Clock);
-    settle_below(words, seat, component, time);
-    let value = value_below(words, seat, component, key, time);
-    Got { time, value }
-}
-
-/// Settles all below the span's end, and answers whether no write of the key is in the span.
-fn is_unchanged<P: Pace>(
-    words: &Words<P>,
-    seat: &mut RawSeat,
-    component: u64,
-    key: u64,
-    span: Span,
-) -> bool
-    requires of { IsSeatOf words.now seat.old }
-    requires may { MaySettleBelow seat.old.knows component span.until }
-    requires merged { component * seat.old.knows.layout.cells ≤ span.from }
-    requires later { span.from ≤ span.until }
-    ensures of { IsSeatOf words.now seat.new }
-    ensures reads { OnlyReads seat.old.knows seat.new.knows }
-    ensures settled { span.until ≤ length seat.new.knows.past }
-    ensures written { result ≡ false → IsWrittenFrom seat.new.knows.past key span.from }
-    ensures unchanged { result ≡ true → value (plain seat.new.knows.past) key span.until ≡ value (plain seat.new.knows.past) key span.from }
-{
-    settle_below(words, seat, component, span.until);
-    match newest(words, seat, component, key, span.until) {
-        Some(found) => found.time < span.from,
-        None => true,
-    }
-}
-
 /// The read-modify-write with this answer.
 fn deed_of(key: u64, rmw: &Rmw) -> Deed
     ensures { result ≡ ChangeOf key rmw.now.old rmw.now.change }
@@ -116,100 +73,6 @@ fn deed_of(key: u64, rmw: &Rmw) -> Deed
     let old = rmw.old;
     let change = rmw.change;
     Deed::Rmw { key, old, change }
-}
-
-/// Fills the drawn cell, enters it and decides it.
-fn write_drawn<P: Pace, R: Wait>(
-    rt: &R,
-    words: &Words<P>,
-    seat: &mut RawSeat,
-    time: Time,
-    modified: &Modified,
-) -> Decided
-    requires of { IsSeatOf words.now seat.old }
-    requires holds { seat.old.knows.view.mode ≡ Shared }
-    requires limit { seat.old.knows.view.hold_limit ≢ None }
-    requires drawn { seat.old.knows.view.drawn ≡ Some time }
-    requires unlinked { seat.old.knows.view.linked ≡ false }
-    requires out { seat.old.knows.view.inserted ≡ false }
-    requires writes { write_by 0 (deed_by modified.now) ≡ Some (Wrote 0 modified.now.key modified.now.value) }
-    requires read { IsReadBelow (plain seat.old.knows.past) seat.old.knows.view time (deed_by modified.now) }
-    ensures of { IsSeatOf words.now seat.new }
-    ensures writes { DecidesDrawn seat.old.knows seat.new.knows time (deed_by modified.now) result }
-{
-    seat.show_invariant();
-    let key = modified.key;
-    let deed = deed_of(key, &modified.read);
-    let guess = prefetch(words, seat, time, key);
-    seat.show_invariant();
-    fill(words, seat, time, key, modified.value.as_ref());
-    let trace = enter(rt, words, seat, DrawnCell { time, key }, &guess);
-    decide(words, seat, time, &deed, &trace)
-}
-
-/// Draws a time, and tries until it has one or the clock stands at the limit. A draw that another
-/// seat wins costs two looks and an exchange, and no read.
-fn draw_at_last<P: Pace, R: Wait>(
-    rt: &R,
-    words: &Words<P>,
-    seat: &mut RawSeat,
-) -> Result<Time, ChangeAttempt>
-    requires of { IsSeatOf words.now seat.old }
-    requires holds { seat.old.knows.view.mode ≡ Shared }
-    requires undrawn { seat.old.knows.view.drawn ≡ None }
-    requires unnoted { IsUnnoted seat.old.knows.view.snapshot }
-    ensures of { IsSeatOf words.now seat.new }
-    ensures drawn { IfOk result (λ time. DrawsAtLast seat.old.knows seat.new.knows time) }
-    ensures ended { IfErr result (EndsDraw seat.old.knows seat.new.knows) }
-{
-    for _ in rt.forever() {
-        match draw(words, seat) {
-            Ok(time) => return Ok(time),
-            Err(DrawError::Full(time)) => return Err(ChangeAttempt::Full(time)),
-            Err(DrawError::Raced) => {}
-        }
-    }
-    unreachable!()
-}
-
-/// Writes the change at a later time, if the key is unchanged until then.
-#[tactic(auto, using(crate::proofs::Rest::still_trans))]
-fn write_later<P: Pace, R: Wait>(
-    rt: &R,
-    words: &Words<P>,
-    seat: &mut RawSeat,
-    component: u64,
-    modified: &Modified,
-) -> ChangeAttempt
-    requires of { IsSeatOf words.now seat.old }
-    requires pinned { IsPinnedInHold seat.old.knows component }
-    requires reads { ReadsNow seat.old.knows component modified.now.key modified.now.read.time modified.now.read.old }
-    requires writes { write_by 0 (deed_by modified.now) ≡ Some (Wrote 0 modified.now.key modified.now.value) }
-    ensures of { IsSeatOf words.now seat.new }
-    ensures pinned { IsPinnedInHold seat.new.knows component }
-    ensures entered { seat.new.knows.view.entries ≡ seat.old.knows.view.entries }
-    ensures patient { seat.new.knows.view.hasty ≡ seat.old.knows.view.hasty }
-    ensures spared { GivesUpOnce seat.old.knows seat.new.knows modified.now.key modified.now.read.time }
-    ensures writes { WritesLater seat.old.knows seat.new.knows modified.now.key modified.now.read.old modified.now.read.change result }
-{
-    seat.show_invariant();
-    let time = match draw_at_last(rt, words, seat) {
-        Ok(time) => time,
-        Err(attempt) => return attempt,
-    };
-    let span = Span {
-        from: modified.read.time,
-        until: time,
-    };
-    if !is_unchanged(words, seat, component, modified.key, span) {
-        give_up(words, seat, time);
-        return ChangeAttempt::Lost;
-    }
-    seat.show_invariant();
-    match write_drawn(rt, words, seat, time, modified) {
-        Decided::Done => ChangeAttempt::Done(modified.read.at(time)),
-        Decided::Overtaken => ChangeAttempt::Lost,
-    }
 }
 
 /// What the function answers to the old value.
@@ -236,63 +99,174 @@ pub(crate) fn value_set(change: &Change) -> Option<Value>
     }
 }
 
-/// Tries once to change the key.
-fn try_change<P: Pace, R: Wait, F: Fn(Option<Value>) -> Change>(
-    rt: &R,
-    words: &Words<P>,
-    seat: &mut RawSeat,
-    component: u64,
-    modification: &Modification<'_, F>,
-) -> ChangeAttempt
+/// The value of the key at the clock, below which all is settled.
+fn value_now<P: Pace>(words: &Words<P>, seat: &mut RawSeat, component: u64, key: u64) -> Got
     requires of { IsSeatOf words.now seat.old }
     requires pinned { IsPinnedInHold seat.old.knows component }
-    requires callable { F.IsAlwaysCallable modification.now.f.now }
     ensures of { IsSeatOf words.now seat.new }
-    ensures pinned { IsPinnedInHold seat.new.knows component }
-    ensures entered { seat.new.knows.view.entries ≡ seat.old.knows.view.entries }
-    ensures patient { seat.new.knows.view.hasty ≡ seat.old.knows.view.hasty }
-    ensures spared { GivesUpOnce seat.old.knows seat.new.knows modification.now.key (max seat.old.knows.view.due (length seat.old.knows.past)) }
-    ensures changes { TriesChange seat.old.knows seat.new.knows component modification.now.key result }
-    ensures answered { IsAnsweredBy (F.post modification.now.f.now) result }
+    ensures stays { StaysPinned seat.old.knows seat.new.knows component }
+    ensures still { Still seat.old.knows seat.new.knows }
+    ensures spared { seat.new.knows.view.gave_up ≡ seat.old.knows.view.gave_up }
+    ensures lost { seat.new.knows.view.overtaken ≡ seat.old.knows.view.overtaken }
+    ensures reads { ReadsNow seat.new.knows component key result.time result.value }
+    ensures beyond { length seat.old.knows.past ≤ result.time }
 {
-    let key = modification.key;
-    let got = value_now(words, seat, component, key);
-    let read = got.with(ask(modification.f, &got.value));
-    if is_keep(&read.change) {
-        return ChangeAttempt::Done(read);
-    }
-    let value = value_set(&read.change);
-    write_later(rt, words, seat, component, &Modified { key, read, value })
+    let time = words.look(seat, Word::Clock);
+    settle_below(words, seat, component, time);
+    let value = value_below(words, seat, component, key, time);
+    Got { time, value }
 }
 
-/// Changes the key, and tries until that is done or the clock is at the limit.
-fn change_pinned<P: Pace, R: Wait, F: Fn(Option<Value>) -> Change>(
-    rt: &R,
-    words: &Words<P>,
-    seat: &mut RawSeat,
-    component: u64,
-    modification: &Modification<'_, F>,
-) -> Result<Rmw, Full>
+/// Settles all below the span's end, and answers whether no write of its key is in it.
+fn is_unchanged<P: Pace>(words: &Words<P>, seat: &mut RawSeat, component: u64, span: Span) -> bool
     requires of { IsSeatOf words.now seat.old }
-    requires pinned { IsPinnedInHold seat.old.knows component }
-    requires callable { F.IsAlwaysCallable modification.now.f.now }
+    requires may { MaySettleBelow seat.old.knows component span.until }
+    requires merged { component * seat.old.knows.layout.cells ≤ span.from }
+    requires later { span.from ≤ span.until }
     ensures of { IsSeatOf words.now seat.new }
-    ensures pinned { IsPinnedInHold seat.new.knows component }
-    ensures entered { seat.new.knows.view.entries ≡ seat.old.knows.view.entries }
-    ensures patient { seat.new.knows.view.hasty ≡ seat.old.knows.view.hasty }
-    ensures spared { GivesUpFor seat.old.knows seat.new.knows modification.now.key }
-    ensures changed { IfOk result (λ rmw. Does rmw.change seat.old.knows seat.new.knows component modification.now.key rmw.time rmw.old) }
-    ensures answered { IfOk result (λ rmw. F.post modification.now.f.now rmw.old rmw.change) }
-    ensures full { IfErr result (λ full. FindsFull seat.old.knows seat.new.knows full.time) }
+    ensures reads { OnlyReads seat.old.knows seat.new.knows }
+    ensures settled { span.until ≤ length seat.new.knows.past }
+    ensures written { result ≡ false → IsWrittenFrom seat.new.knows.past span.key span.from }
+    ensures unchanged { result ≡ true → value (plain seat.new.knows.past) span.key span.until ≡ value (plain seat.new.knows.past) span.key span.from }
 {
-    for _ in rt.forever() {
-        match try_change(rt, words, seat, component, modification) {
-            ChangeAttempt::Done(rmw) => return Ok(rmw),
-            ChangeAttempt::Full(time) => return Err(Full { time }),
-            ChangeAttempt::Lost => {}
+    settle_below(words, seat, component, span.until);
+    match newest(words, seat, component, span.key, span.until) {
+        Some(found) => found.time < span.from,
+        None => true,
+    }
+}
+
+impl<'a, P: Pace, R: Wait> Site<'a, P, R> {
+    /// Fills the drawn cell, enters it and decides it.
+    fn write_drawn(&self, seat: &mut RawSeat, time: Time, modified: &Modified) -> Decided
+        requires of { IsSeatOf self.now.words.now seat.old }
+        requires holds { seat.old.knows.view.mode ≡ Shared }
+        requires limit { seat.old.knows.view.hold_limit ≢ None }
+        requires drawn { seat.old.knows.view.drawn ≡ Some time }
+        requires unlinked { seat.old.knows.view.linked ≡ false }
+        requires out { seat.old.knows.view.inserted ≡ false }
+        requires writes { write_by 0 (deed_by modified.now) ≡ Some (Wrote 0 modified.now.key modified.now.value) }
+        requires read { IsReadBelow (plain seat.old.knows.past) seat.old.knows.view time (deed_by modified.now) }
+        ensures of { IsSeatOf self.now.words.now seat.new }
+        ensures writes { DecidesDrawn seat.old.knows seat.new.knows time (deed_by modified.now) result }
+    {
+        let words = self.words;
+        seat.show_invariant();
+        let key = modified.key;
+        let deed = deed_of(key, &modified.read);
+        let guess = prefetch(words, seat, time, key);
+        seat.show_invariant();
+        fill(words, seat, time, key, modified.value.as_ref());
+        let trace = enter(self.rt, words, seat, DrawnCell { time, key }, &guess);
+        decide(words, seat, time, &deed, &trace)
+    }
+
+    /// Draws a time, and tries until it has one or the clock stands at the limit. A draw that
+    /// another seat wins costs two looks and an exchange, and no read.
+    fn draw_at_last(&self, seat: &mut RawSeat) -> Result<Time, ChangeAttempt>
+        requires of { IsSeatOf self.now.words.now seat.old }
+        requires holds { seat.old.knows.view.mode ≡ Shared }
+        requires undrawn { seat.old.knows.view.drawn ≡ None }
+        requires unnoted { IsUnnoted seat.old.knows.view.snapshot }
+        ensures of { IsSeatOf self.now.words.now seat.new }
+        ensures drawn { IfOk result (λ time. DrawsAtLast seat.old.knows seat.new.knows time) }
+        ensures ended { IfErr result (EndsDraw seat.old.knows seat.new.knows) }
+    {
+        for _ in self.rt.forever() {
+            match draw(self.words, seat) {
+                Ok(time) => return Ok(time),
+                Err(DrawError::Full(time)) => return Err(ChangeAttempt::Full(time)),
+                Err(DrawError::Raced) => {}
+            }
+        }
+        unreachable!()
+    }
+
+    /// Writes the change at a later time, if the key is unchanged until then.
+    #[tactic(auto, using(crate::proofs::Rest::still_trans))]
+    fn write_later(&self, seat: &mut RawSeat, component: u64, modified: &Modified) -> ChangeAttempt
+        requires of { IsSeatOf self.now.words.now seat.old }
+        requires pinned { IsPinnedInHold seat.old.knows component }
+        requires reads { ReadsNow seat.old.knows component modified.now.key modified.now.read.time modified.now.read.old }
+        requires writes { write_by 0 (deed_by modified.now) ≡ Some (Wrote 0 modified.now.key modified.now.value) }
+        ensures of { IsSeatOf self.now.words.now seat.new }
+        ensures stays { StaysPinned seat.old.knows seat.new.knows component }
+        ensures spared { GivesUpOnce seat.old.knows seat.new.knows modified.now.key modified.now.read.time }
+        ensures writes { WritesLater seat.old.knows seat.new.knows modified.now.key modified.now.read.old modified.now.read.change result }
+    {
+        seat.show_invariant();
+        let time = match self.draw_at_last(seat) {
+            Ok(time) => time,
+            Err(attempt) => return attempt,
+        };
+        let span = Span {
+            key: modified.key,
+            from: modified.read.time,
+            until: time,
+        };
+        if !is_unchanged(self.words, seat, component, span) {
+            give_up(self.words, seat, time);
+            return ChangeAttempt::Lost;
+        }
+        seat.show_invariant();
+        match self.write_drawn(seat, time, modified) {
+            Decided::Done => ChangeAttempt::Done(modified.read.at(time)),
+            Decided::Overtaken => ChangeAttempt::Lost,
         }
     }
-    unreachable!()
+
+    /// Tries once to change the key.
+    fn try_change<F: Fn(Option<Value>) -> Change>(
+        &self,
+        seat: &mut RawSeat,
+        component: u64,
+        modification: &Modification<'_, F>,
+    ) -> ChangeAttempt
+        requires of { IsSeatOf self.now.words.now seat.old }
+        requires pinned { IsPinnedInHold seat.old.knows component }
+        requires callable { F.IsAlwaysCallable modification.now.f.now }
+        ensures of { IsSeatOf self.now.words.now seat.new }
+        ensures stays { StaysPinned seat.old.knows seat.new.knows component }
+        ensures spared { GivesUpOnce seat.old.knows seat.new.knows modification.now.key (max seat.old.knows.view.due (length seat.old.knows.past)) }
+        ensures changes { TriesChange seat.old.knows seat.new.knows component modification.now.key result }
+        ensures answered { IsAnsweredBy (F.post modification.now.f.now) result }
+    {
+        let key = modification.key;
+        let got = value_now(self.words, seat, component, key);
+        let read = got.with(ask(modification.f, &got.value));
+        if is_keep(&read.change) {
+            return ChangeAttempt::Done(read);
+        }
+        let value = value_set(&read.change);
+        self.write_later(seat, component, &Modified { key, read, value })
+    }
+
+    /// Changes the key, and tries until that is done or the clock is at the limit.
+    fn change_pinned<F: Fn(Option<Value>) -> Change>(
+        &self,
+        seat: &mut RawSeat,
+        component: u64,
+        modification: &Modification<'_, F>,
+    ) -> Result<Rmw, Full>
+        requires of { IsSeatOf self.now.words.now seat.old }
+        requires pinned { IsPinnedInHold seat.old.knows component }
+        requires callable { F.IsAlwaysCallable modification.now.f.now }
+        ensures of { IsSeatOf self.now.words.now seat.new }
+        ensures stays { StaysPinned seat.old.knows seat.new.knows component }
+        ensures spared { GivesUpFor seat.old.knows seat.new.knows modification.now.key }
+        ensures changed { IfOk result (λ rmw. Does rmw.change seat.old.knows seat.new.knows component modification.now.key rmw.time rmw.old) }
+        ensures answered { IfOk result (λ rmw. F.post modification.now.f.now rmw.old rmw.change) }
+        ensures full { IfErr result (λ full. FindsFull seat.old.knows seat.new.knows full.time) }
+    {
+        for _ in self.rt.forever() {
+            match self.try_change(seat, component, modification) {
+                ChangeAttempt::Lost => {}
+                ChangeAttempt::Done(rmw) => return Ok(rmw),
+                ChangeAttempt::Full(time) => return Err(Full { time }),
+            }
+        }
+        unreachable!()
+    }
 }
 
 /// How the read under a read-modify-write ends: with its record where the key was kept, else with
@@ -330,7 +304,7 @@ pub fn change<P: Pace, R: Wait, F: Fn(Option<Value>) -> Change>(
 {
     lock_shared(rt, words, seat);
     let component = pin(words, seat, pin_word);
-    let answer = change_pinned(rt, words, seat, component, modification);
+    let answer = Site { rt, words }.change_pinned(seat, component, modification);
     unpin(
         words,
         seat,

@@ -21,9 +21,8 @@ fn least(a: Option<Time>, b: Option<Time>) -> Option<Time>
     ensures { result ≡ least a b }
 {
     match (a, b) {
-        (None, b) => b,
-        (Some(a), None) => Some(a),
         (Some(a), Some(b)) => Some(a.min(b)),
+        (a, b) => a.or(b),
     }
 }
 

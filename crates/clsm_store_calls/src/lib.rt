@@ -16,6 +16,7 @@ mod reading;
 mod reclaiming;
 mod refusal;
 mod scanning;
+mod site;
 mod snapshotting;
 mod trying;
 mod visiting;

@@ -1,11 +1,11 @@
 //! Writes that try each exchange once.
-ghost use Rattle.std.specs.Prelude.{◌≡◌, Some, IfOk, IfErr, Err};
+ghost use Rattle.std.specs.Prelude.{◌≡◌, Some, IfOk, IfErr};
 ghost use Rattle.clsm_model.specs.declared.record.Deed.TheVariants.{Put};
 ghost use Rattle.clsm_words.specs.Plays.{IsSeatOf};
 ghost use Rattle.clsm_memtable.specs.Writing.{Draws};
 ghost use Rattle.clsm_store_calls.specs.Resting.{IsAtRest, IsInHold, Records};
-ghost use Rattle.clsm_store_calls.specs.Tally.{CountsInHold, CountsTry, tally_of};
-ghost use Rattle.clsm_store_calls.specs.Trying.{Fails};
+ghost use Rattle.clsm_store_calls.specs.Tally.{CountsTry, tally_of};
+ghost use Rattle.clsm_store_calls.specs.Trying.{Fails, FailsInHold, WritesInHold};
 
 use crate::refusal::TryPutError;
 use crate::writing::deed_of;
@@ -16,15 +16,16 @@ use clsm_memtable::{
 use clsm_model::{Time, Value};
 use clsm_words::{Pace, RawSeat, Words};
 
+/// The time of a write, or why it was not made.
+type Tried = Result<Time, TryPutError>;
+
 /// Draws the next time, or says why not.
-fn try_draw<P: Pace>(words: &Words<P>, seat: &mut RawSeat) -> Result<Time, TryPutError>
+fn try_draw<P: Pace>(words: &Words<P>, seat: &mut RawSeat) -> Tried
     requires of { IsSeatOf words.now seat.old }
     requires holds { IsInHold seat.old.knows }
     ensures of { IsSeatOf words.now seat.new }
     ensures drawn { IfOk result (λ time. Draws seat.old.knows seat.new.knows time) }
-    ensures holds { IfErr result (λ refusal. IsInHold seat.new.knows) }
-    ensures fails { IfErr result (Fails seat.old.knows seat.new.knows) }
-    ensures counts { IfErr result (λ refusal. CountsInHold (tally_of seat.old.knows) (tally_of seat.new.knows) (Err refusal)) }
+    ensures fails { IfErr result (FailsInHold seat.old.knows seat.new.knows) }
 {
     match draw(words, seat) {
         Ok(time) => Ok(time),
@@ -34,19 +35,12 @@ fn try_draw<P: Pace>(words: &Words<P>, seat: &mut RawSeat) -> Result<Time, TryPu
 }
 
 /// Tries once to write, in a hold of the lock.
-fn try_in_hold<P: Pace>(
-    words: &Words<P>,
-    seat: &mut RawSeat,
-    key: u64,
-    value: Value,
-) -> Result<Time, TryPutError>
+fn try_in_hold<P: Pace>(words: &Words<P>, seat: &mut RawSeat, key: u64, value: Value) -> Tried
     requires of { IsSeatOf words.now seat.old }
     requires holds { IsInHold seat.old.knows }
     ensures of { IsSeatOf words.now seat.new }
-    ensures holds { IsInHold seat.new.knows }
-    ensures written { IfOk result (λ time. Records seat.old.knows seat.new.knows time (Put key value)) }
-    ensures fails { IfErr result (Fails seat.old.knows seat.new.knows) }
-    ensures counts { CountsInHold (tally_of seat.old.knows) (tally_of seat.new.knows) result }
+    ensures written { IfOk result (λ time. WritesInHold seat.old.knows seat.new.knows time (Put key value)) }
+    ensures fails { IfErr result (FailsInHold seat.old.knows seat.new.knows) }
 {
     let time = try_draw(words, seat)?;
     let guess = prefetch(words, seat, time, key);
@@ -62,12 +56,7 @@ fn try_in_hold<P: Pace>(
 }
 
 /// Tries once to write the value at the key.
-pub fn try_write<P: Pace>(
-    words: &Words<P>,
-    seat: &mut RawSeat,
-    key: u64,
-    value: Value,
-) -> Result<Time, TryPutError>
+pub fn try_write<P: Pace>(words: &Words<P>, seat: &mut RawSeat, key: u64, value: Value) -> Tried
     requires of { IsSeatOf words.now seat.old }
     requires rests { IsAtRest seat.old.knows }
     ensures of { IsSeatOf words.now seat.new }

@@ -4,8 +4,10 @@ ghost use Rattle.clsm_law.specs.Views.{next_word};
 ghost use Rattle.clsm_words.specs.Plays.{IsSeatOf};
 ghost use Rattle.clsm_store_calls.specs.Tally.{CancelsNone, tally_of};
 ghost use Rattle.clsm_store_calls.specs.Resting.{IsAtRest, IsInHold, FindsFull, Records, Tries, deed_of};
+ghost use Rattle.clsm_store_calls.specs.Writing.{StaysInHold};
 
 use crate::refusal::Full;
+use crate::site::Site;
 use clsm_lock::{lock_shared, unlock_shared};
 use clsm_memtable::{Decided, DrawError, DrawnCell, decide, draw, enter, fill, prefetch};
 use clsm_model::{Deed, Time, Value};
@@ -31,62 +33,50 @@ pub(crate) fn deed_of(key: u64, value: &Option<Value>) -> Deed
     }
 }
 
-/// Tries once to write, in a hold of the lock.
-fn try_write<P: Pace, R: Wait>(
-    rt: &R,
-    words: &Words<P>,
-    seat: &mut RawSeat,
-    key: u64,
-    value: &Option<Value>,
-) -> Attempt
-    requires of { IsSeatOf words.now seat.old }
-    requires holds { IsInHold seat.old.knows }
-    ensures of { IsSeatOf words.now seat.new }
-    ensures holds { IsInHold seat.new.knows }
-    ensures entered { seat.new.knows.view.entries ≡ seat.old.knows.view.entries }
-    ensures cancels { CancelsNone (tally_of seat.old.knows) (tally_of seat.new.knows) }
-    ensures tries { Tries seat.old.knows seat.new.knows (deed_of key value.now) result }
-{
-    let time = match draw(words, seat) {
-        Ok(time) => time,
-        Err(DrawError::Full(time)) => return Attempt::Full(time),
-        Err(DrawError::Raced) => return Attempt::Lost,
-    };
-    let guess = prefetch(words, seat, time, key);
-    fill(words, seat, time, key, value.as_ref());
-    let trace = enter(rt, words, seat, DrawnCell { time, key }, &guess);
-    match decide(words, seat, time, &deed_of(key, value), &trace) {
-        Decided::Done => Attempt::Written(time),
-        Decided::Overtaken => Attempt::Lost,
-    }
-}
-
-/// Writes, in a hold of the lock, and tries until the write stands or the clock is at the limit.
-#[tactic(auto, using(crate::proofs::Rest::records_later, crate::proofs::Rest::full_later, crate::proofs::Rest::still_trans))]
-fn write_in_hold<P: Pace, R: Wait>(
-    rt: &R,
-    words: &Words<P>,
-    seat: &mut RawSeat,
-    key: u64,
-    value: &Option<Value>,
-) -> Result<Time, Full>
-    requires of { IsSeatOf words.now seat.old }
-    requires holds { IsInHold seat.old.knows }
-    ensures of { IsSeatOf words.now seat.new }
-    ensures holds { IsInHold seat.new.knows }
-    ensures entered { seat.new.knows.view.entries ≡ seat.old.knows.view.entries }
-    ensures cancels { CancelsNone (tally_of seat.old.knows) (tally_of seat.new.knows) }
-    ensures written { IfOk result (λ time. Records seat.old.knows seat.new.knows time (deed_of key value.now)) }
-    ensures full { IfErr result (λ full. FindsFull seat.old.knows seat.new.knows full.time) }
-{
-    for _ in rt.forever() {
-        match try_write(rt, words, seat, key, value) {
-            Attempt::Written(time) => return Ok(time),
-            Attempt::Full(time) => return Err(Full { time }),
-            Attempt::Lost => {}
+impl<'a, P: Pace, R: Wait> Site<'a, P, R> {
+    /// Tries once to write, in a hold of the lock.
+    fn try_write(&self, seat: &mut RawSeat, key: u64, value: &Option<Value>) -> Attempt
+        requires of { IsSeatOf self.now.words.now seat.old }
+        requires holds { IsInHold seat.old.knows }
+        ensures of { IsSeatOf self.now.words.now seat.new }
+        ensures stays { StaysInHold seat.old.knows seat.new.knows }
+        ensures tries { Tries seat.old.knows seat.new.knows (deed_of key value.now) result }
+    {
+        let words = self.words;
+        let time = match draw(words, seat) {
+            Ok(time) => time,
+            Err(DrawError::Full(time)) => return Attempt::Full(time),
+            Err(DrawError::Raced) => return Attempt::Lost,
+        };
+        let guess = prefetch(words, seat, time, key);
+        fill(words, seat, time, key, value.as_ref());
+        let trace = enter(self.rt, words, seat, DrawnCell { time, key }, &guess);
+        match decide(words, seat, time, &deed_of(key, value), &trace) {
+            Decided::Done => Attempt::Written(time),
+            Decided::Overtaken => Attempt::Lost,
         }
     }
-    unreachable!()
+
+    /// Writes, in a hold of the lock, and tries until the write stands or the clock is at the
+    /// limit.
+    #[tactic(auto, using(crate::proofs::Rest::records_later, crate::proofs::Rest::full_later, crate::proofs::Rest::still_trans))]
+    fn write_held(&self, seat: &mut RawSeat, key: u64, value: &Option<Value>) -> Result<Time, Full>
+        requires of { IsSeatOf self.now.words.now seat.old }
+        requires holds { IsInHold seat.old.knows }
+        ensures of { IsSeatOf self.now.words.now seat.new }
+        ensures stays { StaysInHold seat.old.knows seat.new.knows }
+        ensures written { IfOk result (λ time. Records seat.old.knows seat.new.knows time (deed_of key value.now)) }
+        ensures full { IfErr result (λ full. FindsFull seat.old.knows seat.new.knows full.time) }
+    {
+        for _ in self.rt.forever() {
+            match self.try_write(seat, key, value) {
+                Attempt::Written(time) => return Ok(time),
+                Attempt::Full(time) => return Err(Full { time }),
+                Attempt::Lost => {}
+            }
+        }
+        unreachable!()
+    }
 }
 
 /// Writes the value at the key, or with `None` removes it, and waits for the lock.
@@ -107,7 +97,7 @@ pub fn write<P: Pace, R: Wait>(
     ensures full { IfErr result (λ full. FindsFull seat.old.knows seat.new.knows full.time) }
 {
     lock_shared(rt, words, seat);
-    let answer = write_in_hold(rt, words, seat, key, value);
+    let answer = Site { rt, words }.write_held(seat, key, value);
     unlock_shared(words, seat);
     answer
 }

@@ -7,6 +7,8 @@ returns-in-Ok-clause-written g c = answers_after _ _ _ _ _ c.loop.invariant.refu
 pub loop-preserved : goal.loop-preserved
 loop-preserved g c = record {
   refused = refuses_trans c.args.caller.now.seat c.loop.caller.seat c.try_write.new.caller.seat c.loop.invariant.refused c.in-Err.ensures.full.refused;
-  cancels = cancels_trans c.args.caller.now.seat.tally c.loop.caller.seat.tally c.try_write.new.caller.seat.tally c.loop.invariant.cancels c.try_write.ensures.cancels;
+  cancels =
+      cancels_trans c.args.caller.now.seat.tally c.loop.caller.seat.tally c.try_write.new.caller.seat.tally c.loop.invariant.cancels
+      c.try_write.ensures.cancels;
   more = (tt, tt);
 }

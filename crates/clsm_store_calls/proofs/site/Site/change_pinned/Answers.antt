@@ -3,7 +3,7 @@ use Rattle.clsm_store_calls.specs.declared.changing.ChangeAttempt.TheVariants.{D
 use Rattle.clsm_store_calls.proofs.Attempts.{does_later}
 use Rattle.clsm_store_calls.proofs.Giving.{gives_again}
 use Rattle.clsm_store_calls.proofs.Rest.{full_later, still_trans}
-use Rattle.clsm_store_calls.proofs.changing.change_pinned.Goals as goal
+use Rattle.clsm_store_calls.proofs.site.Site.change_pinned.Goals as goal
 
 pub returns-in-Done-clause-spared : goal.returns-in-Done-clause-spared
 returns-in-Done-clause-spared g c =
@@ -18,10 +18,12 @@ returns-in-Full-clause-spared g c =
 pub loop-preserved : goal.loop-preserved
 loop-preserved g c = record {
   of = c.try_change.ensures.of;
-  pinned = c.try_change.ensures.pinned;
+  stays = record {
+    pinned = c.try_change.ensures.stays.pinned;
+    entered = c.try_change.ensures.stays.entered ∙ c.loop.invariant.stays.entered;
+    patient = c.try_change.ensures.stays.patient ∙ c.loop.invariant.stays.patient;
+  };
   still = still_trans c.args.seat.now.knows c.loop.seat.knows c.try_change.new.seat.knows c.loop.invariant.still c.in-Lost.ensures.changes.still;
-  entered = c.try_change.ensures.entered ∙ c.loop.invariant.entered;
-  patient = c.try_change.ensures.patient ∙ c.loop.invariant.patient;
   spared = gives_again c.args.seat.now.knows c.loop.seat.knows c.try_change.new.seat.knows c.args.component c.args.modification.now.key Lost
       c.loop.invariant.still c.in-Lost.ensures.changes c.loop.invariant.spared c.try_change.ensures.spared;
   more = (tt, tt);

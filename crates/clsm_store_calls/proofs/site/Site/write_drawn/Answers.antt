@@ -11,7 +11,7 @@ use Rattle.clsm_words.specs.declared.known.Known.{Known}
 use Rattle.clsm_words.specs.Knowing.{Opens}
 use Rattle.clsm_memtable.proofs.Entries.{looks_out}
 use Rattle.clsm_store_calls.specs.Changing.{deed_by}
-use Rattle.clsm_store_calls.proofs.changing.write_drawn.Goals as goal
+use Rattle.clsm_store_calls.proofs.site.Site.write_drawn.Goals as goal
 
 -- what was read stays so, as long as the past does
 read_on : (k k' : Known) (t : ℕ) (deed : Deed) → k'.past ≡ k.past → k'.view.past ≡ k.view.past → IsReadBelow (plain k.past) k.view t deed

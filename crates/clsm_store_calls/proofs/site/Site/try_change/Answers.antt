@@ -3,7 +3,7 @@ use Rattle.clsm_store_calls.specs.declared.got.Rmw.{Rmw}
 use Rattle.clsm_store_calls.specs.Changing.{GivesUpOnce}
 use Rattle.clsm_store_calls.proofs.Attempts.{tries_later}
 use Rattle.clsm_store_calls.proofs.Giving.{gives_read}
-use Rattle.clsm_store_calls.proofs.changing.try_change.Goals as goal
+use Rattle.clsm_store_calls.proofs.site.Site.try_change.Goals as goal
 
 pub returns-clause-changes : goal.returns-clause-changes
 returns-clause-changes g c =

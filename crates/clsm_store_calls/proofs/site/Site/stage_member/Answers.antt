@@ -3,7 +3,7 @@ use Rattle.clsm_law.specs.Relation.{member_of}
 use Rattle.clsm_memtable.proofs.Entries.{looks_out}
 use Rattle.clsm_store_calls.specs.Resting.{deed_of}
 use Rattle.clsm_store_calls.proofs.Staged.{one_member, staged_one}
-use Rattle.clsm_store_calls.proofs.batching.stage_member.Goals as goal
+use Rattle.clsm_store_calls.proofs.site.Site.stage_member.Goals as goal
 
 pub returns-clause-staged : goal.returns-clause-staged
 returns-clause-staged g c =

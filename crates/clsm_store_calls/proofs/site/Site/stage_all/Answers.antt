@@ -1,7 +1,7 @@
 use Rattle.std.proofs.Common.{ap, sym, arith, ◌∙◌}
 use Rattle.clsm_model.specs.Right.{Member}
 use Rattle.clsm_store_calls.proofs.Staged.{staged_next, write_at}
-use Rattle.clsm_store_calls.proofs.batching.stage_all.Goals as goal
+use Rattle.clsm_store_calls.proofs.site.Site.stage_all.Goals as goal
 
 pub stage_member-requires-clause-writes : goal.stage_member-requires-clause-writes
 stage_member-requires-clause-writes g c = λ keeps.

@@ -1,6 +1,6 @@
 use Rattle.std.proofs.Common.{arith, length}
 use Rattle.clsm_store_calls.proofs.Staged.{may_stage, no_room}
-use Rattle.clsm_store_calls.proofs.batching.batch_in_hold.Goals as goal
+use Rattle.clsm_store_calls.proofs.site.Site.batch_in_hold.Goals as goal
 
 pub returns-then-members-room-clause-refused : goal.returns-then-members-room-clause-refused
 returns-then-members-room-clause-refused g c =

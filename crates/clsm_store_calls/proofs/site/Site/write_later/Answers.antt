@@ -7,7 +7,7 @@ use Rattle.clsm_store_calls.proofs.DrawsAgain.{still_at_last}
 use Rattle.clsm_store_calls.proofs.Rest.{records_later, still_reads, still_trans}
 use Rattle.clsm_store_calls.specs.Changing.{deed_by}
 use Rattle.clsm_store_calls.proofs.Unchanged.{value_later}
-use Rattle.clsm_store_calls.proofs.changing.write_later.Goals as goal
+use Rattle.clsm_store_calls.proofs.site.Site.write_later.Goals as goal
 
 pub is_unchanged-requires-clause-later : goal.is_unchanged-requires-clause-later
 is_unchanged-requires-clause-later g c = let a = c.requires.reads.settled in let b = c.show_invariant.ensures.length_is in let d =
@@ -28,13 +28,10 @@ write_drawn-requires-clause-read g c =
 
 pub returns-then-not-is_unchanged-clause-spared : goal.returns-then-not-is_unchanged-clause-spared
 returns-then-not-is_unchanged-clause-spared g c =
-    let k = c.args.seat.now.knows in
-    let drawn = c.draw_at_last.new.seat.knows in
-    let read = c.is_unchanged.new.seat.knows in
     let gave = c.give_up.ensures.given_up in
     let same = ap (λ (v : View). v.gave_up) c.is_unchanged.ensures.reads.view ∙ ap (λ (v : View). v.gave_up) c.in-Ok.ensures.drawn.view in
-    given_up_once k read c.give_up.new.seat.knows c.args.modified.now.key c.args.modified.now.read.time same gave.place.past gave.counted
-    (c.is_unchanged.ensures.written c.if-not-is_unchanged.true)
+    given_up_once c.args.seat.now.knows c.is_unchanged.new.seat.knows c.give_up.new.seat.knows c.args.modified.now.key c.args.modified.now.read.time
+    same gave.place.past gave.counted (c.is_unchanged.ensures.written c.if-not-is_unchanged.true)
 
 pub returns-in-Done-clause-writes : goal.returns-in-Done-clause-writes
 returns-in-Done-clause-writes g c =
