@@ -97,14 +97,10 @@ impl Call {
                 (scan.time, Deed::Scan { lo, hi, rows })
             }
             (Call::Page { from, hi, max }, Answer::Page(Ok(page))) => {
-                let deed = Deed::Page {
-                    from: *from,
-                    hi: *hi,
-                    max: *max,
-                    rows: page.rows.clone()?,
-                    more: page.more,
-                };
-                (page.time, deed)
+                let (from, hi, max) = (*from, *hi, *max);
+                let range = PageRange { from, hi, max };
+                let (rows, more) = (page.rows.clone()?, page.more);
+                (page.time, Deed::Page { range, rows, more })
             }
             (Call::Batch { members }, Answer::Batch(Ok(time))) => {
                 let members = members.clone()?;
