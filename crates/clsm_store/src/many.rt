@@ -11,8 +11,8 @@ use crate::store::Store;
 use clsm_model::{Deed, Memory, Time, Value};
 use clsm_scan::{Bounds, Calling, Passing, Visitor};
 use clsm_store_calls::{
-    Asked, Counted, OpenSnapshot, Page, Scan, Visit, scan_at, scan_now, scan_under, visit_at,
-    visit_under,
+    Asked, Counted, OpenSnapshot, Page, Scan, Visit, Request, scan_at, scan_now, scan_under,
+    visit_at, visit_under,
 };
 use clsm_words::Pace;
 use std::alloc::Global;
@@ -31,14 +31,15 @@ impl<P: Pace> Store<P> {
         ensures lock { TakesNoLock seat.old.tally seat.new.tally }
         ensures refused { IfErr result (λ refusal. Refuses seat.old seat.new) }
     {
+        let wanted = Request { alloc, asked };
         let read = match seat.snapshot {
-            None => scan_at(&self.words, &mut seat.raw, alloc, seat.pin, asked),
+            None => scan_at(&self.words, &mut seat.raw, seat.pin, wanted),
             Some(time) => {
                 let snapshot = OpenSnapshot {
                     pin_word: seat.pin,
                     time,
                 };
-                scan_under(&self.words, &mut seat.raw, alloc, snapshot, asked)
+                scan_under(&self.words, &mut seat.raw, snapshot, wanted)
             }
         };
         seat.pin = seat.pin.wrapping_add(2);
@@ -98,7 +99,11 @@ impl<P: Pace> Store<P> {
         ensures refused { IfErr result (λ refusal. Refuses seat.old seat.new) }
     {
         let bounds = Bounds { lo, hi };
-        let scan = scan_now(&self.words, &mut seat.raw, alloc, seat.pin, bounds);
+        let wanted = Request {
+            alloc,
+            asked: bounds,
+        };
+        let scan = scan_now(&self.words, &mut seat.raw, seat.pin, wanted);
         seat.pin = seat.pin.wrapping_add(2);
         scan
     }

@@ -1,20 +1,14 @@
 -- Looks at how full an epoch is: by a caller's seat, and by the merger.
 use Rattle.std.specs.Prelude.{◌≡◌, ℕ, ◌-◌, ◌*◌, ◌≤◌, Some}
 use Rattle.clsm_words.specs.declared.known.Known.{Known}
+use Rattle.clsm_store_calls.specs.Resting.{OnlyLooks}
 use Rattle.clsm_store_calls.specs.Seats.{CleanState, SeatState}
 use Rattle.clsm_store_calls.specs.Tally.{tally_of}
 
 -- the seat looked at the limit and the clock, and found so many times left: it is as it was, but for
 -- what it looked at
 pub record LooksForRoom (old new : Known) (left : ℕ) : Type 0 where
-  pub number : new.number ≡ old.number
-  pub layout : new.layout ≡ old.layout
-  pub past : new.past ≡ old.past
-  pub batches : new.batches ≡ old.batches
-  pub pin : new.view.pin ≡ old.view.pin
-  pub snapshot : new.view.snapshot ≡ old.view.snapshot
-  pub calls : new.view.calls ≡ old.view.calls
-  pub due : new.view.due ≡ old.view.due
+  pub only : OnlyLooks old new
   pub limit : ℕ
   pub tally : tally_of new ≡ record (tally_of old) { limit = Some limit }
   pub clock : ℕ

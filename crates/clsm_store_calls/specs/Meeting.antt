@@ -3,15 +3,13 @@ use Rattle.std.specs.Prelude.{◌≡◌, ℕ, ◌≤◌, length, Some}
 use Rattle.clsm_model.specs.History.{IsBeginning}
 use Rattle.clsm_words.specs.declared.known.Known.{Known}
 use Rattle.clsm_words.specs.Knowing.{Agrees, known_of, told_of}
+use Rattle.clsm_store_calls.specs.Resting.{GoesOn, OnlyLooks}
 use Rattle.clsm_store_calls.specs.Tally.{TakesNoLock, tally_of}
 
 -- it read at the time, which is the clock as it looked at it then and is now its due, and knows all
 -- that it was told
 pub record MeetsAt (old new : Known) (t : ℕ) : Type 0 where
-  pub number : new.number ≡ old.number
-  pub layout : new.layout ≡ old.layout
-  pub past : IsBeginning (known_of old) (known_of new)
-  pub snapshot : new.view.snapshot ≡ old.view.snapshot
+  pub goes_on : GoesOn old new
   pub calls : new.view.calls ≡ old.view.calls
   pub due : new.view.due ≡ t
   pub read : new.view.clock ≡ Some t
@@ -24,14 +22,7 @@ pub record MeetsAt (old new : Known) (t : ℕ) : Type 0 where
 -- one look, after which its calls are known to agree with what it was told: contracts see the same
 -- seat
 pub record Confirms (old new : Known) : Type 0 where
-  pub number : new.number ≡ old.number
-  pub layout : new.layout ≡ old.layout
-  pub past : new.past ≡ old.past
-  pub batches : new.batches ≡ old.batches
-  pub pin : new.view.pin ≡ old.view.pin
-  pub snapshot : new.view.snapshot ≡ old.view.snapshot
-  pub calls : new.view.calls ≡ old.view.calls
-  pub due : new.view.due ≡ old.view.due
+  pub only : OnlyLooks old new
   pub tally : tally_of new ≡ tally_of old
   pub clock : new.view.clock ≡ old.view.clock
   pub agrees : Agrees old.layout.seats old.number old.view.calls (told_of old)

@@ -1,13 +1,12 @@
 -- A read at the words, from its pin to its record.
 use Rattle.std.specs.Prelude.{◌≡◌, ℕ, ◌+◌, ◌*◌, ◌≤◌, ◌⊎◌, ◌++◌, ◌∷◌, [], true, length, Some, None}
-use Rattle.clsm_model.specs.History.{IsBeginning}
 use Rattle.clsm_model.specs.declared.record.Deed.{Deed}
 use Rattle.clsm_law.specs.declared.view.Mode.TheVariants.{Free}
 use Rattle.clsm_law.specs.Views.{next_word}
 use Rattle.clsm_law.specs.OpenSteps.{open_time}
 use Rattle.clsm_law.specs.Relation.{call_of}
 use Rattle.clsm_words.specs.declared.known.Known.{Known}
-use Rattle.clsm_words.specs.Knowing.{known_of}
+use Rattle.clsm_store_calls.specs.Resting.{GoesOn}
 use Rattle.clsm_store_calls.specs.Tally.{TakesNoLock, tally_of}
 
 -- a read of the held component may be at the time: nothing that is merged into it is later, or the
@@ -25,15 +24,12 @@ pub record MayReadBelow (k : Known) (component time : ℕ) : Type 0 where
 
 -- it pinned the component, and looked at the clock, which gave it the time
 pub record BeginsRead (old new : Known) (component t : ℕ) : Type 0 where
-  pub number : new.number ≡ old.number
-  pub layout : new.layout ≡ old.layout
-  pub past : IsBeginning (known_of old) (known_of new)
+  pub goes_on : GoesOn old new
   pub free : new.view.mode ≡ Free
   pub unlooked : new.view.fresh_lock ≡ None
   pub undrawn : new.view.drawn ≡ None
   pub pinned : new.view.pinned ≡ true
   pub pin : new.view.pin ≡ next_word old.view.pin
-  pub snapshot : new.view.snapshot ≡ old.view.snapshot
   pub calls : new.view.calls ≡ old.view.calls
   pub due : new.view.due ≡ old.view.due
   pub held : new.view.held ≡ Some component
@@ -51,10 +47,7 @@ pub record BeginsRead (old new : Known) (component t : ℕ) : Type 0 where
 
 -- it read at the time, and the read is recorded
 pub record ReadsAt (old new : Known) (t : ℕ) (deed : Deed) : Type 0 where
-  pub number : new.number ≡ old.number
-  pub layout : new.layout ≡ old.layout
-  pub past : IsBeginning (known_of old) (known_of new)
-  pub snapshot : new.view.snapshot ≡ old.view.snapshot
+  pub goes_on : GoesOn old new
   pub calls : new.view.calls ≡ old.view.calls ++ call_of old.number t deed ∷ []
   pub due : new.view.due ≡ t
   pub above : old.view.due ≤ t

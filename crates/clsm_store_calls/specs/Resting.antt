@@ -12,6 +12,7 @@ use Rattle.clsm_law.specs.Relation.{call_of}
 use Rattle.clsm_words.specs.declared.known.Known.{Known}
 use Rattle.clsm_words.specs.Knowing.{known_of}
 use Rattle.clsm_words.specs.declared.words.WordTable.{WordTable}
+use Rattle.clsm_words.specs.Plays.{IsSeatOf}
 use Rattle.clsm_words.specs.Seats.{RawState as RawState}
 use Rattle.clsm_store_calls.specs.Seats.{SeatState, StoreId}
 use Rattle.clsm_store_calls.specs.Tally.{counted}
@@ -54,6 +55,12 @@ pub record IsAtRest (k : Known) : Type 0 where
   pub unpinned : k.view.pinned ≡ false
   pub settled : IsSettled k.view.snapshot
 
+-- the seat is one of these words, and at rest; this is the word of its pin
+pub record RestsAt (words : WordTable) (seat : RawState) (pin_word : ℕ) : Type 0 where
+  pub of : IsSeatOf words seat
+  pub rests : IsAtRest seat.knows
+  pub pin : pin_word ≡ seat.knows.view.pin
+
 -- it holds the lock, and has drawn nothing
 pub record IsInHold (k : Known) : Type 0 where
   pub shared : k.view.mode ≡ Shared
@@ -62,12 +69,30 @@ pub record IsInHold (k : Known) : Type 0 where
   pub settled : IsSettled k.view.snapshot
 
 -- it is the seat that it was, with the snapshot that it had, and its past only grew
+pub record GoesOn (old new : Known) : Type 0 where
+  pub number : new.number ≡ old.number
+  pub layout : new.layout ≡ old.layout
+  pub past : IsBeginning (known_of old) (known_of new)
+  pub snapshot : new.view.snapshot ≡ old.view.snapshot
+
+-- and it read nothing meanwhile: its pin stayed too
 pub record Keeps (old new : Known) : Type 0 where
   pub number : new.number ≡ old.number
   pub layout : new.layout ≡ old.layout
   pub past : IsBeginning (known_of old) (known_of new)
   pub pin : new.view.pin ≡ old.view.pin
   pub snapshot : new.view.snapshot ≡ old.view.snapshot
+
+-- it only looked, and learned of no time more
+pub record OnlyLooks (old new : Known) : Type 0 where
+  pub number : new.number ≡ old.number
+  pub layout : new.layout ≡ old.layout
+  pub past : new.past ≡ old.past
+  pub batches : new.batches ≡ old.batches
+  pub pin : new.view.pin ≡ old.view.pin
+  pub snapshot : new.view.snapshot ≡ old.view.snapshot
+  pub calls : new.view.calls ≡ old.view.calls
+  pub due : new.view.due ≡ old.view.due
 
 -- no call was made
 pub record Still (old new : Known) : Type 0 where

@@ -3,17 +3,17 @@ use Rattle.std.specs.List.{FoldsTo}
 use Rattle.std.specs.Prelude.{◌≡◌, ℕ, ◌≤◌, [], List, length, Option, Some, None}
 use Rattle.clsm_model.specs.declared.record.Deed.{Deed}
 use Rattle.clsm_model.specs.declared.record.Deed.TheVariants.{Get, Scan, Page}
-use Rattle.clsm_model.specs.History.{History, IsBeginning, end_of}
+use Rattle.clsm_model.specs.History.{History, end_of}
 use Rattle.clsm_law.specs.declared.step.End.{End}
 use Rattle.clsm_law.specs.declared.step.End.TheVariants.{Recorded}
 use Rattle.clsm_model.specs.Map.{IsRange, Pair}
 use Rattle.clsm_model.specs.Right.{IsPage, page_deed}
 use Rattle.clsm_scan.specs.declared.collecting.KeyRange.{KeyRange}
 use Rattle.clsm_words.specs.declared.known.Known.{Known}
-use Rattle.clsm_words.specs.Knowing.{known_of}
 use Rattle.clsm_store_calls.specs.declared.scanning.Asked.{Asked}
 use Rattle.clsm_store_calls.specs.declared.scanning.Asked.TheVariants.{All, First}
 use Rattle.clsm_store_calls.specs.Seats.{Answers, SeatState, known_by}
+use Rattle.clsm_store_calls.specs.Resting.{GoesOn}
 use Rattle.clsm_store_calls.specs.Tally.{TakesNoLock, tally_of}
 
 -- the first key and the last one that were asked for, and how many pairs at most
@@ -39,10 +39,7 @@ IsAnswerTo asked deed = ⊥
 
 -- the read was given up: nothing is recorded
 pub record GivesUpRead (old new : Known) : Type 0 where
-  pub number : new.number ≡ old.number
-  pub layout : new.layout ≡ old.layout
-  pub past : IsBeginning (known_of old) (known_of new)
-  pub snapshot : new.view.snapshot ≡ old.view.snapshot
+  pub goes_on : GoesOn old new
   pub calls : new.view.calls ≡ old.view.calls
   pub due : new.view.due ≡ old.view.due
   pub unlocked : TakesNoLock (tally_of old) (tally_of new)

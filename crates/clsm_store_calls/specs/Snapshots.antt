@@ -7,6 +7,7 @@ use Rattle.clsm_law.specs.OpenSteps.{open_time}
 use Rattle.clsm_law.specs.Relation.{call_of}
 use Rattle.clsm_words.specs.declared.known.Known.{Known}
 use Rattle.clsm_words.specs.Knowing.{known_of}
+use Rattle.clsm_store_calls.specs.Resting.{GoesOn}
 use Rattle.clsm_store_calls.specs.Tally.{TakesNoLock, tally_of}
 
 -- it opened a snapshot at the time, which is recorded, and below which the seat knows all
@@ -22,10 +23,7 @@ pub record OpensAt (old new : Known) (t : ℕ) : Type 0 where
 
 -- it read under the snapshot of this time, and the read is recorded there
 pub record ReadsUnder (old new : Known) (t : ℕ) (deed : Deed) : Type 0 where
-  pub number : new.number ≡ old.number
-  pub layout : new.layout ≡ old.layout
-  pub past : IsBeginning (known_of old) (known_of new)
-  pub snapshot : new.view.snapshot ≡ old.view.snapshot
+  pub goes_on : GoesOn old new
   pub calls : new.view.calls ≡ old.view.calls ++ call_of old.number t deed ∷ []
   pub due : new.view.due ≡ old.view.due
   pub tally : tally_of new ≡ tally_of old

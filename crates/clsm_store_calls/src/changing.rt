@@ -28,6 +28,7 @@ use clsm_memtable::{
 };
 use clsm_model::{Change, Deed, Time, Value};
 use clsm_pins::{pin, unpin};
+use clsm_scan::ReadPoint;
 use clsm_words::{Pace, RawSeat, Words};
 use std::sync::Wait;
 
@@ -113,7 +114,8 @@ fn value_now<P: Pace>(words: &Words<P>, seat: &mut RawSeat, component: u64, key:
 {
     let time = words.look(seat, Word::Clock);
     settle_below(words, seat, component, time);
-    let value = value_below(words, seat, component, key, time);
+    let until = time;
+    let value = value_below(words, seat, ReadPoint { component, until }, key);
     Got { time, value }
 }
 

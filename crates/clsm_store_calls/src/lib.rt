@@ -34,7 +34,7 @@ pub use merging::merge;
 pub use reading::read;
 pub use reclaiming::reclaim;
 pub use refusal::{BatchError, Full, Open, Pinned, TryPutError, Worn};
-pub use scanning::{Asked, scan_at, scan_now, scan_under};
+pub use scanning::{Asked, Request, scan_at, scan_now, scan_under};
 pub use snapshotting::{OpenSnapshot, open_at, read_under};
 pub use trying::try_write;
 pub use visiting::{Visit, visit_at, visit_under};

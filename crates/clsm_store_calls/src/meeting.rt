@@ -1,32 +1,25 @@
 //! Meetings at the words.
-ghost use Rattle.std.specs.Prelude.{◌≡◌};
 ghost use Rattle.clsm_law.specs.Views.{next_word};
 ghost use Rattle.clsm_words.specs.Plays.{IsSeatOf};
 ghost use Rattle.clsm_store_calls.specs.Meeting.{Confirms, MeetsAt};
-ghost use Rattle.clsm_store_calls.specs.Resting.{IsAtRest};
+ghost use Rattle.clsm_store_calls.specs.Resting.{IsAtRest, RestsAt};
 
 use crate::reading::begin;
 use clsm_law::{End, Word};
-use clsm_memtable::settle_below;
 use clsm_model::Time;
 use clsm_pins::unpin;
 use clsm_words::{Pace, RawSeat, Words};
 
 /// Reads at a time of its own, with no search and no record: all below that time is settled.
 pub fn meet_at<P: Pace>(words: &Words<P>, seat: &mut RawSeat, pin_word: u64) -> Time
-    requires of { IsSeatOf words.now seat.old }
-    requires rests { IsAtRest seat.old.knows }
-    requires pin { pin_word ≡ seat.old.knows.view.pin }
-    ensures of { IsSeatOf words.now seat.new }
-    ensures rests { IsAtRest seat.new.knows }
-    ensures pin { seat.new.knows.view.pin ≡ next_word (next_word pin_word) }
+    requires rests { RestsAt words.now seat.old pin_word }
+    ensures rests { RestsAt words.now seat.new (next_word (next_word pin_word)) }
     ensures meets { MeetsAt seat.old.knows seat.new.knows result }
 {
-    let (component, time) = begin(words, seat, pin_word);
-    settle_below(words, seat, component, time);
+    let point = begin(words, seat, pin_word);
     seat.show_invariant();
     unpin(words, seat, pin_word.wrapping_add(1), &End::Meeting);
-    time
+    point.until
 }
 
 /// Looks once, so that the seat's calls are known to agree with what it was told.

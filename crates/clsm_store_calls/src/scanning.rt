@@ -11,18 +11,17 @@ ghost use Rattle.clsm_law.specs.OpenSteps.{open_time};
 ghost use Rattle.clsm_words.specs.Keeping.{Looks};
 ghost use Rattle.clsm_pins.specs.Pinning.{Unpins};
 ghost use Rattle.clsm_words.specs.Plays.{IsSeatOf, MayPlay};
-ghost use Rattle.clsm_store_calls.specs.Resting.{IsAtRest};
+ghost use Rattle.clsm_store_calls.specs.Resting.{RestsAt};
 ghost use Rattle.clsm_store_calls.specs.Reading.{MayReadBelow, ReadsAt};
 ghost use Rattle.clsm_store_calls.specs.Snapshots.{ReadsUnder};
 ghost use Rattle.clsm_store_calls.specs.Scanning.{GivesAsked, GivesUpRead, IsAnswerTo, IsRecord, range_of};
 
 use crate::got::{Got, Scan};
 use crate::reading::{begin, end_of, value_below};
-use crate::snapshotting::OpenSnapshot;
+use crate::snapshotting::{OpenSnapshot, begin_under};
 use clsm_law::End;
-use clsm_memtable::settle_below;
 use clsm_model::{Deed, Memory, PageRange, Rows, Time};
-use clsm_pins::{pin, unpin};
+use clsm_pins::unpin;
 use clsm_scan::{Bounds, Collected, KeyRange, ReadPoint, scan};
 use clsm_words::{Pace, RawSeat, Words};
 use std::alloc::Global;
@@ -34,6 +33,13 @@ pub enum Asked {
     All(u64, u64),
     /// So many of the first.
     First(u64, u64, usize),
+}
+
+/// What a scan asks for, and where it takes memory for the rows of its answer.
+#[derive(Clone, Copy)]
+pub struct Request<A> {
+    pub alloc: Global,
+    pub asked: A,
 }
 
 /// The deed that answers it with these rows.
@@ -85,20 +91,19 @@ impl Asked {
 fn deed_below<P: Pace>(
     words: &Words<P>,
     seat: &mut RawSeat,
-    alloc: Global,
     point: ReadPoint,
-    asked: Asked,
+    wanted: Request<Asked>,
 ) -> Result<Deed, Memory>
     requires of { IsSeatOf words.now seat.old }
     requires may { MayReadBelow seat.old.knows point.component point.until }
     ensures of { IsSeatOf words.now seat.new }
     ensures looks { Looks seat.old.knows seat.new.knows }
     ensures reads { IfOk result (Reads (plain seat.old.knows.past) point.until) }
-    ensures answers { IfOk result (IsAnswerTo asked) }
+    ensures answers { IfOk result (IsAnswerTo wanted.asked) }
 {
     seat.show_invariant();
-    let found = scan(words, seat, alloc, point, asked.range())?;
-    Ok(deed_of(asked, found))
+    let found = scan(words, seat, wanted.alloc, point, wanted.asked.range())?;
+    Ok(deed_of(wanted.asked, found))
 }
 
 /// Ends the read: with the record of its deed, or with nothing where it was refused.
@@ -132,79 +137,59 @@ fn end<P: Pace>(
 pub fn scan_at<P: Pace>(
     words: &Words<P>,
     seat: &mut RawSeat,
-    alloc: Global,
     pin_word: u64,
-    asked: Asked,
+    wanted: Request<Asked>,
 ) -> Result<(Time, Deed), Memory>
-    requires of { IsSeatOf words.now seat.old }
-    requires rests { IsAtRest seat.old.knows }
-    requires pin { pin_word ≡ seat.old.knows.view.pin }
+    requires rests { RestsAt words.now seat.old pin_word }
     requires none { open_time seat.old.knows.view.snapshot ≡ None }
-    ensures of { IsSeatOf words.now seat.new }
-    ensures rests { IsAtRest seat.new.knows }
-    ensures pin { seat.new.knows.view.pin ≡ next_word (next_word pin_word) }
+    ensures rests { RestsAt words.now seat.new (next_word (next_word pin_word)) }
     ensures reads { IfOk result (λ read. ReadsAt seat.old.knows seat.new.knows read.0 read.1) }
-    ensures answers { IfOk result (λ read. IsAnswerTo asked read.1) }
+    ensures answers { IfOk result (λ read. IsAnswerTo wanted.asked read.1) }
     ensures given_up { IfErr result (λ refusal. GivesUpRead seat.old.knows seat.new.knows) }
 {
-    let (component, time) = begin(words, seat, pin_word);
-    settle_below(words, seat, component, time);
-    let point = ReadPoint {
-        component,
-        until: time,
-    };
-    let read = deed_below(words, seat, alloc, point, asked);
+    let point = begin(words, seat, pin_word);
+    let read = deed_below(words, seat, point, wanted);
     let deed = end(words, seat, pin_word.wrapping_add(1), read)?;
-    Ok((time, deed))
+    Ok((point.until, deed))
 }
 
 /// What was asked, at the time of the open snapshot.
 pub fn scan_under<P: Pace>(
     words: &Words<P>,
     seat: &mut RawSeat,
-    alloc: Global,
     snapshot: OpenSnapshot,
-    asked: Asked,
+    wanted: Request<Asked>,
 ) -> Result<(Time, Deed), Memory>
-    requires of { IsSeatOf words.now seat.old }
-    requires rests { IsAtRest seat.old.knows }
-    requires pin { snapshot.pin_word ≡ seat.old.knows.view.pin }
+    requires rests { RestsAt words.now seat.old snapshot.pin_word }
     requires opened { open_time seat.old.knows.view.snapshot ≡ Some snapshot.time }
-    ensures of { IsSeatOf words.now seat.new }
-    ensures rests { IsAtRest seat.new.knows }
-    ensures pin { seat.new.knows.view.pin ≡ next_word (next_word snapshot.pin_word) }
+    ensures rests { RestsAt words.now seat.new (next_word (next_word snapshot.pin_word)) }
     ensures time { IfOk result (λ read. read.0 ≡ snapshot.time) }
     ensures reads { IfOk result (λ read. ReadsUnder seat.old.knows seat.new.knows snapshot.time read.1) }
-    ensures answers { IfOk result (λ read. IsAnswerTo asked read.1) }
+    ensures answers { IfOk result (λ read. IsAnswerTo wanted.asked read.1) }
     ensures given_up { IfErr result (λ refusal. GivesUpRead seat.old.knows seat.new.knows) }
 {
-    let OpenSnapshot { pin_word, time } = snapshot;
-    let component = pin(words, seat, pin_word);
-    seat.show_invariant();
-    let point = ReadPoint {
-        component,
-        until: time,
-    };
-    let read = deed_below(words, seat, alloc, point, asked);
-    let deed = end(words, seat, pin_word.wrapping_add(1), read)?;
-    Ok((time, deed))
+    let point = begin_under(words, seat, snapshot);
+    let read = deed_below(words, seat, point, wanted);
+    let deed = end(words, seat, snapshot.pin_word.wrapping_add(1), read)?;
+    Ok((snapshot.time, deed))
 }
 
 /// All pairs within the bounds at the point, which is as `deed_below` wants it.
 fn rows_below<P: Pace>(
     words: &Words<P>,
     seat: &mut RawSeat,
-    alloc: Global,
     point: ReadPoint,
-    bounds: Bounds,
+    wanted: Request<Bounds>,
 ) -> Result<Rows, Memory>
     requires of { IsSeatOf words.now seat.old }
     requires may { MayReadBelow seat.old.knows point.component point.until }
     ensures of { IsSeatOf words.now seat.new }
     ensures looks { Looks seat.old.knows seat.new.knows }
-    ensures rows { IfOk result (IsRange (plain seat.old.knows.past) point.until bounds.lo bounds.hi) }
+    ensures rows { IfOk result (IsRange (plain seat.old.knows.past) point.until wanted.asked.lo wanted.asked.hi) }
 {
-    match deed_below(words, seat, alloc, point, Asked::All(bounds.lo, bounds.hi))? {
+    let Request { alloc, asked } = wanted;
+    let asked = Asked::All(asked.lo, asked.hi);
+    match deed_below(words, seat, point, Request { alloc, asked })? {
         Deed::Scan { rows, .. } => Ok(rows),
         _ => unreachable!(),
     }
@@ -215,37 +200,24 @@ fn rows_below<P: Pace>(
 pub fn scan_now<P: Pace>(
     words: &Words<P>,
     seat: &mut RawSeat,
-    alloc: Global,
     pin_word: u64,
-    bounds: Bounds,
+    wanted: Request<Bounds>,
 ) -> Result<Scan, Memory>
-    requires of { IsSeatOf words.now seat.old }
-    requires rests { IsAtRest seat.old.knows }
-    requires pin { pin_word ≡ seat.old.knows.view.pin }
-    ensures of { IsSeatOf words.now seat.new }
-    ensures rests { IsAtRest seat.new.knows }
-    ensures pin { seat.new.knows.view.pin ≡ next_word (next_word pin_word) }
-    ensures reads { IfOk result (λ scan. (reply : Option (List ℕ)) × ReadsAt seat.old.knows seat.new.knows scan.time (Get bounds.lo reply)) }
+    requires rests { RestsAt words.now seat.old pin_word }
+    ensures rests { RestsAt words.now seat.new (next_word (next_word pin_word)) }
+    ensures reads { IfOk result (λ scan. (reply : Option (List ℕ)) × ReadsAt seat.old.knows seat.new.knows scan.time (Get wanted.asked.lo reply)) }
     ensures reached { IfOk result (λ scan. scan.time ≤ length seat.new.knows.past) }
-    ensures rows { IfOk result (λ scan. IsRange (plain seat.new.knows.past) scan.time bounds.lo bounds.hi scan.rows) }
+    ensures rows { IfOk result (λ scan. IsRange (plain seat.new.knows.past) scan.time wanted.asked.lo wanted.asked.hi scan.rows) }
     ensures given_up { IfErr result (λ refusal. GivesUpRead seat.old.knows seat.new.knows) }
 {
-    let (component, time) = begin(words, seat, pin_word);
-    settle_below(words, seat, component, time);
-    let value = value_below(words, seat, component, bounds.lo, time);
-    let point = ReadPoint {
-        component,
-        until: time,
-    };
+    let point = begin(words, seat, pin_word);
+    let key = wanted.asked.lo;
+    let value = value_below(words, seat, point, key);
     let pin_word = pin_word.wrapping_add(1);
-    match rows_below(words, seat, alloc, point, bounds) {
+    match rows_below(words, seat, point, wanted) {
         Ok(rows) => {
-            unpin(
-                words,
-                seat,
-                pin_word,
-                &end_of(bounds.lo, &Got { time, value }),
-            );
+            let time = point.until;
+            unpin(words, seat, pin_word, &end_of(key, &Got { time, value }));
             Ok(Scan { time, rows })
         }
         Err(refusal) => {

@@ -5,7 +5,9 @@ ghost use Rattle.clsm_law.specs.declared.step.End.TheVariants.{Recorded};
 ghost use Rattle.clsm_law.specs.Views.{next_word};
 ghost use Rattle.clsm_law.specs.OpenSteps.{open_time};
 ghost use Rattle.clsm_words.specs.Plays.{IsSeatOf};
-ghost use Rattle.clsm_store_calls.specs.Resting.{IsAtRest};
+ghost use Rattle.clsm_store_calls.specs.Resting.{RestsAt};
+ghost use Rattle.clsm_pins.specs.Pinning.{Pins};
+ghost use Rattle.clsm_store_calls.specs.Reading.{MayReadBelow};
 ghost use Rattle.clsm_store_calls.specs.Snapshots.{OpensAt, ReadsUnder};
 
 use crate::got::Got;
@@ -14,6 +16,7 @@ use clsm_law::End;
 use clsm_memtable::settle_below;
 use clsm_model::{Deed, Time};
 use clsm_pins::{open_snapshot, pin, unpin};
+use clsm_scan::ReadPoint;
 use clsm_words::{Pace, RawSeat, Words};
 
 /// The open snapshot of a seat at rest: the word of the seat's pin, and the snapshot's time.
@@ -25,13 +28,9 @@ pub struct OpenSnapshot {
 
 /// Opens a snapshot, at a time of its own: all below it is settled.
 pub fn open_at<P: Pace>(words: &Words<P>, seat: &mut RawSeat, pin_word: u64) -> Time
-    requires of { IsSeatOf words.now seat.old }
-    requires rests { IsAtRest seat.old.knows }
-    requires pin { pin_word ≡ seat.old.knows.view.pin }
+    requires rests { RestsAt words.now seat.old pin_word }
     requires none { open_time seat.old.knows.view.snapshot ≡ None }
-    ensures of { IsSeatOf words.now seat.new }
-    ensures rests { IsAtRest seat.new.knows }
-    ensures pin { seat.new.knows.view.pin ≡ next_word (next_word pin_word) }
+    ensures rests { RestsAt words.now seat.new (next_word (next_word pin_word)) }
     ensures opens { OpensAt seat.old.knows seat.new.knows result }
 {
     let component = pin(words, seat, pin_word);
@@ -44,6 +43,27 @@ pub fn open_at<P: Pace>(words: &Words<P>, seat: &mut RawSeat, pin_word: u64) -> 
         &End::Recorded(Deed::Snapshot),
     );
     time
+}
+
+/// Begins a read at the time of the open snapshot.
+pub(crate) fn begin_under<P: Pace>(
+    words: &Words<P>,
+    seat: &mut RawSeat,
+    snapshot: OpenSnapshot,
+) -> ReadPoint
+    requires rests { RestsAt words.now seat.old snapshot.pin_word }
+    requires opened { open_time seat.old.knows.view.snapshot ≡ Some snapshot.time }
+    ensures of { IsSeatOf words.now seat.new }
+    ensures pins { Pins seat.old.knows seat.new.knows result.component }
+    ensures may { MayReadBelow seat.new.knows result.component result.until }
+    ensures time { result.until ≡ snapshot.time }
+{
+    let component = pin(words, seat, snapshot.pin_word);
+    seat.show_invariant();
+    ReadPoint {
+        component,
+        until: snapshot.time,
+    }
 }
 
 /// The end of a read with this answer under the open snapshot.
@@ -61,21 +81,21 @@ pub fn read_under<P: Pace>(
     snapshot: OpenSnapshot,
     key: u64,
 ) -> Got
-    requires of { IsSeatOf words.now seat.old }
-    requires rests { IsAtRest seat.old.knows }
-    requires pin { snapshot.pin_word ≡ seat.old.knows.view.pin }
+    requires rests { RestsAt words.now seat.old snapshot.pin_word }
     requires opened { open_time seat.old.knows.view.snapshot ≡ Some snapshot.time }
-    ensures of { IsSeatOf words.now seat.new }
-    ensures rests { IsAtRest seat.new.knows }
-    ensures pin { seat.new.knows.view.pin ≡ next_word (next_word snapshot.pin_word) }
+    ensures rests { RestsAt words.now seat.new (next_word (next_word snapshot.pin_word)) }
     ensures time { result.time ≡ snapshot.time }
     ensures reads { ReadsUnder seat.old.knows seat.new.knows snapshot.time (GetAt key result.value) }
 {
-    let OpenSnapshot { pin_word, time } = snapshot;
-    let component = pin(words, seat, pin_word);
-    seat.show_invariant();
-    let value = value_below(words, seat, component, key, time);
+    let point = begin_under(words, seat, snapshot);
+    let value = value_below(words, seat, point, key);
+    let time = snapshot.time;
     let got = Got { time, value };
-    unpin(words, seat, pin_word.wrapping_add(1), &end_of(key, &got));
+    unpin(
+        words,
+        seat,
+        snapshot.pin_word.wrapping_add(1),
+        &end_of(key, &got),
+    );
     got
 }

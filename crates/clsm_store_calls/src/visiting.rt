@@ -7,42 +7,20 @@ ghost use Rattle.clsm_law.specs.Views.{next_word};
 ghost use Rattle.clsm_law.specs.OpenSteps.{open_time};
 ghost use Rattle.clsm_words.specs.Keeping.{Looks};
 ghost use Rattle.clsm_words.specs.Plays.{IsSeatOf};
-ghost use Rattle.clsm_store_calls.specs.Resting.{IsAtRest};
+ghost use Rattle.clsm_store_calls.specs.Resting.{RestsAt};
 ghost use Rattle.clsm_store_calls.specs.Reading.{MayReadBelow, ReadsAt};
 ghost use Rattle.clsm_store_calls.specs.Scanning.{IsKeyVisit};
 ghost use Rattle.clsm_store_calls.specs.Snapshots.{ReadsUnder};
 
 use crate::got::Counted;
 use crate::reading::begin;
-use crate::snapshotting::OpenSnapshot;
+use crate::snapshotting::{OpenSnapshot, begin_under};
 use clsm_law::End;
-use clsm_memtable::settle_below;
 use clsm_model::{Deed, PageRange, Rows};
-use clsm_pins::{pin, unpin};
+use clsm_pins::unpin;
 use clsm_scan::{Bounds, KeyCount, ReadPoint, Visitor, visit};
 use clsm_words::{Pace, RawSeat, Words};
 use std::alloc::Global;
-
-/// Has the visitor take the rows within the bounds at the point. Its time is not below what is
-/// merged into its component, or it is that of the seat's open snapshot.
-fn visit_below<P: Pace, V: Visitor>(
-    words: &Words<P>,
-    seat: &mut RawSeat,
-    point: ReadPoint,
-    bounds: Bounds,
-    visitor: &mut V,
-) -> KeyCount
-    requires of { IsSeatOf words.now seat.old }
-    requires may { MayReadBelow seat.old.knows point.component point.until }
-    requires ready { V.is_ready visitor.old }
-    ensures of { IsSeatOf words.now seat.new }
-    ensures looks { Looks seat.old.knows seat.new.knows }
-    ensures visits { IsKeyVisit V.takes (plain seat.old.knows.past) point.until bounds.lo bounds.hi result.keys visitor.old visitor.new }
-    ensures reads { Reads (plain seat.old.knows.past) point.until (page_deed bounds.lo bounds.hi 0 [] result.first) }
-{
-    seat.show_invariant();
-    visit(words, seat, point, bounds, visitor)
-}
 
 /// The end of a visit, which is recorded as a page of no rows. It takes no memory.
 fn end_of_visit(alloc: Global, bounds: Bounds, more: Option<u64>) -> End
@@ -62,6 +40,36 @@ pub struct Visit<V> {
     pub visitor: V,
 }
 
+/// Has the visitor take the rows within the bounds at the point, and answers the end of the visit
+/// too. Its time is not below what is merged into its component, or it is that of the seat's open
+/// snapshot.
+fn visit_below<P: Pace, V: Visitor>(
+    words: &Words<P>,
+    seat: &mut RawSeat,
+    point: ReadPoint,
+    wanted: &mut Visit<V>,
+) -> (Counted, End)
+    requires of { IsSeatOf words.now seat.old }
+    requires may { MayReadBelow seat.old.knows point.component point.until }
+    requires ready { V.is_ready wanted.old.visitor }
+    ensures of { IsSeatOf words.now seat.new }
+    ensures looks { Looks seat.old.knows seat.new.knows }
+    ensures time { result.0.time ≡ point.until }
+    ensures visits { IsKeyVisit V.takes (plain seat.old.knows.past) point.until wanted.old.bounds.lo wanted.old.bounds.hi result.0.keys
+        wanted.old.visitor wanted.new.visitor }
+    ensures reads { Reads (plain seat.old.knows.past) point.until (page_deed wanted.old.bounds.lo wanted.old.bounds.hi 0 [] result.0.first) }
+    ensures end { result.1 ≡ Recorded (page_deed wanted.old.bounds.lo wanted.old.bounds.hi 0 [] result.0.first) }
+{
+    seat.show_invariant();
+    let bounds = wanted.bounds;
+    let KeyCount { keys, first } = visit(words, seat, point, bounds, &mut wanted.visitor);
+    let time = point.until;
+    (
+        Counted { time, keys, first },
+        end_of_visit(wanted.alloc, bounds, first),
+    )
+}
+
 /// A visit at a time of its own, where no snapshot is open.
 pub fn visit_at<P: Pace, V: Visitor>(
     words: &Words<P>,
@@ -69,30 +77,19 @@ pub fn visit_at<P: Pace, V: Visitor>(
     pin_word: u64,
     visit: &mut Visit<V>,
 ) -> Counted
-    requires of { IsSeatOf words.now seat.old }
-    requires rests { IsAtRest seat.old.knows }
-    requires pin { pin_word ≡ seat.old.knows.view.pin }
+    requires rests { RestsAt words.now seat.old pin_word }
     requires none { open_time seat.old.knows.view.snapshot ≡ None }
     requires ready { V.is_ready visit.old.visitor }
-    ensures of { IsSeatOf words.now seat.new }
-    ensures rests { IsAtRest seat.new.knows }
-    ensures pin { seat.new.knows.view.pin ≡ next_word (next_word pin_word) }
+    ensures rests { RestsAt words.now seat.new (next_word (next_word pin_word)) }
     ensures reads { ReadsAt seat.old.knows seat.new.knows result.time (page_deed visit.old.bounds.lo visit.old.bounds.hi 0 [] result.first) }
     ensures reached { result.time ≤ length seat.new.knows.past }
     ensures visits { IsKeyVisit V.takes (plain seat.new.knows.past) result.time visit.old.bounds.lo visit.old.bounds.hi result.keys
         visit.old.visitor visit.new.visitor }
 {
-    let (component, time) = begin(words, seat, pin_word);
-    settle_below(words, seat, component, time);
-    let point = ReadPoint {
-        component,
-        until: time,
-    };
-    let bounds = visit.bounds;
-    let KeyCount { keys, first } = visit_below(words, seat, point, bounds, &mut visit.visitor);
-    let end = end_of_visit(visit.alloc, bounds, first);
+    let point = begin(words, seat, pin_word);
+    let (counted, end) = visit_below(words, seat, point, visit);
     unpin(words, seat, pin_word.wrapping_add(1), &end);
-    Counted { time, keys, first }
+    counted
 }
 
 /// A visit at the time of the open snapshot.
@@ -102,30 +99,18 @@ pub fn visit_under<P: Pace, V: Visitor>(
     snapshot: OpenSnapshot,
     visit: &mut Visit<V>,
 ) -> Counted
-    requires of { IsSeatOf words.now seat.old }
-    requires rests { IsAtRest seat.old.knows }
-    requires pin { snapshot.pin_word ≡ seat.old.knows.view.pin }
+    requires rests { RestsAt words.now seat.old snapshot.pin_word }
     requires opened { open_time seat.old.knows.view.snapshot ≡ Some snapshot.time }
     requires ready { V.is_ready visit.old.visitor }
-    ensures of { IsSeatOf words.now seat.new }
-    ensures rests { IsAtRest seat.new.knows }
-    ensures pin { seat.new.knows.view.pin ≡ next_word (next_word snapshot.pin_word) }
+    ensures rests { RestsAt words.now seat.new (next_word (next_word snapshot.pin_word)) }
     ensures time { result.time ≡ snapshot.time }
     ensures reads { ReadsUnder seat.old.knows seat.new.knows snapshot.time (page_deed visit.old.bounds.lo visit.old.bounds.hi 0 [] result.first) }
     ensures reached { result.time ≤ length seat.new.knows.past }
     ensures visits { IsKeyVisit V.takes (plain seat.new.knows.past) result.time visit.old.bounds.lo visit.old.bounds.hi result.keys
         visit.old.visitor visit.new.visitor }
 {
-    let OpenSnapshot { pin_word, time } = snapshot;
-    let component = pin(words, seat, pin_word);
-    seat.show_invariant();
-    let point = ReadPoint {
-        component,
-        until: time,
-    };
-    let bounds = visit.bounds;
-    let KeyCount { keys, first } = visit_below(words, seat, point, bounds, &mut visit.visitor);
-    let end = end_of_visit(visit.alloc, bounds, first);
-    unpin(words, seat, pin_word.wrapping_add(1), &end);
-    Counted { time, keys, first }
+    let point = begin_under(words, seat, snapshot);
+    let (counted, end) = visit_below(words, seat, point, visit);
+    unpin(words, seat, snapshot.pin_word.wrapping_add(1), &end);
+    counted
 }

@@ -6,7 +6,7 @@ use Rattle.clsm_store_calls.proofs.meeting.meet_at.Goals as goal
 
 pub returns-clause-meets : goal.returns-clause-meets
 returns-clause-meets g c =
-    let s = c.settle_below.new.seat.knows in
-    let settled = c.settle_below.ensures.settled in
+    let s = c.begin-point.new.seat.knows in
+    let settled = c.begin-point.ensures.settled in
     let same = ap (λ (l : List Slot). length l) c.unpin.ensures.unpinned.keeps.past in
-    met c.requires.rests c.begin-component.ensures.begins c.settle_below.ensures.keeps (looks_none s) c.unpin.ensures.unpinned refl (omega arith)
+    met c.requires.rests.rests c.begin-point.ensures.begins (looks_none s) c.unpin.ensures.unpinned refl (omega arith)

@@ -1,10 +1,10 @@
 use Rattle.std.proofs.Common.{◌∙◌, ap, arith, inr}
 use Rattle.clsm_law.specs.OpenSteps.{open_time}
 use Rattle.clsm_law.specs.declared.view.View.{View}
-use Rattle.clsm_store_calls.proofs.snapshotting.read_under.Goals as goal
+use Rattle.clsm_store_calls.proofs.snapshotting.begin_under.Goals as goal
 
-pub value_below-value-requires-clause-may : goal.value_below-value-requires-clause-may
-value_below-value-requires-clause-may g c =
+pub returns-clause-may : goal.returns-clause-may
+returns-clause-may g c =
     let sound = c.show_invariant.ensures in
     let pins = c.pin-component.ensures.pinned in
     let held = ap (λ (v : View). v.held) pins.view in
