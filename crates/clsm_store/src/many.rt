@@ -11,7 +11,7 @@ use crate::store::Store;
 use clsm_model::{Deed, Memory, Time, Value};
 use clsm_scan::{Bounds, Calling, Passing, Visitor};
 use clsm_store_calls::{
-    Asked, Counted, OpenSnapshot, Page, Scan, Visit, Request, scan_at, scan_now, scan_under,
+    Asked, Counted, OpenSnapshot, Page, Request, Scan, Visit, scan_at, scan_now, scan_under,
     visit_at, visit_under,
 };
 use clsm_words::Pace;
