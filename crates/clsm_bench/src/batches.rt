@@ -87,21 +87,16 @@ pub fn batch_lap<R: Threads + Sync + Clock + Wait>(
     work: &Work,
     is_second: bool,
 ) -> Result<Lap, Failure> {
-    let Work {
-        line,
-        options,
-        threads,
-    } = *work;
-    let mut series = Series::new(alloc, line, options)?;
+    let mut series = Series::new(alloc, work)?;
     if !is_second {
-        series.members = Some(line.members(options, threads));
+        series.members = Some(work.members());
     }
-    let writes = line.calls(false, options, threads);
-    let Ok(opened) = open(alloc, line.sizes(false, options, threads)) else {
+    let Ok(opened) = open(alloc, work.sizes(false)) else {
         return Err(Failure::Refused);
     };
     let Opened { store, seats, .. } = opened;
     let mut callers = callers(alloc, &store, seats)?;
     let _ = callers.pop();
-    work_all(rt, alloc, callers, &Round::new(&series, writes, threads))
+    let round = Round::new(&series, work.calls(false), work.threads);
+    work_all(rt, alloc, callers, &round)
 }

@@ -3,7 +3,7 @@ ghost use Rattle.std.specs.Prelude.{◌≡◌, All};
 
 use crate::batches::filled_members;
 use crate::calls::{Lap, Round, put_filled, work_all};
-use crate::draws::{Call, Series};
+use crate::draws::{Call, Range, Series};
 use crate::failure::Failure;
 use crate::lines::Beside;
 use crate::sizes::Work;
@@ -80,11 +80,13 @@ fn disturb<R: Wait>(
 ) -> Result<(), Failure> {
     let (mut caller, mut merger) = extra;
     let keys = scene.round.series.keys;
-    let all = Call::Scan {
+    let range = Range {
         lo: 0,
         hi: u64::MAX,
-        rows: keys as usize,
+        most: None,
     };
+    let rows = keys as usize;
+    let all = Call::Rows { range, rows };
     let members = filled_members(alloc, keys)?;
     for _ in 0..u32::MAX {
         if stop.load(SeqCst) {
@@ -139,15 +141,9 @@ pub fn store_lap<R: Threads + Sync + Clock + Wait>(
     work: &Work,
     beside: &Beside,
 ) -> Result<Lap, Failure> {
-    let Work {
-        line,
-        options,
-        threads,
-    } = *work;
-    let series = Series::new(alloc, line, options)?;
+    let series = Series::new(alloc, work)?;
     let is_merged = matches!(beside, Beside::Merger | Beside::Batcher);
-    let calls = line.calls(is_merged, options, threads);
-    let Ok(opened) = open(alloc, line.sizes(is_merged, options, threads)) else {
+    let Ok(opened) = open(alloc, work.sizes(is_merged)) else {
         return Err(Failure::Refused);
     };
     let Opened {
@@ -157,7 +153,7 @@ pub fn store_lap<R: Threads + Sync + Clock + Wait>(
     } = opened;
     let callers = callers(alloc, &store, seats)?;
     let merger = Merger::new(&store, merger);
-    let round = Round::new(&series, calls, threads);
+    let round = Round::new(&series, work.calls(is_merged), work.threads);
     let scene = Scene {
         beside,
         round: &round,
@@ -171,20 +167,15 @@ pub fn map_lap<R: Threads + Sync + Clock + Wait>(
     alloc: Global,
     work: &Work,
 ) -> Result<Lap, Failure> {
-    let Work {
-        line,
-        options,
-        threads,
-    } = *work;
-    let series = Series::new(alloc, line, options)?;
-    let calls = line.calls(false, options, threads);
+    let series = Series::new(alloc, work)?;
     let map = RwLock::new(BTreeMap::new(alloc));
     let mut callers = Vec::new(alloc);
-    for number in 0..threads {
+    for number in 0..work.threads {
         callers.push(MapCaller { number, map: &map })?;
     }
     if let Some(caller) = callers.first_mut() {
         put_filled(rt, alloc, caller, 0..series.keys, series.keys)?;
     }
-    work_all(rt, alloc, callers, &Round::new(&series, calls, threads))
+    let round = Round::new(&series, work.calls(false), work.threads);
+    work_all(rt, alloc, callers, &round)
 }

@@ -1,4 +1,5 @@
 pub mod Brought
+pub mod Calls
 pub mod Ended
 pub mod Seated
 pub mod Verdicts

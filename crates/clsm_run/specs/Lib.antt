@@ -1,4 +1,5 @@
 pub mod Audit
+pub mod Calls
 pub mod Play
 pub mod Run
 pub mod Waiting

@@ -3,6 +3,7 @@ ghost use Rattle.std.specs.Prelude.{◌≡◌, All, IfErr, IfOk};
 ghost use Rattle.clsm_store_calls.specs.Seats.{AreNew, IsNewMerger};
 ghost use Rattle.clsm_store.specs.Phase.{merger_in};
 ghost use Rattle.clsm_run.specs.Audit.{IsAudited};
+ghost use Rattle.clsm_run.specs.Calls.{HasMadeAll};
 ghost use Rattle.clsm_run.specs.Run.{StopsWork};
 ghost use Rattle.clsm_run.specs.Work.{AreWorked, IsWorked};
 
@@ -50,6 +51,7 @@ where
     requires merger { IsNewMerger opened.store opened.merger }
     ensures audited { IfOk result (λ ran.
         IsAudited asked.now.config opened.store ran.seats.items ran.records.items ran.verdict) }
+    ensures made { IfOk result (λ ran. All (HasMadeAll asked.now.load) ran.seats.items) }
     ensures stopped { IfErr result StopsWork }
 {
     let Opened {
@@ -67,10 +69,9 @@ where
     let (worked, merges) = work_merging(rt, alloc, crew, &task, faults);
     let time = start.elapsed(rt)?;
     let worked = worked?;
-    if task.board.is_starved() {
+    let Ok(gathered) = gather(alloc, worked) else {
         return Err(Failure::Memory);
-    }
-    let gathered = gather(alloc, worked)?;
+    };
     let calling = Calling {
         time,
         merges: Some(merges),
@@ -93,7 +94,7 @@ where
     E: Write + Send,
     requires seats { All (λ seat. seat.store ≡ crew.store.now) crew.seats.items }
     requires merger { crew.merger.merger.store ≡ crew.store.now }
-    ensures { IfOk result.0 (λ worked. AreWorked crew.entry.seats.items worked.items) }
+    ensures { IfOk result.0 (λ worked. AreWorked task.now.load crew.entry.seats.items worked.items) }
 {
     let Crew {
         store,
@@ -107,7 +108,7 @@ where
         || merge_showing(rt, merger, task, faults),
         || -> Result<Vec<Worked>, AllocError>
             requires { All (λ seat. seat.store ≡ store.now) seats.items }
-            ensures { IfOk result (λ worked. AreWorked seats.items worked.items) }
+            ensures { IfOk result (λ worked. AreWorked task.entry.now.load seats.items worked.items) }
         { work_all(rt, alloc, store, seats, task) },
     );
     (worked, merges)
@@ -125,14 +126,14 @@ where
     P: Pace + Drop + Sync,
     R: Threads + Sync + Clock + Wait,
     requires { All (λ seat. seat.store ≡ store.now) seats.items }
-    ensures { IfOk result (λ worked. AreWorked seats.items worked.items) }
+    ensures { IfOk result (λ worked. AreWorked task.now.load seats.items worked.items) }
 {
     let worked = thread::map_vec(
         rt,
         seats,
         &|seat: Seat| -> Worked
             requires { seat.store ≡ store.now }
-            ensures { IsWorked seat result }
+            ensures { IsWorked task.entry.now.load seat result }
         { work_at(rt, alloc, store, seat, task) },
     );
     task.board.end();
@@ -145,7 +146,7 @@ where
     P: Pace + Drop + Sync,
     R: Clock + Wait,
     requires { seat.store ≡ store.now }
-    ensures { IsWorked seat result }
+    ensures { IsWorked task.now.load seat result }
 {
     let mut caller = Caller::new(store, seat);
     let made = work(rt, alloc, &mut caller, task);

@@ -1,10 +1,10 @@
 //! The records of all workers as one list.
-ghost use Rattle.std.specs.Prelude.{◌≡◌, ◌∷◌, [], ◌++◌, All, IfOk, OnOk, map};
+ghost use Rattle.std.specs.Prelude.{◌≡◌, ◌∷◌, [], ◌++◌, All, IfOk, IsOk, OnOk, map};
 ghost use Rattle.clsm_run.specs.Audit.{all_calls};
 
 use crate::watch::Note;
 use crate::worker::{Made, Worked};
-use clsm_model::CallRecord;
+use clsm_model::{CallRecord, Memory};
 use clsm_store::Seat;
 use std::alloc::{AllocError, Global};
 
@@ -18,10 +18,11 @@ pub struct Gathered {
 
 /// What all workers gave back: their seats in their order, and all calls of these seats. Refused
 /// if memory runs out.
-pub fn gather(alloc: Global, worked: Vec<Worked>) -> Result<Gathered, AllocError>
+pub fn gather(alloc: Global, worked: Vec<Worked>) -> Result<Gathered, Memory>
     requires { All (λ w. w.seat.calls ≡ w.made.records.items) worked.items }
     ensures seats { IfOk result (λ all. all.seats.items ≡ map (λ w. w.seat) worked.items) }
     ensures records { IfOk result (λ all. all.records.items ≡ all_calls all.seats.items) }
+    ensures ended { OnOk result (All (λ w. IsOk w.made.ended) worked.items) }
 {
     let mut all = Gathered {
         seats: Vec::new(alloc),
@@ -29,6 +30,7 @@ pub fn gather(alloc: Global, worked: Vec<Worked>) -> Result<Gathered, AllocError
         notes: Vec::new(alloc),
     };
     for one in worked {
+        one.made.ended?;
         all.take(one)?;
     }
     Ok(all)
@@ -44,6 +46,7 @@ impl Gathered {
         let Made {
             mut records,
             mut notes,
+            ..
         } = made;
         self.records.append(&mut records)?;
         self.notes.append(&mut notes)?;

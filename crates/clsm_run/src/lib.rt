@@ -6,6 +6,7 @@ mod auditing;
 mod board;
 mod crew;
 mod gathering;
+mod job;
 mod kind;
 mod load;
 mod merger;

@@ -1,7 +1,7 @@
 //! A run: its opening, its work and its end.
-ghost use Rattle.std.specs.Prelude.{◌≡◌, IfErr, OnOk};
+ghost use Rattle.std.specs.Prelude.{◌≡◌, IfErr, IfOk, OnOk};
 ghost use Rattle.clsm_model.specs.Config.{IsSound};
-ghost use Rattle.clsm_run.specs.Run.{IsStatus, StopsRun};
+ghost use Rattle.clsm_run.specs.Run.{IsStatus, IsWholeRun, StopsRun};
 
 use crate::answer::{write_records, write_verdict};
 use crate::auditing::ending;
@@ -71,11 +71,13 @@ where
 }
 
 /// Lets the workers make their calls, which wait for room or do not, and audits them.
+#[tactic(auto, using(crate::proofs::Verdicts::of_crew, crate::proofs::Verdicts::of_session))]
 fn call_all<R, E>(rt: &R, alloc: Global, asked: &AskedRun, faults: &mut E) -> Result<Ran, Failure>
 where
     R: Threads + Sync + Clock + Wait,
     E: Write + Send,
     ensures opened { OnOk result (IsSound asked.now.config) }
+    ensures whole { IfOk result (IsWholeRun asked.now.config asked.now.load) }
     ensures stopped { IfErr result (StopsRun asked.now.config) }
 {
     if asked.waits {

@@ -1,4 +1,6 @@
 //! The task of a run's threads.
+ghost use Rattle.std.specs.Prelude.{◌≡◌};
+
 use crate::board::Board;
 use crate::load::{Load, Shows};
 
@@ -13,7 +15,9 @@ pub struct Task {
 
 impl Task {
     /// The task of a run that begins.
-    pub fn new(load: Load, shows: Shows) -> Task {
+    pub fn new(load: Load, shows: Shows) -> Task
+        ensures { result.load ≡ load }
+    {
         Task {
             load,
             shows,

@@ -1,49 +1,32 @@
 //! A run whose writes wait for room: its workers are the callers of a session.
-ghost use Rattle.std.specs.Prelude.{◌≡◌, All, IfErr, IfOk, OnOk, map};
+ghost use Rattle.std.specs.Prelude.{◌≡◌, All, IfErr, IfOk, OnOk, length, map};
 ghost use Rattle.clsm_model.specs.declared.config.Config.{Config};
 ghost use Rattle.clsm_model.specs.Config.{IsSound};
 ghost use Rattle.clsm_session.specs.Ended.{StopsSession};
 ghost use Rattle.clsm_run.specs.Audit.{IsAuditedWhole};
+ghost use Rattle.clsm_run.specs.Calls.{HasSettled};
 ghost use Rattle.clsm_run.specs.Run.{StopsRun, StopsWork};
-ghost use Rattle.clsm_run.specs.Waiting.{AreMade, EndsSession, IsEnded};
+ghost use Rattle.clsm_run.specs.Waiting.{EndsSession, IsEnded};
 
 use crate::auditing::audited;
 use crate::gathering::gather;
+use crate::job::{Loaded, Waiting};
 use crate::load::AskedRun;
 use crate::progress::show_progress;
 use crate::ran::{Calling, Ran};
 use crate::task::Task;
-use crate::worker::{Made, Worked, work};
+use crate::worker::{Made, Worked};
 use clsm_model::Config;
-use clsm_session::{Ended, Job, Place, SessionCaller, SessionError, with_store};
+use clsm_session::{Ended, SessionError, with_store};
 use clsm_store::Seat;
 use clsm_text::Failure;
 use std::alloc::{AllocError, Global};
 use std::io::{self, Write};
+use std::marker::{Brand, PhantomData};
 use std::rt::Clock;
 use std::sync::Wait;
 use std::thread::{Threads, join};
 use std::time::{Duration, Instant};
-
-/// The work of each caller of the session: that of a worker.
-#[derive(Drop)]
-struct Waiting<'a, R> {
-    rt: &'a R,
-    alloc: Global,
-    task: &'a Task,
-}
-
-impl<R: Clock + Wait + Sync> Job for Waiting<'_, R> {
-    ghost use Rattle.clsm_run.specs.Work.{Works};
-
-    type Answer = Made;
-
-    ghost does = { λ old new made. Works old new made };
-
-    fn run<W: Wait, P: Place>(&self, caller: &mut SessionCaller<'_, W, P>) -> Made {
-        work(self.rt, self.alloc, caller, self.task)
-    }
-}
 
 /// Lets a caller for each seat of a store of the sizes that are asked for make the calls of its
 /// workload, in a session, and audits all that they answered. A write waits for room, and is
@@ -61,6 +44,7 @@ where
     E: Write + Send,
     ensures opened { OnOk result (IsSound asked.now.config) }
     ensures audited { IfOk result (λ ran. IsAuditedWhole asked.now.config ran.seats.items ran.records.items ran.verdict) }
+    ensures made { IfOk result (λ ran. All (HasSettled asked.now.load) ran.seats.items) }
     ensures stopped { IfErr result (StopsRun asked.now.config) }
 {
     if let Err(error) = asked.config.check() {
@@ -72,10 +56,7 @@ where
         Ok(ended) => ended,
         Err(error) => return Err(failure_of(error)),
     };
-    if task.board.is_starved() {
-        return Err(Failure::Memory);
-    }
-    audit_ended(rt, alloc, &asked.config, ended, time)
+    audit_ended(rt, alloc, asked, ended, time)
 }
 
 /// Audits what the callers of a session made in this time. Refused with `Memory`, and with `Device`
@@ -83,19 +64,23 @@ where
 fn audit_ended<R: Clock>(
     rt: &R,
     alloc: Global,
-    config: &Config,
+    asked: &AskedRun,
     ended: Ended<Made>,
     time: io::Result<Duration>,
 ) -> Result<Ran, Failure>
-    requires { IsEnded config.now ended }
-    ensures audited { IfOk result (λ ran. IsAuditedWhole config.now ran.seats.items ran.records.items ran.verdict) }
+    requires { IsEnded asked.now.config asked.now.load ended }
+    ensures audited { IfOk result (λ ran. IsAuditedWhole asked.now.config ran.seats.items ran.records.items ran.verdict) }
+    ensures made { IfOk result (λ ran. All (HasSettled asked.now.load) ran.seats.items) }
     ensures stopped { IfErr result StopsWork }
 {
     let time = time?;
     let Ended { seats, answers, .. } = ended;
-    let gathered = gather(alloc, rejoin(alloc, seats, answers)?)?;
+    let worked = rejoin(alloc, seats, answers)?;
+    let Ok(gathered) = gather(alloc, worked) else {
+        return Err(Failure::Memory);
+    };
     let calling = Calling { time, merges: None };
-    audited(rt, alloc, config, gathered, calling)
+    audited(rt, alloc, &asked.config, gathered, calling)
 }
 
 /// Why the run stops where its session hands nothing back.
@@ -119,7 +104,7 @@ fn work_timed<R, E>(
 where
     R: Threads + Sync + Clock + Wait,
     E: Write + Send,
-    ensures { EndsSession config result.0 }
+    ensures { EndsSession config task.now.load result.0 }
 {
     let start = Instant::now(rt);
     let ended = work_showing(rt, alloc, config, task, faults);
@@ -141,7 +126,7 @@ fn work_showing<R, E>(
 where
     R: Threads + Sync + Clock + Wait,
     E: Write + Send,
-    ensures { EndsSession config result }
+    ensures { EndsSession config task.now.load result }
 {
     if !task.shows.progress {
         return work_waiting(rt, alloc, config, task);
@@ -151,7 +136,7 @@ where
         rt,
         || show_progress(rt, &task.board, faults),
         || -> Result<Ended<Made>, SessionError>
-            ensures { EndsSession config result }
+            ensures { EndsSession config task.entry.now.load result }
         { work_waiting(rt, alloc, config, task) },
     );
     ended
@@ -166,18 +151,39 @@ fn work_waiting<R>(
 ) -> Result<Ended<Made>, SessionError>
 where
     R: Threads + Sync + Clock + Wait,
-    ensures { EndsSession config result }
+    ensures { EndsSession config task.now.load result }
 {
-    let ended = with_store(rt, alloc, config, &Waiting { rt, alloc, task });
+    let ended = work_by::<R, Brand>(rt, alloc, config, task);
     task.board.end();
     ended
 }
 
+/// Lets the callers work by this load.
+fn work_by<R, L: Loaded + Sync>(
+    rt: &R,
+    alloc: Global,
+    config: Config,
+    task: &Task,
+) -> Result<Ended<Made>, SessionError>
+where
+    R: Threads + Sync + Clock + Wait,
+    requires { task.now.load ≡ L.load }
+    ensures { EndsSession config L.load result }
+{
+    let work: Waiting<'_, R, L> = Waiting {
+        rt,
+        alloc,
+        task,
+        load: PhantomData,
+    };
+    with_store(rt, alloc, config, &work)
+}
+
 /// Each seat with what was made by it. Refused if memory runs out.
 fn rejoin(alloc: Global, seats: Vec<Seat>, made: Vec<Made>) -> Result<Vec<Worked>, AllocError>
-    requires { AreMade seats.items made.items }
+    requires { length made.items ≡ length seats.items }
     ensures seats { IfOk result (λ worked. map (λ w. w.seat) worked.items ≡ seats.items) }
-    ensures records { IfOk result (λ worked. All (λ w. w.seat.calls ≡ w.made.records.items) worked.items) }
+    ensures made { IfOk result (λ worked. map (λ w. w.made) worked.items ≡ made.items) }
 {
     let mut made = made.into_iter();
     let mut worked = Vec::new(alloc);

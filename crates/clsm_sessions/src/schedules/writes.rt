@@ -4,6 +4,7 @@ use crate::schedules::line::{Line, record};
 use crate::schedules::play::{Play, Wrong};
 use clsm_core::{Part, Step, Word};
 use clsm_model::{CallRecord, Change, Deed, Time, Value};
+use clsm_planner::link_behind;
 
 pub(crate) fn words_of(value: &Option<Value>) -> &[u64] {
     match value {
@@ -42,15 +43,6 @@ fn written_by(deed: &Deed) -> (u64, Option<Value>) {
         Deed::Rmw { key, .. } | Deed::Remove { key } => (*key, None),
         _ => (0, None),
     }
-}
-
-/// The link behind the place; 0 is the place before the first cell.
-fn link_behind(region: u64, place: u64) -> Word {
-    Word::Order(if place == 0 {
-        region
-    } else {
-        place.saturating_add(1)
-    })
 }
 
 impl Play {

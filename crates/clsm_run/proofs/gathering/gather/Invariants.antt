@@ -1,4 +1,4 @@
-use Rattle.std.proofs.Common.{◌≡◌, ◌++◌, map}
+use Rattle.std.proofs.Common.{◌≡◌, ◌++◌, IsOk, map}
 use Rattle.std.specs.Prelude.{All}
 use Rattle.clsm_run.specs.Audit.{all_calls}
 use Rattle.clsm_run.specs.declared.worker.Worked.{Worked}
@@ -9,5 +9,6 @@ abbrev pub invariant-loop-one : goal.invariant-loop-one
 invariant-loop-one l = record {
   seats : l.all.seats.items ++ map (λ (w : Worked). w.seat) l.one-iterator.rest.items ≡ map (λ (w : Worked). w.seat) l.fn.worked.items;
   records : l.all.records.items ≡ all_calls l.all.seats.items;
+  ended : All (λ (w : Worked). IsOk w.made.ended) l.one-iterator.rest.items → All (λ (w : Worked). IsOk w.made.ended) l.fn.worked.items;
   told : All (λ (w : Worked). w.seat.calls ≡ w.made.records.items) l.one-iterator.rest.items;
 }

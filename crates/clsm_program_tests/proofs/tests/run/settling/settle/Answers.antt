@@ -11,14 +11,14 @@ work_merging-worked-requires-clause-seats g c κs within =
 
 pub gather-requires : goal.gather-requires
 gather-requires g c =
-    let done : AreWorked c.args.opened.seats.items c.expect.result.items = search rules in
-    told c.args.opened.store c.args.config.now.seats c.args.opened.seats.items c.requires.seats c.expect.result.items done
+    let done : AreWorked c.args.load.now c.args.opened.seats.items c.expect.result.items = search rules in
+    told c.args.opened.store c.args.config.now.seats c.args.opened.seats.items c.requires.seats c.args.load.now c.expect.result.items done
 
 pub settle-requires : goal.settle-requires
 settle-requires g c =
-    let done : AreWorked c.args.opened.seats.items c.expect.result.items = search rules in
+    let done : AreWorked c.args.load.now c.args.opened.seats.items c.expect.result.items = search rules in
     let is : c.expect-seats.result.seats.items ≡ seats_of c.expect.result.items = search rules in
-    let are = are_seats c.args.opened.store c.args.config.now.seats c.args.opened.seats.items c.requires.seats c.expect.result.items done
+    let are = are_seats c.args.opened.store c.args.config.now.seats c.args.opened.seats.items c.requires.seats c.args.load.now c.expect.result.items done
     c.expect-seats.result.seats.items is in
     λ k d lt. (are.each k (slice_index_or c.expect-seats.result.seats.items k d) (let n = are.counted in omega arith)
     (get_or_default c.expect-seats.result.seats.items k (slice_index_or c.expect-seats.result.seats.items k d) d lt)).0
