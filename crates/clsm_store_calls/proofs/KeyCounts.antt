@@ -11,7 +11,7 @@ use Rattle.std.specs.Ordering.{nat_cmp}
 use Rattle.clsm_model.specs.declared.slot.Slot.{Slot}
 use Rattle.clsm_model.specs.declared.slot.Slot.TheVariants.{Nothing, Wrote}
 use Rattle.clsm_model.specs.History.{History, left_by, newest, or_else, slot_at, value, write_of}
-use Rattle.clsm_model.specs.Right.{Reads}
+use Rattle.clsm_model.specs.Right.{Reads, page_deed}
 use Rattle.clsm_model.specs.Map.{IsRange, KeysRise, Pair, value_at}
 use Rattle.clsm_scan.specs.Collected.{IsCount}
 use Rattle.clsm_store_calls.specs.Scanning.{IsKeyCount}
