@@ -87,16 +87,21 @@ pub fn batch_lap<R: Threads + Sync + Clock + Wait>(
     work: &Work,
     is_second: bool,
 ) -> Result<Lap, Failure> {
-    let mut series = Series::new(alloc, work)?;
+    let Work {
+        line,
+        options,
+        threads,
+    } = *work;
+    let mut series = Series::new(alloc, line, options)?;
     if !is_second {
-        series.members = Some(work.members());
+        series.members = Some(line.members(options, threads));
     }
-    let Ok(opened) = open(alloc, work.sizes(false)) else {
+    let writes = line.calls(false, options, threads);
+    let Ok(opened) = open(alloc, line.sizes(false, options, threads)) else {
         return Err(Failure::Refused);
     };
     let Opened { store, seats, .. } = opened;
     let mut callers = callers(alloc, &store, seats)?;
     let _ = callers.pop();
-    let round = Round::new(&series, work.calls(false), work.threads);
-    work_all(rt, alloc, callers, &round)
+    work_all(rt, alloc, callers, &Round::new(&series, writes, threads))
 }

@@ -1,7 +1,7 @@
 //! Which keys are called.
 use crate::lines::{Filling, Line, Role};
 use crate::mixes::{Draw, Kind, Mix, Ranks, below};
-use crate::sizes::Work;
+use crate::options::Options;
 use rand_core::utils::NextWord;
 use rand_pcg::Pcg32;
 use std::alloc::{AllocError, Global};
@@ -21,14 +21,6 @@ const HOT: u32 = 16;
 /// The rows of a scan in a mix.
 const ROWS: u32 = 16;
 
-/// The keys that a call reads: all of a range, by a scan, or the first so many, by a page.
-#[derive(Clone, Copy)]
-pub struct Range {
-    pub lo: u64,
-    pub hi: u64,
-    pub most: Option<usize>,
-}
-
 /// A call, and what is to be answered.
 #[derive(Clone, Copy)]
 pub enum Call {
@@ -36,7 +28,8 @@ pub enum Call {
     /// Adds one to the second word of the value, which counts as 0 where there is none.
     Change { key: u64 },
     Get { key: u64, word: Option<u64> },
-    Rows { range: Range, rows: usize },
+    Scan { lo: u64, hi: u64, rows: usize },
+    Page { from: u64, rows: usize },
 }
 
 /// What all threads of a measurement call: so many keys are filled, which are there by rising size
@@ -70,9 +63,9 @@ pub fn key_of(number: u32, index: u32) -> u64 {
 }
 
 impl<'a> Series<'a> {
-    pub fn new(alloc: Global, work: &Work<'a>) -> Result<Series<'a>, AllocError> {
-        let Line(_, _, _, _, role, filling, _) = work.line;
-        let keys = work.filled();
+    pub fn new(alloc: Global, line: &'a Line, options: &Options) -> Result<Series<'a>, AllocError> {
+        let Line(_, _, _, _, role, filling, _) = line;
+        let keys = line.filled(options);
         let mut sorted = Vec::new(alloc);
         if let Role::Scans(_) | Role::Pages(_) | Role::Several(..) = role {
             for index in 0..keys {
@@ -88,7 +81,7 @@ impl<'a> Series<'a> {
             role,
             filling,
             keys,
-            cells: work.options.cells,
+            cells: options.cells,
             sorted,
             ranks: Ranks::new(alloc, draw, keys)?,
             members: None,
@@ -117,12 +110,10 @@ impl<'a> Series<'a> {
         let part = self.sorted.get(first..).unwrap_or(&[]);
         let lo = *part.first().unwrap_or(&0);
         let hi = *part.get(rows.saturating_sub(1)).unwrap_or(&0);
-        let (hi, most) = match is_page {
-            true => (u64::MAX, Some(rows)),
-            false => (hi, None),
-        };
-        let range = Range { lo, hi, most };
-        Call::Rows { range, rows }
+        match is_page {
+            true => Call::Page { from: lo, rows },
+            false => Call::Scan { lo, hi, rows },
+        }
     }
 
     /// The call of this index of the thread with this number in a mix, which draws these words.

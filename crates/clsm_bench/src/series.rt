@@ -3,7 +3,7 @@ ghost use Rattle.std.specs.Prelude.{◌≡◌, All};
 
 use crate::batches::filled_members;
 use crate::calls::{Lap, Round, put_filled, work_all};
-use crate::draws::{Call, Range, Series};
+use crate::draws::{Call, Series};
 use crate::failure::Failure;
 use crate::lines::Beside;
 use crate::sizes::Work;
@@ -80,13 +80,11 @@ fn disturb<R: Wait>(
 ) -> Result<(), Failure> {
     let (mut caller, mut merger) = extra;
     let keys = scene.round.series.keys;
-    let range = Range {
+    let all = Call::Scan {
         lo: 0,
         hi: u64::MAX,
-        most: None,
+        rows: keys as usize,
     };
-    let rows = keys as usize;
-    let all = Call::Rows { range, rows };
     let members = filled_members(alloc, keys)?;
     for _ in 0..u32::MAX {
         if stop.load(SeqCst) {
@@ -141,9 +139,15 @@ pub fn store_lap<R: Threads + Sync + Clock + Wait>(
     work: &Work,
     beside: &Beside,
 ) -> Result<Lap, Failure> {
-    let series = Series::new(alloc, work)?;
+    let Work {
+        line,
+        options,
+        threads,
+    } = *work;
+    let series = Series::new(alloc, line, options)?;
     let is_merged = matches!(beside, Beside::Merger | Beside::Batcher);
-    let Ok(opened) = open(alloc, work.sizes(is_merged)) else {
+    let calls = line.calls(is_merged, options, threads);
+    let Ok(opened) = open(alloc, line.sizes(is_merged, options, threads)) else {
         return Err(Failure::Refused);
     };
     let Opened {
@@ -153,7 +157,7 @@ pub fn store_lap<R: Threads + Sync + Clock + Wait>(
     } = opened;
     let callers = callers(alloc, &store, seats)?;
     let merger = Merger::new(&store, merger);
-    let round = Round::new(&series, work.calls(is_merged), work.threads);
+    let round = Round::new(&series, calls, threads);
     let scene = Scene {
         beside,
         round: &round,
@@ -167,15 +171,20 @@ pub fn map_lap<R: Threads + Sync + Clock + Wait>(
     alloc: Global,
     work: &Work,
 ) -> Result<Lap, Failure> {
-    let series = Series::new(alloc, work)?;
+    let Work {
+        line,
+        options,
+        threads,
+    } = *work;
+    let series = Series::new(alloc, line, options)?;
+    let calls = line.calls(false, options, threads);
     let map = RwLock::new(BTreeMap::new(alloc));
     let mut callers = Vec::new(alloc);
-    for number in 0..work.threads {
+    for number in 0..threads {
         callers.push(MapCaller { number, map: &map })?;
     }
     if let Some(caller) = callers.first_mut() {
         put_filled(rt, alloc, caller, 0..series.keys, series.keys)?;
     }
-    let round = Round::new(&series, work.calls(false), work.threads);
-    work_all(rt, alloc, callers, &round)
+    work_all(rt, alloc, callers, &Round::new(&series, calls, threads))
 }

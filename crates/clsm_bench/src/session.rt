@@ -65,14 +65,19 @@ pub fn session_lap<R: Threads + Sync + Clock + Wait>(
     alloc: Global,
     work: &Work,
 ) -> Result<Lap, Failure> {
-    let series = Series::new(alloc, work)?;
-    let round = Round::new(&series, work.calls(true), work.threads);
+    let Work {
+        line,
+        options,
+        threads,
+    } = *work;
+    let series = Series::new(alloc, line, options)?;
+    let round = Round::new(&series, line.calls(true, options, threads), threads);
     let job = FilledRound {
         rt,
         alloc,
         round: &round,
         is_filled: OnceLock::new(),
     };
-    let ended = with_store(rt, alloc, work.sizes(true), &job)?;
+    let ended = with_store(rt, alloc, line.sizes(true, options, threads), &job)?;
     whole(ended.answers.into_iter().flatten().collect(alloc)?)
 }

@@ -39,13 +39,10 @@ impl Line {
             ..*options
         }
     }
-}
 
-impl Work<'_> {
     /// The keys that are written before the time is taken.
-    pub fn filled(&self) -> u32 {
-        let Line(_, _, _, _, role, filling, _) = self.line;
-        let options = self.options;
+    pub fn filled(&self, options: &Options) -> u32 {
+        let Line(_, _, _, _, role, filling, _) = self;
         match (role, filling) {
             (Puts | RisingPuts | Batches(_) | HotBatches(_), Epoch) => 0,
             (Mixed | HotMixed | OnePuts, Epoch) => options.keys.min(options.cells / 2),
@@ -56,9 +53,9 @@ impl Work<'_> {
 
     /// How many members a batch of each of so many threads has: as many as the line says, where the
     /// thread's part of an epoch has room for them.
-    pub fn members(&self) -> u32 {
-        let room = self.options.cells / self.threads.max(1);
-        match &self.line.4 {
+    pub fn members(&self, options: &Options, threads: u32) -> u32 {
+        let room = options.cells / threads.max(1);
+        match &self.4 {
             Batches(size) | HotBatches(size) => room.min(*size).max(1),
             _ => 1,
         }
@@ -66,10 +63,10 @@ impl Work<'_> {
 
     /// The writes of the batches of each of so many threads: as many as the options say at most,
     /// but for those of a single batch.
-    fn writes(&self) -> u32 {
-        let room = self.options.cells / self.threads.max(1);
-        let members = self.members().max(1);
-        let batches = self.options.calls.min(room) / members;
+    fn writes(&self, options: &Options, threads: u32) -> u32 {
+        let room = options.cells / threads.max(1);
+        let members = self.members(options, threads).max(1);
+        let batches = options.calls.min(room) / members;
         batches.max(1).saturating_mul(members)
     }
 
@@ -77,18 +74,17 @@ impl Work<'_> {
     /// in one epoch, but for reads and beside a merger. Where others get or scan, or what is put has
     /// a value, half of the times that are left are for puts: a reader may cancel one, and the put
     /// then takes another.
-    pub fn calls(&self, is_merged: bool) -> u32 {
-        let (options, threads) = (self.options, self.threads);
-        let room = match &self.line.4 {
+    pub fn calls(&self, is_merged: bool, options: &Options, threads: u32) -> u32 {
+        let room = match &self.4 {
             Several(mix, _) => return mix.calls(options, threads),
             _ if is_merged => options.calls,
-            Batches(_) | HotBatches(_) => return self.writes(),
+            Batches(_) | HotBatches(_) => return self.writes(options, threads),
             Scans(rows) | Pages(rows) => {
                 let rows = options.keys.min(*rows);
                 (MOST_ROWS / rows.max(1)).max(1)
             }
             OnePuts => options.cells / 4,
-            Puts if matches!(self.line.6, Scanner) => options.cells / 4 / threads.max(1),
+            Puts if matches!(self.6, Scanner) => options.cells / 4 / threads.max(1),
             Puts | RisingPuts => options.cells / threads.max(1),
             Mixed | HotMixed => options.cells / 4 / threads.max(1),
             _ => options.calls,
@@ -98,9 +94,8 @@ impl Work<'_> {
 
     /// The sizes of a store for so many threads, with one more seat. A run has room for the filled
     /// keys, and beside a merger also for the new keys of the threads, and four epochs.
-    pub fn sizes(&self, is_merged: bool) -> Config {
-        let (options, threads) = (self.options, self.threads);
-        let mut run = self.filled();
+    pub fn sizes(&self, is_merged: bool, options: &Options, threads: u32) -> Config {
+        let mut run = self.filled(options);
         if is_merged {
             let new = threads.saturating_mul(options.calls.min(NEW_KEYS));
             let epochs = options.cells.saturating_mul(4);

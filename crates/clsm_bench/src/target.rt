@@ -1,6 +1,6 @@
 //! What a thread makes its calls on: a seat of a store, a caller of a session, or a map under a
 //! lock.
-use crate::draws::{Call, Range};
+use crate::draws::Call;
 use clsm_model::{Change, Value};
 use clsm_session::{Place, SessionCaller};
 use clsm_store::Caller;
@@ -30,8 +30,15 @@ pub trait Target {
     /// Makes the writes of a batch, once. Answers whether they were made.
     fn write_all<R: Wait>(&mut self, rt: &R, members: &[(u64, Change)]) -> bool;
 
-    /// How many rows it reads of the range.
-    fn rows<R: Wait>(&mut self, rt: &R, alloc: Global, range: Range) -> Option<usize>;
+    /// How many rows it reads of the range, or of its first so many.
+    fn rows<R: Wait>(
+        &mut self,
+        rt: &R,
+        alloc: Global,
+        lo: u64,
+        hi: u64,
+        most: Option<usize>,
+    ) -> Option<usize>;
 
     /// Makes the call, a write again while there is no room for it. Answers whether it was answered
     /// as it should be.
@@ -41,7 +48,10 @@ pub trait Target {
             Call::Put { key, word } => self.write(rt, *key, Some(*word)),
             Call::Change { key } => self.write(rt, *key, None),
             Call::Get { key, word } => self.first_word(rt, *key) == *word,
-            Call::Rows { range, rows } => self.rows(rt, alloc, *range) == Some(*rows),
+            Call::Scan { lo, hi, rows } => self.rows(rt, alloc, *lo, *hi, None) == Some(*rows),
+            Call::Page { from, rows } => {
+                self.rows(rt, alloc, *from, u64::MAX, Some(*rows)) == Some(*rows)
+            }
         }
     }
 
@@ -105,8 +115,14 @@ impl Target for Caller<'_, Free> {
         self.batch(rt, members).is_ok()
     }
 
-    fn rows<R: Wait>(&mut self, _rt: &R, alloc: Global, range: Range) -> Option<usize> {
-        let Range { lo, hi, most } = range;
+    fn rows<R: Wait>(
+        &mut self,
+        _rt: &R,
+        alloc: Global,
+        lo: u64,
+        hi: u64,
+        most: Option<usize>,
+    ) -> Option<usize> {
         let rows = match most {
             Some(most) => self.page(alloc, lo, hi, most).ok()?.rows,
             None => self.scan(alloc, lo, hi).ok()?.rows,
@@ -143,8 +159,14 @@ impl<W: Wait, P: Place> Target for SessionCaller<'_, W, P> {
         self.batch(members).is_ok()
     }
 
-    fn rows<R: Wait>(&mut self, _rt: &R, _alloc: Global, range: Range) -> Option<usize> {
-        let Range { lo, hi, most } = range;
+    fn rows<R: Wait>(
+        &mut self,
+        _rt: &R,
+        _alloc: Global,
+        lo: u64,
+        hi: u64,
+        most: Option<usize>,
+    ) -> Option<usize> {
         let rows = match most {
             Some(most) => self.page(lo, hi, most).ok()?.rows,
             None => self.scan(lo, hi).ok()?.rows,
@@ -197,8 +219,14 @@ impl Target for MapCaller<'_> {
         false
     }
 
-    fn rows<R: Wait>(&mut self, rt: &R, alloc: Global, range: Range) -> Option<usize> {
-        let Range { lo, hi, most } = range;
+    fn rows<R: Wait>(
+        &mut self,
+        rt: &R,
+        alloc: Global,
+        lo: u64,
+        hi: u64,
+        most: Option<usize>,
+    ) -> Option<usize> {
         let map = self.map.read(rt);
         let mut rows = Vec::new(alloc);
         if lo <= hi {

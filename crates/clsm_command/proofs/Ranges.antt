@@ -154,15 +154,11 @@ GivesRange s = (words : List Text) → level_fault s [] nothing_held words false
 apart : (x y : ℕ) (xs ys : Text) → (x ≡ y → ⊥) → x ∷ xs ≡ y ∷ ys → ⊥
 apart x y xs ys differ e = differ (ap (λ (t : Text). slice_index_or t 0 x) e)
 
--- a name that begins as neither of the two
-unranged : (x : ℕ) (xs : Text) (rows : List Row) → (x ≡ 114 → ⊥) → (x ≡ 101 → ⊥) → AreRanged (x ∷ xs) rows
-unranged x xs rows no_run no_explore = record {
-  run = λ name. absurd (apart x 114 _ _ no_run name);
-  explore = λ name. absurd (apart x 101 _ _ no_explore name);
-}
-
 script_range : (rows : List Row) → AreRanged (codes "script") rows
-script_range rows = unranged 115 _ rows (λ f. absurd (omega arith)) (λ f. absurd (omega arith))
+script_range rows = record {
+  run = λ name. absurd (apart 115 114 _ _ (λ f. absurd (omega arith)) name);
+  explore = λ name. absurd (apart 115 101 _ _ (λ f. absurd (omega arith)) name);
+}
 
 run_range : (rows : List Row) → AreInRange rows → AreRanged (codes "run") rows
 run_range rows ranges = record {
@@ -171,7 +167,10 @@ run_range rows ranges = record {
 }
 
 audit_range : (rows : List Row) → AreRanged (codes "audit") rows
-audit_range rows = unranged 97 _ rows (λ f. absurd (omega arith)) (λ f. absurd (omega arith))
+audit_range rows = record {
+  run = λ name. absurd (apart 97 114 _ _ (λ f. absurd (omega arith)) name);
+  explore = λ name. absurd (apart 97 101 _ _ (λ f. absurd (omega arith)) name);
+}
 
 explore_range : (rows : List Row) → IsLimitInRange rows → AreRanged (codes "explore") rows
 explore_range rows range = record {

@@ -1,5 +1,5 @@
 -- The calls of a workload that were made.
-use Rattle.std.proofs.Common.{◌≡◌, ℕ, zero, suc, ◌+◌, List, [], ◌∷◌, Result, Ok, Err, IsOk, add-one, ap, ◌∙◌, subst, sym}
+use Rattle.std.proofs.Common.{◌≡◌, ℕ, ◌+◌, List, [], ◌∷◌, Result, Ok, Err, IsOk, add-one, ap, ◌∙◌, subst, sym}
 use Rattle.std.proofs.lemmas.List.Elements.{All-cons, All-head, All-nil, All-tail}
 use Rattle.std.specs.Prelude.{All, OnOk, ⊤}
 use Rattle.clsm_model.specs.declared.plain_map.Memory.{Memory}

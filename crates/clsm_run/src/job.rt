@@ -19,8 +19,16 @@ pub trait Loaded {
 
 impl Loaded for Brand {
     ghost use Rattle.std.specs.Prelude.{false};
+    ghost use Rattle.std.proofs.Common.{arith};
 
-    ghost load = { record { ops = 0; keys = 1; seed = 0; batch = false } };
+    ghost load = { record {
+      ops = 0;
+      keys = 1;
+      seed = 0;
+      batch = false;
+      some_keys = omega arith;
+      not_too_many_keys = omega arith;
+    } };
 }
 
 /// The work of each caller of the session.

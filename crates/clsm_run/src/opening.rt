@@ -71,7 +71,7 @@ where
 }
 
 /// Lets the workers make their calls, which wait for room or do not, and audits them.
-#[tactic(auto, using(crate::proofs::Verdicts::of_crew, crate::proofs::Verdicts::of_session))]
+#[tactic(auto, using(crate::proofs::Verdicts::of_session))]
 fn call_all<R, E>(rt: &R, alloc: Global, asked: &AskedRun, faults: &mut E) -> Result<Ran, Failure>
 where
     R: Threads + Sync + Clock + Wait,

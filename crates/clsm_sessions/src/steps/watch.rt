@@ -12,19 +12,17 @@ const ROOM: u64 = 500;
 /// How often a thread looks for its turn before it goes on without it.
 const TURNS: u64 = 10_000_000;
 
-/// Whose turn it is.
-#[derive(Clone, Copy)]
-enum Turn {
-    /// Nothing is noted.
-    Closed,
-    /// Nobody is held yet.
-    Nobody,
-    /// The call is held.
-    Held,
-    LetGo,
-    /// The call is over.
-    Over,
-}
+/// The turns: nothing is noted, nobody is held yet, the call is held, it was let go, and it is
+/// over.
+const CLOSED: u64 = 0;
+
+const NOBODY: u64 = 1;
+
+const HELD: u64 = 2;
+
+const LET_GO: u64 = 3;
+
+const OVER: u64 = 4;
 
 /// A step that was made, and the number of who made it.
 #[derive(Clone, Copy)]
@@ -59,26 +57,21 @@ impl Watch {
         Ok(Watch {
             hold,
             made: AtomicU64::new(0),
-            turn: AtomicU64::new(Turn::Closed as u64),
+            turn: AtomicU64::new(CLOSED),
             count: AtomicU64::new(0),
             noted,
         })
     }
 
     /// Takes the turn from one to the other. Answers whether it was the first.
-    fn pass(&self, from: Turn, to: Turn) -> bool {
-        let (from, to) = (from as u64, to as u64);
+    fn pass(&self, from: u64, to: u64) -> bool {
         self.turn.compare_exchange(from, to, SeqCst, SeqCst).is_ok()
     }
 
-    fn is_turn(&self, turn: Turn) -> bool {
-        self.turn.load(SeqCst) == turn as u64
-    }
-
     /// Waits while this is the turn, but not for ever.
-    fn wait_while(&self, turn: Turn) {
+    fn wait_while(&self, turn: u64) {
         for _ in 0..TURNS {
-            if !self.is_turn(turn) {
+            if self.turn.load(SeqCst) != turn {
                 return;
             }
             thread::yield_now();
@@ -87,22 +80,22 @@ impl Watch {
 
     /// From now on steps are noted, and the call is held.
     pub(crate) fn open(&self) {
-        self.pass(Turn::Closed, Turn::Nobody);
+        self.pass(CLOSED, NOBODY);
     }
 
     /// Waits until the call is held. Answers whether it is.
     pub(crate) fn wait_for_hold(&self) -> bool {
-        self.wait_while(Turn::Nobody);
-        self.is_turn(Turn::Held)
+        self.wait_while(NOBODY);
+        self.turn.load(SeqCst) == HELD
     }
 
     pub(crate) fn let_go(&self) {
-        self.pass(Turn::Held, Turn::LetGo);
+        self.pass(HELD, LET_GO);
     }
 
     /// The call that may be held is over.
     pub(crate) fn end(&self) {
-        self.pass(Turn::Nobody, Turn::Over);
+        self.pass(NOBODY, OVER);
     }
 
     /// The steps that the one with this number made.
@@ -133,18 +126,18 @@ impl Watch {
         }
         let next = made.wrapping_add(1);
         self.made.store(next, SeqCst);
-        next == self.hold.steps.len() as u64 && self.pass(Turn::Nobody, Turn::Held)
+        next == self.hold.steps.len() as u64 && self.pass(NOBODY, HELD)
     }
 }
 
 impl Pace for Watch {
     fn step(&self, seat: u64, kind: Kind) {
-        if self.is_turn(Turn::Closed) {
+        if self.turn.load(SeqCst) == CLOSED {
             return;
         }
         self.note(seat, kind);
         if seat == u64::from(self.hold.player) && self.is_at_hold(kind) {
-            self.wait_while(Turn::Held);
+            self.wait_while(HELD);
             self.let_go();
         }
     }

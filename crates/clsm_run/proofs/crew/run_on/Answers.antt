@@ -30,6 +30,6 @@ returns-clause-made g c =
     let load = c.args.asked.now.load in
     let done : AreWorked load c.args.opened.seats.items c.in_ok-worked.worked.items = search rules in
     let made = all_made c.args.opened.store c.args.asked.now.config.seats c.args.opened.seats.items c.requires.seats load c.in_ok-worked.worked.items done
-        c.in-Ok.ensures.ended in
+    c.in-Ok.ensures.ended in
     all_of_ran (HasMadeAll load) c.in-Ok.gathered.seats.items c.audited.result
     (subst (All (HasMadeAll load)) (sym c.in-Ok.ensures.seats) made) c.audited.ensures.seats

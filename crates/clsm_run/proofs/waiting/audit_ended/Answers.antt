@@ -5,8 +5,8 @@ use Rattle.clsm_run.proofs.Ended.{are_seats_of, as_many, settled, told}
 use Rattle.clsm_run.proofs.Verdicts.{all_of_ran, audited_whole}
 use Rattle.clsm_run.proofs.waiting.audit_ended.Goals as goal
 
-pub rejoin-worked-requires : goal.rejoin-worked-requires
-rejoin-worked-requires g c = as_many c.args.asked.now.load c.args.ended.seats.items c.args.ended.answers.items c.requires.made
+pub rejoin-requires : goal.rejoin-requires
+rejoin-requires g c = as_many c.args.asked.now.load c.args.ended.seats.items c.args.ended.answers.items c.requires.made
 
 pub gather-requires : goal.gather-requires
 gather-requires g c =
@@ -25,6 +25,6 @@ pub returns-clause-made : goal.returns-clause-made
 returns-clause-made g c =
     let load = c.args.asked.now.load in
     let made = settled load c.args.ended.seats.items c.args.ended.answers.items c.requires.made c.in_ok-worked.worked.items
-        c.in_ok-worked.ensures.seats c.in_ok-worked.ensures.made c.in-Ok.ensures.ended in
+    c.in_ok-worked.ensures.seats c.in_ok-worked.ensures.made c.in-Ok.ensures.ended in
     all_of_ran (HasSettled load) c.in-Ok.gathered.seats.items c.audited.result
     (subst (All (HasSettled load)) (sym (c.in-Ok.ensures.seats ∙ c.in_ok-worked.ensures.seats)) made) c.audited.ensures.seats

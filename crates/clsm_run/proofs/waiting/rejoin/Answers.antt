@@ -13,6 +13,6 @@ loop-seat-preserved c =
       seats = one_more (λ (v : Worked). v.seat) c.loop-seat.worked.items c.push.new.self.items w c.loop-seat.seat-iterator.rest.items
           _ c.args.seats.items c.in_ok-push.ensures.items seats inv.seats;
       made = one_more (λ (v : Worked). v.made) c.loop-seat.worked.items c.push.new.self.items w c.loop-seat.made.rest.items
-          c.next.new.self.rest.items c.args.made.items c.in_ok-push.ensures.items made inv.made;
+          _ c.args.made.items c.in_ok-push.ensures.items made inv.made;
       rest = omega (arith, ap length seats, ap length made, inv.rest);
     }
