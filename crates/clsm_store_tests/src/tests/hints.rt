@@ -3,7 +3,7 @@
 use super::drawn::after;
 use clsm_law::Layout;
 use clsm_model::{Config, Deed, PlainMap, Slot, Value};
-use clsm_store_calls::{Asked, Got, read, scan_at, write};
+use clsm_store_calls::{Asked, Got, Request, read, scan_at, write};
 use clsm_words::{Free, RawSeat, Words};
 use std::alloc::Global;
 use std::marker::Model;
@@ -106,7 +106,8 @@ impl Alone {
         self.pin = self.pin.wrapping_add(2);
         assert_eq!(rt; value, map.get(key));
         let asked = Asked::All(key, u64::MAX);
-        let scanned = scan_at(&self.words, &mut self.seat, alloc, self.pin, asked);
+        let wanted = Request { alloc, asked };
+        let scanned = scan_at(&self.words, &mut self.seat, self.pin, wanted);
         self.pin = self.pin.wrapping_add(2);
         let (_, deed) = scanned.expect(rt, "memory");
         let expected = map.range(key, u64::MAX).expect(rt, "memory");
