@@ -1,7 +1,8 @@
 //! Times below a read's own are settled before it reads: each is decided then, and none below
 //! changes any more.
 ghost use Rattle.std.specs.Prelude.{◌≡◌, ◌+◌, ◌<◌, ◌≤◌, ℕ, false, true, length};
-ghost use Rattle.clsm_words.specs.Plays.{IsSeatOf};
+ghost use Rattle.clsm_law.specs.declared.step.Step.TheVariants.{RaiseFront};
+ghost use Rattle.clsm_words.specs.Plays.{IsSeatOf, MayPlay};
 ghost use Rattle.clsm_words.specs.Keeping.{OnlyReads};
 ghost use Rattle.clsm_memtable.specs.Settled.{HasWaited, IsToSettle, MaySettleBelow};
 
@@ -60,6 +61,19 @@ fn settle<P: Pace>(words: &Words<P>, seat: &mut RawSeat, component: u64, time: T
     }
 }
 
+/// Raises FRONT, which the seat found at `front` before, to the time, and its past with it. Where it
+/// stands there already, a look says so: readers beside each other then keep its line.
+fn raise<P: Pace>(words: &Words<P>, seat: &mut RawSeat, front: Time, time: Time)
+    requires may { MayPlay words.now seat.old (RaiseFront time) }
+    ensures of { IsSeatOf words.now seat.new }
+    ensures keeps { OnlyReads seat.old.knows seat.new.knows }
+    ensures settled { time ≤ length seat.new.knows.past }
+{
+    if front < time || words.confirm_front(seat, time) < time {
+        words.raise_front(seat, time);
+    }
+}
+
 /// Settles each time from the one that FRONT and the component begin with up to `time`, and raises
 /// FRONT to `time`: each time below it is decided then, and the seat's past reaches it. A time that
 /// is undecided still when it was looked at again as often as the patience says is cancelled, and
@@ -79,5 +93,5 @@ pub fn settle_below<P: Pace>(words: &Words<P>, seat: &mut RawSeat, component: u6
     for next in first..time {
         settle(words, seat, component, next);
     }
-    words.raise_front(seat, time);
+    raise(words, seat, front, time);
 }

@@ -1,17 +1,22 @@
 -- Each open step of a seat is allowed.
-use Rattle.std.proofs.Common.{◌≡◌, ℕ, ◌≤◌, true, length, take, refl, sym, ap, ◌∙◌, arith}
+use Rattle.std.proofs.Common.{◌≡◌, ℕ, ◌≤◌, true, cond, nat_lt, max, length, take, refl, sym, ap, ◌∙◌, subst, arith}
+use Rattle.std.proofs.lemmas.Bool.{ltb-false}
+use Rattle.std.specs.Prelude.{slice_index, Bool}
 use mathlib.Core.Option.{some}
 use lib.ListN.{get_elem?}
-use Rattle.atomic_table.specs.Table.{State, Me, keeps, Allows}
+use Rattle.atomic_table.specs.Table.{State, Me, Act, Valid, keeps, stepped, Allows}
 use Rattle.clsm_model.specs.History.{History, IsBeginning, batches_below, end_of}
 use Rattle.clsm_model.proofs.Batches.{below_below}
 use Rattle.clsm_law.specs.declared.step.Step.{Step}
-use Rattle.clsm_law.specs.declared.word.Word.TheVariants.{Clock}
+use Rattle.clsm_law.specs.declared.step.Step.TheVariants.{Look, RaiseFront}
+use Rattle.clsm_law.specs.declared.word.Word.TheVariants.{Clock, Front}
 use Rattle.clsm_law.specs.Layout.{index_of, memory}
 use Rattle.clsm_law.specs.Relation.{word_of, changed}
 use Rattle.clsm_law.specs.Worlds.{settled}
+use Rattle.clsm_law.proofs.Cases.{by_bool}
 use Rattle.clsm_words.specs.declared.known.Known.{Known}
 use Rattle.clsm_words.specs.Knowing.{Opens, Sound, Follows, known_of, told_of}
+use Rattle.clsm_words.specs.Plays.{confirming}
 use Rattle.clsm_words.specs.Ruled.{Begins, Ruled}
 use Rattle.clsm_words.proofs.Beginnings.{begins_prefix}
 use Rattle.clsm_words.proofs.Knows.{own_batches, own_past, past_clock, past_long, agrees_of, sound_of}
@@ -115,3 +120,15 @@ allows slots id me step sits o s r deep at fits = (
   ruled' s id me.0 r at sits step o,
   follows s id me.0 r at sits step o,
 )
+
+-- where FRONT is found at the time or above, a look at it is a raise to the time
+pub allows_confirm : (slots id : ℕ) (me : Me ℕ Known) (time : ℕ) → me.0.seated ≡ true → Opens me.0 (RaiseFront time) → Opens me.0 (Look Front)
+    → Allows (Ruled me.0.layout) slots id me (index_of me.0.layout Front) (λ x. x) (λ x after. Follows (confirming time x) me.0 x after.0)
+allows_confirm slots id me time sits raises looks s r deep at fits =
+    let i = index_of me.0.layout Front in
+    let x = slice_index s.words i in
+    by_bool (λ (b : Bool). (w : Known) × (a : Act ℕ) × Valid s.homes me.1 a × Ruled me.0.layout (stepped s i x id me.1 w a)
+    × Follows (cond b (Look Front) (RaiseFront time)) me.0 x w) (nat_lt x time) (λ _. allows slots id me (Look Front) sits looks s r deep at fits)
+    (λ above. let le = ltb-false x time above in let stays : max x time ≡ x = omega arith in
+    subst (λ (n : ℕ). (w : Known) × (a : Act ℕ) × Valid s.homes me.1 a × Ruled me.0.layout (stepped s i n id me.1 w a)
+    × Follows (RaiseFront time) me.0 x w) stays (allows slots id me (RaiseFront time) sits raises s r deep at fits))

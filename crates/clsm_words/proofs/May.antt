@@ -4,7 +4,9 @@ use Rattle.atomic_table.specs.Table.{Me, Allows}
 use Rattle.atomic_table.specs.Seated.{TableId}
 use Rattle.clsm_law.specs.declared.layout.Layout.{Layout}
 use Rattle.clsm_law.specs.declared.word.Word.{Word}
+use Rattle.clsm_law.specs.declared.word.Word.TheVariants.{Front}
 use Rattle.clsm_law.specs.declared.step.Step.{Step}
+use Rattle.clsm_law.specs.declared.step.Step.TheVariants.{Look, RaiseFront}
 use Rattle.clsm_law.specs.Memory.{is_word}
 use Rattle.clsm_law.specs.Layout.{index_of, size_of}
 use Rattle.clsm_law.specs.Merging.{word_of_merger, changed_by_merger}
@@ -16,9 +18,9 @@ use Rattle.clsm_words.specs.Acting.{made_by}
 use Rattle.clsm_words.specs.Seats.{RawState}
 use Rattle.clsm_words.specs.Knowing.{Opens, Sound, Follows}
 use Rattle.clsm_words.specs.Merging.{IsSoundMerger, OpensToMerger, FollowsMerger}
-use Rattle.clsm_words.specs.Plays.{IsSeatOf, MayActBy}
+use Rattle.clsm_words.specs.Plays.{IsSeatOf, MayActBy, confirming}
 use Rattle.clsm_words.specs.Ruled.{Ruled}
-use Rattle.clsm_words.proofs.Allowed.{allows}
+use Rattle.clsm_words.proofs.Allowed.{allows, allows_confirm}
 use Rattle.clsm_words.proofs.MergerAllowed.{allows_merger}
 
 -- one who plays: what holds of what it knows, which steps are open to it, on which word each is and
@@ -42,6 +44,18 @@ caller = record {
   Then = Follows;
   there = λ k step sound. sound.there step;
   allows = λ slots id me step sound. allows slots id me step sound.seated;
+}
+
+-- a caller who looks at FRONT before a raise to the time
+abbrev pub confirmer : ℕ → Role
+confirmer time = record {
+  IsSound = Sound;
+  IsOpen = λ k step. Opens k (RaiseFront time) × Opens k (Look Front);
+  word = λ k step. Front;
+  change = λ k step x. x;
+  Then = λ step k x k'. Follows (confirming time x) k x k';
+  there = λ k step sound opens. sound.there (Look Front) opens.1;
+  allows = λ slots id me step sound opens. allows_confirm slots id me time sound.seated opens.0 opens.1;
 }
 
 abbrev pub merger : Role

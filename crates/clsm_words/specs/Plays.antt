@@ -1,9 +1,11 @@
 -- What the step functions ask and tell.
-use Rattle.std.specs.Prelude.{◌≡◌, ◌≢◌, ℕ, ◌+◌, ◌<◌, max, true, false, [], List, length, take, slice_index_or, Some, None}
+use Rattle.std.specs.Prelude.{◌≡◌, ◌≢◌, ℕ, ◌+◌, ◌<◌, max, true, false, cond, nat_lt, [], List, length, take, slice_index_or, Some, None}
 use Rattle.atomic_table.specs.Table.{Me, Allows}
 use Rattle.clsm_model.specs.History.{plain}
 use Rattle.clsm_law.specs.declared.word.Word.{Word}
+use Rattle.clsm_law.specs.declared.word.Word.TheVariants.{Front}
 use Rattle.clsm_law.specs.declared.step.Step.{Step}
+use Rattle.clsm_law.specs.declared.step.Step.TheVariants.{Look, RaiseFront}
 use Rattle.clsm_law.specs.declared.step.Answer.{Answer}
 use Rattle.clsm_law.specs.declared.view.View.{View}
 use Rattle.clsm_law.specs.Layout.{index_of}
@@ -51,6 +53,11 @@ Plays words seat step seat' = (x : ℕ) × Played words seat step x seat'
 -- and this is the step's answer
 abbrev pub PlaysTo : WordTable → RawState → Step → Answer → RawState → Type 0
 PlaysTo words seat step answer seat' = (x : ℕ) × Played words seat step x seat' × (answer ≡ answer_of step x)
+
+-- the step that a look at FRONT is which finds x there: where that is not below the time, a raise to
+-- the time, which leaves the word as it is
+abbrev pub confirming : ℕ → ℕ → Step
+confirming time x = cond (nat_lt x time) (Look Front) (RaiseFront time)
 
 -- the table allows it this operation on the word, and what it knows follows so
 abbrev pub MayActBy : WordTable → ℕ → Me ℕ Known → (Known → ℕ → Known → Type 0) → Word → Operation → Type 0

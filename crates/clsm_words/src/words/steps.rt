@@ -1,13 +1,16 @@
 //! The steps on the lock, the clock and the front, and looks at any word.
 ghost use Rattle.clsm_law.specs.declared.step.Step.TheVariants.{EnterShared, LeaveShared, Draw, Look, RaiseFront};
-ghost use Rattle.clsm_words.specs.Plays.{MayPlay, Played, Plays, PlaysTo};
+ghost use Rattle.clsm_law.specs.declared.word.Word.TheVariants.{Front};
+ghost use Rattle.clsm_words.specs.Knowing.{Opens};
+ghost use Rattle.clsm_words.specs.Plays.{MayPlay, Played, Plays, PlaysTo, confirming};
 
 use super::cells::won_if;
 use super::{RawSeat, Words};
 use crate::operation::Operation::{Exchange, Load, Raise, Subtract};
-use crate::pace::Pace;
+use crate::pace::{Kind, Pace};
 use clsm_law::{Answer, Step, Word};
 use clsm_model::Time;
+use std::marker::Brand;
 
 impl<P: Pace> Words<P> {
     /// Enters the lock beside so many other holders. Answers `Lost` where there were not just so
@@ -52,6 +55,21 @@ impl<P: Pace> Words<P> {
         ensures { Plays self.now seat.old (RaiseFront time) seat.new }
     {
         self.play(seat, &Step::RaiseFront(time), Word::Front, Raise(time));
+    }
+
+    /// Looks at FRONT before a raise to the time, and answers what it found. Where that is the time
+    /// or above, nothing is left to raise, and the look is the raise: the seat's past is raised to
+    /// the time. Readers that only look share the word's line, which each raise would take from the
+    /// others.
+    #[inline(always)]
+    pub fn confirm_front(&self, seat: &mut RawSeat, time: Time) -> u64
+        requires raise { MayPlay self.now seat.old (RaiseFront time) }
+        requires look { Opens seat.old.knows (Look Front) }
+        ensures { Played self.now seat.old (confirming time result) result seat.new }
+    {
+        self.pace.step(seat.number, Kind::RaiseFront);
+        self.words
+            .act_told::<Brand, Time>(&mut seat.seat, &time, Word::Front, Load)
     }
 
     /// Looks at the word.

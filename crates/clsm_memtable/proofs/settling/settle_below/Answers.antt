@@ -1,5 +1,5 @@
 use Rattle.clsm_words.proofs.Keeps.{reads_trans}
-use Rattle.clsm_memtable.proofs.Settles.{front_keeps, raise_keeps}
+use Rattle.clsm_memtable.proofs.Settles.{front_keeps}
 use Rattle.clsm_memtable.proofs.settling.settle_below.Goals as goal
 
 pub loop-next-preserved : goal.loop-next-preserved
@@ -14,6 +14,6 @@ returns-clause-keeps g c =
     let k = c.args.seat.now.knows in
     let k1 = c.look-front.new.seat.knows in
     let k2 = c.loop-next.seat.knows in
-    let k3 = c.raise_front.new.seat.knows in
+    let k3 = c.raise.new.seat.knows in
     let looked = reads_trans k k1 k2 (front_keeps k k1 c.look-front.result c.look-front.ensures.1) c.loop-next.invariant.keeps in
-    reads_trans k k2 k3 looked (raise_keeps k2 k3 c.args.time c.raise_front.ensures.0 c.raise_front.ensures.1.1)
+    reads_trans k k2 k3 looked c.raise.ensures.keeps
