@@ -24,7 +24,7 @@ pub enum Explanation {
     Unknown {
         rule: Rule,
     },
-    /// A record with a lower index writes at this time of the record too.
+    /// The record writes at this time, and so does the one at the lower index `other`.
     TwoAtOneTime {
         other: usize,
         time: Time,
@@ -48,8 +48,8 @@ pub enum Explanation {
         newest: Option<FoundWrite>,
         seen: Option<FoundWrite>,
     },
-    /// The row with this number, from 0 on, is the first that differs from the map's. Either may be
-    /// missing. The key is the lower one of both, and the writes are its.
+    /// The row with this number, counted from 0, is the first that differs from the map's. Either
+    /// may be missing. `key` is the lower of the two rows' keys, and both writes are of that key.
     WrongRow {
         number: usize,
         answered: Option<(u64, Value)>,

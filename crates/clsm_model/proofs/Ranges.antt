@@ -1,12 +1,15 @@
 -- The part of a plain map from one key to another.
-use Rattle.std.proofs.Common.{◌≡◌, ℕ, ◌&&◌, Bool, true, false, cond, List, [], ◌∷◌, None, Result, Ok, Err, IfOk, nat_le, refl, sym, ◌∙◌, ap, arith}
+use Rattle.std.proofs.Common.{◌≡◌, ℕ, ◌<◌, ◌&&◌, not, Bool, true, false, cond, List, [], ◌∷◌, None, Result, Ok, Err, IfOk, nat_le, refl, sym, ◌∙◌, ap, arith}
 use Rattle.std.proofs.lemmas.Bool.{eqb-true, le-leb, lt-leb}
+use Rattle.std.proofs.lemmas.Bool.Decides.{nat_tests}
+use Rattle.std.specs.declared.ops.Bound.TheVariants.{Included}
 use Rattle.std.proofs.lemmas.List.Kept.{IsStrictlySortedBy-filter}
 use Rattle.std.proofs.lemmas.Map.Entries.{lookup-filter-keys}
 use Rattle.std.specs.List.{filter}
 use Rattle.std.specs.BTreeMap.{is_at}
+use Rattle.std.specs.BTreeMap.Range.{entries_between}
 use Rattle.std.specs.Map.{keys_of}
-use Rattle.std.specs.Ordering.{nat_cmp}
+use Rattle.std.specs.Ordering.{nat_cmp, is_le, is_lt}
 use Rattle.clsm_model.specs.History.{History}
 use Rattle.clsm_model.specs.Map.{Pair, IsMap, IsRange, KeysRise, between, value_at}
 use Rattle.clsm_model.proofs.Maps.{is_eq-nat_cmp, value_at-lookup}
@@ -37,6 +40,22 @@ IsRange-between h s lo hi pairs map = record {
   above = λ k over. value_at-between lo hi k pairs ∙ elim (nat_le lo k) as
       (λ b. cond (b && nat_le k hi) (value_at pairs k) None ≡ None) [ true ↦ rw (lt-leb k hi over) refl | false ↦ refl ];
 }
+
+-- ---- where a range of the map's entries is looked up
+
+is_le-nat_cmp : (j k : ℕ) → is_le (nat_cmp j k) ≡ nat_le j k
+is_le-nat_cmp j k = grind (arith, nat_tests)
+
+not_lt-nat_cmp : (j k : ℕ) → not (is_lt (nat_cmp j k)) ≡ nat_le k j
+not_lt-nat_cmp j k = grind (arith, nat_tests)
+
+pub between-entries : (lo hi : ℕ) (pairs : List Pair) → entries_between nat_cmp (Included lo) (Included hi) pairs ≡ between lo hi pairs
+between-entries lo hi pairs = λ i. filter (λ pair. is_le-nat_cmp lo pair.0 i && not_lt-nat_cmp hi pair.0 i) pairs
+
+-- no key is from a greater one to a less
+pub between-none : (lo hi : ℕ) (pairs : List Pair) → hi < lo → between lo hi pairs ≡ []
+between-none lo hi [] lt = refl
+between-none lo hi (pair ∷ pairs) lt = grind (arith, nat_tests, between-none lo hi pairs lt)
 
 -- the same of rows that a call gives
 pub IsRange-rows : {V E : Type 0} (rows_of : V → List Pair) (lo hi : ℕ) (pairs : List Pair) (r : Result V E) → IfOk r (λ v. rows_of v ≡ between lo hi pairs)

@@ -102,17 +102,19 @@ impl PlainMap {
 
     /// All pairs with `lo <= key <= hi` by rising key; none where `lo > hi`. Refused if memory
     /// runs out. Of the map of a history below a time they are all keys from `lo` to `hi` with a
-    /// value below that time.
+    /// value below that time. It costs a search and the pairs.
     pub fn range(&self, lo: u64, hi: u64) -> Result<Vec<(u64, Value)>, Memory>
         ensures rows { IfOk result (λ rows. rows.items ≡ between lo hi self.now) }
         ensures history { IfOk result (λ rows.
             (h : History) (s : ℕ) → IsMap h s self.now → IsRange h s lo hi rows.items) }
     {
+        if hi < lo {
+            return Ok(Vec::new(self.alloc));
+        }
         let rows = self
             .values
-            .iter()
+            .range(lo..=hi)
             .map(|(key, value)| (*key, *value))
-            .filter(|row| lo <= row.0 && row.0 <= hi)
             .collect(self.alloc);
         rows.map_err(|_| Memory)
     }

@@ -9,7 +9,7 @@ use clsm_model::{Memory, Value};
 use clsm_words::{Pace, RawSeat, Words};
 use std::alloc::Global;
 
-/// So many rows a scan has room for at first, where no number is given.
+/// The most rows for which a scan takes memory at first.
 const FEW: usize = 16;
 
 /// The keys from `lo` to `hi`, and how many pairs of them at most, where that is given.

@@ -6,8 +6,8 @@ use crate::caller::SessionCaller;
 use std::marker::Brand;
 use std::sync::Wait;
 
-/// Which place a caller has: at which store, and with which number. It is for proofs alone, by which
-/// a session gets back the seats that it dealt; a job only names it as a type parameter.
+/// The store and the number of a caller's seat, for proofs alone: by it a session knows that it
+/// gets back the seats that it gave out. A job only names it as a type parameter.
 pub trait Place {
     ghost store: { Option StoreId };
 

@@ -107,8 +107,8 @@ impl<P: Pace> Store<P> {
     /// Reads the key, and makes of its value what the function answers to it: with `Keep` the call
     /// is a read alone, with a time of its own as `get`; else it is a write, and `old` is the value
     /// of the key below the write's time, as no other write of the key came between (the cLSM
-    /// paper's optimistic read-modify-write). Where another seat wrote the key meanwhile it gives
-    /// its time up, one for each such write at most, and asks the function again. It waits and is
+    /// paper's optimistic read-modify-write). If another seat wrote the key meanwhile, it gives up
+    /// its time, at most one for each such write, and asks the function again. It waits and is
     /// refused as `put`.
     pub fn rmw<R: Wait, F: Fn(Option<Value>) -> Change>(
         &self,

@@ -74,11 +74,11 @@ impl<'a, P: Pace + Drop> Merger<'a, P> {
         (Merger { store, phase }, answer)
     }
 
-    /// Freezes the current epoch, merges it and gives up what that retired, from the phase in which
-    /// the merger is and as far as these go: a flush of the component in memory, and each fourth
-    /// time a compaction of all runs. It makes one try of each of these, as `freeze`, `merge` and
-    /// `reclaim` do, waits for the lock as a freeze does, and for nothing else. If one of them is
-    /// refused it stops there, and `Stopped` says why; the next sweep goes on from there.
+    /// Freezes the current epoch, merges it and reclaims the component that this retires. It begins
+    /// in the merger's phase and goes on as far as it can: a flush of the component in memory, and
+    /// each fourth time a compaction of all runs. It makes one try of each step, as `freeze`,
+    /// `merge` and `reclaim` do, and waits for nothing but the lock, as a freeze does. If one of
+    /// them is refused it stops there, and `Stopped` says why; the next sweep goes on from there.
     pub fn sweep<R: Wait>(self, rt: &R) -> (Merger<'a, P>, Result<(), Stopped>)
         ensures { Sweeps self.entry.phase result.0.phase result.1 }
     {

@@ -51,8 +51,8 @@ impl Seat {
     }
 
     /// The record of a call that this seat made: its answer's time, and what it did, with its
-    /// arguments and its answer. Who keeps one for each answered call, in their order, has the
-    /// seat's calls as contracts see them, and so what an audit takes.
+    /// arguments and its answer. A program that keeps one for each answered call, in their order,
+    /// has the seat's calls as contracts see them, which is what an audit takes.
     pub fn record_of(&self, time: Time, deed: Deed) -> CallRecord
         ensures { result ≡ call_of self.now.number time deed }
     {

@@ -79,8 +79,9 @@ struct Judged {
 /// asked for, the records of writes follow `audit ok`, by their times. Where there is no
 /// verdict, a line on the faults says why: `bad line L`, or `device` for a failed read or write,
 /// with status 1, or `no memory`, with status 3. A write to the faults that fails changes no
-/// status. Of the sizes the audit uses only the number of seats: a record of another seat is
-/// `Unknown`. All records are kept, so memory limits how many there may be, and how long a line is.
+/// status. Of the sizes the audit uses the seats and the cells: a record of another seat, or a
+/// batch of more members than cells, is `Unknown`. All records are kept, so memory limits how many
+/// there may be, and how long a line is.
 pub fn audit_lines<R, W, E>(alloc: Global, asked: AskedAudit, streams: Streams<R, W, E>) -> u8
 where
     R: Read + Drop,
