@@ -230,10 +230,10 @@ impl<'a, R: Wait, P: Place> SessionCaller<'a, R, P> {
     }
 
     /// As `Store::visit`.
-    pub fn visit<F: FnMut(u64, Value)>(&mut self, lo: u64, hi: u64, call: F) -> Counted
-        requires { F.IsAlwaysCallable call }
+    pub fn visit<F: FnMut(u64, Value)>(&mut self, lo: u64, hi: u64, call: &mut F) -> Counted
+        requires { F.IsAlwaysCallable call.old }
         ensures visits { VisitsKeys (λ before row after. F.step before row.0 row.1 tt after)
-            self.old self.new result.time lo hi result.keys result.first call }
+            self.old self.new result.time lo hi result.keys result.first call.old call.new }
         ensures lock { TakesNoLock self.old.tally self.new.tally }
     {
         self.caller.visit(self.alloc, lo, hi, call)

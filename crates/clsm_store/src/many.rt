@@ -148,22 +148,40 @@ impl<P: Pace> Store<P> {
         self.visit_with(seat, &mut passing)
     }
 
+    /// The visit by a visitor that calls the function behind its reference.
+    fn visit_calling<F: FnMut(u64, Value)>(
+        &self,
+        seat: &mut Seat,
+        visit: &mut Visit<Calling<'_, F>>,
+    ) -> Counted
+        requires of { seat.old.store ≡ self.now }
+        requires callable { F.IsAlwaysCallable visit.old.visitor.call.now }
+        ensures visits { VisitsKeys (λ before row after. F.step before row.0 row.1 tt after)
+            seat.old seat.new result.time visit.old.bounds.lo visit.old.bounds.hi result.keys result.first
+            visit.old.visitor.call.now visit.new.visitor.call.now }
+        ensures same_reference { visit.new.visitor.call.ghost_name ≡ visit.old.visitor.call.ghost_name }
+        ensures lock { TakesNoLock seat.old.tally seat.new.tally }
+    {
+        self.visit_with(seat, visit)
+    }
+
     /// Calls the function with each key from `lo` to `hi` that has a value, by rising key, and the
-    /// value: the rows of a scan of that range, for which it takes no memory. It reads, answers and
-    /// is recorded as `count`, and takes no lock. It never waits and is never refused, but while
-    /// the function runs, the seat keeps its component, which no merge can reclaim.
+    /// value: the rows of a scan of that range, for which it takes no memory. It is called with
+    /// each of them once, and with nothing else. It reads, answers and is recorded as `count`, and
+    /// takes no lock. It never waits and is never refused, but while the function runs, the seat
+    /// keeps its component, which no merge can reclaim.
     pub fn visit<F: FnMut(u64, Value)>(
         &self,
         alloc: Global,
         seat: &mut Seat,
         lo: u64,
         hi: u64,
-        call: F,
+        call: &mut F,
     ) -> Counted
         requires of { seat.old.store ≡ self.now }
-        requires callable { F.IsAlwaysCallable call }
+        requires callable { F.IsAlwaysCallable call.old }
         ensures visits { VisitsKeys (λ before row after. F.step before row.0 row.1 tt after)
-            seat.old seat.new result.time lo hi result.keys result.first call }
+            seat.old seat.new result.time lo hi result.keys result.first call.old call.new }
         ensures lock { TakesNoLock seat.old.tally seat.new.tally }
     {
         let mut calling = Visit {
@@ -171,6 +189,6 @@ impl<P: Pace> Store<P> {
             bounds: Bounds { lo, hi },
             visitor: Calling { call },
         };
-        self.visit_with(seat, &mut calling)
+        self.visit_calling(seat, &mut calling)
     }
 }

@@ -64,14 +64,13 @@ pub record CountsKeys (old new : SeatState) (t lo hi n : ℕ) (first : Option �
   pub reached : t ≤ end_of (known_by new)
   pub counts : IsKeyCount (known_by new) t lo hi n
 
--- The seat visited the keys below the time, up to which it knows all: the function was called with
--- each of their rows, by rising key. It is recorded as a page of no rows, which has the first of the
--- keys
-pub record VisitsKeys {F : Type 0} (Calls : F → Pair → F → Type 0) (old new : SeatState) (t lo hi n : ℕ) (first : Option ℕ) (f : F) : Type 0 where
+-- The seat visited the keys below the time, up to which it knows all: by calls with their rows, one
+-- with each, by rising key, and no other call, the function went from one state to the other. It is
+-- recorded as a page of no rows, which has the first of the keys
+pub record VisitsKeys {F : Type 0} (Calls : F → Pair → F → Type 0) (old new : SeatState) (t lo hi n : ℕ) (first : Option ℕ) (before after : F) : Type 0 where
   pub answers : Answers old new t (page_deed lo hi 0 [] first)
   pub reached : t ≤ end_of (known_by new)
-  pub last : F
-  pub visits : IsKeyVisit Calls (known_by new) t lo hi n f last
+  pub visits : IsKeyVisit Calls (known_by new) t lo hi n before after
 
 -- ---- scans of the present
 
