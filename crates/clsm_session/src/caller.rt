@@ -234,6 +234,7 @@ impl<'a, R: Wait, P: Place> SessionCaller<'a, R, P> {
         requires { F.IsAlwaysCallable call.old }
         ensures visits { VisitsKeys (λ before row after. F.step before row.0 row.1 tt after)
             self.old self.new result.time lo hi result.keys result.first call.old call.new }
+        ensures callable { F.IsAlwaysCallable call.new }
         ensures lock { TakesNoLock self.old.tally self.new.tally }
     {
         self.caller.visit(self.alloc, lo, hi, call)

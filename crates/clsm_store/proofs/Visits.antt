@@ -1,5 +1,5 @@
 -- Visits of keys, from the words to the seat.
-use Rattle.std.proofs.Common.{◌≡◌, ◌∙◌, ℕ, List, [], ◌∷◌, ap, sym, Option}
+use Rattle.std.proofs.Common.{◌≡◌, ◌∙◌, ℕ, List, [], ◌∷◌, ap, sym, subst, Option}
 use Rattle.std.specs.List.{FoldsTo}
 use Rattle.clsm_model.specs.declared.batch.Batch.{Batch}
 use Rattle.clsm_model.specs.declared.slot.Slot.{Slot}
@@ -39,6 +39,13 @@ folds_behind : {F : Type 0} (Calls : F → Pair → F → Type 0) (before : Call
 folds_behind Calls before [] after same = sym (ap (λ (v : Calling _). v.call.ghost_name) same)
 folds_behind Calls before (row ∷ rows) after folds = folds_behind Calls folds.0 rows after folds.2 ∙ folds.1.1
 
+-- what each call keeps holds behind all of them
+folds_keep : {F : Type 0} (Calls : F → Pair → F → Type 0) (Is : F → Type 0) → ((b : F) (row : Pair) (a : F) → Calls b row a → Is b → Is a)
+    → (before : F) (rows : List Pair) (after : F) → FoldsTo Calls before rows after → Is before → Is after
+folds_keep Calls Is keeps before [] after same is = subst Is same is
+folds_keep Calls Is keeps before (row ∷ rows) after folds is =
+    folds_keep Calls Is keeps folds.0 rows after folds.2 (keeps before row folds.0 folds.1 is)
+
 module _ {F : Type 0} (Calls : F → Pair → F → Type 0) (old new : SeatState) (t lo hi n : ℕ) (first : Option ℕ) (before after : Calling F) where
   pub calls_visit : CountsKeys old new t lo hi n first → IsKeyVisit (Calls-behind Calls) (known_by new) t lo hi n before after
       → VisitsKeys Calls old new t lo hi n first before.call.now after.call.now
@@ -50,3 +57,8 @@ module _ {F : Type 0} (Calls : F → Pair → F → Type 0) (old new : SeatState
 
   pub visit_behind : IsKeyVisit (Calls-behind Calls) (known_by new) t lo hi n before after → after.call.ghost_name ≡ before.call.ghost_name
   visit_behind visits = folds_behind Calls before visits.count.rows after visits.taken
+
+  pub visit_keeps : (Is : F → Type 0) → ((b : F) (row : Pair) (a : F) → Calls b row a → Is b → Is a)
+      → IsKeyVisit (Calls-behind Calls) (known_by new) t lo hi n before after → Is before.call.now → Is after.call.now
+  visit_keeps Is keeps visits is = folds_keep Calls Is keeps before.call.now visits.count.rows after.call.now
+      (folds_call Calls before visits.count.rows after visits.taken) is

@@ -166,6 +166,7 @@ impl<'a, P: Pace> Caller<'a, P> {
         requires { F.IsAlwaysCallable call.old }
         ensures visits { VisitsKeys (λ before row after. F.step before row.0 row.1 tt after)
             self.old.seat self.new.seat result.time lo hi result.keys result.first call.old call.new }
+        ensures callable { F.IsAlwaysCallable call.new }
         ensures lock { TakesNoLock self.old.seat.tally self.new.seat.tally }
     {
         self.store.visit(alloc, &mut self.seat, lo, hi, call)

@@ -159,6 +159,7 @@ impl<P: Pace> Store<P> {
         ensures visits { VisitsKeys (λ before row after. F.step before row.0 row.1 tt after)
             seat.old seat.new result.time visit.old.bounds.lo visit.old.bounds.hi result.keys result.first
             visit.old.visitor.call.now visit.new.visitor.call.now }
+        ensures callable { F.IsAlwaysCallable visit.new.visitor.call.now }
         ensures same_reference { visit.new.visitor.call.ghost_name ≡ visit.old.visitor.call.ghost_name }
         ensures lock { TakesNoLock seat.old.tally seat.new.tally }
     {
@@ -182,6 +183,7 @@ impl<P: Pace> Store<P> {
         requires callable { F.IsAlwaysCallable call.old }
         ensures visits { VisitsKeys (λ before row after. F.step before row.0 row.1 tt after)
             seat.old seat.new result.time lo hi result.keys result.first call.old call.new }
+        ensures callable { F.IsAlwaysCallable call.new }
         ensures lock { TakesNoLock seat.old.tally seat.new.tally }
     {
         let mut calling = Visit {
