@@ -51,6 +51,7 @@ module _ {F : Type 0} (Calls : F → Pair → F → Type 0) (old new : SeatState
       → VisitsKeys Calls old new t lo hi n first before.call.now after.call.now
   calls_visit counts visits = record {
     answers = counts.answers;
+    clock = counts.clock;
     reached = counts.reached;
     visits = record { count = visits.count; taken = folds_call Calls before visits.count.rows after visits.taken };
   }

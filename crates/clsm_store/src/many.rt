@@ -2,7 +2,7 @@
 ghost use Rattle.std.specs.Prelude.{◌≡◌, IfErr, IfOk};
 ghost use Rattle.clsm_model.specs.declared.record.Deed.TheVariants.{Scan as ScanOf};
 ghost use Rattle.clsm_model.specs.Right.{page_deed};
-ghost use Rattle.clsm_store_calls.specs.Scanning.{CountsKeys, IsAnswerTo, IsKeyVisit, ScansNow, VisitsKeys};
+ghost use Rattle.clsm_store_calls.specs.Scanning.{CountsKeys, IsAnswerTo, IsAtClock, IsKeyVisit, ScansNow, VisitsKeys};
 ghost use Rattle.clsm_store_calls.specs.Seats.{Answers, Refuses, known_by};
 ghost use Rattle.clsm_store_calls.specs.Tally.{TakesNoLock};
 
@@ -28,6 +28,7 @@ impl<P: Pace> Store<P> {
         requires { seat.old.store ≡ self.now }
         ensures answers { IfOk result (λ read. Answers seat.old seat.new read.0 read.1) }
         ensures asked { IfOk result (λ read. IsAnswerTo asked read.1) }
+        ensures clock { IfOk result (λ read. IsAtClock seat.old seat.new read.0) }
         ensures lock { TakesNoLock seat.old.tally seat.new.tally }
         ensures refused { IfErr result (λ refusal. Refuses seat.old seat.new) }
     {
@@ -54,6 +55,7 @@ impl<P: Pace> Store<P> {
     pub fn scan(&self, alloc: Global, seat: &mut Seat, lo: u64, hi: u64) -> Result<Scan, Memory>
         requires { seat.old.store ≡ self.now }
         ensures answers { IfOk result (λ scan. Answers seat.old seat.new scan.time (ScanOf lo hi scan.rows)) }
+        ensures clock { IfOk result (λ scan. IsAtClock seat.old seat.new scan.time) }
         ensures lock { TakesNoLock seat.old.tally seat.new.tally }
         ensures refused { IfErr result (λ refusal. Refuses seat.old seat.new) }
     {
@@ -78,6 +80,7 @@ impl<P: Pace> Store<P> {
     ) -> Result<Page, Memory>
         requires { seat.old.store ≡ self.now }
         ensures answers { IfOk result (λ page. Answers seat.old seat.new page.time (page_deed from hi max page.rows page.more)) }
+        ensures clock { IfOk result (λ page. IsAtClock seat.old seat.new page.time) }
         ensures lock { TakesNoLock seat.old.tally seat.new.tally }
         ensures refused { IfErr result (λ refusal. Refuses seat.old seat.new) }
     {
