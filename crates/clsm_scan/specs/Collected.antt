@@ -1,5 +1,6 @@
 -- The rows that a scan or a page collects, and where it stopped.
 use Rattle.std.specs.Prelude.{◌≡◌, ℕ, ◌<◌, ◌≤◌, Bool, true, false, nat_le, min, List, [], ◌∷◌, length, Option, Some, None}
+use Rattle.std.specs.Borrow.{MutBor}
 use Rattle.std.specs.List.{AllByRecursion, FoldsTo}
 use Rattle.clsm_model.specs.Map.{KeysRise, Pair, value_at}
 use Rattle.clsm_model.specs.Right.{first_key}
@@ -80,3 +81,7 @@ pub record IsCount (value : ℕ → Option (List ℕ)) (lo hi n : ℕ) (first : 
 pub record IsVisit {V : Type 0} (Takes : V → Pair → V → Type 0) (value : ℕ → Option (List ℕ)) (lo hi n : ℕ) (first : Option ℕ) (before after : V) : Type 0 where
   pub count : IsCount value lo hi n first
   pub taken : FoldsTo Takes before count.rows after
+
+-- what is behind the reference makes a step, and the reference stays
+abbrev pub StepsBehind : {F : Type 0} → (F → F → Type 0) → MutBor F → MutBor F → Type 0
+StepsBehind Steps before after = Steps before.now after.now × (after.ghost_name ≡ before.ghost_name)

@@ -3,7 +3,7 @@ ghost use Rattle.std.specs.Prelude.{◌≡◌, ℕ, ◌∷◌, [], true};
 ghost use Rattle.clsm_model.specs.Map.{Pair};
 ghost use Rattle.clsm_words.specs.Keeping.{LooksAside};
 ghost use Rattle.clsm_words.specs.Plays.{IsSeatOf};
-ghost use Rattle.clsm_scan.specs.Collected.{IsVisit, left_at};
+ghost use Rattle.clsm_scan.specs.Collected.{IsVisit, StepsBehind, left_at};
 ghost use Rattle.clsm_scan.specs.Heads.{has_value, rows_of};
 
 use crate::collecting::next_key;
@@ -61,16 +61,16 @@ impl Visitor for Passing {
 
 /// The visitor that calls a function with the key and the value.
 #[derive(Drop)]
-pub struct Calling<F> {
-    pub call: F,
+pub struct Calling<'a, F> {
+    pub call: &'a mut F,
 }
 
-impl<F: FnMut(u64, Value)> Sink for Calling<F> {
+impl<F: FnMut(u64, Value)> Sink for Calling<'_, F> {
     type Reply = ();
 
-    ghost takes = { λ before row reply after. F.step before.call row.0 row.1 tt after.call };
+    ghost takes = { λ before row reply after. StepsBehind (λ f f'. F.step f row.0 row.1 tt f') before.call after.call };
 
-    ghost is_ready = { λ sink. F.IsAlwaysCallable sink.call };
+    ghost is_ready = { λ sink. F.IsAlwaysCallable sink.call.now };
 
     #[inline(always)]
     fn take(&mut self, key: u64, value: Value) {
@@ -78,10 +78,10 @@ impl<F: FnMut(u64, Value)> Sink for Calling<F> {
     }
 }
 
-impl<F: FnMut(u64, Value)> Visitor for Calling<F> {
-    ghost takes = { λ before row after. F.step before.call row.0 row.1 tt after.call };
+impl<F: FnMut(u64, Value)> Visitor for Calling<'_, F> {
+    ghost takes = { λ before row after. StepsBehind (λ f f'. F.step f row.0 row.1 tt f') before.call after.call };
 
-    ghost is_ready = { λ visitor. F.IsAlwaysCallable visitor.call };
+    ghost is_ready = { λ visitor. F.IsAlwaysCallable visitor.call.now };
 
     #[inline(always)]
     fn visit<S: Source, P: Pace>(&mut self, words: &Words<P>, seat: &mut RawSeat, source: &S) {

@@ -7,7 +7,7 @@ ghost use Rattle.clsm_model.specs.Seats.{FitsDeed};
 ghost use Rattle.clsm_store.specs.Changes.{added, put_if_absent};
 ghost use Rattle.clsm_store.specs.Play.{PlaysCall, WantsMemory};
 ghost use Rattle.clsm_store.specs.Paging.{ReadsNext};
-ghost use Rattle.clsm_store_calls.specs.Scanning.{CountsKeys, ScansNow, VisitsKeys};
+ghost use Rattle.clsm_store_calls.specs.Scanning.{CountsKeys, IsAtClock, ScansNow, VisitsKeys};
 ghost use Rattle.clsm_store_calls.specs.Seats.{Answers, GivesUpForWrites, IsSameSeat, Refuses};
 ghost use Rattle.clsm_store_calls.specs.Tally.{CancelsNone, TakesNoLock};
 ghost use Rattle.clsm_session.specs.Places.{HasPlace};
@@ -159,6 +159,7 @@ impl<'a, R: Wait, P: Place> SessionCaller<'a, R, P> {
     /// As `Store::get`.
     pub fn get(&mut self, key: u64) -> Got
         ensures answers { Answers self.old self.new result.time (Get key result.value) }
+        ensures clock { self.new.clock ≡ Some result.time }
         ensures lock { TakesNoLock self.old.tally self.new.tally }
     {
         self.caller.get(key)
@@ -196,6 +197,7 @@ impl<'a, R: Wait, P: Place> SessionCaller<'a, R, P> {
     /// As `Store::scan`.
     pub fn scan(&mut self, lo: u64, hi: u64) -> Result<Scan, Memory>
         ensures answers { IfOk result (λ scan. Answers self.old self.new scan.time (ScanOf lo hi scan.rows)) }
+        ensures clock { IfOk result (λ scan. IsAtClock self.old self.new scan.time) }
         ensures lock { TakesNoLock self.old.tally self.new.tally }
         ensures refused { IfErr result (λ refusal. Refuses self.old self.new) }
     {
@@ -205,6 +207,7 @@ impl<'a, R: Wait, P: Place> SessionCaller<'a, R, P> {
     /// As `Store::page`.
     pub fn page(&mut self, from: u64, hi: u64, max: usize) -> Result<Page, Memory>
         ensures answers { IfOk result (λ page. Answers self.old self.new page.time (page_deed from hi max page.rows page.more)) }
+        ensures clock { IfOk result (λ page. IsAtClock self.old self.new page.time) }
         ensures lock { TakesNoLock self.old.tally self.new.tally }
         ensures refused { IfErr result (λ refusal. Refuses self.old self.new) }
     {
@@ -230,10 +233,11 @@ impl<'a, R: Wait, P: Place> SessionCaller<'a, R, P> {
     }
 
     /// As `Store::visit`.
-    pub fn visit<F: FnMut(u64, Value)>(&mut self, lo: u64, hi: u64, call: F) -> Counted
-        requires { F.IsAlwaysCallable call }
+    pub fn visit<F: FnMut(u64, Value)>(&mut self, lo: u64, hi: u64, call: &mut F) -> Counted
+        requires { F.IsAlwaysCallable call.old }
         ensures visits { VisitsKeys (λ before row after. F.step before row.0 row.1 tt after)
-            self.old self.new result.time lo hi result.keys result.first call }
+            self.old self.new result.time lo hi result.keys result.first call.old call.new }
+        ensures callable { F.IsAlwaysCallable call.new }
         ensures lock { TakesNoLock self.old.tally self.new.tally }
     {
         self.caller.visit(self.alloc, lo, hi, call)

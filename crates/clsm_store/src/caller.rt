@@ -7,7 +7,7 @@ ghost use Rattle.clsm_model.specs.Seats.{FitsDeed};
 ghost use Rattle.clsm_law.specs.Relation.{call_of};
 ghost use Rattle.clsm_store_calls.specs.Batching.{CountsBatch, IsRefusedBatch};
 ghost use Rattle.clsm_store_calls.specs.Looking.{FindsRoom};
-ghost use Rattle.clsm_store_calls.specs.Scanning.{CountsKeys, ScansNow, VisitsKeys};
+ghost use Rattle.clsm_store_calls.specs.Scanning.{CountsKeys, IsAtClock, ScansNow, VisitsKeys};
 ghost use Rattle.clsm_store_calls.specs.Seats.{Answers, GivesUpForWrites, IsFull, Refuses};
 ghost use Rattle.clsm_store_calls.specs.Tally.{CancelsNone, CountsTry, TakesLockOnce, TakesNoLock};
 ghost use Rattle.clsm_store_calls.specs.Trying.{RefusesTry};
@@ -80,6 +80,7 @@ impl<'a, P: Pace> Caller<'a, P> {
     /// As `Store::get`.
     pub fn get(&mut self, key: u64) -> Got
         ensures answers { Answers self.old.seat self.new.seat result.time (Get key result.value) }
+        ensures clock { self.new.seat.clock ≡ Some result.time }
         ensures lock { TakesNoLock self.old.seat.tally self.new.seat.tally }
     {
         self.store.get(&mut self.seat, key)
@@ -132,6 +133,7 @@ impl<'a, P: Pace> Caller<'a, P> {
     /// As `Store::scan`.
     pub fn scan(&mut self, alloc: Global, lo: u64, hi: u64) -> Result<Scan, Memory>
         ensures answers { IfOk result (λ scan. Answers self.old.seat self.new.seat scan.time (ScanOf lo hi scan.rows)) }
+        ensures clock { IfOk result (λ scan. IsAtClock self.old.seat self.new.seat scan.time) }
         ensures lock { TakesNoLock self.old.seat.tally self.new.seat.tally }
         ensures refused { IfErr result (λ refusal. Refuses self.old.seat self.new.seat) }
     {
@@ -141,6 +143,7 @@ impl<'a, P: Pace> Caller<'a, P> {
     /// As `Store::page`.
     pub fn page(&mut self, alloc: Global, from: u64, hi: u64, max: usize) -> Result<Page, Memory>
         ensures answers { IfOk result (λ page. Answers self.old.seat self.new.seat page.time (page_deed from hi max page.rows page.more)) }
+        ensures clock { IfOk result (λ page. IsAtClock self.old.seat self.new.seat page.time) }
         ensures lock { TakesNoLock self.old.seat.tally self.new.seat.tally }
         ensures refused { IfErr result (λ refusal. Refuses self.old.seat self.new.seat) }
     {
@@ -161,11 +164,12 @@ impl<'a, P: Pace> Caller<'a, P> {
         alloc: Global,
         lo: u64,
         hi: u64,
-        call: F,
+        call: &mut F,
     ) -> Counted
-        requires { F.IsAlwaysCallable call }
+        requires { F.IsAlwaysCallable call.old }
         ensures visits { VisitsKeys (λ before row after. F.step before row.0 row.1 tt after)
-            self.old.seat self.new.seat result.time lo hi result.keys result.first call }
+            self.old.seat self.new.seat result.time lo hi result.keys result.first call.old call.new }
+        ensures callable { F.IsAlwaysCallable call.new }
         ensures lock { TakesNoLock self.old.seat.tally self.new.seat.tally }
     {
         self.store.visit(alloc, &mut self.seat, lo, hi, call)

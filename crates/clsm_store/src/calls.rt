@@ -97,6 +97,7 @@ impl<P: Pace> Store<P> {
     pub fn get(&self, seat: &mut Seat, key: u64) -> Got
         requires { seat.old.store ≡ self.now }
         ensures answers { Answers seat.old seat.new result.time (Get key result.value) }
+        ensures clock { seat.new.clock ≡ Some result.time }
         ensures lock { TakesNoLock seat.old.tally seat.new.tally }
     {
         let got = read(&self.words, &mut seat.raw, seat.pin, key);

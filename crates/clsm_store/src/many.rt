@@ -2,7 +2,7 @@
 ghost use Rattle.std.specs.Prelude.{◌≡◌, IfErr, IfOk};
 ghost use Rattle.clsm_model.specs.declared.record.Deed.TheVariants.{Scan as ScanOf};
 ghost use Rattle.clsm_model.specs.Right.{page_deed};
-ghost use Rattle.clsm_store_calls.specs.Scanning.{CountsKeys, IsAnswerTo, IsKeyVisit, ScansNow, VisitsKeys};
+ghost use Rattle.clsm_store_calls.specs.Scanning.{CountsKeys, IsAnswerTo, IsAtClock, IsKeyVisit, ScansNow, VisitsKeys};
 ghost use Rattle.clsm_store_calls.specs.Seats.{Answers, Refuses, known_by};
 ghost use Rattle.clsm_store_calls.specs.Tally.{TakesNoLock};
 
@@ -28,6 +28,7 @@ impl<P: Pace> Store<P> {
         requires { seat.old.store ≡ self.now }
         ensures answers { IfOk result (λ read. Answers seat.old seat.new read.0 read.1) }
         ensures asked { IfOk result (λ read. IsAnswerTo asked read.1) }
+        ensures clock { IfOk result (λ read. IsAtClock seat.old seat.new read.0) }
         ensures lock { TakesNoLock seat.old.tally seat.new.tally }
         ensures refused { IfErr result (λ refusal. Refuses seat.old seat.new) }
     {
@@ -54,6 +55,7 @@ impl<P: Pace> Store<P> {
     pub fn scan(&self, alloc: Global, seat: &mut Seat, lo: u64, hi: u64) -> Result<Scan, Memory>
         requires { seat.old.store ≡ self.now }
         ensures answers { IfOk result (λ scan. Answers seat.old seat.new scan.time (ScanOf lo hi scan.rows)) }
+        ensures clock { IfOk result (λ scan. IsAtClock seat.old seat.new scan.time) }
         ensures lock { TakesNoLock seat.old.tally seat.new.tally }
         ensures refused { IfErr result (λ refusal. Refuses seat.old seat.new) }
     {
@@ -78,6 +80,7 @@ impl<P: Pace> Store<P> {
     ) -> Result<Page, Memory>
         requires { seat.old.store ≡ self.now }
         ensures answers { IfOk result (λ page. Answers seat.old seat.new page.time (page_deed from hi max page.rows page.more)) }
+        ensures clock { IfOk result (λ page. IsAtClock seat.old seat.new page.time) }
         ensures lock { TakesNoLock seat.old.tally seat.new.tally }
         ensures refused { IfErr result (λ refusal. Refuses seat.old seat.new) }
     {
@@ -148,22 +151,42 @@ impl<P: Pace> Store<P> {
         self.visit_with(seat, &mut passing)
     }
 
+    /// The visit by a visitor that calls the function behind its reference.
+    fn visit_calling<F: FnMut(u64, Value)>(
+        &self,
+        seat: &mut Seat,
+        visit: &mut Visit<Calling<'_, F>>,
+    ) -> Counted
+        requires of { seat.old.store ≡ self.now }
+        requires callable { F.IsAlwaysCallable visit.old.visitor.call.now }
+        ensures visits { VisitsKeys (λ before row after. F.step before row.0 row.1 tt after)
+            seat.old seat.new result.time visit.old.bounds.lo visit.old.bounds.hi result.keys result.first
+            visit.old.visitor.call.now visit.new.visitor.call.now }
+        ensures callable { F.IsAlwaysCallable visit.new.visitor.call.now }
+        ensures same_reference { visit.new.visitor.call.ghost_name ≡ visit.old.visitor.call.ghost_name }
+        ensures lock { TakesNoLock seat.old.tally seat.new.tally }
+    {
+        self.visit_with(seat, visit)
+    }
+
     /// Calls the function with each key from `lo` to `hi` that has a value, by rising key, and the
-    /// value: the rows of a scan of that range, for which it takes no memory. It reads, answers and
-    /// is recorded as `count`, and takes no lock. It never waits and is never refused, but while
-    /// the function runs, the seat keeps its component, which no merge can reclaim.
+    /// value: the rows of a scan of that range, for which it takes no memory. It is called with
+    /// each of them once, and with nothing else. It reads, answers and is recorded as `count`, and
+    /// takes no lock. It never waits and is never refused, but while the function runs, the seat
+    /// keeps its component, which no merge can reclaim.
     pub fn visit<F: FnMut(u64, Value)>(
         &self,
         alloc: Global,
         seat: &mut Seat,
         lo: u64,
         hi: u64,
-        call: F,
+        call: &mut F,
     ) -> Counted
         requires of { seat.old.store ≡ self.now }
-        requires callable { F.IsAlwaysCallable call }
+        requires callable { F.IsAlwaysCallable call.old }
         ensures visits { VisitsKeys (λ before row after. F.step before row.0 row.1 tt after)
-            seat.old seat.new result.time lo hi result.keys result.first call }
+            seat.old seat.new result.time lo hi result.keys result.first call.old call.new }
+        ensures callable { F.IsAlwaysCallable call.new }
         ensures lock { TakesNoLock seat.old.tally seat.new.tally }
     {
         let mut calling = Visit {
@@ -171,6 +194,6 @@ impl<P: Pace> Store<P> {
             bounds: Bounds { lo, hi },
             visitor: Calling { call },
         };
-        self.visit_with(seat, &mut calling)
+        self.visit_calling(seat, &mut calling)
     }
 }

@@ -149,6 +149,7 @@ module _ {a c d e : Known} {component t : ℕ} {end : End} (rests : IsAtRest a) 
         ∙ ap (λ (l : List CallRecord). l ++ call_of d.number t deed ∷ []) calls_before ∙ ap (λ (n : ℕ). a.view.calls ++ call_of n t deed ∷ []) number;
     due = ap (λ (v : View). v.due) unpins.view ∙ due;
     above = begins.above;
+    clock = clock_seen;
     unlocked = unlocked;
   }
 

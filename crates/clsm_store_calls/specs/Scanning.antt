@@ -37,6 +37,10 @@ IsAnswerTo (All lo hi) (Scan from to rows) = (from ≡ lo) × (to ≡ hi)
 IsAnswerTo (First lo hi most) (Page range rows more) = range ≡ record { from = lo; hi = hi; max = most }
 IsAnswerTo asked deed = ⊥
 
+-- where no snapshot is open, the time is the clock as the seat looked at it last
+abbrev pub IsAtClock : SeatState → SeatState → ℕ → Type 0
+IsAtClock old new t = old.snapshot ≡ None → new.clock ≡ Some t
+
 -- the read was given up: nothing is recorded
 pub record GivesUpRead (old new : Known) : Type 0 where
   pub goes_on : GoesOn old new
@@ -61,25 +65,27 @@ pub record IsKeyVisit {V : Type 0} (Takes : V → Pair → V → Type 0) (h : Hi
 -- rows, which has the first of the keys
 pub record CountsKeys (old new : SeatState) (t lo hi n : ℕ) (first : Option ℕ) : Type 0 where
   pub answers : Answers old new t (page_deed lo hi 0 [] first)
+  pub clock : IsAtClock old new t
   pub reached : t ≤ end_of (known_by new)
   pub counts : IsKeyCount (known_by new) t lo hi n
 
--- The seat visited the keys below the time, up to which it knows all: the function was called with
--- each of their rows, by rising key. It is recorded as a page of no rows, which has the first of the
--- keys
-pub record VisitsKeys {F : Type 0} (Calls : F → Pair → F → Type 0) (old new : SeatState) (t lo hi n : ℕ) (first : Option ℕ) (f : F) : Type 0 where
+-- The seat visited the keys below the time, up to which it knows all: by calls with their rows, one
+-- with each, by rising key, and no other call, the function went from one state to the other. It is
+-- recorded as a page of no rows, which has the first of the keys
+pub record VisitsKeys {F : Type 0} (Calls : F → Pair → F → Type 0) (old new : SeatState) (t lo hi n : ℕ) (first : Option ℕ) (before after : F) : Type 0 where
   pub answers : Answers old new t (page_deed lo hi 0 [] first)
+  pub clock : IsAtClock old new t
   pub reached : t ≤ end_of (known_by new)
-  pub last : F
-  pub visits : IsKeyVisit Calls (known_by new) t lo hi n f last
+  pub visits : IsKeyVisit Calls (known_by new) t lo hi n before after
 
 -- ---- scans of the present
 
--- The rows are all pairs of the range below the time, up to which the seat knows all. The scan is
--- recorded as a read of the first key of the range, at its own time, whether or not a snapshot is
--- open
+-- The rows are all pairs of the range below the time, up to which the seat knows all, and which is
+-- the clock as it looked at it last. The scan is recorded as a read of the first key of the range, at
+-- its own time, whether or not a snapshot is open
 pub record ScansNow (old new : SeatState) (t lo hi : ℕ) (rows : List Pair) : Type 0 where
   pub reply : Option (List ℕ)
   pub answers : Answers old new t (Get lo reply)
+  pub clock : new.clock ≡ Some t
   pub reached : t ≤ end_of (known_by new)
   pub range : IsRange (known_by new) t lo hi rows

@@ -315,7 +315,7 @@ impl<'a> Actor<'a> {
             alloc,
             lo,
             hi,
-            |key, value| is_kept = is_kept && rows.push((key, value)).is_ok(),
+            &mut |key, value| is_kept = is_kept && rows.push((key, value)).is_ok(),
         );
         assert!(rt; is_kept && rows.len() as u64 == counted.keys);
         let answer = Answer::Rows(counted.time, rows.len());
