@@ -4,6 +4,7 @@ ghost use Rattle.std.specs.Prelude.{◌≡◌, IfOk};
 use crate::calls::{Lap, Round, work_all};
 use crate::draws::{Call, Draws, FILLER, Series, key_of};
 use crate::failure::Failure;
+use crate::lines::Way;
 use crate::series::callers;
 use crate::sizes::Work;
 use crate::target::Target;
@@ -85,7 +86,7 @@ pub fn batch_lap<R: Threads + Sync + Clock + Wait>(
     rt: &R,
     alloc: Global,
     work: &Work,
-    is_second: bool,
+    way: Way,
 ) -> Result<Lap, Failure> {
     let Work {
         line,
@@ -93,7 +94,7 @@ pub fn batch_lap<R: Threads + Sync + Clock + Wait>(
         threads,
     } = *work;
     let mut series = Series::new(alloc, line, options)?;
-    if !is_second {
+    if way == Way::First {
         series.members = Some(line.members(options, threads));
     }
     let writes = line.calls(false, options, threads);

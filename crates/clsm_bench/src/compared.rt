@@ -3,7 +3,7 @@ use crate::audits::audit_lap;
 use crate::batches::batch_lap;
 use crate::calls::Lap;
 use crate::failure::Failure;
-use crate::lines::{Beside, Line, Role};
+use crate::lines::{Beside, Line, Role, Way};
 use crate::merges::merge_lap;
 use crate::options::Options;
 use crate::series::{map_lap, store_lap};
@@ -59,17 +59,19 @@ fn lap<R: Threads + Sync + Clock + Wait>(
     rt: &R,
     alloc: Global,
     work: &Work,
-    is_second: bool,
+    way: Way,
 ) -> Result<Lap, Failure> {
-    let Line(_, _, _, _, role, _, beside) = work.line;
+    let Line { role, beside, .. } = work.line;
     let options = work.options;
     match (role, beside) {
-        (Role::Merges(_) | Role::Freeze, _) => merge_lap(rt, alloc, role, options, is_second),
-        (Role::Audit, _) if is_second => audit_lap(rt, alloc, options.calls / 10),
+        (Role::Merges(_) | Role::Freeze, _) => merge_lap(rt, alloc, role, options, way),
+        (Role::Audit, _) if way == Way::Second => audit_lap(rt, alloc, options.calls / 10),
         (Role::Audit, _) => audit_lap(rt, alloc, options.calls),
-        (Role::Batches(_) | Role::HotBatches(_), _) => batch_lap(rt, alloc, work, is_second),
-        (Role::Several(..), _) | (_, Beside::Nothing) if is_second => map_lap(rt, alloc, work),
-        _ if is_second => store_lap(rt, alloc, work, &Beside::Nothing),
+        (Role::Batches(_) | Role::HotBatches(_), _) => batch_lap(rt, alloc, work, way),
+        (Role::Several(..), _) | (_, Beside::Nothing) if way == Way::Second => {
+            map_lap(rt, alloc, work)
+        }
+        _ if way == Way::Second => store_lap(rt, alloc, work, &Beside::Nothing),
         (_, Beside::Session) => session_lap(rt, alloc, work),
         _ => store_lap(rt, alloc, work, beside),
     }
@@ -87,15 +89,15 @@ pub fn compare<R: Threads + Sync + Clock + Wait + Print + AllocGlobal>(
     threads: u32,
 ) -> Result<(), Failure> {
     let alloc = rt.alloc();
-    let name = line.1;
+    let name = line.name;
     let options = &line.limit(options);
     let work = Work {
         line,
         options,
         threads,
     };
-    let first = lap(rt, alloc, &work, false)?.calls;
-    let second = lap(rt, alloc, &work, true)?.calls;
+    let first = lap(rt, alloc, &work, Way::First)?.calls;
+    let second = lap(rt, alloc, &work, Way::Second)?.calls;
     if options.repeat == 0 {
         println!(rt; "{name} threads {threads} calls {first} and {second}")?;
         return Ok(());
@@ -103,8 +105,8 @@ pub fn compare<R: Threads + Sync + Clock + Wait + Print + AllocGlobal>(
     let (mut firsts, mut seconds) = (Vec::new(alloc), Vec::new(alloc));
     let mut percents = Vec::new(alloc);
     for _ in 0..options.repeat {
-        let first = picoseconds(&lap(rt, alloc, &work, false)?, threads);
-        let second = picoseconds(&lap(rt, alloc, &work, true)?, threads);
+        let first = picoseconds(&lap(rt, alloc, &work, Way::First)?, threads);
+        let second = picoseconds(&lap(rt, alloc, &work, Way::Second)?, threads);
         firsts.push(first)?;
         seconds.push(second)?;
         percents.push(second.saturating_mul(100) / first.max(1))?;

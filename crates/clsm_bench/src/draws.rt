@@ -45,6 +45,17 @@ pub struct Series<'a> {
     pub members: Option<u32>,
 }
 
+/// The puts that make a filling.
+#[derive(Clone, Copy)]
+pub struct Puts {
+    /// The epochs that are filled and merged.
+    pub merges: u32,
+    /// The keys that are put at then, before a freeze.
+    pub frozen: u32,
+    /// The keys that are put at behind it.
+    pub last: u32,
+}
+
 /// The calls of one thread. Those of a mix are drawn before the time is taken.
 #[derive(Drop)]
 pub struct Draws<'a> {
@@ -64,7 +75,7 @@ pub fn key_of(number: u32, index: u32) -> u64 {
 
 impl<'a> Series<'a> {
     pub fn new(alloc: Global, line: &'a Line, options: &Options) -> Result<Series<'a>, AllocError> {
-        let Line(_, _, _, _, role, filling, _) = line;
+        let Line { role, filling, .. } = line;
         let keys = line.filled(options);
         let mut sorted = Vec::new(alloc);
         if let Role::Scans(_) | Role::Pages(_) | Role::Several(..) = role {
@@ -88,17 +99,21 @@ impl<'a> Series<'a> {
         })
     }
 
-    /// How many epochs are merged for the filling, how many keys are put at then before a freeze,
-    /// and how many behind it.
-    pub fn puts(&self) -> (u32, u32, u32) {
+    /// The puts that make the filling.
+    pub fn puts(&self) -> Puts {
         let cells = self.cells;
         let merges = self.keys.div_ceil(cells.max(1));
         let merges = merges.div_ceil(4).saturating_mul(4);
-        match self.filling {
+        let (merges, frozen, last) = match self.filling {
             Filling::Epoch => (0, 0, self.keys),
             Filling::Runs => (merges, 0, 0),
             Filling::HalfEpoch => (merges, 0, cells / 2),
             Filling::BothEpochs => (merges, cells, cells / 2),
+        };
+        Puts {
+            merges,
+            frozen,
+            last,
         }
     }
 

@@ -20,7 +20,7 @@ mod target;
 
 use crate::compared::{COLUMNS, compare};
 use crate::failure::Failure;
-use crate::lines::{LINES, Line};
+use crate::lines::LINES;
 use crate::options::Options;
 use std::process::ExitCode;
 use std::rt::{Clock, Env};
@@ -36,12 +36,12 @@ fn measure<R: Threads + Sync + Clock + Wait + Print + AllocGlobal>(
 ) -> Result<(), Failure> {
     let mut ended = Err(Failure::Usage);
     for line in &LINES {
-        let Line(name, _, fewest, most, ..) = line;
-        if command.unwrap_or(name) != *name {
+        if command.unwrap_or(line.command) != line.command {
             continue;
         }
+        let (fewest, most) = (line.fewest, line.most);
         for threads in [1, 2, 4] {
-            if threads == *most || (options.repeat > 0 && *fewest <= threads && threads < *most) {
+            if threads == most || (options.repeat > 0 && fewest <= threads && threads < most) {
                 compare(rt, line, options, threads)?;
             }
         }

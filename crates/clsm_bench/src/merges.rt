@@ -1,7 +1,7 @@
 //! Freezes, merges and reclaims.
 use crate::calls::{Lap, put_filled};
 use crate::failure::Failure;
-use crate::lines::Role;
+use crate::lines::{Role, Way};
 use crate::options::Options;
 use clsm_store::{Caller, Config, Merger, Opened, open};
 use clsm_words::Free;
@@ -25,7 +25,7 @@ struct Turns<'a> {
     role: &'a Role,
     puts: u32,
     keys: u32,
-    is_second: bool,
+    way: Way,
 }
 
 /// Takes these turns. Answers the time of the last one.
@@ -44,7 +44,7 @@ fn merge_often<R: Clock + Wait>(
         Role::Merges(merges) => (*merges, true),
         _ => (1, false),
     };
-    if is_merge && turns.is_second && holder.snapshot().is_err() {
+    if is_merge && turns.way == Way::Second && holder.snapshot().is_err() {
         return Err(Failure::Unanswered);
     }
     let mut lap = Err(Failure::Unanswered);
@@ -52,7 +52,7 @@ fn merge_often<R: Clock + Wait>(
         let first = number.saturating_mul(turns.puts);
         let end = first.saturating_add(turns.puts);
         put_filled(rt, alloc, &mut writer, first..end, turns.keys)?;
-        let (next, last) = turn(rt, merger, is_merge, turns.is_second)?;
+        let (next, last) = turn(rt, merger, is_merge, turns.way)?;
         merger = next;
         lap = Ok(last);
     }
@@ -68,7 +68,7 @@ pub fn merge_lap<R: Clock + Wait>(
     alloc: Global,
     role: &Role,
     options: &Options,
-    is_second: bool,
+    way: Way,
 ) -> Result<Lap, Failure> {
     let puts = options.calls.min(options.cells);
     let config = Config {
@@ -98,7 +98,7 @@ pub fn merge_lap<R: Clock + Wait>(
         role,
         puts,
         keys: options.keys,
-        is_second,
+        way,
     };
     merge_often(rt, alloc, seats, &turns)
 }
@@ -109,7 +109,7 @@ fn turn<'a, R: Clock + Wait>(
     rt: &R,
     merger: Merger<'a, Free>,
     is_merge: bool,
-    is_second: bool,
+    way: Way,
 ) -> Result<(Merger<'a, Free>, Lap), Failure> {
     let begun = Instant::now(rt)?;
     let (merger, frozen) = merger.freeze(rt);
@@ -121,10 +121,10 @@ fn turn<'a, R: Clock + Wait>(
     if frozen.is_err() || merged.is_err() || reclaimed.is_err() {
         return Err(Failure::Unanswered);
     }
-    let (start, end) = match (is_merge, is_second) {
+    let (start, end) = match (is_merge, way) {
         (true, _) => (cut, retired),
-        (false, false) => (begun, cut),
-        (false, true) => (retired, ended),
+        (false, Way::First) => (begun, cut),
+        (false, Way::Second) => (retired, ended),
     };
     let calls = 1;
     Ok((merger, Lap { calls, start, end }))

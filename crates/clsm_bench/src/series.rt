@@ -3,7 +3,7 @@ ghost use Rattle.std.specs.Prelude.{◌≡◌, All};
 
 use crate::batches::filled_members;
 use crate::calls::{Lap, Round, put_filled, work_all};
-use crate::draws::{Call, Series};
+use crate::draws::{Call, Puts, Series};
 use crate::failure::Failure;
 use crate::lines::Beside;
 use crate::sizes::Work;
@@ -42,7 +42,11 @@ fn fill<'a, R: Wait>(
     mut merger: Merger<'a, Free>,
     series: &Series,
 ) -> Result<Merger<'a, Free>, Failure> {
-    let (merges, frozen, last) = series.puts();
+    let Puts {
+        merges,
+        frozen,
+        last,
+    } = series.puts();
     let (keys, cells) = (series.keys, series.cells);
     let mut first = 0_u32;
     for _ in 0..merges {

@@ -2,7 +2,7 @@
 ghost use Rattle.std.specs.Prelude.{◌≡◌, IfOk, IfSome};
 
 use crate::calls::{Lap, Round, put_filled, whole};
-use crate::draws::Series;
+use crate::draws::{Puts, Series};
 use crate::failure::Failure;
 use crate::sizes::Work;
 use crate::target::Target;
@@ -20,7 +20,11 @@ fn fill<T: Target, R: Wait>(
     target: &mut T,
     series: &Series,
 ) -> Result<(), Failure> {
-    let (merges, frozen, last) = series.puts();
+    let Puts {
+        merges,
+        frozen,
+        last,
+    } = series.puts();
     let merged = merges.saturating_mul(series.cells).min(series.keys);
     for puts in [merged, frozen, last] {
         put_filled(rt, alloc, target, 0..puts, series.keys)?;

@@ -29,7 +29,7 @@ pub struct Work<'a> {
 impl Line {
     /// The options, with as many keys and cells as the line has at most.
     pub fn limit(&self, options: &Options) -> Options {
-        let (keys, cells) = match &self.4 {
+        let (keys, cells) = match &self.role {
             Several(FewKeys(cells), _) => (FEW_KEYS, *cells),
             _ => (u32::MAX, u32::MAX),
         };
@@ -42,8 +42,7 @@ impl Line {
 
     /// The keys that are written before the time is taken.
     pub fn filled(&self, options: &Options) -> u32 {
-        let Line(_, _, _, _, role, filling, _) = self;
-        match (role, filling) {
+        match (&self.role, &self.filling) {
             (Puts | RisingPuts | Batches(_) | HotBatches(_), Epoch) => 0,
             (Mixed | HotMixed | OnePuts, Epoch) => options.keys.min(options.cells / 2),
             (_, Epoch) => options.keys.min(options.cells),
@@ -55,7 +54,7 @@ impl Line {
     /// thread's part of an epoch has room for them.
     pub fn members(&self, options: &Options, threads: u32) -> u32 {
         let room = options.cells / threads.max(1);
-        match &self.4 {
+        match &self.role {
             Batches(size) | HotBatches(size) => room.min(*size).max(1),
             _ => 1,
         }
@@ -75,7 +74,7 @@ impl Line {
     /// a value, half of the times that are left are for puts: a reader may cancel one, and the put
     /// then takes another.
     pub fn calls(&self, is_merged: bool, options: &Options, threads: u32) -> u32 {
-        let room = match &self.4 {
+        let room = match &self.role {
             Several(mix, _) => return mix.calls(options, threads),
             _ if is_merged => options.calls,
             Batches(_) | HotBatches(_) => return self.writes(options, threads),
@@ -84,7 +83,7 @@ impl Line {
                 (MOST_ROWS / rows.max(1)).max(1)
             }
             OnePuts => options.cells / 4,
-            Puts if matches!(self.6, Scanner) => options.cells / 4 / threads.max(1),
+            Puts if matches!(self.beside, Scanner) => options.cells / 4 / threads.max(1),
             Puts | RisingPuts => options.cells / threads.max(1),
             Mixed | HotMixed => options.cells / 4 / threads.max(1),
             _ => options.calls,
