@@ -11,7 +11,7 @@ ghost use Rattle.clsm_store_calls.specs.Scanning.{CountsKeys, IsAtClock, ScansNo
 ghost use Rattle.clsm_store_calls.specs.Seats.{Answers, GivesUpForWrites, IsSameSeat, Refuses};
 ghost use Rattle.clsm_store_calls.specs.Tally.{CancelsNone, TakesNoLock};
 ghost use Rattle.clsm_session.specs.Places.{HasPlace};
-ghost use Rattle.clsm_session.specs.Waiting.{FindsFull, IsFullAtLast, IsPatient, IsRefusedAtLast, RefusesCall};
+ghost use Rattle.clsm_session.specs.Waiting.{CountsTries, FindsFull, IsFullAtLast, IsPatient, IsRefusedAtLast, RefusesCall};
 
 use crate::board::Board;
 use crate::job::Place;
@@ -259,10 +259,11 @@ impl<'a, R: Wait, P: Place> SessionCaller<'a, R, P> {
         self.caller.snapshot_time()
     }
 
-    /// Makes the call, and answers what the method of its name answers: it waits and is refused as
-    /// that. A `Try` is made once, as `Store::try_put`.
+    /// Makes the call, and answers what the method of its name answers: it waits, counts and is
+    /// refused as that. A `Try` is made once, as `Store::try_put`.
     pub fn play(&mut self, call: &Call) -> Result<Answer, BatchRefused>
         ensures plays { IfOk result (PlaysCall call.now self.old self.new) }
+        ensures counts { CountsTries call.now self.old self.new result }
         ensures waits { IfOk result (λ answer. ¬ FindsFull answer) }
         ensures memory { IfOk result (λ answer. WantsMemory answer → Refuses self.old self.new) }
         ensures same { IsSameSeat self.old self.new }

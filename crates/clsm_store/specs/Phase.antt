@@ -1,5 +1,5 @@
 -- What the merger's commands make of its token, and what they answer.
-use Rattle.std.specs.Prelude.{◌≡◌, ℕ, ◌+◌, ◌*◌, ◌^◌, ◌<◌, ⊤, List, replicate, Result, Ok, Err}
+use Rattle.std.specs.Prelude.{◌≡◌, ℕ, ◌+◌, ◌*◌, ◌^◌, ◌<◌, ⊤, List, replicate, None, Result, Ok, Err}
 use Rattle.clsm_law.specs.Merging.{unseen}
 use Rattle.clsm_law.specs.Views.{next_word}
 use Rattle.clsm_store_calls.specs.Seats.{MergerState}
@@ -24,12 +24,14 @@ merger_in (Frozen frozen) = frozen.merger
 merger_in (Retired retired) = retired.merger
 
 -- where the merger is clean, the epoch is frozen under the lock, with the floor and the rounds of
--- before, or the next limit would pass 2^62; else nothing is done
+-- before, and with no time noted, as no round was made for it yet; or the next limit would pass 2^62;
+-- else nothing is done
 abbrev pub Freezes : Phase → Phase → Result ℕ FreezeError → Type 0
 Freezes (Clean old) (Frozen new) (Ok epoch) =
     (new.merger ≡ record old.merger { holds = next_word old.merger.holds })
     × (new.floor ≡ old.floor)
     × (new.rounds ≡ old.rounds)
+    × (new.noted ≡ None)
     × (epoch ≡ old.merger.merges)
 Freezes (Clean old) (Clean new) (Err (Worn _)) =
     (new ≡ old) × (2 ^ 62 < (old.merger.merges + 2) * old.merger.store.layout.cells)

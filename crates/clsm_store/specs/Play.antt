@@ -4,8 +4,9 @@ use Rattle.clsm_model.specs.declared.deal.Deal.{Deal}
 use Rattle.clsm_model.specs.declared.deal.Deal.TheVariants as deals
 use Rattle.clsm_model.specs.declared.record.Deed.TheVariants as deeds
 use Rattle.clsm_model.specs.Right.{page_deed}
-use Rattle.clsm_store_calls.specs.Seats.{SeatState, Answers, IsFull, Refuses}
-use Rattle.clsm_store_calls.specs.Batching.{IsRefusedBatch}
+use Rattle.clsm_store_calls.specs.Seats.{SeatState, Answers, GivesUpForWrites, IsFull, Refuses}
+use Rattle.clsm_store_calls.specs.Batching.{CountsBatch, IsRefusedBatch}
+use Rattle.clsm_store_calls.specs.Tally.{CancelsNone, CountsTry, TakesLockOnce, TakesNoLock}
 use Rattle.clsm_store_calls.specs.Trying.{RefusesTry}
 use Rattle.clsm_store.specs.Changes.{added, put_if_absent}
 use Rattle.clsm_store.specs.declared.play.answer.Answer.{Answer}
@@ -50,6 +51,23 @@ PlaysCall (Batch members) old new (Batched (Err refusal)) =
     IsRefusedBatch old new members refusal
 PlaysCall _ _ _ _ = ⊥
 
+-- the call counts what the method of its name does
+abbrev pub CountsCall : Call → SeatState → SeatState → Answer → Type 0
+CountsCall (Put _ _) old new (Write _) = TakesLockOnce old.tally new.tally × CancelsNone old.tally new.tally
+CountsCall (Remove _) old new (Write _) = TakesLockOnce old.tally new.tally × CancelsNone old.tally new.tally
+CountsCall (Try _ _) old new (Tried answer) = CountsTry old.tally new.tally answer
+CountsCall (Add key _) old new (Changed _) = TakesLockOnce old.tally new.tally × GivesUpForWrites old new key
+CountsCall (Claim key _) old new (Changed _) = TakesLockOnce old.tally new.tally × GivesUpForWrites old new key
+CountsCall (Get _) old new (Read _) = TakesNoLock old.tally new.tally
+CountsCall Snap old new (Snapshot (Ok _)) = TakesNoLock old.tally new.tally
+CountsCall Snap old new (Snapshot (Err _)) = new.tally ≡ old.tally
+CountsCall Close old new (Closed _) = new.tally ≡ old.tally
+CountsCall (GetAt _) old new (ReadAt _) = new.tally ≡ old.tally
+CountsCall (Scan _ _) old new (Scanned _) = TakesNoLock old.tally new.tally
+CountsCall (Page _ _ _) old new (Paged _) = TakesNoLock old.tally new.tally
+CountsCall (Batch _) old new (Batched answer) = CountsBatch old.tally new.tally answer
+CountsCall _ _ _ _ = ⊥
+
 -- the call was refused memory
 abbrev pub WantsMemory : Answer → Type 0
 WantsMemory (Scanned (Err _)) = ⊤
@@ -62,6 +80,11 @@ HasList (Scan _ _) (Scanned (Ok _)) = ⊤
 HasList (Page _ _ _) (Paged (Ok _)) = ⊤
 HasList (Batch _) (Batched (Ok _)) = ⊤
 HasList _ _ = ⊥
+
+-- the deal asks for a batch, whose members are a list
+abbrev pub IsBatch : Deal → Type 0
+IsBatch (deals.Batch _) = ⊤
+IsBatch _ = ⊥
 
 -- the call that the deal asks for
 abbrev pub call_for : Deal → Call

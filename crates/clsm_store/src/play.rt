@@ -2,7 +2,7 @@
 ghost use Rattle.std.specs.Prelude.{◌≡◌, None, IfNone, IfSome};
 ghost use Rattle.clsm_model.specs.declared.record.Deed.TheVariants.{GetAt};
 ghost use Rattle.clsm_store_calls.specs.Seats.{Answers, IsSameSeat, Refuses};
-ghost use Rattle.clsm_store.specs.Play.{PlaysCall, WantsMemory};
+ghost use Rattle.clsm_store.specs.Play.{CountsCall, PlaysCall, WantsMemory};
 
 use crate::caller::Caller;
 use crate::seat::Seat;
@@ -24,18 +24,20 @@ fn get_at<P: Pace>(store: &Store<P>, seat: &mut Seat, key: u64) -> Option<Got>
     ensures answers { IfSome result
         (λ got. Answers seat.old seat.new got.time (GetAt key got.value)) }
     ensures none { IfNone result ((seat.new ≡ seat.old) × (seat.old.snapshot ≡ None)) }
+    ensures lock { seat.new.tally ≡ seat.old.tally }
 {
     seat.snapshot_time()?;
     Some(store.get_at(seat, key))
 }
 
 impl<P: Pace> Store<P> {
-    /// Makes the call by the seat, and answers what the method of its name answers: it waits and is
-    /// refused as that. A read under a snapshot is refused if none is open, and nothing was done
-    /// then.
+    /// Makes the call by the seat, and answers what the method of its name answers: it waits, counts
+    /// and is refused as that. A read under a snapshot is refused if none is open, and nothing was
+    /// done then.
     pub fn play<R: Wait>(&self, rt: &R, alloc: Global, seat: &mut Seat, call: &Call) -> Answer
         requires { seat.old.store ≡ self.now }
         ensures plays { PlaysCall call.now seat.old seat.new result }
+        ensures counts { CountsCall call.now seat.old seat.new result }
         ensures memory { WantsMemory result → Refuses seat.old seat.new }
         ensures same { IsSameSeat seat.old seat.new }
     {
@@ -64,6 +66,7 @@ impl<'a, P: Pace> Caller<'a, P> {
     /// As `Store::play`.
     pub fn play<R: Wait>(&mut self, rt: &R, alloc: Global, call: &Call) -> Answer
         ensures plays { PlaysCall call.now self.old.seat self.new.seat result }
+        ensures counts { CountsCall call.now self.old.seat self.new.seat result }
         ensures memory { WantsMemory result → Refuses self.old.seat self.new.seat }
         ensures same { IsSameSeat self.old.seat self.new.seat }
     {

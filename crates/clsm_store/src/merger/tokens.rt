@@ -1,5 +1,5 @@
 //! The merger's tokens, one for each phase, and what it does in each.
-ghost use Rattle.std.specs.Prelude.{◌≡◌, ◌+◌, ◌*◌, ◌^◌, ◌<◌, replicate, IfOk, IfErr};
+ghost use Rattle.std.specs.Prelude.{◌≡◌, ◌+◌, ◌*◌, ◌^◌, ◌<◌, replicate, None, IfOk, IfErr};
 ghost use Rattle.clsm_law.specs.Merging.{unseen};
 ghost use Rattle.clsm_law.specs.Views.{next_word};
 ghost use Rattle.clsm_store_calls.specs.Freezing.{IsClean, IsFrozen};
@@ -30,7 +30,7 @@ pub struct Clean {
 /// The merger's token, while an epoch is frozen. It may be moved to another thread. Contracts see
 /// its store and the number of merges, which is also the number of the frozen epoch; the floor of
 /// the last try to merge, how many rounds of looks at the snapshot words were made, and the least
-/// time that the last one found noted; the epoch's writes; and the runs.
+/// time that the last one for this epoch found noted; the epoch's writes; and the runs.
 #[derive(Drop)]
 pub struct Frozen {
     pub(crate) merger: MergerSeat,
@@ -101,6 +101,7 @@ impl Clean {
         requires { self.merger.store ≡ store.now }
         ensures frozen { IfOk result (λ frozen. frozen.merger ≡ record self.merger { holds = next_word self.merger.holds }) }
         ensures floor { IfOk result (λ frozen. (frozen.floor ≡ self.floor) × (frozen.rounds ≡ self.rounds)) }
+        ensures noted { IfOk result (λ frozen. frozen.noted ≡ None) }
         ensures worn { IfErr result (λ refused. (refused.0 ≡ self) × (2 ^ 62 < (self.merger.merges + 2) * self.merger.store.layout.cells)) }
     {
         let merges = self.merger.merges;
@@ -108,6 +109,7 @@ impl Clean {
             return Err((self, Worn));
         }
         freeze(rt, &store.words, &mut self.merger.raw, merges);
+        self.merger.noted = None;
         Ok(Frozen {
             merger: self.merger,
         })
@@ -128,8 +130,9 @@ impl Frozen {
         self.merger.merges()
     }
 
-    /// The least time that the last round of looks found noted in the snapshot words: if that is
-    /// below the end of the epoch, a snapshot of that time keeps old versions.
+    /// The least time that the last round of looks for this epoch found noted in the snapshot words:
+    /// if that is below the end of the epoch, a snapshot of that time keeps old versions. `None` if
+    /// it found none, or before the first round.
     #[inline]
     pub fn noted(&self) -> Option<Time>
         ensures { result ≡ self.now.noted }

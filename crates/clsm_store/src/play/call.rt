@@ -1,7 +1,7 @@
 //! The calls of a seat, and the records of those that were made.
-ghost use Rattle.std.specs.Prelude.{◌≡◌, ◌++◌, IfNone, IfOk, IfSome, option_to_list};
+ghost use Rattle.std.specs.Prelude.{◌≡◌, ◌++◌, IfErr, IfNone, IfOk, IfSome, option_to_list};
 ghost use Rattle.clsm_store_calls.specs.Seats.{Answers, SeatState};
-ghost use Rattle.clsm_store.specs.Play.{HasList, PlaysCall, call_for};
+ghost use Rattle.clsm_store.specs.Play.{HasList, IsBatch, PlaysCall, call_for};
 
 use super::answer::Answer;
 use clsm_model::{CallRecord, Deal, Deed, Members, Memory, PageRange, Time, Value};
@@ -41,7 +41,8 @@ pub enum Call {
 impl Call {
     /// The call that the deal asks for. Refused if memory runs out, which a batch alone takes.
     pub fn of_deal(alloc: Global, deal: Deal) -> Result<Call, Memory>
-        ensures { IfOk result (λ call. call ≡ call_for deal) }
+        ensures call { IfOk result (λ call. call ≡ call_for deal) }
+        ensures refused { IfErr result (λ refusal. IsBatch deal) }
     {
         Ok(match deal {
             Deal::Put { key, value } => Call::Put { key, value },
@@ -85,11 +86,12 @@ impl Call {
     }
 
     /// As `into_record`, of a call and an answer that are used again: their lists are copied. Refused
-    /// if memory runs out.
+    /// if memory runs out, which lists alone take.
     pub fn to_record(&self, seat: u32, answer: &Answer) -> Result<Option<CallRecord>, AllocError>
         ensures made { IfOk result (λ made. (old new : SeatState) → old.number ≡ seat →
             PlaysCall self.now old new answer.now → new.calls ≡ old.calls ++ option_to_list made) }
         ensures seat { IfOk result (λ made. IfSome made (λ call. call.seat ≡ seat)) }
+        ensures refused { IfErr result (λ refusal. HasList self.now answer.now) }
     {
         let (time, deed) = match (self, answer) {
             (Call::Scan { lo, hi }, Answer::Scan(Ok(scan))) => {
