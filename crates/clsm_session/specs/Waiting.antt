@@ -54,8 +54,9 @@ RefusesCall (Claim _ _) old new (NoRoom _) = IsFullAtLast old new
 RefusesCall (Batch members) old new refusal = IsRefusedAtLast old new members refusal
 RefusesCall _ _ _ _ = ⊥
 
--- what the call counts: a write that waits for room cancels no time hastily in any of its tries; any
--- other call is made once, and counts what the store's does
+-- what the call counts: a put, a removal and a batch cancel no time in any of their tries, and an
+-- addition and a claim give up one for each write of their key at most; any other call is made once,
+-- and counts what the store's does
 abbrev pub CountsTries : Call → SeatState → SeatState → Result Answer BatchRefused → Type 0
 CountsTries (Put _ _) old new _ = CancelsNone old.tally new.tally
 CountsTries (Remove _) old new _ = CancelsNone old.tally new.tally
