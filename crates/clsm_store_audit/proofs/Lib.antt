@@ -4,3 +4,4 @@ pub mod Whole
 pub mod Checked
 pub mod Popped
 pub mod Raced
+pub mod CountedCalls

@@ -17,8 +17,10 @@ use clsm_words::Pace;
 use std::alloc::Global;
 
 mod race;
+mod visited;
 
 pub use race::race_agrees;
+pub use visited::count_calls;
 
 /// What holds of seats: none has a due past the end of time. It does nothing when it runs.
 fn are_in_time(seats: &[Seat])
