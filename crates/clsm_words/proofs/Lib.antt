@@ -29,4 +29,3 @@ pub mod MergerTelling
 pub mod MergerAllowed
 pub mod Changing
 pub mod Starts
-pub mod Reciprocals

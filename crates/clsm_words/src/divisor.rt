@@ -1,10 +1,9 @@
 //! Divisions by the sizes of a store, which are mostly powers of two.
-ghost use Rattle.std.specs.Prelude.{◌≡◌, ◌+◌, ◌-◌, ◌*◌, ◌/◌, ◌^◌, ◌%◌, ◌<◌, ◌≤◌, ◌==◌};
+ghost use Rattle.std.specs.Prelude.{◌≡◌, ◌*◌, ◌^◌, ◌%◌, ◌<◌, ◌==◌};
 
 use clsm_law::Layout;
 
-/// A number by which others are divided: by a mask, where it is a power of two, and otherwise by a
-/// multiplication, which takes a third of the time of a division.
+/// A number by which others are divided: by a mask, where it is a power of two.
 #[derive(Clone, Copy)]
 pub struct Divisor {
     pub(crate) by: u64,
@@ -12,11 +11,8 @@ pub struct Divisor {
     bits: u32,
     /// It is 2 to that power.
     has_mask: bool,
-    /// 2^64 - 1, divided by it and rounded down.
-    reciprocal: u64,
     pub ghost positive: { 0 < by },
     pub ghost tested: { has_mask ≡ (by == 2 ^ bits) },
-    pub ghost inverse: { reciprocal ≡ (2 ^ 64 - 1) / by },
 }
 
 impl Divisor {
@@ -30,7 +26,6 @@ impl Divisor {
             by,
             bits,
             has_mask: by == 1 << bits,
-            reciprocal: u64::MAX / by,
         }
     }
 
@@ -41,20 +36,10 @@ impl Divisor {
         ensures { result ≡ number % self.now.by }
     {
         if self.has_mask {
-            return number & (self.by - 1);
+            number & (self.by - 1)
+        } else {
+            number % self.by
         }
-        let rest = number - self.quotient(number) * self.by;
-        if rest < self.by { rest } else { rest - self.by }
-    }
-
-    /// The number divided by it and rounded down, or one less.
-    #[inline(always)]
-    fn quotient(&self, number: u64) -> u64
-        ensures fits { result * self.now.by ≤ number }
-        ensures near { number < result * self.now.by + 2 * self.now.by }
-    {
-        let product = number as u128 * self.reciprocal as u128;
-        (product >> 64) as u64
     }
 }
 
