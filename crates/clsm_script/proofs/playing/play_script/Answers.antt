@@ -20,7 +20,7 @@ returns-clause-played g c =
       merger_is = c.in_ok-store.ensures.merger;
       phase_is = refl;
     } in
-    ended_played c.args.config start _ _ _ _ _ c.end-ended.ensures new c.play_lines-played.ensures.played 
+    ended_played c.args.config start _ _ _ _ _ c.end-ended.ensures new c.play_lines-played.ensures.played
     (new_reader _ _ _ _ c.in-Ok.ensures.empty c.in-Ok.ensures.capacity (ap g.R.Read.remaining c.in-Ok.ensures.inner))
 
 pub returns-clause-stopped : goal.returns-clause-stopped
@@ -34,5 +34,5 @@ returns-clause-stopped g c =
       merger_is = c.in_ok-store.ensures.merger;
       phase_is = refl;
     } in
-    ended_stops c.args.config start _ _ _ _ _ c.end-ended.ensures c.in_ok-store.ensures.sizes new c.play_lines-played.ensures.stopped 
+    ended_stops c.args.config start _ _ _ _ _ c.end-ended.ensures c.in_ok-store.ensures.sizes new c.play_lines-played.ensures.stopped
     (new_reader _ _ _ _ c.in-Ok.ensures.empty c.in-Ok.ensures.capacity (ap g.R.Read.remaining c.in-Ok.ensures.inner))
