@@ -1,15 +1,18 @@
 -- How a run ends.
-use Rattle.std.specs.Prelude.{◌≡◌, ℕ, ◌⊎◌, ⊤, All, Result, Ok, Err}
+use Rattle.std.specs.Prelude.{◌≡◌, ℕ, ◌⊎◌, ⊤, All, IsTrue, Result, Ok, Err}
 use Rattle.clsm_model.specs.declared.config.Config.{Config}
 use Rattle.clsm_model.specs.Config.{IsSound}
 use Rattle.clsm_audit.specs.declared.fault.AuditError.{AuditError}
 use Rattle.clsm_audit.specs.declared.fault.AuditError.TheVariants as audits
+use Rattle.clsm_audit.specs.declared.fault.FaultKind.{FaultKind}
+use Rattle.clsm_store.specs.Headline.{IsWholeHistory, longest_past}
 use Rattle.clsm_store.specs.Opening.{IsRefusal}
 use Rattle.clsm_store_calls.specs.Seats.{StoreId}
 use Rattle.clsm_text.specs.declared.failure.Failure.{Failure}
-use Rattle.clsm_text.specs.declared.failure.Failure.TheVariants.{BadLine, Fault, Refused, Memory}
+use Rattle.clsm_text.specs.declared.failure.Failure.TheVariants.{Device, Fault, Refused, Memory}
 use Rattle.clsm_run.specs.Audit.{IsAudited}
 use Rattle.clsm_run.specs.Calls.{HasMadeAll, HasSettled}
+use Rattle.clsm_run.specs.declared.load.AskedRun.{AskedRun}
 use Rattle.clsm_run.specs.declared.load.Load.{Load}
 use Rattle.clsm_run.specs.declared.ran.Ran.{Ran}
 
@@ -25,19 +28,43 @@ ending_of (Ok _) = Ok tt
 ending_of (Err (audits.Fault _ _)) = Err Fault
 ending_of (Err audits.Memory) = Err Memory
 
--- why a run does not end well: its sizes were refused, or memory; or its store was opened, and a
--- fault was found or a device failed
-abbrev pub StopsRun : Config → Failure → Type 0
-StopsRun config (Refused error) = IsRefusal config error
-StopsRun config (BadLine _) = ⊥
-StopsRun config Memory = ⊤
-StopsRun config _ = IsSound config
+-- why the calls of a run are not all made and audited: its sizes were refused, or memory; or its
+-- store was opened, and a device failed
+abbrev pub StopsCalls : Config → Failure → Type 0
+StopsCalls config (Refused error) = IsRefusal config error
+StopsCalls config Memory = ⊤
+StopsCalls config Device = IsSound config
+StopsCalls config _ = ⊥
 
 -- after the opening
 abbrev pub StopsWork : Failure → Type 0
-StopsWork (Refused _) = ⊥
-StopsWork (BadLine _) = ⊥
-StopsWork _ = ⊤
+StopsWork Memory = ⊤
+StopsWork Device = ⊤
+StopsWork _ = ⊥
+
+-- the run is whole, and where its writes wait for room, its calls are one whole history
+pub record IsRunOf (asked : AskedRun) (ran : Ran) : Type 0 where
+  pub whole : IsWholeRun asked.config asked.load ran
+  pub history : IsTrue asked.waits → IsWholeHistory ran.seats.items (longest_past ran.seats.items)
+
+-- the audit of such a run found no fault
+pub record EndsWell (asked : AskedRun) : Type 0 where
+  pub ran : Ran
+  pub is_run : IsRunOf asked ran
+  pub verdict : ran.verdict ≡ Ok tt
+
+-- the audit of such a run found a fault
+pub record FindsFault (asked : AskedRun) : Type 0 where
+  pub ran : Ran
+  pub kind : FaultKind
+  pub index : ℕ
+  pub is_run : IsRunOf asked ran
+  pub verdict : ran.verdict ≡ Err (audits.Fault kind index)
+
+-- why a run does not end well: not all calls were made and audited, or the audit found a fault
+abbrev pub StopsRun : AskedRun → Failure → Type 0
+StopsRun asked Fault = IsSound asked.config × FindsFault asked
+StopsRun asked failure = StopsCalls asked.config failure
 
 -- the exit statuses of a run
 abbrev pub IsStatus : ℕ → Type 0

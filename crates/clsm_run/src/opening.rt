@@ -1,7 +1,7 @@
 //! A run: its opening, its work and its end.
 ghost use Rattle.std.specs.Prelude.{◌≡◌, IfErr, IfOk, OnOk};
 ghost use Rattle.clsm_model.specs.Config.{IsSound};
-ghost use Rattle.clsm_run.specs.Run.{IsStatus, IsWholeRun, StopsRun};
+ghost use Rattle.clsm_run.specs.Run.{EndsWell, FindsFault, IsRunOf, IsStatus, StopsCalls, StopsRun};
 
 use crate::answer::{write_records, write_verdict};
 use crate::auditing::ending;
@@ -33,6 +33,8 @@ where
     E: Write + Send + Drop,
     ensures status { IsStatus result }
     ensures refused { ¬ IsSound asked.config → result ≡ 3 }
+    ensures well { result ≡ 0 → EndsWell asked }
+    ensures fault { result ≡ 2 → FindsFault asked }
 {
     match try_run(rt, alloc, &asked, output, &mut faults) {
         Ok(()) => 0,
@@ -43,6 +45,7 @@ where
     }
 }
 
+#[tactic(auto, using(crate::proofs::Verdicts::calls_stop, crate::proofs::Verdicts::work_stops))]
 fn try_run<R, W, E>(
     rt: &R,
     alloc: Global,
@@ -55,7 +58,8 @@ where
     W: Write + Drop,
     E: Write + Send,
     ensures opened { OnOk result (IsSound asked.now.config) }
-    ensures stopped { IfErr result (StopsRun asked.now.config) }
+    ensures well { OnOk result (EndsWell asked.now) }
+    ensures stopped { IfErr result (StopsRun asked.now) }
 {
     let ran = call_all(rt, alloc, asked, faults)?;
     if asked.shows.records {
@@ -77,8 +81,8 @@ where
     R: Threads + Sync + Clock + Wait,
     E: Write + Send,
     ensures opened { OnOk result (IsSound asked.now.config) }
-    ensures whole { IfOk result (IsWholeRun asked.now.config asked.now.load) }
-    ensures stopped { IfErr result (StopsRun asked.now.config) }
+    ensures run { IfOk result (IsRunOf asked.now) }
+    ensures stopped { IfErr result (StopsCalls asked.now.config) }
 {
     if asked.waits {
         return run_waiting(rt, alloc, asked, faults);

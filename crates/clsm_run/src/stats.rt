@@ -67,16 +67,17 @@ fn write_kind<E: Write>(
     let rate = per_second(answered as u64, time);
     let name = kind.name();
     let median = percentile(&times, 500);
-    let most = percentile(&times, 990);
-    let nearly_all = percentile(&times, 999);
+    let percentile_99 = percentile(&times, 990);
+    let percentile_99_9 = percentile(&times, 999);
     let greatest = percentile(&times, 1_000);
     write!(
         faults,
         "{name} answered {answered} refused {refused} calls/s {rate}"
     )?;
-    writeln!(
+    write!(
         faults,
-        " nanoseconds median {median} p99 {most} p99.9 {nearly_all} greatest {greatest}"
+        " nanoseconds median {median} p99 {percentile_99} p99.9 {percentile_99_9}"
     )?;
+    writeln!(faults, " greatest {greatest}")?;
     Ok(())
 }

@@ -5,7 +5,7 @@ ghost use Rattle.clsm_model.specs.Config.{IsSound};
 ghost use Rattle.clsm_session.specs.Ended.{StopsSession};
 ghost use Rattle.clsm_run.specs.Audit.{IsAuditedWhole};
 ghost use Rattle.clsm_run.specs.Calls.{HasSettled};
-ghost use Rattle.clsm_run.specs.Run.{StopsRun, StopsWork};
+ghost use Rattle.clsm_run.specs.Run.{StopsCalls, StopsWork};
 ghost use Rattle.clsm_run.specs.Waiting.{EndsSession, IsEnded};
 
 use crate::auditing::audited;
@@ -45,7 +45,7 @@ where
     ensures opened { OnOk result (IsSound asked.now.config) }
     ensures audited { IfOk result (λ ran. IsAuditedWhole asked.now.config ran.seats.items ran.records.items ran.verdict) }
     ensures made { IfOk result (λ ran. All (HasSettled asked.now.load) ran.seats.items) }
-    ensures stopped { IfErr result (StopsRun asked.now.config) }
+    ensures stopped { IfErr result (StopsCalls asked.now.config) }
 {
     if let Err(error) = asked.config.check() {
         return Err(Failure::Refused(error));
@@ -85,7 +85,7 @@ fn audit_ended<R: Clock>(
 
 /// Why the run stops where its session hands nothing back.
 fn failure_of(error: SessionError) -> Failure
-    ensures { (config : Config) → StopsSession config error → StopsRun config result }
+    ensures { (config : Config) → StopsSession config error → StopsCalls config result }
 {
     match error {
         SessionError::Open(error) => Failure::Refused(error),

@@ -1,4 +1,5 @@
 pub mod Audits
+pub mod Chains
 pub mod Commands
 pub mod Pairs
 pub mod Readings

@@ -3,7 +3,7 @@ ghost use Rattle.std.specs.Prelude.{◌↔◌, IsTrue};
 use clsm_audit::AuditError;
 use clsm_model::{Change, Time};
 use clsm_store::{Answer as Called, FreezeError, MergeError, Page, ReclaimError, Rmw};
-use clsm_text::{Shown, ShownRows};
+use clsm_text::{Reply, ShownRows};
 use std::fmt;
 
 /// What a command answers. It is shown as the program writes it.
@@ -89,7 +89,7 @@ fn write_called<W: fmt::Write>(f: &mut fmt::Formatter<W>, answer: &Called) -> fm
         Called::Change(Ok(rmw)) => write_change(f, rmw),
         Called::Change(Err(refusal)) => write!(f, "{refusal}"),
         Called::Read(got) | Called::ReadAt(Some(got)) => {
-            write!(f, "{} @{}", Shown(&got.value), got.time)
+            write!(f, "{} @{}", Reply(&got.value), got.time)
         }
         Called::Snapshot(Ok(time)) => write!(f, "snap @{time}"),
         Called::Snapshot(Err(refusal)) => write!(f, "{refusal}"),
@@ -102,7 +102,7 @@ fn write_called<W: fmt::Write>(f: &mut fmt::Formatter<W>, answer: &Called) -> fm
 }
 
 fn write_change<W: fmt::Write>(f: &mut fmt::Formatter<W>, rmw: &Rmw) -> fmt::Result {
-    let old = Shown(&rmw.old);
+    let old = Reply(&rmw.old);
     let time = rmw.time;
     match &rmw.change {
         Change::Keep => write!(f, "kept {old} @{time}"),

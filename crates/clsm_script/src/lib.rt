@@ -8,4 +8,4 @@ mod playing;
 mod session;
 
 pub use answer::Answer;
-pub use playing::{DEFAULT_SIZES, script};
+pub use playing::script;

@@ -1,6 +1,7 @@
 ghost use Rattle.std.specs.Prelude.{◌≡◌, ◌⊎◌, [], Contains, Err, IfSome, OnOk, IfErr};
 ghost use Rattle.std.specs.Io.Buffered.{reader_buffer, reader_remaining, writer_buffer};
 ghost use Rattle.clsm_script.specs.Answer.{IsFault, WantsMemory};
+ghost use Rattle.clsm_script.specs.Lines.{EndsPlay, IsFaultyOn, IsPlayedOn, stage_of};
 ghost use Rattle.clsm_script.specs.Script.{IsScript, IsStatus, StopsLine, StopsPlay, StopsScript};
 ghost use Rattle.clsm_script.specs.Session.{IsSession};
 ghost use Rattle.clsm_text.specs.Failure.{IsOutside};
@@ -16,15 +17,6 @@ use clsm_text::{Failure, Streams, read_line};
 use std::alloc::Global;
 use std::io::{BufReader, BufWriter, Read, Write};
 use std::sync::Wait;
-
-/// The sizes of the store where nothing else is asked for.
-pub const DEFAULT_SIZES: Config = Config {
-    cells: 4,
-    seats: 1,
-    shards: 2,
-    run: 64,
-    patience: 8,
-};
 
 /// What a script reads, and the answers that it writes, which are held back for a while.
 #[derive(Drop)]
@@ -48,7 +40,9 @@ where
     E: Write + Drop,
     ensures status { IsStatus result }
     ensures refused { ¬ IsSound config → result ≡ 3 }
-    ensures played { result ≡ 0 → IfSome (R.remaining streams.input) IsScript }
+    ensures read { result ≡ 0 → IfSome (R.remaining streams.input) IsScript }
+    ensures played { result ≡ 0 → IfSome (R.remaining streams.input) (IsPlayedOn config) }
+    ensures fault { result ≡ 2 → IfSome (R.remaining streams.input) (IsFaultyOn config) }
 {
     let Streams {
         input,
@@ -81,7 +75,8 @@ where
     W: Write + Drop,
     E: Write,
     ensures opened { OnOk result (IsSound config) }
-    ensures played { OnOk result (IfSome (R.remaining streams.entry.input) IsScript) }
+    ensures read { OnOk result (IfSome (R.remaining streams.entry.input) IsScript) }
+    ensures played { OnOk result (IfSome (R.remaining streams.entry.input) (IsPlayedOn config)) }
     ensures stopped { IfErr result (StopsScript config (R.remaining streams.entry.input)) }
 {
     let Streams {
@@ -115,7 +110,7 @@ where
     ended
 }
 
-/// Ends a play: gives out the answers that are held back, unless a device failed before. What is
+/// Ends a play: flushes the answers that are held back, unless a device failed before. What is
 /// then still held back is lost.
 fn end<W: Write + Drop>(
     mut answers: BufWriter<W>,
@@ -125,7 +120,7 @@ fn end<W: Write + Drop>(
 {
     let given = match played {
         Err(Failure::Device) => Ok(()),
-        _ => give_out(&mut answers),
+        _ => flush_answers(&mut answers),
     };
     // A writer that is dropped would write once more.
     let (_, _) = answers.into_parts();
@@ -141,13 +136,16 @@ fn play_lines<T: Wait, R: Read, W: Write + Drop, P: Pace + Drop>(
     merger: Merger<'_, P>,
 ) -> Result<(), Failure>
     requires { IsSession merger.store.now session.old }
-    ensures played { OnOk result (IfSome (reader_remaining R.remaining console.old.reader) IsScript) }
-    ensures stopped { IfErr result (StopsPlay (reader_remaining R.remaining console.old.reader)) }
+    ensures read { OnOk result (IfSome (reader_remaining R.remaining console.old.reader) IsScript) }
+    ensures played { OnOk result (IfSome (reader_remaining R.remaining console.old.reader)
+        (EndsPlay (stage_of session.old merger.entry.phase) session.new)) }
+    ensures stopped { IfErr result (StopsPlay (reader_remaining R.remaining console.old.reader)
+        (stage_of session.old merger.entry.phase) session.new) }
 {
     let Merger { store, mut phase } = merger;
     let mut line = Vec::new(alloc);
     for number in 1..u64::MAX {
-        give_out_before_wait(&console.reader, &mut console.answers)?;
+        flush_before_wait(&console.reader, &mut console.answers)?;
         if !read_line(&mut console.reader, &mut line)? {
             return Ok(());
         }
@@ -172,9 +170,9 @@ fn play_lines<T: Wait, R: Read, W: Write + Drop, P: Pace + Drop>(
     Err(Failure::Device)
 }
 
-/// Gives out the answers that are held back, unless the next line is at hand: otherwise the input
-/// is waited for.
-fn give_out_before_wait<R: Read, W: Write + Drop>(
+/// Flushes the answers that are held back, unless the next line is at hand: otherwise the input is
+/// waited for.
+fn flush_before_wait<R: Read, W: Write + Drop>(
     reader: &BufReader<R>,
     answers: &mut BufWriter<W>,
 ) -> Result<(), Failure>
@@ -184,11 +182,11 @@ fn give_out_before_wait<R: Read, W: Write + Drop>(
     if reader.buffer().contains(&b'\n') {
         return Ok(());
     }
-    give_out(answers)
+    flush_answers(answers)
 }
 
-/// Gives out the answers that are held back.
-fn give_out<W: Write + Drop>(answers: &mut BufWriter<W>) -> Result<(), Failure>
+/// Flushes the answers that are held back.
+fn flush_answers<W: Write + Drop>(answers: &mut BufWriter<W>) -> Result<(), Failure>
     ensures given { OnOk result (writer_buffer answers.new ≡ []) }
     ensures failed { IfErr result (λ failure. failure ≡ Device) }
 {

@@ -3,6 +3,7 @@ ghost use Rattle.std.specs.Prelude.{◌≡◌, ◌≢◌, ◌<◌, ◌≤◌, �
 ghost use Rattle.std.specs.Prelude.{option_to_list};
 ghost use Rattle.clsm_store_calls.specs.Seats.{AreNew, StoreId};
 ghost use Rattle.clsm_store.specs.Meetings.{AreOf};
+ghost use Rattle.clsm_script.specs.Lines.{IsNewSession};
 ghost use Rattle.clsm_script.specs.Session.{IsSession};
 ghost use Rattle.clsm_script.specs.Play.{IsAudited, Calls, MeetsSeat, PairMeets, TakesSeat};
 
@@ -55,8 +56,9 @@ fn meet_pair<P: Pace>(store: &Store<P>, seats: &mut [Seat], one: usize, other: u
 impl Session {
     /// A session of the seats of a new store; seat 0 is in use.
     pub fn new(alloc: Global, config: Config, seats: Vec<Seat>) -> Session
-        ensures { (store : StoreId) → AreNew store config.seats seats.items → 1 ≤ config.seats →
+        ensures session { (store : StoreId) → AreNew store config.seats seats.items → 1 ≤ config.seats →
             IsSession store result }
+        ensures fresh { (store : StoreId) → AreNew store config.seats seats.items → IsNewSession config store result }
     {
         Session {
             config,

@@ -45,10 +45,10 @@ good_none K = All-cons (IsGood K) [] [] (good_nil K) (All-nil (IsGood K))
 -- one line more of some lines
 module _ (K : List (List ℕ) → Type 0) (lines : List (List ℕ)) (count : ℕ) (line : List ℕ)
     (more : List (List ℕ)) (next : drop count lines ≡ line ∷ more) where
-  inside : count < length lines
+  pub inside : count < length lines
   inside = omega (arith, length-drop count lines, ap length next)
 
-  line_at : (d : List ℕ) → get_or lines count d ≡ line
+  pub line_at : (d : List ℕ) → get_or lines count d ≡ line
   line_at d = let at = drop_more lines count d inside in cc
 
   more_left : drop (count + 1) lines ≡ more
@@ -65,17 +65,27 @@ good_whole : (K : List (List ℕ) → Type 0) (lines : List (List ℕ)) (count :
 good_whole K lines count front back =
     subst (All (IsGood K)) (take-append-drop count lines) (All-append (IsGood K) _ _ front back)
 
+-- the line is empty
+abbrev pub IsEmpty : List ℕ → Type 0
+IsEmpty line = line ≡ []
+
 -- so many lines of the bytes are read, and all were good
 pub record IsReadTo (K : List (List ℕ) → Type 0) (bytes rest : List ℕ) (count : ℕ) : Type 0 where
   pub good : All (IsGood K) (take count (lines_of bytes))
   pub left : rest ≢ [] → drop count (lines_of bytes) ≡ lines_of rest
   pub ended : rest ≡ [] → AllGood K bytes
+  pub over : rest ≡ [] → All IsEmpty (drop count (lines_of bytes))
 
 -- the same, where the bytes are known
 abbrev pub LeadsTo : (List (List ℕ) → Type 0) → Option (List ℕ) → Option (List ℕ) → ℕ → Type 0
 LeadsTo K None rest count = Unit {0}
 LeadsTo K (Some bytes) None count = ⊥
 LeadsTo K (Some bytes) (Some rest) count = IsReadTo K bytes rest count
+
+-- no bytes have one line, which is empty
+empty_none : (bytes : List ℕ) → bytes ≡ [] → All IsEmpty (lines_of bytes)
+empty_none bytes none =
+    subst (λ (b : List ℕ). All IsEmpty (lines_of b)) (sym none) (All-cons IsEmpty [] [] refl (All-nil IsEmpty))
 
 -- nothing is read yet
 pub leads_start : (K : List (List ℕ) → Type 0) (input : Option (List ℕ)) → LeadsTo K input input 0
@@ -85,6 +95,7 @@ leads_start K (Some bytes) =
       good = All-nil (IsGood K);
       left = λ _. refl;
       ended = λ empty. subst (AllGood K) (sym empty) (good_none K);
+      over = λ empty. empty_none bytes empty;
     }
 
 -- the first line, and the lines after it
@@ -104,6 +115,7 @@ pub record IsSplit (K : List (List ℕ) → Type 0) (bytes rest : List ℕ) : Ty
   pub split : lines_of bytes ≡ first_line bytes ∷ more
   pub follow : rest ≢ [] → more ≡ lines_of rest
   pub good_end : rest ≡ [] → All (IsGood K) more
+  pub empty_end : rest ≡ [] → All IsEmpty more
 
 splits : (K : List (List ℕ) → Type 0) (bytes rest : List ℕ) → length (first_line bytes) ≤ 4096 →
     rest ≡ drop (min (length (first_line bytes) + 1) 4097) bytes → IsSplit K bytes rest
@@ -117,6 +129,7 @@ splits K bytes rest short left =
             split = whole_line bytes far;
             follow = λ some. absurd (some empty);
             good_end = λ _. All-nil (IsGood K);
+            empty_end = λ _. All-nil IsEmpty;
           }
       | inr (_, near) ↦
           let count : min (length (first_line bytes) + 1) 4097
@@ -129,6 +142,7 @@ splits K bytes rest short left =
                 ∙ ap (λ r. first_line bytes ∷ lines_of r) (sym after);
             follow = λ _. refl;
             good_end = λ empty. subst (AllGood K) (sym empty) (good_none K);
+            empty_end = λ empty. empty_none rest empty;
           }
     ]
 
@@ -170,7 +184,27 @@ leads_on K (Some bytes) (Some now) (Some rest) line found count leads tells some
       ended = λ empty.
           good_whole K (lines_of bytes) (count + 1) front
           (subst (All (IsGood K)) (sym after) (s.good_end empty));
+      over = λ empty. subst (All IsEmpty) (sym after) (s.empty_end empty);
     }
+
+-- the good line that is read comes next
+pub reads_next : (K : List (List ℕ) → Type 0) (bytes now : List ℕ) (new : Option (List ℕ)) (line : List ℕ)
+    (found : Bool) (count : ℕ) →
+    LeadsTo K (Some bytes) (Some now) count → Tells (Some now) found → found ≡ true →
+    TakesLine now line new → IsGood K line →
+    (more : List (List ℕ)) × (drop count (lines_of bytes) ≡ line ∷ more)
+reads_next K bytes now new line found count leads tells some takes good =
+    let (more, split) = split_line now in
+    let is : line ≡ first_line now = good_first now line takes.line_is (good_short K line good) in
+    (more, leads.left (tells.0 some) ∙ split ∙ ap (λ l. l ∷ more) (sym is))
+
+-- at the end only empty lines are left
+pub leads_over : (K : List (List ℕ) → Type 0) (bytes now : List ℕ) (found : Bool) (count : ℕ) →
+    LeadsTo K (Some bytes) (Some now) count → Tells (Some now) found → found ≡ false →
+    All IsEmpty (drop count (lines_of bytes))
+leads_over K bytes [] found count leads tells none = leads.over refl
+leads_over K bytes (b ∷ more) found count leads tells none =
+    let there : found ≡ true = tells.1 (λ empty. cc) in cc
 
 -- no line is left
 pub leads_to_end : (K : List (List ℕ) → Type 0) (old now : Option (List ℕ)) (found : Bool)

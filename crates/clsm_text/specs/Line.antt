@@ -2,9 +2,9 @@
 use Rattle.std.specs.Prelude.{◌≡◌, ℕ, ◌≤◌, ◌-◌, ◌==◌, ◌⊎◌, not, ⊤, All, List, [], ◌∷◌, MatchOption, Option}
 use Rattle.std.specs.Prelude.{length, map, filter, take, slice_index, slice_index_or}
 use Rattle.std.specs.Borrow.{Bor}
-use Rattle.std.specs.Global.{Vec}
 use Rattle.std.specs.List.{slice_split}
 use Rattle.std.specs.Str.{IsUtf8}
+use Rattle.smallvec.specs.SmallVec.{SmallVec}
 use Rattle.clsm_text.specs.Input.{is_line_feed}
 
 -- the texts behind a row of `&str`
@@ -21,7 +21,7 @@ IsComment [] = ⊤
 IsComment (word ∷ _) = slice_index word 0 ≡ 35
 
 -- what a reader of the line says of it: its words, or nothing where it says nothing
-abbrev pub SaysWords : List ℕ → Option (Vec (Bor (List ℕ))) → Type 0
+abbrev pub SaysWords : List ℕ → Option (SmallVec (Bor (List ℕ))) → Type 0
 SaysWords line said = MatchOption said
     (IsComment (words_of line))
     (λ words. (¬ IsComment (words_of line)) × (texts_of words.items ≡ words_of line))

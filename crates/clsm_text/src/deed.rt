@@ -78,21 +78,19 @@ fn parse_get(words: &[&str]) -> Option<Deed>
 fn parse_snap(words: &[&str]) -> Option<Deed>
     ensures { Finds (SayDeed (codes "snap" ∷ texts_of words.now)) result }
 {
-    if words.is_empty() {
-        Some(Deed::Snapshot)
-    } else {
-        None
-    }
+    let [] = *words else {
+        return None;
+    };
+    Some(Deed::Snapshot)
 }
 
 fn parse_close(words: &[&str]) -> Option<Deed>
     ensures { Finds (SayDeed (codes "close" ∷ texts_of words.now)) result }
 {
-    if words.is_empty() {
-        Some(Deed::Close)
-    } else {
-        None
-    }
+    let [] = *words else {
+        return None;
+    };
+    Some(Deed::Close)
 }
 
 fn parse_get_at(words: &[&str]) -> Option<Deed>

@@ -4,10 +4,14 @@ ghost use Rattle.clsm_text.specs.Line.{texts_of, words_of, IsText, SaysWords};
 ghost use Rattle.clsm_text.specs.declared.line.LineError.TheVariants.{Bad};
 
 use crate::failure::Failure;
+use smallvec::SmallVec;
 use std::alloc::{AllocError, Global};
 
 /// The greatest length of a line in bytes, without its line feed.
 pub const LONGEST_LINE: usize = 4096;
+
+/// The words of a line. Up to eight of them need no allocation.
+pub type Words<'a> = SmallVec<&'a str, 8>;
 
 /// Why a line is not read.
 #[derive(Clone, Copy, Debug, PartialEq, Eq)]
@@ -44,7 +48,7 @@ impl From<AllocError> for LineError {
 /// The words of a line that is given without its line feed; `None` where it has no words or is a
 /// comment, which begins with `#`. It is refused as bad where it is longer than 4,096 bytes or is
 /// not UTF-8, and otherwise only if memory runs out.
-pub fn plain_words(alloc: Global, line: &[u8]) -> Result<Option<Vec<&str>>, LineError>
+pub fn plain_words(alloc: Global, line: &[u8]) -> Result<Option<Words<'_>>, LineError>
     ensures text { OnOk result (IsText line.now) }
     ensures words { IfOk result (SaysWords line.now) }
     ensures bad { result ≡ Err Bad → ¬ IsText line.now }
@@ -56,7 +60,7 @@ pub fn plain_words(alloc: Global, line: &[u8]) -> Result<Option<Vec<&str>>, Line
 }
 
 /// The same of a line of any length, which is refused as bad only where it is not UTF-8.
-pub fn line_words(alloc: Global, line: &[u8]) -> Result<Option<Vec<&str>>, LineError>
+pub fn line_words(alloc: Global, line: &[u8]) -> Result<Option<Words<'_>>, LineError>
     ensures text { OnOk result (IsUtf8 line.now) }
     ensures words { IfOk result (SaysWords line.now) }
     ensures bad { result ≡ Err Bad → ¬ IsUtf8 line.now }
@@ -72,7 +76,7 @@ pub fn line_words(alloc: Global, line: &[u8]) -> Result<Option<Vec<&str>>, LineE
 }
 
 /// The words of a line, which one or more spaces separate. Refused if memory runs out.
-pub fn split_words(alloc: Global, line: &str) -> Result<Vec<&str>, AllocError>
+pub fn split_words(alloc: Global, line: &str) -> Result<Words<'_>, AllocError>
     ensures { IfOk result (λ words. texts_of words.items ≡ words_of line.now) }
 {
     line.split(' ')

@@ -1,19 +1,6 @@
-//! Values and rows as the programs write them.
-use clsm_model::{Rows, Value};
+//! Rows as the programs write them.
+use clsm_model::Rows;
 use std::fmt;
-
-/// A value, or `none` where there is none.
-#[derive(Drop)]
-pub struct Shown<'a>(pub &'a Option<Value>);
-
-impl fmt::Display for Shown<'_> {
-    fn fmt<W: fmt::Write>(&self, f: &mut fmt::Formatter<W>) -> fmt::Result {
-        match self.0 {
-            Some(value) => write!(f, "{value}"),
-            None => write!(f, "none"),
-        }
-    }
-}
 
 /// `K=V` for each row, separated by spaces; `empty` where there is no row.
 #[derive(Drop)]

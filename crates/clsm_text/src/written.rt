@@ -77,7 +77,7 @@ impl fmt::Display for Told<'_> {
     }
 }
 
-/// A value, or `none`.
+/// A value, or `none` where there is none.
 #[derive(Drop)]
 pub struct Reply<'a>(pub &'a Option<Value>);
 

@@ -1,21 +1,27 @@
-use Rattle.std.proofs.Common.{Err, subst, arith}
+use Rattle.std.proofs.Common.{◌+◌, ◌-◌, Err, ap, subst, arith}
 use Rattle.clsm_script.specs.Command.{IsCommand}
 use Rattle.clsm_script.specs.Line.{Reads}
+use Rattle.clsm_script.proofs.Chains.{fault_is_audit, faults_said, plays_call, plays_command, plays_nothing, plays_on, plays_over, stops_residual}
 use Rattle.clsm_text.proofs.Inputs.{LeadsTo, leads_to_end}
 use Rattle.clsm_script.proofs.Readings.{leads_past, stops_at_error}
 use Rattle.clsm_script.proofs.playing.play_lines.Goals as goal
 
-pub returns-then-not-branch-clause-played : goal.returns-then-not-branch-clause-played
-returns-then-not-branch-clause-played g c =
+pub returns-then-not-branch-clause-read : goal.returns-then-not-branch-clause-read
+returns-then-not-branch-clause-read g c =
     leads_to_end IsCommand _ _ _ _ c.loop-number.invariant.leads c.in_ok-read_line.ensures.found
     c.if-not-branch.true
+
+pub returns-then-not-branch-clause-played : goal.returns-then-not-branch-clause-played
+returns-then-not-branch-clause-played g c =
+    plays_over _ _ _ _ _ _ _ c.loop-number.invariant.leads c.in_ok-read_line.ensures.found
+    c.if-not-branch.true c.loop-number.invariant.plays
 
 pub returns-in-Err-clause-stopped : goal.returns-in-Err-clause-stopped
 returns-in-Err-clause-stopped g c =
     let bad =
     subst (λ line. Reads line (Err c.in-Err.error)) c.deref.ensures.value c.in-Err.ensures in
     rw c.at.ensures
-    (stops_at_error _ _ _ _ _ _ _ c.loop-number.invariant.leads c.in_ok-read_line.ensures.found
+    (stops_at_error _ _ _ _ _ _ _ _ _ c.loop-number.invariant.leads c.in_ok-read_line.ensures.found
     c.if-not-branch.false c.in_ok-read_line.ensures.takes (omega arith) bad)
 
 pub loop-number-preserved-in-Ok-None : goal.loop-number-preserved-in-Ok-None
@@ -25,6 +31,11 @@ loop-number-preserved-in-Ok-None g c =
           (leads_past _ _ _ _ _ _ _ _ c.loop-number.invariant.leads
           c.in_ok-read_line.ensures.found c.if-not-branch.false
           c.in_ok-read_line.ensures.takes c.deref.ensures.value c.in-Ok-None.ensures);
+      plays = plays_on _ _ _ _ _ _ _ _ _ _ _ c.loop-number.invariant.leads
+          c.in_ok-read_line.ensures.found c.if-not-branch.false
+          c.in_ok-read_line.ensures.takes c.deref.ensures.value c.in-Ok-None.ensures
+          c.loop-number.invariant.plays (plays_nothing _ _ c.in-Ok-None.field-0-is)
+          (c.loop-number.number + 1 - 1) (omega arith);
       session = c.loop-number.invariant.session;
       merger = c.loop-number.invariant.merger;
     }
@@ -36,6 +47,12 @@ loop-number-preserved g c =
           (leads_past _ _ _ _ _ _ _ _ c.loop-number.invariant.leads
           c.in_ok-read_line.ensures.found c.if-not-branch.false
           c.in_ok-read_line.ensures.takes c.deref.ensures.value c.in-Ok-Some.ensures);
+      plays = plays_on _ _ _ _ _ _ _ _ _ _ _ c.loop-number.invariant.leads
+          c.in_ok-read_line.ensures.found c.if-not-branch.false
+          c.in_ok-read_line.ensures.takes c.deref.ensures.value c.in-Ok-Some.ensures
+          c.loop-number.invariant.plays
+          (plays_command _ _ _ _ _ _ _ c.in_ok-next.ensures.plays c.in_ok-next.ensures.turns
+          c.in_ok-write_answer.ensures.goes_on (cc)) (c.loop-number.number + 1 - 1) (omega arith);
       session = c.in_ok-next.ensures.session;
       merger = c.in_ok-next.ensures.merger;
     }
@@ -47,6 +64,22 @@ loop-number-preserved-in-Call g c =
           (leads_past _ _ _ _ _ _ _ _ c.loop-number.invariant.leads
           c.in_ok-read_line.ensures.found c.if-not-branch.false
           c.in_ok-read_line.ensures.takes c.deref.ensures.value c.in-Ok-Some.ensures);
+      plays = plays_on _ _ _ _ _ _ _ _ _ _ _ c.loop-number.invariant.leads
+          c.in_ok-read_line.ensures.found c.if-not-branch.false
+          c.in_ok-read_line.ensures.takes c.deref.ensures.value c.in-Ok-Some.ensures
+          c.loop-number.invariant.plays
+          (plays_call _ _ _ _ _ _ c.in_ok-call-in-Call.ensures.calls (cc)) (c.loop-number.number + 1 - 1) (omega arith);
       session = c.in_ok-call-in-Call.ensures.session;
       merger = c.loop-number.invariant.merger;
     }
+
+pub returns-in_err-write_answer-clause-stopped : goal.returns-in_err-write_answer-clause-stopped
+returns-in_err-write_answer-clause-stopped g c =
+    stops_residual c.from_residual-in_err-write_answer.result _ _ _ c.in_err-write_answer.field-0.0
+    c.in_err-write_answer.ensures.stopped
+    (λ is. faults_said _ _ _ _ _ _ _ _ _ _ _ _ _ c.loop-number.invariant.leads c.in_ok-read_line.ensures.found
+    c.if-not-branch.false c.in_ok-read_line.ensures.takes c.deref.ensures.value c.in-Ok-Some.ensures
+    c.loop-number.invariant.plays
+    (fault_is_audit _ _ _ _ _ _ c.in_ok-next.ensures.plays c.in_ok-next.ensures.turns
+    (c.in_err-write_answer.ensures.fault (ap Err is))) (cc))
+    c.from_residual-in_err-write_answer.ensures.1

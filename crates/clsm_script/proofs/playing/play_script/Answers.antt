@@ -1,6 +1,38 @@
+use Rattle.std.proofs.Common.{ap, refl}
+use Rattle.clsm_store.specs.declared.phase.Phase.TheVariants.{Clean}
+use Rattle.clsm_script.specs.Lines.{IsNewStage, stage_of}
+use Rattle.clsm_script.proofs.Chains.{ended_played, ended_stops, new_reader}
 use Rattle.clsm_script.proofs.playing.play_script.Goals as goal
 
 pub play_lines-played-requires : goal.play_lines-played-requires
 play_lines-played-requires g c =
-    c.new-session.ensures c.in_ok-store.field-0.store c.in_ok-store.ensures.seats
+    c.new-session.ensures.session c.in_ok-store.field-0.store c.in_ok-store.ensures.seats
     c.in_ok-store.ensures.sizes.1.0
+
+pub returns-clause-played : goal.returns-clause-played
+returns-clause-played g c =
+    let merger = c.in_ok-store.field-0.merger in
+    let start = stage_of c.new-session.result (Clean merger) in
+    let new : IsNewStage c.args.config start = record {
+      store = c.in_ok-store.field-0.store;
+      merger = merger;
+      session = c.new-session.ensures.fresh c.in_ok-store.field-0.store c.in_ok-store.ensures.seats;
+      merger_is = c.in_ok-store.ensures.merger;
+      phase_is = refl;
+    } in
+    ended_played c.args.config start _ _ _ _ _ c.end-ended.ensures new c.play_lines-played.ensures.played
+    (new_reader _ _ _ _ c.in-Ok.ensures.empty c.in-Ok.ensures.capacity (ap g.R.Read.remaining c.in-Ok.ensures.inner))
+
+pub returns-clause-stopped : goal.returns-clause-stopped
+returns-clause-stopped g c =
+    let merger = c.in_ok-store.field-0.merger in
+    let start = stage_of c.new-session.result (Clean merger) in
+    let new : IsNewStage c.args.config start = record {
+      store = c.in_ok-store.field-0.store;
+      merger = merger;
+      session = c.new-session.ensures.fresh c.in_ok-store.field-0.store c.in_ok-store.ensures.seats;
+      merger_is = c.in_ok-store.ensures.merger;
+      phase_is = refl;
+    } in
+    ended_stops c.args.config start _ _ _ _ _ c.end-ended.ensures c.in_ok-store.ensures.sizes new c.play_lines-played.ensures.stopped
+    (new_reader _ _ _ _ c.in-Ok.ensures.empty c.in-Ok.ensures.capacity (ap g.R.Read.remaining c.in-Ok.ensures.inner))

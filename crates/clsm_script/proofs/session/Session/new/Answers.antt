@@ -1,11 +1,19 @@
-use Rattle.std.proofs.Common.{arith}
+use Rattle.std.proofs.Common.{arith, refl}
 use Rattle.clsm_script.proofs.Sessions.{known_start, recorded_start}
 use Rattle.clsm_script.proofs.session.Session.new.Goals as goal
 
-pub returns : goal.returns
-returns c store new some =
+pub returns-clause-session : goal.returns-clause-session
+returns-clause-session c store new some =
     record {
       used = let count = new.counted in omega arith;
       seats = recorded_start store c.args.config.seats c.args.seats.items _ c.new.ensures.items new;
       known = known_start _ _ c.new.ensures.items;
     }
+
+pub returns-clause-fresh : goal.returns-clause-fresh
+returns-clause-fresh c store new = record {
+  config_is = refl;
+  seats_are = new;
+  used_is = refl;
+  no_records = c.new.ensures.items;
+}

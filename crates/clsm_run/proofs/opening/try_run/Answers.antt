@@ -1,0 +1,9 @@
+use Rattle.clsm_run.proofs.Verdicts.{ends_well, stops_run}
+use Rattle.clsm_run.proofs.opening.try_run.Goals as goal
+
+pub returns-clause-well : goal.returns-clause-well
+returns-clause-well g c = ends_well c.args.asked.now c.in_ok-ran.ran c.ending.result c.in_ok-ran.ensures.run c.ending.ensures
+
+pub returns-clause-stopped : goal.returns-clause-stopped
+returns-clause-stopped g c =
+    stops_run c.args.asked.now c.in_ok-ran.ran c.ending.result (c.in_ok-ran.ensures.opened) c.in_ok-ran.ensures.run c.ending.ensures
