@@ -51,9 +51,15 @@ pub fn open_paced<P: Pace>(alloc: Global, config: Config, pace: P) -> Result<Ope
     ensures refusal { IfErr result (IsRefusal config) }
 {
     let layout = Layout::new(config)?;
-    let (words, raw, merger) = Words::new(alloc, &layout, pace).map_err(|_| OpenError::Memory)?;
-    let seats = seat_all(alloc, &words, raw).map_err(|_| OpenError::Memory)?;
-    let merger = seat_merger(alloc, &layout, merger).map_err(|_| OpenError::Memory)?;
+    let Ok((words, raw, merger)) = Words::new(alloc, &layout, pace) else {
+        return Err(OpenError::Memory);
+    };
+    let Ok(seats) = seat_all(alloc, &words, raw) else {
+        return Err(OpenError::Memory);
+    };
+    let Ok(merger) = seat_merger(alloc, &layout, merger) else {
+        return Err(OpenError::Memory);
+    };
     Ok(Opened {
         store: Store { words },
         seats,

@@ -29,3 +29,4 @@ pub mod MergerTelling
 pub mod MergerAllowed
 pub mod Changing
 pub mod Starts
+pub mod Reciprocals

@@ -30,7 +30,7 @@ pub struct WordTable {
     /// Where each place begins.
     pub(crate) starts: [u64; 5],
     pub ghost sized: { (table.shared.table_id.words ≡ size_of layout) × (table.shared.key ≡ layout) },
-    pub ghost divided: { (divisors.region.by ≡ layout.cells) × (divisors.ring.by ≡ 2 * layout.cells) × (divisors.chains.by ≡ layout.chains) },
+    pub ghost divided: { (divisors.region ≡ layout.cells) × (divisors.ring ≡ 2 * layout.cells) × (divisors.chains ≡ layout.chains) },
     pub ghost started: { starts ≡ starts_of layout },
 }
 
