@@ -7,8 +7,8 @@ use Rattle.clsm_script.specs.Play.{IsAudited}
 use Rattle.clsm_script.specs.declared.session.Session.{Session}
 
 pub audited : (session : Session) (answer : Result (Unit {0}) AuditError) →
-    OnOk answer (IsLawful session.config session.records.items) →
-    OnOk answer (IsOneHistory session.records.items) →
-    IfErr answer (IsRefusal session.config session.records.items) → IsAudited session answer
+    OnOk answer (IsLawful session.config session.records) →
+    OnOk answer (IsOneHistory session.records) →
+    IfErr answer (IsRefusal session.config session.records) → IsAudited session answer
 audited session (Ok _) lawful history fault = (lawful, history)
 audited session (Err error) lawful history fault = fault

@@ -106,7 +106,7 @@ pub record IsFaultyAudit (command : Command) (old new : Session) : Type 0 where
   pub kind : FaultKind
   pub index : ℕ
   pub same : new ≡ old
-  pub fault : IsFirstFault old.config old.records.items kind index
+  pub fault : IsFirstFault old.config old.records kind index
 
 pub fault_is_audit : (command : Command) (old new : Session) (p q : Phase) (answer : Answer) → Plays command old new answer → Turns command p q answer
     → IsFault answer → IsFaultyAudit command old new

@@ -1,5 +1,6 @@
 pub mod Answer
 pub mod Command
+pub mod Kept
 pub mod Line
 pub mod Lines
 pub mod Play

@@ -53,14 +53,14 @@ pub record FaultsAtAudit (lines : List (List ℕ)) (old : Stage) (session : Sess
   pub says : Says Audit (words_of (slice_index_or lines count []))
   pub kind : FaultKind
   pub index : ℕ
-  pub fault : IsFirstFault session.config session.records.items kind index
+  pub fault : IsFirstFault session.config session.records kind index
 
 -- a session of the seats of a new store of these sizes: seat 0 is in use, and there is no record
 pub record IsNewSession (config : Config) (store : StoreId) (session : Session) : Type 0 where
   pub config_is : session.config ≡ config
   pub seats_are : AreNew store config.seats session.seats.items
   pub used_is : session.used ≡ 0
-  pub no_records : session.records.items ≡ []
+  pub no_records : session.records ≡ []
 
 -- and its merger has merged nothing
 pub record IsNewStage (config : Config) (stage : Stage) : Type 0 where

@@ -33,7 +33,7 @@ pub record Calls (call : Call) (old new : Session) (answer : CallAnswer) : Type 
   pub plays : PlaysCall call before after answer
   pub calls : after.calls ≡ before.calls ++ made
   pub seats : new.seats.items ≡ set old.seats.items old.used after
-  pub records : new.records.items ≡ old.records.items ++ made
+  pub records : new.records ≡ old.records ++ made
   pub used : new.used ≡ old.used
   pub config : new.config ≡ old.config
 
@@ -75,8 +75,8 @@ MeetsSeat number old new None =
 -- the audit of all records: they are lawful and of one history, or the first fault is named
 abbrev pub IsAudited : Session → Result (Unit {0}) AuditError → Type 0
 IsAudited session (Ok _) =
-    IsLawful session.config session.records.items × IsOneHistory session.records.items
-IsAudited session (Err error) = IsRefusal session.config session.records.items error
+    IsLawful session.config session.records × IsOneHistory session.records
+IsAudited session (Err error) = IsRefusal session.config session.records error
 
 -- the command takes the session from its old state to the new one, and is answered so
 abbrev pub Plays : Command → Session → Session → Answer → Type 0

@@ -23,5 +23,5 @@ AreRecorded store records seats =
 -- exactly its calls, in its own order
 pub record IsSession (store : StoreId) (session : Session) : Type 0 where
   pub used : session.used < length session.seats.items
-  pub seats : AreRecorded store session.records.items session.seats.items
-  pub known : All (λ r. r.seat < length session.seats.items) session.records.items
+  pub seats : AreRecorded store session.records session.seats.items
+  pub known : All (λ r. r.seat < length session.seats.items) session.records

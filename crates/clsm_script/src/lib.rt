@@ -5,6 +5,7 @@ mod answer;
 mod command;
 mod line;
 mod playing;
+mod records;
 mod session;
 
 pub use answer::Answer;

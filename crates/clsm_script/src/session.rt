@@ -7,6 +7,7 @@ ghost use Rattle.clsm_script.specs.Lines.{IsNewSession};
 ghost use Rattle.clsm_script.specs.Session.{IsSession};
 ghost use Rattle.clsm_script.specs.Play.{IsAudited, Calls, MeetsSeat, PairMeets, TakesSeat};
 
+use crate::records::Records;
 use clsm_audit::{AuditError, audit, explain};
 use clsm_model::{CallRecord, Config, Time};
 use clsm_store::{Answer, Call, Pace, Seat, Store};
@@ -24,15 +25,15 @@ pub struct Session {
     seats: Vec<Seat>,
     /// The number of the seat in use.
     used: usize,
-    records: Vec<CallRecord>,
+    records: Records,
 }
 
 /// Keeps a record, if there is one. Refused if memory runs out.
-fn keep(records: &mut Vec<CallRecord>, made: Option<CallRecord>) -> Result<(), AllocError>
-    ensures { OnOk result (records.new.items ≡ records.old.items ++ option_to_list made) }
+fn keep(records: &mut Records, alloc: Global, made: Option<CallRecord>) -> Result<(), AllocError>
+    ensures { OnOk result (records.new ≡ records.old ++ option_to_list made) }
 {
     if let Some(call) = made {
-        records.push(call)?;
+        records.push(alloc, call)?;
     }
     Ok(())
 }
@@ -64,7 +65,7 @@ impl Session {
             config,
             seats,
             used: 0,
-            records: Vec::new(alloc),
+            records: Records::new(alloc),
         }
     }
 
@@ -85,7 +86,7 @@ impl Session {
         let number = seat.number();
         let answer = store.play(rt, alloc, seat, call);
         let made = call.to_record(number, &answer)?;
-        keep(&mut self.records, made)?;
+        keep(&mut self.records, alloc, made)?;
         Ok(answer)
     }
 
@@ -121,20 +122,25 @@ impl Session {
     pub fn audit(&self, alloc: Global) -> Result<(), AuditError>
         ensures { IsAudited self.now result }
     {
-        audit(alloc, &self.config, &self.records)
+        match self.records.to_list(alloc) {
+            Ok(records) => audit(alloc, &self.config, &records),
+            Err(_) => Err(AuditError::Memory),
+        }
     }
 
     /// Writes to the faults why the first record that has a fault has it, if there is one and
     /// memory to find out: what an explanation of `clsm_audit` says. A write that fails changes
     /// nothing.
-    pub fn write_reason<E: Write>(self, alloc: Global, faults: &mut E) {
-        let Err(AuditError::Fault { kind, index }) = self.audit(alloc) else {
+    pub fn write_reason<E: Write>(&self, alloc: Global, faults: &mut E) {
+        let Ok(records) = self.records.to_list(alloc) else {
             return;
         };
-        let Ok(explanation) = explain(alloc, &self.config, &self.records, kind, index) else {
+        let Err(AuditError::Fault { kind, index }) = audit(alloc, &self.config, &records) else {
             return;
         };
-        let Session { records, .. } = self;
+        let Ok(explanation) = explain(alloc, &self.config, &records, kind, index) else {
+            return;
+        };
         let lines = Vec::new(alloc);
         let listed = Listed { records, lines };
         let _ = write_reason(faults, &listed, index, &explanation);

@@ -30,7 +30,7 @@ returns-clause-meets g c =
 pub returns-clause-session : goal.returns-clause-session
 returns-clause-session g c =
     let seats = c.args.self.now.seats in
-    let records = c.args.self.now.records.items in
+    let records = c.args.self.now.records in
     let new : List SeatState = c.meet_pair.new.seats in
     let met : PairMeets c.args.self.now.used c.args.number c.meet_pair.result seats.items new =
     subst

@@ -6,8 +6,8 @@ pub returns-clause-session : goal.returns-clause-session
 returns-clause-session c store new some =
     record {
       used = let count = new.counted in omega arith;
-      seats = recorded_start store c.args.config.seats c.args.seats.items _ c.new.ensures.items new;
-      known = known_start _ _ c.new.ensures.items;
+      seats = recorded_start store c.args.config.seats c.args.seats.items _ c.new.ensures new;
+      known = known_start _ _ c.new.ensures;
     }
 
 pub returns-clause-fresh : goal.returns-clause-fresh
@@ -15,5 +15,5 @@ returns-clause-fresh c store new = record {
   config_is = refl;
   seats_are = new;
   used_is = refl;
-  no_records = c.new.ensures.items;
+  no_records = c.new.ensures;
 }
