@@ -1,8 +1,10 @@
 //! The records of a script's calls. Most of them take a sixth of the room of a `CallRecord`.
-ghost use Rattle.std.specs.Prelude.{◌≡◌, ◌∷◌, [], ◌++◌, IfOk, IfSome, OnOk};
-ghost use Rattle.clsm_script.specs.Kept.{record_of};
+ghost use Rattle.std.specs.Prelude.{◌≡◌, ◌∷◌, [], IfOk, IfSome, OnOk, Some};
+ghost use Rattle.clsm_model.specs.declared.record.Deed.TheVariants.{Get};
+ghost use Rattle.clsm_script.specs.Kept.{GainsRecord, KeepsCall, record_of};
 
 use clsm_model::{CallRecord, Deed, Time, Value};
+use clsm_store::{Answer, Call, Got};
 use std::alloc::{AllocError, Global};
 use std::marker::Model;
 
@@ -43,14 +45,15 @@ fn only_word(value: &Value) -> Option<u64>
 }
 
 impl Kept {
-    /// The record in little room, if it is a put or a get of at most one word.
-    fn brief(call: &CallRecord) -> Option<Kept>
-        ensures { IfSome result (λ kept. record_of kept ≡ call.now) }
+    /// What is kept of the call that the seat with this number made, if it is a put or a get of at
+    /// most one word and was answered so.
+    fn of_call(seat: u32, call: &Call, answer: &Answer) -> Option<Kept>
+        ensures made { IfSome result (λ kept. GainsRecord seat call.now answer.now (Some (record_of kept))) }
     {
-        let (seat, time) = (call.seat, call.time);
-        match &call.deed {
-            Deed::Put { key, value } => {
-                let (key, word) = (*key, only_word(value)?);
+        match (call, answer) {
+            (Call::Put { key, value }, Answer::Write(Ok(time)))
+            | (Call::Try { key, value }, Answer::Try(Ok(time))) => {
+                let (time, key, word) = (*time, *key, only_word(value)?);
                 Some(Kept::Put {
                     seat,
                     time,
@@ -58,35 +61,27 @@ impl Kept {
                     word,
                 })
             }
-            Deed::Get {
-                key,
-                reply: Some(value),
-            } => {
-                let (key, word) = (*key, only_word(value)?);
-                Some(Kept::Found {
-                    seat,
-                    time,
-                    key,
-                    word,
-                })
-            }
-            Deed::Get { key, reply: None } => Some(Kept::Absent {
-                seat,
-                time,
-                key: *key,
-            }),
+            (Call::Get { key }, Answer::Read(got)) => Kept::of_get(seat, *key, got),
             _ => None,
         }
     }
 
-    /// The record, as small as it can be. Refused if memory runs out.
-    fn of_record(alloc: Global, call: CallRecord) -> Result<Kept, AllocError>
-        ensures { IfOk result (λ kept. record_of kept ≡ call) }
+    /// What is kept of a get of at most one word.
+    fn of_get(seat: u32, key: u64, got: &Got) -> Option<Kept>
+        ensures { IfSome result (λ kept. record_of kept ≡
+            record { seat = seat; time = got.now.time; deed = Get key got.now.value }) }
     {
-        match Kept::brief(&call) {
-            Some(kept) => Ok(kept),
-            None => Ok(Kept::Other(Box::new(alloc, call)?)),
-        }
+        let time = got.time;
+        let Some(value) = &got.value else {
+            return Some(Kept::Absent { seat, time, key });
+        };
+        let word = only_word(value)?;
+        Some(Kept::Found {
+            seat,
+            time,
+            key,
+            word,
+        })
     }
 
     /// The record that is kept. Refused if memory runs out.
@@ -148,11 +143,26 @@ impl Records {
         }
     }
 
-    /// Keeps a record behind the others. Refused if memory runs out.
-    pub fn push(&mut self, alloc: Global, call: CallRecord) -> Result<(), AllocError>
-        ensures { OnOk result (self.new ≡ self.old ++ call ∷ []) }
+    /// Keeps the record of the call that the seat with this number made, where it was answered so,
+    /// behind the others. Refused if memory runs out.
+    pub fn keep(
+        &mut self,
+        alloc: Global,
+        seat: u32,
+        call: &Call,
+        answer: &Answer,
+    ) -> Result<(), AllocError>
+        ensures { OnOk result (KeepsCall seat call.now answer.now self.old self.new) }
     {
-        let kept = Kept::of_record(alloc, call)?;
+        let kept = match Kept::of_call(seat, call, answer) {
+            Some(kept) => kept,
+            None => {
+                let Some(made) = call.to_record(seat, answer)? else {
+                    return Ok(());
+                };
+                Kept::Other(Box::new(alloc, made)?)
+            }
+        };
         self.kept.push(kept)?;
         Ok(())
     }

@@ -1,6 +1,5 @@
 //! The seats of a script, and what it keeps of their calls.
-ghost use Rattle.std.specs.Prelude.{◌≡◌, ◌≢◌, ◌<◌, ◌≤◌, ◌++◌, length, IfOk, OnOk};
-ghost use Rattle.std.specs.Prelude.{option_to_list};
+ghost use Rattle.std.specs.Prelude.{◌≡◌, ◌≢◌, ◌<◌, ◌≤◌, length, IfOk, OnOk};
 ghost use Rattle.clsm_store_calls.specs.Seats.{AreNew, StoreId};
 ghost use Rattle.clsm_store.specs.Meetings.{AreOf};
 ghost use Rattle.clsm_script.specs.Lines.{IsNewSession};
@@ -9,7 +8,7 @@ ghost use Rattle.clsm_script.specs.Play.{IsAudited, Calls, MeetsSeat, PairMeets,
 
 use crate::records::Records;
 use clsm_audit::{AuditError, audit, explain};
-use clsm_model::{CallRecord, Config, Time};
+use clsm_model::{Config, Time};
 use clsm_store::{Answer, Call, Pace, Seat, Store};
 use clsm_text::{Listed, write_reason};
 use std::alloc::{AllocError, Global};
@@ -26,16 +25,6 @@ pub struct Session {
     /// The number of the seat in use.
     used: usize,
     records: Records,
-}
-
-/// Keeps a record, if there is one. Refused if memory runs out.
-fn keep(records: &mut Records, alloc: Global, made: Option<CallRecord>) -> Result<(), AllocError>
-    ensures { OnOk result (records.new ≡ records.old ++ option_to_list made) }
-{
-    if let Some(call) = made {
-        records.push(alloc, call)?;
-    }
-    Ok(())
 }
 
 /// Lets the seats at two places of a list meet, the first one first.
@@ -85,8 +74,7 @@ impl Session {
         let seat = &mut self.seats[self.used];
         let number = seat.number();
         let answer = store.play(rt, alloc, seat, call);
-        let made = call.to_record(number, &answer)?;
-        keep(&mut self.records, alloc, made)?;
+        self.records.keep(alloc, number, call, &answer)?;
         Ok(answer)
     }
 
