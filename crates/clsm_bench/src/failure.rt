@@ -2,19 +2,31 @@
 use clsm_session::SessionError;
 use std::alloc::{AllocError, AllocFailed};
 use std::io;
+use thiserror::Error;
 
 /// Why a measurement does not end well.
-#[derive(Drop)]
+#[derive(Debug, Drop, Error)]
 pub enum Failure {
-    /// The words on the command line are unknown.
-    Usage,
+    /// The words on the command line are no command line of the program, or ask for help.
+    #[error("{0}")]
+    Words(clap::Error),
     /// A write failed, or the clock or the words on the command line could not be read.
+    #[error("device")]
     Device,
     /// The store was not opened.
+    #[error("refused")]
     Refused,
     /// A call was not answered as it should be.
+    #[error("unanswered")]
     Unanswered,
+    #[error("no memory")]
     Memory,
+}
+
+impl From<clap::Error> for Failure {
+    fn from(error: clap::Error) -> Failure {
+        Failure::Words(error)
+    }
 }
 
 impl From<io::Error> for Failure {

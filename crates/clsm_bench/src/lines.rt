@@ -1,4 +1,4 @@
-//! The lines that are printed, by their commands, and what is measured for each.
+//! The lines that are printed, by their series, and what is measured for each.
 use crate::lines::Beside::{Batcher, Merger, Nothing, Scanner, Session};
 use crate::lines::Filling::{BothEpochs, Epoch, HalfEpoch, Runs};
 use crate::lines::Role::*;
@@ -72,8 +72,8 @@ pub enum Beside {
 
 /// A line that is printed.
 pub struct Line {
-    /// The command that prints it.
-    pub command: &'static str,
+    /// The series that it is of.
+    pub series: &'static str,
     pub name: &'static str,
     /// The fewest and the most threads that are measured.
     pub fewest: u32,
@@ -96,12 +96,12 @@ pub enum Way {
 /// All filled keys.
 const ALL: u32 = u32::MAX;
 
-/// The line of a command, by its name, its numbers of threads, what they do, where the filled keys
+/// The line of a series, by its name, its numbers of threads, what they do, where the filled keys
 /// are, and what goes on beside the threads.
 macro_rules! line {
-    ($command:expr, $name:expr; $fewest:expr, $most:expr; $role:expr, $filling:expr, $beside:expr) => {
+    ($series:expr, $name:expr; $fewest:expr, $most:expr; $role:expr, $filling:expr, $beside:expr) => {
         Line {
-            command: $command,
+            series: $series,
             name: $name,
             fewest: $fewest,
             most: $most,

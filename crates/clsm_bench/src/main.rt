@@ -21,22 +21,22 @@ mod target;
 use crate::compared::{COLUMNS, compare};
 use crate::failure::Failure;
 use crate::lines::LINES;
-use crate::options::Options;
+use crate::options::{Asked, Options};
+use clap::error::ErrorKind;
 use std::process::ExitCode;
 use std::rt::{Clock, Env};
 use std::sync::Wait;
 use std::thread::Threads;
 
-/// Prints the lines of the command, or all: each for its numbers of threads, or for the last alone
-/// where little is measured. Refused if the command is unknown.
+/// Prints the lines of the series, or all: each for its numbers of threads, or for the last alone
+/// where little is measured.
 fn measure<R: Threads + Sync + Clock + Wait + Print + AllocGlobal>(
     rt: &R,
-    command: Option<&str>,
+    series: Option<&str>,
     options: &Options,
 ) -> Result<(), Failure> {
-    let mut ended = Err(Failure::Usage);
     for line in &LINES {
-        if command.unwrap_or(line.command) != line.command {
+        if series.unwrap_or(line.series) != line.series {
             continue;
         }
         let (fewest, most) = (line.fewest, line.most);
@@ -45,36 +45,42 @@ fn measure<R: Threads + Sync + Clock + Wait + Print + AllocGlobal>(
                 compare(rt, line, options, threads)?;
             }
         }
-        ended = Ok(());
     }
-    ended
+    Ok(())
 }
 
 /// Does the work that the words on the command line ask for, or a little of each.
 fn bench<R: Threads + Sync + Clock + Wait + Env + Print + AllocGlobal>(
     rt: &R,
 ) -> Result<(), Failure> {
-    let words: Vec<String> = std::env::args(rt)?.skip(1).collect(rt.alloc())?;
-    let Some((command, pairs)) = words.split_first() else {
+    let words: Vec<String> = std::env::args(rt)?.collect(rt.alloc())?;
+    if words.len() < 2 {
         return measure(rt, None, &Options::FEW);
-    };
-    let options = Options::parse(pairs).ok_or(Failure::Usage)?;
+    }
+    let Asked { series, options } = Asked::parse(rt.alloc(), &words)?;
     if options.is_csv {
         println!(rt; "{COLUMNS}")?;
     }
-    measure(rt, Some(command.as_str()), &options)
+    measure(rt, Some(series.as_str()), &options)
+}
+
+/// Prints why the words are no command line of the program, or the help that they ask for.
+fn tell(rt: &HostRuntime, text: &clap::Error) -> ExitCode {
+    if text.kind() == ErrorKind::DisplayHelp {
+        let _ = print!(rt; "{text}");
+        return ExitCode::SUCCESS;
+    }
+    let _ = eprint!(rt; "{text}");
+    ExitCode::FAILURE
 }
 
 fn main(rt: HostRuntime) -> ExitCode {
-    let text = match bench(&rt) {
-        Ok(()) => return ExitCode::SUCCESS,
-        Err(Failure::Usage) =>
-            "usage: clsm_bench calls, mixes, beside, batches, merges, scans or audit, options, --csv",
-        Err(Failure::Device) => "device",
-        Err(Failure::Refused) => "refused",
-        Err(Failure::Unanswered) => "unanswered",
-        Err(Failure::Memory) => "no memory",
-    };
-    let _ = eprintln!(rt; "{text}");
-    ExitCode::FAILURE
+    match bench(&rt) {
+        Ok(()) => ExitCode::SUCCESS,
+        Err(Failure::Words(text)) => tell(&rt, &text),
+        Err(failure) => {
+            let _ = eprintln!(rt; "{failure}");
+            ExitCode::FAILURE
+        }
+    }
 }

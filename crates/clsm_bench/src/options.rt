@@ -1,4 +1,13 @@
-//! The sizes of a measurement, and how often it is made.
+//! The command line of the benchmark: which series is measured, and its sizes.
+use crate::failure::Failure;
+use clap::builder::ValueParser;
+use clap::{Arg, ArgAction, ArgMatches, Command};
+use std::alloc::{AllocError, Global};
+
+/// The series, each a name of lines that are measured.
+const SERIES: [&str; 7] = [
+    "calls", "mixes", "beside", "batches", "merges", "scans", "audit",
+];
 
 /// The sizes of a measurement, and how often it is made.
 #[derive(Drop)]
@@ -19,16 +28,6 @@ pub struct Options {
 }
 
 impl Options {
-    /// What is measured where no option says otherwise.
-    const USUAL: Options = Options {
-        calls: 20_000,
-        puts: Some(1_000_000),
-        repeat: 9,
-        keys: 32_768,
-        cells: 65_536,
-        is_csv: false,
-    };
-
     /// What is measured where little is.
     pub const FEW: Options = Options {
         calls: 40,
@@ -39,28 +38,97 @@ impl Options {
         is_csv: false,
     };
 
-    /// The options that the words give, each a name and its number, and `--csv` as the last word.
-    /// None where a name is unknown, or a number is missing or out of its range.
-    pub fn parse(words: &[String]) -> Option<Options> {
-        let mut options = Options::USUAL;
-        let (pairs, last) = words.split_at(words.len() - words.len() % 2);
-        options.is_csv = last.iter().any(|word| word.as_str() == "--csv");
-        if options.is_csv != (last.len() == 1) {
-            return None;
+    /// The options of a command line.
+    fn chosen(matches: &ArgMatches<'_>) -> Options {
+        let calls = number(matches, "calls");
+        Options {
+            calls: calls.unwrap_or(20_000),
+            puts: if calls.is_some() {
+                None
+            } else {
+                Some(1_000_000)
+            },
+            repeat: number(matches, "repeat").unwrap_or(9),
+            keys: number(matches, "keys").unwrap_or(32_768),
+            cells: number(matches, "cells").unwrap_or(65_536),
+            is_csv: matches.get_one::<bool>("csv").unwrap_or(false),
         }
-        for pair in pairs.chunks(2) {
-            let [name, number] = pair else {
-                return None;
-            };
-            let number = number.parse().ok()?;
-            match (name.as_str(), number) {
-                ("--calls", 1..=16_777_216) => (options.calls, options.puts) = (number, None),
-                ("--repeat", 1..=999) => options.repeat = number,
-                ("--keys", 16..=4_194_304) => options.keys = number,
-                ("--cells", 256..=65_536) => options.cells = number,
-                _ => return None,
-            }
-        }
-        Some(options)
+    }
+}
+
+/// The number of an option, if it is among the words.
+fn number(matches: &ArgMatches<'_>, name: &str) -> Option<u32> {
+    u32::try_from(matches.get_one::<u64>(name)?).ok()
+}
+
+/// `--NAME N`, a number from the first of these to the last.
+fn size<'a>(alloc: Global, name: &'a str, range: (u64, u64), help: &'a str) -> Arg<'a> {
+    let (low, high) = range;
+    Arg::new(alloc, name)
+        .long(name)
+        .value_name("N")
+        .value_parser(ValueParser::Unsigned(low, high))
+        .help(help)
+}
+
+/// The program's command line.
+fn program<'a>(alloc: Global) -> Result<Command<'a>, AllocError> {
+    let series = Arg::new(alloc, "series")
+        .value_name("SERIES")
+        .required(true)
+        .value_parser(ValueParser::Names(&SERIES))
+        .help("What is measured");
+    let csv = Arg::new(alloc, "csv")
+        .long("csv")
+        .action(ArgAction::SetTrue)
+        .help("Prints rows for tools/plot");
+    Command::new(alloc, "clsm_bench")
+        .about("Measures the store beside a map under a lock, and beside itself")
+        .arg(series)?
+        .arg(size(
+            alloc,
+            "calls",
+            (1, 16_777_216),
+            "Calls a thread, puts a merge, or records [default: 20000]",
+        ))?
+        .arg(size(
+            alloc,
+            "repeat",
+            (1, 999),
+            "The rounds that are kept [default: 9]",
+        ))?
+        .arg(size(
+            alloc,
+            "keys",
+            (16, 4_194_304),
+            "The keys that are written before the time is taken [default: 32768]",
+        ))?
+        .arg(size(
+            alloc,
+            "cells",
+            (256, 65_536),
+            "The cells of a store [default: 65536]",
+        ))?
+        .arg(csv)
+}
+
+/// What a command line asks for.
+#[derive(Drop)]
+pub struct Asked {
+    /// The name of the lines that are measured.
+    pub series: String,
+    pub options: Options,
+}
+
+impl Asked {
+    /// Reads the words of a command line, the first of which is the program's name. Refused where
+    /// clap finds a fault in them or they ask for help, and if memory runs out.
+    pub fn parse(alloc: Global, words: &[String]) -> Result<Asked, Failure> {
+        let matches = program(alloc)?.try_get_matches_from(words)?;
+        let series = matches.get_str("series").unwrap_or("");
+        Ok(Asked {
+            series: String::from_str(alloc, series)?,
+            options: Options::chosen(&matches),
+        })
     }
 }
