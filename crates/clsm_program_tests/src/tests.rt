@@ -1,4 +1,5 @@
 //! Command lines, and the parts of the program below them.
+mod counts;
 mod device;
 mod explore;
 mod failing;
