@@ -36,11 +36,14 @@ impl Job for Count {
 
 /// Counts in a store, and prints what each of its seats then reads.
 fn try_example<R: Threads + Sync + Wait + Print + AllocGlobal>(rt: &R) -> Option<()> {
+    let Ok(ended) = with_store(rt, rt.alloc(), SIZES, &Count) else {
+        return None;
+    };
     let Ended {
         store,
         seats,
         answers,
-    } = with_store(rt, rt.alloc(), SIZES, &Count).ok()?;
+    } = ended;
     println!(rt; "{answers:?}").ok()?;
     for seat in seats {
         println!(rt; "seat {}", seat.number()).ok()?;
