@@ -1,6 +1,9 @@
+pub mod AtHand
 pub mod Audits
 pub mod Chains
 pub mod Commands
 pub mod Pairs
+pub mod Plains
+pub mod Puts
 pub mod Readings
 pub mod Sessions

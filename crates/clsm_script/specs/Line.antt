@@ -1,5 +1,6 @@
 -- The lines of a script.
-use Rattle.std.specs.Prelude.{ℕ, ⊤, List, Option, Some, None, Result, Ok, Err}
+use Rattle.std.specs.Prelude.{◌≢◌, ℕ, ⊤, List, [], Option, Some, None, Result, Ok, Err}
+use Rattle.clsm_text.specs.Input.{TakesLine}
 use Rattle.clsm_text.specs.Line.{words_of, IsBad, IsComment, IsText}
 use Rattle.clsm_text.specs.declared.line.LineError.{LineError}
 use Rattle.clsm_text.specs.declared.line.LineError.TheVariants.{Bad, Memory}
@@ -12,3 +13,11 @@ Reads line (Ok None) = IsText line × IsComment (words_of line)
 Reads line (Ok (Some command)) = IsText line × Says command (words_of line)
 Reads line (Err Bad) = IsBad IsCommand line
 Reads line (Err Memory) = ⊤
+
+-- the next line of the bytes is taken, and says the command
+pub record TakesCommand (bytes : List ℕ) (rest : Option (List ℕ)) (command : Command) : Type 0 where
+  pub line : List ℕ
+  pub some : bytes ≢ []
+  pub takes : TakesLine bytes line rest
+  pub text : IsText line
+  pub says : Says command (words_of line)

@@ -37,6 +37,10 @@ pub record Calls (call : Call) (old new : Session) (answer : CallAnswer) : Type 
   pub used : new.used ≡ old.used
   pub config : new.config ≡ old.config
 
+-- the seat in use makes the call, and is answered
+abbrev pub MakesCall : Call → Session → Session → Type 0
+MakesCall call old new = (answer : CallAnswer) × Calls call old new answer
+
 -- the seat with this number is in use from then on; it is refused where there is no such seat
 abbrev pub TakesSeat : ℕ → Session → Session → Option ℕ → Type 0
 TakesSeat number old new (Some taken) =

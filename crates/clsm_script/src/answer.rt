@@ -63,7 +63,7 @@ impl Answer {
 impl fmt::Display for Answer {
     fn fmt<W: fmt::Write>(&self, f: &mut fmt::Formatter<W>) -> fmt::Result {
         match self {
-            Answer::Call(answer) => write_called(f, answer),
+            Answer::Call(answer) => write!(f, "{}", CallAnswer(answer)),
             Answer::Seat(Some(number)) => write!(f, "seat {number}"),
             Answer::Meet(Some(time)) => write!(f, "met @{time}"),
             Answer::Seat(None) | Answer::Meet(None) => write!(f, "no seat"),
@@ -78,26 +78,32 @@ impl fmt::Display for Answer {
     }
 }
 
-fn write_called<W: fmt::Write>(f: &mut fmt::Formatter<W>, answer: &Called) -> fmt::Result {
-    match answer {
-        Called::Write(Ok(time)) | Called::Try(Ok(time)) | Called::Batch(Ok(time)) => {
-            write!(f, "@{time}")
+/// What a call is answered, as `Answer::Call` says.
+#[derive(Drop)]
+pub struct CallAnswer<'a>(pub &'a Called);
+
+impl fmt::Display for CallAnswer<'_> {
+    fn fmt<W: fmt::Write>(&self, f: &mut fmt::Formatter<W>) -> fmt::Result {
+        match self.0 {
+            Called::Write(Ok(time)) | Called::Try(Ok(time)) | Called::Batch(Ok(time)) => {
+                write!(f, "@{time}")
+            }
+            Called::Write(Err(refusal)) => write!(f, "{refusal}"),
+            Called::Try(Err(refusal)) => write!(f, "{refusal}"),
+            Called::Batch(Err(refusal)) => write!(f, "{refusal}"),
+            Called::Change(Ok(rmw)) => write_change(f, rmw),
+            Called::Change(Err(refusal)) => write!(f, "{refusal}"),
+            Called::Read(got) | Called::ReadAt(Some(got)) => {
+                write!(f, "{} @{}", Reply(&got.value), got.time)
+            }
+            Called::Snapshot(Ok(time)) => write!(f, "snap @{time}"),
+            Called::Snapshot(Err(refusal)) => write!(f, "{refusal}"),
+            Called::Close(Some(time)) => write!(f, "closed @{time}"),
+            Called::Close(None) | Called::ReadAt(None) => write!(f, "no snapshot"),
+            Called::Scan(Ok(scan)) => write!(f, "{} @{}", ShownRows(&scan.rows), scan.time),
+            Called::Page(Ok(page)) => write_page(f, page),
+            Called::Scan(Err(refusal)) | Called::Page(Err(refusal)) => write!(f, "{refusal}"),
         }
-        Called::Write(Err(refusal)) => write!(f, "{refusal}"),
-        Called::Try(Err(refusal)) => write!(f, "{refusal}"),
-        Called::Batch(Err(refusal)) => write!(f, "{refusal}"),
-        Called::Change(Ok(rmw)) => write_change(f, rmw),
-        Called::Change(Err(refusal)) => write!(f, "{refusal}"),
-        Called::Read(got) | Called::ReadAt(Some(got)) => {
-            write!(f, "{} @{}", Reply(&got.value), got.time)
-        }
-        Called::Snapshot(Ok(time)) => write!(f, "snap @{time}"),
-        Called::Snapshot(Err(refusal)) => write!(f, "{refusal}"),
-        Called::Close(Some(time)) => write!(f, "closed @{time}"),
-        Called::Close(None) | Called::ReadAt(None) => write!(f, "no snapshot"),
-        Called::Scan(Ok(scan)) => write!(f, "{} @{}", ShownRows(&scan.rows), scan.time),
-        Called::Page(Ok(page)) => write_page(f, page),
-        Called::Scan(Err(refusal)) | Called::Page(Err(refusal)) => write!(f, "{refusal}"),
     }
 }
 

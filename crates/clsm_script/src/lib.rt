@@ -4,9 +4,11 @@
 mod answer;
 mod command;
 mod line;
+mod plain;
 mod playing;
 mod records;
 mod session;
+mod writing;
 
 pub use answer::Answer;
 pub use playing::script;

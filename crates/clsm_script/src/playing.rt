@@ -1,18 +1,19 @@
 ghost use Rattle.std.specs.Prelude.{◌≡◌, ◌⊎◌, [], Contains, Err, IfSome, OnOk, IfErr};
 ghost use Rattle.std.specs.Io.Buffered.{reader_buffer, reader_remaining, writer_buffer};
-ghost use Rattle.clsm_script.specs.Answer.{IsFault, WantsMemory};
 ghost use Rattle.clsm_script.specs.Lines.{EndsPlay, IsFaultyOn, IsPlayedOn, stage_of};
-ghost use Rattle.clsm_script.specs.Script.{IsScript, IsStatus, StopsLine, StopsPlay, StopsScript};
+ghost use Rattle.clsm_script.specs.Play.{MakesCall};
+ghost use Rattle.clsm_script.specs.Script.{IsScript, IsStatus, StopsPlay, StopsScript};
 ghost use Rattle.clsm_script.specs.Session.{IsSession};
 ghost use Rattle.clsm_text.specs.Failure.{IsOutside};
-ghost use Rattle.clsm_text.specs.declared.failure.Failure.TheVariants.{Device, Fault, Memory};
+ghost use Rattle.clsm_text.specs.declared.failure.Failure.TheVariants.{Device};
 ghost use Rattle.clsm_model.specs.Config.{IsSound};
 
-use crate::answer::Answer;
 use crate::command::Command;
 use crate::line::parse_line;
+use crate::plain::call_at_hand;
 use crate::session::Session;
-use clsm_store::{Config, Merger, Opened, Pace, Phase, open};
+use crate::writing::{write_answer, write_call_answer};
+use clsm_store::{Call, Config, Merger, Opened, Pace, Phase, Store, open};
 use clsm_text::{Failure, Streams, read_line};
 use std::alloc::Global;
 use std::io::{BufReader, BufWriter, Read, Write};
@@ -23,6 +24,14 @@ use std::sync::Wait;
 struct Console<R, W: Write + Drop> {
     reader: BufReader<R>,
     answers: BufWriter<W>,
+}
+
+/// What calls are made with.
+#[derive(Drop)]
+struct Host<'a, T, P: Pace> {
+    rt: &'a T,
+    alloc: Global,
+    store: &'a Store<P>,
 }
 
 /// Plays the commands of an input, one a line, on a new store of these sizes, and writes each
@@ -143,8 +152,13 @@ fn play_lines<T: Wait, R: Read, W: Write + Drop, P: Pace + Drop>(
         (stage_of session.old merger.entry.phase) session.new) }
 {
     let Merger { store, mut phase } = merger;
+    let host = Host { rt, alloc, store };
     let mut line = Vec::new(alloc);
     for number in 1..u64::MAX {
+        if let Some(call) = call_at_hand(&mut console.reader) {
+            play_call(&host, session, &mut console.answers, call)?;
+            continue;
+        }
         flush_before_wait(&console.reader, &mut console.answers)?;
         if !read_line(&mut console.reader, &mut line)? {
             return Ok(());
@@ -154,11 +168,10 @@ fn play_lines<T: Wait, R: Read, W: Write + Drop, P: Pace + Drop>(
             Ok(None) => continue,
             Err(error) => return Err(error.at(number)),
         };
-        // Most lines are calls, which leave the merger where it is.
+        // Most commands are calls, which leave the merger where it is.
         let command = match command {
             Command::Call(call) => {
-                let answer = Answer::Call(session.call(rt, alloc, store, &call)?);
-                write_answer(&mut console.answers, &answer)?;
+                play_call(&host, session, &mut console.answers, call)?;
                 continue;
             }
             command => command,
@@ -168,6 +181,24 @@ fn play_lines<T: Wait, R: Read, W: Write + Drop, P: Pace + Drop>(
         write_answer(&mut console.answers, &answer)?;
     }
     Err(Failure::Device)
+}
+
+/// Makes a call by the seat in use, and writes what it is answered.
+fn play_call<T: Wait, W: Write, P: Pace + Drop>(
+    host: &Host<'_, T, P>,
+    session: &mut Session,
+    answers: &mut W,
+    call: Call,
+) -> Result<(), Failure>
+    requires { IsSession host.now.store.now session.old }
+    ensures makes { OnOk result (MakesCall call session.old session.new) }
+    ensures session { OnOk result (IsSession host.now.store.now session.new) }
+    ensures failed { IfErr result IsOutside }
+{
+    let Host { rt, alloc, store } = *host;
+    let answer = session.call(rt, alloc, store, &call)?;
+    write_call_answer(answers, &answer)?;
+    Ok(())
 }
 
 /// Flushes the answers that are held back, unless the next line is at hand: otherwise the input is
@@ -192,24 +223,6 @@ fn flush_answers<W: Write + Drop>(answers: &mut BufWriter<W>) -> Result<(), Fail
 {
     if !answers.buffer().is_empty() {
         answers.flush()?;
-    }
-    Ok(())
-}
-
-/// Writes the answer as a line. It ends the script where memory ran out, which is
-/// not written, and after a fault.
-fn write_answer<W: Write>(answers: &mut W, answer: &Answer) -> Result<(), Failure>
-    ensures stopped { IfErr result StopsLine }
-    ensures memory { WantsMemory answer.now → result ≡ Err Memory }
-    ensures goes_on { OnOk result (¬ IsFault answer.now) }
-    ensures fault { result ≡ Err Fault → IsFault answer.now }
-{
-    if answer.wants_memory() {
-        return Err(Failure::Memory);
-    }
-    writeln!(answers, "{answer}")?;
-    if answer.is_fault() {
-        return Err(Failure::Fault);
     }
     Ok(())
 }

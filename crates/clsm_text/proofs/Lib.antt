@@ -1,6 +1,9 @@
+pub mod AtHand
+pub mod Digits
 pub mod Inputs
 pub mod Lines
 pub mod Parts
+pub mod PlainLines
 pub mod Taken
 pub mod Readings
 pub mod Zips

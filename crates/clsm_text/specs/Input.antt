@@ -19,6 +19,12 @@ pub record TakesLine (bytes line : List ℕ) (rest : Option (List ℕ)) : Type 0
   pub line_is : line ≡ take 4097 (first_line bytes)
   pub rest_is : rest ≡ Some (drop (min (length (first_line bytes) + 1) 4097) bytes)
 
+-- the line stands at the beginning of the bytes with its line feed, and is not too long
+pub record BeginsWithLine (bytes line : List ℕ) : Type 0 where
+  pub begins : take (length line + 1) bytes ≡ line ++ 10 ∷ []
+  pub no_feed : All (λ b. b ≢ 10) line
+  pub short : length line ≤ 4096
+
 -- bytes without a line feed are taken behind what was taken of the line: with its line feed, which
 -- the line leaves room for, or none at the end of the input
 abbrev pub TakesMore : Option (List ℕ) → Option (List ℕ) → List ℕ → Part → Type 0

@@ -1,10 +1,11 @@
 ghost use Rattle.std.specs.Prelude.{◌≡◌, ◌≢◌, ◌↔◌, ◌≤◌, [], IsTrue, vec_len};
 ghost use Rattle.std.specs.Prelude.{IfSome, IfOk, IfErr, OnOk};
 ghost use Rattle.clsm_text.specs.Failure.{IsOutside};
-ghost use Rattle.clsm_text.specs.Input.{TakesLine, TakesPart};
+ghost use Rattle.clsm_text.specs.Input.{BeginsWithLine, TakesLine, TakesPart};
 
 use crate::failure::Failure;
 use crate::line::LONGEST_LINE;
+use memchr::memchr;
 use std::io::{BufRead, ErrorKind};
 
 /// What was taken of a line at a time.
@@ -42,6 +43,17 @@ pub fn read_line<R: BufRead>(reader: &mut R, line: &mut Vec<u8>) -> Result<bool,
         }
     }
     Err(Failure::Device)
+}
+
+/// The line that stands at the beginning of the bytes, if its line feed is among them and it is no
+/// longer than 4,096 bytes.
+#[inline]
+pub fn line_at_hand(bytes: &[u8]) -> Option<&[u8]>
+    ensures { IfSome result (λ line. BeginsWithLine bytes.now line.now) }
+{
+    let near = &bytes[..bytes.len().min(LONGEST_LINE + 1)];
+    let end = memchr(b'\n', near)?;
+    Some(&near[..end])
 }
 
 /// Takes what the input has at hand of a line, the rest of which is in `line`, or waits for some.

@@ -20,10 +20,10 @@ mod written;
 
 pub use audit::{AskedAudit, Listed, audit_lines};
 pub use failure::Failure;
-pub use input::read_line;
+pub use input::{line_at_hand, read_line};
 pub use line::{LONGEST_LINE, LineError, Words, line_words, plain_words, split_words};
 pub use member::{parse_change, parse_member, parse_members};
-pub use number::{parse_number, parse_value};
+pub use number::{parse_digits, parse_number, parse_value};
 pub use reason::write_reason;
 pub use record::parse_record;
 pub use shown::ShownRows;

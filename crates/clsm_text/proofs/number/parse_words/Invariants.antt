@@ -1,7 +1,7 @@
 use Rattle.std.proofs.Common.{◌≡◌, ◌≤◌, length}
 use Rattle.clsm_text.proofs.Parts.{HasRead}
 use Rattle.clsm_text.specs.Number.{parts_of}
-use Rattle.clsm_text.proofs.number.parse_value.Given as goal
+use Rattle.clsm_text.proofs.number.parse_words.Given as goal
 
 abbrev pub invariant-loop-part : goal.invariant-loop-part
 invariant-loop-part l =
