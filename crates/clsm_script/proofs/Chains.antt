@@ -1,5 +1,5 @@
 -- The lines of a script are played one after another.
-use Rattle.std.proofs.Common.{◌≡◌, ◌∙◌, ◌+◌, ◌-◌, ◌<◌, ◌≤◌, ℕ, suc, List, [], ◌∷◌, ◌++◌, length, take, drop, get_or}
+use Rattle.std.proofs.Common.{◌≡◌, ◌∙◌, ◌+◌, ℕ, suc, List, [], ◌∷◌, ◌++◌, take, drop}
 use Rattle.std.proofs.Common.{Bool, true, false, Option, Some, None, Ok, Err, IfSome, All, refl, sym, ap, subst, inl, inr, arith, add-one}
 use Rattle.std.proofs.Math.Seq.{take-suc}
 use Rattle.std.proofs.lemmas.List.{take-append-drop}
@@ -14,7 +14,7 @@ use Rattle.std.specs.Prelude.{◌⊎◌, ◌==◌, if◌then◌else◌, IfErr, I
 use Rattle.clsm_model.specs.Config.{IsSound}
 use Rattle.clsm_model.specs.declared.config.Config.{Config}
 use Rattle.clsm_text.specs.Input.{TakesLine}
-use Rattle.clsm_text.specs.Line.{lines_of, words_of, IsComment, IsGood}
+use Rattle.clsm_text.specs.Line.{lines_of, words_of, IsComment}
 use Rattle.clsm_text.proofs.Inputs.{IsEmpty, LeadsTo, Tells, inside, leads_over, line_at, reads_next}
 use Rattle.clsm_script.specs.Answer.{IsFault}
 use Rattle.clsm_script.specs.Command.{IsCommand, Says}

@@ -1,11 +1,10 @@
 -- The calls that plain lines say.
-use Rattle.std.proofs.Common.{◌≡◌, ℕ, ◌<◌, ◌==◌, false, List, [], ◌∷◌, ◌++◌, ◌+◌, ◌-◌, length, take, drop, get_or, All, codes}
+use Rattle.std.proofs.Common.{◌≡◌, ℕ, ◌<◌, ◌==◌, false, List, [], ◌∷◌, ◌++◌, ◌+◌, ◌-◌, length, take, drop, get_or, codes}
 use Rattle.std.proofs.Common.{◌∙◌, ap, refl, sym, subst, arith, lit<}
 use Rattle.std.proofs.lemmas.List.{drop_more, length-drop, take-append-drop, take_all}
 use Rattle.std.proofs.lemmas.List.Elements.{All-cons, All-nil}
 use Rattle.std.proofs.lemmas.Str.Ascii.{IsAscii-from_all}
 use Rattle.std.specs.Str.{IsAscii}
-use Rattle.std.specs.Str.Parse.{digits_value}
 use Rattle.clsm_text.proofs.Digits.{value_of_number}
 use Rattle.clsm_text.proofs.PlainLines.{HasNoSpace, one_number, two_numbers}
 use Rattle.clsm_text.specs.Line.{IsText, words_of}

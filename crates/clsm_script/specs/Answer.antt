@@ -21,6 +21,10 @@ IsFault _ = ⊥
 abbrev pub time_line : ℕ → List ℕ
 time_line time = codes "@" ++ decimal time ++ codes "\n"
 
+-- the line of a time at which there was no value
+abbrev pub none_line : ℕ → List ℕ
+none_line time = codes "none " ++ time_line time
+
 -- the line of a word that was read, and the time
 abbrev pub word_line : ℕ → ℕ → List ℕ
 word_line word time = decimal word ++ codes " " ++ time_line time

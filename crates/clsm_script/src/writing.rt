@@ -2,14 +2,14 @@
 ghost use Rattle.std.specs.Prelude.{◌≡◌, ◌<◌, ◌∷◌, [], Err, IfErr, OnOk, codes, decimal, drop};
 ghost use Rattle.std.specs.Io.KnownBytes.{Appends};
 ghost use Rattle.clsm_store.specs.Play.{WantsMemory as CallWantsMemory};
-ghost use Rattle.clsm_script.specs.Answer.{IsFault, WantsMemory, time_line, word_line};
+ghost use Rattle.clsm_script.specs.Answer.{IsFault, WantsMemory, none_line, time_line, word_line};
 ghost use Rattle.clsm_script.specs.Script.{StopsLine};
 ghost use Rattle.clsm_text.specs.Failure.{IsOutside};
 ghost use Rattle.clsm_text.specs.declared.failure.Failure.TheVariants.{Fault, Memory};
 
 use crate::answer::{Answer, CallAnswer};
 use clsm_model::Time;
-use clsm_store::Answer as Called;
+use clsm_store::{Answer as Called, Got};
 use clsm_text::Failure;
 use itoa::write_digits;
 use std::io::{self, Write};
@@ -48,14 +48,25 @@ pub fn write_call_answer<W: Write>(answers: &mut W, answer: &Called) -> Result<(
         write_time(answers, *time)?;
         return Ok(());
     }
-    if let Called::Read(got) = answer
-        && let Some(value) = &got.value
-        && let [word] = value.words()
-    {
-        write_word(answers, *word, got.time)?;
-        return Ok(());
+    if let Called::Read(got) = answer {
+        return write_got(answers, got);
     }
     writeln!(answers, "{}", CallAnswer(answer))?;
+    Ok(())
+}
+
+/// Writes what a read got as a line.
+fn write_got<W: Write>(answers: &mut W, got: &Got) -> Result<(), Failure>
+    ensures failed { IfErr result IsOutside }
+{
+    let Some(value) = &got.value else {
+        write_none(answers, got.time)?;
+        return Ok(());
+    };
+    match value.words() {
+        [word] => write_word(answers, *word, got.time)?,
+        _ => writeln!(answers, "{value} @{}", got.time)?,
+    }
     Ok(())
 }
 
@@ -67,6 +78,15 @@ fn write_time<W: Write>(answers: &mut W, time: Time) -> io::Result<()>
     let mut line = [b'\n'; LINE];
     let start = put_time(&mut line, time);
     answers.write_all(&line[start..])
+}
+
+/// Writes that there was no value, and the time at which it was looked for, as a line.
+fn write_none<W: Write>(answers: &mut W, time: Time) -> io::Result<()>
+    ensures { OnOk result
+        (Appends (W.contents answers.old) (W.contents answers.new) (none_line time)) }
+{
+    answers.write_all(b"none ")?;
+    write_time(answers, time)
 }
 
 /// Writes a word and the time at which it was read as a line.

@@ -1,6 +1,6 @@
 -- Numbers, read digit by digit.
-use Rattle.std.proofs.Common.{◌≡◌, ◌≢◌, ◌∙◌, ℕ, ◌+◌, ◌*◌, ◌^◌, ◌<◌, ◌≤◌, ◌==◌, false, List, [], ◌∷◌, length, map, take, get_or, All}
-use Rattle.std.proofs.Common.{Option, Some, None, suc, zero, ap, sym, arith}
+use Rattle.std.proofs.Common.{◌≡◌, ◌∙◌, ℕ, ◌+◌, ◌*◌, ◌^◌, ◌<◌, ◌≤◌, ◌==◌, false, List, [], ◌∷◌, length, map, take, get_or, All}
+use Rattle.std.proofs.Common.{Option, Some, None, suc, zero, ap, arith}
 use Rattle.std.proofs.lemmas.Int.Digits.{digits_more, digits_value_more}
 use Rattle.std.proofs.lemmas.Bool.{ne_eqb}
 use Rattle.std.proofs.lemmas.List.Elements.{All-cons, All-from_get_or, All-nil}

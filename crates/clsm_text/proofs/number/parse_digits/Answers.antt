@@ -1,4 +1,4 @@
-use Rattle.std.proofs.Common.{◌≡◌, length, refl, rules, arith}
+use Rattle.std.proofs.Common.{refl, rules, arith}
 use Rattle.clsm_text.proofs.Digits.{digits_front, fitting_number, longest_number}
 use Rattle.clsm_text.proofs.number.parse_digits.Goals as goal
 

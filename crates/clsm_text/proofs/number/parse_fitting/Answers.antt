@@ -1,9 +1,8 @@
-use Rattle.std.proofs.Common.{◌<◌, ◌≡◌, ◌+◌, ◌-◌, ◌^◌, ℕ, inl, inr, refl, length, take, get_or, arith}
+use Rattle.std.proofs.Common.{◌<◌, ℕ, inl, inr, refl, length, take, get_or, arith}
 use Rattle.std.proofs.lemmas.Int.Digits.{digits_more, digits_value_more}
 use Rattle.std.proofs.lemmas.List.{length-take}
 use Rattle.std.proofs.lemmas.Str.{digit_value_digit}
 use Rattle.std.proofs.lemmas.Str.Parse.{digit_from_value}
-use Rattle.std.specs.Char.{digit_value}
 use Rattle.clsm_text.proofs.Digits.{refuses_byte, small_value}
 use Rattle.clsm_text.proofs.number.parse_fitting.Goals as goal
 

@@ -1,4 +1,4 @@
-use Rattle.std.proofs.Common.{◌≡◌, ◌<◌, All, List, IfSome, length, set, refl, sym, subst, ◌∙◌}
+use Rattle.std.proofs.Common.{◌<◌, All, List, length, set, refl, sym, subst, ◌∙◌}
 use Rattle.std.proofs.Math.Seq.{lt-length-set}
 use Rattle.clsm_store_calls.specs.Seats.{SeatState}
 use Rattle.clsm_store.specs.Headline.{IsAt}
