@@ -1,4 +1,4 @@
-use Rattle.std.proofs.Common.{◌≡◌, ◌≤◌, min, ap, sym, subst, ◌∙◌, ℕ}
+use Rattle.std.proofs.Common.{rules, ◌≡◌, ◌≤◌, min, ap, sym, subst, ◌∙◌, ℕ}
 use Rattle.clsm_store_calls.specs.Looking.{drawn_of}
 use Rattle.clsm_store_calls.specs.Seats.{CleanState, StoreId}
 use Rattle.clsm_store.specs.Sweeping.{SweepsCleanIf, enough}
@@ -17,3 +17,6 @@ returns-clause-sweeps g c =
     (subst (λ (n : ℕ). c.min.result ≤ n) c.drawn.ensures.drawn c.if-drawn-min.false) in
     subst (SweepsCleanIf c.args.used c.args.clean phase.0) (sym c.done.ensures)
     (used_on c.args.used c.args.clean looked phase.0 phase.1 looks many c.sweep_clean-phase.ensures.sweeps)
+
+pub returns-then-drawn-min-clause-sweeps : goal.returns-then-drawn-min-clause-sweeps
+returns-then-drawn-min-clause-sweeps g c = search rules

@@ -1,4 +1,4 @@
-use Rattle.std.proofs.Common.{◌+◌, ◌*◌, ◌/◌, ℕ, ◌<◌, refl, ap, sym, ◌∙◌, subst, arith}
+use Rattle.std.proofs.Common.{rules, ◌+◌, ◌*◌, ◌/◌, ℕ, ◌<◌, refl, ap, sym, ◌∙◌, subst, arith}
 use Rattle.clsm_store_calls.specs.Seats.{CleanState, StoreId}
 use Rattle.clsm_store_calls.proofs.LastTimes.{passes}
 use Rattle.clsm_store.proofs.merger.tokens.Clean.freeze.Goals as goal
@@ -16,3 +16,6 @@ returns-then-merges-cells-clause-worn g c =
       subst (λ (id : StoreId). 4611686018427387904 < (c.args.self.merger.merges + 2) * id.layout.cells) (c.store.view_is ∙ sym c.requires)
           (passes 4611686018427387904 z.cells (c.args.self.merger.merges + 2) (omega arith) quotient),
     )
+
+pub returns-clause-noted : goal.returns-clause-noted
+returns-clause-noted g c = search rules
