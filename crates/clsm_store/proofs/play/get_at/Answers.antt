@@ -4,8 +4,5 @@ use Rattle.clsm_store.proofs.play.get_at.Goals as goal
 pub returns-clause-answers : goal.returns-clause-answers
 returns-clause-answers g c = search rules
 
-pub returns-clause-none : goal.returns-clause-none
-returns-clause-none g c = search rules
-
 pub returns-clause-lock : goal.returns-clause-lock
 returns-clause-lock g c = search rules

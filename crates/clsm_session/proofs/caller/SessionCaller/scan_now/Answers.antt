@@ -3,9 +3,3 @@ use Rattle.clsm_session.proofs.caller.SessionCaller.scan_now.Goals as goal
 
 pub returns-clause-scans : goal.returns-clause-scans
 returns-clause-scans g c = search rules
-
-pub returns-clause-lock : goal.returns-clause-lock
-returns-clause-lock g c = search rules
-
-pub returns-clause-refused : goal.returns-clause-refused
-returns-clause-refused g c = search rules

@@ -3,15 +3,3 @@ use Rattle.clsm_store.proofs.phase.Phase.merge.Goals as goal
 
 pub returns-in-Ok-clause-merges : goal.returns-in-Ok-clause-merges
 returns-in-Ok-clause-merges g c = search rules
-
-pub returns-in-Ok-clause-store : goal.returns-in-Ok-clause-store
-returns-in-Ok-clause-store g c = search rules
-
-pub returns-in-Err-clause-merges : goal.returns-in-Err-clause-merges
-returns-in-Err-clause-merges g c = search rules
-
-pub returns-in-Err-clause-store : goal.returns-in-Err-clause-store
-returns-in-Err-clause-store g c = search rules
-
-pub returns-in_default : goal.returns-in_default
-returns-in_default g c = search rules

@@ -7,8 +7,5 @@ returns-clause-written g c = search rules
 pub returns-clause-fits : goal.returns-clause-fits
 returns-clause-fits g c = search rules
 
-pub returns-clause-counts : goal.returns-clause-counts
-returns-clause-counts g c = search rules
-
 pub returns-clause-refused : goal.returns-clause-refused
 returns-clause-refused g c = search rules

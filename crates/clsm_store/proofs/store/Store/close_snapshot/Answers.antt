@@ -1,17 +1,8 @@
 use Rattle.std.proofs.Common.{rules}
 use Rattle.clsm_store.proofs.store.Store.close_snapshot.Goals as goal
 
-pub returns-in_err-time-clause-closed : goal.returns-in_err-time-clause-closed
-returns-in_err-time-clause-closed g c = search rules
-
 pub returns-in_err-time-clause-none : goal.returns-in_err-time-clause-none
 returns-in_err-time-clause-none g c = search rules
 
 pub returns-clause-closed : goal.returns-clause-closed
 returns-clause-closed g c = search rules
-
-pub returns-clause-none : goal.returns-clause-none
-returns-clause-none g c = search rules
-
-pub returns-clause-lock : goal.returns-clause-lock
-returns-clause-lock g c = search rules

@@ -3,6 +3,3 @@ use Rattle.clsm_store.proofs.store.Store.get_at.Goals as goal
 
 pub returns-clause-answers : goal.returns-clause-answers
 returns-clause-answers g c = search rules
-
-pub returns-clause-lock : goal.returns-clause-lock
-returns-clause-lock g c = search rules

@@ -6,6 +6,3 @@ returns-clause-scans g c = search rules
 
 pub returns-clause-lock : goal.returns-clause-lock
 returns-clause-lock g c = search rules
-
-pub returns-clause-refused : goal.returns-clause-refused
-returns-clause-refused g c = search rules

@@ -3,9 +3,3 @@ use Rattle.clsm_store.proofs.store.Store.try_put.Goals as goal
 
 pub returns-clause-written : goal.returns-clause-written
 returns-clause-written g c = search rules
-
-pub returns-clause-counts : goal.returns-clause-counts
-returns-clause-counts g c = search rules
-
-pub returns-clause-refused : goal.returns-clause-refused
-returns-clause-refused g c = search rules

@@ -3,6 +3,3 @@ use Rattle.clsm_store.proofs.store.Store.visit.Goals as goal
 
 pub returns-clause-lock : goal.returns-clause-lock
 returns-clause-lock g c = search rules
-
-pub returns-clause-callable : goal.returns-clause-callable
-returns-clause-callable g c = search rules
