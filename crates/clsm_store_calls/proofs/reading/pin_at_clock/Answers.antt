@@ -1,8 +1,5 @@
 use Rattle.std.proofs.Common.{rules}
 use Rattle.clsm_store_calls.proofs.reading.pin_at_clock.Goals as goal
 
-pub returns-clause-of : goal.returns-clause-of
-returns-clause-of g c = search rules
-
 pub returns-clause-begins : goal.returns-clause-begins
 returns-clause-begins g c = search rules

@@ -1,8 +1,5 @@
 use Rattle.std.proofs.Common.{rules}
 use Rattle.clsm_store_calls.proofs.snapshotting.open_at.Goals as goal
 
-pub returns-clause-rests : goal.returns-clause-rests
-returns-clause-rests g c = search rules
-
 pub returns-clause-opens : goal.returns-clause-opens
 returns-clause-opens g c = search rules
