@@ -19,6 +19,7 @@ use Rattle.clsm_words.specs.declared.known.Known.{Known}
 use Rattle.clsm_words.specs.Knowing.{Opens, Follows}
 use Rattle.clsm_words.specs.Keeping.{OnlyReads}
 use Rattle.clsm_words.proofs.Keeps.{but_read, reads_by}
+use Rattle.clsm_search.proofs.Looking.{grows, grows_by_state}
 use Rattle.clsm_memtable.specs.Settled.{HasLooked, HasWaited, IsClockFrom, MaySettle, MaySettleBelow}
 
 -- ---- what may be settled stays so
@@ -81,9 +82,6 @@ seen k component t may =
     subst (λ (o : Option ℕ). is_seen_of k.layout o k.view.clock t ≡ true) (sym may.held)
     (rw (le-leb (component * k.layout.cells) t may.from, lt-ltb t ((component + 2) * k.layout.cells) may.until, under_true k.view.clock t may.clock) refl)
 
-grows : (z : Layout) (v : View) (t : ℕ) → v.reached ≤ reached_after z v t
-grows z v t = by_bool (λ b. v.reached ≤ cond b (v.reached + 1) v.reached) (t == v.reached && is_seen z v t) (λ _. omega arith) (λ _. omega arith)
-
 passes : (k : Known) (component t : ℕ) → MaySettle k component t → t ≤ k.view.reached → t + 1 ≤ reached_after k.layout k.view t
 passes k component t may le = elim (cases_eq t k.view.reached) [
   | inl here ↦ let own : (t == k.view.reached) ≡ true = eq-eqb t k.view.reached here in let is = seen k component t may in
@@ -91,11 +89,6 @@ passes k component t may le = elim (cases_eq t k.view.reached) [
       (omega arith)
   | inr ne ↦ let g = grows k.layout k.view t in omega arith
 ]
-
-pub grows_by_state : (z : Layout) (v : View) (cell x : ℕ) → v.reached ≤ reached_by_state z v cell x
-grows_by_state z v cell x =
-    by_bool (λ b. v.reached ≤ cond b (reached_after z v v.reached) v.reached) (not (x == 0) && cell == cell_of z v.reached) (λ _. grows z v v.reached)
-    (λ _. omega arith)
 
 found_passes : (k : Known) (component t x : ℕ) → MaySettle k component t → t ≤ k.view.reached → x ≢ 0
     → t + 1 ≤ reached_by_state k.layout k.view (cell_of k.layout t) x

@@ -1,10 +1,4 @@
 pub mod Settled
-pub mod Searching
 pub mod Filling
 pub mod Writing
-pub mod Frozen
-pub mod Staying
-pub mod Ordering
-pub mod Seeking
 pub mod Inserting
-pub mod Versions

@@ -3,13 +3,12 @@ ghost use Rattle.std.specs.Prelude.{◌≡◌, Some};
 ghost use Rattle.clsm_law.specs.declared.step.Step.TheVariants.{Decide};
 ghost use Rattle.clsm_law.specs.declared.view.Mode.TheVariants.{Shared};
 ghost use Rattle.clsm_words.specs.Plays.{IsSeatOf, MayPlay};
+ghost use Rattle.clsm_search.specs.Seeking.{MayLeaveHints};
 ghost use Rattle.clsm_memtable.specs.Writing.{Decides, GivesUp};
-ghost use Rattle.clsm_memtable.specs.Inserting.{MayLeaveHints};
 
-use crate::hints::leave_hints;
-use crate::inserting::Trace;
 use clsm_law::Answer;
 use clsm_model::{Deed, Time};
+use clsm_search::{Trace, leave_hints};
 use clsm_words::{Pace, RawSeat, Words};
 
 /// What came of a decide.

@@ -8,9 +8,9 @@ use Rattle.clsm_law.specs.declared.word.Word.{Word}
 use Rattle.clsm_words.specs.declared.known.Known.{Known}
 use Rattle.clsm_words.specs.Changing.{Changes}
 use Rattle.clsm_words.specs.Merging.{IsSoundMerger}
-use Rattle.clsm_memtable.specs.declared.frozen_walk.FrozenWalk.{FrozenWalk}
-use Rattle.clsm_memtable.specs.Frozen.{IsAhead, IsNextWrite, epoch_row}
-use Rattle.clsm_memtable.proofs.FrozenWalks.{ahead_on, epoch_row_stays}
+use Rattle.clsm_search.specs.declared.frozen_walk.FrozenWalk.{FrozenWalk}
+use Rattle.clsm_search.specs.Frozen.{IsAhead, IsNextWrite, epoch_row}
+use Rattle.clsm_search.proofs.FrozenWalks.{ahead_on, epoch_row_stays}
 use Rattle.clsm_runs.specs.Outputs.{IsWalkedTo}
 
 -- ---- one entry more

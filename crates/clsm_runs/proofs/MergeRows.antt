@@ -23,9 +23,9 @@ use Rattle.clsm_words.specs.Knowing.{row_of}
 use Rattle.clsm_words.specs.Changing.{Changes, NoWord}
 use Rattle.clsm_words.specs.Merging.{IsSoundMerger}
 use Rattle.clsm_words.proofs.Changing.{changes_more, changes_trans}
-use Rattle.clsm_memtable.specs.Frozen.{IsEntryAt, IsFrozenBehind, epoch_row}
-use Rattle.clsm_memtable.proofs.FrozenTimes.{row_written}
-use Rattle.clsm_memtable.proofs.FrozenWalks.{epoch_row_stays}
+use Rattle.clsm_search.specs.Frozen.{IsEntryAt, IsFrozenBehind, epoch_row}
+use Rattle.clsm_search.proofs.FrozenTimes.{row_written}
+use Rattle.clsm_search.proofs.FrozenWalks.{epoch_row_stays}
 use Rattle.clsm_runs.specs.declared.rows.Winner.{Winner}
 use Rattle.clsm_runs.specs.Outputs.{IsTaken}
 use Rattle.clsm_runs.specs.Placing.{IsOfPlace, rows_of}

@@ -20,8 +20,8 @@ use Rattle.clsm_law.proofs.Runs.Kept.{all_named}
 use Rattle.clsm_words.specs.declared.known.Known.{Known}
 use Rattle.clsm_words.specs.Knowing.{row_of}
 use Rattle.clsm_words.specs.Merging.{IsSoundMerger}
-use Rattle.clsm_memtable.specs.Frozen.{epoch_row}
-use Rattle.clsm_memtable.proofs.FrozenTimes.{row_early, row_few, row_run}
+use Rattle.clsm_search.specs.Frozen.{epoch_row}
+use Rattle.clsm_search.proofs.FrozenTimes.{row_early, row_few, row_run}
 use Rattle.clsm_runs.specs.Placing.{rows_of}
 use Rattle.clsm_runs.specs.Outputs.{AreSources}
 use Rattle.clsm_runs.proofs.NamedRuns.{each_run}

@@ -16,8 +16,8 @@ use Rattle.clsm_law.specs.Places.{entries_from, entries_in, is_named}
 use Rattle.clsm_law.specs.Worlds.{are_canonical, is_canonical, passes_from}
 use Rattle.clsm_words.specs.declared.known.Known.{Known}
 use Rattle.clsm_words.specs.Knowing.{row_of}
-use Rattle.clsm_memtable.specs.declared.frozen_walk.FrozenWalk.{FrozenWalk}
-use Rattle.clsm_memtable.specs.Frozen.{IsAhead, epoch_row}
+use Rattle.clsm_search.specs.declared.frozen_walk.FrozenWalk.{FrozenWalk}
+use Rattle.clsm_search.specs.Frozen.{IsAhead, epoch_row}
 use Rattle.clsm_runs.specs.declared.output.Output.{Output}
 use Rattle.clsm_runs.specs.declared.rows.Winner.{Winner}
 use Rattle.clsm_runs.specs.Placing.{rows_of}

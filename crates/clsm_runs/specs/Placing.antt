@@ -11,7 +11,7 @@ use Rattle.clsm_law.specs.Places.{is_named}
 use Rattle.clsm_law.specs.Worlds.{runs_of}
 use Rattle.clsm_words.specs.declared.known.Known.{Known}
 use Rattle.clsm_words.specs.Knowing.{row_of}
-use Rattle.clsm_memtable.specs.Frozen.{epoch_row}
+use Rattle.clsm_search.specs.Frozen.{epoch_row}
 use Rattle.clsm_runs.specs.Searching.{count_of}
 
 -- ---- the words that change

@@ -5,7 +5,7 @@ ghost use Rattle.clsm_law.specs.Merging.{target_of};
 ghost use Rattle.clsm_levels.specs.declared.entry.Entry.{Entry};
 ghost use Rattle.clsm_levels.specs.Merge.{is_to_level_one};
 ghost use Rattle.clsm_levels.specs.Version.{version_of};
-ghost use Rattle.clsm_memtable.specs.Frozen.{IsAhead, IsFrozenBehind, epoch_row};
+ghost use Rattle.clsm_search.specs.Frozen.{IsAhead, IsFrozenBehind, epoch_row};
 ghost use Rattle.clsm_words.specs.Plays.{IsSeatOf};
 ghost use Rattle.clsm_runs.specs.Outputs.{HasWritten, IsOutput, IsSameOutput, IsTaken, LeavesOff, kept_of};
 ghost use Rattle.clsm_words.specs.Changing.{Changes};

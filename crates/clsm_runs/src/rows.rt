@@ -6,7 +6,7 @@ ghost use Rattle.clsm_law.specs.Places.{is_named};
 ghost use Rattle.clsm_words.specs.declared.known.Known.{Known};
 ghost use Rattle.clsm_levels.specs.Cursors.{HeadsOf, cursor_at, first_of, row_at};
 ghost use Rattle.clsm_words.specs.Plays.{IsSeatOf};
-ghost use Rattle.clsm_memtable.specs.Frozen.{IsFrozenBehind, IsGoing, epoch_row};
+ghost use Rattle.clsm_search.specs.Frozen.{IsFrozenBehind, IsGoing, epoch_row};
 ghost use Rattle.clsm_runs.specs.Outputs.{AreSources, IsNextOf, IsOneAhead, IsPlaceOfRow, IsTaken, IsWalkedTo};
 ghost use Rattle.clsm_words.specs.Changing.{Changes, NoWord};
 ghost use Rattle.clsm_runs.specs.Placing.{rows_of};

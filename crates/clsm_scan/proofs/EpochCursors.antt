@@ -13,10 +13,10 @@ use Rattle.clsm_words.specs.declared.known.Known.{Known}
 use Rattle.clsm_words.specs.Knowing.{IsHeldEpoch}
 use Rattle.clsm_levels.specs.Yields.{IsNextFrom}
 use Rattle.clsm_words.specs.declared.known.Spot.{Spot}
-use Rattle.clsm_memtable.specs.declared.list.Epoch.{Epoch}
-use Rattle.clsm_memtable.specs.Ordering.{IsNewestFrom, MayWalk, found_in_epoch, time_at}
-use Rattle.clsm_memtable.specs.Searching.{slot_in, value_in}
-use Rattle.clsm_memtable.proofs.EpochWrites.{next_none, next_some}
+use Rattle.clsm_search.specs.declared.list.Epoch.{Epoch}
+use Rattle.clsm_search.specs.Ordering.{IsNewestFrom, MayWalk, found_in_epoch, time_at}
+use Rattle.clsm_search.specs.Searching.{slot_in, value_in}
+use Rattle.clsm_search.proofs.EpochWrites.{next_none, next_some}
 use Rattle.clsm_scan.specs.declared.ahead.Ahead.{Ahead}
 use Rattle.clsm_scan.specs.declared.epoch_cursor.EpochCursor.{EpochCursor}
 use Rattle.clsm_scan.specs.Optional.{If, found_in}

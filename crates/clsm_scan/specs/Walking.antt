@@ -9,11 +9,11 @@ use Rattle.clsm_law.specs.declared.view.View.{View}
 use Rattle.clsm_words.specs.declared.known.Known.{Known}
 use Rattle.clsm_words.specs.declared.known.Spot.{Spot}
 use Rattle.clsm_words.specs.Keeping.{Looks}
-use Rattle.clsm_memtable.specs.declared.list.Epoch.{Epoch}
-use Rattle.clsm_memtable.specs.Ordering.{IsSpotOf, MayWalk, StandsAt, found_in_epoch, time_at}
-use Rattle.clsm_memtable.specs.Searching.{slot_in, value_in}
-use Rattle.clsm_memtable.specs.Staying.{slot_stays}
-use Rattle.clsm_memtable.proofs.Orders.{lead_after, lead_fewer, spot_after}
+use Rattle.clsm_search.specs.declared.list.Epoch.{Epoch}
+use Rattle.clsm_search.specs.Ordering.{IsSpotOf, MayWalk, StandsAt, found_in_epoch, time_at}
+use Rattle.clsm_search.specs.Searching.{slot_in, value_in}
+use Rattle.clsm_search.specs.Staying.{slot_stays}
+use Rattle.clsm_search.proofs.Orders.{lead_after, lead_fewer, spot_after}
 use Rattle.clsm_runs.specs.declared.passing.Passed.{Passed}
 use Rattle.clsm_runs.specs.Passing.{IsPassed, passed_entry}
 use Rattle.clsm_runs.specs.Searching.{IsSearchable, run_at}

@@ -1,8 +1,8 @@
 //! A walk along the ordered list of an epoch.
 ghost use Rattle.std.specs.Prelude.{◌≡◌, None};
-ghost use Rattle.clsm_memtable.specs.Ordering.{MayWalk, StandsAt, found_in_epoch};
-ghost use Rattle.clsm_memtable.proofs.Orders.{walk_on};
-ghost use Rattle.clsm_memtable.specs.declared.list.Epoch.{Epoch};
+ghost use Rattle.clsm_search.specs.Ordering.{MayWalk, StandsAt, found_in_epoch};
+ghost use Rattle.clsm_search.proofs.Orders.{walk_on};
+ghost use Rattle.clsm_search.specs.declared.list.Epoch.{Epoch};
 ghost use Rattle.clsm_words.specs.declared.known.Known.{Known};
 ghost use Rattle.clsm_scan.specs.Heads.{key_of};
 ghost use Rattle.clsm_scan.specs.Optional.{If, if_so};

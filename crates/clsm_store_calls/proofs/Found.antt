@@ -18,7 +18,7 @@ use Rattle.clsm_law.specs.OpenSteps.{open_time}
 use Rattle.clsm_words.specs.declared.known.Known.{Known}
 use Rattle.clsm_words.specs.Knowing.{AreReadable, Sound, row_of}
 use Rattle.clsm_words.specs.Keeping.{Looks}
-use Rattle.clsm_memtable.specs.Searching.{IsNewest}
+use Rattle.clsm_search.specs.Searching.{IsNewest}
 use Rattle.clsm_store_calls.specs.Reading.{MayReadAt}
 
 -- what the runs answer for a time above what is merged is what they answer at its end

@@ -12,8 +12,8 @@ use Rattle.clsm_model.specs.History.{History, Write, newest, or_else, plain, slo
 use Rattle.clsm_law.specs.Views.{next_word}
 use Rattle.clsm_words.specs.declared.known.Known.{Known}
 use Rattle.clsm_words.specs.Keeping.{Looks}
-use Rattle.clsm_memtable.specs.declared.found.Found.{Found}
-use Rattle.clsm_memtable.specs.Searching.{IsNewest}
+use Rattle.clsm_search.specs.declared.found.Found.{Found}
+use Rattle.clsm_search.specs.Searching.{IsNewest}
 use Rattle.clsm_store_calls.specs.Seats.{writes_from}
 use Rattle.clsm_model.specs.declared.slot.Change.{Change}
 use Rattle.clsm_model.specs.declared.slot.Change.TheVariants.{Keep, Set, Remove}

@@ -19,8 +19,8 @@ use Rattle.clsm_words.specs.declared.known.Known.{Known}
 use Rattle.clsm_words.specs.Knowing.{row_of}
 use Rattle.clsm_words.specs.Merging.{IsSoundMerger}
 use Rattle.clsm_words.proofs.MergerFacts.{entries_below as entries_agree, settled_known}
-use Rattle.clsm_memtable.specs.Frozen.{epoch_row}
-use Rattle.clsm_memtable.proofs.FrozenTimes.{frozen_known}
+use Rattle.clsm_search.specs.Frozen.{epoch_row}
+use Rattle.clsm_search.proofs.FrozenTimes.{frozen_known}
 use Rattle.clsm_store_calls.specs.declared.merger_seat.MergerSeat.{MergerSeat}
 use Rattle.clsm_store_calls.specs.Freezing.{IsFrozen}
 use Rattle.clsm_store_calls.specs.Merging.{IsOfHistory, IsReady, epoch_known, frozen_of, merger_of, runs_known}

@@ -21,8 +21,8 @@ use Rattle.clsm_words.specs.declared.known.Known.{Known}
 use Rattle.clsm_words.specs.Changing.{Changes}
 use Rattle.clsm_words.specs.Knowing.{row_of}
 use Rattle.clsm_words.specs.Merging.{IsSoundMerger, OpensToMerger}
-use Rattle.clsm_memtable.specs.Frozen.{epoch_row}
-use Rattle.clsm_memtable.proofs.FrozenTimes.{row_few}
+use Rattle.clsm_search.specs.Frozen.{epoch_row}
+use Rattle.clsm_search.proofs.FrozenTimes.{row_few}
 use Rattle.clsm_runs.specs.Outputs.{HasWritten, kept_of}
 use Rattle.clsm_runs.specs.Placing.{IsOfPlace}
 use Rattle.clsm_runs.proofs.MergeRows.{runs_stay}

@@ -10,8 +10,8 @@ use mathlib.Core.List.{IsPrefix}
 use Rattle.clsm_model.proofs.Histories.{value-same}
 use Rattle.clsm_words.specs.declared.known.Known.{Known}
 use Rattle.clsm_words.specs.Keeping.{Looks}
-use Rattle.clsm_memtable.specs.declared.found.Found.{Found}
-use Rattle.clsm_memtable.specs.Searching.{IsNewest}
+use Rattle.clsm_search.specs.declared.found.Found.{Found}
+use Rattle.clsm_search.specs.Searching.{IsNewest}
 
 its_time : (key t : ℕ) (slot : Slot) (w : Write) → write_of key t slot ≡ Some w → w.time ≡ t
 its_time key t Nothing w e = absurd cc

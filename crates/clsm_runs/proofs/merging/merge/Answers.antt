@@ -16,7 +16,7 @@ use Rattle.clsm_words.specs.Changing.{Changes, NoWord}
 use Rattle.clsm_runs.specs.Placing.{IsOfPlace, rows_of}
 use Rattle.clsm_runs.specs.Outputs.{AreSources, IsTaken, LeavesOff, kept_of}
 use Rattle.clsm_words.proofs.Changing.{changes_more, changes_trans, writes_only}
-use Rattle.clsm_memtable.proofs.FrozenWalks.{behind_stays}
+use Rattle.clsm_search.proofs.FrozenWalks.{behind_stays}
 use Rattle.clsm_runs.proofs.EpochWalks.{walked_on}
 use Rattle.clsm_runs.proofs.Remaining.{output_stays}
 use Rattle.clsm_runs.proofs.Finishing.{has_written, left_at_first, left_looked}

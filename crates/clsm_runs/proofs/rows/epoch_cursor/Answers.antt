@@ -1,7 +1,7 @@
 use Rattle.std.proofs.Common.{drop}
 use Rattle.clsm_words.specs.Changing.{NoWord}
-use Rattle.clsm_memtable.specs.Frozen.{epoch_row}
-use Rattle.clsm_memtable.proofs.FrozenWalks.{epoch_row_stays}
+use Rattle.clsm_search.specs.Frozen.{epoch_row}
+use Rattle.clsm_search.proofs.FrozenWalks.{epoch_row_stays}
 use Rattle.clsm_runs.proofs.EpochWalks.{yields_first, yields_on}
 use Rattle.clsm_runs.proofs.rows.epoch_cursor.Goals as goal
 

@@ -5,7 +5,7 @@ use Rattle.clsm_levels.specs.Cursors.{IsLeast, cursor_at, row_at}
 use Rattle.clsm_levels.specs.Entry.{AreBelow}
 use Rattle.clsm_levels.proofs.Picks.{at_set, head_entry, nothing_left, picks}
 use Rattle.clsm_words.specs.Changing.{NoWord}
-use Rattle.clsm_memtable.specs.declared.frozen_walk.FrozenWalk.{FrozenWalk}
+use Rattle.clsm_search.specs.declared.frozen_walk.FrozenWalk.{FrozenWalk}
 use Rattle.clsm_runs.specs.Outputs.{IsWalkedTo}
 use Rattle.clsm_runs.specs.Placing.{rows_of}
 use Rattle.clsm_runs.proofs.EpochWalks.{walked_on}

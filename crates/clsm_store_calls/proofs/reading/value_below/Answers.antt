@@ -1,5 +1,5 @@
 use Rattle.std.proofs.Common.{Some, None, sym, ◌∙◌, subst}
-use Rattle.clsm_memtable.specs.Searching.{IsNewest}
+use Rattle.clsm_search.specs.Searching.{IsNewest}
 use Rattle.clsm_store_calls.proofs.Found.{runs_answer}
 use Rattle.clsm_store_calls.proofs.reading.value_below.Goals as goal
 

@@ -1,4 +1,4 @@
-use Rattle.clsm_memtable.proofs.EpochWrites.{next_same}
+use Rattle.clsm_search.proofs.EpochWrites.{next_same}
 use Rattle.clsm_scan.specs.Walking.{spot_entry}
 use Rattle.clsm_scan.proofs.EpochCursors.{newest_next}
 use Rattle.clsm_scan.proofs.epoch_cursor.EpochCursorWalk.next.Goals as goal

@@ -1,0 +1,15 @@
+pub mod Looking
+pub mod Values
+pub mod Chains
+pub mod NewestWrites
+pub mod FrozenTimes
+pub mod Seeks
+pub mod Orders
+pub mod Walks
+pub mod Shown
+pub mod Turns
+pub mod EpochWrites
+pub mod LastSpots
+pub mod Leaps
+pub mod FrozenLists
+pub mod FrozenWalks

@@ -1,0 +1,15 @@
+use Rattle.std.proofs.Common.{◌≡◌, ◌≤◌, ◌+◌, length}
+use Rattle.clsm_words.specs.Keeping.{Looks}
+use Rattle.clsm_words.specs.Plays.{IsSeatOf}
+use Rattle.clsm_search.specs.Searching.{IsOnChain, IsWalked}
+use Rattle.clsm_search.proofs.searching.walk_chain.Given as goal
+
+abbrev pub invariant-loop : goal.invariant-loop
+invariant-loop g l = record {
+  of : IsSeatOf l.words l.seat;
+  looks : Looks l.initial.seat.knows l.seat.knows;
+  key : l.walk.key ≡ l.initial.walk.key;
+  chain : IsOnChain l.seat.knows l.epoch.first l.walk.next;
+  short : length l.initial.seat.knows.trail ≤ l.most → length l.seat.knows.trail + l.counter ≤ l.most;
+  walked : IsWalked l.initial.seat.knows.past l.initial.seat.knows.layout.cells l.epoch.first l.walk.key l.epoch.until l.walk.best l.seat.knows.trail;
+}

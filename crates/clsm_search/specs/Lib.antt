@@ -1,0 +1,6 @@
+pub mod Searching
+pub mod Frozen
+pub mod Staying
+pub mod Ordering
+pub mod Seeking
+pub mod Versions

@@ -1,0 +1,236 @@
+//! The newest write of a key below a time, in the two epochs of a held component.
+ghost use Rattle.std.specs.Prelude.{◌≡◌, ◌+◌, ◌*◌, ◌%◌, ◌<◌, ◌≤◌, ◌≢◌, Some, [], length, IfOk};
+ghost use Rattle.clsm_law.specs.Memory.{cell_of};
+ghost use Rattle.clsm_words.specs.Keeping.{Looks, LooksAside};
+ghost use Rattle.clsm_words.specs.Plays.{IsSeatOf};
+ghost use Rattle.clsm_search.specs.Ordering.{MayWalk};
+ghost use Rattle.clsm_search.specs.Searching.{GoesOn, IsOnChain, IsWalked, MayLookInto, IsNewest, IsNewestIn, IsNewestTime, better, is_later, is_write};
+ghost use Rattle.clsm_search.specs.Searching.{slot_in};
+
+use crate::cells::{KnownCell, found};
+use crate::found::Found;
+use crate::list::{Epoch, time_at};
+use crate::versions::{Unsure, newest_version};
+use clsm_law::{Part, Word};
+use clsm_model::Time;
+use clsm_words::{Pace, RawSeat, Words};
+
+/// A walk along a chain passes so many cells before a search by the ordered list takes its place.
+const FEW: u64 = 8;
+
+fn is_later(best: Option<Time>, time: Time) -> bool
+    ensures { result ≡ is_later best time }
+{
+    match best {
+        None => true,
+        Some(best) => best < time,
+    }
+}
+
+/// How far the chain of a key was walked.
+#[derive(Clone, Copy)]
+struct ChainWalk {
+    key: u64,
+    /// The place of the next cell, or 0 at the chain's end.
+    next: u64,
+    /// The newest write of the key among the cells that were passed.
+    best: Option<Time>,
+}
+
+/// The best so far, or the time of this cell in the epoch, where that is below the epoch's bound,
+/// later, and a write of the key.
+fn better<P: Pace>(
+    words: &Words<P>,
+    seat: &mut RawSeat,
+    epoch: &Epoch,
+    walk: &ChainWalk,
+    cell: u64,
+) -> Option<Time>
+    requires of { IsSeatOf words.now seat.old }
+    requires may { MayWalk seat.old.knows epoch.now }
+    requires begun { epoch.now.first < epoch.now.until }
+    requires place { cell_of seat.old.knows.layout (epoch.now.first + cell % seat.old.knows.layout.cells) ≡ cell }
+    ensures of { IsSeatOf words.now seat.new }
+    ensures looks { LooksAside seat.old.knows seat.new.knows }
+    ensures better { result ≡ better walk.now.best (epoch.now.first + cell % seat.old.knows.layout.cells) epoch.now.until
+        (is_write walk.now.key (slot_in seat.old.knows (epoch.now.first + cell % seat.old.knows.layout.cells))) }
+{
+    let offset = words.number_in_region(cell);
+    if offset >= epoch.until - epoch.first {
+        return walk.best;
+    }
+    let time = epoch.first + offset;
+    if !is_later(walk.best, time) {
+        return walk.best;
+    }
+    let component = epoch.component;
+    let at = KnownCell {
+        component,
+        time,
+        cell,
+    };
+    if at.is_write(words, seat, walk.key) {
+        Some(time)
+    } else {
+        walk.best
+    }
+}
+
+/// What the next of the cell is, on whose time the seat's walk stands.
+#[inline]
+fn next_of<P: Pace>(words: &Words<P>, seat: &mut RawSeat, cell: u64) -> u64
+    requires of { IsSeatOf words.now seat.old }
+    requires held { seat.old.knows.view.held ≢ None }
+    requires inside { cell < 2 * seat.old.knows.layout.cells }
+    ensures of { IsSeatOf words.now seat.new }
+    ensures looks { Looks seat.old.knows seat.new.knows }
+    ensures walks { GoesOn seat.old.knows cell result seat.new.knows }
+{
+    seat.show_invariant();
+    let part = Part::Next;
+    words.look(seat, Word::Cell { cell, part })
+}
+
+/// Walks on along the key's chain of the epoch, past so many cells or to its end.
+fn walk_chain<P: Pace>(
+    words: &Words<P>,
+    seat: &mut RawSeat,
+    epoch: &Epoch,
+    mut walk: ChainWalk,
+    most: u64,
+) -> ChainWalk
+    requires of { IsSeatOf words.now seat.old }
+    requires may { MayWalk seat.old.knows epoch.now }
+    requires begun { epoch.now.first < epoch.now.until }
+    requires chain { IsOnChain seat.old.knows epoch.now.first walk.next }
+    requires walked { IsWalked seat.old.knows.past seat.old.knows.layout.cells epoch.now.first walk.key epoch.now.until walk.best seat.old.knows.trail }
+    ensures of { IsSeatOf words.now seat.new }
+    ensures looks { Looks seat.old.knows seat.new.knows }
+    ensures key { result.key ≡ walk.key }
+    ensures chain { IsOnChain seat.new.knows epoch.now.first result.next }
+    ensures walked { IsWalked seat.old.knows.past seat.old.knows.layout.cells epoch.now.first walk.key epoch.now.until result.best seat.new.knows.trail }
+    ensures ended { length seat.old.knows.trail ≤ most → seat.new.knows.trail ≡ [] }
+{
+    for _ in 0..most {
+        if walk.next == 0 {
+            return walk;
+        }
+        let cell = walk.next - 1;
+        walk.best = better(words, seat, epoch, &walk, cell);
+        walk.next = next_of(words, seat, cell);
+    }
+    walk
+}
+
+/// The time of the newest write of the key in the epoch, by its ordered list.
+fn newest_listed<P: Pace>(
+    words: &Words<P>,
+    seat: &mut RawSeat,
+    epoch: &Epoch,
+    key: u64,
+) -> Result<Option<Time>, Unsure>
+    requires of { IsSeatOf words.now seat.old }
+    requires may { MayWalk seat.old.knows epoch.now }
+    ensures of { IsSeatOf words.now seat.new }
+    ensures looks { LooksAside seat.old.knows seat.new.knows }
+    ensures newest { IfOk result (IsNewestTime seat.old.knows epoch.now.first key epoch.now.until) }
+{
+    match newest_version(words, seat, epoch, key) {
+        Ok(Some(spot)) => Ok(Some(time_at(words, epoch, spot))),
+        Ok(None) => Ok(None),
+        Err(unsure) => Err(unsure),
+    }
+}
+
+impl Epoch {
+    /// The time of the newest write of the key in the epoch, which is begun: by the key's chain or,
+    /// where that has many cells, by the ordered list. A walk along a chain passes every version of
+    /// the key, since links do not stand in it by time.
+    fn newest_time<P: Pace>(&self, words: &Words<P>, seat: &mut RawSeat, key: u64) -> Option<Time>
+        requires of { IsSeatOf words.now seat.old }
+        requires may { MayWalk seat.old.knows self.now }
+        requires begun { self.now.first < self.now.until }
+        ensures of { IsSeatOf words.now seat.new }
+        ensures looks { Looks seat.old.knows seat.new.knows }
+        ensures newest { IsNewestTime seat.old.knows self.now.first key self.now.until result }
+    {
+        seat.show_invariant();
+        let chain = words.chain_of(key);
+        let region = self.number % 2;
+        let next = words.look(seat, Word::Head { region, chain });
+        let best = None;
+        let walk = walk_chain(words, seat, self, ChainWalk { key, next, best }, FEW);
+        if walk.next == 0 {
+            return walk.best;
+        }
+        if let Ok(newest) = newest_listed(words, seat, self, key) {
+            return newest;
+        }
+        walk_chain(words, seat, self, walk, words.cells()).best
+    }
+
+    /// The newest write of the key in the epoch. Its bound may be behind its end, or before it
+    /// begins.
+    fn newest_in<P: Pace>(&self, words: &Words<P>, seat: &mut RawSeat, key: u64) -> Option<Found>
+        requires of { IsSeatOf words.now seat.old }
+        requires held { seat.old.knows.view.held ≡ Some self.now.component }
+        requires may { MayLookInto seat.old.knows self.now.number self.now.first self.now.until }
+        ensures of { IsSeatOf words.now seat.new }
+        ensures looks { Looks seat.old.knows seat.new.knows }
+        ensures newest { IsNewestIn seat.old.knows self.now.first key self.now.until result }
+    {
+        if self.first >= self.until {
+            return None;
+        }
+        let end = self.first.saturating_add(words.cells());
+        let until = self.until.min(end);
+        let time = Epoch { until, ..*self }.newest_time(words, seat, key)?;
+        let at = KnownCell {
+            component: self.component,
+            time,
+            cell: words.cell_of(time),
+        };
+        Some(found(words, seat, &at))
+    }
+}
+
+/// The newest write of the key below `until` in the two epochs of the held component: in the later
+/// one, which is searched only where it begins below `until`, and then in the earlier one. With
+/// `None` no write of the key below `until` is at or above the component's first time; it may be in
+/// the runs. Each time below `until` has to be settled. It never waits, takes no memory and is never
+/// refused. A walk of a chain that the seat had begun is ended.
+pub fn newest<P: Pace>(
+    words: &Words<P>,
+    seat: &mut RawSeat,
+    component: u64,
+    key: u64,
+    until: Time,
+) -> Option<Found>
+    requires of { IsSeatOf words.now seat.old }
+    requires held { seat.old.knows.view.held ≡ Some component }
+    requires within { until ≤ (component + 2) * seat.old.knows.layout.cells }
+    requires settled { until ≤ length seat.old.knows.past }
+    ensures of { IsSeatOf words.now seat.new }
+    ensures looks { Looks seat.old.knows seat.new.knows }
+    ensures newest { IsNewest seat.old.knows component key until result }
+{
+    let cells = words.cells();
+    let first = component.saturating_mul(cells);
+    let second = first.saturating_add(cells);
+    let later = Epoch {
+        component,
+        number: component.saturating_add(1),
+        first: second,
+        until,
+    };
+    let earlier = Epoch {
+        component,
+        number: component,
+        first,
+        until,
+    };
+    match later.newest_in(words, seat, key) {
+        Some(found) => Some(found),
+        None => earlier.newest_in(words, seat, key),
+    }
+}
