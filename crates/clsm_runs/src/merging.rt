@@ -17,8 +17,8 @@ use crate::rows::{Winner, next, open_cursors, value};
 use crate::writing::write_entry;
 use clsm_law::{Word, target_place};
 use clsm_levels::{Entry, Version, is_to_level_one, judge};
-use clsm_memtable::FrozenWalk;
 use clsm_model::{Time, Value};
+use clsm_search::FrozenWalk;
 use clsm_words::{Pace, RawMerger, Words};
 use thiserror::Error;
 

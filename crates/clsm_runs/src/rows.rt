@@ -16,8 +16,8 @@ use crate::entry::PlacedEntry;
 use crate::sources::{value as entry_value, version};
 use clsm_law::{Word, level_one_place};
 use clsm_levels::{Cursor, Version, is_to_level_one, least};
-use clsm_memtable::{FrozenWalk, frozen_value, next_write};
 use clsm_model::Value;
+use clsm_search::{FrozenWalk, frozen_value, next_write};
 use clsm_words::{Pace, RawMerger, Words};
 
 /// A merge reads at most so many rows: the epoch's writes, three runs of level 0 and that of level

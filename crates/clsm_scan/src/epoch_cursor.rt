@@ -11,7 +11,7 @@ ghost use Rattle.clsm_scan.specs.Walking.{IsWriteAt, found_on, spot_entry, spot_
 use crate::sink::Sink;
 use crate::source::Source;
 use crate::walk::Walk;
-use clsm_memtable::{Epoch, has_value, newest_from, seek, value};
+use clsm_search::{Epoch, has_value, newest_from, seek, value};
 use clsm_words::{Pace, RawSeat, Spot, Words};
 
 /// A walk along an epoch of the held component.

@@ -15,9 +15,9 @@ use crate::source::Source;
 use crate::visiting::{Bounds, KeyCount, Visitor, visit_keys};
 use clsm_law::level_one_place;
 use clsm_levels::level_zero_runs;
-use clsm_memtable::Epoch;
 use clsm_model::{Memory, Time};
 use clsm_runs::HeldRun;
+use clsm_search::Epoch;
 use clsm_words::{Pace, RawSeat, Words};
 use std::alloc::Global;
 

@@ -16,10 +16,9 @@ use crate::refusal::BatchError;
 use crate::site::Site;
 use crate::writing::deed_of;
 use clsm_lock::{lock_exclusive, unlock_exclusive};
-use clsm_memtable::{
-    DrawnCell, Lookahead, commit, decide_member, enter, leave_hints, look_room, stage,
-};
+use clsm_memtable::{DrawnCell, Lookahead, commit, decide_member, enter, look_room, stage};
 use clsm_model::{Change, Time, are_writes};
+use clsm_search::leave_hints;
 use clsm_words::{Pace, RawSeat, Words};
 use std::sync::Wait;
 

@@ -23,12 +23,12 @@ use crate::site::Site;
 use clsm_law::{End, Word};
 use clsm_lock::{lock_shared, unlock_shared};
 use clsm_memtable::{
-    Decided, DrawError, DrawnCell, decide, draw, enter, fill, give_up, newest, prefetch,
-    settle_below,
+    Decided, DrawError, DrawnCell, decide, draw, enter, fill, give_up, prefetch, settle_below,
 };
 use clsm_model::{Change, Deed, Time, Value};
 use clsm_pins::{pin, unpin};
 use clsm_scan::ReadPoint;
+use clsm_search::newest;
 use clsm_words::{Pace, RawSeat, Words};
 use std::sync::Wait;
 

@@ -2,8 +2,8 @@
 ghost use Rattle.std.specs.Prelude.{◌≡◌};
 
 use clsm_law::Reader;
-use clsm_memtable::FrozenWalk;
 use clsm_model::Time;
+use clsm_search::FrozenWalk;
 use clsm_words::RawMerger;
 
 /// The merger, which its token holds.

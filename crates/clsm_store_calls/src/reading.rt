@@ -12,11 +12,12 @@ ghost use Rattle.clsm_store_calls.specs.Reading.{BeginsRead, MayReadBelow, Reads
 
 use crate::got::Got;
 use clsm_law::{End, Word};
-use clsm_memtable::{newest, settle_below};
+use clsm_memtable::settle_below;
 use clsm_model::{Deed, Value};
 use clsm_pins::{pin, unpin};
 use clsm_runs::Wanted;
 use clsm_scan::ReadPoint;
+use clsm_search::newest;
 use clsm_words::{Pace, RawSeat, Words};
 
 /// The value of the key at the point: by the chains of the component's epochs, and else by its
