@@ -2,23 +2,21 @@ ghost use Rattle.std.specs.Prelude.{◌≡◌};
 ghost use Rattle.clsm_audit.specs.Numbers.{number_of};
 
 use clsm_model::Memory;
+use std::error;
+use std::fmt;
 use thiserror::Error;
 
 /// What is wrong with a record. The passes look for the kinds in this order.
-#[derive(Clone, Copy, PartialEq, Eq, Debug, Error)]
+#[derive(Clone, Copy, PartialEq, Eq, Debug)]
 pub enum FaultKind {
     /// A seat, a time or a batch out of its range, or a snapshot used where it is not open at this
     /// time.
-    #[error("Unknown")]
     Unknown,
     /// A write at a time at which a record with a lower index writes.
-    #[error("TwoAtOneTime")]
     TwoAtOneTime,
     /// A time below the due of its seat.
-    #[error("TimeRanBack")]
     TimeRanBack,
     /// A reading that is not what the writes below its time give, or stands inside a batch.
-    #[error("WrongReply")]
     WrongReply,
 }
 
@@ -35,6 +33,24 @@ impl FaultKind {
         }
     }
 }
+
+impl fmt::Display for FaultKind {
+    ghost use Rattle.std.specs.Prelude.{Some};
+    ghost use Rattle.clsm_audit.specs.Numbers.{name_of};
+
+    ghost output = { λ kind. Some (name_of kind) };
+
+    fn fmt<W: fmt::Write>(&self, f: &mut fmt::Formatter<W>) -> fmt::Result {
+        match self {
+            FaultKind::Unknown => write!(f, "Unknown"),
+            FaultKind::TwoAtOneTime => write!(f, "TwoAtOneTime"),
+            FaultKind::TimeRanBack => write!(f, "TimeRanBack"),
+            FaultKind::WrongReply => write!(f, "WrongReply"),
+        }
+    }
+}
+
+impl error::Error for FaultKind {}
 
 /// Why an audit does not answer that the records are lawful.
 #[derive(Clone, Copy, PartialEq, Eq, Debug, Error)]

@@ -8,11 +8,11 @@ use crate::refusal::Refusal;
 use clsm_explore::{Exploration, Shows as ShowsOf, explore_scripts};
 use clsm_model::Config;
 use clsm_run::{AskedRun, Load, Shows, run};
-use clsm_script::script;
+use clsm_script::{Setting, script};
 use clsm_text::{AskedAudit, Failure, Streams, audit_lines};
 use std::alloc::Global;
 use std::convert::AsStr;
-use std::io::{self, Read, Write};
+use std::io::{self, BufWriter, Read, Write};
 use std::rt::Clock;
 use std::sync::Wait;
 use std::thread::Threads;
@@ -50,11 +50,34 @@ where
     requires range { IsInRange options }
 {
     match options {
-        Options::Script(config) => script(rt, alloc, config, streams),
+        Options::Script(config) => play(rt, alloc, config, streams),
         Options::Run(options) => call(rt, alloc, &options, streams.output, streams.faults),
         Options::Audit(options) => audit_lines(alloc, asked(&options), streams),
         Options::Explore(options) => try_orders(alloc, &options, streams.output, streams.faults),
     }
+}
+
+/// Plays the script.
+fn play<T, R, W, E>(rt: &T, alloc: Global, config: Config, streams: Streams<R, W, E>) -> u8
+where
+    T: Wait,
+    R: Read + Drop,
+    W: Write + Drop,
+    E: Write + Drop,
+{
+    let Streams {
+        input,
+        output,
+        mut faults,
+    } = streams;
+    let Ok(mut answers) = BufWriter::new(alloc, output) else {
+        return fail(Failure::Memory, &mut faults);
+    };
+    let setting = Setting { rt, alloc, config };
+    let status = script(&setting, input, &mut answers, faults);
+    // A writer that is dropped would write once more.
+    let (_, _) = answers.into_parts();
+    status
 }
 
 /// Runs the workload.

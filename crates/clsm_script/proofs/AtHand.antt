@@ -1,7 +1,8 @@
 -- The next line of an input is at hand, says a call, and is taken and played.
-use Rattle.std.proofs.Common.{◌≡◌, ℕ, ◌+◌, List, length, Option, Some, None, IfSome, true, refl, sym, subst}
+use Rattle.std.proofs.Common.{◌≡◌, ℕ, ◌+◌, ◌++◌, List, length, Option, Some, None, IfSome, true, refl, sym, subst}
 use Rattle.clsm_store.specs.declared.phase.Phase.{Phase}
 use Rattle.clsm_store.specs.declared.play.call.Call.{Call}
+use Rattle.std.proofs.KnownBytes.{Appends-trans}
 use Rattle.std.specs.Io.{StartsWith}
 use Rattle.std.specs.Io.BufRead.{DropsConsumable}
 use Rattle.clsm_text.proofs.AtHand.{some_at_hand, taken_at_hand}
@@ -10,12 +11,12 @@ use Rattle.clsm_text.specs.Input.{BeginsWithLine}
 use Rattle.clsm_text.specs.Line.{IsText, words_of}
 use Rattle.clsm_script.specs.Command.{IsCommand, Says}
 use Rattle.clsm_script.specs.Line.{TakesCommand}
-use Rattle.clsm_script.specs.Lines.{Stage, stage_of}
-use Rattle.clsm_script.specs.Play.{MakesCall}
+use Rattle.clsm_script.specs.Lines.{Stage, outputs_of}
+use Rattle.clsm_script.specs.Play.{PrintsCall}
 use Rattle.clsm_script.specs.declared.command.Command.{Command}
 use Rattle.clsm_script.specs.declared.command.Command.TheVariants as commands
 use Rattle.clsm_script.specs.declared.session.Session.{Session}
-use Rattle.clsm_script.proofs.Chains.{PlayTo, plays_call, plays_on}
+use Rattle.clsm_script.proofs.Chains.{PrintTo, prints_call, prints_on}
 use Rattle.clsm_script.proofs.Readings.{leads_past}
 
 -- it leads on to the next line
@@ -29,19 +30,25 @@ leads_taken (Some bytes) (Some now) new command count after leads taken same =
     (leads_past (Some bytes) (Some now) new taken.line taken.line (Some command) true count leads
     ((λ _. taken.some), λ _. refl) refl taken.takes refl (taken.text, taken.says))
 
--- and its call is played
-pub plays_taken : (old now new : Option (List ℕ)) (call : Call) (count after : ℕ) (start : Stage)
-    (a b : Session) (p : Phase) → LeadsTo IsCommand old now count →
+-- and its call is played, and its answer printed
+pub prints_taken : (old now new : Option (List ℕ)) (call : Call) (count after : ℕ) (start : Stage)
+    (a b : Session) (p : Phase) (held given given_now : Option (List ℕ)) → LeadsTo IsCommand old now count →
     IfSome now (λ bytes. TakesCommand bytes new (commands.Call call)) →
-    PlayTo old count start (stage_of a p) → MakesCall call a b → after ≡ count + 1 →
-    PlayTo old after start (stage_of b p)
-plays_taken None now new call count after start a b p leads taken played makes same = tt
-plays_taken (Some bytes) None new call count after start a b p leads taken played makes same = absurd leads
-plays_taken (Some bytes) (Some now) new call count after start a b p leads taken played makes same =
-    plays_on (Some bytes) (Some now) new taken.line taken.line (Some (commands.Call call)) true count
-    start (stage_of a p) (stage_of b p) leads ((λ _. taken.some), λ _. refl) refl taken.takes refl
-    (taken.text, taken.says) played
-    (plays_call (Some (commands.Call call)) call a b p makes.0 makes.1 refl) after same
+    PrintTo old count start a p (outputs_of held given) → PrintsCall call a b given given_now →
+    after ≡ count + 1 → PrintTo old after start b p (outputs_of held given_now)
+prints_taken None now new call count after start a b p held given given_now leads taken to prints same =
+    let more = prints_call (Some (commands.Call call)) call a b p given given_now prints refl in
+    record {
+      printed = to.printed ++ more.more;
+      plays = tt;
+      appended = Appends-trans held given given_now to.printed more.more to.appended more.appended;
+    }
+prints_taken (Some bytes) None new call count after start a b p held given given_now leads taken to prints same = absurd leads
+prints_taken (Some bytes) (Some now) new call count after start a b p held given given_now leads taken to prints same =
+    prints_on (Some bytes) (Some now) new taken.line taken.line (Some (commands.Call call)) true count
+    start a b p p held given given_now leads ((λ _. taken.some), λ _. refl) refl taken.takes refl
+    (taken.text, taken.says) to
+    (prints_call (Some (commands.Call call)) call a b p given given_now prints refl) after same
 
 -- a line that is at hand is taken, and says a command
 pub takes_command : (old new : Option (List ℕ)) (shown buffer line : List ℕ) (command : Command) →

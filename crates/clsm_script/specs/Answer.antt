@@ -1,6 +1,5 @@
--- The answers of a script: which of them end it, and the lines of the most common ones.
-use Rattle.std.specs.Prelude.{⊤, ℕ, List, ◌++◌, codes, Err}
-use Rattle.std.specs.Fmt.{decimal}
+-- The answers that end a script.
+use Rattle.std.specs.Prelude.{⊤, Err}
 use Rattle.clsm_audit.specs.declared.fault.AuditError.TheVariants.{Fault, Memory}
 use Rattle.clsm_store.specs.Play.{WantsMemory as CallWantsMemory}
 use Rattle.clsm_script.specs.declared.answer.Answer.{Answer}
@@ -16,15 +15,3 @@ WantsMemory _ = ⊥
 abbrev pub IsFault : Answer → Type 0
 IsFault (Audit (Err (Fault _ _))) = ⊤
 IsFault _ = ⊥
-
--- the line of a time
-abbrev pub time_line : ℕ → List ℕ
-time_line time = codes "@" ++ decimal time ++ codes "\n"
-
--- the line of a time at which there was no value
-abbrev pub none_line : ℕ → List ℕ
-none_line time = codes "none " ++ time_line time
-
--- the line of a word that was read, and the time
-abbrev pub word_line : ℕ → ℕ → List ℕ
-word_line word time = decimal word ++ codes " " ++ time_line time

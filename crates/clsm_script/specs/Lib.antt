@@ -4,5 +4,6 @@ pub mod Kept
 pub mod Line
 pub mod Lines
 pub mod Play
+pub mod Printed
 pub mod Script
 pub mod Session

@@ -1,5 +1,8 @@
--- The lines of a script, played one after another on a new store.
-use Rattle.std.specs.Prelude.{◌≡◌, ◌<◌, ◌⊎◌, ℕ, List, [], ◌∷◌, length, take, slice_index_or}
+-- The lines of a script, played one after another on a new store, and what they print.
+use Rattle.std.specs.Prelude.{◌≡◌, ◌<◌, ◌⊎◌, ℕ, List, [], ◌∷◌, ◌++◌, length, take, slice_index_or}
+use Rattle.std.specs.Prelude.{Err, Option}
+use Rattle.std.specs.Io.KnownBytes.{Appends}
+use Rattle.clsm_audit.specs.declared.fault.AuditError.TheVariants.{Fault}
 use Rattle.clsm_model.specs.declared.config.Config.{Config}
 use Rattle.clsm_audit.specs.Faults.{IsFirstFault}
 use Rattle.clsm_audit.specs.declared.fault.FaultKind.{FaultKind}
@@ -10,24 +13,28 @@ use Rattle.clsm_text.specs.Line.{words_of, lines_of, IsComment}
 use Rattle.clsm_script.specs.Answer.{IsFault}
 use Rattle.clsm_script.specs.Command.{Says}
 use Rattle.clsm_script.specs.Play.{Plays, Turns}
+use Rattle.clsm_script.specs.Printed.{answer_text, line_of}
 use Rattle.clsm_script.specs.declared.answer.Answer.{Answer}
+use Rattle.clsm_script.specs.declared.answer.Answer.TheVariants.{Audit as Audited}
 use Rattle.clsm_script.specs.declared.command.Command.{Command}
 use Rattle.clsm_script.specs.declared.command.Command.TheVariants.{Audit}
 use Rattle.clsm_script.specs.declared.session.Session.{Session}
 
--- where a script stands: its session, and the merger's phase
+-- where a script stands: its session, the merger's phase, and what it has printed
 pub record Stage : Type 0 where
   pub session : Session
   pub phase : Phase
+  pub printed : List ℕ
 
-abbrev pub stage_of : Session → Phase → Stage
-stage_of session phase = record { session = session; phase = phase }
+abbrev pub stage_of : Session → Phase → List ℕ → Stage
+stage_of session phase printed = record { session = session; phase = phase; printed = printed }
 
--- the command is played, and its answer is no fault
+-- the command is played, its answer is printed as a line, and is no fault
 pub record PlaysCommand (command : Command) (old new : Stage) : Type 0 where
   pub answer : Answer
   pub plays : Plays command old.session new.session answer
   pub turns : Turns command old.phase new.phase answer
+  pub prints : new.printed ≡ old.printed ++ line_of (answer_text answer)
   pub goes_on : ¬ IsFault answer
 
 -- the line says nothing, and nothing is done; or it says a command, which is played
@@ -40,20 +47,35 @@ abbrev pub PlayLines : List (List ℕ) → Stage → Stage → Type 0
 PlayLines [] old new = new ≡ old
 PlayLines (line ∷ lines) old new = (next : Stage) × PlaysLine line old next × PlayLines lines next new
 
--- all lines of the bytes are played, and leave this session
-abbrev pub EndsPlay : Stage → Session → List ℕ → Type 0
-EndsPlay old session bytes = (phase : Phase) × PlayLines (lines_of bytes) old (stage_of session phase)
+-- what the output held, and holds afterwards, where that is known
+pub record Outputs : Type 0 where
+  pub before : Option (List ℕ)
+  pub after : Option (List ℕ)
 
--- the lines before one that says `audit` are played, and this audit finds a fault in the records
-pub record FaultsAtAudit (lines : List (List ℕ)) (old : Stage) (session : Session) : Type 0 where
+abbrev pub outputs_of : Option (List ℕ) → Option (List ℕ) → Outputs
+outputs_of before after = record { before = before; after = after }
+
+-- all lines of the bytes are played, and leave this session; what they print stands behind what the
+-- output held
+pub record EndsPlay (old : Stage) (session : Session) (outputs : Outputs) (bytes : List ℕ) : Type 0 where
+  pub phase : Phase
+  pub printed : List ℕ
+  pub played : PlayLines (lines_of bytes) old (stage_of session phase printed)
+  pub appended : Appends outputs.before outputs.after printed
+
+-- the lines before one that says `audit` are played, and this audit finds a fault in the records,
+-- which is printed behind their answers
+pub record FaultsAtAudit (lines : List (List ℕ)) (old : Stage) (session : Session) (outputs : Outputs) : Type 0 where
   pub count : ℕ
   pub phase : Phase
+  pub printed : List ℕ
   pub inside : count < length lines
-  pub played : PlayLines (take count lines) old (stage_of session phase)
+  pub played : PlayLines (take count lines) old (stage_of session phase printed)
   pub says : Says Audit (words_of (slice_index_or lines count []))
   pub kind : FaultKind
   pub index : ℕ
   pub fault : IsFirstFault session.config session.records kind index
+  pub appended : Appends outputs.before outputs.after (printed ++ line_of (answer_text (Audited (Err (Fault kind index)))))
 
 -- a session of the seats of a new store of these sizes: seat 0 is in use, and there is no record
 pub record IsNewSession (config : Config) (store : StoreId) (session : Session) : Type 0 where
@@ -62,24 +84,25 @@ pub record IsNewSession (config : Config) (store : StoreId) (session : Session) 
   pub used_is : session.used ≡ 0
   pub no_records : session.records ≡ []
 
--- and its merger has merged nothing
+-- and its merger has merged nothing, and nothing is printed
 pub record IsNewStage (config : Config) (stage : Stage) : Type 0 where
   pub store : StoreId
   pub merger : CleanState
   pub session : IsNewSession config store stage.session
   pub merger_is : IsNewMerger store merger
   pub phase_is : stage.phase ≡ Clean merger
+  pub printed_is : stage.printed ≡ []
 
--- all lines of the bytes are played on a new store of these sizes
-pub record IsPlayedOn (config : Config) (bytes : List ℕ) : Type 0 where
-  pub old : Stage
-  pub new : Stage
-  pub is_new : IsNewStage config old
-  pub played : PlayLines (lines_of bytes) old new
-
--- an audit among the lines, played on a new store of these sizes, finds a fault
-pub record IsFaultyOn (config : Config) (bytes : List ℕ) : Type 0 where
+-- all lines of the bytes are played on a new store of these sizes, and their answers are printed
+pub record IsPlayedOn (config : Config) (outputs : Outputs) (bytes : List ℕ) : Type 0 where
   pub old : Stage
   pub session : Session
   pub is_new : IsNewStage config old
-  pub faults : FaultsAtAudit (lines_of bytes) old session
+  pub ends : EndsPlay old session outputs bytes
+
+-- an audit among the lines, played on a new store of these sizes, finds a fault
+pub record IsFaultyOn (config : Config) (outputs : Outputs) (bytes : List ℕ) : Type 0 where
+  pub old : Stage
+  pub session : Session
+  pub is_new : IsNewStage config old
+  pub faults : FaultsAtAudit (lines_of bytes) old session outputs

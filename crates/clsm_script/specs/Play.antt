@@ -1,6 +1,7 @@
 -- What the commands of a script make of its session and the merger's phase, and what they answer.
 use Rattle.std.specs.Prelude.{◌≡◌, ◌≢◌, ℕ, ◌<◌, ◌≤◌, ◌++◌, ◌⊎◌, List, length, set}
 use Rattle.std.specs.Prelude.{Option, Some, None, Result, Ok, Err}
+use Rattle.std.specs.Io.KnownBytes.{Appends}
 use Rattle.clsm_model.specs.History.{IsBeginning}
 use Rattle.clsm_model.specs.declared.record.CallRecord.{CallRecord}
 use Rattle.clsm_audit.specs.Faults.{IsLawful, IsOneHistory, IsRefusal}
@@ -12,6 +13,7 @@ use Rattle.clsm_store.specs.Phase.{Freezes, Merges, Reclaims}
 use Rattle.clsm_store.specs.Play.{PlaysCall}
 use Rattle.clsm_store.specs.declared.play.answer.Answer.{Answer as CallAnswer}
 use Rattle.clsm_store.specs.declared.play.call.Call.{Call}
+use Rattle.clsm_script.specs.Printed.{call_text, line_of}
 use Rattle.clsm_script.specs.declared.answer.Answer.{Answer}
 use Rattle.clsm_script.specs.declared.answer.Answer.TheVariants.{Call as Called, Seat as Took, Meet as Met}
 use Rattle.clsm_script.specs.declared.answer.Answer.TheVariants.{Audit as Audited}
@@ -37,9 +39,12 @@ pub record Calls (call : Call) (old new : Session) (answer : CallAnswer) : Type 
   pub used : new.used ≡ old.used
   pub config : new.config ≡ old.config
 
--- the seat in use makes the call, and is answered
-abbrev pub MakesCall : Call → Session → Session → Type 0
-MakesCall call old new = (answer : CallAnswer) × Calls call old new answer
+-- the seat in use makes the call, and what it is answered is printed as a line behind what the
+-- output held
+abbrev pub PrintsCall : Call → Session → Session → Option (List ℕ) → Option (List ℕ) → Type 0
+PrintsCall call old new before after = (answer : CallAnswer)
+    × Calls call old new answer
+    × Appends before after (line_of (call_text answer))
 
 -- the seat with this number is in use from then on; it is refused where there is no such seat
 abbrev pub TakesSeat : ℕ → Session → Session → Option ℕ → Type 0

@@ -8,7 +8,7 @@ use Rattle.clsm_text.specs.Line.{AllGood, lines_of}
 use Rattle.clsm_text.specs.declared.failure.Failure.{Failure}
 use Rattle.clsm_text.specs.declared.failure.Failure.TheVariants.{Fault, Refused}
 use Rattle.clsm_script.specs.Command.{IsCommand}
-use Rattle.clsm_script.specs.Lines.{FaultsAtAudit, IsFaultyOn, Stage}
+use Rattle.clsm_script.specs.Lines.{FaultsAtAudit, IsFaultyOn, Outputs, Stage}
 use Rattle.clsm_script.specs.declared.session.Session.{Session}
 
 -- each line of the bytes says nothing, or a command
@@ -17,9 +17,9 @@ IsScript bytes = AllGood IsCommand bytes
 
 -- why the play of an input stops, where its bytes are known: at an audit that finds a fault, at a
 -- line that says no command, or for the world's sake
-abbrev pub StopsPlay : Option (List ℕ) → Stage → Session → Failure → Type 0
-StopsPlay input old new Fault = IfSome input (λ bytes. FaultsAtAudit (lines_of bytes) old new)
-StopsPlay input old new failure = StopsReading IsCommand input failure
+abbrev pub StopsPlay : Option (List ℕ) → Stage → Session → Outputs → Failure → Type 0
+StopsPlay input old new outputs Fault = IfSome input (λ bytes. FaultsAtAudit (lines_of bytes) old new outputs)
+StopsPlay input old new outputs failure = StopsReading IsCommand input failure
 
 -- why the play of a line stops, where the line says a command: for the world's sake, or at an audit
 -- that finds a fault
@@ -28,10 +28,10 @@ StopsLine Fault = ⊤
 StopsLine failure = IsOutside failure
 
 -- why a script with a store of these sizes is not played to its end
-abbrev pub StopsScript : Config → Option (List ℕ) → Failure → Type 0
-StopsScript config input (Refused error) = IsRefusal config error
-StopsScript config input Fault = IsSound config × IfSome input (IsFaultyOn config)
-StopsScript config input failure = IsSound config × StopsReading IsCommand input failure
+abbrev pub StopsScript : Config → Option (List ℕ) → Outputs → Failure → Type 0
+StopsScript config input outputs (Refused error) = IsRefusal config error
+StopsScript config input outputs Fault = IsSound config × IfSome input (IsFaultyOn config outputs)
+StopsScript config input outputs failure = IsSound config × StopsReading IsCommand input failure
 
 -- 0 where a script is played to its end; 1 for a bad line, or a failed read or write; 2 for a fault
 -- that an audit found; 3 for a refused opening, or if memory runs out

@@ -1,9 +1,13 @@
-ghost use Rattle.std.specs.Prelude.{◌↔◌, IsTrue};
+ghost use Rattle.std.specs.Prelude.{◌↔◌, IsTrue, Some};
+ghost use Rattle.clsm_script.specs.Printed.{answer_text, call_text, change_text};
 
 use clsm_audit::AuditError;
 use clsm_model::{Change, Time};
-use clsm_store::{Answer as Called, FreezeError, MergeError, Page, ReclaimError, Rmw};
-use clsm_text::{Reply, ShownRows};
+use clsm_store::{
+    Answer as Called, BatchError, FreezeError, Full, Got, MergeError, Open, Page, Pinned,
+    ReclaimError, Rmw, Scan, TryPutError,
+};
+use clsm_text::{More, Reply, ShownRows};
 use std::fmt;
 
 /// What a command answers. It is shown as the program writes it.
@@ -61,19 +65,31 @@ impl Answer {
 }
 
 impl fmt::Display for Answer {
+    ghost output = { λ answer. Some (answer_text answer) };
+
     fn fmt<W: fmt::Write>(&self, f: &mut fmt::Formatter<W>) -> fmt::Result {
         match self {
-            Answer::Call(answer) => write!(f, "{}", CallAnswer(answer)),
+            Answer::Call(answer) => {
+                let answer = CallAnswer(answer);
+                write!(f, "{answer}")
+            }
             Answer::Seat(Some(number)) => write!(f, "seat {number}"),
             Answer::Meet(Some(time)) => write!(f, "met @{time}"),
             Answer::Seat(None) | Answer::Meet(None) => write!(f, "no seat"),
-            Answer::Audit(answer) => write_audit(f, answer),
+            Answer::Audit(Ok(())) => write!(f, "audit ok"),
+            Answer::Audit(Err(AuditError::Fault { kind, index })) => {
+                write!(f, "audit fault {kind} {index}")
+            }
+            Answer::Audit(Err(AuditError::Memory)) => write!(f, "memory"),
             Answer::Freeze(Ok(epoch)) => write!(f, "frozen {epoch}"),
-            Answer::Freeze(Err(refusal)) => write!(f, "{refusal}"),
+            Answer::Freeze(Err(FreezeError::NotClean)) => write!(f, "not clean"),
+            Answer::Freeze(Err(FreezeError::Worn(_))) => write!(f, "worn"),
             Answer::Merge(Ok(merges)) => write!(f, "merged {merges}"),
-            Answer::Merge(Err(refusal)) => write!(f, "{refusal}"),
+            Answer::Merge(Err(MergeError::NotFrozen)) => write!(f, "not frozen"),
+            Answer::Merge(Err(MergeError::RunFull(_))) => write!(f, "run full"),
             Answer::Reclaim(Ok(())) => write!(f, "clean"),
-            Answer::Reclaim(Err(refusal)) => write!(f, "{refusal}"),
+            Answer::Reclaim(Err(ReclaimError::NotRetired)) => write!(f, "not retired"),
+            Answer::Reclaim(Err(ReclaimError::Pinned(Pinned(seat)))) => write!(f, "pinned {seat}"),
         }
     }
 }
@@ -83,55 +99,101 @@ impl fmt::Display for Answer {
 pub struct CallAnswer<'a>(pub &'a Called);
 
 impl fmt::Display for CallAnswer<'_> {
+    ghost output = { λ answer. Some (call_text answer.0.now) };
+
     fn fmt<W: fmt::Write>(&self, f: &mut fmt::Formatter<W>) -> fmt::Result {
         match self.0 {
             Called::Write(Ok(time)) | Called::Try(Ok(time)) | Called::Batch(Ok(time)) => {
                 write!(f, "@{time}")
             }
-            Called::Write(Err(refusal)) => write!(f, "{refusal}"),
-            Called::Try(Err(refusal)) => write!(f, "{refusal}"),
-            Called::Batch(Err(refusal)) => write!(f, "{refusal}"),
-            Called::Change(Ok(rmw)) => write_change(f, rmw),
-            Called::Change(Err(refusal)) => write!(f, "{refusal}"),
-            Called::Read(got) | Called::ReadAt(Some(got)) => {
-                write!(f, "{} @{}", Reply(&got.value), got.time)
+            Called::Write(Err(Full { time })) | Called::Change(Err(Full { time })) => {
+                write!(f, "full @{time}")
+            }
+            Called::Try(Err(refusal)) => {
+                let refusal = TryRefusal(refusal);
+                write!(f, "{refusal}")
+            }
+            Called::Batch(Err(refusal)) => {
+                let refusal = BatchRefusal(refusal);
+                write!(f, "{refusal}")
+            }
+            Called::Change(Ok(rmw)) => {
+                let changed = Changed(rmw);
+                write!(f, "{changed}")
+            }
+            Called::Read(Got { time, value }) | Called::ReadAt(Some(Got { time, value })) => {
+                let value = Reply(value);
+                write!(f, "{value} @{time}")
             }
             Called::Snapshot(Ok(time)) => write!(f, "snap @{time}"),
-            Called::Snapshot(Err(refusal)) => write!(f, "{refusal}"),
+            Called::Snapshot(Err(Open { time })) => write!(f, "open @{time}"),
             Called::Close(Some(time)) => write!(f, "closed @{time}"),
             Called::Close(None) | Called::ReadAt(None) => write!(f, "no snapshot"),
-            Called::Scan(Ok(scan)) => write!(f, "{} @{}", ShownRows(&scan.rows), scan.time),
-            Called::Page(Ok(page)) => write_page(f, page),
-            Called::Scan(Err(refusal)) | Called::Page(Err(refusal)) => write!(f, "{refusal}"),
+            Called::Scan(Ok(Scan { time, rows })) => {
+                let rows = ShownRows(rows);
+                write!(f, "{rows} @{time}")
+            }
+            Called::Page(Ok(Page { time, rows, more })) => {
+                let (rows, more) = (ShownRows(rows), More(more));
+                write!(f, "{rows} @{time}{more}")
+            }
+            Called::Scan(Err(_)) | Called::Page(Err(_)) => write!(f, "memory"),
         }
     }
 }
 
-fn write_change<W: fmt::Write>(f: &mut fmt::Formatter<W>, rmw: &Rmw) -> fmt::Result {
-    let old = Reply(&rmw.old);
-    let time = rmw.time;
-    match &rmw.change {
-        Change::Keep => write!(f, "kept {old} @{time}"),
-        Change::Set(value) => write!(f, "old {old} new {value} @{time}"),
-        Change::Remove => write!(f, "old {old} new none @{time}"),
+/// What a read-modify-write found, and what it made of that.
+#[derive(Drop)]
+struct Changed<'a>(&'a Rmw);
+
+impl fmt::Display for Changed<'_> {
+    ghost output = { λ changed. Some (change_text changed.0.now.change changed.0.now.old changed.0.now.time) };
+
+    fn fmt<W: fmt::Write>(&self, f: &mut fmt::Formatter<W>) -> fmt::Result {
+        let Rmw { time, old, change } = self.0;
+        let old = Reply(old);
+        match change {
+            Change::Keep => write!(f, "kept {old} @{time}"),
+            Change::Set(value) => write!(f, "old {old} new {value} @{time}"),
+            Change::Remove => write!(f, "old {old} new none @{time}"),
+        }
     }
 }
 
-fn write_page<W: fmt::Write>(f: &mut fmt::Formatter<W>, page: &Page) -> fmt::Result {
-    write!(f, "{} @{}", ShownRows(&page.rows), page.time)?;
-    match page.more {
-        Some(key) => write!(f, " more {key}"),
-        None => Ok(()),
+/// Why a try wrote nothing.
+#[derive(Drop)]
+struct TryRefusal<'a>(&'a TryPutError);
+
+impl fmt::Display for TryRefusal<'_> {
+    ghost use Rattle.clsm_script.specs.Printed.{try_refusal_text};
+
+    ghost output = { λ refusal. Some (try_refusal_text refusal.0.now) };
+
+    fn fmt<W: fmt::Write>(&self, f: &mut fmt::Formatter<W>) -> fmt::Result {
+        match self.0 {
+            TryPutError::Full { time } => write!(f, "full @{time}"),
+            TryPutError::Busy => write!(f, "busy"),
+            TryPutError::Raced => write!(f, "raced"),
+            TryPutError::Overtaken => write!(f, "overtaken"),
+        }
     }
 }
 
-fn write_audit<W: fmt::Write>(
-    f: &mut fmt::Formatter<W>,
-    answer: &Result<(), AuditError>,
-) -> fmt::Result {
-    match answer {
-        Ok(()) => write!(f, "audit ok"),
-        Err(AuditError::Fault { kind, index }) => write!(f, "audit fault {kind} {index}"),
-        Err(AuditError::Memory) => write!(f, "memory"),
+/// Why a batch wrote nothing.
+#[derive(Drop)]
+struct BatchRefusal<'a>(&'a BatchError);
+
+impl fmt::Display for BatchRefusal<'_> {
+    ghost use Rattle.clsm_script.specs.Printed.{batch_refusal_text};
+
+    ghost output = { λ refusal. Some (batch_refusal_text refusal.0.now) };
+
+    fn fmt<W: fmt::Write>(&self, f: &mut fmt::Formatter<W>) -> fmt::Result {
+        match self.0 {
+            BatchError::Full { time } => write!(f, "full @{time}"),
+            BatchError::TooLong => write!(f, "too long"),
+            BatchError::Empty => write!(f, "empty"),
+            BatchError::Keep => write!(f, "keep"),
+        }
     }
 }

@@ -11,4 +11,4 @@ mod session;
 mod writing;
 
 pub use answer::Answer;
-pub use playing::script;
+pub use playing::{Setting, script};

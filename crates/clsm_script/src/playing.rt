@@ -1,7 +1,8 @@
-ghost use Rattle.std.specs.Prelude.{◌≡◌, ◌⊎◌, [], Contains, Err, IfSome, OnOk, IfErr};
-ghost use Rattle.std.specs.Io.Buffered.{reader_buffer, reader_remaining, writer_buffer};
-ghost use Rattle.clsm_script.specs.Lines.{EndsPlay, IsFaultyOn, IsPlayedOn, stage_of};
-ghost use Rattle.clsm_script.specs.Play.{MakesCall};
+ghost use Rattle.std.specs.Prelude.{◌≡◌, ◌≢◌, ◌⊎◌, [], Contains, Err, IfSome, OnOk, IfErr};
+ghost use Rattle.std.specs.Io.Buffered.{reader_buffer, reader_remaining, writer_buffer, writer_contents, writer_inner};
+ghost use Rattle.std.specs.Io.KnownBytes.{Keeps};
+ghost use Rattle.clsm_script.specs.Lines.{EndsPlay, IsFaultyOn, IsPlayedOn, outputs_of, stage_of};
+ghost use Rattle.clsm_script.specs.Play.{PrintsCall};
 ghost use Rattle.clsm_script.specs.Script.{IsScript, IsStatus, StopsPlay, StopsScript};
 ghost use Rattle.clsm_script.specs.Session.{IsSession};
 ghost use Rattle.clsm_text.specs.Failure.{IsOutside};
@@ -14,16 +15,18 @@ use crate::plain::call_at_hand;
 use crate::session::Session;
 use crate::writing::{write_answer, write_call_answer};
 use clsm_store::{Call, Config, Merger, Opened, Pace, Phase, Store, open};
-use clsm_text::{Failure, Streams, read_line};
+use clsm_text::{Failure, read_line};
 use std::alloc::Global;
 use std::io::{BufReader, BufWriter, Read, Write};
 use std::sync::Wait;
 
-/// What a script reads, and the answers that it writes, which are held back for a while.
-#[derive(Drop)]
-struct Console<R, W: Write + Drop> {
-    reader: BufReader<R>,
-    answers: BufWriter<W>,
+/// What a script is played with: the runtime that it waits by, the allocator, and the sizes of its
+/// store.
+#[derive(Clone, Copy)]
+pub struct Setting<'a, T> {
+    pub rt: &'a T,
+    pub alloc: Global,
+    pub config: Config,
 }
 
 /// What calls are made with.
@@ -35,35 +38,36 @@ struct Host<'a, T, P: Pace> {
 }
 
 /// Plays the commands of an input, one a line, on a new store of these sizes, and writes each
-/// answer as a line of its own to the output. Answers are held back only as long as the next line
-/// is at hand: before more input is waited for, all are written and flushed. Where that fails,
-/// a line on the faults says why: `bad line L` or `device`, with status 1, or `refused N SIZE` or
-/// `no memory`, with status 3. An audit that finds a fault ends the script with status 2, and
-/// lines on the faults say why it is one: what an explanation of `clsm_audit` says. The status of a
-/// script that is played to its end is 0. A write to the faults that fails changes no status.
-pub fn script<T, R, W, E>(rt: &T, alloc: Global, config: Config, streams: Streams<R, W, E>) -> u8
+/// answer to the output as a line of its own, as `Answer` shows it, and nothing else. Answers are
+/// held back only as long as the next line is at hand: before more input is waited for, all are
+/// written and flushed. Where a script is not played to its end, a line on the faults says why:
+/// `bad line L` or `device`, with status 1, or `refused N SIZE` or `no memory`, with status 3. An
+/// audit that finds a fault ends the script with status 2, and lines on the faults say why it is
+/// one: what an explanation of `clsm_audit` says. The status of a script that is played to its end
+/// is 0. A write to the faults that fails changes no status.
+///
+/// With status 0 or 2 all answers are written. Otherwise some may be held back still: take the
+/// output apart then, since a writer that is dropped writes what it holds back once more.
+pub fn script<T, R, W, E>(
+    setting: &Setting<'_, T>,
+    input: R,
+    output: &mut BufWriter<W>,
+    mut faults: E,
+) -> u8
 where
     T: Wait,
     R: Read + Drop,
     W: Write + Drop,
     E: Write + Drop,
     ensures status { IsStatus result }
-    ensures refused { ¬ IsSound config → result ≡ 3 }
-    ensures read { result ≡ 0 → IfSome (R.remaining streams.input) IsScript }
-    ensures played { result ≡ 0 → IfSome (R.remaining streams.input) (IsPlayedOn config) }
-    ensures fault { result ≡ 2 → IfSome (R.remaining streams.input) (IsFaultyOn config) }
+    ensures refused { ¬ IsSound setting.now.config → result ≡ 3 }
+    ensures read { result ≡ 0 → IfSome (R.remaining input) IsScript }
+    ensures played { result ≡ 0 → IfSome (R.remaining input)
+        (IsPlayedOn setting.now.config (outputs_of (writer_contents W.contents output.old) (W.contents (writer_inner output.new)))) }
+    ensures fault { result ≡ 2 → IfSome (R.remaining input)
+        (IsFaultyOn setting.now.config (outputs_of (writer_contents W.contents output.old) (W.contents (writer_inner output.new)))) }
 {
-    let Streams {
-        input,
-        output,
-        mut faults,
-    } = streams;
-    let lent = Streams {
-        input,
-        output,
-        faults: &mut faults,
-    };
-    match play_script(rt, alloc, config, lent) {
+    match play_script(setting, input, output, &mut faults) {
         Ok(()) => 0,
         Err(failure) => {
             let _ = failure.report(&mut faults);
@@ -73,46 +77,40 @@ where
 }
 
 fn play_script<T, R, W, E>(
-    rt: &T,
-    alloc: Global,
-    config: Config,
-    streams: Streams<R, W, &mut E>,
+    setting: &Setting<'_, T>,
+    input: R,
+    output: &mut BufWriter<W>,
+    faults: &mut E,
 ) -> Result<(), Failure>
 where
     T: Wait,
     R: Read + Drop,
     W: Write + Drop,
     E: Write,
-    ensures opened { OnOk result (IsSound config) }
-    ensures read { OnOk result (IfSome (R.remaining streams.entry.input) IsScript) }
-    ensures played { OnOk result (IfSome (R.remaining streams.entry.input) (IsPlayedOn config)) }
-    ensures stopped { IfErr result (StopsScript config (R.remaining streams.entry.input)) }
+    ensures opened { OnOk result (IsSound setting.now.config) }
+    ensures read { OnOk result (IfSome (R.remaining input) IsScript) }
+    ensures played { OnOk result (IfSome (R.remaining input)
+        (IsPlayedOn setting.now.config (outputs_of (writer_contents W.contents output.old) (W.contents (writer_inner output.new))))) }
+    ensures stopped { IfErr result (StopsScript setting.now.config (R.remaining input)
+        (outputs_of (writer_contents W.contents output.old) (W.contents (writer_inner output.new)))) }
 {
-    let Streams {
-        input,
-        output,
-        faults,
-    } = streams;
+    let Setting { alloc, config, .. } = *setting;
     let Opened {
         store,
         seats,
         merger,
     } = open(alloc, config)?;
-    let Ok(reader) = BufReader::new(alloc, input) else {
+    let Ok(mut reader) = BufReader::new(alloc, input) else {
         return Err(Failure::Memory);
     };
-    let Ok(answers) = BufWriter::new(alloc, output) else {
-        return Err(Failure::Memory);
-    };
-    let mut console = Console { reader, answers };
     let mut session = Session::new(alloc, config, seats);
     let phase = Phase::Clean(merger);
     let merger = Merger {
         store: &store,
         phase,
     };
-    let played = play_lines(rt, alloc, &mut console, &mut session, merger);
-    let ended = end(console.answers, played);
+    let played = play_lines(setting, &mut reader, output, &mut session, merger);
+    let ended = end(output, played);
     if let Err(Failure::Fault) = ended {
         session.write_reason(alloc, faults);
     }
@@ -122,45 +120,47 @@ where
 /// Ends a play: flushes the answers that are held back, unless a device failed before. What is
 /// then still held back is lost.
 fn end<W: Write + Drop>(
-    mut answers: BufWriter<W>,
+    answers: &mut BufWriter<W>,
     played: Result<(), Failure>,
 ) -> Result<(), Failure>
-    ensures { (result ≡ played) ⊎ (result ≡ Err Device) }
+    ensures ended { (result ≡ played) ⊎ (result ≡ Err Device) }
+    ensures given { result ≢ Err Device →
+        Keeps (writer_contents W.contents answers.old) (W.contents (writer_inner answers.new)) }
 {
-    let given = match played {
-        Err(Failure::Device) => Ok(()),
-        _ => flush_answers(&mut answers),
-    };
-    // A writer that is dropped would write once more.
-    let (_, _) = answers.into_parts();
-    given?;
+    if matches!(played, Err(Failure::Device)) {
+        return played;
+    }
+    flush_answers(answers)?;
     played
 }
 
 fn play_lines<T: Wait, R: Read, W: Write + Drop, P: Pace + Drop>(
-    rt: &T,
-    alloc: Global,
-    console: &mut Console<R, W>,
+    setting: &Setting<'_, T>,
+    reader: &mut BufReader<R>,
+    answers: &mut BufWriter<W>,
     session: &mut Session,
     merger: Merger<'_, P>,
 ) -> Result<(), Failure>
     requires { IsSession merger.store.now session.old }
-    ensures read { OnOk result (IfSome (reader_remaining R.remaining console.old.reader) IsScript) }
-    ensures played { OnOk result (IfSome (reader_remaining R.remaining console.old.reader)
-        (EndsPlay (stage_of session.old merger.entry.phase) session.new)) }
-    ensures stopped { IfErr result (StopsPlay (reader_remaining R.remaining console.old.reader)
-        (stage_of session.old merger.entry.phase) session.new) }
+    ensures read { OnOk result (IfSome (reader_remaining R.remaining reader.old) IsScript) }
+    ensures played { OnOk result (IfSome (reader_remaining R.remaining reader.old)
+        (EndsPlay (stage_of session.old merger.entry.phase []) session.new
+        (outputs_of (writer_contents W.contents answers.old) (writer_contents W.contents answers.new)))) }
+    ensures stopped { IfErr result (StopsPlay (reader_remaining R.remaining reader.old)
+        (stage_of session.old merger.entry.phase []) session.new
+        (outputs_of (writer_contents W.contents answers.old) (writer_contents W.contents answers.new))) }
 {
+    let Setting { rt, alloc, .. } = *setting;
     let Merger { store, mut phase } = merger;
     let host = Host { rt, alloc, store };
     let mut line = Vec::new(alloc);
     for number in 1..u64::MAX {
-        if let Some(call) = call_at_hand(&mut console.reader) {
-            play_call(&host, session, &mut console.answers, call)?;
+        if let Some(call) = call_at_hand(reader) {
+            play_call(&host, session, answers, call)?;
             continue;
         }
-        flush_before_wait(&console.reader, &mut console.answers)?;
-        if !read_line(&mut console.reader, &mut line)? {
+        flush_before_wait(reader, answers)?;
+        if !read_line(reader, &mut line)? {
             return Ok(());
         }
         let command = match parse_line(alloc, &line) {
@@ -171,14 +171,14 @@ fn play_lines<T: Wait, R: Read, W: Write + Drop, P: Pace + Drop>(
         // Most commands are calls, which leave the merger where it is.
         let command = match command {
             Command::Call(call) => {
-                play_call(&host, session, &mut console.answers, call)?;
+                play_call(&host, session, answers, call)?;
                 continue;
             }
             command => command,
         };
         let (next, answer) = command.play(rt, alloc, store, session, phase)?;
         phase = next;
-        write_answer(&mut console.answers, &answer)?;
+        write_answer(answers, &answer)?;
     }
     Err(Failure::Device)
 }
@@ -191,7 +191,7 @@ fn play_call<T: Wait, W: Write, P: Pace + Drop>(
     call: Call,
 ) -> Result<(), Failure>
     requires { IsSession host.now.store.now session.old }
-    ensures makes { OnOk result (MakesCall call session.old session.new) }
+    ensures makes { OnOk result (PrintsCall call session.old session.new (W.contents answers.old) (W.contents answers.new)) }
     ensures session { OnOk result (IsSession host.now.store.now session.new) }
     ensures failed { IfErr result IsOutside }
 {
@@ -208,6 +208,7 @@ fn flush_before_wait<R: Read, W: Write + Drop>(
     answers: &mut BufWriter<W>,
 ) -> Result<(), Failure>
     ensures given { OnOk result (Contains (reader_buffer reader.now) 10 ⊎ (writer_buffer answers.new ≡ [])) }
+    ensures kept { Keeps (writer_contents W.contents answers.old) (writer_contents W.contents answers.new) }
     ensures failed { IfErr result IsOutside }
 {
     if reader.buffer().contains(&b'\n') {
@@ -219,6 +220,7 @@ fn flush_before_wait<R: Read, W: Write + Drop>(
 /// Flushes the answers that are held back.
 fn flush_answers<W: Write + Drop>(answers: &mut BufWriter<W>) -> Result<(), Failure>
     ensures given { OnOk result (writer_buffer answers.new ≡ []) }
+    ensures kept { Keeps (writer_contents W.contents answers.old) (writer_contents W.contents answers.new) }
     ensures failed { IfErr result (λ failure. failure ≡ Device) }
 {
     if !answers.buffer().is_empty() {

@@ -1,12 +1,14 @@
 -- The texts of words, as they are read and written.
 use Rattle.std.proofs.Common.{◌≡◌, ◌≢◌, ℕ, zero, suc, ◌+◌, ◌-◌, ◌<◌, ◌≤◌, List, [], ◌∷◌, ◌++◌}
 use Rattle.std.proofs.Common.{length, map, take}
-use Rattle.std.proofs.Common.{drop, get_or, codes, refl, ap, sym, ◌∙◌, arith, subst, append-nil}
+use Rattle.std.proofs.Common.{drop, get_or, codes, refl, ap, sym, ◌∙◌, arith, subst, append-nil, append_assoc}
 use Rattle.std.proofs.Common.{lit<, Option, Some, None}
 use Rattle.std.proofs.lemmas.List.{map_more, map-append, flat_map_more, get_or-map, length-map}
 use Rattle.std.proofs.lemmas.List.{length-append, take_all}
 use Rattle.std.proofs.lemmas.List.Concat.{flat_map-append}
 use Rattle.std.specs.Borrow.{Bor}
+use Rattle.std.specs.Fmt.{decimal}
+use Rattle.clsm_model.specs.Value.{text}
 use Rattle.std.specs.List.{position_or_len, join_with_byte}
 use Rattle.clsm_model.specs.declared.record.CallRecord.{CallRecord}
 use Rattle.clsm_model.specs.declared.record.Deed.{Deed}
@@ -18,7 +20,7 @@ use Rattle.clsm_text.specs.Member.{is_equals, WritesNumber}
 use Rattle.clsm_text.proofs.Readings.{nil_no_value, no_equals}
 use Rattle.clsm_text.specs.Record.{WritesSeat, WritesRow, WriteRows}
 use Rattle.clsm_text.specs.Record.{WritePage, SayDeed, Say}
-use Rattle.clsm_text.specs.Written.{spaced}
+use Rattle.clsm_text.specs.Written.{row_text, shown_rows, spaced}
 use Rattle.clsm_text.proofs.Zips.{zip_at, get_seam}
 
 -- ---- rows
@@ -196,3 +198,12 @@ pub spaced_more : {A : Type 0} (text_of : A → List ℕ) (xs : List A) (i : ℕ
 spaced_more text_of xs i d inside =
     flat_map_more (λ (w : List ℕ). 32 ∷ w) [] (map text_of (take i xs)) (text_of (get_or xs i d))
     ∙ ap (λ (rs : List (List ℕ)). spaced rs) (sym (map_more text_of xs i d inside))
+
+-- rows are shown, the first and then the others
+pub shown_some : (rows : List (ℕ × List ℕ)) (first : ℕ × List ℕ) (others : List (ℕ × List ℕ)) →
+    rows ≡ first ∷ others →
+    decimal first.0 ++ (61 ∷ (text first.1 ++ spaced (map row_text others))) ≡ shown_rows rows
+shown_some rows first others is =
+    sym
+    (ap shown_rows is ∙ joined (row_text first) (map row_text others)
+    ∙ append_assoc (decimal first.0) (61 ∷ text first.1) (spaced (map row_text others)))

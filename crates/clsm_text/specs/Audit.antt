@@ -1,11 +1,13 @@
 -- The audit of the records that lines say.
-use Rattle.std.specs.Prelude.{◌≡◌, ℕ, ◌-◌, ◌<◌, ◌≤◌, ⊤, List, [], ◌∷◌, length, take}
+use Rattle.std.specs.Prelude.{◌≡◌, ℕ, ◌-◌, ◌<◌, ◌≤◌, ⊤, List, [], ◌∷◌, ◌++◌, codes, length, take}
+use Rattle.std.specs.Fmt.{decimal}
 use Rattle.std.specs.Prelude.{filter_map, slice_get, All, Contains, IfSome, IsSome, IsSomeAnd}
 use Rattle.std.specs.Prelude.{slice_index, slice_index_or, Option, Ok}
 use Rattle.std.specs.List.{AllZip}
 use Rattle.clsm_model.specs.declared.config.Config.{Config}
 use Rattle.clsm_model.specs.declared.record.CallRecord.{CallRecord}
 use Rattle.clsm_audit.specs.Faults.{IsFirstFault, IsLawful}
+use Rattle.clsm_audit.specs.Numbers.{name_of}
 use Rattle.clsm_audit.specs.declared.fault.FaultKind.{FaultKind}
 use Rattle.clsm_text.specs.Line.{lines_of}
 use Rattle.clsm_text.specs.declared.failure.Failure.{Failure}
@@ -62,6 +64,11 @@ pub record IsListOf (lines : List (List ℕ)) (records : List CallRecord) (numbe
 abbrev pub IsVerdict : Config → List ℕ → Verdict → Type 0
 IsVerdict config bytes Lawful = AreLawful config bytes
 IsVerdict config bytes (Fault kind number) = HasFaultOn config bytes kind number
+
+-- the verdict as it is printed
+abbrev pub verdict_text : Verdict → List ℕ
+verdict_text Lawful = codes "audit ok"
+verdict_text (Fault kind number) = codes "audit fault " ++ name_of kind ++ codes " " ++ decimal number
 
 -- the line says nothing, or a record
 abbrev pub IsGood : List ℕ → Type 0

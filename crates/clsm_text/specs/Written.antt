@@ -64,3 +64,8 @@ spaced words = flat_map (λ word. 32 ∷ word) words
 -- a deed: its words, with a space between each two
 abbrev pub deed_text : Deed → List ℕ
 deed_text deed = join_with_byte 32 (name_of deed ∷ deed_words deed)
+
+-- rows as they are shown: with a space between each two, or `empty` where there is none
+abbrev pub shown_rows : List (ℕ × List ℕ) → List ℕ
+shown_rows [] = codes "empty"
+shown_rows (row ∷ rows) = join_with_byte 32 (map row_text (row ∷ rows))

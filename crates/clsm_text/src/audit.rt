@@ -40,6 +40,11 @@ impl Verdict {
 }
 
 impl fmt::Display for Verdict {
+    ghost use Rattle.std.specs.Prelude.{Some};
+    ghost use Rattle.clsm_text.specs.Audit.{verdict_text};
+
+    ghost output = { λ verdict. Some (verdict_text verdict) };
+
     fn fmt<W: fmt::Write>(&self, f: &mut fmt::Formatter<W>) -> fmt::Result {
         match self {
             Verdict::Lawful => write!(f, "audit ok"),

@@ -28,4 +28,4 @@ pub use reason::write_reason;
 pub use record::parse_record;
 pub use shown::ShownRows;
 pub use streams::Streams;
-pub use written::{Line, MemberWords, Reply, Told, write_record};
+pub use written::{Line, MemberWords, More, Reply, Told, write_record};

@@ -3,7 +3,7 @@ ghost use Rattle.std.specs.Io.KnownBytes.{Appends};
 ghost use Rattle.clsm_text.specs.Written.{reply_text, change_text, row_text, more_words, spaced, member_text};
 ghost use Rattle.clsm_text.specs.Written.{deed_text, line_of};
 
-use clsm_model::{CallRecord, Change, Deed, Members, PageRange, Rows, Value};
+use clsm_model::{CallRecord, Change, Deed, Members, PageRange, Value};
 use std::fmt;
 use std::io::{self, Write};
 
@@ -60,12 +60,12 @@ impl fmt::Display for Told<'_> {
                 write!(f, "getat {key} {reply}")
             }
             Deed::Scan { lo, hi, rows } => {
-                let rows = RowWords(rows);
+                let rows = RowWords(rows.as_slice());
                 write!(f, "scan {lo} {hi}{rows}")
             }
             Deed::Page { range, rows, more } => {
                 let PageRange { from, hi, max } = range;
-                let rows = RowWords(rows);
+                let rows = RowWords(rows.as_slice());
                 let more = More(more);
                 write!(f, "page {from} {hi} {max}{rows}{more}")
             }
@@ -110,13 +110,13 @@ impl fmt::Display for Changed<'_> {
 
 /// Rows, each behind a space.
 #[derive(Drop)]
-struct RowWords<'a>(&'a Rows);
+pub(crate) struct RowWords<'a>(pub(crate) &'a [(u64, Value)]);
 
 impl fmt::Display for RowWords<'_> {
     ghost output = { λ listed. Some (spaced (map row_text listed.0.now)) };
 
     fn fmt<W: fmt::Write>(&self, f: &mut fmt::Formatter<W>) -> fmt::Result {
-        for (key, value) in self.0.as_slice() {
+        for (key, value) in self.0 {
             write!(f, " {key}={value}")?;
         }
         Ok(())
@@ -139,9 +139,9 @@ impl fmt::Display for MemberWords<'_> {
     }
 }
 
-/// The key of the next row behind `more`, or nothing.
+/// The key of the next row behind ` more `, or nothing.
 #[derive(Drop)]
-struct More<'a>(&'a Option<u64>);
+pub struct More<'a>(pub &'a Option<u64>);
 
 impl fmt::Display for More<'_> {
     ghost output = { λ more. Some (spaced (more_words more.0.now)) };

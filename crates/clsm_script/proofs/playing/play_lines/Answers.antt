@@ -2,8 +2,9 @@ use Rattle.std.proofs.Common.{◌+◌, ◌-◌, Err, ap, subst, arith}
 use Rattle.clsm_script.specs.Command.{IsCommand}
 use Rattle.clsm_script.specs.Line.{Reads}
 use Rattle.std.specs.Io.Buffered.{reader_remaining}
-use Rattle.clsm_script.proofs.AtHand.{leads_kept, leads_taken, plays_taken}
-use Rattle.clsm_script.proofs.Chains.{fault_is_audit, faults_said, plays_call, plays_command, plays_nothing, plays_on, plays_over, stops_residual}
+use Rattle.clsm_script.proofs.AtHand.{leads_kept, leads_taken, prints_taken}
+use Rattle.clsm_script.proofs.Chains.{fault_is_audit, faults_said, prints_call, prints_command, prints_kept, prints_nothing, prints_on, prints_over}
+use Rattle.clsm_script.proofs.Chains.{stops_residual}
 use Rattle.clsm_text.proofs.Inputs.{LeadsTo, leads_to_end}
 use Rattle.clsm_script.proofs.Readings.{leads_past, stops_at_error}
 use Rattle.clsm_script.proofs.playing.play_lines.Goals as goal
@@ -11,8 +12,8 @@ use Rattle.clsm_script.proofs.playing.play_lines.Goals as goal
 pub returns-then-not-branch-clause-read : goal.returns-then-not-branch-clause-read
 returns-then-not-branch-clause-read g c =
     let leads =
-    leads_kept (reader_remaining g.R.Read.remaining) (reader_remaining g.R.Read.remaining c.args.console.now.reader)
-    c.loop-number.console.reader c.call_at_hand.new.reader (c.loop-number.number - 1) c.in_default.ensures.kept
+    leads_kept (reader_remaining g.R.Read.remaining) (reader_remaining g.R.Read.remaining c.args.reader.now)
+    c.loop-number.reader c.call_at_hand.new.reader (c.loop-number.number - 1) c.in_default.ensures.kept
     c.loop-number.invariant.leads in
     leads_to_end IsCommand _ _ _ _ leads c.in_ok-read_line.ensures.found
     c.if-not-branch.true
@@ -20,39 +21,39 @@ returns-then-not-branch-clause-read g c =
 pub returns-then-not-branch-clause-played : goal.returns-then-not-branch-clause-played
 returns-then-not-branch-clause-played g c =
     let leads =
-    leads_kept (reader_remaining g.R.Read.remaining) (reader_remaining g.R.Read.remaining c.args.console.now.reader)
-    c.loop-number.console.reader c.call_at_hand.new.reader (c.loop-number.number - 1) c.in_default.ensures.kept
+    leads_kept (reader_remaining g.R.Read.remaining) (reader_remaining g.R.Read.remaining c.args.reader.now)
+    c.loop-number.reader c.call_at_hand.new.reader (c.loop-number.number - 1) c.in_default.ensures.kept
     c.loop-number.invariant.leads in
-    plays_over _ _ _ _ _ _ _ leads c.in_ok-read_line.ensures.found
-    c.if-not-branch.true c.loop-number.invariant.plays
+    prints_over _ _ _ _ _ _ _ _ leads c.in_ok-read_line.ensures.found
+    c.if-not-branch.true (prints_kept _ _ _ _ _ _ _ _ c.in_ok-flush_before_wait.ensures.kept c.loop-number.invariant.prints)
 
 pub returns-in-Err-clause-stopped : goal.returns-in-Err-clause-stopped
 returns-in-Err-clause-stopped g c =
     let leads =
-    leads_kept (reader_remaining g.R.Read.remaining) (reader_remaining g.R.Read.remaining c.args.console.now.reader)
-    c.loop-number.console.reader c.call_at_hand.new.reader (c.loop-number.number - 1) c.in_default.ensures.kept
+    leads_kept (reader_remaining g.R.Read.remaining) (reader_remaining g.R.Read.remaining c.args.reader.now)
+    c.loop-number.reader c.call_at_hand.new.reader (c.loop-number.number - 1) c.in_default.ensures.kept
     c.loop-number.invariant.leads in
     let bad =
     subst (λ line. Reads line (Err c.in-Err.error)) c.deref.ensures.value c.in-Err.ensures in
     rw c.at.ensures
-    (stops_at_error _ _ _ _ _ _ _ _ _ leads c.in_ok-read_line.ensures.found
+    (stops_at_error _ _ _ _ _ _ _ _ _ _ leads c.in_ok-read_line.ensures.found
     c.if-not-branch.false c.in_ok-read_line.ensures.takes (omega arith) bad)
 
 pub loop-number-preserved-in-Ok-None : goal.loop-number-preserved-in-Ok-None
 loop-number-preserved-in-Ok-None g c =
     let leads =
-    leads_kept (reader_remaining g.R.Read.remaining) (reader_remaining g.R.Read.remaining c.args.console.now.reader)
-    c.loop-number.console.reader c.call_at_hand.new.reader (c.loop-number.number - 1) c.in_default.ensures.kept
+    leads_kept (reader_remaining g.R.Read.remaining) (reader_remaining g.R.Read.remaining c.args.reader.now)
+    c.loop-number.reader c.call_at_hand.new.reader (c.loop-number.number - 1) c.in_default.ensures.kept
     c.loop-number.invariant.leads in
     record {
       leads = subst (LeadsTo IsCommand _ _) (omega arith)
           (leads_past _ _ _ _ _ _ _ _ leads
           c.in_ok-read_line.ensures.found c.if-not-branch.false
           c.in_ok-read_line.ensures.takes c.deref.ensures.value c.in-Ok-None.ensures);
-      plays = plays_on _ _ _ _ _ _ _ _ _ _ _ leads
+      prints = prints_on _ _ _ _ _ _ _ _ _ _ _ _ _ _ _ _ leads
           c.in_ok-read_line.ensures.found c.if-not-branch.false
           c.in_ok-read_line.ensures.takes c.deref.ensures.value c.in-Ok-None.ensures
-          c.loop-number.invariant.plays (plays_nothing _ _ c.in-Ok-None.field-0-is)
+          (prints_kept _ _ _ _ _ _ _ _ c.in_ok-flush_before_wait.ensures.kept c.loop-number.invariant.prints) (prints_nothing _ _ _ _ c.in-Ok-None.field-0-is)
           (c.loop-number.number + 1 - 1) (omega arith);
       session = c.loop-number.invariant.session;
       merger = c.loop-number.invariant.merger;
@@ -61,20 +62,20 @@ loop-number-preserved-in-Ok-None g c =
 pub loop-number-preserved : goal.loop-number-preserved
 loop-number-preserved g c =
     let leads =
-    leads_kept (reader_remaining g.R.Read.remaining) (reader_remaining g.R.Read.remaining c.args.console.now.reader)
-    c.loop-number.console.reader c.call_at_hand.new.reader (c.loop-number.number - 1) c.in_default.ensures.kept
+    leads_kept (reader_remaining g.R.Read.remaining) (reader_remaining g.R.Read.remaining c.args.reader.now)
+    c.loop-number.reader c.call_at_hand.new.reader (c.loop-number.number - 1) c.in_default.ensures.kept
     c.loop-number.invariant.leads in
     record {
       leads = subst (LeadsTo IsCommand _ _) (omega arith)
           (leads_past _ _ _ _ _ _ _ _ leads
           c.in_ok-read_line.ensures.found c.if-not-branch.false
           c.in_ok-read_line.ensures.takes c.deref.ensures.value c.in-Ok-Some.ensures);
-      plays = plays_on _ _ _ _ _ _ _ _ _ _ _ leads
+      prints = prints_on _ _ _ _ _ _ _ _ _ _ _ _ _ _ _ _ leads
           c.in_ok-read_line.ensures.found c.if-not-branch.false
           c.in_ok-read_line.ensures.takes c.deref.ensures.value c.in-Ok-Some.ensures
-          c.loop-number.invariant.plays
-          (plays_command _ _ _ _ _ _ _ c.in_ok-next.ensures.plays c.in_ok-next.ensures.turns
-          c.in_ok-write_answer.ensures.goes_on (cc)) (c.loop-number.number + 1 - 1) (omega arith);
+          (prints_kept _ _ _ _ _ _ _ _ c.in_ok-flush_before_wait.ensures.kept c.loop-number.invariant.prints)
+          (prints_command _ _ _ _ _ _ _ _ _ c.in_ok-next.ensures.plays c.in_ok-next.ensures.turns
+          c.in_ok-write_answer.ensures.goes_on c.in_ok-write_answer.ensures.prints (cc)) (c.loop-number.number + 1 - 1) (omega arith);
       session = c.in_ok-next.ensures.session;
       merger = c.in_ok-next.ensures.merger;
     }
@@ -82,19 +83,19 @@ loop-number-preserved g c =
 pub loop-number-preserved-in-Call : goal.loop-number-preserved-in-Call
 loop-number-preserved-in-Call g c =
     let leads =
-    leads_kept (reader_remaining g.R.Read.remaining) (reader_remaining g.R.Read.remaining c.args.console.now.reader)
-    c.loop-number.console.reader c.call_at_hand.new.reader (c.loop-number.number - 1) c.in_default.ensures.kept
+    leads_kept (reader_remaining g.R.Read.remaining) (reader_remaining g.R.Read.remaining c.args.reader.now)
+    c.loop-number.reader c.call_at_hand.new.reader (c.loop-number.number - 1) c.in_default.ensures.kept
     c.loop-number.invariant.leads in
     record {
       leads = subst (LeadsTo IsCommand _ _) (omega arith)
           (leads_past _ _ _ _ _ _ _ _ leads
           c.in_ok-read_line.ensures.found c.if-not-branch.false
           c.in_ok-read_line.ensures.takes c.deref.ensures.value c.in-Ok-Some.ensures);
-      plays = plays_on _ _ _ _ _ _ _ _ _ _ _ leads
+      prints = prints_on _ _ _ _ _ _ _ _ _ _ _ _ _ _ _ _ leads
           c.in_ok-read_line.ensures.found c.if-not-branch.false
           c.in_ok-read_line.ensures.takes c.deref.ensures.value c.in-Ok-Some.ensures
-          c.loop-number.invariant.plays
-          (plays_call _ _ _ _ _ _ c.in_ok-play_call-in-Call.ensures.makes.1 (cc)) (c.loop-number.number + 1 - 1) (omega arith);
+          (prints_kept _ _ _ _ _ _ _ _ c.in_ok-flush_before_wait.ensures.kept c.loop-number.invariant.prints)
+          (prints_call _ _ _ _ _ _ _ c.in_ok-play_call-in-Call.ensures.makes (cc)) (c.loop-number.number + 1 - 1) (omega arith);
       session = c.in_ok-play_call-in-Call.ensures.session;
       merger = c.loop-number.invariant.merger;
     }
@@ -102,16 +103,16 @@ loop-number-preserved-in-Call g c =
 pub returns-in_err-write_answer-clause-stopped : goal.returns-in_err-write_answer-clause-stopped
 returns-in_err-write_answer-clause-stopped g c =
     let leads =
-    leads_kept (reader_remaining g.R.Read.remaining) (reader_remaining g.R.Read.remaining c.args.console.now.reader)
-    c.loop-number.console.reader c.call_at_hand.new.reader (c.loop-number.number - 1) c.in_default.ensures.kept
+    leads_kept (reader_remaining g.R.Read.remaining) (reader_remaining g.R.Read.remaining c.args.reader.now)
+    c.loop-number.reader c.call_at_hand.new.reader (c.loop-number.number - 1) c.in_default.ensures.kept
     c.loop-number.invariant.leads in
-    stops_residual c.from_residual-in_err-write_answer.result _ _ _ c.in_err-write_answer.field-0.0
+    stops_residual c.from_residual-in_err-write_answer.result _ _ _ _ c.in_err-write_answer.field-0.0
     c.in_err-write_answer.ensures.stopped
-    (λ is. faults_said _ _ _ _ _ _ _ _ _ _ _ _ _ leads c.in_ok-read_line.ensures.found
+    (λ is. faults_said _ _ _ _ _ _ _ _ _ _ _ _ _ _ _ _ _ leads c.in_ok-read_line.ensures.found
     c.if-not-branch.false c.in_ok-read_line.ensures.takes c.deref.ensures.value c.in-Ok-Some.ensures
-    c.loop-number.invariant.plays
+    (prints_kept _ _ _ _ _ _ _ _ c.in_ok-flush_before_wait.ensures.kept c.loop-number.invariant.prints)
     (fault_is_audit _ _ _ _ _ _ c.in_ok-next.ensures.plays c.in_ok-next.ensures.turns
-    (c.in_err-write_answer.ensures.fault (ap Err is))) (cc))
+    (c.in_err-write_answer.ensures.fault (ap Err is))) (c.in_err-write_answer.ensures.prints_fault (ap Err is)) (cc))
     c.from_residual-in_err-write_answer.ensures.1
 
 pub loop-number-preserved-in-Some : goal.loop-number-preserved-in-Some
@@ -119,8 +120,8 @@ loop-number-preserved-in-Some g c =
     record {
       leads = leads_taken _ _ _ _ _ (c.loop-number.number + 1 - 1) c.loop-number.invariant.leads
           c.in-Some.ensures.taken (omega arith);
-      plays = plays_taken _ _ _ _ _ (c.loop-number.number + 1 - 1) _ _ _ _ c.loop-number.invariant.leads
-          c.in-Some.ensures.taken c.loop-number.invariant.plays c.in_ok-play_call.ensures.makes (omega arith);
+      prints = prints_taken _ _ _ _ _ (c.loop-number.number + 1 - 1) _ _ _ _ _ _ _ c.loop-number.invariant.leads
+          c.in-Some.ensures.taken c.loop-number.invariant.prints c.in_ok-play_call.ensures.makes (omega arith);
       session = c.in_ok-play_call.ensures.session;
       merger = c.loop-number.invariant.merger;
     }

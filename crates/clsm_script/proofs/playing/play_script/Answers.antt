@@ -1,4 +1,4 @@
-use Rattle.std.proofs.Common.{ap, refl}
+use Rattle.std.proofs.Common.{ap, refl, []}
 use Rattle.clsm_store.specs.declared.phase.Phase.TheVariants.{Clean}
 use Rattle.clsm_script.specs.Lines.{IsNewStage, stage_of}
 use Rattle.clsm_script.proofs.Chains.{ended_played, ended_stops, new_reader}
@@ -12,27 +12,31 @@ play_lines-played-requires g c =
 pub returns-clause-played : goal.returns-clause-played
 returns-clause-played g c =
     let merger = c.in_ok-store.field-0.merger in
-    let start = stage_of c.new-session.result (Clean merger) in
-    let new : IsNewStage c.args.config start = record {
+    let start = stage_of c.new-session.result (Clean merger) [] in
+    let new : IsNewStage c.args.setting.now.config start = record {
       store = c.in_ok-store.field-0.store;
       merger = merger;
       session = c.new-session.ensures.fresh c.in_ok-store.field-0.store c.in_ok-store.ensures.seats;
       merger_is = c.in_ok-store.ensures.merger;
       phase_is = refl;
+      printed_is = refl;
     } in
-    ended_played c.args.config start _ _ _ _ _ c.end-ended.ensures new c.play_lines-played.ensures.played
+    ended_played c.args.setting.now.config start _ _ _ _ _ _ _ new
     (new_reader _ _ _ _ c.in-Ok.ensures.empty c.in-Ok.ensures.capacity (ap g.R.Read.remaining c.in-Ok.ensures.inner))
+    _ c.end-ended.ensures.ended c.end-ended.ensures.given c.play_lines-played.ensures.played
 
 pub returns-clause-stopped : goal.returns-clause-stopped
 returns-clause-stopped g c =
     let merger = c.in_ok-store.field-0.merger in
-    let start = stage_of c.new-session.result (Clean merger) in
-    let new : IsNewStage c.args.config start = record {
+    let start = stage_of c.new-session.result (Clean merger) [] in
+    let new : IsNewStage c.args.setting.now.config start = record {
       store = c.in_ok-store.field-0.store;
       merger = merger;
       session = c.new-session.ensures.fresh c.in_ok-store.field-0.store c.in_ok-store.ensures.seats;
       merger_is = c.in_ok-store.ensures.merger;
       phase_is = refl;
+      printed_is = refl;
     } in
-    ended_stops c.args.config start _ _ _ _ _ c.end-ended.ensures c.in_ok-store.ensures.sizes new c.play_lines-played.ensures.stopped
+    ended_stops c.args.setting.now.config start _ _ _ _ _ _ _ new
     (new_reader _ _ _ _ c.in-Ok.ensures.empty c.in-Ok.ensures.capacity (ap g.R.Read.remaining c.in-Ok.ensures.inner))
+    _ c.end-ended.ensures.ended c.end-ended.ensures.given c.in_ok-store.ensures.sizes c.play_lines-played.ensures.stopped
