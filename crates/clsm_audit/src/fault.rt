@@ -2,8 +2,7 @@ ghost use Rattle.std.specs.Prelude.{◌≡◌};
 ghost use Rattle.clsm_audit.specs.Numbers.{number_of};
 
 use clsm_model::Memory;
-use std::error;
-use std::fmt;
+use std::{error, fmt};
 use thiserror::Error;
 
 /// What is wrong with a record. The passes look for the kinds in this order.

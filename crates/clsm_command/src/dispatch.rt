@@ -109,7 +109,7 @@ where
 }
 
 /// Explores the scripts.
-fn try_orders<W, E>(alloc: Global, options: &ExploreOptions, output: W, faults: E) -> u8
+fn try_orders<W, E>(alloc: Global, options: &ExploreOptions, mut output: W, faults: E) -> u8
 where
     W: Write + Drop,
     E: Write + Drop,
@@ -134,7 +134,7 @@ where
         limit: options.limit,
         shows,
     };
-    explore_scripts(alloc, &asked, output, faults)
+    explore_scripts(alloc, &asked, &mut output, faults)
 }
 
 /// What an audit is asked for. Of the sizes of the store it takes only the first two.
