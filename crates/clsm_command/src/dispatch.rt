@@ -52,7 +52,14 @@ where
     match options {
         Options::Script(config) => play(rt, alloc, config, streams),
         Options::Run(options) => call(rt, alloc, &options, streams.output, streams.faults),
-        Options::Audit(options) => audit_lines(alloc, asked(&options), streams),
+        Options::Audit(options) => {
+            let Streams {
+                input,
+                mut output,
+                faults,
+            } = streams;
+            audit_lines(alloc, asked(&options), input, &mut output, faults)
+        }
         Options::Explore(options) => try_orders(alloc, &options, streams.output, streams.faults),
     }
 }

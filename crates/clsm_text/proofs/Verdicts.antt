@@ -1,6 +1,8 @@
 -- The audit of the records that lines say.
 use Rattle.std.proofs.Common.{◌≡◌, ℕ, zero, suc, ◌<◌, List, [], ◌∷◌, length, get_or}
-use Rattle.std.proofs.Common.{IfSome, slice_get}
+use Rattle.std.proofs.Common.{IfSome, slice_get, Bool, true, Option, Some, None, ◌++◌, codes}
+use Rattle.std.specs.Io.KnownBytes.{Appends, Keeps}
+use Rattle.std.proofs.KnownBytes.{Appends-kept}
 use Rattle.std.proofs.Common.{sym, subst, arith}
 use Rattle.std.proofs.lemmas.List.{get_or_read}
 use Rattle.clsm_model.specs.declared.config.Config.{Config}
@@ -12,7 +14,10 @@ use Rattle.clsm_audit.specs.declared.fault.FaultKind.{FaultKind}
 use Rattle.clsm_audit.specs.declared.fault.FaultKind.TheVariants.{Unknown, TwoAtOneTime}
 use Rattle.clsm_audit.specs.declared.fault.FaultKind.TheVariants.{TimeRanBack, WrongReply}
 use Rattle.clsm_text.specs.Line.{lines_of}
-use Rattle.clsm_text.specs.Audit.{AreLawful, HasFaultOn, IsListOf, StandsOn}
+use Rattle.clsm_text.specs.Audit.{AreLawful, HasFaultOn, IsListOf, IsVerdict, PrintsFault, PrintsVerdict, StandsOn}
+use Rattle.clsm_text.specs.Audit.{status_of, verdict_text}
+use Rattle.clsm_text.specs.declared.audit.Verdict.{Verdict}
+use Rattle.clsm_text.specs.declared.audit.Verdict.TheVariants.{Lawful, Fault as VerdictFault}
 use Rattle.clsm_text.proofs.Lists.{get_inside}
 
 -- what fails at an index fails inside the list
@@ -64,3 +69,38 @@ module _ (config : Config) (bytes : List ℕ) (records : List CallRecord) (numbe
             (sym (get_or_read numbers index number early is 0))
             (list.stand index early);
       }
+
+-- ---- what is printed
+
+-- the verdict alone
+pub prints_plain : (history : Bool) (before after : Option (List ℕ)) (verdict : Verdict) →
+    Appends before after (verdict_text verdict ++ codes "\n") → PrintsVerdict history before after verdict
+prints_plain history before after Lawful printed = λ hidden. printed
+prints_plain history before after (VerdictFault kind number) printed = printed
+
+-- and a history behind it
+pub prints_history : (history : Bool) (before after : Option (List ℕ)) → history ≡ true →
+    PrintsVerdict history before after Lawful
+prints_history history before after asked = λ hidden. absurd (cc)
+
+-- it is given out
+pub prints_kept : (history : Bool) (before after kept : Option (List ℕ)) (verdict : Verdict) →
+    PrintsVerdict history before after verdict → Keeps after kept → PrintsVerdict history before kept verdict
+prints_kept history before after kept Lawful printed keeps =
+    λ hidden. Appends-kept before after kept _ (printed hidden) keeps
+prints_kept history before after kept (VerdictFault kind number) printed keeps =
+    Appends-kept before after kept _ printed keeps
+
+-- by the status it is known which verdict is printed
+pub prints_lawful : (history : Bool) (before after : Option (List ℕ)) (verdict : Verdict) →
+    PrintsVerdict history before after verdict → status_of verdict ≡ 0 → PrintsVerdict history before after Lawful
+prints_lawful history before after Lawful printed status = printed
+prints_lawful history before after (VerdictFault kind number) printed status = absurd (omega (arith, status))
+
+pub prints_fault : (config : Config) (input : Option (List ℕ)) (history : Bool) (before after : Option (List ℕ))
+    (verdict : Verdict) → IfSome input (λ bytes. IsVerdict config bytes verdict) →
+    PrintsVerdict history before after verdict → status_of verdict ≡ 2 → IfSome input (PrintsFault config before after)
+prints_fault config None history before after verdict is printed status = tt
+prints_fault config (Some bytes) history before after Lawful is printed status = absurd (omega (arith, status))
+prints_fault config (Some bytes) history before after (VerdictFault kind number) is printed status =
+    record { kind = kind; number = number; fault = is; printed = printed }

@@ -1,6 +1,7 @@
 -- The audit of the records that lines say.
-use Rattle.std.specs.Prelude.{◌≡◌, ℕ, ◌-◌, ◌<◌, ◌≤◌, ⊤, List, [], ◌∷◌, ◌++◌, codes, length, take}
+use Rattle.std.specs.Prelude.{◌≡◌, ℕ, ◌-◌, ◌<◌, ◌≤◌, ⊤, List, [], ◌∷◌, ◌++◌, Bool, codes, false, length, take}
 use Rattle.std.specs.Fmt.{decimal}
+use Rattle.std.specs.Io.KnownBytes.{Appends}
 use Rattle.std.specs.Prelude.{filter_map, slice_get, All, Contains, IfSome, IsSome, IsSomeAnd}
 use Rattle.std.specs.Prelude.{slice_index, slice_index_or, Option, Ok}
 use Rattle.std.specs.List.{AllZip}
@@ -46,10 +47,6 @@ pub record HasFaultOn (config : Config) (bytes : List ℕ) (kind : FaultKind) (n
   pub fault : IsFirstFault config (records_of said) kind index
   pub stands : StandsOn said index number
 
--- the lines say records of which one has a fault
-abbrev pub HasFault : Config → List ℕ → Type 0
-HasFault config bytes = (kind : FaultKind) × (number : ℕ) × HasFaultOn config bytes kind number
-
 -- the lines say these records, and beside each stands the number of its line
 pub record IsListOf (lines : List (List ℕ)) (records : List CallRecord) (numbers : List ℕ) :
     Type 0 where
@@ -69,6 +66,22 @@ IsVerdict config bytes (Fault kind number) = HasFaultOn config bytes kind number
 abbrev pub verdict_text : Verdict → List ℕ
 verdict_text Lawful = codes "audit ok"
 verdict_text (Fault kind number) = codes "audit fault " ++ name_of kind ++ codes " " ++ decimal number
+
+-- the verdict is printed as a line behind what the output held; behind `audit ok` a history stands if
+-- one is asked for
+abbrev pub PrintsVerdict : Bool → Option (List ℕ) → Option (List ℕ) → Verdict → Type 0
+PrintsVerdict history before after Lawful =
+    history ≡ false → Appends before after (verdict_text Lawful ++ codes "\n")
+PrintsVerdict history before after (Fault kind number) =
+    Appends before after (verdict_text (Fault kind number) ++ codes "\n")
+
+-- the lines say records of which one has a fault, and the first that has one is printed
+pub record PrintsFault (config : Config) (before after : Option (List ℕ)) (bytes : List ℕ) :
+    Type 0 where
+  pub kind : FaultKind
+  pub number : ℕ
+  pub fault : HasFaultOn config bytes kind number
+  pub printed : Appends before after (verdict_text (Fault kind number) ++ codes "\n")
 
 -- the line says nothing, or a record
 abbrev pub IsGood : List ℕ → Type 0

@@ -1,15 +1,15 @@
-ghost use Rattle.std.specs.Prelude.{◌≡◌, ℕ, ◌<◌, ◌^◌, List, length, vec_len, IfSome, IfOk, IfErr};
+ghost use Rattle.std.specs.Prelude.{◌≡◌, ℕ, ◌<◌, ◌^◌, List, length, vec_len, IfSome, IfOk, IfErr, OnOk};
 ghost use Rattle.clsm_text.specs.Failure.{IsOutside};
 ghost use Rattle.clsm_text.specs.Line.{lines_of};
 ghost use Rattle.clsm_text.specs.declared.failure.Failure.TheVariants.{Memory};
-ghost use Rattle.clsm_text.specs.Audit.{AreLawful, HasFault, IsListOf, IsStatus, IsVerdict};
+ghost use Rattle.clsm_text.specs.Audit.{AreLawful, IsListOf, IsStatus, IsVerdict, PrintsFault, PrintsVerdict};
+ghost use Rattle.clsm_text.specs.declared.audit.Verdict.TheVariants.{Lawful};
 ghost use Rattle.clsm_text.specs.Audit.{StopsLines, StopsAudit};
 
 use crate::failure::Failure;
 use crate::history::write_history;
 use crate::reason::write_reason;
 use crate::record::parse_record;
-use crate::streams::Streams;
 use clsm_audit::{AuditError, Explanation, FaultKind, audit, explain};
 use clsm_model::{CallRecord, Config};
 use std::alloc::Global;
@@ -87,21 +87,25 @@ struct Judged {
 /// status. Of the sizes the audit uses the seats and the cells: a record of another seat, or a
 /// batch of more members than cells, is `Unknown`. All records are kept, so memory limits how many
 /// there may be, and how long a line is.
-pub fn audit_lines<R, W, E>(alloc: Global, asked: AskedAudit, streams: Streams<R, W, E>) -> u8
+pub fn audit_lines<R, W, E>(
+    alloc: Global,
+    asked: AskedAudit,
+    input: R,
+    output: &mut W,
+    mut faults: E,
+) -> u8
 where
     R: Read + Drop,
-    W: Write + Drop,
+    W: Write,
     E: Write + Drop,
     ensures status { IsStatus result }
-    ensures lawful { result ≡ 0 → IfSome (R.remaining streams.input) (AreLawful asked.config) }
-    ensures fault { result ≡ 2 → IfSome (R.remaining streams.input) (HasFault asked.config) }
+    ensures lawful { result ≡ 0 → IfSome (R.remaining input) (AreLawful asked.config) }
+    ensures prints { result ≡ 0 →
+        PrintsVerdict asked.history (W.contents output.old) (W.contents output.new) Lawful }
+    ensures fault { result ≡ 2 → IfSome (R.remaining input)
+        (PrintsFault asked.config (W.contents output.old) (W.contents output.new)) }
 {
-    let Streams {
-        input,
-        mut output,
-        mut faults,
-    } = streams;
-    match print_verdict(alloc, &asked, input, &mut output, &mut faults) {
+    match print_verdict(alloc, &asked, input, output, &mut faults) {
         Ok(verdict) => verdict.status(),
         Err(failure) => {
             let _ = failure.report(&mut faults);
@@ -111,6 +115,7 @@ where
 }
 
 /// Audits an input, and prints the verdict, and on the faults why a fault is one.
+#[tactic(auto, using(crate::proofs::Verdicts::prints_kept))]
 fn print_verdict<R: Read + Drop, W: Write, E: Write>(
     alloc: Global,
     asked: &AskedAudit,
@@ -120,21 +125,39 @@ fn print_verdict<R: Read + Drop, W: Write, E: Write>(
 ) -> Result<Verdict, Failure>
     ensures verdict { IfOk result (λ verdict. IfSome (R.remaining input)
         (λ bytes. IsVerdict asked.now.config bytes verdict)) }
+    ensures prints { IfOk result
+        (PrintsVerdict asked.now.history (W.contents output.old) (W.contents output.new)) }
     ensures stopped { IfErr result (StopsAudit (R.remaining input)) }
 {
     let text = read_input(alloc, &mut input)?;
     let listed = list_records(alloc, &text)?;
     let judged = audit_records(alloc, &asked.config, &listed)?;
     let verdict = judged.verdict;
-    writeln!(output, "{verdict}")?;
-    if asked.history && matches!(verdict, Verdict::Lawful) {
-        write_history(alloc, output, &listed.records)?;
-    }
+    write_verdict(alloc, output, verdict, asked.history, &listed.records)?;
     output.flush()?;
     if let Some(explanation) = &judged.explanation {
         let _ = write_reason(faults, &listed, judged.index, explanation);
     }
     Ok(verdict)
+}
+
+/// Writes the verdict as a line, and behind `audit ok` the history of the records if it is asked for.
+#[tactic(auto, using(crate::proofs::Verdicts::prints_plain, crate::proofs::Verdicts::prints_history))]
+fn write_verdict<W: Write>(
+    alloc: Global,
+    output: &mut W,
+    verdict: Verdict,
+    history: bool,
+    records: &[CallRecord],
+) -> Result<(), Failure>
+    ensures prints { OnOk result (PrintsVerdict history (W.contents output.old) (W.contents output.new) verdict) }
+    ensures failed { IfErr result IsOutside }
+{
+    writeln!(output, "{verdict}")?;
+    match verdict {
+        Verdict::Lawful if history => write_history(alloc, output, records),
+        _ => Ok(()),
+    }
 }
 
 /// All bytes of an input.
