@@ -1,16 +1,34 @@
 //! Holds of the lock alone: a caller's for a batch, and the merger's for a freeze.
-ghost use Rattle.std.specs.Prelude.{◌≡◌, [], None, true, false};
+ghost use Rattle.std.specs.Prelude.{◌≡◌, [], None, OnErr, OnOk, true, false};
 ghost use Rattle.clsm_law.specs.declared.view.Mode.TheVariants.{Free, Exclusive};
 ghost use Rattle.clsm_law.specs.declared.step.Step.TheVariants.{LeaveExclusive};
 ghost use Rattle.clsm_law.specs.Merging.{is_clean, is_freeze_whole};
 ghost use Rattle.clsm_words.specs.Knowing.{HoldsAlone};
 ghost use Rattle.clsm_words.specs.Plays.{IsSeatOf, PlaysAsMerger};
-ghost use Rattle.clsm_lock.specs.Keeping.{EntersAlone, EntersExclusively, HoldsAloneAsMerger, Leaves};
+ghost use Rattle.clsm_lock.specs.Keeping.{EntersAlone, EntersExclusively, HoldsAloneAsMerger, Leaves, StaysOutMerger, WaitsOutside};
 
+use crate::sharing::Busy;
 use clsm_law::Answer;
 use clsm_words::{Pace, RawMerger, RawSeat, Words};
 use std::sync::Wait;
 use std::thread;
+
+/// Tries once to hold the lock alone: one exchange. It never waits. With `Ok` the seat holds the
+/// lock, in a hold in which it has looked at nothing yet: nobody else holds it, so no time is drawn
+/// and undecided. Refused with `Busy` where somebody held it; the seat is then as it was.
+pub fn try_lock_exclusive<P: Pace>(words: &Words<P>, seat: &mut RawSeat) -> Result<(), Busy>
+    requires of { IsSeatOf words.now seat.old }
+    requires free { seat.old.knows.view.mode ≡ Free }
+    ensures of { IsSeatOf words.now seat.new }
+    ensures entered { OnOk result (EntersExclusively seat.old.knows seat.new.knows) }
+    ensures alone { OnOk result (HoldsAlone seat.new.knows) }
+    ensures out { OnErr result (WaitsOutside seat.old.knows seat.new.knows) }
+{
+    match words.enter_exclusive(seat) {
+        Answer::Done => Ok(()),
+        _ => Err(Busy),
+    }
+}
 
 /// Holds the lock alone, and waits for that as long as it takes. The seat then holds the lock, in a
 /// hold in which it has looked at nothing yet: nobody else holds it, so no time is drawn and
@@ -23,7 +41,7 @@ pub fn lock_exclusive<P: Pace, R: Wait>(rt: &R, words: &Words<P>, seat: &mut Raw
     ensures alone { HoldsAlone seat.new.knows }
 {
     for _ in rt.forever() {
-        if words.enter_exclusive(seat) == Answer::Done {
+        if try_lock_exclusive(words, seat).is_ok() {
             return;
         }
         thread::yield_now();
@@ -45,6 +63,28 @@ pub fn unlock_exclusive<P: Pace>(words: &Words<P>, seat: &mut RawSeat)
     words.leave_exclusive(seat);
 }
 
+/// Tries once to hold the lock alone as the merger: one exchange. It never waits. Nothing is frozen
+/// then. With `Ok` no caller holds it while the merger does, so no time is drawn, and what each time
+/// came to is known to the merger. Refused with `Busy` where a caller held it; the merger is then as
+/// it was.
+pub fn try_lock_as_merger<P: Pace>(words: &Words<P>, merger: &mut RawMerger) -> Result<(), Busy>
+    requires of { IsSeatOf words.now merger.old }
+    requires clean { is_clean merger.old.knows.merger.phase ≡ true }
+    requires free { merger.old.knows.merger.exclusive ≡ false }
+    ensures of { IsSeatOf words.now merger.new }
+    ensures entered { OnOk result (EntersAlone merger.old.knows merger.new.knows) }
+    ensures alone { OnOk result (HoldsAloneAsMerger merger.new.knows) }
+    ensures out { OnErr result (StaysOutMerger merger.old.knows merger.new.knows) }
+{
+    match words.enter_as_merger(merger) {
+        Answer::Done => {
+            merger.show_invariant();
+            Ok(())
+        }
+        _ => Err(Busy),
+    }
+}
+
 /// Holds the lock alone as the merger, and waits for that as long as it takes. Nothing is frozen
 /// then. While the merger holds it no caller does (a clause of the law that the words keep), so no
 /// time is drawn, and what each time came to is known to the merger.
@@ -57,8 +97,7 @@ pub fn lock_as_merger<P: Pace, R: Wait>(rt: &R, words: &Words<P>, merger: &mut R
     ensures alone { HoldsAloneAsMerger merger.new.knows }
 {
     for _ in rt.forever() {
-        if words.enter_as_merger(merger) == Answer::Done {
-            merger.show_invariant();
+        if try_lock_as_merger(words, merger).is_ok() {
             return;
         }
         thread::yield_now();

@@ -5,5 +5,8 @@
 mod excluding;
 mod sharing;
 
-pub use excluding::{lock_as_merger, lock_exclusive, unlock_as_merger, unlock_exclusive};
+pub use excluding::{
+    lock_as_merger, lock_exclusive, try_lock_as_merger, try_lock_exclusive, unlock_as_merger,
+    unlock_exclusive,
+};
 pub use sharing::{Busy, lock_shared, try_lock_shared, unlock_shared};

@@ -1,5 +1,5 @@
 -- A sweep goes on from a part of it that was done.
-use Rattle.std.proofs.Common.{◌+◌, ℕ, ◌≤◌, Ok, Err, Result}
+use Rattle.std.proofs.Common.{◌∙◌, ◌+◌, ap, ℕ, ◌≤◌, Ok, Err, Result}
 use Rattle.std.specs.Prelude.{⊤}
 use Rattle.clsm_store_calls.specs.Looking.{LooksAtClock, drawn_of}
 use Rattle.clsm_store_calls.specs.Seats.{CleanState, FrozenState, RetiredState}
@@ -7,8 +7,10 @@ use Rattle.clsm_store.specs.declared.phase.Phase.{Phase}
 use Rattle.clsm_store.specs.declared.phase.Phase.TheVariants.{Clean, Frozen, Retired}
 use Rattle.clsm_store.specs.declared.sweeping.Stopped.{Stopped}
 use Rattle.clsm_store.specs.declared.sweeping.Stopped.TheVariants.{Worn, RunFull, Pinned}
-use Rattle.clsm_store.specs.Phase.{Freezes, Merges}
-use Rattle.clsm_store.specs.Sweeping.{SweepsClean, SweepsCleanIf, SweepsFrozen, SweepsRetired, done_of, enough}
+use Rattle.clsm_store.specs.declared.phase.TryFreezeError.{TryFreezeError}
+use Rattle.clsm_store.specs.declared.phase.TryFreezeError.TheVariants.{Busy as TryBusy, Worn as TryWorn}
+use Rattle.clsm_store.specs.Phase.{Freezes, Merges, RefusesFreeze}
+use Rattle.clsm_store.specs.Sweeping.{SweepsClean, SweepsCleanIf, SweepsFrozen, SweepsRetired, TrySweepsClean, done_of, enough, tried_of, unfrozen_of}
 
 -- the epoch is merged
 pub merged_on : (old : FrozenState) (retired : RetiredState) (new : Phase) (answer : Result ⊤ Stopped)
@@ -31,3 +33,15 @@ pub used_on : (used : ℕ) (old looked : CleanState) (new : Phase) (answer : Res
     → enough used looked ≤ drawn_of looked → SweepsClean looked new answer → SweepsCleanIf used old new (done_of answer)
 used_on used old looked new (Ok done) looks many swept = (looked, looks, many, swept)
 used_on used old looked new (Err stopped) looks many swept = (looked, looks, many, swept)
+
+-- the same where the lock is tried once
+pub tried_on : (used : ℕ) (old looked : CleanState) (new : Phase) (answer : Result ⊤ Stopped) → LooksAtClock old looked
+    → enough used looked ≤ drawn_of looked → SweepsClean looked new answer → TrySweepsClean used old new (tried_of answer)
+tried_on used old looked new (Ok done) looks many swept = (looked, looks, many, swept)
+tried_on used old looked new (Err stopped) looks many swept = (looked, looks, many, swept)
+
+-- and nothing was frozen
+pub unfrozen_on : (used : ℕ) (old looked new : CleanState) (error : TryFreezeError) → LooksAtClock old looked → enough used looked ≤ drawn_of looked
+    → RefusesFreeze looked new error → TrySweepsClean used old (Clean new) (unfrozen_of error)
+unfrozen_on used old looked new TryBusy looks many refuses = refuses ∙ ap (λ (s : CleanState). record s { clock = new.clock }) looks
+unfrozen_on used old looked new (TryWorn worn) looks many refuses = (looked, looks, many, refuses)

@@ -1,7 +1,7 @@
--- What an addition and a first write make of a key's old value.
-use Rattle.std.specs.Prelude.{ℕ, ◌+◌, ◌^◌, List, [], ◌∷◌, cond, nat_lt, Option, Some, None}
+-- What an addition, a first write and a replacement make of a key's old value.
+use Rattle.std.specs.Prelude.{◌≡◌, ◌≢◌, ℕ, ◌+◌, ◌^◌, List, [], ◌∷◌, cond, nat_lt, Option, Some, None}
 use Rattle.clsm_model.specs.declared.slot.Change.{Change}
-use Rattle.clsm_model.specs.declared.slot.Change.TheVariants.{Keep, Set}
+use Rattle.clsm_model.specs.declared.slot.Change.TheVariants.{Keep, Set, Remove}
 
 -- the word of the value plus another, where it has one word and the sum fits in 64 bits; of no
 -- value, that other
@@ -24,3 +24,13 @@ added old by = set_or_keep (word_sum old by)
 abbrev pub put_if_absent : Option (List ℕ) → List ℕ → Change
 put_if_absent None value = Set value
 put_if_absent (Some old) value = Keep
+
+-- the value is set, or the key is removed where there is none
+abbrev pub set_or_remove : Option (List ℕ) → Change
+set_or_remove None = Remove
+set_or_remove (Some value) = Set value
+
+-- where the old value is the expected one, the change makes the desired one of it; else it keeps it
+pub record Replaces (old expected desired : Option (List ℕ)) (change : Change) : Type 0 where
+  pub met : old ≡ expected → change ≡ set_or_remove desired
+  pub missed : old ≢ expected → change ≡ Keep

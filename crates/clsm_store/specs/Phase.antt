@@ -2,7 +2,8 @@
 use Rattle.std.specs.Prelude.{◌≡◌, ℕ, ◌+◌, ◌*◌, ◌^◌, ◌<◌, ⊤, List, replicate, None, Result, Ok, Err}
 use Rattle.clsm_law.specs.Merging.{unseen}
 use Rattle.clsm_law.specs.Views.{next_word}
-use Rattle.clsm_store_calls.specs.Seats.{MergerState}
+use Rattle.clsm_store_calls.specs.Looking.{LooksAtClock}
+use Rattle.clsm_store_calls.specs.Seats.{CleanState, MergerState}
 use Rattle.clsm_model.specs.declared.slot.Slot.{Slot}
 use Rattle.clsm_store_calls.specs.Agreeing.{AgreesWith}
 use Rattle.clsm_store_calls.specs.Merging.{IsRunFull, TakesFloor}
@@ -11,6 +12,8 @@ use Rattle.clsm_store.specs.declared.phase.Phase.{Phase}
 use Rattle.clsm_store.specs.declared.phase.Phase.TheVariants.{Clean, Frozen, Retired}
 use Rattle.clsm_store.specs.declared.phase.FreezeError.{FreezeError}
 use Rattle.clsm_store.specs.declared.phase.FreezeError.TheVariants.{NotClean, Worn}
+use Rattle.clsm_store.specs.declared.phase.TryFreezeError.{TryFreezeError}
+use Rattle.clsm_store.specs.declared.phase.TryFreezeError.TheVariants.{Busy as TryBusy, Worn as TryWorn}
 use Rattle.clsm_store.specs.declared.phase.MergeError.{MergeError}
 use Rattle.clsm_store.specs.declared.phase.MergeError.TheVariants.{NotFrozen as MergeNotFrozen, RunFull}
 use Rattle.clsm_store.specs.declared.phase.NotFrozen.{NotFrozen}
@@ -22,6 +25,12 @@ abbrev pub merger_in : Phase → MergerState
 merger_in (Clean clean) = clean.merger
 merger_in (Frozen frozen) = frozen.merger
 merger_in (Retired retired) = retired.merger
+
+-- a try to freeze was refused: a caller held the lock, and only the clock was looked at; or the next
+-- limit would pass 2^62
+abbrev pub RefusesFreeze : CleanState → CleanState → TryFreezeError → Type 0
+RefusesFreeze old new TryBusy = LooksAtClock old new
+RefusesFreeze old new (TryWorn _) = (new ≡ old) × (2 ^ 62 < (old.merger.merges + 2) * old.merger.store.layout.cells)
 
 -- where the merger is clean, the epoch is frozen under the lock, with the floor and the rounds of
 -- before, and with no time noted, as no round was made for it yet; or the next limit would pass 2^62;

@@ -7,12 +7,16 @@ use Rattle.clsm_store_calls.specs.Seats.{CleanState, FrozenState, RetiredState}
 use Rattle.clsm_store.specs.declared.phase.Phase.{Phase}
 use Rattle.clsm_store.specs.declared.phase.Phase.TheVariants.{Clean, Frozen, Retired}
 use Rattle.clsm_store.specs.declared.phase.FreezeError.TheVariants.{Worn as FreezeWorn}
+use Rattle.clsm_store.specs.declared.phase.TryFreezeError.{TryFreezeError}
+use Rattle.clsm_store.specs.declared.phase.TryFreezeError.TheVariants.{Busy as TryBusy, Worn as TryWorn}
 use Rattle.clsm_store.specs.declared.phase.MergeError.TheVariants.{RunFull as MergeFull}
 use Rattle.clsm_store.specs.declared.phase.ReclaimError.TheVariants.{Pinned as ReclaimPinned}
 use Rattle.clsm_store.specs.declared.sweeping.Stopped.{Stopped}
 use Rattle.clsm_store.specs.declared.sweeping.Stopped.TheVariants.{Worn, RunFull, Pinned}
 use Rattle.clsm_store.specs.declared.sweeping.Swept.{Swept}
 use Rattle.clsm_store.specs.declared.sweeping.Swept.TheVariants.{Done, Waited}
+use Rattle.clsm_store.specs.declared.sweeping.TrySwept.{TrySwept}
+use Rattle.clsm_store.specs.declared.sweeping.TrySwept.TheVariants.{Busy, Done as TryDone, Waited as TryWaited}
 use Rattle.clsm_store.specs.Phase.{Freezes, Merges, Reclaims}
 
 -- from a retired component on: a reclaim
@@ -79,3 +83,34 @@ SweepsIf used (Clean old) new answer = SweepsCleanIf used old new answer
 SweepsIf used old new (Ok Waited) = ⊥
 SweepsIf used old new (Ok Done) = Sweeps old new (Ok tt)
 SweepsIf used old new (Err stopped) = Sweeps old new (Err stopped)
+
+-- ---- the same sweep, which tries the lock once
+
+-- the answer where it did not wait and the lock was free
+abbrev pub tried_of : Result ⊤ Stopped → Result TrySwept Stopped
+tried_of (Ok _) = Ok TryDone
+tried_of (Err stopped) = Err stopped
+
+-- and where nothing was frozen
+abbrev pub unfrozen_of : TryFreezeError → Result TrySwept Stopped
+unfrozen_of TryBusy = Ok Busy
+unfrozen_of (TryWorn worn) = Err (Worn worn)
+
+-- a caller held the lock: but for looks at the clock the merger is as it was
+abbrev pub IsBusy : CleanState → Phase → Type 0
+IsBusy old (Clean new) = LooksAtClock old new
+IsBusy old _ = ⊥
+
+-- from where nothing is frozen: it waits, or finds the lock held, or sweeps
+abbrev pub TrySweepsClean : ℕ → CleanState → Phase → Result TrySwept Stopped → Type 0
+TrySweepsClean used old new (Ok TryWaited) = Waits used old new
+TrySweepsClean used old new (Ok Busy) = IsBusy old new
+TrySweepsClean used old new (Ok TryDone) = SweepsUsed used old new (Ok tt)
+TrySweepsClean used old new (Err stopped) = SweepsUsed used old new (Err stopped)
+
+-- what such a sweep comes to: in the other phases it takes no lock
+abbrev pub TrySweeps : ℕ → Phase → Phase → Result TrySwept Stopped → Type 0
+TrySweeps used (Clean old) new answer = TrySweepsClean used old new answer
+TrySweeps used old new (Ok TryDone) = Sweeps old new (Ok tt)
+TrySweeps used old new (Ok _) = ⊥
+TrySweeps used old new (Err stopped) = Sweeps old new (Err stopped)

@@ -7,6 +7,7 @@ ghost use Rattle.clsm_store_calls.specs.Looking.{FindsRoom};
 ghost use Rattle.clsm_store_calls.specs.Seats.{Answers, GivesUpForWrites, IsFull};
 ghost use Rattle.clsm_store_calls.specs.Tally.{CancelsNone, CountsTry, TakesLockOnce, TakesNoLock};
 ghost use Rattle.clsm_store_calls.specs.Trying.{RefusesTry};
+ghost use Rattle.clsm_store_calls.specs.TryingChange.{CountsTryChange};
 
 use crate::seat::Seat;
 use crate::store::Store;
@@ -14,7 +15,7 @@ use clsm_model::{Change, Time, Value};
 use clsm_pins::close_snapshot;
 use clsm_store_calls::{
     BatchError, Full, Got, Modification, Open, OpenSnapshot, Rmw, TryPutError, batch, change,
-    open_at, read, read_under, room_at, try_write, write,
+    open_at, pin_after, read, read_under, room_at, try_change, try_write, write,
 };
 use clsm_words::Pace;
 use std::sync::Wait;
@@ -87,7 +88,18 @@ impl<P: Pace> Store<P> {
         ensures counts { CountsTry seat.old.tally seat.new.tally result }
         ensures refused { IfErr result (RefusesTry seat.old seat.new) }
     {
-        try_write(&self.words, &mut seat.raw, key, value)
+        try_write(&self.words, &mut seat.raw, key, &Some(value))
+    }
+
+    /// Removes the key as `remove`, but tries each exchange once and never waits. Refused as
+    /// `try_put`.
+    pub fn try_remove(&self, seat: &mut Seat, key: u64) -> Result<Time, TryPutError>
+        requires { seat.old.store ≡ self.now }
+        ensures written { IfOk result (λ time. Answers seat.old seat.new time (Remove key)) }
+        ensures counts { CountsTry seat.old.tally seat.new.tally result }
+        ensures refused { IfErr result (RefusesTry seat.old seat.new) }
+    {
+        try_write(&self.words, &mut seat.raw, key, &None)
     }
 
     /// The value of the key at a time of the read's own, which is the clock as the read found it:
@@ -129,6 +141,30 @@ impl<P: Pace> Store<P> {
         let modification = Modification { key, f };
         let answer = change(rt, &self.words, &mut seat.raw, seat.pin, &modification);
         seat.pin = seat.pin.wrapping_add(2);
+        answer
+    }
+
+    /// Reads the key, and makes of its value what the function answers to it, as `rmw`, but asks the
+    /// function once, tries each exchange once and never waits. Refused as `try_put`, and with
+    /// `Raced` also if another seat wrote the key between the read and the write: nothing was written
+    /// then. After `Raced` and `Overtaken` a time that it had drawn is given up. Its read may cancel
+    /// times of others, as `get`.
+    pub fn try_rmw<F: Fn(Option<Value>) -> Change>(
+        &self,
+        seat: &mut Seat,
+        key: u64,
+        f: &F,
+    ) -> Result<Rmw, TryPutError>
+        requires of { seat.old.store ≡ self.now }
+        requires callable { F.IsAlwaysCallable f.now }
+        ensures changed { IfOk result (λ rmw. Answers seat.old seat.new rmw.time (ChangeOf key rmw.old rmw.change)) }
+        ensures answered { IfOk result (λ rmw. F.post f.now rmw.old rmw.change) }
+        ensures counts { CountsTryChange seat.old seat.new key result }
+        ensures refused { IfErr result (RefusesTry seat.old seat.new) }
+    {
+        let modification = Modification { key, f };
+        let answer = try_change(&self.words, &mut seat.raw, seat.pin, &modification);
+        seat.pin = pin_after(seat.pin, &answer);
         answer
     }
 

@@ -5,6 +5,7 @@ mod binding;
 mod caller;
 mod calls;
 mod changes;
+mod freezing;
 mod many;
 mod meet;
 pub mod merger;
@@ -20,7 +21,7 @@ mod telling;
 
 pub use binding::Bound;
 pub use caller::Caller;
-pub use changes::{added, put_if_absent};
+pub use changes::{added, put_if_absent, replaced};
 pub use clsm_law::{Part, Word};
 pub use clsm_model::{
     CallRecord, Change, Config, Deal, Deed, Length, Members, Memory, OpenError, PageRange, Rows,
@@ -31,11 +32,12 @@ pub use clsm_store_calls::{
     BatchError, Counted, Full, Got, Open, Page, Pinned, Rmw, Scan, TryPutError, Worn,
 };
 pub use clsm_words::{Free, Kind, Pace};
+pub use freezing::TryFroze;
 pub use merger::{Clean, Frozen, Merger, Retired};
 pub use opening::{Opened, open, open_paced};
 pub use pages::Pages;
-pub use phase::{FreezeError, MergeError, NotFrozen, Phase, ReclaimError};
+pub use phase::{FreezeError, MergeError, NotFrozen, Phase, ReclaimError, TryFreezeError};
 pub use play::{Answer, Call};
 pub use seat::Seat;
 pub use store::Store;
-pub use sweeping::{Stopped, Swept};
+pub use sweeping::{Stopped, Swept, TrySwept};

@@ -33,6 +33,17 @@ pub enum FreezeError {
     Worn(Worn),
 }
 
+/// Why `try_freeze` froze no epoch. The token is then as it was.
+#[derive(Clone, Copy, PartialEq, Eq, Debug, Error)]
+pub enum TryFreezeError {
+    /// A caller held the lock.
+    #[error("busy")]
+    Busy,
+    /// The next limit would pass 2^62.
+    #[error(transparent)]
+    Worn(Worn),
+}
+
 /// Why no seat was met: no epoch is frozen.
 #[derive(Clone, Copy, PartialEq, Eq, Debug, Error)]
 #[error("not frozen")]

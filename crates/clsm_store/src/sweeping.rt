@@ -1,10 +1,10 @@
 //! The merger's sweep: it freezes, merges and reclaims, from the phase in which the merger is.
 ghost use Rattle.std.specs.Prelude.{◌≡◌};
 ghost use Rattle.clsm_store.specs.Phase.{merger_in};
-ghost use Rattle.clsm_store.specs.Sweeping.{Sweeps, SweepsClean, SweepsCleanIf, SweepsFrozen, SweepsIf, SweepsRetired, done_of};
+ghost use Rattle.clsm_store.specs.Sweeping.{Sweeps, SweepsClean, SweepsCleanIf, SweepsFrozen, SweepsIf, SweepsRetired, TrySweeps, TrySweepsClean, done_of, tried_of, unfrozen_of};
 
 use crate::merger::{Clean, Frozen, Retired};
-use crate::phase::Phase;
+use crate::phase::{Phase, TryFreezeError};
 use crate::store::Store;
 use clsm_runs::RunFull;
 use clsm_store_calls::{Pinned, Worn};
@@ -34,6 +34,17 @@ pub enum Swept {
     Done,
     /// It found too few timestamps of the epoch drawn, and did nothing.
     Waited,
+}
+
+/// What a sweep did that tries the lock once.
+#[derive(Clone, Copy, PartialEq, Eq, Debug)]
+pub enum TrySwept {
+    /// It went on to the end: nothing is frozen or retired.
+    Done,
+    /// It found too few timestamps of the epoch drawn, and did nothing.
+    Waited,
+    /// A caller held the lock: no epoch was frozen.
+    Busy,
 }
 
 /// Gives the retired component up.
@@ -141,6 +152,75 @@ pub(crate) fn sweep_if_used<P: Pace + Drop, R: Wait>(
         Phase::Retired(retired) => {
             let (phase, answer) = sweep_retired(store, retired);
             (phase, done(answer))
+        }
+    }
+}
+
+/// The answer of a sweep that found the lock free.
+fn tried(answer: Result<(), Stopped>) -> Result<TrySwept, Stopped>
+    ensures { result ≡ tried_of answer }
+{
+    match answer {
+        Ok(()) => Ok(TrySwept::Done),
+        Err(stopped) => Err(stopped),
+    }
+}
+
+/// The answer of a sweep that froze nothing.
+fn unfrozen(error: TryFreezeError) -> Result<TrySwept, Stopped>
+    ensures { result ≡ unfrozen_of error }
+{
+    match error {
+        TryFreezeError::Busy => Ok(TrySwept::Busy),
+        TryFreezeError::Worn(worn) => Err(Stopped::Worn(worn)),
+    }
+}
+
+/// As `sweep_clean_if`, but tries the lock once.
+fn try_sweep_clean<P: Pace + Drop>(
+    store: &Store<P>,
+    mut clean: Clean,
+    used: u64,
+) -> (Phase, Result<TrySwept, Stopped>)
+    requires { clean.merger.store ≡ store.now }
+    ensures sweeps { TrySweepsClean used clean result.0 result.1 }
+    ensures store { (merger_in result.0).store ≡ store.now }
+{
+    let enough = used.min(store.words.cells());
+    if clean.drawn(store) < enough {
+        return (Phase::Clean(clean), Ok(TrySwept::Waited));
+    }
+    match clean.try_freeze(store) {
+        Ok(frozen) => {
+            let (phase, answer) = sweep_frozen(store, frozen);
+            (phase, tried(answer))
+        }
+        Err((clean, error)) => (Phase::Clean(clean), unfrozen(error)),
+    }
+}
+
+impl Phase {
+    /// As `Merger::sweep_if_used`, but it tries the lock once and never waits: it answers `Busy` if
+    /// a caller held the lock. No epoch was frozen then.
+    pub fn try_sweep_if_used<P: Pace + Drop>(
+        self,
+        store: &Store<P>,
+        used: u64,
+    ) -> (Phase, Result<TrySwept, Stopped>)
+        requires { (merger_in self).store ≡ store.now }
+        ensures sweeps { TrySweeps used self result.0 result.1 }
+        ensures store { (merger_in result.0).store ≡ store.now }
+    {
+        match self {
+            Phase::Clean(clean) => try_sweep_clean(store, clean, used),
+            Phase::Frozen(frozen) => {
+                let (phase, answer) = sweep_frozen(store, frozen);
+                (phase, tried(answer))
+            }
+            Phase::Retired(retired) => {
+                let (phase, answer) = sweep_retired(store, retired);
+                (phase, tried(answer))
+            }
         }
     }
 }

@@ -19,7 +19,7 @@ does_later a b c component key t o (Set words) h does = records_later a b c t (R
 does_later a b c component key t o Remove h does = records_later a b c t (Rmw key o Remove) h does
 
 -- a record of a change that keeps nothing is that change
-does_by : (a c : Known) (component key t : ℕ) (o : Option (List ℕ)) (change : Change) → is_keep change ≡ false → Records a c t (Rmw key o change)
+pub does_by : (a c : Known) (component key t : ℕ) (o : Option (List ℕ)) (change : Change) → is_keep change ≡ false → Records a c t (Rmw key o change)
     → Does change a c component key t o
 does_by a c component key t o Keep ne records = absurd cc
 does_by a c component key t o (Set words) ne records = records

@@ -1,5 +1,6 @@
 -- A whole read-modify-write from its parts.
-use Rattle.std.proofs.Common.{◌≡◌, ℕ, ◌+◌, ◌++◌, ◌∷◌, [], List, refl, ap, ◌∙◌, arith, append-nil, Option, Ok, Err, Result, IfOk}
+use Rattle.std.proofs.Common.{◌≡◌, ℕ, ◌+◌, ◌++◌, ◌∷◌, [], List, length, max, refl, sym, ap, subst, ◌∙◌, arith, append-nil, Option, None, Ok, Err, Result, IfOk, IfErr}
+use Rattle.clsm_model.specs.declared.slot.Slot.{Slot}
 use Rattle.clsm_model.specs.declared.slot.Change.{Change}
 use Rattle.clsm_model.specs.declared.slot.Change.TheVariants.{Keep, Set, Remove}
 use Rattle.clsm_model.specs.History.{IsBeginning}
@@ -9,7 +10,7 @@ use Rattle.clsm_model.specs.declared.record.CallRecord.{CallRecord}
 use Rattle.clsm_law.specs.declared.view.View.{View}
 use Rattle.clsm_law.specs.declared.step.End.{End}
 use Rattle.clsm_law.specs.declared.step.End.TheVariants.{Neither, Recorded}
-use Rattle.clsm_law.specs.Views.{or_zero}
+use Rattle.clsm_law.specs.Views.{next_word, or_zero}
 use Rattle.clsm_law.specs.Relation.{call_of, ended_snapshot}
 use Rattle.clsm_words.specs.declared.known.Known.{Known}
 use Rattle.clsm_words.specs.Knowing.{known_of}
@@ -18,9 +19,14 @@ use Rattle.clsm_words.specs.Keeping.{KeepsPast}
 use Rattle.clsm_lock.specs.Keeping.{Enters, Leaves}
 use Rattle.clsm_pins.specs.Pinning.{Pins, Unpins}
 use Rattle.clsm_store_calls.specs.declared.got.Rmw.{Rmw as Answered}
-use Rattle.clsm_store_calls.specs.declared.refusal.Full.{Full as Refusal}
-use Rattle.clsm_store_calls.specs.Resting.{IsAtRest, Keeps, Records}
-use Rattle.clsm_store_calls.specs.Changing.{ChangesAt, Does, IsSameSeat, read_end}
+use Rattle.clsm_store_calls.specs.declared.refusal.TryPutError.{TryPutError}
+use Rattle.clsm_store_calls.specs.declared.refusal.TryPutError.TheVariants.{Full, Busy, Raced, Overtaken}
+use Rattle.clsm_store_calls.specs.Resting.{FindsFull, IsAtRest, Keeps, Records, Still}
+use Rattle.clsm_store_calls.specs.Changing.{ChangesAt, Does, EndsFull, IsSameSeat, IsWrittenFrom, read_end}
+use Rattle.clsm_store_calls.specs.Tally.{HasRead, Tally, counted, tally_of}
+use Rattle.clsm_store_calls.specs.Trying.{Fails}
+use Rattle.clsm_store_calls.specs.TryingChange.{CountsChange, CountsChangeInHold, EndsRefused, EndsUnmade, IsWrittenSince}
+use Rattle.clsm_store_calls.proofs.TriedChange.{counts_later, counts_whole}
 use Rattle.clsm_store_calls.proofs.Rest.{same_past, stays_open}
 
 module _ (a b c d e f : Known) (component key : ℕ) (rests : IsAtRest a) (enters : Enters a b) (pins : Pins b c component) (leaves : Leaves e f) where
@@ -77,7 +83,7 @@ module _ (a b c d e f : Known) (component key : ℕ) (rests : IsAtRest a) (enter
 
   -- the change as a whole
   pub changed : (change : Change) (t : ℕ) (o : Option (List ℕ)) → Does change c d component key t o
-      → Unpins d e (read_end key (Ok (record { time = t; old = o; change = change }))) → ChangesAt a f t key o change
+      → Unpins d e (read_end {E = TryPutError} key (Ok (record { time = t; old = o; change = change }))) → ChangesAt a f t key o change
   changed Keep t o (still, reads) unpins = record {
     same = kept still.keeps (Recorded (Rmw key o Keep)) unpins;
     calls = ap (λ (v : View). v.calls) leaves.view ∙ ap (λ (v : View). v.calls) unpins.view
@@ -90,7 +96,61 @@ module _ (a b c d e f : Known) (component key : ℕ) (rests : IsAtRest a) (enter
   changed (Set words) t o records unpins = written (Set words) t o records unpins refl
   changed Remove t o records unpins = written Remove t o records unpins refl
 
-  pub changed_if : (answer : Result Answered Refusal) → IfOk answer (λ rmw. Does rmw.change c d component key rmw.time rmw.old)
+  pub changed_if : {E : Type 0} → (answer : Result Answered E) → IfOk answer (λ rmw. Does rmw.change c d component key rmw.time rmw.old)
       → Unpins d e (read_end key answer) → IfOk answer (λ rmw. ChangesAt a f rmw.time key rmw.old rmw.change)
   changed_if (Ok rmw) does unpins = changed rmw.change rmw.time rmw.old does unpins
-  changed_if (Err full) does unpins = tt
+  changed_if (Err refusal) does unpins = tt
+
+  -- no call was made in the hold
+  unmade : Still c d → Unpins d e Neither → EndsUnmade a f
+  unmade still unpins = record {
+    same = kept still.keeps Neither unpins;
+    calls = ap (λ (v : View). v.calls) leaves.view ∙ ap (λ (v : View). v.calls) unpins.view ∙ append-nil d.view.calls ∙ still.calls ∙ calls;
+    due = ap (λ (v : View). v.due) leaves.view ∙ ap (λ (v : View). v.due) unpins.view ∙ still.due ∙ due;
+  }
+
+  -- the clock was found at the limit in it
+  full : (t : ℕ) → d.view.entries ≡ c.view.entries → FindsFull c d t → Unpins d e Neither → EndsFull a f t
+  full t entries finds unpins = let made = unmade finds.still unpins in record {
+    same = made.same;
+    calls = made.calls;
+    due = made.due;
+    entered = ap (λ (v : View). v.entries) leaves.view ∙ ap (λ (v : View). v.entries) unpins.view ∙ entries ∙ ap (λ (v : View). v.entries) pins.view
+        ∙ ap (λ (v : View). v.entries) enters.view;
+    limit = ap (λ (v : View). v.hold_limit) leaves.view ∙ ap (λ (v : View). v.hold_limit) unpins.view ∙ finds.limit;
+    clock = ap (λ (v : View). v.hold_clock) leaves.view ∙ ap (λ (v : View). v.hold_clock) unpins.view ∙ finds.clock;
+  }
+
+  refused : (error : TryPutError) → d.view.entries ≡ c.view.entries → Fails c d error → Unpins d e Neither → EndsRefused a f error
+  refused (Full t) entries fails unpins = full t entries fails unpins
+  refused Busy entries fails unpins = unmade fails unpins
+  refused Raced entries fails unpins = unmade fails unpins
+  refused Overtaken entries fails unpins = unmade fails unpins
+
+  pub refused_if : (answer : Result Answered TryPutError) → d.view.entries ≡ c.view.entries → IfErr answer (Fails c d) → Unpins d e (read_end key answer)
+      → IfErr answer (EndsRefused a f)
+  refused_if (Ok rmw) entries fails unpins = tt
+  refused_if (Err error) entries fails unpins = refused error entries fails unpins
+
+  -- what a try counts
+  abbrev entered : Tally
+  entered = record (tally_of a) { entries = next_word a.view.entries }
+
+  entered_by : b.view.busy ≡ a.view.busy → tally_of c ≡ record entered { limit = None; clock = None }
+  entered_by busy = ap counted pins.view ∙ ap counted enters.view ∙ ap (λ (n : ℕ). record entered { busy = n; limit = None; clock = None }) busy
+
+  has_read : b.view.busy ≡ a.view.busy → HasRead entered (tally_of c)
+  has_read busy = let same = entered_by busy in
+      same ∙ ap (λ (t : Tally). record entered { limit = t.limit; clock = t.clock; cancelled = t.cancelled }) (sym same)
+
+  pub counts_if : (answer : Result Answered TryPutError) → (end : End) → b.view.busy ≡ a.view.busy → Unpins d e end
+      → CountsChangeInHold (IsWrittenSince c d key) (tally_of c) (tally_of d) answer → CountsChange (IsWrittenSince a f key) (tally_of a) (tally_of f) answer
+  counts_if answer end busy unpins counts =
+      let same : tally_of f ≡ tally_of d = ap counted leaves.view ∙ ap counted unpins.view in
+      let told : c.past ≡ a.past = pins.keeps.past ∙ enters.place.past in
+      let behind : f.past ≡ d.past = leaves.place.past ∙ unpins.keeps.past in
+      let more : IsWrittenSince c d key → IsWrittenSince a f key =
+      subst (λ (y : List Slot × List Slot × ℕ). IsWrittenFrom y.0 key (max y.2 (length y.1))) (λ i. (sym behind i, told i, due i)) in
+      counts_whole (IsWrittenSince a f key) (tally_of a) (tally_of f) answer
+      (subst (λ (t : Tally). CountsChangeInHold (IsWrittenSince a f key) entered t answer) (sym same)
+      (counts_later (IsWrittenSince c d key) (IsWrittenSince a f key) entered (tally_of c) (tally_of d) (has_read busy) more answer counts))

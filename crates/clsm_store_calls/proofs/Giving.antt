@@ -70,7 +70,7 @@ given_up_once a b c key from same past (inl both) is = inr (both.0 ∙ ap next_w
 given_up_once a b c key from same past (inr both) is = inl (both.0 ∙ same)
 
 -- what stands from a time on stands from an earlier one on
-earlier : (slots : List Slot) (key from below : ℕ) → below ≤ from → IsWrittenFrom slots key from → IsWrittenFrom slots key below
+pub earlier : (slots : List Slot) (key from below : ℕ) → below ≤ from → IsWrittenFrom slots key from → IsWrittenFrom slots key below
 earlier slots key from below le is = record {
   time = is.time;
   above = let x = is.above in omega arith;

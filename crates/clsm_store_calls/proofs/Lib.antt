@@ -6,6 +6,7 @@ pub mod Giving
 pub mod DrawsAgain
 pub mod Attempts
 pub mod Changed
+pub mod TriedChange
 pub mod LastTimes
 pub mod Quiet
 pub mod Cleaning

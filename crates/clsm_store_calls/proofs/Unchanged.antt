@@ -5,6 +5,10 @@ use Rattle.std.proofs.lemmas.List.{get_or_append_left}
 use Rattle.std.proofs.lemmas.Option.{cond_some}
 use Rattle.clsm_model.specs.declared.slot.Slot.{Slot}
 use Rattle.clsm_model.specs.declared.slot.Slot.TheVariants.{Nothing, Wrote}
+use Rattle.clsm_model.specs.declared.record.Deed.{Deed}
+use Rattle.clsm_model.specs.declared.record.Deed.TheVariants.{Rmw}
+use Rattle.clsm_model.specs.Right.{IsRight}
+use Rattle.clsm_law.specs.OpenSteps.{IsReadBelow}
 use Rattle.clsm_model.specs.History.{History, Write, left_by, newest, or_else, plain, slot_at, value, write_of}
 use mathlib.Core.List.{IsPrefix}
 use Rattle.clsm_model.proofs.Histories.{value-same}
@@ -68,3 +72,12 @@ value_later a b c key s e begins le = sym (value-same (plain a) (plain c) key s 
     ap (λ (l : List Slot). get_or l t Nothing) (sym begins.1) ∙ get_or_append_left b begins.0 Nothing t
     (let n = ap (λ (l : List Slot). length l) e in omega arith)
     ∙ ap (λ (l : List Slot). get_or l t Nothing) e))
+
+-- what was read stays so, as long as the past does
+pub read_on : (k k' : Known) (t : ℕ) (deed : Deed) → k'.past ≡ k.past → k'.view.past ≡ k.view.past → IsReadBelow (plain k.past) k.view t deed
+    → IsReadBelow (plain k'.past) k'.view t deed
+read_on k k' t (Rmw key old change) past same read = (
+  let before = read.0 in omega arith,
+  subst (λ (l : List Slot). IsRight (plain l) t (Rmw key old change)) (sym past) read.1,
+)
+read_on k k' t deed past same read = tt

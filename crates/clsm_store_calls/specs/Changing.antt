@@ -21,7 +21,6 @@ use Rattle.clsm_words.specs.Keeping.{KeepsPlace}
 use Rattle.clsm_memtable.specs.declared.cell_state.Decided.{Decided}
 use Rattle.clsm_memtable.specs.declared.cell_state.Decided.TheVariants.{Done, Overtaken}
 use Rattle.clsm_store_calls.specs.declared.got.Rmw.{Rmw as Answered}
-use Rattle.clsm_store_calls.specs.declared.refusal.Full.{Full as Refusal}
 use Rattle.clsm_store_calls.specs.declared.changing.Modified.{Modified}
 use Rattle.clsm_store_calls.specs.declared.changing.ChangeAttempt.{ChangeAttempt}
 use Rattle.clsm_store_calls.specs.declared.changing.ChangeAttempt.TheVariants.{Done as Finished, Full, Lost}
@@ -176,9 +175,9 @@ IsAnsweredBy post _ = Unit {0}
 -- ---- the whole call
 
 -- how its read ends
-abbrev pub read_end : ℕ → Result Answered Refusal → End
+abbrev pub read_end : {E : Type 0} → ℕ → Result Answered E → End
 read_end key (Ok rmw) = cond (is_keep rmw.change) (Recorded (Rmw key rmw.old rmw.change)) Neither
-read_end key (Err full) = Neither
+read_end key (Err refusal) = Neither
 
 -- it is the seat that it was, with the snapshot that it had, and its past only grew
 pub record IsSameSeat (old new : Known) : Type 0 where

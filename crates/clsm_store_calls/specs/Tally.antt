@@ -61,6 +61,11 @@ tally_of k = counted k.view
 abbrev pub looked : Tally → Tally → Tally
 looked old new = record old { limit = new.limit; clock = new.clock }
 
+-- it read in a hold of the lock: it may have cancelled times of others, each after as many looks as
+-- its patience says
+abbrev pub HasRead : Tally → Tally → Type 0
+HasRead old new = new ≡ record (looked old new) { cancelled = new.cancelled }
+
 -- it lost a race, and gave up its time where it had drawn one, unless a reader had cancelled that
 -- first
 pub record IsRaced (old new : Tally) : Type 0 where

@@ -11,6 +11,7 @@ ghost use Rattle.clsm_law.specs.declared.view.Mode.TheVariants.{Shared};
 ghost use Rattle.clsm_words.specs.Keeping.{OnlyReads};
 ghost use Rattle.clsm_words.specs.Plays.{IsSeatOf};
 ghost use Rattle.clsm_store_calls.specs.Resting.{FindsFull, IsAtRest, Still};
+ghost use Rattle.clsm_store_calls.specs.Tally.{HasRead, tally_of};
 ghost use Rattle.clsm_memtable.specs.Settled.{MaySettleBelow};
 ghost use Rattle.clsm_memtable.specs.Writing.{IsUnnoted};
 ghost use Rattle.clsm_store_calls.specs.Changing.{TriesChange, ChangesAt, Does, DrawsAtLast, EndsDraw, EndsFull, GivesUpFor, GivesUpOnce, IsAnsweredBy};
@@ -43,18 +44,18 @@ pub struct Modification<'a, F> {
 /// A change whose write is to come: the key, what was read of it and is made of that, and the value
 /// that it sets, or none for a removal.
 #[derive(Clone, Copy)]
-struct Modified {
-    key: u64,
-    read: Rmw,
-    value: Option<Value>,
+pub(crate) struct Modified {
+    pub(crate) key: u64,
+    pub(crate) read: Rmw,
+    pub(crate) value: Option<Value>,
 }
 
 /// A key, and the times from `from` on and below `until`.
 #[derive(Clone, Copy)]
-struct Span {
-    key: u64,
-    from: Time,
-    until: Time,
+pub(crate) struct Span {
+    pub(crate) key: u64,
+    pub(crate) from: Time,
+    pub(crate) until: Time,
 }
 
 /// What came of one try to change a key.
@@ -68,7 +69,7 @@ pub(crate) enum ChangeAttempt {
 }
 
 /// The read-modify-write with this answer.
-fn deed_of(key: u64, rmw: &Rmw) -> Deed
+pub(crate) fn deed_of(key: u64, rmw: &Rmw) -> Deed
     ensures { result ≡ ChangeOf key rmw.now.old rmw.now.change }
 {
     let old = rmw.old;
@@ -77,14 +78,14 @@ fn deed_of(key: u64, rmw: &Rmw) -> Deed
 }
 
 /// What the function answers to the old value.
-fn ask<F: Fn(Option<Value>) -> Change>(f: &F, old: &Option<Value>) -> Change
+pub(crate) fn ask<F: Fn(Option<Value>) -> Change>(f: &F, old: &Option<Value>) -> Change
     requires { F.IsAlwaysCallable f.now }
     ensures { F.post f.now old.now result }
 {
     f(*old)
 }
 
-fn is_keep(change: &Change) -> bool
+pub(crate) fn is_keep(change: &Change) -> bool
     ensures { result ≡ is_keep change.now }
 {
     matches!(change, Change::Keep)
@@ -101,14 +102,18 @@ pub(crate) fn value_set(change: &Change) -> Option<Value>
 }
 
 /// The value of the key at the clock, below which all is settled.
-fn value_now<P: Pace>(words: &Words<P>, seat: &mut RawSeat, component: u64, key: u64) -> Got
+pub(crate) fn value_now<P: Pace>(
+    words: &Words<P>,
+    seat: &mut RawSeat,
+    component: u64,
+    key: u64,
+) -> Got
     requires of { IsSeatOf words.now seat.old }
     requires pinned { IsPinnedInHold seat.old.knows component }
     ensures of { IsSeatOf words.now seat.new }
     ensures stays { StaysPinned seat.old.knows seat.new.knows component }
     ensures still { Still seat.old.knows seat.new.knows }
-    ensures spared { seat.new.knows.view.gave_up ≡ seat.old.knows.view.gave_up }
-    ensures lost { seat.new.knows.view.overtaken ≡ seat.old.knows.view.overtaken }
+    ensures counts { HasRead (tally_of seat.old.knows) (tally_of seat.new.knows) }
     ensures reads { ReadsNow seat.new.knows component key result.time result.value }
     ensures beyond { length seat.old.knows.past ≤ result.time }
 {
@@ -120,7 +125,12 @@ fn value_now<P: Pace>(words: &Words<P>, seat: &mut RawSeat, component: u64, key:
 }
 
 /// Settles all below the span's end, and answers whether no write of its key is in it.
-fn is_unchanged<P: Pace>(words: &Words<P>, seat: &mut RawSeat, component: u64, span: Span) -> bool
+pub(crate) fn is_unchanged<P: Pace>(
+    words: &Words<P>,
+    seat: &mut RawSeat,
+    component: u64,
+    span: Span,
+) -> bool
     requires of { IsSeatOf words.now seat.old }
     requires may { MaySettleBelow seat.old.knows component span.until }
     requires merged { component * seat.old.knows.layout.cells ≤ span.from }
@@ -273,7 +283,7 @@ impl<'a, P: Pace, R: Wait> Site<'a, P, R> {
 
 /// How the read under a read-modify-write ends: with its record where the key was kept, else with
 /// none, since its write has it.
-fn read_end(key: u64, answer: &Result<Rmw, Full>) -> End
+pub(crate) fn read_end<E>(key: u64, answer: &Result<Rmw, E>) -> End
     ensures { result ≡ read_end key answer.now }
 {
     match answer {

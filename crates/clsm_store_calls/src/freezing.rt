@@ -1,13 +1,14 @@
 //! The freeze of an epoch.
-ghost use Rattle.std.specs.Prelude.{◌≡◌, ◌+◌, ◌*◌, ◌^◌, ◌≤◌, true};
+ghost use Rattle.std.specs.Prelude.{◌≡◌, ◌+◌, ◌*◌, ◌^◌, ◌≤◌, OnErr, OnOk, true};
 ghost use Rattle.clsm_law.specs.Merging.{epoch_end};
 ghost use Rattle.clsm_law.specs.Views.{next_word};
 ghost use Rattle.clsm_words.specs.Merging.{facts_known};
 ghost use Rattle.clsm_words.specs.Plays.{IsSeatOf};
-ghost use Rattle.clsm_store_calls.specs.Freezing.{HoldsOn, IsClean, IsFrozen};
+ghost use Rattle.clsm_lock.specs.Keeping.{StaysOutMerger};
+ghost use Rattle.clsm_store_calls.specs.Freezing.{HoldsClean, HoldsOn, IsClean, IsFrozen};
 
 use clsm_law::Word;
-use clsm_lock::{lock_as_merger, unlock_as_merger};
+use clsm_lock::{Busy, lock_as_merger, try_lock_as_merger, unlock_as_merger};
 use clsm_words::{Pace, RawMerger, Words};
 use std::sync::Wait;
 
@@ -27,6 +28,24 @@ fn pad<P: Pace>(words: &Words<P>, merger: &mut RawMerger, merges: u64, end: u64)
     }
 }
 
+/// Freezes the epoch in the merger's hold of the lock, and leaves that.
+fn freeze_held<P: Pace>(words: &Words<P>, merger: &mut RawMerger, merges: u64)
+    requires of { IsSeatOf words.now merger.old }
+    requires clean { HoldsClean merger.old.knows merges }
+    requires room { (merges + 2) * merger.old.knows.layout.cells ≤ 2 ^ 62 }
+    ensures of { IsSeatOf words.now merger.new }
+    ensures frozen { IsFrozen merger.new.knows merges }
+    ensures floor { merger.new.knows.merger.floor ≡ merger.old.knows.merger.floor }
+    ensures rounds { merger.new.knows.merger.rounds ≡ merger.old.knows.merger.rounds }
+    ensures held { merger.new.knows.merger.holds ≡ merger.old.knows.merger.holds }
+{
+    let end = (merges + 1) * words.cells();
+    pad(words, merger, merges, end);
+    words.extend_clock(merger, merges);
+    words.extend_limit(merger, merges);
+    unlock_as_merger(words, merger);
+}
+
 /// Freezes the epoch: no time of it is drawn any more, and the next epoch's may be.
 pub fn freeze<P: Pace, R: Wait>(rt: &R, words: &Words<P>, merger: &mut RawMerger, merges: u64)
     requires of { IsSeatOf words.now merger.old }
@@ -38,10 +57,27 @@ pub fn freeze<P: Pace, R: Wait>(rt: &R, words: &Words<P>, merger: &mut RawMerger
     ensures rounds { merger.new.knows.merger.rounds ≡ merger.old.knows.merger.rounds }
     ensures held { merger.new.knows.merger.holds ≡ next_word merger.old.knows.merger.holds }
 {
-    let end = (merges + 1) * words.cells();
     lock_as_merger(rt, words, merger);
-    pad(words, merger, merges, end);
-    words.extend_clock(merger, merges);
-    words.extend_limit(merger, merges);
-    unlock_as_merger(words, merger);
+    freeze_held(words, merger, merges);
+}
+
+/// Tries once to freeze the epoch. Refused with `Busy` where a caller held the lock.
+pub fn try_freeze<P: Pace>(
+    words: &Words<P>,
+    merger: &mut RawMerger,
+    merges: u64,
+) -> Result<(), Busy>
+    requires of { IsSeatOf words.now merger.old }
+    requires clean { IsClean merger.old.knows merges }
+    requires room { (merges + 2) * merger.old.knows.layout.cells ≤ 2 ^ 62 }
+    ensures of { IsSeatOf words.now merger.new }
+    ensures frozen { OnOk result (IsFrozen merger.new.knows merges) }
+    ensures floor { merger.new.knows.merger.floor ≡ merger.old.knows.merger.floor }
+    ensures rounds { merger.new.knows.merger.rounds ≡ merger.old.knows.merger.rounds }
+    ensures held { OnOk result (merger.new.knows.merger.holds ≡ next_word merger.old.knows.merger.holds) }
+    ensures busy { OnErr result (StaysOutMerger merger.old.knows merger.new.knows) }
+{
+    try_lock_as_merger(words, merger)?;
+    freeze_held(words, merger, merges);
+    Ok(())
 }

@@ -1,9 +1,8 @@
 //! Writes that try each exchange once.
 ghost use Rattle.std.specs.Prelude.{◌≡◌, Some, IfOk, IfErr};
-ghost use Rattle.clsm_model.specs.declared.record.Deed.TheVariants.{Put};
 ghost use Rattle.clsm_words.specs.Plays.{IsSeatOf};
 ghost use Rattle.clsm_memtable.specs.Writing.{Draws};
-ghost use Rattle.clsm_store_calls.specs.Resting.{IsAtRest, IsInHold, Records};
+ghost use Rattle.clsm_store_calls.specs.Resting.{IsAtRest, IsInHold, Records, deed_of};
 ghost use Rattle.clsm_store_calls.specs.Tally.{CountsTry, tally_of};
 ghost use Rattle.clsm_store_calls.specs.Trying.{Fails, FailsInHold, WritesInHold};
 
@@ -34,34 +33,44 @@ fn try_draw<P: Pace>(words: &Words<P>, seat: &mut RawSeat) -> Tried
     }
 }
 
-/// Tries once to write, in a hold of the lock.
-fn try_in_hold<P: Pace>(words: &Words<P>, seat: &mut RawSeat, key: u64, value: Value) -> Tried
+/// Tries once to write the value at the key, or with `None` to remove it, in a hold of the lock.
+fn try_in_hold<P: Pace>(
+    words: &Words<P>,
+    seat: &mut RawSeat,
+    key: u64,
+    value: &Option<Value>,
+) -> Tried
     requires of { IsSeatOf words.now seat.old }
     requires holds { IsInHold seat.old.knows }
     ensures of { IsSeatOf words.now seat.new }
-    ensures written { IfOk result (λ time. WritesInHold seat.old.knows seat.new.knows time (Put key value)) }
+    ensures written { IfOk result (λ time. WritesInHold seat.old.knows seat.new.knows time (deed_of key value.now)) }
     ensures fails { IfErr result (FailsInHold seat.old.knows seat.new.knows) }
 {
     let time = try_draw(words, seat)?;
     let guess = prefetch(words, seat, time, key);
-    fill(words, seat, time, key, Some(&value));
+    fill(words, seat, time, key, value.as_ref());
     let Ok(trace) = try_enter(words, seat, DrawnCell { time, key }, &guess) else {
         give_up(words, seat, time);
         return Err(TryPutError::Raced);
     };
-    match decide(words, seat, time, &deed_of(key, &Some(value)), &trace) {
+    match decide(words, seat, time, &deed_of(key, value), &trace) {
         Decided::Done => Ok(time),
         Decided::Overtaken => Err(TryPutError::Overtaken),
     }
 }
 
-/// Tries once to write the value at the key.
-pub fn try_write<P: Pace>(words: &Words<P>, seat: &mut RawSeat, key: u64, value: Value) -> Tried
+/// Tries once to write the value at the key, or with `None` to remove it.
+pub fn try_write<P: Pace>(
+    words: &Words<P>,
+    seat: &mut RawSeat,
+    key: u64,
+    value: &Option<Value>,
+) -> Tried
     requires of { IsSeatOf words.now seat.old }
     requires rests { IsAtRest seat.old.knows }
     ensures of { IsSeatOf words.now seat.new }
     ensures rests { IsAtRest seat.new.knows }
-    ensures written { IfOk result (λ time. Records seat.old.knows seat.new.knows time (Put key value)) }
+    ensures written { IfOk result (λ time. Records seat.old.knows seat.new.knows time (deed_of key value.now)) }
     ensures fails { IfErr result (Fails seat.old.knows seat.new.knows) }
     ensures counts { CountsTry (tally_of seat.old.knows) (tally_of seat.new.knows) result }
 {

@@ -7,13 +7,16 @@ ghost use Rattle.clsm_store_calls.specs.Looking.{LooksAtClock, drawn_of};
 ghost use Rattle.clsm_store_calls.specs.Merging.{IsReady, IsRetiring, IsRunFull, TakesFloor, clean_of, frozen_of, retired_of};
 ghost use Rattle.clsm_store_calls.specs.Seats.{CleanState, FrozenState, RetiredState};
 
+use crate::phase::TryFreezeError;
 use crate::seat::Seat;
 use crate::store::Store;
 use crate::telling::tell;
 use clsm_law::LAST_LIMIT;
 use clsm_model::Time;
 use clsm_runs::RunFull;
-use clsm_store_calls::{MergerSeat, Pinned, Worn, agree_at, drawn_at, freeze, merge, reclaim};
+use clsm_store_calls::{
+    MergerSeat, Pinned, Worn, agree_at, drawn_at, freeze, merge, reclaim, try_freeze,
+};
 use clsm_words::Pace;
 use std::marker::Model;
 use std::sync::Wait;
@@ -113,6 +116,36 @@ impl Clean {
         Ok(Frozen {
             merger: self.merger,
         })
+    }
+}
+
+impl Clean {
+    ghost use Rattle.clsm_store.specs.Phase.{RefusesFreeze};
+
+    /// Freezes the current epoch as `freeze`, but tries the lock once and never waits. Refused, and
+    /// with the token, with `Worn` as `freeze`, and with `Busy` if a caller held the lock: nothing
+    /// was done then.
+    pub fn try_freeze<P: Pace>(
+        mut self,
+        store: &Store<P>,
+    ) -> Result<Frozen, (Clean, TryFreezeError)>
+        requires { self.merger.store ≡ store.now }
+        ensures frozen { IfOk result (λ frozen. frozen.merger ≡ record self.merger { holds = next_word self.merger.holds }) }
+        ensures floor { IfOk result (λ frozen. (frozen.floor ≡ self.floor) × (frozen.rounds ≡ self.rounds)) }
+        ensures noted { IfOk result (λ frozen. frozen.noted ≡ None) }
+        ensures refused { IfErr result (λ refused. RefusesFreeze self refused.0 refused.1) }
+    {
+        let merges = self.merger.merges;
+        let last = LAST_LIMIT / store.words.cells() - 2;
+        if merges > last {
+            return Err((self, TryFreezeError::Worn(Worn)));
+        }
+        if try_freeze(&store.words, &mut self.merger.raw, merges).is_err() {
+            return Err((self, TryFreezeError::Busy));
+        }
+        let mut merger = self.merger;
+        merger.noted = None;
+        Ok(Frozen { merger })
     }
 }
 

@@ -1,26 +1,12 @@
-use Rattle.std.proofs.Common.{◌≡◌, ◌∙◌, ℕ, List, ap, sym, subst, arith, rules}
-use Rattle.clsm_model.specs.declared.slot.Slot.{Slot}
+use Rattle.std.proofs.Common.{◌∙◌, ap, sym, subst, rules}
 use Rattle.clsm_model.specs.declared.record.Deed.{Deed}
-use Rattle.clsm_model.specs.declared.record.Deed.TheVariants.{Rmw}
-use Rattle.clsm_model.specs.History.{plain}
-use Rattle.clsm_model.specs.Right.{IsRight}
 use Rattle.clsm_law.specs.declared.view.View.{View}
 use Rattle.clsm_law.specs.declared.step.Step.TheVariants.{Decide}
-use Rattle.clsm_law.specs.OpenSteps.{IsReadBelow}
-use Rattle.clsm_words.specs.declared.known.Known.{Known}
 use Rattle.clsm_words.specs.Knowing.{Opens}
 use Rattle.clsm_memtable.proofs.Entries.{looks_out}
 use Rattle.clsm_store_calls.specs.Changing.{deed_by}
+use Rattle.clsm_store_calls.proofs.Unchanged.{read_on}
 use Rattle.clsm_store_calls.proofs.site.Site.write_drawn.Goals as goal
-
--- what was read stays so, as long as the past does
-read_on : (k k' : Known) (t : ℕ) (deed : Deed) → k'.past ≡ k.past → k'.view.past ≡ k.view.past → IsReadBelow (plain k.past) k.view t deed
-    → IsReadBelow (plain k'.past) k'.view t deed
-read_on k k' t (Rmw key old change) past same read = (
-  let before = read.0 in omega arith,
-  subst (λ (l : List Slot). IsRight (plain l) t (Rmw key old change)) (sym past) read.1,
-)
-read_on k k' t deed past same read = tt
 
 pub decide-requires-clause-opens : goal.decide-requires-clause-opens
 decide-requires-clause-opens g c =
