@@ -1,0 +1,6 @@
+mod Dealt
+mod Filled
+mod GivenBack
+mod HandedOut
+mod Lent
+mod Rows

@@ -1,0 +1,417 @@
+//! The calls for C, on slots: safe functions, one for each export, of its name.
+ghost use Rattle.std.specs.Prelude.{◌≡◌};
+ghost use Rattle.clsm_c.specs.Calls.{Adds, Closes, Counts, Fills, FreezesIf, Gets, GetsAt, IsNext, IsPinnedBy, IsRefusedAt, IsTimeOf, Opens, Pages};
+ghost use Rattle.clsm_c.specs.Calls.{Puts, Removes, ReplacesBy, Snaps, Sweeps, TakesCaller, TakesMerger, TellsChange};
+ghost use Rattle.clsm_c.specs.Calls.{change_code, found_code, freeze_code, kept_code, refusal_code, refused_code, sweep_code, try_code, value_after};
+ghost use Rattle.clsm_c.specs.Values.{TellsValue};
+
+use crate::codes::{
+    BAD_EPOCH, BAD_KEYS, BAD_PATIENCE, BAD_SEATS, BAD_SHARDS, BAD_VALUE, BUSY, Code, FULL, IDLE,
+    KEPT, MEMORY, NO_HANDLE, NO_SNAPSHOT, NOT_FOUND, OK, OPEN, OVERTAKEN, PINNED, RACED, RUN_FULL,
+    WORN,
+};
+use crate::slots::{CallerSlot, MergerSlot, StoreSlot};
+use crate::types::{
+    CoreAdding, CoreChanged, CoreCode, CoreCounted, CoreGot, CoreKey, CorePaged, CoreRange,
+    CoreReplacing, CoreRow, CoreSizes, CoreTime, CoreUsed, from_core, to_core, value_or_none,
+};
+use clsm_handle::{
+    Change, Config, Got, OpenError, Rmw, Stopped, Time, TryFroze, TryPutError, TrySwept, Value,
+    Worn,
+};
+use std::alloc::Global;
+
+// ---- stores
+
+/// The code of a refused opening.
+fn refusal_code(error: OpenError) -> Code
+    ensures { result ≡ refusal_code error }
+{
+    match error {
+        OpenError::Cells(_) => BAD_EPOCH,
+        OpenError::Seats(_) => BAD_SEATS,
+        OpenError::Shards(_) => BAD_SHARDS,
+        OpenError::Run(_) => BAD_KEYS,
+        OpenError::Memory => MEMORY,
+        OpenError::Patience(_) => BAD_PATIENCE,
+    }
+}
+
+pub(crate) fn open(alloc: Global, ask: &CoreSizes, answer: &mut CoreCode) -> StoreSlot
+    ensures { Opens ask.now answer.new result.handles }
+{
+    let config = Config {
+        cells: ask.cells,
+        seats: ask.seats,
+        shards: ask.shards,
+        run: ask.run,
+        patience: ask.patience,
+    };
+    match clsm_handle::open(alloc, config) {
+        Ok(handles) => {
+            answer.code = OK;
+            StoreSlot {
+                handles: Some(handles),
+            }
+        }
+        Err(error) => {
+            answer.code = refusal_code(error);
+            StoreSlot { handles: None }
+        }
+    }
+}
+
+pub(crate) fn close(slot: StoreSlot) {
+    drop(slot);
+}
+
+pub(crate) fn take_caller(store: &mut StoreSlot, answer: &mut CoreCode) -> CallerSlot
+    ensures { TakesCaller store.old.handles store.new.handles answer.new result.caller }
+{
+    answer.code = NO_HANDLE;
+    let Some(handles) = &mut store.handles else {
+        return CallerSlot { caller: None };
+    };
+    match handles.take_caller() {
+        Some(caller) => {
+            answer.code = OK;
+            CallerSlot {
+                caller: Some(caller),
+            }
+        }
+        None => CallerSlot { caller: None },
+    }
+}
+
+pub(crate) fn drop_caller(slot: CallerSlot) {
+    drop(slot);
+}
+
+pub(crate) fn take_merger(store: &mut StoreSlot, answer: &mut CoreCode) -> MergerSlot
+    ensures { TakesMerger store.old.handles store.new.handles answer.new result.merger }
+{
+    answer.code = NO_HANDLE;
+    let Some(handles) = &mut store.handles else {
+        return MergerSlot { merger: None };
+    };
+    match handles.take_merger() {
+        Some(merger) => {
+            answer.code = OK;
+            MergerSlot {
+                merger: Some(merger),
+            }
+        }
+        None => MergerSlot { merger: None },
+    }
+}
+
+pub(crate) fn drop_merger(slot: MergerSlot) {
+    drop(slot);
+}
+
+// ---- a caller's writes
+
+/// Tells why a try was refused, and the time of that, if it has one.
+fn tell_refused(error: TryPutError, answer: &mut u64) -> Code
+    ensures code { result ≡ refused_code error }
+    ensures time { IsRefusedAt answer.new error }
+{
+    match error {
+        TryPutError::Full { time } => {
+            *answer = time;
+            FULL
+        }
+        TryPutError::Busy => BUSY,
+        TryPutError::Raced => RACED,
+        TryPutError::Overtaken => OVERTAKEN,
+    }
+}
+
+/// Tells what a try came to, and its time, if it has one.
+fn tell_try(came: Result<Time, TryPutError>, answer: &mut CoreTime) -> Code
+    ensures code { result ≡ try_code came }
+    ensures time { IsTimeOf answer.new.time came }
+{
+    match came {
+        Ok(time) => {
+            answer.time = time;
+            OK
+        }
+        Err(error) => tell_refused(error, &mut answer.time),
+    }
+}
+
+pub(crate) fn try_put(slot: &mut CallerSlot, ask: &CoreRow, answer: &mut CoreTime) -> Code
+    ensures { Puts slot.old.caller ask.now slot.new.caller answer.new result }
+{
+    let Some(caller) = &mut slot.caller else {
+        return NO_HANDLE;
+    };
+    let Some(value) = from_core(&ask.value) else {
+        return BAD_VALUE;
+    };
+    let came = caller.try_put(ask.key, value);
+    tell_try(came, answer)
+}
+
+pub(crate) fn try_remove(slot: &mut CallerSlot, ask: &CoreKey, answer: &mut CoreTime) -> Code
+    ensures { Removes slot.old.caller ask.now slot.new.caller answer.new result }
+{
+    let Some(caller) = &mut slot.caller else {
+        return NO_HANDLE;
+    };
+    let came = caller.try_remove(ask.key);
+    tell_try(came, answer)
+}
+
+// ---- a caller's read-modify-writes
+
+/// What the key has after the change of its value.
+fn value_after(rmw: &Rmw) -> Option<Value>
+    ensures { result ≡ value_after rmw.now.old rmw.now.change }
+{
+    match rmw.change {
+        Change::Keep => rmw.old,
+        Change::Set(value) => Some(value),
+        Change::Remove => None,
+    }
+}
+
+/// The code of a read-modify-write: whether it kept the value.
+fn kept_code(change: &Change) -> Code
+    ensures { result ≡ kept_code change.now }
+{
+    match change {
+        Change::Keep => KEPT,
+        _ => OK,
+    }
+}
+
+/// Tells what a try to change a key came to.
+fn tell_change(came: Result<Rmw, TryPutError>, answer: &mut CoreChanged) -> Code
+    ensures code { result ≡ change_code came }
+    ensures tells { TellsChange answer.new came }
+{
+    match came {
+        Ok(rmw) => {
+            *answer = CoreChanged {
+                time: rmw.time,
+                before: to_core(&rmw.old),
+                after: to_core(&value_after(&rmw)),
+            };
+            kept_code(&rmw.change)
+        }
+        Err(error) => tell_refused(error, &mut answer.time),
+    }
+}
+
+pub(crate) fn try_add(slot: &mut CallerSlot, ask: &CoreAdding, answer: &mut CoreChanged) -> Code
+    ensures { Adds slot.old.caller ask.now slot.new.caller answer.new result }
+{
+    let Some(caller) = &mut slot.caller else {
+        return NO_HANDLE;
+    };
+    let came = caller.try_add(ask.key, ask.by);
+    tell_change(came, answer)
+}
+
+pub(crate) fn try_replace(
+    slot: &mut CallerSlot,
+    ask: &CoreReplacing,
+    answer: &mut CoreChanged,
+) -> Code
+    ensures { ReplacesBy slot.old.caller ask.now slot.new.caller answer.new result }
+{
+    let Some(caller) = &mut slot.caller else {
+        return NO_HANDLE;
+    };
+    let Ok(expected) = value_or_none(&ask.expected) else {
+        return BAD_VALUE;
+    };
+    let Ok(desired) = value_or_none(&ask.desired) else {
+        return BAD_VALUE;
+    };
+    let came = caller.try_replace(ask.key, expected, desired);
+    tell_change(came, answer)
+}
+
+// ---- a caller's reads
+
+/// Tells what a read found, and its time.
+fn tell_got(got: Got, answer: &mut CoreGot) -> Code
+    ensures code { result ≡ found_code got.value }
+    ensures time { answer.new.time ≡ got.time }
+    ensures value { TellsValue answer.new.value got.value }
+{
+    let Got { time, value } = got;
+    answer.time = time;
+    answer.value = to_core(&value);
+    match value {
+        Some(_) => OK,
+        None => NOT_FOUND,
+    }
+}
+
+pub(crate) fn get(slot: &mut CallerSlot, ask: &CoreKey, answer: &mut CoreGot) -> Code
+    ensures { Gets slot.old.caller ask.now slot.new.caller answer.new result }
+{
+    let Some(caller) = &mut slot.caller else {
+        return NO_HANDLE;
+    };
+    let got = caller.get(ask.key);
+    tell_got(got, answer)
+}
+
+pub(crate) fn get_at(slot: &mut CallerSlot, ask: &CoreKey, answer: &mut CoreGot) -> Code
+    ensures { GetsAt slot.old.caller ask.now slot.new.caller answer.new result }
+{
+    let Some(caller) = &mut slot.caller else {
+        return NO_HANDLE;
+    };
+    let Some(got) = caller.get_at(ask.key) else {
+        return NO_SNAPSHOT;
+    };
+    tell_got(got, answer)
+}
+
+pub(crate) fn snapshot(slot: &mut CallerSlot, _ask: &CoreKey, answer: &mut CoreTime) -> Code
+    ensures { Snaps slot.old.caller slot.new.caller answer.new result }
+{
+    let Some(caller) = &mut slot.caller else {
+        return NO_HANDLE;
+    };
+    match caller.snapshot() {
+        Ok(time) => {
+            answer.time = time;
+            OK
+        }
+        Err(open) => {
+            answer.time = open.time;
+            OPEN
+        }
+    }
+}
+
+pub(crate) fn close_snapshot(slot: &mut CallerSlot, _ask: &CoreKey, answer: &mut CoreTime) -> Code
+    ensures { Closes slot.old.caller slot.new.caller answer.new result }
+{
+    let Some(caller) = &mut slot.caller else {
+        return NO_HANDLE;
+    };
+    let Some(time) = caller.close_snapshot() else {
+        return NO_SNAPSHOT;
+    };
+    answer.time = time;
+    OK
+}
+
+pub(crate) fn count(slot: &mut CallerSlot, ask: &CoreRange, answer: &mut CoreCounted) -> Code
+    ensures { Counts slot.old.caller ask.now slot.new.caller answer.new result }
+{
+    let Some(caller) = &mut slot.caller else {
+        return NO_HANDLE;
+    };
+    let counted = caller.count(ask.first, ask.last);
+    answer.time = counted.time;
+    answer.keys = counted.keys;
+    OK
+}
+
+/// Fills as many rows as there are, or as there is room for, and answers how many.
+fn fill(rows: &mut [CoreRow], found: &[(u64, Value)]) -> u64
+    ensures { Fills rows.old found.now rows.new result }
+{
+    let count = found.len().min(rows.len());
+    for at in 0..count {
+        let pair = found[at];
+        rows[at] = CoreRow {
+            key: pair.0,
+            value: to_core(&Some(pair.1)),
+        };
+    }
+    count as u64
+}
+
+/// Tells where the next page begins, if there is one.
+fn tell_next(more: Option<u64>, answer: &mut CorePaged)
+    ensures next { IsNext answer.new more }
+    ensures time { answer.new.time ≡ answer.old.time }
+    ensures rows { answer.new.rows ≡ answer.old.rows }
+{
+    answer.more = more.is_some();
+    answer.next = more.unwrap_or(0);
+}
+
+pub(crate) fn page(
+    slot: &mut CallerSlot,
+    ask: &CoreRange,
+    rows: &mut [CoreRow],
+    answer: &mut CorePaged,
+) -> Code
+    ensures { Pages slot.old.caller ask.now rows.old slot.new.caller rows.new answer.new result }
+{
+    let Some(caller) = &mut slot.caller else {
+        return NO_HANDLE;
+    };
+    let Ok(found) = caller.page(ask.first, ask.last, rows.len()) else {
+        return MEMORY;
+    };
+    answer.time = found.time;
+    answer.rows = fill(rows, found.rows.as_slice());
+    tell_next(found.more, answer);
+    OK
+}
+
+// ---- the merger's
+
+/// The code of what a freeze came to.
+fn freeze_code(came: Result<TryFroze, Worn>) -> Code
+    ensures { result ≡ freeze_code came }
+{
+    match came {
+        Ok(TryFroze::Done) => OK,
+        Ok(TryFroze::Waited) => IDLE,
+        Ok(TryFroze::Busy) => BUSY,
+        Err(_) => WORN,
+    }
+}
+
+pub(crate) fn try_freeze(slot: &mut MergerSlot, ask: &CoreUsed, _answer: &mut CoreTime) -> Code
+    ensures { FreezesIf slot.old.merger ask.now slot.new.merger result }
+{
+    let Some(merger) = slot.merger.take() else {
+        return NO_HANDLE;
+    };
+    let (merger, came) = merger.try_freeze_if_used(ask.used);
+    slot.merger = Some(merger);
+    freeze_code(came)
+}
+
+/// Tells what a sweep came to, and which caller stopped it, if one did.
+fn tell_sweep(came: Result<TrySwept, Stopped>, answer: &mut CoreTime) -> Code
+    ensures code { result ≡ sweep_code came }
+    ensures caller { IsPinnedBy answer.new.time came }
+{
+    match came {
+        Ok(TrySwept::Done) => OK,
+        Ok(TrySwept::Waited) => IDLE,
+        Ok(TrySwept::Busy) => BUSY,
+        Err(Stopped::RunFull(_)) => RUN_FULL,
+        Err(Stopped::Worn(_)) => WORN,
+        Err(Stopped::Pinned(seat)) => {
+            answer.time = u64::from(seat.0);
+            PINNED
+        }
+    }
+}
+
+pub(crate) fn try_sweep(slot: &mut MergerSlot, ask: &CoreUsed, answer: &mut CoreTime) -> Code
+    ensures { Sweeps slot.old.merger ask.now slot.new.merger answer.new result }
+{
+    let Some(merger) = slot.merger.take() else {
+        return NO_HANDLE;
+    };
+    let (merger, came) = merger.try_sweep_if_used(ask.used);
+    slot.merger = Some(merger);
+    tell_sweep(came, answer)
+}

@@ -1,0 +1,60 @@
+//! What lies in C's memory: a handle, or none where it was refused.
+ghost use Rattle.std.specs.Prelude.{◌≡◌};
+ghost use Rattle.clsm_c.specs.Lent.{bytes_of};
+ghost use Rattle.clsm_c.specs.contracts.slots.CallerSlot.{the_row as caller_row};
+ghost use Rattle.clsm_c.specs.contracts.slots.MergerSlot.{the_row as merger_row};
+ghost use Rattle.clsm_c.specs.contracts.slots.StoreSlot.{the_row as store_row};
+
+use crate::types::CoreRooms;
+use clsm_handle::{Handles, OwnCaller, OwnMerger};
+use std::mem::size_of;
+
+/// The words that `capi/core/clsm_core.h` reserves for each kind of handle.
+pub const STORE_WORDS: usize = 24;
+
+pub const CALLER_WORDS: usize = 8;
+
+pub const MERGER_WORDS: usize = 24;
+
+const _: () = prove!(size_of::<StoreSlot>() <= 8 * STORE_WORDS);
+
+const _: () = prove!(size_of::<CallerSlot>() <= 8 * CALLER_WORDS);
+
+const _: () = prove!(size_of::<MergerSlot>() <= 8 * MERGER_WORDS);
+
+/// The handle of a store: the callers and the merger that nobody has taken yet.
+#[derive(Drop)]
+pub struct StoreSlot {
+    pub(crate) handles: Option<Handles>,
+}
+
+/// The handle of a caller, and its seat.
+#[derive(Drop)]
+pub struct CallerSlot {
+    pub(crate) caller: Option<OwnCaller>,
+}
+
+/// The handle of the merger.
+#[derive(Drop)]
+pub struct MergerSlot {
+    pub(crate) merger: Option<OwnMerger>,
+}
+
+/// Only for types that may be moved to another thread: C moves its handles so.
+fn may_move<T: Send>() {}
+
+/// The bytes that each kind of handle takes.
+pub(crate) fn rooms() -> CoreRooms
+    ensures store { result.store ≡ bytes_of store_row }
+    ensures caller { result.caller ≡ bytes_of caller_row }
+    ensures merger { result.merger ≡ bytes_of merger_row }
+{
+    may_move::<StoreSlot>();
+    may_move::<CallerSlot>();
+    may_move::<MergerSlot>();
+    CoreRooms {
+        store: size_of::<StoreSlot>(),
+        caller: size_of::<CallerSlot>(),
+        merger: size_of::<MergerSlot>(),
+    }
+}

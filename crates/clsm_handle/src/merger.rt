@@ -1,0 +1,39 @@
+//! A merger that keeps its store.
+ghost use Rattle.std.specs.Prelude.{◌≡◌};
+ghost use Rattle.std.specs.Arc.{arc_value};
+ghost use Rattle.clsm_store.specs.Freezing.{TryFreezes};
+ghost use Rattle.clsm_store.specs.Phase.{merger_in};
+ghost use Rattle.clsm_store.specs.Sweeping.{TrySweeps};
+
+use clsm_store::{Free, Phase, Stopped, Store, TryFroze, TrySwept, Worn};
+use std::alloc::Global;
+use std::sync::Arc;
+
+/// The merger: a store's token, in whichever phase it is, and the store. It may be moved to another
+/// thread. The store lives as long as any of its handles.
+#[derive(Drop)]
+pub struct OwnMerger {
+    pub(crate) store: Arc<Store<Free>, Global>,
+    pub phase: Phase,
+    pub ghost of: { (merger_in phase).store ≡ arc_value store },
+}
+
+impl OwnMerger {
+    /// As `Phase::try_freeze_if_used`.
+    pub fn try_freeze_if_used(self, used: u64) -> (OwnMerger, Result<TryFroze, Worn>)
+        ensures { TryFreezes used self.phase result.0.phase result.1 }
+    {
+        let OwnMerger { store, phase } = self;
+        let (phase, answer) = phase.try_freeze_if_used(&store, used);
+        (OwnMerger { store, phase }, answer)
+    }
+
+    /// As `Phase::try_sweep_if_used`.
+    pub fn try_sweep_if_used(self, used: u64) -> (OwnMerger, Result<TrySwept, Stopped>)
+        ensures { TrySweeps used self.phase result.0.phase result.1 }
+    {
+        let OwnMerger { store, phase } = self;
+        let (phase, answer) = phase.try_sweep_if_used(&store, used);
+        (OwnMerger { store, phase }, answer)
+    }
+}
