@@ -1,0 +1,153 @@
+/* Snapshots, and scans, which are snapshots with a place. */
+#include "store.h"
+
+#include <stdlib.h>
+
+static const clsm_core_key ANY = {0};
+
+/* ---- What callers, snapshots and scans have in common */
+
+int clsm_read_page(struct clsm_seat *seat, uint64_t first, uint64_t last, clsm_row *rows, size_t room,
+                   clsm_core_paged *answer, clsm_page_end *end) {
+    const clsm_core_range ask = {first, last};
+    clsm_row none;
+    if (!end || (!rows && room > 0)) return CLSM_BAD_POINTER;
+    clsm_core_row *into = (clsm_core_row *)(void *)(rows ? rows : &none);
+    int code = (int)clsm_core_page(&seat->core, &ask, into, room, answer);
+    if (code == CLSM_OK) *end = (clsm_page_end){answer->rows, answer->next, answer->more};
+    return code;
+}
+
+/* Opens the snapshot of a seat that was taken for this caller. Its time is not below what the caller
+ * saw: contracts of the core order only what one seat does, so that is tested. */
+static void open_view(struct clsm_seat *seat, struct clsm_seat *caller) {
+    clsm_core_time answer;
+    struct clsm_patience patience = {1};
+    for (;;) {
+        clsm_core_snapshot(&seat->core, &ANY, &answer);
+        if (clsm_is_in_order(caller, answer.time)) break;
+        clsm_core_close_snapshot(&seat->core, &ANY, &answer);
+        clsm_be_patient(&patience);
+    }
+    seat->seen = answer.time;
+    seat->time = answer.time;
+}
+
+static void close_view(struct clsm_seat *seat, enum clsm_use use) {
+    clsm_core_time answer;
+    if (clsm_begin(seat, use)) return;
+    clsm_core_close_snapshot(&seat->core, &ANY, &answer);
+    clsm_seat_give_home(seat);
+}
+
+/* ---- Snapshots */
+
+int clsm_snapshot_open(clsm_caller *caller, clsm_snapshot **snapshot) {
+    struct clsm_seat *seat, *home = (struct clsm_seat *)caller;
+    if (snapshot) *snapshot = NULL;
+    int refused = clsm_begin(home, CLSM_AS_CALLER);
+    if (refused) return refused;
+    if (!snapshot) return clsm_end(home, CLSM_BAD_POINTER);
+    seat = clsm_seat_take_for(home, CLSM_AS_SNAPSHOT);
+    if (!seat) return clsm_end(home, CLSM_NO_SEAT);
+    open_view(seat, home);
+    *snapshot = (clsm_snapshot *)seat;
+    return clsm_end(home, CLSM_OK);
+}
+
+void clsm_snapshot_close(clsm_snapshot *snapshot) { close_view((struct clsm_seat *)snapshot, CLSM_AS_SNAPSHOT); }
+
+uint64_t clsm_snapshot_time(const clsm_snapshot *snapshot) { return snapshot->seat.time; }
+
+unsigned clsm_snapshot_number(const clsm_snapshot *snapshot) { return snapshot->seat.number; }
+
+int clsm_snapshot_get(clsm_snapshot *snapshot, uint64_t key, clsm_value *value) {
+    struct clsm_seat *seat = (struct clsm_seat *)snapshot;
+    const clsm_core_key ask = {key};
+    clsm_core_got answer;
+    int code = clsm_begin(seat, CLSM_AS_SNAPSHOT);
+    if (code) return code;
+    code = (int)clsm_core_get_at(&seat->core, &ask, &answer);
+    clsm_hand_on(&answer.value, value);
+    return clsm_end(seat, code);
+}
+
+int clsm_snapshot_count(clsm_snapshot *snapshot, uint64_t first, uint64_t last, uint64_t *keys) {
+    struct clsm_seat *seat = (struct clsm_seat *)snapshot;
+    const clsm_core_range ask = {first, last};
+    clsm_core_counted answer;
+    int code = clsm_begin(seat, CLSM_AS_SNAPSHOT);
+    if (code) return code;
+    if (!keys) return clsm_end(seat, CLSM_BAD_POINTER);
+    code = (int)clsm_core_count(&seat->core, &ask, &answer);
+    *keys = answer.keys;
+    return clsm_end(seat, code);
+}
+
+int clsm_snapshot_page(clsm_snapshot *snapshot, uint64_t first, uint64_t last, clsm_row *rows, size_t room,
+                       clsm_page_end *end) {
+    struct clsm_seat *seat = (struct clsm_seat *)snapshot;
+    clsm_core_paged answer;
+    int code = clsm_begin(seat, CLSM_AS_SNAPSHOT);
+    if (code) return code;
+    return clsm_end(seat, clsm_read_page(seat, first, last, rows, room, &answer, end));
+}
+
+/* ---- Scans */
+
+/* Puts the seat's place before this range. */
+static int begin_place(struct clsm_place *place, uint64_t first, uint64_t last) {
+    if (!place->rows) place->rows = malloc(CLSM_SCAN_ROWS * sizeof *place->rows);
+    if (!place->rows) return CLSM_MEMORY;
+    place->at = 0;
+    place->count = 0;
+    place->next = first;
+    place->last = last;
+    place->more = true;
+    return CLSM_OK;
+}
+
+int clsm_scan_open(clsm_caller *caller, uint64_t first, uint64_t last, clsm_scan **scan) {
+    struct clsm_seat *seat, *home = (struct clsm_seat *)caller;
+    if (scan) *scan = NULL;
+    int refused = clsm_begin(home, CLSM_AS_CALLER);
+    if (refused) return refused;
+    if (!scan) return clsm_end(home, CLSM_BAD_POINTER);
+    seat = clsm_seat_take_for(home, CLSM_AS_SCAN);
+    if (!seat) return clsm_end(home, CLSM_NO_SEAT);
+    refused = begin_place(&seat->place, first, last);
+    if (refused) {
+        clsm_seat_give_home(seat);
+        return clsm_end(home, refused);
+    }
+    open_view(seat, home);
+    *scan = (clsm_scan *)seat;
+    return clsm_end(home, CLSM_OK);
+}
+
+void clsm_scan_close(clsm_scan *scan) { close_view((struct clsm_seat *)scan, CLSM_AS_SCAN); }
+
+/* Reads the next rows of the scan: OK; DONE if there is none; MEMORY. */
+static int read_on(struct clsm_seat *seat, struct clsm_place *place) {
+    clsm_core_paged answer;
+    clsm_page_end end;
+    if (!place->more) return CLSM_DONE;
+    int code = clsm_read_page(seat, place->next, place->last, place->rows, CLSM_SCAN_ROWS, &answer, &end);
+    if (code != CLSM_OK) return code;
+    place->at = 0;
+    place->count = (size_t)end.rows;
+    place->next = end.next;
+    place->more = end.more;
+    return place->count > 0 ? CLSM_OK : CLSM_DONE;
+}
+
+int clsm_scan_next(clsm_scan *scan, clsm_row *row) {
+    struct clsm_seat *seat = (struct clsm_seat *)scan;
+    int code = clsm_begin(seat, CLSM_AS_SCAN);
+    if (code) return code;
+    struct clsm_place *place = &seat->place;
+    if (!row) return clsm_end(seat, CLSM_BAD_POINTER);
+    if (place->at == place->count) code = read_on(seat, place);
+    if (code == CLSM_OK) *row = place->rows[place->at++];
+    return clsm_end(seat, code);
+}

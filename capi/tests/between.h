@@ -1,0 +1,11 @@
+/* What stands between a test and pthreads (between.c). Each function is for the whole process. */
+#ifndef BETWEEN_H
+#define BETWEEN_H
+
+/* The next so many threads are not started. */
+void between_refuse_threads(unsigned count);
+
+/* How often threads called sched_yield. */
+unsigned long between_yields(void);
+
+#endif

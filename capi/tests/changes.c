@@ -1,0 +1,147 @@
+/* Changes: what each finds and leaves, and that none is lost between four threads beside the merger. */
+#include "check.h"
+
+#include <pthread.h>
+#include <string.h>
+
+enum { THREADS = 4, KEYS = 8 };
+static uint64_t rounds;
+
+static clsm_value word(uint64_t number) { return (clsm_value){1, {number}}; }
+
+static bool is(const clsm_value *value, uint64_t number) {
+    const clsm_value wanted = word(number);
+    return memcmp(value, &wanted, sizeof wanted) == 0;
+}
+
+static bool is_none(const clsm_value *value) {
+    static const clsm_value none = {.length = 0};
+    return memcmp(value, &none, sizeof none) == 0;
+}
+
+/* ---- Alone */
+
+static void add(clsm_caller *caller) {
+    const uint64_t two[2] = {1, 2};
+    clsm_changed changed;
+    OK(clsm_add(caller, 1, 5, &changed));
+    CHECK(is_none(&changed.before) && is(&changed.after, 5));
+    OK(clsm_add(caller, 1, 7, &changed));
+    CHECK(is(&changed.before, 5) && is(&changed.after, 12));
+    OK(clsm_add(caller, 1, UINT64_MAX - 12, NULL));
+    ANSWERS(CLSM_KEPT, clsm_add(caller, 1, 1, &changed));
+    CHECK(is(&changed.before, UINT64_MAX) && is(&changed.after, UINT64_MAX));
+    OK(clsm_put(caller, 2, two, 2));
+    ANSWERS(CLSM_KEPT, clsm_add(caller, 2, 1, &changed));
+    CHECK(changed.before.length == 2 && changed.after.words[1] == 2);
+    ANSWERS(CLSM_BAD_POINTER, clsm_add(NULL, 1, 1, &changed));
+}
+
+static void claim(clsm_caller *caller) {
+    const clsm_value first = word(30), second = word(31), empty = {.length = 0}, long_one = {.length = 9};
+    clsm_changed changed;
+    OK(clsm_put_if_absent(caller, 3, &first, &changed));
+    CHECK(is_none(&changed.before) && is(&changed.after, 30));
+    ANSWERS(CLSM_KEPT, clsm_put_if_absent(caller, 3, &second, &changed));
+    CHECK(is(&changed.before, 30) && is(&changed.after, 30));
+    ANSWERS(CLSM_BAD_VALUE, clsm_put_if_absent(caller, 4, &empty, NULL));
+    ANSWERS(CLSM_BAD_VALUE, clsm_put_if_absent(caller, 4, &long_one, NULL));
+    ANSWERS(CLSM_BAD_POINTER, clsm_put_if_absent(caller, 4, NULL, NULL));
+    ANSWERS(CLSM_NOT_FOUND, clsm_get(caller, 4, NULL));
+}
+
+static void replace(clsm_caller *caller) {
+    const clsm_value old = word(50), new = word(51), other = word(52), empty = {.length = 0};
+    const clsm_value longer = {2, {50, 0}};
+    clsm_changed changed;
+    OK(clsm_replace(caller, 5, NULL, &old, NULL));
+    ANSWERS(CLSM_KEPT, clsm_replace(caller, 5, NULL, &new, &changed));
+    ANSWERS(CLSM_KEPT, clsm_replace(caller, 5, &other, &new, &changed));
+    ANSWERS(CLSM_KEPT, clsm_replace(caller, 5, &longer, &new, &changed));
+    CHECK(is(&changed.before, 50) && is(&changed.after, 50));
+    OK(clsm_replace(caller, 5, &old, &new, &changed));
+    CHECK(is(&changed.before, 50) && is(&changed.after, 51));
+    ANSWERS(CLSM_KEPT, clsm_replace(caller, 5, &old, NULL, &changed));
+    OK(clsm_replace(caller, 5, &new, NULL, &changed));
+    CHECK(is(&changed.before, 51) && is_none(&changed.after));
+    ANSWERS(CLSM_NOT_FOUND, clsm_get(caller, 5, NULL));
+    ANSWERS(CLSM_BAD_VALUE, clsm_replace(caller, 5, &empty, &new, NULL));
+    ANSWERS(CLSM_BAD_VALUE, clsm_replace(caller, 5, NULL, &empty, NULL));
+    ANSWERS(CLSM_BAD_POINTER, clsm_replace(NULL, 5, NULL, &new, NULL));
+}
+
+/* Each change has a time of its own behind all before it, and one that kept the value reads there. */
+static void rise(clsm_caller *caller) {
+    uint64_t before = clsm_time(caller);
+    OK(clsm_add(caller, 6, 1, NULL));
+    CHECK(clsm_time(caller) >= before && clsm_seen(caller) == clsm_time(caller) + 1);
+    before = clsm_seen(caller);
+    ANSWERS(CLSM_KEPT, clsm_replace(caller, 6, NULL, NULL, NULL));
+    CHECK(clsm_time(caller) >= before && clsm_seen(caller) == clsm_time(caller));
+}
+
+/* ---- In threads */
+
+/* Adds one by a get and a replacement, until no other write came between. */
+static void add_by_replacing(clsm_caller *caller, uint64_t key) {
+    for (;;) {
+        clsm_value old, new;
+        int found = clsm_get(caller, key, &old);
+        CHECK(found == CLSM_OK || found == CLSM_NOT_FOUND);
+        new = word(found == CLSM_OK ? old.words[0] + 1 : 1);
+        int code = clsm_replace(caller, key, found == CLSM_OK ? &old : NULL, &new, NULL);
+        if (code == CLSM_OK) return;
+        CHECK(code == CLSM_KEPT);
+    }
+}
+
+static void *count(void *store) {
+    clsm_caller *caller;
+    OK(clsm_caller_open(store, &caller));
+    for (uint64_t i = 0; i < rounds; i++) {
+        OK(clsm_add(caller, 100 + i % KEYS, 1, NULL));
+        add_by_replacing(caller, 200 + i % KEYS);
+    }
+    clsm_caller_close(caller);
+    return NULL;
+}
+
+static void sum(clsm_store *store) {
+    clsm_caller *caller;
+    clsm_row row;
+    clsm_scan *scan;
+    uint64_t sums[2] = {0, 0};
+    OK(clsm_caller_open(store, &caller));
+    OK(clsm_scan_open(caller, 100, 300, &scan));
+    while (clsm_scan_next(scan, &row) == CLSM_OK) sums[row.key / 100 - 1] += row.value.words[0];
+    clsm_scan_close(scan);
+    clsm_caller_close(caller);
+    CHECK(sums[0] == THREADS * rounds && sums[1] == THREADS * rounds);
+}
+
+static void count_in_threads(const clsm_options *options) {
+    clsm_store *store;
+    pthread_t threads[THREADS];
+    OK(clsm_open(options, &store));
+    for (int i = 0; i < THREADS; i++) CHECK(pthread_create(&threads[i], NULL, count, store) == 0);
+    for (int i = 0; i < THREADS; i++) CHECK(pthread_join(threads[i], NULL) == 0);
+    sum(store);
+    OK(clsm_close(store));
+}
+
+int main(int argc, char **argv) {
+    clsm_store *store;
+    clsm_caller *caller;
+    rounds = argument(argc, argv, 1, 2000);
+    OK(clsm_open(NULL, &store));
+    OK(clsm_caller_open(store, &caller));
+    add(caller);
+    claim(caller);
+    replace(caller);
+    rise(caller);
+    clsm_caller_close(caller);
+    OK(clsm_close(store));
+    count_in_threads(&(clsm_options){.epoch = 64});
+    count_in_threads(&(clsm_options){.epoch = 64, .patience = -1, .merge = CLSM_MERGE_IN_CALLS});
+    return passed("changes");
+}

@@ -1,0 +1,191 @@
+/* Handles that live longer than one would think, and processes and threads that end beside them. */
+#define _POSIX_C_SOURCE 200809L
+#include "check.h"
+
+#include <pthread.h>
+#include <stdatomic.h>
+#include <sys/wait.h>
+#include <unistd.h>
+
+static const uint64_t WORD = 5;
+
+static clsm_store *opened(size_t epoch) {
+    const clsm_options options = {.epoch = epoch};
+    clsm_store *store;
+    OK(clsm_open(&options, &store));
+    return store;
+}
+
+static void put_keys(clsm_store *store, uint64_t first, uint64_t last) {
+    clsm_caller *caller;
+    OK(clsm_caller_open(store, &caller));
+    for (uint64_t key = first; key <= last; key++) OK(clsm_put(caller, key, &key, 1));
+    clsm_caller_close(caller);
+}
+
+/* ---- A thread that ends with its handles open */
+
+struct left {
+    clsm_store *store;
+    clsm_caller *caller;
+    clsm_snapshot *snapshot;
+    clsm_scan *scan;
+};
+
+static void *leave_open(void *of) {
+    struct left *left = of;
+    clsm_row row;
+    OK(clsm_caller_open(left->store, &left->caller));
+    OK(clsm_put(left->caller, 1, &WORD, 1));
+    OK(clsm_snapshot_open(left->caller, &left->snapshot));
+    OK(clsm_scan_open(left->caller, 0, UINT64_MAX, &left->scan));
+    OK(clsm_scan_next(left->scan, &row));
+    OK(clsm_remove(left->caller, 1));
+    return NULL;
+}
+
+static void outlive_thread(void) {
+    struct left left = {.store = opened(16)};
+    pthread_t thread;
+    clsm_row row;
+    put_keys(left.store, 10, 99);
+    CHECK(pthread_create(&thread, NULL, leave_open, &left) == 0 && pthread_join(thread, NULL) == 0);
+    put_keys(left.store, 100, 199);
+    ANSWERS(CLSM_NOT_FOUND, clsm_get(left.caller, 1, NULL));
+    clsm_caller_close(left.caller);
+    OK(clsm_snapshot_get(left.snapshot, 1, NULL));
+    ANSWERS(CLSM_NOT_FOUND, clsm_snapshot_get(left.snapshot, 100, NULL));
+    for (uint64_t key = 10; key <= 99; key++) {
+        OK(clsm_scan_next(left.scan, &row));
+        CHECK(row.key == key);
+    }
+    ANSWERS(CLSM_DONE, clsm_scan_next(left.scan, &row));
+    ANSWERS(CLSM_IN_USE, clsm_close(left.store));
+    clsm_scan_close(left.scan);
+    clsm_snapshot_close(left.snapshot);
+    OK(clsm_close(left.store));
+}
+
+/* ---- Snapshots and scans of one caller, in each order */
+
+static void nest(void) {
+    enum { COUNT = 5 };
+    clsm_store *store = opened(16);
+    clsm_caller *caller;
+    clsm_snapshot *snapshots[COUNT];
+    clsm_scan *scans[COUNT];
+    clsm_value value;
+    clsm_row row;
+    OK(clsm_caller_open(store, &caller));
+    for (uint64_t i = 0; i < COUNT; i++) {
+        OK(clsm_put(caller, 1, &i, 1));
+        OK(clsm_snapshot_open(caller, &snapshots[i]));
+        OK(clsm_scan_open(caller, 1, 1, &scans[i]));
+        CHECK(clsm_snapshot_time(snapshots[i]) == clsm_time(caller));
+    }
+    put_keys(store, 1, 100);
+    for (uint64_t i = 0; i < COUNT; i++) {
+        OK(clsm_snapshot_get(snapshots[i], 1, &value));
+        OK(clsm_scan_next(scans[COUNT - 1 - i], &row));
+        CHECK(value.words[0] == i && row.value.words[0] == COUNT - 1 - i);
+    }
+    clsm_snapshot_close(snapshots[0]);
+    clsm_scan_close(scans[3]);
+    clsm_caller_close(caller);
+    clsm_scan_close(scans[0]);
+    for (int i = 1; i < COUNT; i++) clsm_snapshot_close(snapshots[i]);
+    clsm_scan_close(scans[1]);
+    clsm_scan_close(scans[4]);
+    OK(clsm_caller_open(store, &caller));
+    OK(clsm_snapshot_open(caller, &snapshots[0]));
+    clsm_caller_close(caller);
+    clsm_snapshot_close(snapshots[0]);
+    clsm_scan_close(scans[2]);
+    OK(clsm_close(store));
+}
+
+/* Scans that are left at each row around the ends of the rows that they read at a time. */
+static void leave_scans(void) {
+    clsm_store *store = opened(64);
+    clsm_caller *caller;
+    clsm_scan *scan;
+    clsm_row row;
+    put_keys(store, 0, 199);
+    OK(clsm_caller_open(store, &caller));
+    for (uint64_t rows = 0; rows <= 200; rows++) {
+        OK(clsm_scan_open(caller, 0, UINT64_MAX, &scan));
+        for (uint64_t key = 0; key < rows; key++) {
+            OK(clsm_scan_next(scan, &row));
+            CHECK(row.key == key && row.value.length == 1 && row.value.words[0] == key);
+        }
+        if (rows == 200) ANSWERS(CLSM_DONE, clsm_scan_next(scan, &row));
+        clsm_scan_close(scan);
+    }
+    for (uint64_t last = 62; last <= 66; last++) {
+        OK(clsm_scan_open(caller, 0, last, &scan));
+        for (uint64_t key = 0; key <= last; key++) OK(clsm_scan_next(scan, &row));
+        ANSWERS(CLSM_DONE, clsm_scan_next(scan, &row));
+        clsm_scan_close(scan);
+    }
+    clsm_caller_close(caller);
+    OK(clsm_close(store));
+}
+
+/* ---- A process that forks: the child makes no call, and the parent goes on */
+
+static atomic_bool is_over;
+
+static void *put_on(void *of) {
+    clsm_caller *caller;
+    OK(clsm_caller_open(of, &caller));
+    for (uint64_t i = 0; !atomic_load(&is_over); i++) OK(clsm_put(caller, i % 100, &i, 1));
+    clsm_caller_close(caller);
+    return NULL;
+}
+
+static void fork_beside(void) {
+    clsm_store *store = opened(64);
+    pthread_t thread;
+    fflush(NULL);
+    CHECK(pthread_create(&thread, NULL, put_on, store) == 0);
+    for (int i = 0; i < 20; i++) {
+        int status;
+        pid_t child = fork();
+        CHECK(child >= 0);
+        if (child == 0) _exit(7);
+        CHECK(waitpid(child, &status, 0) == child && WIFEXITED(status) && WEXITSTATUS(status) == 7);
+        put_keys(store, 1000, 1100);
+    }
+    atomic_store(&is_over, true);
+    CHECK(pthread_join(thread, NULL) == 0);
+    OK(clsm_close(store));
+}
+
+/* ---- Stores beside one another */
+
+static void open_many(void) {
+    enum { COUNT = 10 };
+    clsm_store *stores[COUNT];
+    clsm_caller *callers[COUNT];
+    uint64_t keys;
+    for (uint64_t i = 0; i < COUNT; i++) {
+        stores[i] = opened(16);
+        OK(clsm_caller_open(stores[i], &callers[i]));
+        for (uint64_t key = 0; key < 50 + i; key++) OK(clsm_put(callers[i], key, &key, 1));
+    }
+    for (uint64_t i = 0; i < COUNT; i++) {
+        OK(clsm_count(callers[i], 0, UINT64_MAX, &keys));
+        CHECK(keys == 50 + i);
+        clsm_caller_close(callers[i]);
+        OK(clsm_close(stores[i]));
+    }
+}
+
+int main(void) {
+    outlive_thread();
+    nest();
+    leave_scans();
+    open_many();
+    fork_beside();
+    return passed("lives");
+}

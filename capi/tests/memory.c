@@ -1,0 +1,149 @@
+/* Refuses each allocation of the library in turn. The call that needs it answers MEMORY and leaves all as
+ * it was, and works when it is made again; nothing is lost. Link it with -Wl,--wrap= for malloc, calloc,
+ * realloc and free. */
+#include "check.h"
+
+#include <stdatomic.h>
+
+void *__wrap_malloc(size_t);
+void *__wrap_calloc(size_t, size_t);
+void *__wrap_realloc(void *, size_t);
+void __wrap_free(void *);
+void *__real_malloc(size_t);
+void *__real_calloc(size_t, size_t);
+void *__real_realloc(void *, size_t);
+void __real_free(void *);
+
+/* Requests so far, the one that is refused, and what is not freed. */
+static atomic_long requests, refused_one, kept;
+
+static bool is_refused(void) { return atomic_fetch_add(&requests, 1) + 1 == atomic_load(&refused_one); }
+
+static void *kept_too(void *memory) {
+    if (memory) atomic_fetch_add(&kept, 1);
+    return memory;
+}
+
+void *__wrap_malloc(size_t size) { return is_refused() ? NULL : kept_too(__real_malloc(size)); }
+
+void *__wrap_calloc(size_t count, size_t size) {
+    return is_refused() ? NULL : kept_too(__real_calloc(count, size));
+}
+
+void *__wrap_realloc(void *old, size_t size) {
+    if (is_refused()) return NULL;
+    void *memory = __real_realloc(old, size);
+    return old ? memory : kept_too(memory);
+}
+
+void __wrap_free(void *memory) {
+    if (memory) atomic_fetch_sub(&kept, 1);
+    __real_free(memory);
+}
+
+/* ---- */
+
+static int memories;
+
+/* Counts an answer of MEMORY, after which the call is made again. */
+static bool is_again(int code) {
+    if (code != CLSM_MEMORY) return false;
+    memories++;
+    return true;
+}
+
+#define AGAIN(code, call) \
+    do { \
+        int answered_ = (call); \
+        if (is_again(answered_)) answered_ = (call); \
+        ANSWERS(code, answered_); \
+    } while (0)
+
+static clsm_store *opened(int merge) {
+    const clsm_options options = {.keys = 200, .epoch = 16, .merge = merge};
+    clsm_store *store = NULL;
+    const long before = atomic_load(&kept);
+    int code = clsm_open(&options, &store);
+    if (is_again(code)) {
+        CHECK(!store && atomic_load(&kept) == before);
+        code = clsm_open(&options, &store);
+    }
+    ANSWERS(CLSM_OK, code);
+    return store;
+}
+
+static void read_pages(clsm_caller *caller, uint64_t keys) {
+    clsm_row rows[100];
+    clsm_page_end end;
+    clsm_snapshot *snapshot;
+    uint64_t count;
+    rows[0].key = 77;
+    int code = clsm_page(caller, 0, UINT64_MAX, rows, 100, &end);
+    if (is_again(code)) {
+        CHECK(rows[0].key == 77);
+        code = clsm_page(caller, 0, UINT64_MAX, rows, 100, &end);
+    }
+    ANSWERS(CLSM_OK, code);
+    CHECK(end.rows == 100 && end.more && end.next == 100);
+    OK(clsm_count(caller, 0, UINT64_MAX, &count));
+    CHECK(count == keys);
+    OK(clsm_snapshot_open(caller, &snapshot));
+    AGAIN(CLSM_OK, clsm_snapshot_page(snapshot, 50, UINT64_MAX, rows, 100, &end));
+    CHECK(end.rows == 100 && end.more && end.next == 150);
+    clsm_snapshot_close(snapshot);
+}
+
+static void read_scan(clsm_caller *caller, uint64_t keys) {
+    clsm_scan *scan;
+    clsm_row row;
+    int code = clsm_scan_open(caller, 0, UINT64_MAX, &scan);
+    if (is_again(code)) {
+        CHECK(!scan);
+        code = clsm_scan_open(caller, 0, UINT64_MAX, &scan);
+    }
+    ANSWERS(CLSM_OK, code);
+    for (uint64_t key = 0; key < keys; key++) {
+        AGAIN(CLSM_OK, clsm_scan_next(scan, &row));
+        CHECK(row.key == key && row.value.words[0] == key);
+    }
+    AGAIN(CLSM_DONE, clsm_scan_next(scan, &row));
+    clsm_scan_close(scan);
+}
+
+static void use(int merge) {
+    enum { KEYS = 160 };
+    clsm_store *store = opened(merge);
+    clsm_caller *caller;
+    OK(clsm_caller_open(store, &caller));
+    for (uint64_t key = 0; key < KEYS; key++) OK(clsm_put(caller, key, &key, 1));
+    OK(clsm_get(caller, 5, NULL));
+    int code = clsm_sweep(store);
+    CHECK(code == CLSM_OK || code == CLSM_IDLE);
+    read_pages(caller, KEYS);
+    read_scan(caller, KEYS);
+    read_scan(caller, KEYS);
+    clsm_caller_close(caller);
+    OK(clsm_close(store));
+}
+
+/* Uses a store once for each of its allocations. */
+static void refuse_each(int merge) {
+    const long before = atomic_load(&kept);
+    for (long number = 1;; number++) {
+        memories = 0;
+        atomic_store(&requests, 0);
+        atomic_store(&refused_one, number);
+        use(merge);
+        CHECK(atomic_load(&kept) == before);
+        CHECK(memories == (atomic_load(&requests) >= number));
+        if (atomic_load(&requests) < number) break;
+        CHECK(number < 10000);
+    }
+    atomic_store(&refused_one, 0);
+}
+
+int main(void) {
+    refuse_each(0);
+    refuse_each(CLSM_MERGE_IN_CALLS);
+    return passed("memory");
+}

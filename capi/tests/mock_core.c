@@ -1,0 +1,547 @@
+/* A core for tests, under one mutex: it answers as the proved core does, allocates when that does, and
+ * refuses what a test wants to be refused (mock_core.h). */
+#define _POSIX_C_SOURCE 200809L
+#include "mock_core.h"
+
+#include "../core/clsm_core.h"
+
+#include <pthread.h>
+#include <stdlib.h>
+#include <string.h>
+
+enum { SEATS = 64, NONE = 0 };
+static const uint64_t LAST_LIMIT = (uint64_t)1 << 62;
+
+/* ---- A store */
+
+struct version {
+    uint64_t time;
+    clsm_core_value value;
+    struct version *older; /* of the same key; in the free list the next one */
+};
+
+struct entry {
+    uint64_t key;
+    struct version *newest;
+};
+
+enum phase { CLEAN, FROZEN, RETIRED };
+
+struct store {
+    clsm_core_sizes sizes;
+    struct entry *entries; /* by rising key */
+    struct version *versions, *unused;
+    size_t count;
+    uint64_t clock, epoch;      /* the number of the current epoch */
+    uint64_t snapshots[SEATS];  /* the time of the seat's snapshot plus 1, or NONE */
+    enum phase phase;
+    size_t callers_left;
+    bool merger_left;
+    unsigned handles;
+};
+
+/* The handle of a caller in its words; a store's and a merger's begin with the store. */
+struct seat {
+    struct store *store;
+    uint64_t number;
+};
+
+static pthread_mutex_t lock = PTHREAD_MUTEX_INITIALIZER;
+static pthread_cond_t called = PTHREAD_COND_INITIALIZER;
+
+/* ---- What a test made of it */
+
+struct plan {
+    unsigned refusals, backward, made;
+    uint32_t code;
+    uint64_t by;
+};
+
+static struct plan plans[MOCK_CALLS];
+static void (*interruption)(void *);
+static void *interrupted_with;
+static unsigned bytes_more;
+
+void mock_core_refuse(enum mock_call call, uint32_t code, unsigned times) {
+    pthread_mutex_lock(&lock);
+    plans[call].code = code;
+    plans[call].refusals = times;
+    pthread_mutex_unlock(&lock);
+}
+
+void mock_core_run_back(enum mock_call call, uint64_t by, unsigned times) {
+    pthread_mutex_lock(&lock);
+    plans[call].by = by;
+    plans[call].backward = times;
+    pthread_mutex_unlock(&lock);
+}
+
+unsigned mock_core_count(enum mock_call call) {
+    pthread_mutex_lock(&lock);
+    unsigned made = plans[call].made;
+    pthread_mutex_unlock(&lock);
+    return made;
+}
+
+void mock_core_await(enum mock_call call, unsigned made) {
+    pthread_mutex_lock(&lock);
+    while (plans[call].made < made) pthread_cond_wait(&called, &lock);
+    pthread_mutex_unlock(&lock);
+}
+
+void mock_core_interrupt(void (*function)(void *), void *with) {
+    interruption = function;
+    interrupted_with = with;
+}
+
+void mock_core_grow_handles(unsigned bytes) { bytes_more = bytes; }
+
+static void note(struct plan *plan) {
+    plan->made++;
+    pthread_cond_broadcast(&called);
+}
+
+/* The code that this call is to answer, or OK. */
+static uint32_t planned(enum mock_call call) {
+    struct plan *plan = &plans[call];
+    note(plan);
+    if (plan->refusals == 0) return CLSM_CORE_OK;
+    plan->refusals--;
+    return plan->code;
+}
+
+/* The time at which this call is to read. */
+static uint64_t read_time(const struct store *store, enum mock_call call) {
+    struct plan *plan = &plans[call];
+    note(plan);
+    if (plan->backward == 0) return store->clock;
+    plan->backward--;
+    return store->clock > plan->by ? store->clock - plan->by : 0;
+}
+
+/* ---- Opening and closing */
+
+static void *words_of(void *handle) { return handle; }
+
+static struct store *store_of(void *handle) {
+    struct store *store;
+    memcpy(&store, words_of(handle), sizeof store);
+    return store;
+}
+
+static struct seat seat_of(void *handle) {
+    struct seat seat;
+    memcpy(&seat, handle, sizeof seat);
+    return seat;
+}
+
+static void make(void *handle, struct store *store, uint64_t number) {
+    struct seat seat = {store, number};
+    memcpy(handle, &seat, sizeof seat);
+    if (store) store->handles++;
+}
+
+static void destroy(struct store *store) {
+    free(store->entries);
+    free(store->versions);
+    free(store);
+}
+
+static void drop(void *handle) {
+    struct store *store = store_of(handle);
+    pthread_mutex_lock(&lock);
+    if (store && --store->handles == 0) destroy(store);
+    memset(handle, 0, sizeof(struct seat));
+    pthread_mutex_unlock(&lock);
+}
+
+static uint32_t refusal_of(const clsm_core_sizes *sizes) {
+    if (sizes->cells < 4 || sizes->cells > 65536) return CLSM_CORE_BAD_EPOCH;
+    if (sizes->seats < 1 || sizes->seats > SEATS) return CLSM_CORE_BAD_SEATS;
+    if (sizes->shards < 1 || sizes->shards > 1024) return CLSM_CORE_BAD_SHARDS;
+    if (sizes->run < 4 || sizes->run > 4194304) return CLSM_CORE_BAD_KEYS;
+    return sizes->patience > 64 ? CLSM_CORE_BAD_PATIENCE : CLSM_CORE_OK;
+}
+
+static struct store *create(const clsm_core_sizes *sizes) {
+    const size_t room = sizes->run + 2 * sizes->cells;
+    struct store *store = calloc(1, sizeof *store);
+    if (!store) return NULL;
+    store->entries = malloc(room * sizeof *store->entries);
+    store->versions = calloc(room, sizeof *store->versions);
+    if (!store->entries || !store->versions) {
+        destroy(store);
+        return NULL;
+    }
+    for (size_t i = 0; i + 1 < room; i++) store->versions[i].older = &store->versions[i + 1];
+    store->unused = store->versions;
+    store->sizes = *sizes;
+    store->callers_left = sizes->seats;
+    store->merger_left = true;
+    return store;
+}
+
+void clsm_core_room(clsm_core_rooms *answer) {
+    answer->store = sizeof(clsm_core_store) + bytes_more;
+    answer->caller = sizeof(clsm_core_caller);
+    answer->merger = sizeof(clsm_core_merger);
+}
+
+void clsm_core_open(const clsm_core_sizes *ask, clsm_core_code *answer, clsm_core_store *at) {
+    struct store *store = NULL;
+    answer->code = refusal_of(ask);
+    if (answer->code == CLSM_CORE_OK) {
+        store = create(ask);
+        if (!store) answer->code = CLSM_CORE_MEMORY;
+    }
+    make(at, store, 0);
+}
+
+void clsm_core_close(clsm_core_store *at) { drop(at); }
+
+void clsm_core_take_caller(clsm_core_store *at, clsm_core_code *answer, clsm_core_caller *caller) {
+    struct store *store = store_of(at);
+    bool is_left = store && store->callers_left > 0;
+    answer->code = is_left ? CLSM_CORE_OK : CLSM_CORE_NO_HANDLE;
+    make(caller, is_left ? store : NULL, is_left ? --store->callers_left : 0);
+}
+
+void clsm_core_drop_caller(clsm_core_caller *at) { drop(at); }
+
+void clsm_core_take_merger(clsm_core_store *at, clsm_core_code *answer, clsm_core_merger *merger) {
+    struct store *store = store_of(at);
+    bool is_left = store && store->merger_left;
+    answer->code = is_left ? CLSM_CORE_OK : CLSM_CORE_NO_HANDLE;
+    if (is_left) store->merger_left = false;
+    make(merger, is_left ? store : NULL, 0);
+}
+
+void clsm_core_drop_merger(clsm_core_merger *at) { drop(at); }
+
+/* ---- Versions */
+
+/* The place of the first key that is not below this one. */
+static size_t place_of(const struct store *store, uint64_t key) {
+    size_t low = 0, high = store->count;
+    while (low < high) {
+        size_t middle = low + (high - low) / 2;
+        if (store->entries[middle].key < key) low = middle + 1;
+        else high = middle;
+    }
+    return low;
+}
+
+static const struct version *version_below(const struct entry *entry, uint64_t time) {
+    const struct version *version = entry->newest;
+    while (version && version->time >= time) version = version->older;
+    return version;
+}
+
+/* The value of the entry below the time, or null. */
+static const clsm_core_value *value_below(const struct entry *entry, uint64_t time) {
+    const struct version *version = version_below(entry, time);
+    return version && version->value.length > 0 ? &version->value : NULL;
+}
+
+static struct entry *entry_for(struct store *store, uint64_t key) {
+    size_t at = place_of(store, key);
+    struct entry *entry = &store->entries[at];
+    if (at < store->count && entry->key == key) return entry;
+    memmove(entry + 1, entry, (store->count - at) * sizeof *entry);
+    store->count++;
+    *entry = (struct entry){key, NULL};
+    return entry;
+}
+
+static uint64_t limit(const struct store *store) { return (store->epoch + 1) * store->sizes.cells; }
+
+static uint32_t write_at(struct store *store, uint64_t key, const clsm_core_value *value, clsm_core_time *answer) {
+    uint32_t code = planned(MOCK_WRITE);
+    if (code != CLSM_CORE_OK) return code;
+    answer->time = store->clock;
+    if (store->clock == limit(store)) return CLSM_CORE_FULL;
+    struct entry *entry = entry_for(store, key);
+    struct version *version = store->unused;
+    store->unused = version->older;
+    *version = (struct version){store->clock++, *value, entry->newest};
+    entry->newest = version;
+    return CLSM_CORE_OK;
+}
+
+static uint32_t write(clsm_core_caller *at, uint64_t key, const clsm_core_value *value, clsm_core_time *answer) {
+    struct store *store = store_of(at);
+    if (!store) return CLSM_CORE_NO_HANDLE;
+    pthread_mutex_lock(&lock);
+    uint32_t code = write_at(store, key, value, answer);
+    pthread_mutex_unlock(&lock);
+    return code;
+}
+
+uint32_t clsm_core_try_put(clsm_core_caller *at, const clsm_core_row *ask, clsm_core_time *answer) {
+    clsm_core_value value = {.length = ask->value.length};
+    if (value.length < 1 || value.length > 8) return CLSM_CORE_BAD_VALUE;
+    memcpy(value.words, ask->value.words, value.length * sizeof value.words[0]);
+    return write(at, ask->key, &value, answer);
+}
+
+uint32_t clsm_core_try_remove(clsm_core_caller *at, const clsm_core_key *ask, clsm_core_time *answer) {
+    const clsm_core_value none = {.length = 0};
+    return write(at, ask->key, &none, answer);
+}
+
+/* ---- Changes */
+
+static bool is_same(const clsm_core_value *one, const clsm_core_value *other) {
+    return one->length == other->length && memcmp(one->words, other->words, one->length * sizeof one->words[0]) == 0;
+}
+
+/* Writes the desired value if it is told to; else that is a read. */
+static uint32_t change_at(struct store *store, uint64_t key, bool writes, const clsm_core_value *desired,
+                          clsm_core_changed *answer) {
+    clsm_core_time time = {0};
+    if (!writes) {
+        answer->after = answer->before;
+        answer->time = read_time(store, MOCK_READ);
+        return CLSM_CORE_KEPT;
+    }
+    uint32_t code = write_at(store, key, desired, &time);
+    answer->after = *desired;
+    answer->time = time.time;
+    return code;
+}
+
+static clsm_core_value value_now(const struct store *store, uint64_t key) {
+    size_t at = place_of(store, key);
+    const clsm_core_value *value = NULL;
+    if (at < store->count && store->entries[at].key == key) value = value_below(&store->entries[at], store->clock);
+    return value ? *value : (clsm_core_value){.length = 0};
+}
+
+uint32_t clsm_core_try_add(clsm_core_caller *at, const clsm_core_adding *ask, clsm_core_changed *answer) {
+    struct store *store = store_of(at);
+    if (!store) return CLSM_CORE_NO_HANDLE;
+    pthread_mutex_lock(&lock);
+    answer->before = value_now(store, ask->key);
+    const uint64_t old = answer->before.words[0];
+    const bool fits = answer->before.length == 0 || (answer->before.length == 1 && old <= UINT64_MAX - ask->by);
+    const clsm_core_value sum = {1, {(answer->before.length ? old : 0) + ask->by}};
+    uint32_t code = change_at(store, ask->key, fits, &sum, answer);
+    pthread_mutex_unlock(&lock);
+    return code;
+}
+
+uint32_t clsm_core_try_replace(clsm_core_caller *at, const clsm_core_replacing *ask, clsm_core_changed *answer) {
+    struct store *store = store_of(at);
+    if (!store) return CLSM_CORE_NO_HANDLE;
+    if (ask->expected.length > 8 || ask->desired.length > 8) return CLSM_CORE_BAD_VALUE;
+    pthread_mutex_lock(&lock);
+    answer->before = value_now(store, ask->key);
+    clsm_core_value desired = {.length = ask->desired.length};
+    memcpy(desired.words, ask->desired.words, desired.length * sizeof desired.words[0]);
+    uint32_t code = change_at(store, ask->key, is_same(&answer->before, &ask->expected), &desired, answer);
+    pthread_mutex_unlock(&lock);
+    return code;
+}
+
+/* ---- Reads */
+
+static uint32_t read_below(const struct store *store, uint64_t key, uint64_t time, clsm_core_got *answer) {
+    size_t at = place_of(store, key);
+    const clsm_core_value *value = NULL;
+    if (at < store->count && store->entries[at].key == key) value = value_below(&store->entries[at], time);
+    memset(answer, 0, sizeof *answer);
+    answer->time = time;
+    if (value) answer->value = *value;
+    return value ? CLSM_CORE_OK : CLSM_CORE_NOT_FOUND;
+}
+
+uint32_t clsm_core_get(clsm_core_caller *at, const clsm_core_key *ask, clsm_core_got *answer) {
+    struct store *store = store_of(at);
+    void (*function)(void *) = interruption;
+    if (!store) return CLSM_CORE_NO_HANDLE;
+    if (function) {
+        interruption = NULL;
+        function(interrupted_with);
+    }
+    pthread_mutex_lock(&lock);
+    uint32_t code = read_below(store, ask->key, read_time(store, MOCK_READ), answer);
+    pthread_mutex_unlock(&lock);
+    return code;
+}
+
+uint32_t clsm_core_get_at(clsm_core_caller *at, const clsm_core_key *ask, clsm_core_got *answer) {
+    struct seat seat = seat_of(at);
+    if (!seat.store) return CLSM_CORE_NO_HANDLE;
+    pthread_mutex_lock(&lock);
+    uint64_t noted = seat.store->snapshots[seat.number];
+    uint32_t code = CLSM_CORE_NO_SNAPSHOT;
+    if (noted != NONE) code = read_below(seat.store, ask->key, noted - 1, answer);
+    pthread_mutex_unlock(&lock);
+    return code;
+}
+
+uint32_t clsm_core_snapshot(clsm_core_caller *at, const clsm_core_key *ask, clsm_core_time *answer) {
+    struct seat seat = seat_of(at);
+    (void)ask;
+    if (!seat.store) return CLSM_CORE_NO_HANDLE;
+    pthread_mutex_lock(&lock);
+    uint64_t *noted = &seat.store->snapshots[seat.number];
+    uint32_t code = *noted == NONE ? CLSM_CORE_OK : CLSM_CORE_OPEN;
+    if (*noted == NONE) *noted = read_time(seat.store, MOCK_SNAPSHOT) + 1;
+    answer->time = *noted - 1;
+    pthread_mutex_unlock(&lock);
+    return code;
+}
+
+uint32_t clsm_core_close_snapshot(clsm_core_caller *at, const clsm_core_key *ask, clsm_core_time *answer) {
+    struct seat seat = seat_of(at);
+    (void)ask;
+    if (!seat.store) return CLSM_CORE_NO_HANDLE;
+    pthread_mutex_lock(&lock);
+    uint64_t *noted = &seat.store->snapshots[seat.number];
+    uint32_t code = *noted == NONE ? CLSM_CORE_NO_SNAPSHOT : CLSM_CORE_OK;
+    if (*noted != NONE) answer->time = *noted - 1;
+    *noted = NONE;
+    pthread_mutex_unlock(&lock);
+    return code;
+}
+
+/* The time at which a range is read: of the seat's snapshot, or the present. */
+static uint64_t range_time(struct seat seat) {
+    uint64_t noted = seat.store->snapshots[seat.number];
+    return noted != NONE ? noted - 1 : read_time(seat.store, MOCK_READ);
+}
+
+uint32_t clsm_core_count(clsm_core_caller *at, const clsm_core_range *ask, clsm_core_counted *answer) {
+    struct seat seat = seat_of(at);
+    struct store *store = seat.store;
+    if (!store) return CLSM_CORE_NO_HANDLE;
+    pthread_mutex_lock(&lock);
+    answer->time = range_time(seat);
+    answer->keys = 0;
+    for (size_t i = place_of(store, ask->first); i < store->count && store->entries[i].key <= ask->last; i++)
+        if (value_below(&store->entries[i], answer->time)) answer->keys++;
+    pthread_mutex_unlock(&lock);
+    return CLSM_CORE_OK;
+}
+
+static void fill(struct seat seat, const clsm_core_range *ask, clsm_core_row *rows, size_t count, clsm_core_paged *answer) {
+    struct store *store = seat.store;
+    *answer = (clsm_core_paged){.time = range_time(seat)};
+    for (size_t i = place_of(store, ask->first); i < store->count && store->entries[i].key <= ask->last; i++) {
+        const clsm_core_value *value = value_below(&store->entries[i], answer->time);
+        if (!value) continue;
+        answer->more = answer->rows == count;
+        answer->next = answer->more ? store->entries[i].key : 0;
+        if (answer->more) return;
+        rows[answer->rows++] = (clsm_core_row){store->entries[i].key, *value};
+    }
+}
+
+uint32_t clsm_core_page(clsm_core_caller *at, const clsm_core_range *ask, clsm_core_row *rows, size_t count,
+                        clsm_core_paged *answer) {
+    struct seat seat = seat_of(at);
+    if (!seat.store) return CLSM_CORE_NO_HANDLE;
+    void *found = malloc(sizeof *rows);
+    if (!found) return CLSM_CORE_MEMORY;
+    pthread_mutex_lock(&lock);
+    fill(seat, ask, rows, count, answer);
+    pthread_mutex_unlock(&lock);
+    free(found);
+    return CLSM_CORE_OK;
+}
+
+/* ---- Merging */
+
+static uint32_t freeze(struct store *store, uint64_t used) {
+    const uint64_t cells = store->sizes.cells, drawn = store->clock - store->epoch * cells;
+    if (store->phase != CLEAN) return CLSM_CORE_OK;
+    if (drawn < (used < cells ? used : cells)) return CLSM_CORE_IDLE;
+    uint32_t code = planned(MOCK_FREEZE);
+    if (code != CLSM_CORE_OK) return code;
+    if ((store->epoch + 2) * cells > LAST_LIMIT) return CLSM_CORE_WORN;
+    store->epoch++;
+    store->clock = store->epoch * cells;
+    store->phase = FROZEN;
+    return CLSM_CORE_OK;
+}
+
+/* The time from which on a merge keeps all versions. */
+static uint64_t floor_of(const struct store *store) {
+    uint64_t floor = store->epoch * store->sizes.cells;
+    for (size_t i = 0; i < SEATS; i++) {
+        uint64_t noted = store->snapshots[i];
+        if (noted != NONE && noted - 1 < floor) floor = noted - 1;
+    }
+    return floor;
+}
+
+/* Whether a merge at this floor keeps the version, which is the newest below the floor or is not. */
+static bool is_kept(const struct version *version, uint64_t floor, bool is_newest_below) {
+    return version->time >= floor || (is_newest_below && version->value.length > 0);
+}
+
+/* How many versions of the frozen epoch and before are kept; gives the others up if told to. */
+static size_t keep(struct store *store, uint64_t floor, bool gives_up) {
+    const uint64_t end = store->epoch * store->sizes.cells;
+    size_t kept = 0;
+    for (size_t i = 0; i < store->count; i++) {
+        bool is_newest_below = true;
+        for (struct version **link = &store->entries[i].newest; *link;) {
+            struct version *version = *link;
+            bool stays = version->time >= end || is_kept(version, floor, is_newest_below);
+            if (version->time < floor) is_newest_below = false;
+            if (stays && version->time < end) kept++;
+            if (stays || !gives_up) {
+                link = &version->older;
+                continue;
+            }
+            *link = version->older;
+            version->older = store->unused;
+            store->unused = version;
+        }
+    }
+    return kept;
+}
+
+static void forget_empty(struct store *store) {
+    size_t kept = 0;
+    for (size_t i = 0; i < store->count; i++)
+        if (store->entries[i].newest) store->entries[kept++] = store->entries[i];
+    store->count = kept;
+}
+
+static uint32_t sweep(struct store *store, uint64_t used, clsm_core_time *answer) {
+    uint32_t code = freeze(store, used);
+    if (code != CLSM_CORE_OK) return code;
+    code = planned(MOCK_SWEEP);
+    answer->time = 0;
+    if (code != CLSM_CORE_OK) return code;
+    uint64_t floor = floor_of(store);
+    if (store->phase == FROZEN) {
+        if (keep(store, floor, false) > store->sizes.run) return CLSM_CORE_RUN_FULL;
+        keep(store, floor, true);
+        forget_empty(store);
+    }
+    store->phase = CLEAN;
+    return CLSM_CORE_OK;
+}
+
+uint32_t clsm_core_try_freeze(clsm_core_merger *at, const clsm_core_used *ask, clsm_core_time *answer) {
+    struct store *store = store_of(at);
+    (void)answer;
+    if (!store) return CLSM_CORE_NO_HANDLE;
+    pthread_mutex_lock(&lock);
+    uint32_t code = freeze(store, ask->used);
+    pthread_mutex_unlock(&lock);
+    return code;
+}
+
+uint32_t clsm_core_try_sweep(clsm_core_merger *at, const clsm_core_used *ask, clsm_core_time *answer) {
+    struct store *store = store_of(at);
+    if (!store) return CLSM_CORE_NO_HANDLE;
+    pthread_mutex_lock(&lock);
+    uint32_t code = sweep(store, ask->used, answer);
+    pthread_mutex_unlock(&lock);
+    return code;
+}

@@ -1,0 +1,256 @@
+/* What only luck would show with the proved core: lost races, a read that is in the way of a merge, the
+ * end of times, and reads that run back, which the core is not proved never to do between two seats. The
+ * core is mock_core.c, which does each of these when it is told to. */
+#include "between.h"
+#include "check.h"
+#include "mock_core.h"
+
+#include <limits.h>
+
+static const uint64_t WORD = 5;
+
+static clsm_store *opened(size_t epoch, int merge) {
+    const clsm_options options = {.epoch = epoch, .merge = merge};
+    clsm_store *store;
+    OK(clsm_open(&options, &store));
+    return store;
+}
+
+static clsm_caller *caller_of(clsm_store *store) {
+    clsm_caller *caller;
+    OK(clsm_caller_open(store, &caller));
+    return caller;
+}
+
+static void closed(clsm_store *store, clsm_caller *caller) {
+    clsm_caller_close(caller);
+    OK(clsm_close(store));
+}
+
+/* ---- Writes that lost a race */
+
+static void lose(enum clsm_code code) {
+    enum { LOST = 100, PAUSED = 7 };
+    clsm_store *store = opened(64, CLSM_MERGE_IN_CALLS);
+    clsm_caller *caller = caller_of(store);
+    mock_core_refuse(MOCK_WRITE, (uint32_t)code, 2);
+    ANSWERS((int)code, clsm_try_put(caller, 1, &WORD, 1));
+    ANSWERS((int)code, clsm_try_remove(caller, 1));
+    ANSWERS(CLSM_NOT_FOUND, clsm_get(caller, 1, NULL));
+    /* Seven times it pauses, and then yields each time. */
+    const unsigned made = mock_core_count(MOCK_WRITE);
+    const unsigned long yields = between_yields();
+    mock_core_refuse(MOCK_WRITE, (uint32_t)code, LOST);
+    OK(clsm_put(caller, 1, &WORD, 1));
+    CHECK(mock_core_count(MOCK_WRITE) - made == LOST + 1);
+    CHECK(between_yields() - yields == LOST - PAUSED);
+    mock_core_refuse(MOCK_WRITE, (uint32_t)code, LOST);
+    OK(clsm_remove(caller, 1));
+    CHECK(between_yields() - yields == 2 * (LOST - PAUSED));
+    closed(store, caller);
+}
+
+/* ---- Merges that are in somebody's way */
+
+static void sweep_in_the_way(void) {
+    clsm_store *store = opened(4, CLSM_MERGE_IN_CALLS);
+    clsm_caller *caller = caller_of(store);
+    OK(clsm_put(caller, 1, &WORD, 1));
+    mock_core_refuse(MOCK_FREEZE, CLSM_BUSY, 1);
+    ANSWERS(CLSM_BUSY, clsm_sweep(store));
+    mock_core_refuse(MOCK_SWEEP, CLSM_PINNED, 1);
+    ANSWERS(CLSM_PINNED, clsm_sweep(store));
+    OK(clsm_put(caller, 2, &WORD, 1));
+    OK(clsm_sweep(store));
+    ANSWERS(CLSM_IDLE, clsm_sweep(store));
+    closed(store, caller);
+}
+
+/* Writers in whose calls it merges find room, however often the merge is in the way. */
+static void merge_in_calls_in_the_way(void) {
+    enum { TIMES = 50, WRITES = 400 };
+    clsm_store *store = opened(4, CLSM_MERGE_IN_CALLS);
+    clsm_caller *caller = caller_of(store);
+    uint64_t keys;
+    mock_core_refuse(MOCK_FREEZE, CLSM_BUSY, TIMES);
+    mock_core_refuse(MOCK_SWEEP, CLSM_PINNED, TIMES);
+    for (uint64_t key = 0; key < WRITES; key++) OK(clsm_put(caller, key, &WORD, 1));
+    OK(clsm_count(caller, 0, UINT64_MAX, &keys));
+    CHECK(keys == WRITES);
+    closed(store, caller);
+}
+
+/* So does the merger's thread, which yields after each time. */
+static void merge_beside_in_the_way(void) {
+    enum { TIMES = 50, WRITES = 400 };
+    clsm_store *store = opened(4, 0);
+    clsm_caller *caller = caller_of(store);
+    uint64_t keys;
+    const unsigned long yields = between_yields();
+    mock_core_refuse(MOCK_SWEEP, CLSM_PINNED, TIMES);
+    for (uint64_t key = 0; key < WRITES; key++) OK(clsm_put(caller, key, &WORD, 1));
+    CHECK(between_yields() - yields == TIMES);
+    mock_core_refuse(MOCK_FREEZE, CLSM_BUSY, TIMES);
+    for (uint64_t key = 0; key < WRITES; key++) OK(clsm_put(caller, key, &WORD, 1));
+    OK(clsm_count(caller, 0, UINT64_MAX, &keys));
+    CHECK(keys == WRITES);
+    closed(store, caller);
+}
+
+/* The merger's thread merges once half of an epoch is drawn, with nobody waiting for it. */
+static void merge_at_half(void) {
+    enum { EPOCH = 16, HALF = EPOCH / 2 };
+    clsm_store *store = opened(EPOCH, 0);
+    clsm_caller *one = caller_of(store), *other = caller_of(store);
+    for (unsigned round = 1; round <= 20; round++) {
+        const unsigned made = mock_core_count(MOCK_SWEEP);
+        for (unsigned i = 0; i + 1 < HALF; i++) OK(clsm_put(i % 2 ? one : other, i, &WORD, 1));
+        CHECK(mock_core_count(MOCK_SWEEP) == made);
+        OK(clsm_put(round % 2 ? one : other, 1, &WORD, 1));
+        mock_core_await(MOCK_SWEEP, made + 1);
+        /* The merge may still be running. */
+        int code;
+        while ((code = clsm_sweep(store)) == CLSM_OK) continue;
+        CHECK(code == CLSM_IDLE);
+    }
+    clsm_caller_close(one);
+    closed(store, other);
+}
+
+/* Half of an epoch that was drawn while the epoch before was merged is not forgotten. */
+static void merge_on(void) {
+    enum { EPOCH = 16, HALF = EPOCH / 2 };
+    clsm_store *store = opened(EPOCH, 0);
+    clsm_caller *caller = caller_of(store);
+    const unsigned made = mock_core_count(MOCK_FREEZE);
+    mock_core_refuse(MOCK_SWEEP, CLSM_PINNED, UINT_MAX);
+    for (uint64_t i = 0; i < HALF; i++) OK(clsm_put(caller, i, &WORD, 1));
+    mock_core_await(MOCK_FREEZE, made + 1);
+    while (clsm_sweep(store) != CLSM_PINNED) continue;
+    for (uint64_t i = 0; i < HALF; i++) OK(clsm_put(caller, i, &WORD, 1));
+    CHECK(mock_core_count(MOCK_FREEZE) == made + 1);
+    mock_core_refuse(MOCK_SWEEP, CLSM_OK, 0);
+    mock_core_await(MOCK_FREEZE, made + 2);
+    closed(store, caller);
+}
+
+/* A write that tries once and finds the epoch full calls the merger, even if that gave up before. */
+static void call_again(void) {
+    clsm_store *store = opened(4, 0);
+    clsm_caller *caller = caller_of(store);
+    mock_core_refuse(MOCK_SWEEP, CLSM_RUN_FULL, UINT_MAX);
+    int code = CLSM_OK;
+    for (uint64_t i = 0; code == CLSM_OK; i++) {
+        code = clsm_put(caller, i, &WORD, 1);
+        CHECK(i < 100);
+    }
+    ANSWERS(CLSM_RUN_FULL, code);
+    mock_core_refuse(MOCK_SWEEP, CLSM_OK, 0);
+    const unsigned made = mock_core_count(MOCK_SWEEP);
+    ANSWERS(CLSM_FULL, clsm_try_put(caller, 1, &WORD, 1));
+    mock_core_await(MOCK_SWEEP, made + 1);
+    OK(clsm_put(caller, 1, &WORD, 1));
+    closed(store, caller);
+}
+
+/* ---- The end of times */
+
+static void wear_out(int merge) {
+    clsm_store *store = opened(4, merge);
+    clsm_caller *caller = caller_of(store);
+    mock_core_refuse(MOCK_FREEZE, CLSM_WORN, UINT_MAX);
+    for (uint64_t i = 0; i < 4; i++) OK(clsm_put(caller, i, &WORD, 1));
+    ANSWERS(CLSM_WORN, clsm_put(caller, 4, &WORD, 1));
+    ANSWERS(CLSM_WORN, clsm_remove(caller, 1));
+    ANSWERS(CLSM_FULL, clsm_try_put(caller, 4, &WORD, 1));
+    ANSWERS(CLSM_WORN, clsm_sweep(store));
+    OK(clsm_get(caller, 3, NULL));
+    mock_core_refuse(MOCK_FREEZE, CLSM_OK, 0);
+    closed(store, caller);
+}
+
+/* ---- Reads that run back */
+
+static void run_back(void) {
+    clsm_store *store = opened(64, CLSM_MERGE_IN_CALLS);
+    clsm_caller *caller = caller_of(store);
+    clsm_snapshot *snapshot;
+    clsm_scan *scan;
+    clsm_row row;
+    clsm_page_end end;
+    uint64_t keys;
+    for (uint64_t i = 0; i < 10; i++) OK(clsm_put(caller, i, &WORD, 1));
+    mock_core_run_back(MOCK_READ, 1, 3);
+    OK(clsm_get(caller, 9, NULL));
+    mock_core_run_back(MOCK_READ, 5, 3);
+    OK(clsm_count(caller, 0, UINT64_MAX, &keys));
+    CHECK(keys == 10);
+    mock_core_run_back(MOCK_READ, 5, 3);
+    OK(clsm_page(caller, 9, 9, &row, 1, &end));
+    CHECK(end.rows == 1);
+    unsigned made = mock_core_count(MOCK_SNAPSHOT);
+    mock_core_run_back(MOCK_SNAPSHOT, 1, 3);
+    OK(clsm_snapshot_open(caller, &snapshot));
+    CHECK(mock_core_count(MOCK_SNAPSHOT) - made == 4 && clsm_snapshot_time(snapshot) == 10);
+    OK(clsm_snapshot_get(snapshot, 9, NULL));
+    mock_core_run_back(MOCK_SNAPSHOT, 5, 30);
+    OK(clsm_scan_open(caller, 9, 9, &scan));
+    OK(clsm_scan_next(scan, &row));
+    clsm_scan_close(scan);
+    clsm_snapshot_close(snapshot);
+    closed(store, caller);
+}
+
+/* What one caller saw, the next one to be opened sees, and one that follows it. */
+static void follow_back(void) {
+    clsm_store *store = opened(64, CLSM_MERGE_IN_CALLS);
+    clsm_caller *one = caller_of(store), *other = caller_of(store), *next;
+    OK(clsm_put(one, 1, &WORD, 1));
+    const uint64_t seen = clsm_seen(one);
+    mock_core_run_back(MOCK_READ, 1, 3);
+    OK(clsm_follow(other, seen));
+    CHECK(clsm_seen(other) == seen && clsm_time(other) == 0);
+    mock_core_run_back(MOCK_SNAPSHOT, 1, 1);
+    clsm_snapshot *snapshot;
+    OK(clsm_snapshot_open(other, &snapshot));
+    OK(clsm_snapshot_get(snapshot, 1, NULL));
+    clsm_snapshot_close(snapshot);
+    ANSWERS(CLSM_BAD_VALUE, clsm_follow(other, seen + 1));
+    OK(clsm_put(one, 2, &WORD, 1));
+    clsm_caller_close(one);
+    mock_core_run_back(MOCK_READ, 1, 3);
+    const unsigned made = mock_core_count(MOCK_READ);
+    OK(clsm_caller_open(store, &next));
+    CHECK(mock_core_count(MOCK_READ) - made == 4 && clsm_seen(next) == seen + 1);
+    clsm_caller_close(other);
+    closed(store, next);
+}
+
+/* ---- Another build */
+
+static void refuse_build(void) {
+    clsm_store *store;
+    mock_core_grow_handles(8);
+    ANSWERS(CLSM_BAD_BUILD, clsm_open(NULL, &store));
+    CHECK(!store);
+    mock_core_grow_handles(0);
+    OK(clsm_close(opened(0, 0)));
+}
+
+int main(void) {
+    lose(CLSM_BUSY);
+    lose(CLSM_RACED);
+    lose(CLSM_OVERTAKEN);
+    sweep_in_the_way();
+    merge_in_calls_in_the_way();
+    merge_beside_in_the_way();
+    merge_at_half();
+    merge_on();
+    call_again();
+    wear_out(0);
+    wear_out(CLSM_MERGE_IN_CALLS);
+    run_back();
+    follow_back();
+    refuse_build();
+    return passed("mocked");
+}

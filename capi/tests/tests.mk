@@ -1,0 +1,105 @@
+# Tests. Each prints a line; tests/run counts them.
+
+T = $(OUT)/tests
+comma = ,
+wrap = $(patsubst %,-Wl$(comma)--wrap=%,$(1))
+BETWEEN = $(call wrap,pthread_cond_wait pthread_cond_signal pthread_cond_broadcast pthread_create pthread_join sched_yield)
+HEAP = $(call wrap,malloc calloc realloc free)
+STRICT = $(C) -Werror
+
+# ---- Programs: over the library; `mocked` and `checked` over the parts and the mock core.
+
+$(T)/threads $(T)/refusals $(T)/lives $(T)/audited: $(T)/%: tests/%.c tests/check.h tests/record.h $(T)/between.o $(OUT)/libclsm.a
+	$(STRICT) -o $@ $< $(T)/between.o $(OUT)/libclsm.a $(BETWEEN)
+
+$(T)/memory: $(T)/%: tests/%.c tests/check.h $(OUT)/libclsm.a
+	$(STRICT) -o $@ $< $(OUT)/libclsm.a $(HEAP)
+
+$(T)/stack $(T)/closed $(T)/changes: $(T)/%: tests/%.c tests/check.h $(OUT)/libclsm.a
+	$(STRICT) -o $@ $< $(OUT)/libclsm.a
+
+$(T)/shared: tests/lives.c tests/check.h $(T)/between.o $(OUT)/libclsm.so.0
+	$(STRICT) -o $@ $< $(T)/between.o $(BETWEEN) -L$(OUT) -lclsm -Wl,-rpath,'$$ORIGIN/..'
+
+$(T)/cxx: tests/cxx.cpp clsm.h $(OUT)/libclsm.a
+	@mkdir -p $(@D)
+	$(CXX11) -Werror -o $@ $< $(OUT)/libclsm.a
+
+$(T)/mocked: tests/mocked.c tests/check.h $(T)/between.o $(T)/mock_core.o $(OBJECTS)
+	$(STRICT) -o $@ $< $(T)/between.o $(T)/mock_core.o $(OBJECTS) $(BETWEEN)
+
+$(T)/checked: tests/checked.c tests/check.h $(T)/mock_core.o $(PARTS:%=src/%.c) $(HEADERS)
+	$(STRICT) -DCLSM_CHECKED -o $@ $< $(T)/mock_core.o $(PARTS:%=src/%.c)
+
+$(T)/between.o $(T)/mock_core.o: $(T)/%.o: tests/%.c tests/%.h core/clsm_core.h
+	@mkdir -p $(@D)
+	$(STRICT) -c -o $@ $<
+
+$(OUT)/libmock_core.a: $(T)/mock_core.o
+	rm -f $@ && $(AR) rcs $@ $<
+
+# ---- What must be there, by name
+
+tools_of = @missing=; for tool in $(1); do command -v $$tool >/dev/null || missing="$$missing $$tool"; done; \
+	[ -z "$$missing" ] || { echo "capi: not there:$$missing" >&2; exit 1; }
+
+BUILDING = $(CC) $(CXX) $(AR) $(LD) $(OBJCOPY) $(NM) $(if $(filter out/libclsm_core.a,$(CORE)),rt)
+
+AUDITING = $(firstword $(AUDIT)) $(if $(filter ../clsm,$(AUDIT)),rt)
+
+.PHONY: tools audit-tools valgrind-tools
+tools:
+	$(call tools_of,$(BUILDING) $(CLANG) $(CLANGXX) pkg-config timeout diff python3 $(AUDITING))
+audit-tools:
+	$(call tools_of,$(BUILDING) timeout $(AUDITING))
+valgrind-tools:
+	$(call tools_of,$(BUILDING) timeout valgrind)
+
+# ---- Names and warnings
+
+.PHONY: names warnings
+# The names that the libraries define are those of the header, and no others.
+names: $(OUT)/libclsm.a $(OUT)/libclsm.so.0 $(OUT)/names
+	$(NM) -g --defined-only $(OUT)/libclsm.a | sed -n 's/^[0-9a-f]* [A-Z] //p' | sort | diff $(OUT)/names -
+	$(NM) -D --defined-only $(OUT)/libclsm.so.0 | sed -n 's/^[0-9a-f]* [^A] //p' | sed 's/@.*//' | sort | diff $(OUT)/names -
+
+warnings:
+	for cc in $(CC) $(CLANG); do \
+	    for file in src/*.c tests/*.c; do $$cc -std=c11 $(WARNINGS) -Werror -O2 -fsyntax-only -pthread $$file || exit 1; done; \
+	    $$cc -std=c11 $(WARNINGS) -Werror -O2 -fsyntax-only -pthread -DCLSM_CHECKED src/*.c || exit 1; \
+	done
+	for cxx in $(CXX) $(CLANGXX); do \
+	    $$cxx -std=c++11 $(WARNINGS) -Werror -fsyntax-only -x c++-header clsm.h || exit 1; \
+	    $$cxx -std=c++11 $(WARNINGS) -Werror -fsyntax-only -pthread tests/cxx.cpp || exit 1; \
+	done
+
+# ---- Runs
+
+ROUNDS = $(if $(SANITIZE),2000,20000)
+PROGRAMS = threads refusals memory lives stack changes cxx mocked checked \
+    $(if $(SANITIZE),,shared) $(if $(filter address,$(SANITIZE)),closed) $(if $(AUDIT),audited)
+BUILT = $(PROGRAMS:%=$(T)/%)
+PLAIN = refusals memory lives stack changes cxx mocked checked \
+    $(if $(SANITIZE),,shared) $(if $(filter address,$(SANITIZE)),closed)
+RUNS = "$(T)/threads $(ROUNDS)" "$(T)/threads $(ROUNDS) one" $(PLAIN:%=$(T)/%) \
+    $(if $(SANITIZE),,"tests/installed $(MAKE) OUT=$(OUT) CORE=$(CORE)" "tests/planted $(OUT)/planted") \
+    $(if $(AUDIT),"tests/audit $(T)/audited $(AUDIT_CALLS) $(AUDIT)")
+SMALL = "$(T)/threads 200" $(filter-out %/shared,$(PLAIN:%=$(T)/%))
+MEMCHECK = valgrind -q --error-exitcode=9 --leak-check=full --fair-sched=yes
+
+.PHONY: check check-mock check-valgrind check-audit check-planted
+check: tools names warnings $(BUILT)
+	@$(if $(AUDIT),,echo "capi: AUDIT is empty: no calls are audited")
+	CC="$(CC)" tests/run $(GUARD) $(RUNS)
+
+check-mock:
+	$(MAKE) check OUT=$(OUT)/mock CORE=$(OUT)/mock/libmock_core.a
+
+check-valgrind: valgrind-tools $(BUILT)
+	WRAP="$(MEMCHECK)" tests/run $(GUARD) $(SMALL)
+
+check-audit: audit-tools $(T)/audited
+	tests/run $(GUARD) "tests/audit $(T)/audited $(AUDIT_CALLS) $(AUDIT)"
+
+check-planted: tools
+	CC="$(CC)" tests/planted $(OUT)/planted
