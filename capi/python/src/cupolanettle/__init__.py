@@ -1,0 +1,36 @@
+"""Cupolanettle: an ordered map in memory for many threads.
+
+Keys are ints from 0 to 2**64 - 1. Values are such ints too, or tuples of 2 to 8 of them. Reads
+never wait, and read the map as it is at one moment; a snapshot keeps that moment.
+
+>>> import threading
+>>> with Store(keys=100_000) as store:
+...     def work(n):
+...         for i in range(1000):
+...             store[4 * i + n] = (i, n)
+...     threads = [threading.Thread(target=work, args=(n,)) for n in range(4)]
+...     for thread in threads:
+...         thread.start()
+...     for thread in threads:
+...         thread.join()
+...     with store.snapshot() as snapshot:
+...         snapshot[7], list(snapshot.scan(10, 12)), snapshot.count()
+((1, 3), [(10, (2, 2)), (11, (2, 3))], 4000)
+
+The package calls the C library ``libclsm.so`` by ``ctypes``: the one that the environment variable
+``CLSM_LIBRARY`` names, or else the first one that lies beside the package, was built with its
+sources, or is installed in the system.
+"""
+
+from ._errors import Closed, Code, Error, NoSeat, RunFull
+from ._library import VERSION as __version__
+from ._snapshot import Snapshot
+from ._store import Store
+from ._values import Value
+
+__all__ = ["Closed", "Code", "Error", "NoSeat", "RunFull", "Snapshot", "Store", "Value"]
+
+# Users see these names, and not the files that they are written in.
+for _public in (Closed, Code, Error, NoSeat, RunFull, Snapshot, Store):
+    _public.__module__ = __name__
+del _public

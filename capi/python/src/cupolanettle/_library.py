@@ -1,0 +1,211 @@
+"""The C library: where it is found, and what its header, ``clsm.h``, declares.
+
+Calls that never wait and are short keep the interpreter's lock (``PyDLL``): to release it would
+take longer. All others release it (``CDLL``).
+"""
+
+from __future__ import annotations
+
+import ctypes
+import ctypes.util
+import os
+from ctypes import POINTER, c_bool, c_char_p, c_int, c_size_t, c_uint64, c_void_p
+from pathlib import Path
+from typing import Any, Callable, Dict, NamedTuple, Optional, Sequence, Tuple
+
+VERSION = "0.2.0"
+VARIABLE = "CLSM_LIBRARY"
+FILE = "libclsm.so"
+
+Call = Callable[..., int]
+
+
+# ---- Types of the header
+
+
+class Value(ctypes.Structure):
+    """The first ``length`` of the words; no value if that is 0."""
+
+    length: int
+    words: ctypes.Array[c_uint64]
+    _fields_ = [("length", c_uint64), ("words", c_uint64 * 8)]
+
+
+class Row(ctypes.Structure):
+    """A key and its value."""
+
+    key: int
+    value: Value
+    _fields_ = [("key", c_uint64), ("value", Value)]
+
+
+class Changed(ctypes.Structure):
+    """The value of a key before a call and after it."""
+
+    before: Value
+    after: Value
+    _fields_ = [("before", Value), ("after", Value)]
+
+
+class PageEnd(ctypes.Structure):
+    """How many rows a page has, and the key of the row behind them if there are more."""
+
+    rows: int
+    next: int
+    more: bool
+    _fields_ = [("rows", c_uint64), ("next", c_uint64), ("more", c_bool)]
+
+
+class Options(ctypes.Structure):
+    """How to open a store; 0 leaves a choice to the library."""
+
+    _fields_ = [
+        ("keys", c_size_t),
+        ("epoch", c_size_t),
+        ("patience", c_int),
+        ("merge", c_int),
+        ("zero", c_uint64 * 4),
+    ]
+
+
+# ---- Calls of the header: what they answer, and their parameters
+
+# Stores, callers and snapshots are pointers to what only the library knows.
+_HANDLE = c_void_p
+_WORDS = POINTER(c_uint64)
+
+DECLARED: Dict[str, Tuple[Any, Sequence[Any]]] = {
+    "clsm_version": (c_char_p, []),
+    "clsm_strerror": (c_char_p, [c_int]),
+    "clsm_open": (c_int, [POINTER(Options), POINTER(_HANDLE)]),
+    "clsm_close": (c_int, [_HANDLE]),
+    "clsm_caller_open": (c_int, [_HANDLE, POINTER(_HANDLE)]),
+    "clsm_caller_close": (None, [_HANDLE]),
+    "clsm_put": (c_int, [_HANDLE, c_uint64, _WORDS, c_size_t]),
+    "clsm_remove": (c_int, [_HANDLE, c_uint64]),
+    "clsm_try_put": (c_int, [_HANDLE, c_uint64, _WORDS, c_size_t]),
+    "clsm_try_remove": (c_int, [_HANDLE, c_uint64]),
+    "clsm_get": (c_int, [_HANDLE, c_uint64, POINTER(Value)]),
+    "clsm_count": (c_int, [_HANDLE, c_uint64, c_uint64, _WORDS]),
+    "clsm_snapshot_open": (c_int, [_HANDLE, POINTER(_HANDLE)]),
+    "clsm_snapshot_close": (None, [_HANDLE]),
+    "clsm_snapshot_time": (c_uint64, [_HANDLE]),
+    "clsm_snapshot_get": (c_int, [_HANDLE, c_uint64, POINTER(Value)]),
+    "clsm_snapshot_count": (c_int, [_HANDLE, c_uint64, c_uint64, _WORDS]),
+    "clsm_snapshot_page": (
+        c_int,
+        [_HANDLE, c_uint64, c_uint64, POINTER(Row), c_size_t, POINTER(PageEnd)],
+    ),
+    "clsm_add": (c_int, [_HANDLE, c_uint64, c_uint64, POINTER(Changed)]),
+    "clsm_put_if_absent": (c_int, [_HANDLE, c_uint64, POINTER(Value), POINTER(Changed)]),
+    "clsm_replace": (
+        c_int,
+        [_HANDLE, c_uint64, POINTER(Value), POINTER(Value), POINTER(Changed)],
+    ),
+    "clsm_batch": (c_int, [_HANDLE, POINTER(Row), c_size_t]),
+}
+
+# The calls that a library may lack.
+OPTIONAL = frozenset(["clsm_add", "clsm_put_if_absent", "clsm_replace", "clsm_batch"])
+
+
+# ---- Loading
+
+
+def _find() -> str:
+    """The path or the name of the library."""
+    chosen = os.environ.get(VARIABLE)
+    if chosen:
+        return chosen
+    package = Path(__file__).resolve().parent
+    if (package / FILE).is_file():
+        return str(package / FILE)
+    project = package.parent.parent
+    built = project.parent / "build" / FILE
+    if (project / "pyproject.toml").is_file() and built.is_file():
+        return str(built)
+    installed = ctypes.util.find_library("clsm")
+    if installed is None:
+        raise ImportError(f"{FILE} was not found: set {VARIABLE} to its path")
+    return installed
+
+
+def _bind(library: ctypes.CDLL, name: str) -> Any:
+    """The call of this name, which the library must have."""
+    try:
+        function = getattr(library, name)
+    except AttributeError as error:
+        raise ImportError(f"{PATH} has no {name}") from error
+    function.restype, function.argtypes = DECLARED[name]
+    return function
+
+
+def _bind_optional(library: ctypes.CDLL, name: str) -> Optional[Call]:
+    """The call of this name, or ``None`` if the library lacks it."""
+    call: Optional[Call] = None
+    if hasattr(library, name):
+        call = _bind(library, name)
+    return call
+
+
+PATH = _find()
+try:
+    _releasing = ctypes.CDLL(PATH)
+    _keeping = ctypes.PyDLL(PATH)
+except OSError as error:
+    raise ImportError(f"{PATH} cannot be loaded: {error}") from error
+
+
+def _text(answer: bytes) -> str:
+    return answer.decode("ascii")
+
+
+_version = _text(_bind(_keeping, "clsm_version")())
+if _version != VERSION:
+    raise ImportError(f"{PATH} is of version {_version}; this package needs {VERSION}")
+
+_strerror = _bind(_keeping, "clsm_strerror")
+
+
+def name_of(code: int) -> str:
+    """The name of a code in a few words."""
+    return _text(_strerror(code))
+
+
+# ---- The calls
+
+
+class ReadCalls(NamedTuple):
+    """The calls that read a caller or a snapshot."""
+
+    get: Call
+    count: Call
+
+
+class WriteCalls(NamedTuple):
+    """The two calls that make a write: one tries once, one waits."""
+
+    attempt: Call
+    wait: Call
+
+
+store_open: Call = _bind(_releasing, "clsm_open")
+store_close: Call = _bind(_releasing, "clsm_close")
+caller_open: Call = _bind(_releasing, "clsm_caller_open")
+caller_close: Call = _bind(_releasing, "clsm_caller_close")
+snapshot_open: Call = _bind(_releasing, "clsm_snapshot_open")
+snapshot_close: Call = _bind(_releasing, "clsm_snapshot_close")
+snapshot_time: Call = _bind(_releasing, "clsm_snapshot_time")
+snapshot_page: Call = _bind(_releasing, "clsm_snapshot_page")
+
+CALLER_READS = ReadCalls(_bind(_keeping, "clsm_get"), _bind(_releasing, "clsm_count"))
+SNAPSHOT_READS = ReadCalls(
+    _bind(_keeping, "clsm_snapshot_get"), _bind(_releasing, "clsm_snapshot_count")
+)
+PUT = WriteCalls(_bind(_keeping, "clsm_try_put"), _bind(_releasing, "clsm_put"))
+REMOVE = WriteCalls(_bind(_keeping, "clsm_try_remove"), _bind(_releasing, "clsm_remove"))
+
+add = _bind_optional(_releasing, "clsm_add")
+put_if_absent = _bind_optional(_releasing, "clsm_put_if_absent")
+replace = _bind_optional(_releasing, "clsm_replace")
+batch = _bind_optional(_releasing, "clsm_batch")

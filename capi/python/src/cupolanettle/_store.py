@@ -1,0 +1,187 @@
+"""Stores."""
+
+from __future__ import annotations
+
+import operator
+import sys
+import warnings
+from types import TracebackType
+from typing import Any, Callable, Dict, Optional, Type
+
+from . import _library as library
+from ._errors import OK, Code, Error, error_of, is_again
+from ._reading import Reader
+from ._scanning import Rows
+from ._sessions import Session
+from ._snapshot import Snapshot, rows_and_close
+from ._values import Value, key_of, range_of, words_of
+
+_GREATEST_OPTION = 2**31 - 1
+_OPTIONS: Dict[int, str] = {
+    Code.BAD_KEYS: "keys",
+    Code.BAD_EPOCH: "epoch",
+    Code.BAD_PATIENCE: "patience",
+}
+
+
+def _option(name: str, value: int, least: int) -> int:
+    number = operator.index(value)
+    if not least <= number <= _GREATEST_OPTION:
+        raise ValueError(f"{name} is out of range")
+    return number
+
+
+class Store(Reader):
+    """An ordered map in memory, for many threads, from ints to ints or tuples of ints.
+
+    Keys and words are from 0 to 2**64 - 1. A value is an int, or a tuple of 2 to 8 ints.
+
+    - ``keys``: the most keys that will have a value, 1 to 4,194,304 - 4 * ``epoch``.
+    - ``epoch``: the most writes between two merges, 4 to 65,536.
+    - ``patience``: how often a read looks at an unfinished write before it cancels that, 0 to 64.
+    - ``merge_in_calls``: writes merge, instead of a thread of the store.
+
+    The store takes its memory at once, about 100 bytes a key and 200 bytes a write of an epoch:
+    22 MiB unless told otherwise. ``ValueError`` if an option is out of range; :class:`Error` if
+    memory ran out or the system started no thread.
+
+    Any thread may call. Reads never wait, and each reads the map of one moment. Writes wait for
+    other writes, and for a merge if the epoch is full: :class:`RunFull` if the merge found no room.
+    A thread takes one of the store's 64 seats from its first call until it ends, and each snapshot
+    and scan takes one: :class:`NoSeat` if none is left. Each call of a closed store raises
+    :class:`Closed`.
+
+    Use it with ``with``, or close it. After a fork it is closed in the child.
+
+    >>> with Store(keys=1_000) as store:
+    ...     store[7] = 70
+    ...     store[8] = 80, 81
+    ...     list(store.scan())
+    [(7, 70), (8, (80, 81))]
+    """
+
+    def __init__(
+        self,
+        *,
+        keys: int = 100_000,
+        epoch: int = 4_096,
+        patience: int = 16,
+        merge_in_calls: bool = False,
+    ) -> None:
+        options = library.Options(
+            keys=_option("keys", keys, 1),
+            epoch=_option("epoch", epoch, 1),
+            patience=_option("patience", patience, 0) or -1,
+            merge=1 if merge_in_calls else 0,
+        )
+        try:
+            self._session = Session(options)
+        except Error as error:
+            if error.code not in _OPTIONS:
+                raise
+            raise ValueError(f"{_OPTIONS[error.code]} is out of range") from None
+        super().__init__(library.CALLER_READS, self._session.caller)
+
+    # ---- Writes
+
+    def __setitem__(self, key: int, value: Value) -> None:
+        """Writes the value at the key.
+
+        ``ValueError`` if the key or a word is out of range, or the tuple has not 2 to 8 words: a
+        tuple of one would come back as an int. :class:`RunFull` if there is no room.
+
+        >>> with Store() as store:
+        ...     store[7] = 70
+        ...     store[7] = 70, 71
+        ...     store[7]
+        (70, 71)
+        """
+        number = key_of(key)
+        words = words_of(value)
+        self._write(library.PUT, number, words, len(words))
+
+    def remove(self, key: int) -> None:
+        """Removes the key, whether or not it has a value.
+
+        It takes room as a write does: :class:`RunFull` if there is none.
+
+        >>> with Store() as store:
+        ...     store[7] = 70
+        ...     store.remove(7)
+        ...     store.remove(7)
+        ...     7 in store
+        False
+        """
+        self._write(library.REMOVE, key_of(key))
+
+    def _write(self, calls: library.WriteCalls, *arguments: Any) -> None:
+        handle = self._handle()
+        with handle.lock:
+            code = calls.attempt(handle.pointer, *arguments)
+            if is_again(code):
+                code = calls.wait(handle.pointer, *arguments)
+        if code != OK:
+            raise error_of(code)
+
+    # ---- Reads of one moment
+
+    def snapshot(self) -> Snapshot:
+        """Opens a snapshot of the present; takes a seat until it is closed.
+
+        >>> with Store() as store:
+        ...     with store.snapshot() as snapshot:
+        ...         store[7] = 70
+        ...         7 in snapshot
+        False
+        """
+        return Snapshot(self)
+
+    def scan(self, start: int = 0, stop: Optional[int] = None) -> Rows:
+        """The keys from ``start`` on and below ``stop``, with their values, by rising key.
+
+        Without ``stop`` there is no upper end. All rows are of the moment of this call: it opens a
+        snapshot, and closes it behind the last row. A scan that is left before stays open until
+        nothing refers to it any more, or until its ``close``.
+
+        >>> with Store() as store:
+        ...     for key in 20, 3, 7:
+        ...         store[key] = 10 * key
+        ...     list(store.scan(3, 20)), list(store.scan(7))
+        ([(3, 30), (7, 70)], [(7, 70), (20, 200)])
+        """
+        first, last = range_of(start, stop)
+        return rows_and_close(Snapshot(self), first, last)
+
+    # ---- Closing
+
+    def close(self) -> None:
+        """Closes the store, its snapshots and its scans, after the calls that are running on them.
+
+        Closes a closed store, too. All that it held is gone.
+
+        >>> store = Store()
+        >>> snapshot = store.snapshot()
+        >>> store.close()
+        >>> snapshot.count()
+        Traceback (most recent call last):
+        cupolanettle.Closed: closed
+        """
+        self._session.close()
+
+    def __enter__(self) -> Store:
+        return self
+
+    def __exit__(
+        self,
+        kind: Optional[Type[BaseException]],
+        error: Optional[BaseException],
+        trace: Optional[TracebackType],
+    ) -> None:
+        self.close()
+
+    def __del__(self, is_finalizing: Callable[[], bool] = sys.is_finalizing) -> None:
+        session: Optional[Session] = getattr(self, "_session", None)
+        if session is None or is_finalizing() or not session.is_open():
+            return
+        session.close()
+        warnings.warn("a Store was not closed", ResourceWarning, source=self)

@@ -1,0 +1,68 @@
+"""What the tests share."""
+
+from __future__ import annotations
+
+import os
+import subprocess
+import sys
+import threading
+import warnings
+from pathlib import Path
+from typing import Callable, Dict, Iterable, List
+
+from cupolanettle import _library as library
+
+PROJECT = Path(__file__).resolve().parent.parent
+SOURCES = PROJECT / "src"
+
+
+def in_threads(jobs: Iterable[Callable[[], object]]) -> None:
+    """Runs each job in a thread of its own, and raises what one of them raised."""
+    errors: List[BaseException] = []
+
+    def run(job: Callable[[], object]) -> None:
+        try:
+            job()
+        except BaseException as error:
+            errors.append(error)
+
+    threads = [threading.Thread(target=run, args=(job,)) for job in jobs]
+    for thread in threads:
+        thread.start()
+    for thread in threads:
+        thread.join()
+    if errors:
+        raise errors[0]
+
+
+def in_process(program: str, **environment: str) -> subprocess.CompletedProcess[str]:
+    """Runs a program in a Python of its own, which finds the package and the library."""
+    variables: Dict[str, str] = {
+        **os.environ,
+        library.VARIABLE: os.path.abspath(library.PATH),
+        "PYTHONPATH": str(SOURCES),
+        **environment,
+    }
+    return subprocess.run(
+        [sys.executable, "-c", program],
+        env=variables,
+        stdout=subprocess.PIPE,
+        stderr=subprocess.PIPE,
+        universal_newlines=True,
+        check=False,
+    )
+
+
+def in_child(job: Callable[[], bool]) -> bool:
+    """Whether the job answers so in a forked child."""
+    with warnings.catch_warnings():
+        # Newer Pythons warn of a fork beside threads, of which a store has one.
+        warnings.simplefilter("ignore", DeprecationWarning)
+        child = os.fork()
+    if child == 0:
+        status = 1
+        try:
+            status = 0 if job() else 1
+        finally:
+            os._exit(status)
+    return os.waitpid(child, 0)[1] == 0

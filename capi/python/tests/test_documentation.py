@@ -1,0 +1,56 @@
+"""The examples of the README and of all public names."""
+
+from __future__ import annotations
+
+import doctest
+import inspect
+import typing
+import unittest
+from typing import Any, Dict, Iterator, Tuple
+
+import cupolanettle
+from cupolanettle._reading import Reader
+
+from .support import PROJECT
+
+OPERATORS = {"__getitem__", "__setitem__", "__contains__"}
+
+
+def public_classes() -> Iterator[Tuple[str, Any]]:
+    for name in cupolanettle.__all__:
+        if inspect.isclass(getattr(cupolanettle, name)):
+            yield name, getattr(cupolanettle, name)
+
+
+def public_members() -> Iterator[Tuple[str, Any]]:
+    for name, kind in [*public_classes(), ("Reader", Reader)]:
+        for member, value in vars(kind).items():
+            is_call = inspect.isfunction(value) or isinstance(value, property)
+            if is_call and (member in OPERATORS or not member.startswith("_")):
+                yield f"{name}.{member}", value
+
+
+def load_tests(
+    loader: unittest.TestLoader, tests: unittest.TestSuite, pattern: object
+) -> unittest.TestSuite:
+    names: Dict[str, Any] = {name: getattr(cupolanettle, name) for name in cupolanettle.__all__}
+    finder = doctest.DocTestFinder(recurse=False)
+    documented = [("cupolanettle", cupolanettle), *public_classes(), *public_members()]
+    for name, value in documented:
+        for test in finder.find(value, name, module=False, globs=dict(names)):
+            tests.addTest(doctest.DocTestCase(test))
+    tests.addTest(doctest.DocFileSuite(str(PROJECT / "README.md"), module_relative=False))
+    return tests
+
+
+class Documentation(unittest.TestCase):
+    def test_all_public_names_have_an_example(self) -> None:
+        for name, value in [*public_classes(), *public_members()]:
+            with self.subTest(name=name):
+                self.assertIn(">>> ", inspect.getdoc(value) or "")
+
+    def test_annotations_can_be_evaluated(self) -> None:
+        for name, value in public_members():
+            function = value.fget if isinstance(value, property) else value
+            with self.subTest(name=name):
+                self.assertIn("return", typing.get_type_hints(function))

@@ -1,0 +1,258 @@
+"""What calls are refused with."""
+
+from __future__ import annotations
+
+import os
+import pickle
+import platform
+import resource
+import unittest
+from functools import partial
+from typing import Any, Callable, Dict, List
+from unittest import mock
+
+from cupolanettle import Closed, Code, Error, NoSeat, RunFull, Store
+from cupolanettle import _library as library
+
+from .support import in_process, in_threads
+
+STACK_LIMIT = resource.getrlimit(resource.RLIMIT_STACK)[1]
+
+
+class Errors(unittest.TestCase):
+    def test_each_has_its_code(self) -> None:
+        for code in Code:
+            with self.subTest(code=code):
+                self.assertEqual(Error(code).code, code)
+                self.assertNotIn(str(Error(code)), ("", "unknown code"))
+        self.assertEqual(str(Error(1_000)), "unknown code")
+
+    def test_they_are_pickled(self) -> None:
+        for error in Error(Code.MEMORY), RunFull(Code.RUN_FULL), NoSeat(Code.NO_SEAT), Closed():
+            copied = pickle.loads(pickle.dumps(error))
+            self.assertIs(type(copied), type(error))
+            self.assertEqual((copied.code, str(copied)), (error.code, str(error)))
+
+
+class Options(unittest.TestCase):
+    def test_out_of_range(self) -> None:
+        refused: Dict[str, List[int]] = {
+            "keys": [-1, 0, 4_194_304 - 4 * 4_096 + 1, 2**31, 2**32 + 1, 2**64, 2**64 + 1],
+            "epoch": [-1, 0, 1, 3, 65_537, 2**31, 2**32 + 4, 2**64 + 4],
+            "patience": [-2, -1, 65, 2**31, 2**32 + 1, 2**64 + 1],
+        }
+        for name, values in refused.items():
+            for value in values:
+                options: Any = {name: value}
+                with self.subTest(options=options):
+                    self.assertRaisesRegex(ValueError, f"^{name} is out", Store, **options)
+        self.assertRaises(ValueError, Store, keys=4_194_304 - 4 * 4 + 1, epoch=4)
+
+    def test_of_other_types(self) -> None:
+        for name in "keys", "epoch", "patience":
+            for value in None, 16.0, "16":
+                options: Any = {name: value}
+                with self.subTest(options=options), self.assertRaises(TypeError):
+                    Store(**options)
+
+    def test_in_range(self) -> None:
+        options: List[Any] = [
+            {},
+            {"keys": 1, "epoch": 4, "patience": 0},
+            {"keys": 1, "epoch": 65_536, "patience": 64},
+            {"keys": 100, "epoch": 5, "patience": 1, "merge_in_calls": True},
+        ]
+        for chosen in options:
+            with self.subTest(options=chosen), Store(**chosen) as store:
+                store[7] = 70
+                self.assertEqual(store[7], 70)
+
+    def test_the_greatest(self) -> None:
+        with Store(keys=4_194_304 - 4 * 4, epoch=4) as store:
+            store[7] = 70
+            self.assertEqual(store[7], 70)
+
+
+class Room(unittest.TestCase):
+    def fill(self, store: Store) -> None:
+        """Overwrites one key under a snapshot, until the store is full of versions."""
+        written = 0
+        with store.snapshot() as snapshot:
+            with self.assertRaises(RunFull) as caught:
+                while written < 1_000:
+                    store[7] = written
+                    written += 1
+            self.assertEqual(caught.exception.code, Code.RUN_FULL)
+            self.assertRaises(RunFull, store.remove, 7)
+            self.assertEqual(store[7], written - 1)
+            self.assertNotIn(7, snapshot)
+        for number in range(100):
+            store[7] = number
+        self.assertEqual(store[7], 99)
+
+    def test_beside_a_merger(self) -> None:
+        with Store(keys=1, epoch=4) as store:
+            self.fill(store)
+            self.fill_again(store)
+
+    def fill_again(self, store: Store) -> None:
+        store.remove(7)
+        self.fill(store)
+
+    def test_merging_in_calls(self) -> None:
+        with Store(keys=1, epoch=4, merge_in_calls=True) as store:
+            self.fill(store)
+            self.fill_again(store)
+
+    def test_more_keys_than_it_was_opened_for(self) -> None:
+        with Store(keys=8, epoch=4) as store:
+            keys = 0
+            with self.assertRaises(RunFull):
+                while keys < 1_000:
+                    store[keys] = keys
+                    keys += 1
+            self.assertGreaterEqual(keys, 8)
+            self.assertEqual(list(store.scan()), [(key, key) for key in range(keys)])
+
+
+class Seats(unittest.TestCase):
+    def test_there_are_64(self) -> None:
+        with Store() as store:
+            store[7] = 70
+            opened: List[Any] = []
+            for number in range(63):
+                opened.append(store.scan() if number % 2 else store.snapshot())
+            for call in store.scan, store.snapshot:
+                with self.assertRaises(NoSeat) as caught:
+                    call()
+                self.assertEqual(caught.exception.code, Code.NO_SEAT)
+            self.assertEqual(store[7], 70)
+            opened.pop().close()
+            with store.snapshot() as snapshot:
+                self.assertEqual(snapshot[7], 70)
+            self.assertEqual(list(store.scan()), [(7, 70)])
+
+
+LITTLE_SPACE = """
+import resource
+from cupolanettle import Error, Store
+with Store() as store:
+    with open("/proc/self/statm") as used:
+        pages = int(used.read().split()[0])
+    space = pages * resource.getpagesize() + 2**27
+    resource.setrlimit(resource.RLIMIT_AS, (space, resource.RLIM_INFINITY))
+    try:
+        Store({options})
+    except Error as error:
+        print(type(error).__name__, error.code)
+    store[7] = 70
+    print(store[7])
+"""
+
+GREAT_STACKS = """
+import os, resource, sys
+hard = resource.getrlimit(resource.RLIMIT_STACK)[1]
+resource.setrlimit(resource.RLIMIT_STACK, (2**32, hard))
+os.execv(sys.executable, [sys.executable, "-c", {program!r}])
+"""
+
+
+@unittest.skipUnless(os.path.exists("/proc/self/statm"), "needs Linux")
+class FromTheSystem(unittest.TestCase):
+    """In a process of its own, which leaves less than a store takes."""
+
+    def assert_refused(self, program: str, code: Code) -> None:
+        ended = in_process(program)
+        expected = (f"Error {code:d}\n70\n", "")
+        self.assertEqual((ended.stdout, ended.stderr), expected)
+
+    def test_no_memory(self) -> None:
+        self.assert_refused(LITTLE_SPACE.format(options="keys=4_000_000"), Code.MEMORY)
+
+    @unittest.skipUnless(platform.libc_ver()[0] == "glibc", "needs stacks as great as allowed")
+    @unittest.skipUnless(STACK_LIMIT in (-1, 2**32), "needs to allow greater stacks")
+    def test_no_thread(self) -> None:
+        program = LITTLE_SPACE.format(options="keys=1_000")
+        self.assert_refused(GREAT_STACKS.format(program=program), Code.NO_THREAD)
+
+
+class AsIfRefused(unittest.TestCase):
+    """Each call, as if the library had answered a code."""
+
+    def setUp(self) -> None:
+        self.store = Store()
+        self.addCleanup(self.store.close)
+        self.store[7] = 70
+        self.snapshot = self.store.snapshot()
+
+    def assert_refused(self, call: Callable[[], object], code: Code) -> None:
+        kinds = {Code.RUN_FULL: RunFull, Code.NO_SEAT: NoSeat, Code.BAD_POINTER: Closed}
+        with self.subTest(code=code), self.assertRaises(Error) as caught:
+            call()
+        self.assertIs(type(caught.exception), kinds.get(code, Error))
+        self.assertEqual(caught.exception.code, code)
+
+    def codes(self) -> List[Code]:
+        return [code for code in Code if code >= Code.MEMORY]
+
+    def test_reads(self) -> None:
+        readers: List[Any] = [self.store, self.snapshot]
+        for reader in readers:
+            for code in self.codes():
+                answer = partial(answer_code, code)
+                with mock.patch.object(reader, "_reads", library.ReadCalls(answer, answer)):
+                    self.assert_refused(partial(reader.get, 7), code)
+                    self.assert_refused(partial(reader.__getitem__, 7), code)
+                    self.assert_refused(partial(reader.__contains__, 7), code)
+                    self.assert_refused(reader.count, code)
+            self.assertEqual(reader[7], 70)
+
+    def test_writes(self) -> None:
+        writes = [partial(self.store.__setitem__, 7, 71), partial(self.store.remove, 7)]
+        for first in Code.OK, Code.FULL, Code.BUSY, Code.RACED, Code.OVERTAKEN, Code.PINNED:
+            for code in self.codes():
+                calls = library.WriteCalls(partial(answer_code, first), partial(answer_code, code))
+                with mock.patch.multiple(library, PUT=calls, REMOVE=calls):
+                    for call in writes:
+                        if first == Code.OK:
+                            call()
+                        else:
+                            self.assert_refused(call, code)
+        self.assertEqual(self.store[7], 70)
+
+    def test_snapshots_and_scans(self) -> None:
+        for code in self.codes():
+            with mock.patch.object(library, "snapshot_open", partial(answer_code, code)):
+                self.assert_refused(self.store.snapshot, code)
+                self.assert_refused(self.store.scan, code)
+            with mock.patch.object(library, "snapshot_page", partial(answer_code, code)):
+                self.assert_refused(partial(next, self.store.scan()), code)
+                self.assert_refused(partial(next, self.snapshot.scan()), code)
+        self.assertEqual(list(self.snapshot.scan()), [(7, 70)])
+        snapshots = [self.store.snapshot() for _ in range(62)]
+        self.assertEqual(len(snapshots), 62)
+
+    def test_callers(self) -> None:
+        for code in self.codes():
+            with mock.patch.object(library, "caller_open", partial(answer_code, code)):
+                in_threads([lambda: self.assert_refused(partial(self.store.get, 7), code)])
+        in_threads([lambda: self.assertEqual(self.store[7], 70)])
+
+    def test_opening(self) -> None:
+        options = {Code.BAD_KEYS, Code.BAD_EPOCH, Code.BAD_PATIENCE}
+        for code in self.codes():
+            with mock.patch.object(library, "store_open", partial(answer_code, code)):
+                if code in options:
+                    self.assertRaises(ValueError, Store)
+                else:
+                    self.assert_refused(Store, code)
+
+    def test_closing(self) -> None:
+        with mock.patch.object(library, "store_close", partial(answer_code, Code.IN_USE)):
+            self.assert_refused(self.store.close, Code.IN_USE)
+        self.assertRaises(Closed, self.store.get, 7)
+        self.store.close()
+
+
+def answer_code(code: Code, *_: object) -> int:
+    return int(code)

@@ -1,0 +1,151 @@
+"""Where the library is looked for, and what a wheel carries."""
+
+from __future__ import annotations
+
+import base64
+import ctypes.util
+import hashlib
+import os
+import shutil
+import subprocess
+import sys
+import tempfile
+import unittest
+import zipfile
+from pathlib import Path
+
+from cupolanettle import _library as library
+
+from .support import PROJECT, SOURCES, in_process
+
+LIBRARY = Path(library.PATH).resolve()
+WHERE = "from cupolanettle import _library; print(_library.PATH)"
+WHERE_INSTALLED = "import ctypes.util; ctypes.util.find_library = {find}; " + WHERE
+
+
+class InAFolder(unittest.TestCase):
+    def setUp(self) -> None:
+        folder = tempfile.TemporaryDirectory()
+        self.addCleanup(folder.cleanup)
+        self.folder = Path(folder.name).resolve()
+
+
+@unittest.skipUnless(LIBRARY.is_file(), "the library is not a file that can be copied")
+class Finding(InAFolder):
+    """The package in a tree of its own, with libraries in it or not."""
+
+    def setUp(self) -> None:
+        super().setUp()
+        self.project = self.folder / "capi" / "python"
+        self.package = self.project / "src" / "cupolanettle"
+        ignored = shutil.ignore_patterns("__pycache__", "*.so")
+        shutil.copytree(SOURCES / "cupolanettle", self.package, ignore=ignored)
+        shutil.copy(PROJECT / "pyproject.toml", self.project)
+        self.beside = self.package / "libclsm.so"
+        self.built = self.folder / "capi" / "build" / "libclsm.so"
+        self.built.parent.mkdir()
+
+    def run_program(self, program: str, chosen: str) -> subprocess.CompletedProcess[str]:
+        return in_process(program, PYTHONPATH=str(self.package.parent), CLSM_LIBRARY=chosen)
+
+    def assert_found(self, path: Path, program: str = WHERE, chosen: str = "") -> None:
+        ended = self.run_program(program, chosen)
+        self.assertEqual((ended.stdout, ended.stderr), (f"{path}\n", ""))
+
+    def assert_refused(self, message: str, program: str = WHERE, chosen: str = "") -> None:
+        ended = self.run_program(program, chosen)
+        self.assertEqual((ended.stdout, ended.returncode), ("", 1))
+        self.assertRegex(ended.stderr.splitlines()[-1], f"^ImportError: {message}")
+
+    def test_what_is_chosen_is_first(self) -> None:
+        for path in self.beside, self.built:
+            shutil.copy(LIBRARY, path)
+        self.assert_found(LIBRARY, chosen=str(LIBRARY))
+
+    def test_then_what_is_beside_the_package(self) -> None:
+        for path in self.beside, self.built:
+            shutil.copy(LIBRARY, path)
+        self.assert_found(self.beside)
+
+    def test_then_what_was_built(self) -> None:
+        shutil.copy(LIBRARY, self.built)
+        self.assert_found(self.built)
+
+    def test_then_what_is_installed(self) -> None:
+        find = f"lambda name: {str(LIBRARY)!r} if name == 'clsm' else None"
+        self.assert_found(LIBRARY, WHERE_INSTALLED.format(find=find))
+
+    def test_what_is_near_an_installed_package_was_not_built(self) -> None:
+        shutil.copy(LIBRARY, self.built)
+        (self.project / "pyproject.toml").unlink()
+        nothing = WHERE_INSTALLED.format(find="lambda name: None")
+        self.assert_refused("libclsm.so was not found: set CLSM_LIBRARY", nothing)
+
+    def test_what_is_chosen_must_be_there(self) -> None:
+        shutil.copy(LIBRARY, self.beside)
+        self.assert_refused("/no/library.so cannot be loaded: ", chosen="/no/library.so")
+
+    def test_what_is_chosen_must_be_a_library(self) -> None:
+        text = self.package / "py.typed"
+        self.assert_refused(".*/py.typed cannot be loaded: ", chosen=str(text))
+
+    @unittest.skipUnless(ctypes.util.find_library("c"), "there is no other library")
+    def test_what_is_chosen_must_be_this_library(self) -> None:
+        other = ctypes.util.find_library("c") or ""
+        self.assert_refused(".* has no clsm_version$", chosen=other)
+
+    def test_versions_must_be_equal(self) -> None:
+        source = self.package / "_library.py"
+        text = source.read_text(encoding="utf-8")
+        source.write_text(text.replace(library.VERSION, "0.0.7"), encoding="utf-8")
+        message = f".* is of version {library.VERSION}; this package needs 0.0.7$"
+        self.assert_refused(message, chosen=str(LIBRARY))
+
+
+@unittest.skipUnless(LIBRARY.is_file(), "the library is not a file that can be copied")
+class Wheels(InAFolder):
+    def build(self, folder: Path) -> Path:
+        built = subprocess.run(
+            [sys.executable, str(PROJECT / "build_wheel.py"), str(folder)],
+            env={**os.environ, library.VARIABLE: str(LIBRARY)},
+            stdout=subprocess.PIPE,
+            universal_newlines=True,
+            check=True,
+        )
+        return Path(built.stdout.strip())
+
+    def test_the_record_is_of_all_files(self) -> None:
+        with zipfile.ZipFile(self.build(self.folder)) as wheel:
+            record = wheel.namelist()[-1]
+            lines = []
+            for name in wheel.namelist()[:-1]:
+                content = wheel.read(name)
+                digest = base64.urlsafe_b64encode(hashlib.sha256(content).digest())
+                lines.append(f"{name},sha256={digest.decode().rstrip('=')},{len(content)}")
+            self.assertEqual(record, f"cupolanettle-{library.VERSION}.dist-info/RECORD")
+            self.assertEqual(wheel.read(record).decode().splitlines(), [*lines, f"{record},,"])
+            files = {path.name for path in (SOURCES / "cupolanettle").iterdir() if path.is_file()}
+            packed = {name for name in wheel.namelist() if "dist-info" not in name}
+            expected = {f"cupolanettle/{name}" for name in files | {"libclsm.so"}}
+            self.assertEqual(packed, expected)
+
+    def test_equal_sources_give_equal_wheels(self) -> None:
+        first = self.build(self.folder / "first")
+        second = self.build(self.folder / "second")
+        self.assertEqual(first.name, second.name)
+        self.assertEqual(first.read_bytes(), second.read_bytes())
+
+    def test_it_runs_where_it_is_unpacked(self) -> None:
+        place = self.folder / "place"
+        with zipfile.ZipFile(self.build(self.folder)) as wheel:
+            wheel.extractall(place)
+        program = (
+            f"{WHERE}\n"
+            "from cupolanettle import Store\n"
+            "with Store() as store:\n"
+            "    store[7] = 70, 71\n"
+            "    print(list(store.scan()))\n"
+        )
+        ended = in_process(program, PYTHONPATH=str(place), CLSM_LIBRARY="")
+        found = place / "cupolanettle" / "libclsm.so"
+        self.assertEqual((ended.stdout, ended.stderr), (f"{found}\n[(7, (70, 71))]\n", ""))

@@ -1,0 +1,161 @@
+//! Snapshots.
+use crate::error::Memory;
+use crate::pause::Pause;
+use crate::pool::Home;
+use crate::range::{read_page, Page, Range};
+use crate::seat::{range_of, Seat};
+use crate::value::Value;
+use crate::Time;
+use std::fmt;
+use std::ops::RangeBounds;
+use std::sync::Arc;
+
+/// Reads the map as it was when the snapshot was opened.
+///
+/// It is a handle of its own, with a seat of its own: callers go on beside it. It may be moved to
+/// another thread, but not shared:
+///
+/// ```compile_fail,E0277
+/// fn share<T: Sync>() {}
+/// share::<cupolanettle::Snapshot>();
+/// ```
+///
+/// While it is open, merges keep all versions that it may read. So one that stays open while keys
+/// are overwritten fills the store, until writes are refused with
+/// [`RunFull`](crate::Refused::RunFull).
+///
+/// ```
+/// use cupolanettle::{Error, Options};
+///
+/// let store = Options::new().keys(1_000).open()?;
+/// let caller = store.caller()?;
+/// caller.put(1, 10)?;
+/// let snapshot = caller.snapshot()?;
+/// caller.put(1, 11)?;
+/// caller.put(2, 20)?;
+/// assert_eq!(snapshot.get(1), Some(10.into()));
+/// assert_eq!(snapshot.count(..), 1);
+/// # Ok::<(), Error>(())
+/// ```
+pub struct Snapshot {
+    /// There until the drop; its snapshot is open.
+    seat: Option<Seat>,
+    home: Arc<Home>,
+    time: Time,
+}
+
+impl Snapshot {
+    /// Opens the snapshot of the seat, which reads at this time or later.
+    pub(crate) fn open(seat: Seat, home: Arc<Home>, seen: Time) -> Snapshot {
+        let mut pause = Pause::new();
+        loop {
+            let time = seat.open_snapshot();
+            if time >= seen {
+                return Snapshot { seat: Some(seat), home, time };
+            }
+            seat.close_snapshot();
+            pause.wait();
+        }
+    }
+
+    #[inline]
+    pub(crate) fn seat(&self) -> &Seat {
+        match &self.seat {
+            Some(seat) => seat,
+            None => unreachable!(),
+        }
+    }
+
+    /// The number of its seat, from 0 to 63, which no other caller or snapshot has that is open.
+    #[must_use]
+    pub fn number(&self) -> usize {
+        self.seat().number
+    }
+
+    /// The time at which it reads: it sees the writes below that, and no other. Who
+    /// [follows](crate::Caller::follow) it sees all that the snapshot does.
+    #[must_use]
+    pub fn time(&self) -> Time {
+        self.time
+    }
+
+    /// The value that the key had, if it had one.
+    #[must_use]
+    #[inline]
+    pub fn get(&self, key: u64) -> Option<Value> {
+        self.seat().get_at(key)
+    }
+
+    /// How many keys of the range had a value. It walks all of them, and takes no memory.
+    #[must_use]
+    pub fn count(&self, keys: impl RangeBounds<u64>) -> u64 {
+        let (_, count) = self.seat().count(range_of(&keys));
+        count
+    }
+
+    /// The first rows of the range by rising key, at most so many.
+    ///
+    /// # Errors
+    ///
+    /// [`Memory`]: it takes room for so many rows.
+    ///
+    /// ```
+    /// # use cupolanettle::{Error, Options};
+    /// # let store = Options::new().keys(1_000).open()?;
+    /// # let caller = store.caller()?;
+    /// # for key in 0..5 {
+    /// #     caller.put(key, 10 * key)?;
+    /// # }
+    /// let snapshot = caller.snapshot()?;
+    /// let mut from = Some(0);
+    /// let mut keys = Vec::new();
+    /// while let Some(first) = from {
+    ///     let page = snapshot.page(first.., 2)?;
+    ///     keys.extend(page.rows.iter().map(|row| row.0));
+    ///     from = page.next;
+    /// }
+    /// assert_eq!(keys, [0, 1, 2, 3, 4]);
+    /// # Ok::<(), Error>(())
+    /// ```
+    pub fn page(&self, keys: impl RangeBounds<u64>, most: usize) -> Result<Page, Memory> {
+        let (_, page) = read_page(self.seat(), range_of(&keys), most)?;
+        Ok(page)
+    }
+
+    /// The rows of the range by rising key, read by up to 64 at a time. An item is [`Memory`] where
+    /// memory ran out.
+    ///
+    /// ```
+    /// # use cupolanettle::{Error, Options};
+    /// # let store = Options::new().keys(1_000).open()?;
+    /// # let caller = store.caller()?;
+    /// # for key in 0..5 {
+    /// #     caller.put(key, 10 * key)?;
+    /// # }
+    /// let snapshot = caller.snapshot()?;
+    /// let rows = snapshot.range(..=2).collect::<Result<Vec<_>, _>>()?;
+    /// assert_eq!(rows, [(0, 0.into()), (1, 10.into()), (2, 20.into())]);
+    /// # Ok::<(), Error>(())
+    /// ```
+    pub fn range(&self, keys: impl RangeBounds<u64>) -> Range<&Snapshot> {
+        Range::new(self, range_of(&keys))
+    }
+}
+
+impl Drop for Snapshot {
+    fn drop(&mut self) {
+        if let Some(seat) = self.seat.take() {
+            seat.close_snapshot();
+            self.home.give_back(seat, self.time);
+        }
+    }
+}
+
+impl fmt::Debug for Snapshot {
+    fn fmt(&self, f: &mut fmt::Formatter<'_>) -> fmt::Result {
+        f.debug_struct("Snapshot")
+            .field("number", &self.number())
+            .field("time", &self.time)
+            .finish_non_exhaustive()
+    }
+}

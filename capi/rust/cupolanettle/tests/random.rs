@@ -1,0 +1,180 @@
+//! A hundred thousand random calls of one thread, each answered as a `BTreeMap` answers.
+use cupolanettle::{Caller, Error, Options, Snapshot, Store, Value};
+use std::collections::BTreeMap;
+use std::ops::RangeInclusive;
+
+type Map = BTreeMap<u64, Value>;
+
+const CALLS: usize = 100_000;
+const KEYS: u64 = 300;
+
+/// Random numbers: a linear congruence, of which the upper bits are used.
+struct Random(u64);
+
+impl Random {
+    fn below(&mut self, bound: u64) -> u64 {
+        self.0 =
+            self.0.wrapping_mul(6_364_136_223_846_793_005).wrapping_add(1_442_695_040_888_963_407);
+        (self.0 >> 33) % bound
+    }
+
+    fn size_below(&mut self, bound: u64) -> usize {
+        usize::try_from(self.below(bound)).unwrap()
+    }
+
+    fn key(&mut self) -> u64 {
+        // Keys of both ends of their range, and between.
+        match self.below(KEYS) {
+            0 => 0,
+            1 => u64::MAX,
+            key => key << 50,
+        }
+    }
+
+    fn keys(&mut self) -> RangeInclusive<u64> {
+        let (one, other) = (self.key(), self.key());
+        one.min(other)..=one.max(other)
+    }
+
+    fn value(&mut self) -> Value {
+        let words: Vec<_> = (0..=self.below(8)).map(|_| self.below(1000)).collect();
+        Value::try_from(&words[..]).unwrap()
+    }
+}
+
+/// The store, and what it has to answer.
+struct Play {
+    random: Random,
+    store: Store,
+    caller: Caller,
+    map: Map,
+    snapshots: Vec<(Snapshot, Map)>,
+}
+
+fn rows(map: &Map, keys: RangeInclusive<u64>) -> Vec<(u64, Value)> {
+    map.range(keys).map(|(key, value)| (*key, *value)).collect()
+}
+
+impl Play {
+    fn new(store: Store) -> Result<Play, Error> {
+        let caller = store.caller()?;
+        let (random, map) = (Random(1), Map::new());
+        Ok(Play { random, store, caller, map, snapshots: Vec::new() })
+    }
+
+    fn write(&mut self) -> Result<(), Error> {
+        let (key, value) = (self.random.key(), self.random.value());
+        let before = self.caller.seen();
+        let time = match self.random.below(6) {
+            0 | 1 => {
+                self.map.remove(&key);
+                self.caller.remove(key)?
+            }
+            2 => match self.caller.try_put(key, value) {
+                Ok(time) => {
+                    self.map.insert(key, value);
+                    time
+                }
+                Err(_) => return Ok(()),
+            },
+            _ => {
+                self.map.insert(key, value);
+                self.caller.put(key, value)?
+            }
+        };
+        assert!(time >= before);
+        assert_eq!(self.caller.time(), time);
+        assert_eq!(self.caller.seen(), time + 1);
+        Ok(())
+    }
+
+    fn read(&mut self) -> Result<(), Error> {
+        let (key, keys) = (self.random.key(), self.random.keys());
+        let most = self.random.size_below(100);
+        match self.random.below(8) {
+            0 => assert_eq!(self.caller.count(keys.clone()), rows(&self.map, keys).len() as u64),
+            1 => {
+                let page = self.caller.page(keys.clone(), most)?;
+                assert_page(&page, &rows(&self.map, keys), most);
+            }
+            2 => {
+                let read: Result<Vec<_>, _> = self.caller.range(keys.clone())?.collect();
+                assert_eq!(read?, rows(&self.map, keys));
+            }
+            _ => assert_eq!(self.caller.get(key), self.map.get(&key).copied()),
+        }
+        Ok(())
+    }
+
+    fn open_or_close(&mut self) -> Result<(), Error> {
+        if self.snapshots.len() < 3 {
+            let snapshot = if self.random.below(2) == 0 {
+                self.store.snapshot()?
+            } else {
+                self.caller.snapshot()?
+            };
+            self.snapshots.push((snapshot, self.map.clone()));
+        } else {
+            let index = self.random.size_below(3);
+            self.snapshots.swap_remove(index);
+        }
+        Ok(())
+    }
+
+    fn read_snapshot(&mut self) -> Result<(), Error> {
+        let Some((snapshot, map)) = self.snapshots.last() else {
+            return Ok(());
+        };
+        let (key, keys) = (self.random.key(), self.random.keys());
+        let most = self.random.size_below(100);
+        match self.random.below(4) {
+            0 => assert_eq!(snapshot.count(keys.clone()), rows(map, keys).len() as u64),
+            1 => assert_page(&snapshot.page(keys.clone(), most)?, &rows(map, keys), most),
+            2 => {
+                let read: Result<Vec<_>, _> = snapshot.range(keys.clone()).collect();
+                assert_eq!(read?, rows(map, keys));
+            }
+            _ => assert_eq!(snapshot.get(key), map.get(&key).copied()),
+        }
+        Ok(())
+    }
+
+    fn call(&mut self) -> Result<(), Error> {
+        match self.random.below(100) {
+            0 => self.open_or_close(),
+            1 => {
+                self.caller = self.store.caller()?;
+                Ok(())
+            }
+            2 => Ok(self.store.sweep()?),
+            3..=29 => self.read_snapshot(),
+            30..=59 => self.write(),
+            _ => self.read(),
+        }
+    }
+}
+
+fn assert_page(page: &cupolanettle::Page, rows: &[(u64, Value)], most: usize) {
+    assert_eq!(page.rows, rows[..most.min(rows.len())]);
+    assert_eq!(page.next, rows.get(most).map(|row| row.0));
+}
+
+fn play(options: Options) -> Result<(), Error> {
+    let mut play = Play::new(options.open()?)?;
+    for _ in 0..CALLS {
+        play.call()?;
+    }
+    let all: Result<Vec<_>, _> = play.caller.range(..)?.collect();
+    assert_eq!(all?, rows(&play.map, 0..=u64::MAX));
+    Ok(())
+}
+
+#[test]
+fn a_thread_merges() -> Result<(), Error> {
+    play(Options::new().keys(4_000).epoch(64))
+}
+
+#[test]
+fn calls_merge() -> Result<(), Error> {
+    play(Options::new().keys(4_000).epoch(64).merge_in_calls())
+}
