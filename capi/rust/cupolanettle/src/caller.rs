@@ -1,4 +1,6 @@
 //! Callers.
+mod changes;
+
 use crate::error::{Memory, NoSeat, Refused, TryError, Unseen};
 use crate::pause::Pause;
 use crate::pool::Home;

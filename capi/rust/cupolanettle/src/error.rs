@@ -1,4 +1,5 @@
 //! Why calls are refused.
+use crate::change::Kept;
 use std::fmt;
 
 /// Why a store was not opened. Nothing of it is kept.
@@ -29,6 +30,16 @@ pub enum Refused {
     RunFull,
     /// Times end at 2^62. No real program gets there.
     Worn,
+}
+
+/// Why a change was not made. Nothing was written.
+#[non_exhaustive]
+#[derive(Clone, Copy, PartialEq, Eq, Hash, Debug)]
+pub enum ChangeError {
+    /// The key kept its value, which the change did not fit.
+    Kept(Kept),
+    /// The write was refused.
+    Refused(Refused),
 }
 
 /// Why a write that never waits was not made. Nothing was written. The same call may succeed if it
@@ -75,6 +86,8 @@ pub enum Error {
     Open(OpenError),
     /// A write was refused.
     Refused(Refused),
+    /// A change did not fit the value of its key.
+    Kept(Kept),
     /// A write that never waits was not made.
     Try(TryError),
     /// All seats were taken.
@@ -106,6 +119,21 @@ impl fmt::Display for Refused {
             Refused::RunFull => "the store holds as many keys and versions as it can",
             Refused::Worn => "times have come to their end",
         })
+    }
+}
+
+impl fmt::Display for Kept {
+    fn fmt(&self, f: &mut fmt::Formatter<'_>) -> fmt::Result {
+        f.write_str("the change does not fit the value of the key")
+    }
+}
+
+impl fmt::Display for ChangeError {
+    fn fmt(&self, f: &mut fmt::Formatter<'_>) -> fmt::Result {
+        match self {
+            ChangeError::Kept(kept) => kept.fmt(f),
+            ChangeError::Refused(refused) => refused.fmt(f),
+        }
     }
 }
 
@@ -149,6 +177,7 @@ impl fmt::Display for Error {
         match self {
             Error::Open(error) => error.fmt(f),
             Error::Refused(error) => error.fmt(f),
+            Error::Kept(error) => error.fmt(f),
             Error::Try(error) => error.fmt(f),
             Error::NoSeat(error) => error.fmt(f),
             Error::Memory(error) => error.fmt(f),
@@ -176,9 +205,33 @@ macro_rules! errors {
 errors! {
     OpenError => Open,
     Refused => Refused,
+    Kept => Kept,
     TryError => Try,
     NoSeat => NoSeat,
     Memory => Memory,
     BadValue => BadValue,
     Unseen => Unseen,
+}
+
+impl std::error::Error for ChangeError {}
+
+impl From<Kept> for ChangeError {
+    fn from(kept: Kept) -> ChangeError {
+        ChangeError::Kept(kept)
+    }
+}
+
+impl From<Refused> for ChangeError {
+    fn from(refused: Refused) -> ChangeError {
+        ChangeError::Refused(refused)
+    }
+}
+
+impl From<ChangeError> for Error {
+    fn from(error: ChangeError) -> Error {
+        match error {
+            ChangeError::Kept(kept) => kept.into(),
+            ChangeError::Refused(refused) => refused.into(),
+        }
+    }
 }

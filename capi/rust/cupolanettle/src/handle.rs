@@ -53,6 +53,9 @@ type MergerCall<Q, A> = Call<raw::Merger, Q, A>;
 
 pub(crate) const TRY_PUT: CallerCall<raw::Row, raw::Time> = Call(raw::clsm_core_try_put);
 pub(crate) const TRY_REMOVE: CallerCall<raw::Key, raw::Time> = Call(raw::clsm_core_try_remove);
+pub(crate) const TRY_ADD: CallerCall<raw::Adding, raw::Changed> = Call(raw::clsm_core_try_add);
+pub(crate) const TRY_REPLACE: CallerCall<raw::Replacing, raw::Changed> =
+    Call(raw::clsm_core_try_replace);
 pub(crate) const GET: CallerCall<raw::Key, raw::Got> = Call(raw::clsm_core_get);
 pub(crate) const SNAPSHOT: CallerCall<raw::Key, raw::Time> = Call(raw::clsm_core_snapshot);
 pub(crate) const CLOSE_SNAPSHOT: CallerCall<raw::Key, raw::Time> =

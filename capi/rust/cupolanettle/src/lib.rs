@@ -7,8 +7,8 @@
 //!
 //! # A word counter
 //!
-//! Four threads count words by their lengths. Each has a caller, and counts under keys of its own;
-//! a snapshot then adds up.
+//! Four threads count words by their lengths. Each has a caller. An [addition](Caller::add) is one
+//! step, so that none is lost where two threads count words of one length.
 //!
 //! ```
 //! use cupolanettle::{Error, Options};
@@ -26,9 +26,7 @@
 //!                 scope.spawn(move || -> Result<(), Error> {
 //!                     let caller = store.caller()?;
 //!                     for word in TEXT.split(' ').skip(own).step_by(THREADS) {
-//!                         let key = (THREADS * word.len() + own) as u64;
-//!                         let count = caller.get(key).map_or(0, |old| old[0]);
-//!                         caller.put(key, count + 1)?;
+//!                         caller.add(word.len() as u64, 1)?;
 //!                     }
 //!                     Ok(())
 //!                 })
@@ -37,12 +35,12 @@
 //!         counting.into_iter().try_for_each(|thread| thread.join().unwrap())
 //!     })?;
 //!
-//!     let mut counts = [0; 8];
+//!     let mut counts = Vec::new();
 //!     for row in store.snapshot()?.range(..) {
-//!         let (key, count) = row?;
-//!         counts[key as usize / THREADS] += count[0];
+//!         let (length, count) = row?;
+//!         counts.push((length, count[0]));
 //!     }
-//!     assert_eq!(counts, [0, 0, 0, 4, 2, 3, 0, 0]);
+//!     assert_eq!(counts, [(3, 4), (4, 2), (5, 3)]);
 //!     Ok(())
 //! }
 //! ```
@@ -54,6 +52,15 @@
 //! - A [`Snapshot`] reads the map as it was when it was opened.
 //! - A [`Range`] gives row after row of a snapshot.
 //! - A [`Value`] is a slice of one to eight words.
+//!
+//! # Writes and changes
+//!
+//! [`Caller::put`] and [`Caller::remove`] write without a look at what the key has. A change looks
+//! and writes in one step, and answers what the key had and has: [`Caller::add`],
+//! [`Caller::put_if_absent`], [`Caller::replace`], which is a map's compare-and-exchange, and
+//! [`Caller::update`] for any function of the old value.
+//!
+//! # Seats
 //!
 //! A store has 64 seats: each caller, snapshot and iterator takes one while it is open. A caller
 //! keeps one more for its next snapshot, until somebody else needs it.
@@ -84,6 +91,7 @@
 
 mod board;
 mod caller;
+mod change;
 mod error;
 mod handle;
 mod merging;
@@ -96,7 +104,10 @@ mod store;
 mod value;
 
 pub use caller::Caller;
-pub use error::{BadValue, Error, Memory, NoSeat, OpenError, Refused, TryError, Unseen};
+pub use change::{Changed, Kept};
+pub use error::{
+    BadValue, ChangeError, Error, Memory, NoSeat, OpenError, Refused, TryError, Unseen,
+};
 pub use range::{Page, Range};
 pub use snapshot::Snapshot;
 pub use store::{Options, Store};

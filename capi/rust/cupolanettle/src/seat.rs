@@ -1,4 +1,5 @@
 //! Seats: the callers of the core, each of which serves a caller, a snapshot, or nobody.
+use crate::change::{Changed, Kept};
 use crate::error::{Memory, TryError};
 use crate::handle::{self, Code, Handle};
 use crate::value::Value;
@@ -27,6 +28,9 @@ pub(crate) enum Lost {
     Again(TryError),
 }
 
+/// What a try to change a key came to: the change, or that the key kept its value.
+pub(crate) type Tried = Result<Result<Changed, Kept>, Lost>;
+
 /// What a read found, and its time.
 pub(crate) struct Got {
     pub(crate) time: Time,
@@ -51,6 +55,27 @@ impl Seat {
     pub(crate) fn try_remove(&self, key: u64) -> Result<Time, Lost> {
         let (code, answer) = self.handle.ask(&handle::TRY_REMOVE, &raw::Key { key });
         written(code, answer)
+    }
+
+    // ---- changes
+
+    #[inline]
+    pub(crate) fn try_add(&self, key: u64, by: u64) -> Tried {
+        let (code, answer) = self.handle.ask(&handle::TRY_ADD, &raw::Adding { key, by });
+        changed(code, &answer)
+    }
+
+    #[inline]
+    pub(crate) fn try_replace(
+        &self,
+        key: u64,
+        expected: Option<Value>,
+        desired: Option<Value>,
+    ) -> Tried {
+        let (expected, desired) = (Value::raw_of(expected), Value::raw_of(desired));
+        let question = raw::Replacing { key, expected, desired };
+        let (code, answer) = self.handle.ask(&handle::TRY_REPLACE, &question);
+        changed(code, &answer)
     }
 
     // ---- reads
@@ -105,10 +130,28 @@ impl Seat {
 fn written(code: Code, answer: raw::Time) -> Result<Time, Lost> {
     match code {
         raw::OK => Ok(answer.time),
-        raw::FULL => Err(Lost::Full(answer.time)),
-        raw::BUSY => Err(Lost::Again(TryError::Busy)),
-        raw::RACED => Err(Lost::Again(TryError::Raced)),
-        raw::OVERTAKEN => Err(Lost::Again(TryError::Overtaken)),
+        _ => Err(lost(code, answer.time)),
+    }
+}
+
+/// What a try to change a key came to.
+#[inline]
+fn changed(code: Code, answer: &raw::Changed) -> Tried {
+    match code {
+        raw::OK => Ok(Ok(Changed::from_raw(answer))),
+        raw::KEPT => Ok(Err(Kept::from_raw(answer))),
+        _ => Err(lost(code, answer.time)),
+    }
+}
+
+/// Why a try came to nothing, by its code and the time of its answer.
+#[inline]
+fn lost(code: Code, time: Time) -> Lost {
+    match code {
+        raw::FULL => Lost::Full(time),
+        raw::BUSY => Lost::Again(TryError::Busy),
+        raw::RACED => Lost::Again(TryError::Raced),
+        raw::OVERTAKEN => Lost::Again(TryError::Overtaken),
         _ => unreachable!("the core answers a write with {code}"),
     }
 }

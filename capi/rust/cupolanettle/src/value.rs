@@ -66,6 +66,12 @@ impl Value {
     pub(crate) fn into_raw(self) -> raw::Value {
         self.raw
     }
+
+    /// The value for the core, or none.
+    #[inline]
+    pub(crate) fn raw_of(value: Option<Value>) -> raw::Value {
+        value.map(Value::into_raw).unwrap_or_default()
+    }
 }
 
 impl From<u64> for Value {

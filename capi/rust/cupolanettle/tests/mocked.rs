@@ -2,7 +2,7 @@
 //! links in place of the proved one.
 #![cfg(clsm_mock)]
 
-use cupolanettle::{Error, OpenError, Options, Refused, TryError};
+use cupolanettle::{ChangeError, Error, OpenError, Options, Refused, TryError, Value};
 use std::os::raw::c_uint;
 use std::sync::{Mutex, MutexGuard, PoisonError};
 
@@ -102,6 +102,92 @@ fn writes_that_are_lost_are_made_again() -> Result<(), Error> {
         mock.refuse(WRITE, code, 1);
         assert_eq!(caller.try_remove(1), Err(error));
         assert_eq!(caller.time(), time);
+    }
+    Ok(())
+}
+
+#[test]
+fn changes_that_are_lost_are_made_again() -> Result<(), Error> {
+    let mock = Mock::take();
+    let store = Options::new().keys(100).merge_in_calls().open()?;
+    let caller = store.caller()?;
+    for code in [BUSY, RACED, OVERTAKEN] {
+        let before = mock.count(WRITE);
+        mock.refuse(WRITE, code, 100);
+        caller.put_if_absent(1, 10)?;
+        mock.refuse(WRITE, code, 100);
+        caller.add(1, 1)?;
+        let mut asked = 0;
+        mock.refuse(WRITE, code, 100);
+        caller.update(1, |old| {
+            asked += 1;
+            old.map(|old| old[0] + 1)
+        })?;
+        assert_eq!(asked, 1);
+        mock.refuse(WRITE, code, 100);
+        let changed = caller.replace(1, Some(12.into()), None)?;
+        assert_eq!((changed.before, changed.after), (Some(12.into()), None));
+        assert_eq!(mock.count(WRITE) - before, 404);
+        assert_eq!((caller.time(), caller.seen()), (changed.time, changed.time + 1));
+    }
+    Ok(())
+}
+
+#[test]
+fn values_that_are_kept_are_read_in_order() -> Result<(), Error> {
+    let mock = Mock::take();
+    let store = Options::new().keys(100).merge_in_calls().open()?;
+    let caller = store.caller()?;
+    for key in 0..3 {
+        caller.put(key, u64::MAX)?;
+    }
+    let before = mock.count(READ);
+    let most = Some(Value::from(u64::MAX));
+    mock.run_back(READ, 2, 100);
+    let Err(ChangeError::Kept(kept)) = caller.add(2, 1) else { panic!("it is no read") };
+    assert_eq!((kept.time, kept.value), (3, most));
+    mock.run_back(READ, 2, 100);
+    let Err(ChangeError::Kept(kept)) = caller.put_if_absent(2, 1) else { panic!("it is no read") };
+    assert_eq!((kept.time, kept.value), (3, most));
+    mock.run_back(READ, 2, 100);
+    let Err(ChangeError::Kept(kept)) = caller.replace(3, most, None) else {
+        panic!("it is no read")
+    };
+    assert_eq!((kept.time, kept.value), (3, None));
+    assert_eq!(mock.count(READ) - before, 303);
+    assert_eq!((caller.time(), caller.seen()), (3, 3));
+    // What another one wrote is seen by who follows it.
+    let other = store.caller()?;
+    other.put(2, 7)?;
+    caller.follow(other.seen())?;
+    mock.run_back(READ, 1, 100);
+    let Err(ChangeError::Kept(kept)) = caller.replace(2, most, None) else {
+        panic!("it is no read")
+    };
+    assert_eq!((kept.time, kept.value), (4, Some(7.into())));
+    Ok(())
+}
+
+#[test]
+fn changes_get_room_by_merges() -> Result<(), Error> {
+    let mock = Mock::take();
+    for options in both() {
+        let store = options.open()?;
+        let caller = store.caller()?;
+        for round in 1..200 {
+            mock.refuse(FREEZE, BUSY, u32::from(round % 3 == 0));
+            mock.refuse(SWEEP, PINNED, u32::from(round % 5 == 0));
+            caller.add(1, 1)?;
+            caller.update(2, |old| Some(old.map_or(0, |old| old[0]) + 1))?;
+            assert_eq!(caller.get(1), Some(round.into()));
+            assert_eq!(caller.get(2), Some(round.into()));
+        }
+        mock.refuse(SWEEP, RUN_FULL, c_uint::MAX);
+        let refused = (0..99).find_map(|_| caller.add(1, 1).err());
+        assert_eq!(refused, Some(Refused::RunFull.into()));
+        assert_eq!(caller.update(2, |old| old), Err(Refused::RunFull));
+        mock.refuse(SWEEP, 0, 0);
+        caller.update(2, |old| old)?;
     }
     Ok(())
 }

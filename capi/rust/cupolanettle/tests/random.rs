@@ -1,5 +1,5 @@
 //! A hundred thousand random calls of one thread, each answered as a `BTreeMap` answers.
-use cupolanettle::{Caller, Error, Options, Snapshot, Store, Value};
+use cupolanettle::{Caller, ChangeError, Changed, Error, Options, Snapshot, Store, Value};
 use std::collections::BTreeMap;
 use std::ops::RangeInclusive;
 
@@ -51,6 +51,25 @@ struct Play {
     snapshots: Vec<(Snapshot, Map)>,
 }
 
+/// What a change is to come to.
+#[derive(Debug)]
+enum Wanted {
+    /// The key keeps what it has.
+    Kept,
+    /// The key has this then.
+    Has(Option<Value>),
+}
+
+/// What an addition to this value is to come to.
+fn sum_of(old: Option<Value>, by: u64) -> Wanted {
+    let sum = match old.as_deref() {
+        None => Some(by),
+        Some(&[word]) => word.checked_add(by),
+        Some(_) => None,
+    };
+    sum.map_or(Wanted::Kept, |sum| Wanted::Has(Some(sum.into())))
+}
+
 fn rows(map: &Map, keys: RangeInclusive<u64>) -> Vec<(u64, Value)> {
     map.range(keys).map(|(key, value)| (*key, *value)).collect()
 }
@@ -86,6 +105,52 @@ impl Play {
         assert_eq!(self.caller.time(), time);
         assert_eq!(self.caller.seen(), time + 1);
         Ok(())
+    }
+
+    /// Changes a key in one of four ways, each of which may fit what it has or not.
+    fn change(&mut self) {
+        let (key, value) = (self.random.key(), self.random.value());
+        let old = self.map.get(&key).copied();
+        let other = Some(value).filter(|_| self.random.below(2) == 0);
+        let (came, wanted) = match self.random.below(4) {
+            0 => {
+                let by = self.random.below(10) << 60;
+                (self.caller.add(key, by), sum_of(old, by))
+            }
+            1 => {
+                let wanted = if old.is_none() { Wanted::Has(Some(value)) } else { Wanted::Kept };
+                (self.caller.put_if_absent(key, value), wanted)
+            }
+            2 => {
+                let expected = if self.random.below(3) == 0 { other } else { old };
+                let wanted = if expected == old { Wanted::Has(other) } else { Wanted::Kept };
+                (self.caller.replace(key, expected, other), wanted)
+            }
+            _ => {
+                let greater = |old: Option<Value>| old.filter(|old| *old > value).or(other);
+                let came = self.caller.update(key, greater);
+                (came.map_err(ChangeError::from), Wanted::Has(greater(old)))
+            }
+        };
+        self.assert_change(key, came, wanted);
+    }
+
+    fn assert_change(&mut self, key: u64, came: Result<Changed, ChangeError>, wanted: Wanted) {
+        let old = self.map.get(&key).copied();
+        let (time, seen) = (self.caller.time(), self.caller.seen());
+        match (came, wanted) {
+            (Ok(changed), Wanted::Has(new)) => {
+                assert_eq!((changed.before, changed.after), (old, new));
+                assert_eq!((changed.time, changed.time + 1), (time, seen));
+                self.map.remove(&key);
+                self.map.extend(new.map(|new| (key, new)));
+            }
+            (Err(ChangeError::Kept(kept)), Wanted::Kept) => {
+                assert_eq!(kept.value, old);
+                assert_eq!((kept.time, kept.time), (time, seen));
+            }
+            (came, wanted) => panic!("{came:?}, where {wanted:?} was to come"),
+        }
     }
 
     fn read(&mut self) -> Result<(), Error> {
@@ -148,7 +213,11 @@ impl Play {
             }
             2 => Ok(self.store.sweep()?),
             3..=29 => self.read_snapshot(),
-            30..=59 => self.write(),
+            30..=49 => self.write(),
+            50..=69 => {
+                self.change();
+                Ok(())
+            }
             _ => self.read(),
         }
     }

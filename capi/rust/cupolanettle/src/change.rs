@@ -1,0 +1,41 @@
+//! What changes answer.
+use crate::value::Value;
+use crate::Time;
+use cupolanettle_sys as raw;
+
+/// What a change of a key found, and what the key has after it.
+#[non_exhaustive]
+#[derive(Clone, Copy, PartialEq, Eq, Hash, Debug)]
+pub struct Changed {
+    /// The time of the write.
+    pub time: Time,
+    /// The value that the key had, if it had one.
+    pub before: Option<Value>,
+    /// The value that the key has, unless it was removed.
+    pub after: Option<Value>,
+}
+
+/// The key kept its value, which the change did not fit. Nothing was written.
+#[non_exhaustive]
+#[derive(Clone, Copy, PartialEq, Eq, Hash, Debug)]
+pub struct Kept {
+    /// The time at which the value was read.
+    pub time: Time,
+    /// The value that the key has, if it has one.
+    pub value: Option<Value>,
+}
+
+impl Changed {
+    #[inline]
+    pub(crate) fn from_raw(raw: &raw::Changed) -> Changed {
+        let (before, after) = (Value::from_raw(raw.before), Value::from_raw(raw.after));
+        Changed { time: raw.time, before, after }
+    }
+}
+
+impl Kept {
+    #[inline]
+    pub(crate) fn from_raw(raw: &raw::Changed) -> Kept {
+        Kept { time: raw.time, value: Value::from_raw(raw.before) }
+    }
+}
