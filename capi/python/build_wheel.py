@@ -4,7 +4,7 @@
     python3 build_wheel.py [FOLDER]     # into dist, unless told otherwise
 
 It is also the build backend of pyproject.toml. The library is the one that CLSM_LIBRARY names, or
-else ../build/libclsm.so. Equal sources give equal wheels.
+else ../out/libclsm.so. Equal sources give equal wheels.
 """
 
 import base64
@@ -35,7 +35,7 @@ def read_project() -> Dict[str, str]:
 
 
 def find_library() -> Path:
-    library = Path(os.environ.get("CLSM_LIBRARY") or PROJECT.parent / "build" / LIBRARY)
+    library = Path(os.environ.get("CLSM_LIBRARY") or PROJECT.parent / "out" / LIBRARY)
     if not library.is_file():
         raise FileNotFoundError(f"{library} is not there: build it, or set CLSM_LIBRARY")
     return library

@@ -3,6 +3,7 @@
 from __future__ import annotations
 
 import os
+import signal
 import subprocess
 import sys
 import threading
@@ -60,6 +61,7 @@ def in_child(job: Callable[[], bool]) -> bool:
         warnings.simplefilter("ignore", DeprecationWarning)
         child = os.fork()
     if child == 0:
+        signal.alarm(600)  # ends it, should it not end
         status = 1
         try:
             status = 0 if job() else 1

@@ -3,6 +3,7 @@
 from __future__ import annotations
 
 import contextlib
+import ctypes
 import gc
 import threading
 import time
@@ -10,9 +11,11 @@ import unittest
 import warnings
 import weakref
 from functools import partial
-from typing import Any, Callable, List
+from typing import Any, Callable, List, Optional
+from unittest import mock
 
 from cupolanettle import Closed, NoSeat, Snapshot, Store
+from cupolanettle import _library as library
 
 from .support import in_child, in_process, in_threads
 
@@ -25,6 +28,14 @@ def calls_of(store: Store) -> List[Callable[[], object]]:
         lambda: 7 in store,
         lambda: store.__setitem__(7, 1),
         lambda: store.remove(7),
+        lambda: store.__delitem__(7),
+        lambda: store.pop(7),
+        lambda: store.pop(7, None),
+        lambda: store.setdefault(7, 1),
+        lambda: store.add(7),
+        lambda: store.replace(7, 7, 1),
+        lambda: store.replace(7, None, None),
+        lambda: store.update(7, lambda old: old),
         lambda: store.count(),
         lambda: store.count(5, 5),
         lambda: store.scan(),
@@ -116,6 +127,8 @@ class Closing(unittest.TestCase):
                 with self.assertRaises(Closed):
                     while True:
                         store[key % 500] = key
+                        store.add(key % 500)
+                        store.update(key % 500, lambda old: old)
                         with store.snapshot() as snapshot:
                             next(store.scan())
                             snapshot.count()
@@ -137,28 +150,30 @@ class Closing(unittest.TestCase):
             in_threads([*jobs, partial(close, store, events)])
 
 
-class Waiting(unittest.TestCase):
+class HeldCalls(unittest.TestCase):
     """A call that is in the library, as far as the package knows, until a test lets it go."""
 
     def setUp(self) -> None:
         self.began = threading.Event()
         self.may_end = threading.Event()
         self.happened: List[str] = []
+        self.store = filled()
+        self.addCleanup(self.store.close)
 
-    def hold(self, reader: Any) -> None:
-        """Makes counts wait in the library."""
-        count = reader._reads.count
-
-        def held(*arguments: Any) -> int:
+    def held(self, call: library.Call) -> library.Call:
+        def waits(*arguments: Any) -> int:
             self.began.set()
             self.may_end.wait()
             for _ in range(1_000):
                 time.sleep(0)
-            code: int = count(*arguments)
-            self.happened.append("counted")
+            code = call(*arguments)
+            self.happened.append("called")
             return code
 
-        reader._reads = reader._reads._replace(count=held)
+        return waits
+
+    def hold_reads(self, reader: Any) -> None:
+        reader._reads = library.ReadCalls(*map(self.held, reader._reads))
 
     def close(self, closes: Callable[[], None]) -> None:
         self.began.wait()
@@ -166,25 +181,81 @@ class Waiting(unittest.TestCase):
         closes()
         self.happened.append("closed")
 
-    def check(self, reader: Any, closes: Callable[[], None]) -> None:
-        self.hold(reader)
-        in_threads(
-            [lambda: self.assertEqual(reader.count(), 500), lambda: self.close(closes)]
-        )
-        self.assertEqual(self.happened, ["counted", "closed"])
+    def check(self, call: Callable[[], object], closes: Callable[[], None]) -> None:
+        in_threads([call, partial(self.close, closes)])
+        self.assertEqual(self.happened, ["called", "closed"])
 
-    def test_a_store_waits_for_its_calls(self) -> None:
+    def test_a_store_waits_for_counts(self) -> None:
+        self.hold_reads(self.store)
+        self.check(lambda: self.assertEqual(self.store.count(), 500), self.store.close)
+
+    def test_a_store_waits_for_gets(self) -> None:
+        self.hold_reads(self.store)
+        self.check(lambda: self.assertEqual(self.store[7], 7), self.store.close)
+
+    def test_a_store_waits_for_writes(self) -> None:
+        held = library.PUT._replace(attempt=self.held(library.PUT.attempt))
+        with mock.patch.object(library, "PUT", held):
+            self.check(lambda: self.store.__setitem__(7, 8), self.store.close)
+
+    def test_a_store_waits_for_scans(self) -> None:
+        with mock.patch.object(library, "snapshot_page", self.held(library.snapshot_page)):
+            rows = self.store.scan()
+            self.check(lambda: self.assertEqual(next(rows), (0, 0)), self.store.close)
+
+    def test_a_store_waits_for_snapshots_that_are_opened(self) -> None:
+        with mock.patch.object(library, "snapshot_open", self.held(library.snapshot_open)):
+            self.check(lambda: self.assertRaises(Closed, self.open_and_count), self.store.close)
+
+    def open_and_count(self) -> None:
+        snapshot = self.store.snapshot()
+        while snapshot.count() == 500:
+            pass
+
+    def test_a_store_waits_for_snapshots_that_are_closed(self) -> None:
+        snapshot = self.store.snapshot()
+        handle: Any = snapshot._handle()
+        handle._close = self.held(handle._close)
+        self.check(snapshot.close, self.store.close)
+
+    def test_a_store_waits_for_its_changes(self) -> None:
         store = filled()
-        self.check(store, store.close)
+        with mock.patch.object(library, "add", self.held(library.add)):
+            in_threads(
+                [lambda: self.assertEqual(store.add(7), 8), lambda: self.close(store.close)]
+            )
+        self.assertEqual(self.happened, ["called", "closed"])
 
     def test_a_store_waits_for_calls_of_its_snapshots(self) -> None:
-        store = filled()
-        self.check(store.snapshot(), store.close)
+        snapshot = self.store.snapshot()
+        self.hold_reads(snapshot)
+        self.check(lambda: self.assertEqual(snapshot.count(), 500), self.store.close)
 
     def test_a_snapshot_waits_for_its_calls(self) -> None:
-        with filled() as store:
-            snapshot = store.snapshot()
-            self.check(snapshot, snapshot.close)
+        snapshot = self.store.snapshot()
+        self.hold_reads(snapshot)
+        self.check(lambda: self.assertEqual(snapshot[7], 7), snapshot.close)
+
+    def test_a_child_does_not_wait_for_calls_of_its_parent(self) -> None:
+        snapshot = self.store.snapshot()
+
+        def child() -> bool:
+            self.assertRaises(Closed, self.store.get, 7)
+            self.assertRaises(Closed, snapshot.count)
+            snapshot.close()
+            return True
+
+        def fork() -> None:
+            self.began.wait()
+            snapshot._reads = reads
+            try:
+                self.assertTrue(in_child(child))
+            finally:
+                self.may_end.set()
+
+        reads = snapshot._reads
+        self.hold_reads(snapshot)
+        in_threads([lambda: self.assertEqual(snapshot.count(), 500), fork])
 
 
 class CallsInsideCalls(unittest.TestCase):
@@ -220,6 +291,47 @@ class CallsInsideCalls(unittest.TestCase):
     def test_one_closes_the_store(self) -> None:
         self.interrupt(self.store, self.store.close)
         self.assertRaises(Closed, self.store.get, 7)
+
+    def test_one_closes_the_store_of_a_handle_that_is_being_opened(self) -> None:
+        for name in "caller_open", "snapshot_open":
+            opens = getattr(library, name)
+
+            def interrupted(*arguments: Any) -> int:
+                store.close()
+                code: int = opens(*arguments)
+                return code
+
+            with filled() as store, mock.patch.object(library, name, interrupted):
+                in_threads([lambda: self.assertRaises(Closed, store.snapshot)])
+
+    def test_one_closes_the_store_of_a_snapshot_that_was_just_opened(self) -> None:
+        opens = self.store._session.open_snapshot
+
+        def interrupted() -> Any:
+            owner = opens()
+            self.store.close()
+            return owner
+
+        with mock.patch.object(self.store._session, "open_snapshot", interrupted):
+            self.assertRaises(Closed, self.store.snapshot)
+
+    def test_one_closes_what_is_being_closed(self) -> None:
+        snapshot = self.store.snapshot()
+        handle: Any = snapshot._handle()
+        closes, closed, pointer_type = handle._close, [], ctypes.c_void_p
+
+        def note(pointer: ctypes.c_void_p) -> None:
+            closed.append(pointer.value is not None)
+            closes(pointer)
+
+        def interrupted(address: Optional[int]) -> ctypes.c_void_p:
+            snapshot.close()
+            return pointer_type(address)
+
+        handle._close = note
+        with mock.patch.object(ctypes, "c_void_p", interrupted):
+            snapshot.close()
+        self.assertEqual(closed, [True])
 
     def test_one_closes_the_snapshot(self) -> None:
         snapshot = self.store.snapshot()
@@ -262,6 +374,7 @@ class Unreferenced(unittest.TestCase):
         with filled() as store:
             for _ in range(200):
                 self.assertEqual(store.snapshot()[7], 7)
+            self.assertEqual(len(store._session._handles), 1)
 
     def test_a_snapshot_keeps_its_store(self) -> None:
         with warnings.catch_warnings():
@@ -279,8 +392,10 @@ class Unreferenced(unittest.TestCase):
         in_threads([lambda: store.get(7)])
         gc.disable()
         try:
-            with self.assertWarns(ResourceWarning):
-                del store
+            with mock.patch.object(library, "store_close", wraps=library.store_close) as closes:
+                with self.assertWarns(ResourceWarning):
+                    del store
+            closes.assert_called_once()
             self.assertIsNone(session())
         finally:
             gc.enable()

@@ -13,7 +13,7 @@ from cupolanettle._reading import Reader
 
 from .support import PROJECT
 
-OPERATORS = {"__getitem__", "__setitem__", "__contains__"}
+OPERATORS = {"__getitem__", "__setitem__", "__delitem__", "__contains__"}
 
 
 def public_classes() -> Iterator[Tuple[str, Any]]:

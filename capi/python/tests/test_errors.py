@@ -67,10 +67,39 @@ class Options(unittest.TestCase):
                 store[7] = 70
                 self.assertEqual(store[7], 70)
 
+    def test_what_the_library_is_told(self) -> None:
+        told: List[Any] = []
+
+        def refuse(options: Any, store: Any) -> int:
+            told.append(options._obj)
+            return int(Code.MEMORY)
+
+        with mock.patch.object(library, "store_open", refuse):
+            self.assertRaises(Error, Store)
+            self.assertRaises(Error, Store, keys=7, epoch=5, patience=0, merge_in_calls=True)
+            self.assertRaises(Error, Store, patience=64)
+        found = [[value.keys, value.epoch, value.patience, value.merge] for value in told]
+        given = [[100_000, 4_096, 16, 0], [7, 5, -1, 1], [100_000, 4_096, 64, 0]]
+        self.assertEqual(found, given)
+        self.assertEqual([list(value.zero) for value in told], [[0] * 4] * 3)
+
     def test_the_greatest(self) -> None:
         with Store(keys=4_194_304 - 4 * 4, epoch=4) as store:
             store[7] = 70
             self.assertEqual(store[7], 70)
+
+
+def changes_of(store: Store, value: int) -> List[Callable[[], object]]:
+    """Calls that write, if the key 7 has the value and the key 8 has none."""
+    return [
+        partial(store.remove, 7),
+        partial(store.__delitem__, 7),
+        partial(store.pop, 7),
+        partial(store.setdefault, 8, 1),
+        partial(store.add, 7),
+        partial(store.replace, 7, value, 1),
+        partial(store.update, 7, lambda old: old),
+    ]
 
 
 class Room(unittest.TestCase):
@@ -83,7 +112,12 @@ class Room(unittest.TestCase):
                     store[7] = written
                     written += 1
             self.assertEqual(caught.exception.code, Code.RUN_FULL)
-            self.assertRaises(RunFull, store.remove, 7)
+            for change in changes_of(store, written - 1):
+                self.assertRaises(RunFull, change)
+            self.assertEqual(store.setdefault(7, 1), written - 1)
+            self.assertFalse(store.replace(7, written, 1))
+            self.assertRaises(OverflowError, store.add, 7, 2**64 - 1)
+            self.assertRaises(KeyError, store.pop, 8)
             self.assertEqual(store[7], written - 1)
             self.assertNotIn(7, snapshot)
         for number in range(100):
@@ -220,6 +254,14 @@ class AsIfRefused(unittest.TestCase):
                             self.assert_refused(call, code)
         self.assertEqual(self.store[7], 70)
 
+    def test_changes(self) -> None:
+        for code in self.codes():
+            answer = partial(answer_code, code)
+            with mock.patch.multiple(library, add=answer, put_if_absent=answer, replace=answer):
+                for call in changes_of(self.store, 70)[1:]:
+                    self.assert_refused(call, code)
+        self.assertEqual(list(self.store.scan()), [(7, 70)])
+
     def test_snapshots_and_scans(self) -> None:
         for code in self.codes():
             with mock.patch.object(library, "snapshot_open", partial(answer_code, code)):
@@ -251,7 +293,10 @@ class AsIfRefused(unittest.TestCase):
         with mock.patch.object(library, "store_close", partial(answer_code, Code.IN_USE)):
             self.assert_refused(self.store.close, Code.IN_USE)
         self.assertRaises(Closed, self.store.get, 7)
-        self.store.close()
+        with mock.patch.object(library, "store_close", wraps=library.store_close) as closes:
+            self.store.close()
+            self.store.close()
+        closes.assert_called_once()
 
 
 def answer_code(code: Code, *_: object) -> int:

@@ -42,7 +42,7 @@ class Finding(InAFolder):
         shutil.copytree(SOURCES / "cupolanettle", self.package, ignore=ignored)
         shutil.copy(PROJECT / "pyproject.toml", self.project)
         self.beside = self.package / "libclsm.so"
-        self.built = self.folder / "capi" / "build" / "libclsm.so"
+        self.built = self.folder / "capi" / "out" / "libclsm.so"
         self.built.parent.mkdir()
 
     def run_program(self, program: str, chosen: str) -> subprocess.CompletedProcess[str]:

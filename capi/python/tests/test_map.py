@@ -33,6 +33,12 @@ class RandomCalls:
         self.calls: List[Callable[[], None]] = [
             *([self.set_item] * 8),
             *([self.remove] * 3),
+            *([self.add] * 4),
+            *([self.set_default] * 2),
+            *([self.replace] * 3),
+            *([self.update] * 3),
+            *([self.pop] * 2),
+            *([self.delete] * 2),
             *([self.read_store] * 5),
             *([self.read_snapshot] * 3),
             self.scan_store,
@@ -53,8 +59,13 @@ class RandomCalls:
         return self.random.randrange(300)
 
     def value(self) -> Value:
+        if self.random.random() < 0.5:
+            return self.random.randrange(3)
         words = [self.random.getrandbits(64) for _ in range(self.random.randint(1, 8))]
         return words[0] if len(words) == 1 else tuple(words)
+
+    def value_or_none(self) -> Optional[Value]:
+        return None if self.random.random() < 0.3 else self.value()
 
     def range(self) -> Tuple[int, Optional[int]]:
         stop = None if self.random.random() < 0.2 else self.key() + self.random.randrange(2)
@@ -74,6 +85,64 @@ class RandomCalls:
         key = self.key()
         self.store.remove(key)
         self.model.pop(key, None)
+
+    def add(self) -> None:
+        key, by = self.key(), self.random.getrandbits(self.random.choice([2, 64]))
+        old = self.model.get(key, 0)
+        if isinstance(old, tuple):
+            self.test.assertRaises(ValueError, self.store.add, key, by)
+        elif old + by > GREATEST:
+            self.test.assertRaises(OverflowError, self.store.add, key, by)
+        else:
+            self.model[key] = old + by
+            self.test.assertEqual(self.store.add(key, by), old + by)
+
+    def set_default(self) -> None:
+        key, value = self.key(), self.value()
+        expected = self.model.setdefault(key, value)
+        self.test.assertEqual(self.store.setdefault(key, value), expected)
+
+    def replace(self) -> None:
+        key, desired = self.key(), self.value_or_none()
+        old = self.model.get(key)
+        expected = old if self.random.random() < 0.5 else self.value_or_none()
+        self.test.assertEqual(self.store.replace(key, expected, desired), old == expected)
+        if old == expected:
+            self.put(key, desired)
+
+    def update(self) -> None:
+        key, desired = self.key(), self.value_or_none()
+        asked: List[Optional[Value]] = []
+
+        def function(old: Optional[Value]) -> Optional[Value]:
+            asked.append(old)
+            return desired
+
+        self.test.assertEqual(self.store.update(key, function), desired)
+        self.test.assertEqual(asked, [self.model.get(key)])
+        self.put(key, desired)
+
+    def put(self, key: int, value: Optional[Value]) -> None:
+        if value is None:
+            self.model.pop(key, None)
+        else:
+            self.model[key] = value
+
+    def pop(self) -> None:
+        key, default = self.key(), self.value_or_none()
+        if key not in self.model:
+            self.test.assertRaises(KeyError, self.store.pop, key)
+        if key not in self.model or self.random.random() < 0.5:
+            self.test.assertEqual(self.store.pop(key, default), self.model.pop(key, default))
+        else:
+            self.test.assertEqual(self.store.pop(key), self.model.pop(key))
+
+    def delete(self) -> None:
+        key = self.key()
+        if key in self.model:
+            del self.store[key], self.model[key]
+        else:
+            self.test.assertRaises(KeyError, self.store.__delitem__, key)
 
     def read_store(self) -> None:
         self.read(self.store, self.model)
@@ -123,6 +192,16 @@ class Values(unittest.TestCase):
         self.store = Store(keys=10_000)
         self.addCleanup(self.store.close)
 
+    def calls_of_a_value(self) -> List[Callable[[Any], object]]:
+        return [
+            lambda value: self.store.__setitem__(5, value),
+            lambda value: self.store.setdefault(5, value),
+            lambda value: self.store.setdefault(6, value),
+            lambda value: self.store.replace(5, value, 51),
+            lambda value: self.store.replace(5, 50, value),
+            lambda value: self.store.update(5, lambda old: value),
+        ]
+
     def test_they_come_back(self) -> None:
         values: List[Value] = [0, 1, GREATEST]
         values += [tuple(range(count)) for count in range(2, 9)]
@@ -138,16 +217,26 @@ class Values(unittest.TestCase):
         self.store[5] = 50
         refused: List[Any] = [-1, 2**64, 10**30, (), (1,), (0,) * 9, (1, -1), (1, 2**64)]
         for value in refused:
-            with self.subTest(value=value), self.assertRaises(ValueError):
-                self.store[5] = value
+            for call in self.calls_of_a_value():
+                with self.subTest(call=call, value=value), self.assertRaises(ValueError):
+                    call(value)
         self.assertEqual(list(self.store.scan()), [(5, 50)])
 
     def test_of_other_types(self) -> None:
-        refused: List[Any] = [None, 1.0, "1", b"1", [1, 2], (1, 2.0), (1, None), {1, 2}, 1j]
+        self.store[5] = 50
+        refused: List[Any] = [1.0, "1", b"1", [1, 2], (1, 2.0), (1, None), {1, 2}, 1j]
         for value in refused:
-            with self.subTest(value=value), self.assertRaises(TypeError):
-                self.store[5] = value
-        self.assertNotIn(5, self.store)
+            for call in self.calls_of_a_value():
+                with self.subTest(call=call, value=value), self.assertRaises(TypeError):
+                    call(value)
+        self.assertEqual(list(self.store.scan()), [(5, 50)])
+
+    def test_none_is_no_value(self) -> None:
+        none: Any = None
+        self.assertRaises(TypeError, self.store.__setitem__, 5, none)
+        self.assertRaises(TypeError, self.store.setdefault, 5, none)
+        self.assertRaises(TypeError, self.store.add, 5, none)
+        self.assertEqual(self.store.count(), 0)
 
     def test_of_types_like_int(self) -> None:
         class Seven:
@@ -159,6 +248,14 @@ class Values(unittest.TestCase):
         self.store[True] = seven, False
         self.assertEqual(list(self.store.scan(False, seven)), [(1, (7, 0))])
         self.assertEqual(self.store[seven], 7)
+        answers = [
+            self.store.add(seven, seven),
+            self.store.setdefault(8, True),
+            self.store.update(9, lambda old: seven),
+            self.store.pop(seven),
+        ]
+        self.assertEqual(answers, [14, 1, 7, 14])
+        self.assertEqual({type(answer) for answer in answers}, {int})
 
 
 class Keys(unittest.TestCase):
@@ -171,6 +268,12 @@ class Keys(unittest.TestCase):
         return [
             lambda key: self.store.__setitem__(key, 1),
             self.store.remove,
+            self.store.__delitem__,
+            self.store.pop,
+            self.store.add,
+            lambda key: self.store.setdefault(key, 1),
+            lambda key: self.store.replace(key, None, 1),
+            lambda key: self.store.update(key, lambda old: 1),
             *self.reads_of_a_key(self.store),
             *self.reads_of_a_key(self.snapshot),
         ]
@@ -187,12 +290,14 @@ class Keys(unittest.TestCase):
             for key in -1, 2**64, -(2**64), 10**30:
                 with self.subTest(call=call, key=key), self.assertRaises(ValueError):
                     call(key)
+        self.assertEqual(self.store.count(), 0)
 
     def test_of_other_types(self) -> None:
         for call in self.calls_of_a_key():
             for key in None, 1.0, "1", b"1", (1, 2), slice(1, 2):
                 with self.subTest(call=call, key=key), self.assertRaises(TypeError):
                     call(key)
+        self.assertEqual(self.store.count(), 0)
 
     def test_ranges_out_of_range(self) -> None:
         for call in self.calls_of_a_range():

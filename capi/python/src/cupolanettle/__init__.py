@@ -28,7 +28,17 @@ from ._snapshot import Snapshot
 from ._store import Store
 from ._values import Value
 
-__all__ = ["Closed", "Code", "Error", "NoSeat", "RunFull", "Snapshot", "Store", "Value"]
+__all__ = [
+    "Closed",
+    "Code",
+    "Error",
+    "NoSeat",
+    "RunFull",
+    "Snapshot",
+    "Store",
+    "Value",
+    "__version__",
+]
 
 # Users see these names, and not the files that they are written in.
 for _public in (Closed, Code, Error, NoSeat, RunFull, Snapshot, Store):

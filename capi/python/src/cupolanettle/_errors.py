@@ -17,6 +17,7 @@ class Code(enum.IntEnum):
 
     OK = 0
     NOT_FOUND = 1
+    KEPT = 2
     DONE = 3
     IDLE = 4
     FULL = 8
@@ -41,6 +42,7 @@ class Code(enum.IntEnum):
 # Plain numbers, for calls that compare them each time.
 OK = int(Code.OK)
 NOT_FOUND = int(Code.NOT_FOUND)
+KEPT = int(Code.KEPT)
 _FIRST_AGAIN = int(Code.FULL)
 _FIRST_REFUSED = int(Code.MEMORY)
 

@@ -106,7 +106,7 @@ DECLARED: Dict[str, Tuple[Any, Sequence[Any]]] = {
 }
 
 # The calls that a library may lack.
-OPTIONAL = frozenset(["clsm_add", "clsm_put_if_absent", "clsm_replace", "clsm_batch"])
+OPTIONAL = frozenset(["clsm_batch"])
 
 
 # ---- Loading
@@ -121,7 +121,7 @@ def _find() -> str:
     if (package / FILE).is_file():
         return str(package / FILE)
     project = package.parent.parent
-    built = project.parent / "build" / FILE
+    built = project.parent / "out" / FILE
     if (project / "pyproject.toml").is_file() and built.is_file():
         return str(built)
     installed = ctypes.util.find_library("clsm")
@@ -205,7 +205,7 @@ SNAPSHOT_READS = ReadCalls(
 PUT = WriteCalls(_bind(_keeping, "clsm_try_put"), _bind(_releasing, "clsm_put"))
 REMOVE = WriteCalls(_bind(_keeping, "clsm_try_remove"), _bind(_releasing, "clsm_remove"))
 
-add = _bind_optional(_releasing, "clsm_add")
-put_if_absent = _bind_optional(_releasing, "clsm_put_if_absent")
-replace = _bind_optional(_releasing, "clsm_replace")
+add: Call = _bind(_releasing, "clsm_add")
+put_if_absent: Call = _bind(_releasing, "clsm_put_if_absent")
+replace: Call = _bind(_releasing, "clsm_replace")
 batch = _bind_optional(_releasing, "clsm_batch")

@@ -6,16 +6,29 @@ import operator
 import sys
 import warnings
 from types import TracebackType
-from typing import Any, Callable, Dict, Optional, Type
+from typing import Any, Callable, Dict, Optional, Tuple, Type, Union, overload
 
 from . import _library as library
-from ._errors import OK, Code, Error, error_of, is_again
-from ._reading import Reader
+from ._errors import KEPT, OK, Code, Error, error_of, is_again
+from ._reading import Default, Reader
 from ._scanning import Rows
 from ._sessions import Session
 from ._snapshot import Snapshot, rows_and_close
-from ._values import Value, key_of, range_of, words_of
+from ._values import (
+    Value,
+    key_of,
+    packed,
+    packed_or_none,
+    range_of,
+    value_of,
+    value_or_none,
+    word_of,
+    words_of,
+)
 
+Function = Callable[[Optional[Value]], Optional[Value]]
+
+_NO_DEFAULT = object()
 _GREATEST_OPTION = 2**31 - 1
 _OPTIONS: Dict[int, str] = {
     Code.BAD_KEYS: "keys",
@@ -31,6 +44,11 @@ def _option(name: str, value: int, least: int) -> int:
     return number
 
 
+def _nothing(_: Optional[Value]) -> Optional[Value]:
+    """No value, whatever the key had."""
+    return None
+
+
 class Store(Reader):
     """An ordered map in memory, for many threads, from ints to ints or tuples of ints.
 
@@ -38,15 +56,18 @@ class Store(Reader):
 
     - ``keys``: the most keys that will have a value, 1 to 4,194,304 - 4 * ``epoch``.
     - ``epoch``: the most writes between two merges, 4 to 65,536.
-    - ``patience``: how often a read looks at an unfinished write before it cancels that, 0 to 64.
+    - ``patience``: how often a read looks again at an unfinished write before it cancels that,
+      0 to 64.
     - ``merge_in_calls``: writes merge, instead of a thread of the store.
 
-    The store takes its memory at once, about 100 bytes a key and 200 bytes a write of an epoch:
-    22 MiB unless told otherwise. ``ValueError`` if an option is out of range; :class:`Error` if
-    memory ran out or the system started no thread.
+    The store takes all its memory at once, about 180 bytes for each of the keys and 1,240 for each
+    write of an epoch: 22 MiB unless told otherwise. ``ValueError`` if an option is out of range;
+    :class:`Error` if memory ran out or the system started no thread.
 
     Any thread may call. Reads never wait, and each reads the map of one moment. Writes wait for
     other writes, and for a merge if the epoch is full: :class:`RunFull` if the merge found no room.
+    Changes, as :meth:`add`, read a key and write it in one step: no other write of the key comes
+    between. They wait as writes do.
     A thread takes one of the store's 64 seats from its first call until it ends, and each snapshot
     and scan takes one: :class:`NoSeat` if none is left. Each call of a closed store raises
     :class:`Closed`.
@@ -122,6 +143,140 @@ class Store(Reader):
                 code = calls.wait(handle.pointer, *arguments)
         if code != OK:
             raise error_of(code)
+
+    # ---- Changes
+
+    def add(self, key: int, by: int = 1) -> int:
+        """Adds to the int of the key, which counts as 0 if it has no value. The sum.
+
+        ``OverflowError`` if the sum would pass 2**64 - 1. ``ValueError`` if the value is a tuple,
+        or ``by`` is not from 0 to 2**64 - 1. Neither changes the value. :class:`RunFull` if there
+        is no room.
+
+        ``store[key] += by`` is a read and then a write, and loses what others add in between.
+
+        >>> with Store() as store:
+        ...     store.add(7), store.add(7, 5), store[7]
+        (1, 6, 6)
+        """
+        is_written, changed = self._change(library.add, key_of(key), word_of(by))
+        if not is_written:
+            if changed.before.length > 1:
+                raise ValueError("a tuple cannot be added to")
+            raise OverflowError("the sum is greater than 2**64 - 1")
+        total: int = changed.after.words[0]
+        return total
+
+    def setdefault(self, key: int, value: Value) -> Value:
+        """Writes the value at the key if the key has none. The value that the key has then.
+
+        ``ValueError`` and :class:`RunFull` as for ``store[key] = value``; it takes no room if the
+        key has a value.
+
+        >>> with Store() as store:
+        ...     store.setdefault(7, 70), store.setdefault(7, 71), store[7]
+        (70, 70, 70)
+        """
+        _, changed = self._change(library.put_if_absent, key_of(key), packed(value))
+        return value_of(changed.after)
+
+    def replace(
+        self, key: int, expected: Optional[Value], desired: Optional[Value]
+    ) -> bool:
+        """Writes the desired value at the key if the key has the expected one. Whether it had.
+
+        ``None`` stands for no value: if it is expected, the key is to have none; if it is desired,
+        the key is removed. ``ValueError`` and :class:`RunFull` as for ``store[key] = value``; it
+        takes no room if the key has another value.
+
+        >>> with Store() as store:
+        ...     store.replace(7, None, 70), store.replace(7, None, 71), store[7]
+        ...     store.replace(7, 71, 72), store.replace(7, 70, None), 7 in store
+        (True, False, 70)
+        (False, True, False)
+        """
+        arguments = key_of(key), packed_or_none(expected), packed_or_none(desired)
+        return self._change(library.replace, *arguments)[0]
+
+    def update(self, key: int, function: Function) -> Optional[Value]:
+        """Writes what the function makes of the key's value. The value that the key has then.
+
+        ``None`` stands for no value: the function gets it if the key has none, and answers it to
+        remove the key. It is asked again if another write came between, so it should do nothing
+        but answer. What it raises leaves the value. ``ValueError`` and :class:`RunFull` as for
+        ``store[key] = value``.
+
+        >>> def half(old):
+        ...     return (10 if old is None else old) // 2 or None
+        >>> with Store() as store:
+        ...     [store.update(7, half) for _ in range(5)]
+        [5, 2, 1, None, 5]
+        """
+        return value_or_none(self._update(key, function).after)
+
+    @overload
+    def pop(self, key: int) -> Value: ...
+
+    @overload
+    def pop(self, key: int, default: Default) -> Union[Value, Default]: ...
+
+    def pop(self, key: int, default: object = _NO_DEFAULT) -> object:
+        """Removes the key. The value that it had.
+
+        If it had none, the default, or ``KeyError`` without one; that takes no room.
+        :class:`RunFull` if there is no room to remove it.
+
+        >>> with Store() as store:
+        ...     store[7] = 70
+        ...     store.pop(7), store.pop(7, None)
+        (70, None)
+        """
+        value = value_or_none(self._update(key, _nothing).before)
+        if value is not None:
+            return value
+        if default is _NO_DEFAULT:
+            raise KeyError(key)
+        return default
+
+    def __delitem__(self, key: int) -> None:
+        """Removes the key; ``KeyError`` if it has no value.
+
+        Of several threads that delete a value, one does. :meth:`remove` is faster: it does not look
+        whether there is a value.
+
+        >>> with Store() as store:
+        ...     store[7] = 70
+        ...     del store[7]
+        ...     del store[7]
+        Traceback (most recent call last):
+        KeyError: 7
+        """
+        self.pop(key)
+
+    def _update(self, key: int, function: Function) -> library.Changed:
+        """What the key had, and what it has since the function changed that."""
+        number = key_of(key)
+        changed = library.Changed()
+        self._look_up(number, changed.before)
+        is_written = False
+        while not is_written:
+            old = changed.before
+            new = packed_or_none(function(value_or_none(old)))
+            if new is None and not old.length:
+                break
+            expected = old if old.length else None
+            is_written, changed = self._change(library.replace, number, expected, new)
+        return changed
+
+    def _change(self, call: library.Call, *arguments: Any) -> Tuple[bool, library.Changed]:
+        """Whether the call has written, and what the key had and has."""
+        changed = library.Changed()
+        handle = self._handle()
+        with handle.lock:
+            code = call(handle.pointer, *arguments, changed)
+        if code not in (OK, KEPT):
+            raise error_of(code)
+        return code == OK, changed
 
     # ---- Reads of one moment
 

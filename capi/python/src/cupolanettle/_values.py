@@ -24,7 +24,8 @@ def key_of(key: int) -> int:
     return number
 
 
-def _word_of(word: int) -> int:
+def word_of(word: int) -> int:
+    """The word, if it is one."""
     number = operator.index(word)
     if not 0 <= number < _LIMIT:
         raise ValueError("a word is from 0 to 2**64 - 1")
@@ -34,16 +35,32 @@ def _word_of(word: int) -> int:
 def words_of(value: Value) -> ctypes.Array[ctypes.c_uint64]:
     """The words of a value."""
     if not isinstance(value, tuple):
-        return _ARRAYS[1](_word_of(value))
+        return _ARRAYS[1](word_of(value))
     if not 2 <= len(value) <= 8:
         raise ValueError("a tuple has 2 to 8 words; for one word pass an int")
-    return _ARRAYS[len(value)](*map(_word_of, value))
+    return _ARRAYS[len(value)](*map(word_of, value))
+
+
+def packed(value: Value) -> library.Value:
+    """The value as the library has it."""
+    words = words_of(value)
+    return library.Value(len(words), tuple(words))
+
+
+def packed_or_none(value: Optional[Value]) -> Optional[library.Value]:
+    """The value as the library has it; ``None``, a null pointer, stands for no value."""
+    return None if value is None else packed(value)
 
 
 def value_of(found: library.Value) -> Value:
     """The value that the library found."""
     words: List[int] = found.words[: found.length]
     return words[0] if len(words) == 1 else tuple(words)
+
+
+def value_or_none(found: library.Value) -> Optional[Value]:
+    """The value that the library found, if it found one."""
+    return value_of(found) if found.length else None
 
 
 def range_of(start: int, stop: Optional[int]) -> Tuple[int, int]:
