@@ -34,8 +34,8 @@ static inline int wrote(struct clsm_seat *seat, uint64_t time, uint64_t members)
 }
 
 /* Goes on with a write whose first attempt came to this code, until it is answered. */
-static int write_on(struct clsm_seat *seat, clsm_attempt *attempt, const void *ask, void *answer, uint64_t members,
-                    uint32_t code) {
+static int go_on_writing(struct clsm_seat *seat, clsm_attempt *attempt, const void *ask,
+                         void *answer, uint64_t members, uint32_t code) {
     const uint64_t *time = answer;
     struct clsm_patience patience = {1};
     for (;;) {
@@ -57,15 +57,16 @@ static int write_on(struct clsm_seat *seat, clsm_attempt *attempt, const void *a
     }
 }
 
-static inline int write(struct clsm_seat *seat, clsm_attempt *attempt, const void *ask, void *answer, uint64_t members) {
+static inline int write_or_wait(struct clsm_seat *seat, clsm_attempt *attempt, const void *ask,
+                                void *answer, uint64_t members) {
     const uint64_t *time = answer;
     uint32_t code = attempt(&seat->core, ask, answer);
     if (code == CLSM_OK) return wrote(seat, *time, members);
-    return write_on(seat, attempt, ask, answer, members, code);
+    return go_on_writing(seat, attempt, ask, answer, members, code);
 }
 
-static inline int try_write(struct clsm_seat *seat, clsm_attempt *attempt, const void *ask, void *answer,
-                            uint64_t members) {
+static inline int write_once(struct clsm_seat *seat, clsm_attempt *attempt, const void *ask,
+                             void *answer, uint64_t members) {
     const uint64_t *time = answer;
     uint32_t code = attempt(&seat->core, ask, answer);
     if (code == CLSM_OK) return wrote(seat, *time, members);
@@ -90,7 +91,7 @@ int clsm_put(clsm_caller *caller, uint64_t key, const uint64_t *words, size_t co
     if (refused) return refused;
     refused = row_of(key, words, count, &ask);
     if (refused) return clsm_end(seat, refused);
-    return clsm_end(seat, write(seat, attempt_put, &ask, &answer, 1));
+    return clsm_end(seat, write_or_wait(seat, attempt_put, &ask, &answer, 1));
 }
 
 int clsm_remove(clsm_caller *caller, uint64_t key) {
@@ -99,7 +100,7 @@ int clsm_remove(clsm_caller *caller, uint64_t key) {
     clsm_core_time answer;
     int refused = clsm_begin(seat, CLSM_AS_CALLER);
     if (refused) return refused;
-    return clsm_end(seat, write(seat, attempt_remove, &ask, &answer, 1));
+    return clsm_end(seat, write_or_wait(seat, attempt_remove, &ask, &answer, 1));
 }
 
 int clsm_try_put(clsm_caller *caller, uint64_t key, const uint64_t *words, size_t count) {
@@ -110,7 +111,7 @@ int clsm_try_put(clsm_caller *caller, uint64_t key, const uint64_t *words, size_
     if (refused) return refused;
     refused = row_of(key, words, count, &ask);
     if (refused) return clsm_end(seat, refused);
-    return clsm_end(seat, try_write(seat, attempt_put, &ask, &answer, 1));
+    return clsm_end(seat, write_once(seat, attempt_put, &ask, &answer, 1));
 }
 
 int clsm_try_remove(clsm_caller *caller, uint64_t key) {
@@ -119,15 +120,16 @@ int clsm_try_remove(clsm_caller *caller, uint64_t key) {
     clsm_core_time answer;
     int refused = clsm_begin(seat, CLSM_AS_CALLER);
     if (refused) return refused;
-    return clsm_end(seat, try_write(seat, attempt_remove, &ask, &answer, 1));
+    return clsm_end(seat, write_once(seat, attempt_remove, &ask, &answer, 1));
 }
 
 /* ---- Changes */
 
 /* Makes a change, whose answer has what the key had and has. */
-static int change(struct clsm_seat *seat, clsm_attempt *attempt, const void *ask, clsm_changed *changed) {
+static int change(struct clsm_seat *seat, clsm_attempt *attempt, const void *ask,
+                  clsm_changed *changed) {
     clsm_core_changed answer;
-    int code = write(seat, attempt, ask, &answer, 1);
+    int code = write_or_wait(seat, attempt, ask, &answer, 1);
     if (changed && (code == CLSM_OK || code == CLSM_KEPT)) {
         clsm_hand_on(&answer.before, &changed->before);
         clsm_hand_on(&answer.after, &changed->after);
@@ -152,8 +154,8 @@ static int value_of(const clsm_value *value_or_null, clsm_core_value *value) {
     return CLSM_OK;
 }
 
-int clsm_replace(clsm_caller *caller, uint64_t key, const clsm_value *expected, const clsm_value *desired,
-                 clsm_changed *changed) {
+int clsm_replace(clsm_caller *caller, uint64_t key, const clsm_value *expected,
+                 const clsm_value *desired, clsm_changed *changed) {
     struct clsm_seat *seat = (struct clsm_seat *)caller;
     clsm_core_replacing ask = {.key = key};
     int refused = clsm_begin(seat, CLSM_AS_CALLER);
@@ -164,7 +166,8 @@ int clsm_replace(clsm_caller *caller, uint64_t key, const clsm_value *expected, 
     return change(seat, attempt_replace, &ask, changed);
 }
 
-int clsm_put_if_absent(clsm_caller *caller, uint64_t key, const clsm_value *value, clsm_changed *changed) {
+int clsm_put_if_absent(clsm_caller *caller, uint64_t key, const clsm_value *value,
+                       clsm_changed *changed) {
     if (!value) return CLSM_BAD_POINTER;
     return clsm_replace(caller, key, NULL, value, changed);
 }

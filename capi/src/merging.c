@@ -116,7 +116,7 @@ static int finish(clsm_store *store) {
     return code;
 }
 
-/* Goes on with what is frozen, or else freezes the epoch if so many of its times are drawn, and merges. */
+/* Merges what is frozen, or else the epoch if so many of its times are drawn. */
 static int serve(clsm_store *store, uint64_t used) {
     struct clsm_patience patience = {1};
     while (!store->is_frozen) {
@@ -158,7 +158,8 @@ static int wait_for_room(clsm_store *store, uint64_t end) {
     struct clsm_board *board = &store->board;
     if (limit(store) > end) return CLSM_OK;
     const uint64_t mine = call(board, end);
-    while (limit(store) <= end && board->refused < mine) pthread_cond_wait(&board->room, &board->lock);
+    while (limit(store) <= end && board->refused < mine)
+        pthread_cond_wait(&board->room, &board->lock);
     return limit(store) > end ? CLSM_OK : board->refusal;
 }
 
@@ -200,11 +201,10 @@ static void note(clsm_store *store, int code, uint64_t calls) {
         board->refused = calls;
         board->refusal = code;
         break;
-    case CLSM_PINNED:
-        board->is_called = true;
-        break;
+    case CLSM_PINNED: board->is_called = true; break;
     default:
-        if (atomic_load_explicit(&board->told, memory_order_relaxed) > board->frozen) board->is_called = true;
+        if (atomic_load_explicit(&board->told, memory_order_relaxed) > board->frozen)
+            board->is_called = true;
     }
 }
 

@@ -43,7 +43,7 @@ static bool has_room(void) {
     clsm_core_rooms rooms;
     clsm_core_room(&rooms);
     return rooms.store <= sizeof(clsm_core_store) && rooms.caller <= sizeof(clsm_core_caller)
-        && rooms.merger <= sizeof(clsm_core_merger);
+           && rooms.merger <= sizeof(clsm_core_merger);
 }
 
 /* Opens the core's store, and takes its merger and all its callers: OK, MEMORY, BAD_... */

@@ -13,6 +13,15 @@
 #include <stdatomic.h>
 #include <string.h>
 
+/* AddressSanitizer is told which seats are in use. */
+#if defined __SANITIZE_ADDRESS__
+#define CLSM_POISONS
+#elif defined __has_feature
+#if __has_feature(address_sanitizer)
+#define CLSM_POISONS
+#endif
+#endif
+
 enum { CLSM_LINE = 64, CLSM_SCAN_ROWS = 64 };
 
 /* Users pass these where the core has its own types. */
@@ -51,9 +60,15 @@ struct clsm_seat {
 #endif
 };
 
-struct clsm_caller { struct clsm_seat seat; };
-struct clsm_snapshot { struct clsm_seat seat; };
-struct clsm_scan { struct clsm_seat seat; };
+struct clsm_caller {
+    struct clsm_seat seat;
+};
+struct clsm_snapshot {
+    struct clsm_seat seat;
+};
+struct clsm_scan {
+    struct clsm_seat seat;
+};
 
 union clsm_handle {
     struct clsm_seat seat;
@@ -74,17 +89,17 @@ struct clsm_pool {
  * epoch e are those from e * cells to (e + 1) * cells. */
 struct clsm_board {
     pthread_mutex_t lock;
-    pthread_cond_t work; /* wakes the merger's thread */
-    pthread_cond_t room; /* wakes those who wait for room or for the merger */
-    uint64_t frozen;     /* so many epochs were frozen: the number of the current one */
-    uint64_t full;       /* the greatest end of an epoch that a write found full, or 0 */
-    uint64_t calls;      /* how often writes called for room */
-    uint64_t refused;    /* so many of these calls were refused or served */
-    int refusal;         /* why */
-    bool is_called;      /* the merger's thread may have something to do */
-    uint64_t taken;      /* how often the merger was taken or is waited for, in turn */
-    uint64_t given;      /* how often it was given back: nobody has it if that is as often */
-    bool is_over;        /* the store is being closed */
+    pthread_cond_t work;    /* wakes the merger's thread */
+    pthread_cond_t room;    /* wakes those who wait for room or for the merger */
+    uint64_t frozen;        /* so many epochs were frozen: the number of the current one */
+    uint64_t full;          /* the greatest end of an epoch that a write found full, or 0 */
+    uint64_t calls;         /* how often writes called for room */
+    uint64_t refused;       /* so many of these calls were refused or served */
+    int refusal;            /* why */
+    bool is_called;         /* the merger's thread may have something to do */
+    uint64_t taken;         /* how often the merger was taken or is waited for, in turn */
+    uint64_t given;         /* how often it was given back: nobody has it if that is as often */
+    bool is_over;           /* the store is being closed */
     _Atomic(uint64_t) told; /* the number of the last epoch that was told to be half full, plus 1 */
 };
 
@@ -123,18 +138,20 @@ void clsm_merger_stop(clsm_store *store);
 void clsm_board_tell(struct clsm_seat *seat, uint64_t time);
 /* Calls the merger's thread, as a write found the epoch full at this time. Never waits. */
 void clsm_board_call(clsm_store *store, uint64_t time);
-/* Waits until there is room behind the epoch that a write found full at this time: OK, RUN_FULL, WORN. */
+/* Waits for room behind the epoch that a write found full at this time: OK, RUN_FULL, WORN. */
 int clsm_board_make_room(clsm_store *store, uint64_t time);
 
 /* ---- views.c */
 
 /* Reads a page, at the snapshot of the seat if it has one: OK, MEMORY, BAD_POINTER. */
-int clsm_read_page(struct clsm_seat *seat, uint64_t first, uint64_t last, clsm_row *rows, size_t room,
-                   clsm_core_paged *answer, clsm_page_end *end);
+int clsm_read_page(struct clsm_seat *seat, uint64_t first, uint64_t last, clsm_row *rows,
+                   size_t room, clsm_core_paged *answer, clsm_page_end *end);
 
 /* ---- Patience: of one who tries again and again. It begins with {1}. */
 
-struct clsm_patience { unsigned pauses; };
+struct clsm_patience {
+    unsigned pauses;
+};
 
 /* Pauses 1, 2, 4 .. 64 times, then lets other threads run. */
 void clsm_be_patient(struct clsm_patience *patience);
@@ -149,9 +166,10 @@ static inline int clsm_begin(const struct clsm_seat *seat, enum clsm_use use) {
     struct clsm_seat *checked = (struct clsm_seat *)(uintptr_t)seat;
     if (atomic_load(&checked->use) != (int)use) return CLSM_BAD_POINTER;
     if (atomic_exchange(&checked->is_in_call, true)) return CLSM_IN_USE;
-#else
-    (void)use;
+#elif defined CLSM_POISONS
+    (void)*(const volatile unsigned *)&seat->number;
 #endif
+    (void)use;
     return CLSM_OK;
 }
 

@@ -7,10 +7,10 @@ static const clsm_core_key ANY = {0};
 
 /* ---- What callers, snapshots and scans have in common */
 
-int clsm_read_page(struct clsm_seat *seat, uint64_t first, uint64_t last, clsm_row *rows, size_t room,
-                   clsm_core_paged *answer, clsm_page_end *end) {
+int clsm_read_page(struct clsm_seat *seat, uint64_t first, uint64_t last, clsm_row *rows,
+                   size_t room, clsm_core_paged *answer, clsm_page_end *end) {
     const clsm_core_range ask = {first, last};
-    clsm_row none;
+    clsm_row none = {.key = 0};
     if (!end || (!rows && room > 0)) return CLSM_BAD_POINTER;
     clsm_core_row *into = (clsm_core_row *)(void *)(rows ? rows : &none);
     int code = (int)clsm_core_page(&seat->core, &ask, into, room, answer);
@@ -18,8 +18,8 @@ int clsm_read_page(struct clsm_seat *seat, uint64_t first, uint64_t last, clsm_r
     return code;
 }
 
-/* Opens the snapshot of a seat that was taken for this caller. Its time is not below what the caller
- * saw: contracts of the core order only what one seat does, so that is tested. */
+/* Opens the snapshot of a seat that was taken for this caller. Its time is not below what the
+ * caller saw: contracts of the core order only what one seat does, so that is tested. */
 static void open_view(struct clsm_seat *seat, struct clsm_seat *caller) {
     clsm_core_time answer;
     struct clsm_patience patience = {1};
@@ -55,7 +55,9 @@ int clsm_snapshot_open(clsm_caller *caller, clsm_snapshot **snapshot) {
     return clsm_end(home, CLSM_OK);
 }
 
-void clsm_snapshot_close(clsm_snapshot *snapshot) { close_view((struct clsm_seat *)snapshot, CLSM_AS_SNAPSHOT); }
+void clsm_snapshot_close(clsm_snapshot *snapshot) {
+    close_view((struct clsm_seat *)snapshot, CLSM_AS_SNAPSHOT);
+}
 
 uint64_t clsm_snapshot_time(const clsm_snapshot *snapshot) { return snapshot->seat.time; }
 
@@ -84,8 +86,8 @@ int clsm_snapshot_count(clsm_snapshot *snapshot, uint64_t first, uint64_t last, 
     return clsm_end(seat, code);
 }
 
-int clsm_snapshot_page(clsm_snapshot *snapshot, uint64_t first, uint64_t last, clsm_row *rows, size_t room,
-                       clsm_page_end *end) {
+int clsm_snapshot_page(clsm_snapshot *snapshot, uint64_t first, uint64_t last, clsm_row *rows,
+                       size_t room, clsm_page_end *end) {
     struct clsm_seat *seat = (struct clsm_seat *)snapshot;
     clsm_core_paged answer;
     int code = clsm_begin(seat, CLSM_AS_SNAPSHOT);
@@ -132,7 +134,8 @@ static int read_on(struct clsm_seat *seat, struct clsm_place *place) {
     clsm_core_paged answer;
     clsm_page_end end;
     if (!place->more) return CLSM_DONE;
-    int code = clsm_read_page(seat, place->next, place->last, place->rows, CLSM_SCAN_ROWS, &answer, &end);
+    int code =
+        clsm_read_page(seat, place->next, place->last, place->rows, CLSM_SCAN_ROWS, &answer, &end);
     if (code != CLSM_OK) return code;
     place->at = 0;
     place->count = (size_t)end.rows;

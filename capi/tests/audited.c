@@ -1,6 +1,6 @@
-/* Makes ten rounds of random calls in four threads, each on a store of other sizes, and records them: thread T
- * of round R in FOLDER/R.T. The lines of a round, one thread's behind another's, are for
- * `clsm audit --seats 64`.
+/* Makes ten rounds of random calls in four threads, each on a store of other sizes, and records
+ * them: thread T of round R in FOLDER/R.T. The lines of a round, one thread's behind another's, are
+ * for `clsm audit --seats 64`.
  *
  *     audited FOLDER CALLS      CALLS of each round */
 #include "check.h"
@@ -58,7 +58,8 @@ static size_t draw_words(struct worker *self, uint64_t words[8]) {
 /* ---- Calls, each with its record */
 
 static bool was_written(int code) {
-    CHECK(code == CLSM_OK || code == CLSM_RUN_FULL || (code >= CLSM_FULL && code <= CLSM_OVERTAKEN));
+    CHECK(code == CLSM_OK || code == CLSM_RUN_FULL
+          || (code >= CLSM_FULL && code <= CLSM_OVERTAKEN));
     return code == CLSM_OK;
 }
 
@@ -66,14 +67,18 @@ static void put(struct worker *self) {
     uint64_t words[8];
     const size_t count = draw_words(self, words);
     const uint64_t key = draw_key(self);
-    int code = draw(self, 8) ? clsm_put(self->caller, key, words, count) : clsm_try_put(self->caller, key, words, count);
-    if (was_written(code)) record_put(self->file, clsm_number(self->caller), clsm_time(self->caller), key, words, count);
+    int code = draw(self, 8) ? clsm_put(self->caller, key, words, count)
+                             : clsm_try_put(self->caller, key, words, count);
+    if (was_written(code))
+        record_put(self->file, clsm_number(self->caller), clsm_time(self->caller), key, words,
+                   count);
 }
 
 static void remove_key(struct worker *self) {
     const uint64_t key = draw_key(self);
     int code = draw(self, 8) ? clsm_remove(self->caller, key) : clsm_try_remove(self->caller, key);
-    if (was_written(code)) record_remove(self->file, clsm_number(self->caller), clsm_time(self->caller), key);
+    if (was_written(code))
+        record_remove(self->file, clsm_number(self->caller), clsm_time(self->caller), key);
 }
 
 static void get(struct worker *self) {
@@ -90,7 +95,8 @@ static void page(struct worker *self) {
     clsm_row rows[ROWS];
     clsm_page_end end;
     OK(clsm_page(self->caller, first, last, rows, room, &end));
-    record_page(self->file, clsm_number(self->caller), clsm_time(self->caller), first, last, room, rows, &end);
+    record_page(self->file, clsm_number(self->caller), clsm_time(self->caller), first, last, room,
+                rows, &end);
 }
 
 /* A scan that is read up to some row. */
@@ -146,7 +152,8 @@ static void *work(void *of) {
 
 /* ---- */
 
-static void begin(struct worker *worker, const char *folder, int round, int thread, clsm_store *store) {
+static void begin(struct worker *worker, const char *folder, int round, int thread,
+                  clsm_store *store) {
     char name[4096];
     CHECK((size_t)snprintf(name, sizeof name, "%s/%d.%d", folder, round, thread) < sizeof name);
     worker->file = fopen(name, "w");
@@ -175,6 +182,7 @@ static void play(const char *folder, int round, uint64_t calls) {
 
 int main(int count, char **texts) {
     CHECK(count == 3);
-    for (int round = 0; round < ROUNDS; round++) play(texts[1], round, argument(count, texts, 2, 0));
+    for (int round = 0; round < ROUNDS; round++)
+        play(texts[1], round, argument(count, texts, 2, 0));
     return 0;
 }

@@ -1,5 +1,6 @@
-/* Stands between a test with its library and pthreads: link it with -Wl,--wrap= for each __wrap_ function
- * below. Ends the test as soon as every thread of it sleeps, as nobody can wake them then. */
+/* Stands between a test with its library and pthreads: link it with -Wl,--wrap= for each __wrap_
+ * function below. Ends the test as soon as every thread of it sleeps, as nobody can wake them then.
+ */
 #define _POSIX_C_SOURCE 200809L
 #include "between.h"
 
@@ -25,8 +26,8 @@ int __real_sched_yield(void);
 
 enum { MOST = 256 };
 
-/* A condition on which threads sleep: so many that nobody has woken, and so many that were woken and
- * have not returned yet. */
+/* A condition on which threads sleep: so many that nobody has woken, and so many that were woken
+ * and have not returned yet. */
 struct condition {
     pthread_cond_t *at;
     unsigned asleep, woken;
@@ -136,7 +137,8 @@ void between_refuse_threads(unsigned count) {
     pthread_mutex_unlock(&lock);
 }
 
-int __wrap_pthread_create(pthread_t *id, const pthread_attr_t *how, void *(*start)(void *), void *with) {
+int __wrap_pthread_create(pthread_t *id, const pthread_attr_t *how, void *(*start)(void *),
+                          void *with) {
     pthread_mutex_lock(&lock);
     struct thread *thread = new_thread();
     *thread = (struct thread){.start = start, .with = with, .is_made = true};

@@ -1,4 +1,5 @@
-/* Changes: what each finds and leaves, and that none is lost between four threads beside the merger. */
+/* Changes: what each finds and leaves, and that none is lost between four threads beside the
+ * merger. */
 #include "check.h"
 
 #include <pthread.h>
@@ -38,7 +39,8 @@ static void add(clsm_caller *caller) {
 }
 
 static void claim(clsm_caller *caller) {
-    const clsm_value first = word(30), second = word(31), empty = {.length = 0}, long_one = {.length = 9};
+    const clsm_value first = word(30), second = word(31), empty = {.length = 0},
+                     long_one = {.length = 9};
     clsm_changed changed;
     OK(clsm_put_if_absent(caller, 3, &first, &changed));
     CHECK(is_none(&changed.before) && is(&changed.after, 30));
@@ -70,7 +72,8 @@ static void replace(clsm_caller *caller) {
     ANSWERS(CLSM_BAD_POINTER, clsm_replace(NULL, 5, NULL, &new, NULL));
 }
 
-/* Each change has a time of its own behind all before it, and one that kept the value reads there. */
+/* Each change has a time of its own behind all before it, and one that kept the value reads there.
+ */
 static void rise(clsm_caller *caller) {
     uint64_t before = clsm_time(caller);
     OK(clsm_add(caller, 6, 1, NULL));

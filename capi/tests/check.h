@@ -1,4 +1,5 @@
-/* What all tests share. A test ends with 0 and prints one line, or names the first check that failed. */
+/* What all tests share. A test ends with 0 and prints one line, or names the first check that
+ * failed. */
 #ifndef CHECK_H
 #define CHECK_H
 
@@ -7,21 +8,22 @@
 #include <stdio.h>
 #include <stdlib.h>
 
-#define CHECK(holds) \
-    do { \
-        if (!(holds)) { \
-            fprintf(stderr, "%s:%d: %s\n", __FILE__, __LINE__, #holds); \
-            exit(1); \
-        } \
+#define CHECK(holds)                                                                               \
+    do {                                                                                           \
+        if (!(holds)) {                                                                            \
+            fprintf(stderr, "%s:%d: %s\n", __FILE__, __LINE__, #holds);                            \
+            exit(1);                                                                               \
+        }                                                                                          \
     } while (0)
 
 /* That a call answers this code. */
 #define ANSWERS(code, call) check_code(__FILE__, __LINE__, #call, code, call)
-#define OK(call) ANSWERS(CLSM_OK, call)
+#define OK(call)            ANSWERS(CLSM_OK, call)
 
 static inline void check_code(const char *file, int line, const char *call, int wanted, int code) {
     if (code == wanted) return;
-    fprintf(stderr, "%s:%d: %s answered %d (%s), not %d\n", file, line, call, code, clsm_strerror(code), wanted);
+    fprintf(stderr, "%s:%d: %s answered %d (%s), not %d\n", file, line, call, code,
+            clsm_strerror(code), wanted);
     exit(1);
 }
 

@@ -1,4 +1,5 @@
-/* A library that was built with CLSM_CHECKED names calls that C must not make. The core is mock_core.c. */
+/* A library that was built with CLSM_CHECKED names calls that C must not make. The core is
+ * mock_core.c. */
 #include "check.h"
 #include "mock_core.h"
 

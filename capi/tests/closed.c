@@ -1,5 +1,5 @@
-/* AddressSanitizer names a call on a closed handle: each is made in a process of its own, which must not
- * get behind it. Build the library and this with -fsanitize=address. */
+/* AddressSanitizer names a call on a closed handle: each is made in a process of its own, which
+ * must not get behind it. Build the library and this with -fsanitize=address. */
 #define _POSIX_C_SOURCE 200809L
 #include "check.h"
 

@@ -7,12 +7,12 @@
 #include <thread>
 #include <vector>
 
-#define CHECK(holds) \
-    do { \
-        if (!(holds)) { \
-            std::fprintf(stderr, "%s:%d: %s\n", __FILE__, __LINE__, #holds); \
-            std::exit(1); \
-        } \
+#define CHECK(holds)                                                                               \
+    do {                                                                                           \
+        if (!(holds)) {                                                                            \
+            std::fprintf(stderr, "%s:%d: %s\n", __FILE__, __LINE__, #holds);                       \
+            std::exit(1);                                                                          \
+        }                                                                                          \
     } while (0)
 
 namespace {

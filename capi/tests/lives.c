@@ -1,4 +1,6 @@
-/* Handles that live longer than one would think, and processes and threads that end beside them. */
+/* Handles that live longer than one would think, and processes and threads that end beside them.
+ *
+ *     lives [NAME]      by which it calls itself */
 #define _POSIX_C_SOURCE 200809L
 #include "check.h"
 
@@ -181,11 +183,11 @@ static void open_many(void) {
     }
 }
 
-int main(void) {
+int main(int count, char **texts) {
     outlive_thread();
     nest();
     leave_scans();
     open_many();
     fork_beside();
-    return passed("lives");
+    return passed(count > 1 ? texts[1] : "lives");
 }

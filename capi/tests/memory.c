@@ -1,6 +1,6 @@
-/* Refuses each allocation of the library in turn. The call that needs it answers MEMORY and leaves all as
- * it was, and works when it is made again; nothing is lost. Link it with -Wl,--wrap= for malloc, calloc,
- * realloc and free. */
+/* Refuses each allocation of the library in turn. The call that needs it answers MEMORY and leaves
+ * all as it was, and works when it is made again; nothing is lost. Link it with -Wl,--wrap= for
+ * malloc, calloc, realloc and free. */
 #include "check.h"
 
 #include <stdatomic.h>
@@ -17,7 +17,9 @@ void __real_free(void *);
 /* Requests so far, the one that is refused, and what is not freed. */
 static atomic_long requests, refused_one, kept;
 
-static bool is_refused(void) { return atomic_fetch_add(&requests, 1) + 1 == atomic_load(&refused_one); }
+static bool is_refused(void) {
+    return atomic_fetch_add(&requests, 1) + 1 == atomic_load(&refused_one);
+}
 
 static void *kept_too(void *memory) {
     if (memory) atomic_fetch_add(&kept, 1);
@@ -52,11 +54,11 @@ static bool is_again(int code) {
     return true;
 }
 
-#define AGAIN(code, call) \
-    do { \
-        int answered_ = (call); \
-        if (is_again(answered_)) answered_ = (call); \
-        ANSWERS(code, answered_); \
+#define AGAIN(code, call)                                                                          \
+    do {                                                                                           \
+        int answered_ = (call);                                                                    \
+        if (is_again(answered_)) answered_ = (call);                                               \
+        ANSWERS(code, answered_);                                                                  \
     } while (0)
 
 static clsm_store *opened(int merge) {

@@ -1,5 +1,5 @@
-/* A core for tests, under one mutex: it answers as the proved core does, allocates when that does, and
- * refuses what a test wants to be refused (mock_core.h). */
+/* A core for tests, under one mutex: it answers as the proved core does, allocates when that does,
+ * and refuses what a test wants to be refused (mock_core.h). */
 #define _POSIX_C_SOURCE 200809L
 #include "mock_core.h"
 
@@ -32,8 +32,8 @@ struct store {
     struct entry *entries; /* by rising key */
     struct version *versions, *unused;
     size_t count;
-    uint64_t clock, epoch;      /* the number of the current epoch */
-    uint64_t snapshots[SEATS];  /* the time of the seat's snapshot plus 1, or NONE */
+    uint64_t clock, epoch;     /* the number of the current epoch */
+    uint64_t snapshots[SEATS]; /* the time of the seat's snapshot plus 1, or NONE */
     enum phase phase;
     size_t callers_left;
     bool merger_left;
@@ -255,7 +255,8 @@ static struct entry *entry_for(struct store *store, uint64_t key) {
 
 static uint64_t limit(const struct store *store) { return (store->epoch + 1) * store->sizes.cells; }
 
-static uint32_t write_at(struct store *store, uint64_t key, const clsm_core_value *value, clsm_core_time *answer) {
+static uint32_t write_at(struct store *store, uint64_t key, const clsm_core_value *value,
+                         clsm_core_time *answer) {
     uint32_t code = planned(MOCK_WRITE);
     if (code != CLSM_CORE_OK) return code;
     answer->time = store->clock;
@@ -268,7 +269,8 @@ static uint32_t write_at(struct store *store, uint64_t key, const clsm_core_valu
     return CLSM_CORE_OK;
 }
 
-static uint32_t write(clsm_core_caller *at, uint64_t key, const clsm_core_value *value, clsm_core_time *answer) {
+static uint32_t write(clsm_core_caller *at, uint64_t key, const clsm_core_value *value,
+                      clsm_core_time *answer) {
     struct store *store = store_of(at);
     if (!store) return CLSM_CORE_NO_HANDLE;
     pthread_mutex_lock(&lock);
@@ -284,7 +286,8 @@ uint32_t clsm_core_try_put(clsm_core_caller *at, const clsm_core_row *ask, clsm_
     return write(at, ask->key, &value, answer);
 }
 
-uint32_t clsm_core_try_remove(clsm_core_caller *at, const clsm_core_key *ask, clsm_core_time *answer) {
+uint32_t clsm_core_try_remove(clsm_core_caller *at, const clsm_core_key *ask,
+                              clsm_core_time *answer) {
     const clsm_core_value none = {.length = 0};
     return write(at, ask->key, &none, answer);
 }
@@ -292,12 +295,13 @@ uint32_t clsm_core_try_remove(clsm_core_caller *at, const clsm_core_key *ask, cl
 /* ---- Changes */
 
 static bool is_same(const clsm_core_value *one, const clsm_core_value *other) {
-    return one->length == other->length && memcmp(one->words, other->words, one->length * sizeof one->words[0]) == 0;
+    return one->length == other->length
+           && memcmp(one->words, other->words, one->length * sizeof one->words[0]) == 0;
 }
 
 /* Writes the desired value if it is told to; else that is a read. */
-static uint32_t change_at(struct store *store, uint64_t key, bool writes, const clsm_core_value *desired,
-                          clsm_core_changed *answer) {
+static uint32_t change_at(struct store *store, uint64_t key, bool writes,
+                          const clsm_core_value *desired, clsm_core_changed *answer) {
     clsm_core_time time = {0};
     if (!writes) {
         answer->after = answer->before;
@@ -313,24 +317,28 @@ static uint32_t change_at(struct store *store, uint64_t key, bool writes, const 
 static clsm_core_value value_now(const struct store *store, uint64_t key) {
     size_t at = place_of(store, key);
     const clsm_core_value *value = NULL;
-    if (at < store->count && store->entries[at].key == key) value = value_below(&store->entries[at], store->clock);
+    if (at < store->count && store->entries[at].key == key)
+        value = value_below(&store->entries[at], store->clock);
     return value ? *value : (clsm_core_value){.length = 0};
 }
 
-uint32_t clsm_core_try_add(clsm_core_caller *at, const clsm_core_adding *ask, clsm_core_changed *answer) {
+uint32_t clsm_core_try_add(clsm_core_caller *at, const clsm_core_adding *ask,
+                           clsm_core_changed *answer) {
     struct store *store = store_of(at);
     if (!store) return CLSM_CORE_NO_HANDLE;
     pthread_mutex_lock(&lock);
     answer->before = value_now(store, ask->key);
     const uint64_t old = answer->before.words[0];
-    const bool fits = answer->before.length == 0 || (answer->before.length == 1 && old <= UINT64_MAX - ask->by);
+    const bool fits =
+        answer->before.length == 0 || (answer->before.length == 1 && old <= UINT64_MAX - ask->by);
     const clsm_core_value sum = {1, {(answer->before.length ? old : 0) + ask->by}};
     uint32_t code = change_at(store, ask->key, fits, &sum, answer);
     pthread_mutex_unlock(&lock);
     return code;
 }
 
-uint32_t clsm_core_try_replace(clsm_core_caller *at, const clsm_core_replacing *ask, clsm_core_changed *answer) {
+uint32_t clsm_core_try_replace(clsm_core_caller *at, const clsm_core_replacing *ask,
+                               clsm_core_changed *answer) {
     struct store *store = store_of(at);
     if (!store) return CLSM_CORE_NO_HANDLE;
     if (ask->expected.length > 8 || ask->desired.length > 8) return CLSM_CORE_BAD_VALUE;
@@ -338,17 +346,20 @@ uint32_t clsm_core_try_replace(clsm_core_caller *at, const clsm_core_replacing *
     answer->before = value_now(store, ask->key);
     clsm_core_value desired = {.length = ask->desired.length};
     memcpy(desired.words, ask->desired.words, desired.length * sizeof desired.words[0]);
-    uint32_t code = change_at(store, ask->key, is_same(&answer->before, &ask->expected), &desired, answer);
+    uint32_t code =
+        change_at(store, ask->key, is_same(&answer->before, &ask->expected), &desired, answer);
     pthread_mutex_unlock(&lock);
     return code;
 }
 
 /* ---- Reads */
 
-static uint32_t read_below(const struct store *store, uint64_t key, uint64_t time, clsm_core_got *answer) {
+static uint32_t read_below(const struct store *store, uint64_t key, uint64_t time,
+                           clsm_core_got *answer) {
     size_t at = place_of(store, key);
     const clsm_core_value *value = NULL;
-    if (at < store->count && store->entries[at].key == key) value = value_below(&store->entries[at], time);
+    if (at < store->count && store->entries[at].key == key)
+        value = value_below(&store->entries[at], time);
     memset(answer, 0, sizeof *answer);
     answer->time = time;
     if (value) answer->value = *value;
@@ -380,7 +391,8 @@ uint32_t clsm_core_get_at(clsm_core_caller *at, const clsm_core_key *ask, clsm_c
     return code;
 }
 
-uint32_t clsm_core_snapshot(clsm_core_caller *at, const clsm_core_key *ask, clsm_core_time *answer) {
+uint32_t clsm_core_snapshot(clsm_core_caller *at, const clsm_core_key *ask,
+                            clsm_core_time *answer) {
     struct seat seat = seat_of(at);
     (void)ask;
     if (!seat.store) return CLSM_CORE_NO_HANDLE;
@@ -393,7 +405,8 @@ uint32_t clsm_core_snapshot(clsm_core_caller *at, const clsm_core_key *ask, clsm
     return code;
 }
 
-uint32_t clsm_core_close_snapshot(clsm_core_caller *at, const clsm_core_key *ask, clsm_core_time *answer) {
+uint32_t clsm_core_close_snapshot(clsm_core_caller *at, const clsm_core_key *ask,
+                                  clsm_core_time *answer) {
     struct seat seat = seat_of(at);
     (void)ask;
     if (!seat.store) return CLSM_CORE_NO_HANDLE;
@@ -412,23 +425,27 @@ static uint64_t range_time(struct seat seat) {
     return noted != NONE ? noted - 1 : read_time(seat.store, MOCK_READ);
 }
 
-uint32_t clsm_core_count(clsm_core_caller *at, const clsm_core_range *ask, clsm_core_counted *answer) {
+uint32_t clsm_core_count(clsm_core_caller *at, const clsm_core_range *ask,
+                         clsm_core_counted *answer) {
     struct seat seat = seat_of(at);
     struct store *store = seat.store;
     if (!store) return CLSM_CORE_NO_HANDLE;
     pthread_mutex_lock(&lock);
     answer->time = range_time(seat);
     answer->keys = 0;
-    for (size_t i = place_of(store, ask->first); i < store->count && store->entries[i].key <= ask->last; i++)
+    for (size_t i = place_of(store, ask->first);
+         i < store->count && store->entries[i].key <= ask->last; i++)
         if (value_below(&store->entries[i], answer->time)) answer->keys++;
     pthread_mutex_unlock(&lock);
     return CLSM_CORE_OK;
 }
 
-static void fill(struct seat seat, const clsm_core_range *ask, clsm_core_row *rows, size_t count, clsm_core_paged *answer) {
+static void fill(struct seat seat, const clsm_core_range *ask, clsm_core_row *rows, size_t count,
+                 clsm_core_paged *answer) {
     struct store *store = seat.store;
     *answer = (clsm_core_paged){.time = range_time(seat)};
-    for (size_t i = place_of(store, ask->first); i < store->count && store->entries[i].key <= ask->last; i++) {
+    for (size_t i = place_of(store, ask->first);
+         i < store->count && store->entries[i].key <= ask->last; i++) {
         const clsm_core_value *value = value_below(&store->entries[i], answer->time);
         if (!value) continue;
         answer->more = answer->rows == count;
@@ -438,8 +455,8 @@ static void fill(struct seat seat, const clsm_core_range *ask, clsm_core_row *ro
     }
 }
 
-uint32_t clsm_core_page(clsm_core_caller *at, const clsm_core_range *ask, clsm_core_row *rows, size_t count,
-                        clsm_core_paged *answer) {
+uint32_t clsm_core_page(clsm_core_caller *at, const clsm_core_range *ask, clsm_core_row *rows,
+                        size_t count, clsm_core_paged *answer) {
     struct seat seat = seat_of(at);
     if (!seat.store) return CLSM_CORE_NO_HANDLE;
     void *found = malloc(sizeof *rows);
@@ -476,7 +493,8 @@ static uint64_t floor_of(const struct store *store) {
     return floor;
 }
 
-/* Whether a merge at this floor keeps the version, which is the newest below the floor or is not. */
+/* Whether a merge at this floor keeps the version, which is the newest below the floor or is not.
+ */
 static bool is_kept(const struct version *version, uint64_t floor, bool is_newest_below) {
     return version->time >= floor || (is_newest_below && version->value.length > 0);
 }
@@ -527,7 +545,8 @@ static uint32_t sweep(struct store *store, uint64_t used, clsm_core_time *answer
     return CLSM_CORE_OK;
 }
 
-uint32_t clsm_core_try_freeze(clsm_core_merger *at, const clsm_core_used *ask, clsm_core_time *answer) {
+uint32_t clsm_core_try_freeze(clsm_core_merger *at, const clsm_core_used *ask,
+                              clsm_core_time *answer) {
     struct store *store = store_of(at);
     (void)answer;
     if (!store) return CLSM_CORE_NO_HANDLE;
@@ -537,7 +556,8 @@ uint32_t clsm_core_try_freeze(clsm_core_merger *at, const clsm_core_used *ask, c
     return code;
 }
 
-uint32_t clsm_core_try_sweep(clsm_core_merger *at, const clsm_core_used *ask, clsm_core_time *answer) {
+uint32_t clsm_core_try_sweep(clsm_core_merger *at, const clsm_core_used *ask,
+                             clsm_core_time *answer) {
     struct store *store = store_of(at);
     if (!store) return CLSM_CORE_NO_HANDLE;
     pthread_mutex_lock(&lock);

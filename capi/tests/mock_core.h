@@ -6,8 +6,8 @@
 
 enum mock_call { MOCK_WRITE, MOCK_READ, MOCK_SNAPSHOT, MOCK_FREEZE, MOCK_SWEEP, MOCK_CALLS };
 
-/* The next so many of these calls answer the code, and do nothing; a freeze or a sweep counts only if
- * it has something to do. */
+/* The next so many of these calls answer the code, and do nothing; a freeze or a sweep counts only
+ * if it has something to do. */
 void mock_core_refuse(enum mock_call call, uint32_t code, unsigned times);
 
 /* The next so many of these calls read at a time that is so much lower. */

@@ -1,6 +1,6 @@
-/* What only luck would show with the proved core: lost races, a read that is in the way of a merge, the
- * end of times, and reads that run back, which the core is not proved never to do between two seats. The
- * core is mock_core.c, which does each of these when it is told to. */
+/* What only luck would show with the proved core: lost races, a read that is in the way of a merge,
+ * the end of times, and reads that run back, which the core is not proved never to do between two
+ * seats. The core is mock_core.c, which does each of these when it is told to. */
 #include "between.h"
 #include "check.h"
 #include "mock_core.h"
@@ -134,7 +134,8 @@ static void merge_on(void) {
     closed(store, caller);
 }
 
-/* A write that tries once and finds the epoch full calls the merger, even if that gave up before. */
+/* A write that tries once and finds the epoch full calls the merger, even if that gave up before.
+ */
 static void call_again(void) {
     clsm_store *store = opened(4, 0);
     clsm_caller *caller = caller_of(store);

@@ -1,5 +1,5 @@
-/* Prints answered calls as `clsm audit` reads them (docs/AUDIT.md): SEAT TIME and what was done. Lines of one
- * seat must stand in the order of its calls. */
+/* Prints answered calls as `clsm audit` reads them (docs/AUDIT.md): SEAT TIME and what was done.
+ * Lines of one seat must stand in the order of its calls. */
 #ifndef RECORD_H
 #define RECORD_H
 
@@ -19,7 +19,8 @@ static inline void record_begin(FILE *to, unsigned seat, uint64_t time, const ch
 
 static inline void record_number(FILE *to, uint64_t number) { fprintf(to, " %" PRIu64, number); }
 
-static inline void record_put(FILE *to, unsigned seat, uint64_t time, uint64_t key, const uint64_t *words, size_t count) {
+static inline void record_put(FILE *to, unsigned seat, uint64_t time, uint64_t key,
+                              const uint64_t *words, size_t count) {
     record_begin(to, seat, time, "put");
     record_number(to, key);
     fputc(' ', to);
@@ -34,8 +35,8 @@ static inline void record_remove(FILE *to, unsigned seat, uint64_t time, uint64_
 }
 
 /* A read, `get` of a caller or `getat` of a snapshot, that found this value. */
-static inline void record_read(FILE *to, unsigned seat, uint64_t time, const char *deed, uint64_t key,
-                               const clsm_value *value) {
+static inline void record_read(FILE *to, unsigned seat, uint64_t time, const char *deed,
+                               uint64_t key, const clsm_value *value) {
     record_begin(to, seat, time, deed);
     record_number(to, key);
     fputc(' ', to);
@@ -52,8 +53,9 @@ static inline void record_rows(FILE *to, const clsm_row *rows, uint64_t count) {
 }
 
 /* A page of a caller, or of a snapshot while that is open. */
-static inline void record_page(FILE *to, unsigned seat, uint64_t time, uint64_t first, uint64_t last, size_t room,
-                               const clsm_row *rows, const clsm_page_end *end) {
+static inline void record_page(FILE *to, unsigned seat, uint64_t time, uint64_t first,
+                               uint64_t last, size_t room, const clsm_row *rows,
+                               const clsm_page_end *end) {
     record_begin(to, seat, time, "page");
     record_number(to, first);
     record_number(to, last);
@@ -67,8 +69,8 @@ static inline void record_page(FILE *to, unsigned seat, uint64_t time, uint64_t 
 }
 
 /* All rows of a scan, which was opened by the caller of this seat at this time. */
-static inline void record_scan(FILE *to, unsigned seat, uint64_t time, uint64_t first, uint64_t last,
-                               const clsm_row *rows, uint64_t count) {
+static inline void record_scan(FILE *to, unsigned seat, uint64_t time, uint64_t first,
+                               uint64_t last, const clsm_row *rows, uint64_t count) {
     record_begin(to, seat, time, "scan");
     record_number(to, first);
     record_number(to, last);

@@ -23,16 +23,20 @@ static clsm_caller *caller_of(clsm_store *store) {
 /* ---- Names */
 
 static void name_codes(void) {
-    static const int codes[] = {
-        CLSM_OK, CLSM_NOT_FOUND, CLSM_KEPT, CLSM_DONE, CLSM_IDLE, CLSM_FULL, CLSM_BUSY, CLSM_RACED, CLSM_OVERTAKEN,
-        CLSM_PINNED, CLSM_MEMORY, CLSM_NO_SEAT, CLSM_RUN_FULL, CLSM_WORN, CLSM_IN_USE, CLSM_NO_THREAD,
-        CLSM_BAD_KEYS, CLSM_BAD_EPOCH, CLSM_BAD_PATIENCE, CLSM_BAD_VALUE, CLSM_BAD_POINTER, CLSM_BAD_BUILD};
+    static const int codes[] = {CLSM_OK,          CLSM_NOT_FOUND, CLSM_KEPT,         CLSM_DONE,
+                                CLSM_IDLE,        CLSM_FULL,      CLSM_BUSY,         CLSM_RACED,
+                                CLSM_OVERTAKEN,   CLSM_PINNED,    CLSM_MEMORY,       CLSM_NO_SEAT,
+                                CLSM_RUN_FULL,    CLSM_WORN,      CLSM_IN_USE,       CLSM_NO_THREAD,
+                                CLSM_BAD_KEYS,    CLSM_BAD_EPOCH, CLSM_BAD_PATIENCE, CLSM_BAD_VALUE,
+                                CLSM_BAD_POINTER, CLSM_BAD_BUILD};
     const size_t count = sizeof codes / sizeof *codes;
     for (size_t i = 0; i < count; i++) {
         CHECK(strcmp(clsm_strerror(codes[i]), "unknown code") != 0);
-        for (size_t j = 0; j < i; j++) CHECK(strcmp(clsm_strerror(codes[i]), clsm_strerror(codes[j])) != 0);
+        for (size_t j = 0; j < i; j++)
+            CHECK(strcmp(clsm_strerror(codes[i]), clsm_strerror(codes[j])) != 0);
     }
-    CHECK(strcmp(clsm_strerror(-1), "unknown code") == 0 && strcmp(clsm_strerror(1000), "unknown code") == 0);
+    CHECK(strcmp(clsm_strerror(-1), "unknown code") == 0
+          && strcmp(clsm_strerror(1000), "unknown code") == 0);
     CHECK(strcmp(clsm_version(), CLSM_VERSION) == 0 && CLSM_VERSION_NUMBER == 200);
 }
 
@@ -63,11 +67,10 @@ static void refuse_options(void) {
 }
 
 static void take_options(void) {
-    const clsm_options good[] = {
-        {.keys = 0},
-        {.keys = 1, .epoch = 4, .patience = 1},
-        {.keys = 10, .epoch = 65536, .patience = 64},
-        {.epoch = 5, .patience = -1, .merge = CLSM_MERGE_IN_CALLS}};
+    const clsm_options good[] = {{.keys = 0},
+                                 {.keys = 1, .epoch = 4, .patience = 1},
+                                 {.keys = 10, .epoch = 65536, .patience = 64},
+                                 {.epoch = 5, .patience = -1, .merge = CLSM_MERGE_IN_CALLS}};
     for (size_t i = 0; i < sizeof good / sizeof *good; i++) {
         clsm_store *store = opened(&good[i]);
         clsm_caller *caller = caller_of(store);

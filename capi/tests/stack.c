@@ -1,4 +1,5 @@
-/* Makes each call in a thread on a stack that was filled with a pattern, and measures how deep it went. */
+/* Makes each call in a thread on a stack that was filled with a pattern, and measures how deep it
+ * went. */
 #define _GNU_SOURCE
 #include "check.h"
 
@@ -76,7 +77,8 @@ static size_t depth(void (*call)(void)) {
     pthread_t thread;
     size_t untouched = 0;
     memset(stack, PATTERN, sizeof stack);
-    CHECK(pthread_attr_init(&attributes) == 0 && pthread_attr_setstack(&attributes, stack, sizeof stack) == 0);
+    CHECK(pthread_attr_init(&attributes) == 0
+          && pthread_attr_setstack(&attributes, stack, sizeof stack) == 0);
     CHECK(pthread_create(&thread, &attributes, run, &job) == 0 && pthread_join(thread, NULL) == 0);
     pthread_attr_destroy(&attributes);
     while (untouched < STACK && stack[untouched] == PATTERN) untouched++;
@@ -84,13 +86,29 @@ static size_t depth(void (*call)(void)) {
 }
 
 int main(int count_of_words, char **words) {
-    static const struct { const char *name; void (*call)(void); } calls[] = {
-        {"clsm_open", open_store}, {"clsm_caller_open", open_caller}, {"clsm_put, merging", put},
-        {"clsm_remove", remove_keys}, {"clsm_try_put", try_put}, {"clsm_sweep", sweep}, {"clsm_put", put_one},
-        {"clsm_get", get}, {"clsm_count", count}, {"clsm_page", page}, {"clsm_follow", follow},
-        {"clsm_snapshot_open", open_snapshot}, {"clsm_snapshot_get", get_at}, {"clsm_snapshot_page", page_at},
-        {"clsm_snapshot_close", close_snapshot}, {"clsm_scan_open", open_scan}, {"clsm_scan_next", next},
-        {"clsm_scan_close", close_scan}, {"clsm_caller_close", close_caller}, {"clsm_close", close_store}};
+    static const struct {
+        const char *name;
+        void (*call)(void);
+    } calls[] = {{"clsm_open", open_store},
+                 {"clsm_caller_open", open_caller},
+                 {"clsm_put, merging", put},
+                 {"clsm_remove", remove_keys},
+                 {"clsm_try_put", try_put},
+                 {"clsm_sweep", sweep},
+                 {"clsm_put", put_one},
+                 {"clsm_get", get},
+                 {"clsm_count", count},
+                 {"clsm_page", page},
+                 {"clsm_follow", follow},
+                 {"clsm_snapshot_open", open_snapshot},
+                 {"clsm_snapshot_get", get_at},
+                 {"clsm_snapshot_page", page_at},
+                 {"clsm_snapshot_close", close_snapshot},
+                 {"clsm_scan_open", open_scan},
+                 {"clsm_scan_next", next},
+                 {"clsm_scan_close", close_scan},
+                 {"clsm_caller_close", close_caller},
+                 {"clsm_close", close_store}};
     const bool shows = count_of_words > 1 && strcmp(words[1], "show") == 0;
     for (size_t i = 0; i < sizeof calls / sizeof *calls; i++) {
         size_t bytes = depth(calls[i].call);

@@ -6,33 +6,35 @@ wrap = $(patsubst %,-Wl$(comma)--wrap=%,$(1))
 BETWEEN = $(call wrap,pthread_cond_wait pthread_cond_signal pthread_cond_broadcast pthread_create pthread_join sched_yield)
 HEAP = $(call wrap,malloc calloc realloc free)
 STRICT = $(C) -Werror
+SHARED_HEADERS = clsm.h tests/check.h tests/between.h tests/mock_core.h tests/record.h
+
+$(T): $(OUT)/settings
+	mkdir -p $@
 
 # ---- Programs: over the library; `mocked` and `checked` over the parts and the mock core.
 
-$(T)/threads $(T)/refusals $(T)/lives $(T)/audited: $(T)/%: tests/%.c tests/check.h tests/record.h $(T)/between.o $(OUT)/libclsm.a
+$(T)/threads $(T)/refusals $(T)/lives $(T)/audited: $(T)/%: tests/%.c $(SHARED_HEADERS) $(T)/between.o $(OUT)/libclsm.a
 	$(STRICT) -o $@ $< $(T)/between.o $(OUT)/libclsm.a $(BETWEEN)
 
-$(T)/memory: $(T)/%: tests/%.c tests/check.h $(OUT)/libclsm.a
+$(T)/memory: $(T)/%: tests/%.c $(SHARED_HEADERS) $(OUT)/libclsm.a | $(T)
 	$(STRICT) -o $@ $< $(OUT)/libclsm.a $(HEAP)
 
-$(T)/stack $(T)/closed $(T)/changes: $(T)/%: tests/%.c tests/check.h $(OUT)/libclsm.a
+$(T)/stack $(T)/closed $(T)/changes: $(T)/%: tests/%.c $(SHARED_HEADERS) $(OUT)/libclsm.a | $(T)
 	$(STRICT) -o $@ $< $(OUT)/libclsm.a
 
-$(T)/shared: tests/lives.c tests/check.h $(T)/between.o $(OUT)/libclsm.so.0
+$(T)/shared: tests/lives.c $(SHARED_HEADERS) $(T)/between.o $(OUT)/libclsm.so.0
 	$(STRICT) -o $@ $< $(T)/between.o $(BETWEEN) -L$(OUT) -lclsm -Wl,-rpath,'$$ORIGIN/..'
 
-$(T)/cxx: tests/cxx.cpp clsm.h $(OUT)/libclsm.a
-	@mkdir -p $(@D)
+$(T)/cxx: tests/cxx.cpp clsm.h $(OUT)/libclsm.a | $(T)
 	$(CXX11) -Werror -o $@ $< $(OUT)/libclsm.a
 
-$(T)/mocked: tests/mocked.c tests/check.h $(T)/between.o $(T)/mock_core.o $(OBJECTS)
+$(T)/mocked: tests/mocked.c $(SHARED_HEADERS) $(T)/between.o $(T)/mock_core.o $(OBJECTS)
 	$(STRICT) -o $@ $< $(T)/between.o $(T)/mock_core.o $(OBJECTS) $(BETWEEN)
 
-$(T)/checked: tests/checked.c tests/check.h $(T)/mock_core.o $(PARTS:%=src/%.c) $(HEADERS)
+$(T)/checked: tests/checked.c $(SHARED_HEADERS) $(T)/mock_core.o $(PARTS:%=src/%.c) $(HEADERS)
 	$(STRICT) -DCLSM_CHECKED -o $@ $< $(T)/mock_core.o $(PARTS:%=src/%.c)
 
-$(T)/between.o $(T)/mock_core.o: $(T)/%.o: tests/%.c tests/%.h core/clsm_core.h
-	@mkdir -p $(@D)
+$(T)/between.o $(T)/mock_core.o: $(T)/%.o: tests/%.c $(SHARED_HEADERS) core/clsm_core.h $(OUT)/settings | $(T)
 	$(STRICT) -c -o $@ $<
 
 $(OUT)/libmock_core.a: $(T)/mock_core.o
@@ -43,7 +45,7 @@ $(OUT)/libmock_core.a: $(T)/mock_core.o
 tools_of = @missing=; for tool in $(1); do command -v $$tool >/dev/null || missing="$$missing $$tool"; done; \
 	[ -z "$$missing" ] || { echo "capi: not there:$$missing" >&2; exit 1; }
 
-BUILDING = $(CC) $(CXX) $(AR) $(LD) $(OBJCOPY) $(NM) $(if $(filter out/libclsm_core.a,$(CORE)),rt)
+BUILDING = $(CC) $(CXX) $(AR) $(LD) $(OBJCOPY) $(NM) $(NEEDS_RT)
 
 AUDITING = $(firstword $(AUDIT)) $(if $(filter ../clsm,$(AUDIT)),rt)
 
@@ -79,13 +81,12 @@ ROUNDS = $(if $(SANITIZE),2000,20000)
 PROGRAMS = threads refusals memory lives stack changes cxx mocked checked \
     $(if $(SANITIZE),,shared) $(if $(filter address,$(SANITIZE)),closed) $(if $(AUDIT),audited)
 BUILT = $(PROGRAMS:%=$(T)/%)
-PLAIN = refusals memory lives stack changes cxx mocked checked \
-    $(if $(SANITIZE),,shared) $(if $(filter address,$(SANITIZE)),closed)
+PLAIN = refusals memory lives stack changes cxx mocked checked $(if $(filter address,$(SANITIZE)),closed)
 RUNS = "$(T)/threads $(ROUNDS)" "$(T)/threads $(ROUNDS) one" $(PLAIN:%=$(T)/%) \
-    $(if $(SANITIZE),,"tests/installed $(MAKE) OUT=$(OUT) CORE=$(CORE)" "tests/planted $(OUT)/planted") \
+    $(if $(SANITIZE),,"$(T)/shared shared" "tests/installed $(MAKE) OUT=$(OUT) CORE=$(CORE)" "tests/planted $(OUT)/planted") \
     $(if $(AUDIT),"tests/audit $(T)/audited $(AUDIT_CALLS) $(AUDIT)")
-SMALL = "$(T)/threads 200" $(filter-out %/shared,$(PLAIN:%=$(T)/%))
-MEMCHECK = valgrind -q --error-exitcode=9 --leak-check=full --fair-sched=yes
+SMALL = "$(T)/threads 200" $(patsubst %,$(T)/%,$(filter-out stack,$(PLAIN)))
+MEMCHECK = valgrind -q --error-exitcode=9 --leak-check=full --errors-for-leak-kinds=definite --show-leak-kinds=definite --fair-sched=yes
 
 .PHONY: check check-mock check-valgrind check-audit check-planted
 check: tools names warnings $(BUILT)
@@ -96,6 +97,7 @@ check-mock:
 	$(MAKE) check OUT=$(OUT)/mock CORE=$(OUT)/mock/libmock_core.a
 
 check-valgrind: valgrind-tools $(BUILT)
+	@echo "capi: without stack, which reads stacks of threads that ended"
 	WRAP="$(MEMCHECK)" tests/run $(GUARD) $(SMALL)
 
 check-audit: audit-tools $(T)/audited

@@ -73,7 +73,8 @@ static void work_once(clsm_caller *caller, uint64_t number, uint64_t round) {
     OK(clsm_put(caller, key, own, 2));
     CHECK(clsm_time(caller) >= before && clsm_seen(caller) == clsm_time(caller) + 1);
     OK(clsm_get(caller, key, &value));
-    CHECK(value.length == 2 && value.words[0] == round && value.words[1] == number && value.words[2] == 0);
+    CHECK(value.length == 2 && value.words[0] == round && value.words[1] == number
+          && value.words[2] == 0);
     OK(clsm_put(caller, SHARED, shared, 3));
     OK(clsm_get(caller, SHARED, &value));
     CHECK(value.length == 3 && value.words[2] == (value.words[0] ^ value.words[1]));
@@ -177,7 +178,8 @@ static void read_all(clsm_store *store) {
 }
 
 static void try_store(size_t epoch, int merge) {
-    /* There is room for all versions that are ever written: a thread may stop for long with a snapshot. */
+    /* There is room for all versions that are ever written: a thread may stop for long with a
+     * snapshot. */
     const clsm_options options = {.keys = 10 * rounds + 20000, .epoch = epoch, .merge = merge};
     clsm_store *store;
     OK(clsm_open(&options, &store));
