@@ -1,0 +1,31 @@
+# The benchmark beside other stores: bench/main.cpp; --help lists its options.
+#
+#     make bench BENCH="--workloads A,B --csv"
+
+B = $(OUT)/bench
+BENCH ?=
+BENCH_PARTS = main border clsm_store contest leveldb_store lmdb_store map_store options report tbb_store workload
+CXX17 = $(CXX) -std=c++17 $(WARNINGS) $(CXXFLAGS) $(SANITIZED) -pthread
+
+# The libraries of other stores that are installed. A part does without its own where the header is not there.
+linked = echo 'int main() {}' | $(CXX) -x c++ -o /dev/null - $(1) 2>/dev/null && echo $(1)
+OTHERS = $(foreach library,-lleveldb -llmdb -ltbb,$(shell $(call linked,$(library))))
+
+.PHONY: bench bench-build bench-warnings
+bench: bench-build
+	$(B)/bench $(BENCH)
+
+bench-build: $(B)/bench $(OUT)/libclsm.so.0
+
+$(B)/%.o: bench/%.cpp bench/*.h clsm.h core/clsm_core.h
+	@mkdir -p $(@D)
+	$(CXX17) -c -o $@ $<
+
+$(B)/bench: $(BENCH_PARTS:%=$(B)/%.o) $(OUT)/libclsm.a $(CORE)
+	$(CXX17) $(LDFLAGS) -o $@ $(BENCH_PARTS:%=$(B)/%.o) $(OUT)/libclsm.a $(CORE) $(OTHERS) -ldl \
+	    -Wl,-rpath,'$$ORIGIN/..'
+
+bench-warnings:
+	for cxx in $(CXX) $(CLANGXX); do \
+	    for file in bench/*.cpp; do $$cxx -std=c++17 $(WARNINGS) -Werror -O2 -fsyntax-only -pthread $$file || exit 1; done; \
+	done

@@ -1,0 +1,83 @@
+// The store beside other ones: workloads that people know, one table.
+#include "border.h"
+#include "contest.h"
+#include "options.h"
+
+#include <cstdlib>
+#include <iostream>
+
+namespace {
+
+using namespace bench;
+
+void enter(std::unique_ptr<Entrant> entrant, const char *name, const Options &options, Entrants &entrants) {
+    if (!is_chosen(options.stores, name)) return;
+    if (entrant) entrants.push_back(std::move(entrant));
+    else std::cerr << "bench: " << name << " is left out, as its package was not installed when this was built\n";
+}
+
+Entrants entrants_of(const Options &options) {
+    Entrants entrants;
+    enter(make_clsm(), "clsm", options, entrants);
+    enter(make_leveldb(), "leveldb", options, entrants);
+    enter(make_lmdb(), "lmdb", options, entrants);
+    enter(make_tbb(), "tbb", options, entrants);
+    enter(make_locked_map(), "map", options, entrants);
+    return entrants;
+}
+
+void play_workloads(const Options &options) {
+    const Entrants entrants = entrants_of(options);
+    const Zipf ranks(options.keys);
+    std::vector<std::string> names, titles;
+    for (const auto &entrant : entrants) {
+        names.emplace_back(entrant->name());
+        titles.emplace_back(entrant->title());
+    }
+    Report report(std::cout, options.csv, names, titles);
+    for (const Workload &workload : all_workloads())
+        if (is_chosen(options.workloads, workload.name)) Contest(workload, options, ranks, entrants).play(report);
+}
+
+void play_border(const Options &options) {
+    if (!is_chosen(options.workloads, "border") || !is_chosen(options.stores, "clsm")) return;
+    const std::vector<Crossing> crossings = measure_border(options.repeat);
+    if (options.csv) {
+        std::vector<std::string> names;
+        Line gets = {"border get", 1, {}, {}}, puts = {"border put", 1, {}, {}};
+        for (const Crossing &crossing : crossings) {
+            names.push_back(crossing.name);
+            gets.cells.push_back(crossing.get);
+            puts.cells.push_back(crossing.put);
+        }
+        print_csv(std::cout, names, gets);
+        print_csv(std::cout, names, puts);
+        return;
+    }
+    std::cout << "\n";
+    for (const Crossing &crossing : crossings)
+        std::cout << "border, " << crossing.title << ": get " << text_of(crossing.get) << ", put "
+                  << text_of(crossing.put) << "\n";
+}
+
+int run(const std::vector<std::string> &arguments) {
+    const Options options = read_options(arguments);
+    if (options.help) {
+        std::cout << usage;
+        return EXIT_SUCCESS;
+    }
+    play_workloads(options);
+    play_border(options);
+    return EXIT_SUCCESS;
+}
+
+} // namespace
+
+int main(int count, char **arguments) {
+    try {
+        return run({arguments + 1, arguments + count});
+    } catch (const std::exception &failure) {
+        std::cerr << "bench: " << failure.what() << "\n";
+        return EXIT_FAILURE;
+    }
+}

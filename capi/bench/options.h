@@ -1,0 +1,27 @@
+#ifndef CLSM_BENCH_OPTIONS_H
+#define CLSM_BENCH_OPTIONS_H
+
+#include <cstdint>
+#include <string>
+#include <vector>
+
+namespace bench {
+
+struct Options {
+    std::vector<std::string> workloads, stores; // empty: all
+    std::vector<std::uint64_t> threads = {1, 2, 4};
+    std::uint64_t keys = 1'000'000, operations = 200'000, repeat = 5;
+    bool csv = false, help = false;
+};
+
+extern const char *const usage;
+
+// Throws a Failure that says which argument is wrong.
+Options read_options(const std::vector<std::string> &arguments);
+
+// Whether the list is empty or has the name.
+bool is_chosen(const std::vector<std::string> &list, const std::string &name);
+
+} // namespace bench
+
+#endif
