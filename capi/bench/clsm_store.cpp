@@ -37,7 +37,6 @@ public:
     }
 
     void remove(std::uint64_t key) { check(clsm_remove(caller_.get(), key)); }
-    void remove_alone(std::uint64_t key) { remove(key); }
 
     std::uint64_t add(std::uint64_t key, std::uint64_t by) {
         clsm_changed changed;

@@ -74,6 +74,7 @@ Line Contest::play_line(std::uint64_t threads) {
         const bool changes_words = workload_.has(Act::put) || workload_.has(Act::add);
         round.mask = is_exact_ && (threads == 1 || !changes_words) ? words : tags;
         play_round(round, turn, line);
+        note_inserts(round);
     }
     return line;
 }
@@ -94,15 +95,16 @@ void Contest::play_round(const Round &round, std::uint64_t turn, Line &line) {
             line.answers[place] = line.answers[place].value_or(0) + outcome.answers;
         }
         if (turn + 1 == options_.repeat) rows.check(entrant, entrant.rows(is_exact_ ? words : tags));
-        if (workload_.is_loaded) entrant.undo(round, outcome);
+        if (workload_.is_loaded) entrant.put_back(round);
         else entrant.close();
     }
 }
 
-// With room for all keys that a round may insert.
+// With room for all keys that the rounds may insert, as one call in 20 does.
 void Contest::open(Entrant &entrant) const {
-    const std::uint64_t inserts = workload_.has(Act::insert) ? options_.operations / 10 + 1000 : 0;
-    entrant.open(options_.keys + inserts);
+    const std::uint64_t rounds = options_.threads.size() * options_.repeat;
+    const std::uint64_t inserts = rounds * (options_.operations / 16 + 1000);
+    entrant.open(options_.keys + (workload_.has(Act::insert) ? inserts : 0));
     entrant.load(load_);
 }
 
@@ -112,9 +114,14 @@ void Contest::note_writers(const Round &round) {
     is_exact_ = !are_rivals && (is_exact_ || !workload_.is_loaded);
 }
 
+void Contest::note_inserts(const Round &round) {
+    for (const std::vector<Step> &steps : round.steps)
+        for (const Step &step : steps) inserted_ += step.act == Act::insert ? 1 : 0;
+}
+
 Round Contest::draw(std::uint64_t threads, std::uint64_t turn) const {
     const std::uint64_t seed = mix(mix(threads) + turn);
-    Round round = {&workload_, options_.keys, {}, {}, words};
+    Round round = {&workload_, options_.keys + inserted_, {}, {}, words};
     for (std::uint64_t thread = 0; thread < threads; thread++) {
         const std::size_t calls = options_.operations * (thread + 1) / threads - options_.operations * thread / threads;
         round.steps.push_back(draw_steps(workload_, ranks_, options_.keys, {thread, threads, seed, calls}));

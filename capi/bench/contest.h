@@ -23,6 +23,7 @@ private:
     void play_round(const Round &, std::uint64_t turn, Line &);
     void open(Entrant &) const;
     void note_writers(const Round &);
+    void note_inserts(const Round &);
     Round draw(std::uint64_t threads, std::uint64_t turn) const;
 
     const Workload &workload_;
@@ -30,7 +31,8 @@ private:
     const Zipf &ranks_;
     const Entrants &entrants_;
     std::vector<Step> load_;
-    bool is_exact_ = true; // the seed determines whole words, not the upper halves alone
+    std::uint64_t inserted_ = 0; // keys, by the rounds so far
+    bool is_exact_ = true;       // the seed determines whole words, not the upper halves alone
 };
 
 } // namespace bench

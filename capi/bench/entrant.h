@@ -19,17 +19,16 @@ struct Failure : std::runtime_error {
 // What all threads do in one run.
 struct Round {
     const Workload *workload;
-    std::uint64_t keys;                    // that are loaded
+    std::uint64_t keys;                    // that are there before it
     std::vector<std::vector<Step>> steps;  // of each thread
     std::vector<Step> beside;              // of the writer beside, again and again
     std::uint64_t mask;                    // the part of words that counts as an answer
 };
 
 struct Outcome {
-    double nanoseconds = 0;     // from the first call to the end of the last
-    std::uint64_t calls = 0;    // of a walk the rows
-    std::uint64_t answers = 0;  // their checksum
-    std::uint64_t inserted = 0; // keys
+    double nanoseconds = 0;    // from the first call to the end of the last
+    std::uint64_t calls = 0;   // of a walk the rows
+    std::uint64_t answers = 0; // their checksum
 };
 
 class Entrant {
@@ -45,8 +44,8 @@ public:
     // Makes the calls, of which the answers do not matter.
     virtual void load(const std::vector<Step> &) = 0;
     virtual Outcome play(const Round &) = 0;
-    // Removes what a round inserted, and puts back what it removed. Nobody else calls meanwhile.
-    virtual void undo(const Round &, const Outcome &) = 0;
+    // Puts the keys back that a round removed.
+    virtual void put_back(const Round &) = 0;
     // The checksum of all rows.
     virtual std::uint64_t rows(std::uint64_t mask) = 0;
 };

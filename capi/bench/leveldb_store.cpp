@@ -59,7 +59,6 @@ public:
     }
 
     void remove(std::uint64_t key) { check(db_->Delete(leveldb::WriteOptions(), Bytes(key).slice())); }
-    void remove_alone(std::uint64_t key) { remove(key); }
 
     std::uint64_t add(std::uint64_t key, std::uint64_t by) {
         const std::lock_guard lock((*locks_)[mix(key) % locks_->size()]);

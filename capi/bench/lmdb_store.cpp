@@ -81,8 +81,6 @@ public:
         commit(std::move(writing));
     }
 
-    void remove_alone(std::uint64_t key) { remove(key); }
-
     std::uint64_t add(std::uint64_t key, std::uint64_t by) {
         Owned<MDB_txn> writing = begin(env_, 0);
         std::uint64_t word = 0;

@@ -36,8 +36,6 @@ public:
         shared_->map.erase(key);
     }
 
-    void remove_alone(std::uint64_t key) { remove(key); }
-
     std::uint64_t add(std::uint64_t key, std::uint64_t by) {
         const std::unique_lock lock(shared_->mutex);
         std::uint64_t &word = shared_->map[key];

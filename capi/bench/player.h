@@ -12,7 +12,6 @@
 //     void put(key, word);
 //     bool get(key, word &);                          whether the key is there
 //     void remove(key);
-//     void remove_alone(key);                         while nobody else calls
 //     std::uint64_t add(key, by);                     the word before; in one step
 //     template <class Visit> std::size_t scan(first, room, Visit visit);
 //                                                     visit(key, word) of the next rows, and their number
@@ -187,16 +186,14 @@ public:
         for (const auto &share : shares) share.wait();
         field.is_over.store(true);
         if (beside.valid()) beside.get();
-        return outcome_of(shares, field.next.load() - round.keys);
+        return outcome_of(shares);
     }
 
-    void undo(const Round &round, const Outcome &outcome) override {
+    void put_back(const Round &round) override {
         auto caller = store_->caller();
-        for (std::uint64_t i = 0; i < outcome.inserted; i++)
-            caller.remove_alone(key_of(round.workload->layout, round.keys + i));
-        if (!round.workload->has(Act::remove)) return;
         for (const std::vector<Step> &steps : round.steps)
-            for (const Step &step : steps) caller.put(step.key, word_of(step.key, 0));
+            for (const Step &step : steps)
+                if (step.act == Act::remove) caller.put(step.key, word_of(step.key, 0));
     }
 
     std::uint64_t rows(std::uint64_t mask) override {
@@ -215,9 +212,8 @@ public:
 private:
     using Caller = typename Store::Caller;
 
-    static Outcome outcome_of(std::vector<std::future<Played>> &shares, std::uint64_t inserted) {
+    static Outcome outcome_of(std::vector<std::future<Played>> &shares) {
         Outcome outcome;
-        outcome.inserted = inserted;
         Clock::time_point begin = Clock::time_point::max(), end = Clock::time_point::min();
         for (auto &share : shares) {
             const Played done = share.get();

@@ -30,7 +30,6 @@ public:
     }
 
     void remove(std::uint64_t) { throw Failure("tbb: no removal beside other calls"); }
-    void remove_alone(std::uint64_t key) { map_->unsafe_erase(key); }
 
     std::uint64_t add(std::uint64_t key, std::uint64_t by) {
         const auto found = map_->find(key);
