@@ -42,7 +42,7 @@ void wait_for_rest() {
 }
 
 std::string line_of(const Round &round) {
-    return std::string(round.workload->name) + " with " + std::to_string(round.steps.size()) + " threads: ";
+    return std::string(round.workload->name) + ", threads " + std::to_string(round.steps.size()) + ": ";
 }
 
 // Whether the seed determines the answers, at least the upper halves of their words.

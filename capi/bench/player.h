@@ -74,8 +74,8 @@ struct Field {
 
     const Round &round;
     Gate gate;
-    std::atomic<std::uint64_t> next; // the index of the key that is inserted next
     std::atomic<bool> is_over{false};
+    alignas(64) std::atomic<std::uint64_t> next; // the index of the key that is inserted next
 };
 
 // What a thread has played.

@@ -81,6 +81,23 @@ static void remove_key(struct worker *self) {
         record_remove(self->file, clsm_number(self->caller), clsm_time(self->caller), key);
 }
 
+static void change(struct worker *self) {
+    const uint64_t key = draw_key(self), kind = draw(self, 4);
+    clsm_value value = {.length = 0}, old;
+    clsm_changed changed;
+    int code;
+    value.length = draw_words(self, value.words);
+    clsm_get(self->caller, key, &old);
+    if (kind == 0) code = clsm_put_if_absent(self->caller, key, &value, &changed);
+    else if (kind == 1) code = clsm_add(self->caller, key, draw(self, UINT64_MAX), &changed);
+    else if (kind == 2)
+        code = clsm_replace(self->caller, key, old.length ? &old : NULL, &value, &changed);
+    else code = clsm_replace(self->caller, key, old.length ? &old : NULL, NULL, &changed);
+    if (code != CLSM_KEPT && !was_written(code)) return;
+    record_change(self->file, clsm_number(self->caller), clsm_time(self->caller), key, code,
+                  &changed);
+}
+
 static void get(struct worker *self) {
     const uint64_t key = draw_key(self);
     clsm_value value;
@@ -140,7 +157,8 @@ static void *work(void *of) {
     struct worker *self = of;
     for (uint64_t i = 0; i < self->calls; i++) {
         const uint64_t kind = draw(self, 1000);
-        if (kind < 500) put(self);
+        if (kind < 400) put(self);
+        else if (kind < 500) change(self);
         else if (kind < 600) remove_key(self);
         else if (kind < 950) get(self);
         else if (kind < 980) page(self);

@@ -47,6 +47,9 @@ static void lose(enum clsm_code code) {
     mock_core_refuse(MOCK_WRITE, (uint32_t)code, LOST);
     OK(clsm_remove(caller, 1));
     CHECK(between_yields() - yields == 2 * (LOST - PAUSED));
+    mock_core_refuse(MOCK_WRITE, (uint32_t)code, LOST);
+    OK(clsm_add(caller, 1, 1, NULL));
+    CHECK(between_yields() - yields == 3 * (LOST - PAUSED));
     closed(store, caller);
 }
 
@@ -189,7 +192,11 @@ static void run_back(void) {
     mock_core_run_back(MOCK_READ, 5, 3);
     OK(clsm_page(caller, 9, 9, &row, 1, &end));
     CHECK(end.rows == 1);
-    unsigned made = mock_core_count(MOCK_SNAPSHOT);
+    unsigned made = mock_core_count(MOCK_READ);
+    mock_core_run_back(MOCK_READ, 5, 3);
+    ANSWERS(CLSM_KEPT, clsm_put_if_absent(caller, 9, &row.value, NULL));
+    CHECK(mock_core_count(MOCK_READ) - made == 4 && clsm_time(caller) == 10);
+    made = mock_core_count(MOCK_SNAPSHOT);
     mock_core_run_back(MOCK_SNAPSHOT, 1, 3);
     OK(clsm_snapshot_open(caller, &snapshot));
     CHECK(mock_core_count(MOCK_SNAPSHOT) - made == 4 && clsm_snapshot_time(snapshot) == 10);

@@ -44,6 +44,19 @@ static inline void record_read(FILE *to, unsigned seat, uint64_t time, const cha
     fputc('\n', to);
 }
 
+/* An add, a put if absent or a replacement, which answered this code. */
+static inline void record_change(FILE *to, unsigned seat, uint64_t time, uint64_t key, int code,
+                                 const clsm_changed *changed) {
+    record_begin(to, seat, time, "rmw");
+    record_number(to, key);
+    fputc(' ', to);
+    record_words(to, changed->before.words, changed->before.length);
+    fputc(' ', to);
+    if (code == CLSM_KEPT) fputs("keep", to);
+    else record_words(to, changed->after.words, changed->after.length);
+    fputc('\n', to);
+}
+
 static inline void record_rows(FILE *to, const clsm_row *rows, uint64_t count) {
     for (uint64_t i = 0; i < count; i++) {
         record_number(to, rows[i].key);

@@ -13,13 +13,13 @@ $(T): $(OUT)/settings
 
 # ---- Programs: over the library; `mocked` and `checked` over the parts and the mock core.
 
-$(T)/threads $(T)/refusals $(T)/lives $(T)/audited: $(T)/%: tests/%.c $(SHARED_HEADERS) $(T)/between.o $(OUT)/libclsm.a
+$(T)/threads $(T)/refusals $(T)/changes $(T)/lives $(T)/audited: $(T)/%: tests/%.c $(SHARED_HEADERS) $(T)/between.o $(OUT)/libclsm.a
 	$(STRICT) -o $@ $< $(T)/between.o $(OUT)/libclsm.a $(BETWEEN)
 
 $(T)/memory: $(T)/%: tests/%.c $(SHARED_HEADERS) $(OUT)/libclsm.a | $(T)
 	$(STRICT) -o $@ $< $(OUT)/libclsm.a $(HEAP)
 
-$(T)/stack $(T)/closed $(T)/changes: $(T)/%: tests/%.c $(SHARED_HEADERS) $(OUT)/libclsm.a | $(T)
+$(T)/stack $(T)/closed: $(T)/%: tests/%.c $(SHARED_HEADERS) $(OUT)/libclsm.a | $(T)
 	$(STRICT) -o $@ $< $(OUT)/libclsm.a
 
 $(T)/shared: tests/lives.c $(SHARED_HEADERS) $(T)/between.o $(OUT)/libclsm.so.0
