@@ -42,7 +42,7 @@ $(OUT)/libmock_core.a: $(T)/mock_core.o
 
 # ---- What must be there, by name
 
-tools_of = @missing=; for tool in $(1); do command -v $$tool >/dev/null || missing="$$missing $$tool"; done; \
+tools_of = @missing=; for tool in $(sort $(1)); do command -v $$tool >/dev/null || missing="$$missing $$tool"; done; \
 	[ -z "$$missing" ] || { echo "capi: not there:$$missing" >&2; exit 1; }
 
 BUILDING = $(CC) $(CXX) $(AR) $(LD) $(OBJCOPY) $(NM) $(NEEDS_RT)
