@@ -83,12 +83,12 @@ PROGRAMS = threads refusals memory lives stack changes cxx mocked checked \
 BUILT = $(PROGRAMS:%=$(T)/%)
 PLAIN = refusals memory lives stack changes cxx mocked checked $(if $(filter address,$(SANITIZE)),closed)
 RUNS = "$(T)/threads $(ROUNDS)" "$(T)/threads $(ROUNDS) one" $(PLAIN:%=$(T)/%) \
-    $(if $(SANITIZE),,"$(T)/shared shared" "tests/installed $(MAKE) OUT=$(OUT) CORE=$(CORE)" "tests/planted $(OUT)/planted") \
+    $(if $(SANITIZE),,"$(T)/shared shared" "tests/installed $(MAKE) OUT=$(OUT) CORE=$(CORE)" "tests/planted $(OUT)/planted" "tests/packed $(MAKE) OUT=$(OUT) CORE=$(CORE)") \
     $(if $(AUDIT),"tests/audit $(T)/audited $(AUDIT_CALLS) $(AUDIT)")
 SMALL = "$(T)/threads 200" $(patsubst %,$(T)/%,$(filter-out stack,$(PLAIN)))
 MEMCHECK = valgrind -q --error-exitcode=9 --leak-check=full --errors-for-leak-kinds=definite --show-leak-kinds=definite --fair-sched=yes
 
-.PHONY: check check-mock check-valgrind check-audit check-planted
+.PHONY: check check-mock check-valgrind check-audit check-planted check-packed
 check: tools names warnings $(BUILT)
 	@$(if $(AUDIT),,echo "capi: AUDIT is empty: no calls are audited")
 	CC="$(CC)" tests/run $(GUARD) $(RUNS)
@@ -105,3 +105,6 @@ check-audit: audit-tools $(T)/audited
 
 check-planted: tools
 	CC="$(CC)" tests/planted $(OUT)/planted
+
+check-packed: tools
+	CC="$(CC)" tests/run $(GUARD) "tests/packed $(MAKE) OUT=$(OUT) CORE=$(CORE)"
