@@ -105,7 +105,8 @@ typedef struct {
 
 #define CLSM_MERGE_IN_CALLS 1
 
-/* How to open a store. 0 is a good choice for each field; all of them 0 make a store of 22 MiB. */
+/* How to open a store. 0 is a good choice for each field; all of them 0 make a store of 22 MiB: 176
+ * bytes for each of the keys, 1,248 for each write of an epoch, and 40 KiB. */
 typedef struct {
     size_t keys;      /* most keys with a value: 1 to 4,194,304 - 4 * epoch; 0: 100,000 */
     size_t epoch;     /* most writes between two merges: 4 to 65,536; 0: 4,096 */
@@ -176,7 +177,8 @@ int clsm_follow(clsm_caller *caller, uint64_t seen);
  * has begun the next epoch.
  *
  * RUN_FULL: the epoch is full and the one before cannot be merged. Nothing was written. The same
- * write may be made again once a snapshot was closed. */
+ * write may be made again once a snapshot or a scan was closed. If none is open, the store has more
+ * keys than it was opened for, and takes no write any more, removals among them. */
 
 /* Writes a value of so many words, 1 to 8, at the key.
  * OK; RUN_FULL, WORN, BAD_VALUE, BAD_POINTER. */

@@ -1,6 +1,6 @@
 # The benchmark beside other stores: bench/main.cpp; --help lists its options.
 #
-#     make bench BENCH="--workloads A,B --csv"
+#     make bench BENCH="--workloads A,B --csv stores.csv"
 #
 # Stores are found when this is built: after one of their packages was installed, remove out/bench first.
 

@@ -26,7 +26,7 @@ Entrants entrants_of(const Options &options) {
     return entrants;
 }
 
-void play_workloads(const Options &options) {
+void play_workloads(const Options &options, Csv &csv) {
     const Entrants entrants = entrants_of(options);
     const Zipf ranks(options.keys);
     std::vector<std::string> names, titles;
@@ -34,30 +34,30 @@ void play_workloads(const Options &options) {
         names.emplace_back(entrant->name());
         titles.emplace_back(entrant->title());
     }
-    Report report(std::cout, options.csv, names, titles);
+    Report report(std::cout, csv, names, titles);
     for (const Workload &workload : all_workloads())
         if (is_chosen(options.workloads, workload.name)) Contest(workload, options, ranks, entrants).play(report);
 }
 
-void play_border(const Options &options) {
+void play_border(const Options &options, Csv &csv) {
     if (!is_chosen(options.workloads, "border") || !is_chosen(options.stores, "clsm")) return;
     const std::vector<Crossing> crossings = measure_border(options.repeat);
-    if (options.csv) {
-        std::vector<std::string> names;
-        Line gets = {"border get", 1, {}, {}}, puts = {"border put", 1, {}, {}};
-        for (const Crossing &crossing : crossings) {
-            names.push_back(crossing.name);
-            gets.cells.push_back(crossing.get);
-            puts.cells.push_back(crossing.put);
-        }
-        print_csv(std::cout, names, gets);
-        print_csv(std::cout, names, puts);
-        return;
+    std::vector<std::string> names;
+    Line gets = {"border get", 1, {}, {}}, puts = {"border put", 1, {}, {}};
+    for (const Crossing &crossing : crossings) {
+        names.push_back(crossing.name);
+        gets.cells.push_back(crossing.get);
+        puts.cells.push_back(crossing.put);
     }
+    csv.print(names, gets);
+    csv.print(names, puts);
     std::cout << "\n";
     for (const Crossing &crossing : crossings)
         std::cout << "border, " << crossing.title << ": get " << text_of(crossing.get) << ", put "
                   << text_of(crossing.put) << "\n";
+    const Crossing &header = crossings[0], &core = crossings[1];
+    std::cout << "border, clsm.h over the core: get " << text_of_rests(header.get.less(core.get)) << ", put "
+              << text_of_rests(header.put.less(core.put)) << "\n";
 }
 
 int run(const std::vector<std::string> &arguments) {
@@ -66,8 +66,9 @@ int run(const std::vector<std::string> &arguments) {
         std::cout << usage;
         return EXIT_SUCCESS;
     }
-    play_workloads(options);
-    play_border(options);
+    Csv csv(options.csv);
+    play_workloads(options, csv);
+    play_border(options, csv);
     return EXIT_SUCCESS;
 }
 

@@ -8,11 +8,13 @@ namespace bench {
 
 const char *const usage =
     "usage: bench [--workloads A,B,..] [--stores clsm,..] [--threads 1,2,4] [--keys N] [--operations N]\n"
-    "             [--repeat R] [--csv]\n"
+    "             [--repeat R] [--csv FILE]\n"
     "\n"
     "Prints a Markdown table of the nanoseconds of a call, or of a row for readseq: the median of the\n"
-    "runs, and the least and the greatest in brackets. That is wall time, divided by the calls of all\n"
-    "threads. Ends with 1 if the stores' answers differ where they must not.\n"
+    "runs. That is wall time, divided by the calls of all threads. In brackets are the least and the\n"
+    "greatest of the runs, for the first store of its times, for the others of the ratio of their time\n"
+    "to the first store's in the same run: above 1 the first one is faster. Ends with 1 if the stores'\n"
+    "answers differ where they must not.\n"
     "\n"
     "--workloads   A, B, C, D, E, F of YCSB; fillseq, fillrandom, overwrite, readrandom, readhot,\n"
     "              readmissing, readseq, seekrandom, deleterandom, readwhilewriting and\n"
@@ -22,8 +24,8 @@ const char *const usage =
     "--keys        loaded before each workload but the fills, 100 to 3,000,000. Default: 1,000,000\n"
     "--operations  calls of all threads in a run, 100 to 16,000,000. Default: 200,000\n"
     "--repeat      runs of each line, 1 to 99. Default: 5\n"
-    "--csv         prints workload,threads,store,median,least,greatest,answers: picoseconds, and the\n"
-    "              checksum of the answers if the seed determines them\n";
+    "--csv         also writes workload,threads,store,median,least,greatest,answers and the ratios to\n"
+    "              this file: picoseconds, and the checksum of the answers if the seed determines them\n";
 
 namespace {
 
@@ -64,6 +66,7 @@ std::vector<std::string> workload_names() {
 void set(Options &options, const std::string &option, const std::string &value) {
     if (option == "--workloads") options.workloads = names_of(option, value, workload_names());
     else if (option == "--stores") options.stores = names_of(option, value, {"clsm", "leveldb", "lmdb", "tbb", "map"});
+    else if (option == "--csv") options.csv = value;
     else if (option == "--keys") options.keys = number_of(option, value, 100, 3'000'000);
     else if (option == "--operations") options.operations = number_of(option, value, 100, 16'000'000);
     else if (option == "--repeat") options.repeat = number_of(option, value, 1, 99);
@@ -78,8 +81,7 @@ void set(Options &options, const std::string &option, const std::string &value) 
 Options read_options(const std::vector<std::string> &arguments) {
     Options options;
     for (std::size_t i = 0; i < arguments.size(); i++) {
-        if (arguments[i] == "--csv") options.csv = true;
-        else if (arguments[i] == "--help") options.help = true;
+        if (arguments[i] == "--help") options.help = true;
         else if (i + 1 == arguments.size()) throw Failure(arguments[i] + ": no value, or no such option");
         else {
             set(options, arguments[i], arguments[i + 1]);

@@ -11,7 +11,8 @@ struct Options {
     std::vector<std::string> workloads, stores; // empty: all
     std::vector<std::uint64_t> threads = {1, 2, 4};
     std::uint64_t keys = 1'000'000, operations = 200'000, repeat = 5;
-    bool csv = false, help = false;
+    std::string csv; // the name of a file, or none
+    bool help = false;
 };
 
 extern const char *const usage;

@@ -1,16 +1,21 @@
-"""A leaderboard: players score in threads, and the best are read while they do.
+"""A leaderboard: four threads score for players, and the best three are read while they do.
 
     python3 leaderboard.py
+
+A player's score stands at the player's number. Scans go by rising key, so there is a second row for
+each player, at a key that is the smaller the greater the score is: the ranking.
 """
 
 import threading
+from typing import Dict
 
 import cupolanettle
 
 PLAYERS = 100
 ROUNDS = 50
-# A player's score stands at the player's number. The ranking has a key for each player and score,
-# by which a scan meets the greatest score first.
+THREADS = 4
+
+ALL = PLAYERS  # at this key stands the sum of all scores
 RANKING = 1 << 63
 MOST = (1 << 31) - 1
 
@@ -20,41 +25,45 @@ def place_of(score: int, player: int) -> int:
 
 
 def win(store: cupolanettle.Store, player: int, points: int) -> None:
+    """Adds to a score, and moves the player up in the ranking: it has two rows for a moment."""
     score = store.add(player, points)
     store[place_of(score, player)] = score
     store.remove(place_of(score - points, player))
+    store.add(ALL, points)
 
 
-def play(store: cupolanettle.Store, first: int) -> None:
-    """Each fourth player wins as many points in each round as its number has."""
+def play(store: cupolanettle.Store, own: int) -> None:
+    """A thread has every fourth player. In a round a player wins its number of points, plus one."""
     for _ in range(ROUNDS):
-        for player in range(first, PLAYERS, 4):
+        for player in range(own, PLAYERS, THREADS):
             win(store, player, player + 1)
 
 
-def best(snapshot: cupolanettle.Snapshot, count: int) -> list:
-    rows = []
-    for place, score in snapshot.scan(RANKING):
-        player = place & 0xFFFFFFFF
-        if snapshot[player] == score:  # else the player has won more since
-            rows.append((player, score))
-        if len(rows) == count:
+def best(store: cupolanettle.Store, count: int) -> Dict[int, cupolanettle.Value]:
+    """The first players of the ranking at one moment, and their scores.
+
+    Of two rows of a player the first one counts.
+    """
+    players: Dict[int, cupolanettle.Value] = {}
+    for place, score in store.scan(RANKING):
+        players.setdefault(place & 0xFFFFFFFF, score)
+        if len(players) == count:
             break
-    return rows
+    return players
 
 
 def main() -> None:
-    with cupolanettle.Store(keys=1_000) as store:
-        threads = [threading.Thread(target=play, args=(store, n)) for n in range(4)]
+    with cupolanettle.Store() as store:
+        threads = [threading.Thread(target=play, args=(store, own)) for own in range(THREADS)]
         for thread in threads:
             thread.start()
-        with store.snapshot() as snapshot:
-            best(snapshot, 3)  # whatever they are by now
+        while any(thread.is_alive() for thread in threads):
+            best(store, 3)  # whoever they are by now
         for thread in threads:
             thread.join()
-        with store.snapshot() as snapshot:
-            for player, score in best(snapshot, 3):
-                print(f"player {player}: {score}")
+        for player, score in best(store, 3).items():
+            print(f"player {player}: {score}")
+        print(f"all: {store[ALL]}")
 
 
 if __name__ == "__main__":

@@ -58,6 +58,16 @@ static void wait_begins(void) {
     if (++waiting == alive) fail("every thread sleeps");
 }
 
+void between_await_sleepers(unsigned count) {
+    for (;;) {
+        pthread_mutex_lock(&lock);
+        unsigned asleep = waiting;
+        pthread_mutex_unlock(&lock);
+        if (asleep >= count) return;
+        __real_sched_yield();
+    }
+}
+
 /* ---- Conditions */
 
 static struct condition *condition_of(pthread_cond_t *at) {

@@ -5,6 +5,9 @@
 /* The next so many threads are not started. */
 void between_refuse_threads(unsigned count);
 
+/* Returns once so many threads sleep on conditions or wait for the end of another one. */
+void between_await_sleepers(unsigned count);
+
 /* How often threads called sched_yield. */
 unsigned long between_yields(void);
 

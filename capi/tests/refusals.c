@@ -79,6 +79,10 @@ static void take_options(void) {
         OK(clsm_close(store));
     }
     OK(clsm_close(opened(NULL)));
+    /* A close wakes a merger that sleeps. */
+    clsm_store *store = opened(NULL);
+    between_await_sleepers(1);
+    OK(clsm_close(store));
 }
 
 static void refuse_thread(void) {

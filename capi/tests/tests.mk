@@ -25,6 +25,12 @@ $(T)/stack $(T)/closed: $(T)/%: tests/%.c $(SHARED_HEADERS) $(OUT)/libclsm.a | $
 $(T)/shared: tests/lives.c $(SHARED_HEADERS) $(T)/between.o $(OUT)/libclsm.so.0
 	$(STRICT) -o $@ $< $(T)/between.o $(BETWEEN) -L$(OUT) -lclsm -Wl,-rpath,'$$ORIGIN/..'
 
+$(T)/core: tests/core.c tests/check.h core/clsm_core.h $(OUT)/codes.o $(CORE) | $(T)
+	$(STRICT) -o $@ $< $(OUT)/codes.o $(CORE)
+
+$(T)/example-%: examples/%.c clsm.h $(OUT)/libclsm.a | $(T)
+	$(STRICT) -I. -o $@ $< $(OUT)/libclsm.a
+
 $(T)/cxx: tests/cxx.cpp clsm.h $(OUT)/libclsm.a | $(T)
 	$(CXX11) -Werror -o $@ $< $(OUT)/libclsm.a
 
@@ -51,7 +57,7 @@ AUDITING = $(firstword $(AUDIT)) $(if $(filter ../clsm,$(AUDIT)),rt)
 
 .PHONY: tools audit-tools valgrind-tools
 tools:
-	$(call tools_of,$(BUILDING) $(CLANG) $(CLANGXX) pkg-config timeout diff python3 $(AUDITING))
+	$(call tools_of,$(BUILDING) $(CLANG) $(CLANGXX) pkg-config timeout diff python3 $(if $(SANITIZE),,cargo) $(AUDITING))
 audit-tools:
 	$(call tools_of,$(BUILDING) timeout $(AUDITING))
 valgrind-tools:
@@ -59,7 +65,11 @@ valgrind-tools:
 
 # ---- Names and warnings
 
-.PHONY: names warnings
+.PHONY: generated names warnings
+# What is written from crates/clsm_c is as it would be written now.
+generated:
+	$(if $(wildcard ../crates),gen/core --check && gen/exports --check)
+
 # The names that the libraries define are those of the header, and no others.
 names: $(OUT)/libclsm.a $(OUT)/libclsm.so.0 $(OUT)/names
 	$(NM) -g --defined-only $(OUT)/libclsm.a | sed -n 's/^[0-9a-f]* [A-Z] //p' | sort | diff $(OUT)/names -
@@ -67,7 +77,9 @@ names: $(OUT)/libclsm.a $(OUT)/libclsm.so.0 $(OUT)/names
 
 warnings:
 	for cc in $(CC) $(CLANG); do \
-	    for file in src/*.c tests/*.c; do $$cc -std=c11 $(WARNINGS) -Werror -O2 -fsyntax-only -pthread $$file || exit 1; done; \
+	    for file in src/*.c tests/*.c examples/*.c; do \
+	        $$cc -std=c11 $(WARNINGS) -Werror -O2 -I. -fsyntax-only -pthread $$file || exit 1; \
+	    done; \
 	    $$cc -std=c11 $(WARNINGS) -Werror -O2 -fsyntax-only -pthread -DCLSM_CHECKED src/*.c || exit 1; \
 	done
 	for cxx in $(CXX) $(CLANGXX); do \
@@ -78,18 +90,24 @@ warnings:
 # ---- Runs
 
 ROUNDS = $(if $(SANITIZE),2000,20000)
-PROGRAMS = threads refusals memory lives stack changes cxx mocked checked \
+EXAMPLES = $(patsubst examples/%.c,%,$(wildcard examples/*.c))
+PROGRAMS = threads refusals memory lives stack changes cxx core mocked checked $(EXAMPLES:%=example-%) \
     $(if $(SANITIZE),,shared) $(if $(filter address,$(SANITIZE)),closed) $(if $(AUDIT),audited)
 BUILT = $(PROGRAMS:%=$(T)/%)
-PLAIN = refusals memory lives stack changes cxx mocked checked $(if $(filter address,$(SANITIZE)),closed)
-RUNS = "$(T)/threads $(ROUNDS)" "$(T)/threads $(ROUNDS) one" $(PLAIN:%=$(T)/%) \
-    $(if $(SANITIZE),,"$(T)/shared shared" "tests/installed $(MAKE) OUT=$(OUT) CORE=$(CORE)" "tests/planted $(OUT)/planted" "tests/packed $(MAKE) OUT=$(OUT) CORE=$(CORE)") \
-    $(if $(AUDIT),"tests/audit $(T)/audited $(AUDIT_CALLS) $(AUDIT)")
+PLAIN = refusals memory lives stack changes cxx core mocked checked $(if $(filter address,$(SANITIZE)),closed)
+AGAIN = $(MAKE) OUT=$(OUT) CORE=$(CORE)
+# What is not for sanitizers; what the documents show is not in an archive that was packed.
+WHOLE = "$(T)/shared shared" "tests/examples rust $(CORE) $(OUT)/rust" \
+    "tests/examples python $(OUT)/libclsm.so" \
+    $(if $(wildcard ../crates),"tests/documents $(OUT)/libclsm.a $(OUT)/libclsm.so $(CORE) $(OUT)/rust") \
+    "tests/installed $(AGAIN)" "tests/planted $(OUT)/planted" "tests/packed $(AGAIN)"
+RUNS = "$(T)/threads $(ROUNDS)" "$(T)/threads $(ROUNDS) one" $(PLAIN:%=$(T)/%) "tests/examples c $(T)" \
+    $(if $(SANITIZE),,$(WHOLE)) $(if $(AUDIT),"tests/audit $(T)/audited $(AUDIT_CALLS) $(AUDIT)")
 SMALL = "$(T)/threads 200" $(patsubst %,$(T)/%,$(filter-out stack,$(PLAIN)))
 MEMCHECK = valgrind -q --error-exitcode=9 --leak-check=full --errors-for-leak-kinds=definite --show-leak-kinds=definite --fair-sched=yes
 
 .PHONY: check check-mock check-valgrind check-audit check-planted check-packed
-check: tools names warnings $(BUILT)
+check: tools generated names warnings $(BUILT)
 	@$(if $(AUDIT),,echo "capi: AUDIT is empty: no calls are audited")
 	CC="$(CC)" tests/run $(GUARD) $(RUNS)
 
@@ -107,4 +125,4 @@ check-planted: tools
 	CC="$(CC)" tests/planted $(OUT)/planted
 
 check-packed: tools
-	CC="$(CC)" tests/run $(GUARD) "tests/packed $(MAKE) OUT=$(OUT) CORE=$(CORE)"
+	CC="$(CC)" tests/run $(GUARD) "tests/packed $(AGAIN)"

@@ -73,7 +73,9 @@ class Error(Exception):
 class RunFull(Error):
     """The store has more keys, and versions for open snapshots, than it was opened for.
 
-    Only writes raise it. Close snapshots and scans, or remove keys, and write again.
+    Only writes raise it. Close snapshots and scans, and write again. If none is open, there are
+    more keys than ``Store(keys=..)`` said, and the store takes no write any more, removals among
+    them: remove keys before, or copy the rows of a scan to a larger store.
 
     >>> with Store(keys=1, epoch=4) as store, store.snapshot():
     ...     while True:

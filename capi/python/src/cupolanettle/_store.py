@@ -60,8 +60,8 @@ class Store(Reader):
       0 to 64.
     - ``merge_in_calls``: writes merge, instead of a thread of the store.
 
-    The store takes all its memory at once, about 180 bytes for each of the keys and 1,240 for each
-    write of an epoch: 22 MiB unless told otherwise. ``ValueError`` if an option is out of range;
+    The store takes all its memory at once, 176 bytes for each of the keys and 1,248 for each write
+    of an epoch: 22 MiB unless told otherwise. ``ValueError`` if an option is out of range;
     :class:`Error` if memory ran out or the system started no thread.
 
     Any thread may call. Reads never wait, and each reads the map of one moment. Writes wait for

@@ -115,6 +115,16 @@ impl Caller {
 
     /// The time from which on reads see all that this caller wrote and read. Send it along with a
     /// message, for its receiver to [follow](Caller::follow).
+    ///
+    /// ```
+    /// # use cupolanettle::{Error, Options};
+    /// let store = Options::new().keys(1_000).open()?;
+    /// let caller = store.caller()?;
+    /// assert_eq!(caller.seen(), 0);
+    /// let written = caller.put(7, 70)?;
+    /// assert_eq!(caller.seen(), written + 1);
+    /// # Ok::<(), Error>(())
+    /// ```
     #[must_use]
     pub fn seen(&self) -> Time {
         self.seen.get()
@@ -285,6 +295,16 @@ impl Caller {
     // ---- reads
 
     /// The value of the key, if it has one.
+    ///
+    /// ```
+    /// # use cupolanettle::{Error, Options};
+    /// let store = Options::new().keys(1_000).open()?;
+    /// let caller = store.caller()?;
+    /// caller.put(7, [70, 71])?;
+    /// assert_eq!(caller.get(7).unwrap()[1], 71);
+    /// assert!(caller.get(8).is_none());
+    /// # Ok::<(), Error>(())
+    /// ```
     #[inline]
     pub fn get(&self, key: u64) -> Option<Value> {
         loop {

@@ -3,6 +3,12 @@ use crate::change::Kept;
 use std::fmt;
 
 /// Why a store was not opened. Nothing of it is kept.
+///
+/// ```
+/// use cupolanettle::{OpenError, Options};
+///
+/// assert_eq!(Options::new().patience(65).open().err(), Some(OpenError::Patience));
+/// ```
 #[non_exhaustive]
 #[derive(Clone, Copy, PartialEq, Eq, Hash, Debug)]
 pub enum OpenError {
@@ -21,18 +27,47 @@ pub enum OpenError {
 }
 
 /// Why a write was refused. Nothing was written.
+///
+/// ```
+/// use cupolanettle::{Error, Options, Refused};
+///
+/// let store = Options::new().keys(1).epoch(4).open()?;
+/// let caller = store.caller()?;
+/// let snapshot = caller.snapshot()?; // keeps all versions
+/// let refused = (0..1_000).find_map(|number| caller.put(7, number).err());
+/// assert_eq!(refused, Some(Refused::RunFull));
+///
+/// drop(snapshot);
+/// caller.put(7, 70)?;
+/// # Ok::<(), Error>(())
+/// ```
 #[non_exhaustive]
 #[derive(Clone, Copy, PartialEq, Eq, Hash, Debug)]
 pub enum Refused {
     /// The epoch is full, and the one before it cannot be merged: there are more keys, and versions
-    /// for open snapshots, than the store was opened for. Once a snapshot is closed, the same call
-    /// may succeed.
+    /// for open snapshots, than the store was opened for. Once a snapshot or an iterator is dropped,
+    /// the same call may succeed. If none is open, the store takes no write any more, removals among
+    /// them: copy its rows to a larger one.
     RunFull,
     /// Times end at 2^62. No real program gets there.
     Worn,
 }
 
 /// Why a change was not made. Nothing was written.
+///
+/// ```
+/// use cupolanettle::{ChangeError, Error, Options};
+///
+/// let store = Options::new().keys(1_000).open()?;
+/// let caller = store.caller()?;
+/// caller.put(7, [70, 71])?;
+/// match caller.add(7, 1) {
+///     Ok(changed) => println!("now {:?}", changed.after),
+///     Err(ChangeError::Kept(kept)) => assert_eq!(kept.value.unwrap().len(), 2),
+///     Err(refused) => return Err(refused.into()),
+/// }
+/// # Ok::<(), Error>(())
+/// ```
 #[non_exhaustive]
 #[derive(Clone, Copy, PartialEq, Eq, Hash, Debug)]
 pub enum ChangeError {
@@ -44,6 +79,18 @@ pub enum ChangeError {
 
 /// Why a write that never waits was not made. Nothing was written. The same call may succeed if it
 /// is made again.
+///
+/// ```
+/// use cupolanettle::{Error, Options, TryError};
+///
+/// let store = Options::new().keys(1_000).epoch(4).merge_in_calls().open()?;
+/// let caller = store.caller()?;
+/// let refused = (0..1_000).find_map(|key| caller.try_put(key, 0).err());
+/// assert_eq!(refused, Some(TryError::Full));
+/// store.sweep()?;
+/// caller.try_put(4, 0)?;
+/// # Ok::<(), Error>(())
+/// ```
 #[non_exhaustive]
 #[derive(Clone, Copy, PartialEq, Eq, Hash, Debug)]
 pub enum TryError {
@@ -59,26 +106,75 @@ pub enum TryError {
 }
 
 /// All 64 seats of the store are taken by callers, snapshots and iterators that are open.
+///
+/// ```
+/// use cupolanettle::{Error, NoSeat, Options};
+///
+/// let store = Options::new().keys(1_000).open()?;
+/// let callers: Vec<_> = (0..64).map(|_| store.caller()).collect::<Result<_, _>>()?;
+/// assert!(matches!(store.caller(), Err(NoSeat { .. })));
+/// # Ok::<(), Error>(())
+/// ```
 #[non_exhaustive]
 #[derive(Clone, Copy, PartialEq, Eq, Hash, Debug)]
 pub struct NoSeat;
 
 /// Memory ran out. The same call may succeed if it is made again.
+///
+/// ```
+/// use cupolanettle::{Error, Memory, Options};
+///
+/// let store = Options::new().keys(1_000).open()?;
+/// let caller = store.caller()?;
+/// assert!(matches!(caller.page(.., usize::MAX), Err(Memory { .. })));
+/// # Ok::<(), Error>(())
+/// ```
 #[non_exhaustive]
 #[derive(Clone, Copy, PartialEq, Eq, Hash, Debug)]
 pub struct Memory;
 
 /// A value has one to eight words; these were none, or more.
+///
+/// ```
+/// use cupolanettle::{BadValue, Value};
+///
+/// let words = vec![7; 9];
+/// assert!(matches!(Value::try_from(&words[..]), Err(BadValue { .. })));
+/// ```
 #[non_exhaustive]
 #[derive(Clone, Copy, PartialEq, Eq, Hash, Debug)]
 pub struct BadValue;
 
 /// No caller of the store has seen this time.
+///
+/// ```
+/// use cupolanettle::{Error, Options, Unseen};
+///
+/// let store = Options::new().keys(1_000).open()?;
+/// let caller = store.caller()?;
+/// assert!(matches!(caller.follow(1), Err(Unseen { .. })));
+/// # Ok::<(), Error>(())
+/// ```
 #[non_exhaustive]
 #[derive(Clone, Copy, PartialEq, Eq, Hash, Debug)]
 pub struct Unseen;
 
 /// Any refusal of this crate, for functions that meet several.
+///
+/// ```
+/// use cupolanettle::{Error, Options};
+///
+/// /// What the key has in a store of its own, after some calls.
+/// fn play() -> Result<u64, Error> {
+///     let store = Options::new().keys(1_000).open()?; // an OpenError
+///     let caller = store.caller()?; // a NoSeat
+///     caller.put(7, 70)?; // a Refused
+///     let changed = caller.add(7, 1)?; // a ChangeError
+///     Ok(changed.after.map_or(0, |value| value[0]))
+/// }
+/// assert_eq!(play()?, 71);
+/// # Ok::<(), Error>(())
+/// ```
 #[non_exhaustive]
 #[derive(Clone, Copy, PartialEq, Eq, Hash, Debug)]
 pub enum Error {

@@ -13,6 +13,19 @@ use std::iter::FusedIterator;
 const MOST_ROWS: usize = 64;
 
 /// The first rows of a range.
+///
+/// ```
+/// # use cupolanettle::{Error, Options};
+/// # let store = Options::new().keys(1_000).open()?;
+/// # let caller = store.caller()?;
+/// for key in [3, 5, 8] {
+///     caller.put(key, 10 * key)?;
+/// }
+/// let page = caller.page(.., 2)?;
+/// assert_eq!(page.rows, [(3, 30.into()), (5, 50.into())]);
+/// assert_eq!(page.next, Some(8));
+/// # Ok::<(), Error>(())
+/// ```
 #[non_exhaustive]
 #[derive(Clone, PartialEq, Eq, Hash, Debug, Default)]
 pub struct Page {
@@ -62,6 +75,18 @@ pub(crate) fn read_page(
 /// one of its own, which is closed when the iterator is dropped, wherever that is.
 ///
 /// An item is an error only where memory ran out; the iterator then goes on from the same row.
+///
+/// ```
+/// # use cupolanettle::{Error, Options};
+/// # let store = Options::new().keys(1_000).open()?;
+/// # let caller = store.caller()?;
+/// caller.put(7, 70)?;
+/// let mut rows = caller.range(..)?;
+/// caller.put(8, 80)?;
+/// assert_eq!(rows.next().transpose()?, Some((7, 70.into())));
+/// assert_eq!(rows.next().transpose()?, None);
+/// # Ok::<(), Error>(())
+/// ```
 pub struct Range<S> {
     snapshot: S,
     /// What is left behind the rows that were read.
@@ -78,6 +103,15 @@ impl<S: Borrow<Snapshot>> Range<S> {
     }
 
     /// The time at which it reads.
+    ///
+    /// ```
+    /// # use cupolanettle::{Error, Options};
+    /// # let store = Options::new().keys(1_000).open()?;
+    /// # let caller = store.caller()?;
+    /// let rows = caller.range(..)?;
+    /// assert!(caller.put(7, 70)? >= rows.time());
+    /// # Ok::<(), Error>(())
+    /// ```
     #[must_use]
     pub fn time(&self) -> Time {
         self.snapshot.borrow().time()

@@ -67,6 +67,14 @@ impl Snapshot {
     }
 
     /// The number of its seat, from 0 to 63, which no other caller or snapshot has that is open.
+    ///
+    /// ```
+    /// # use cupolanettle::{Error, Options};
+    /// # let store = Options::new().keys(1_000).open()?;
+    /// # let caller = store.caller()?;
+    /// assert_ne!(caller.snapshot()?.number(), caller.number());
+    /// # Ok::<(), Error>(())
+    /// ```
     #[must_use]
     pub fn number(&self) -> usize {
         self.seat().number
@@ -74,12 +82,32 @@ impl Snapshot {
 
     /// The time at which it reads: it sees the writes below that, and no other. Who
     /// [follows](crate::Caller::follow) it sees all that the snapshot does.
+    ///
+    /// ```
+    /// # use cupolanettle::{Error, Options};
+    /// # let store = Options::new().keys(1_000).open()?;
+    /// # let caller = store.caller()?;
+    /// let written = caller.put(7, 70)?;
+    /// assert!(caller.snapshot()?.time() > written);
+    /// # Ok::<(), Error>(())
+    /// ```
     #[must_use]
     pub fn time(&self) -> Time {
         self.time
     }
 
     /// The value that the key had, if it had one.
+    ///
+    /// ```
+    /// # use cupolanettle::{Error, Options};
+    /// # let store = Options::new().keys(1_000).open()?;
+    /// # let caller = store.caller()?;
+    /// caller.put(7, 70)?;
+    /// let snapshot = caller.snapshot()?;
+    /// caller.remove(7)?;
+    /// assert_eq!(snapshot.get(7), Some(70.into()));
+    /// # Ok::<(), Error>(())
+    /// ```
     #[must_use]
     #[inline]
     pub fn get(&self, key: u64) -> Option<Value> {
@@ -87,6 +115,17 @@ impl Snapshot {
     }
 
     /// How many keys of the range had a value. It walks all of them, and takes no memory.
+    ///
+    /// ```
+    /// # use cupolanettle::{Error, Options};
+    /// # let store = Options::new().keys(1_000).open()?;
+    /// # let caller = store.caller()?;
+    /// caller.put(7, 70)?;
+    /// let snapshot = caller.snapshot()?;
+    /// caller.put(8, 80)?;
+    /// assert_eq!((snapshot.count(..), snapshot.count(8..)), (1, 0));
+    /// # Ok::<(), Error>(())
+    /// ```
     #[must_use]
     pub fn count(&self, keys: impl RangeBounds<u64>) -> u64 {
         let (_, count) = self.seat().count(range_of(&keys));

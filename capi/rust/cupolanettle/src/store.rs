@@ -35,20 +35,41 @@ pub struct Options {
 impl Options {
     /// Room for 100,000 keys, epochs of 4,096 writes, a patience of 16 looks, and a thread that
     /// merges: 22 MiB.
+    ///
+    /// ```
+    /// # use cupolanettle::Options;
+    /// let written_out = Options::new().keys(100_000).epoch(4_096).patience(16);
+    /// assert_eq!(Options::new(), written_out);
+    /// ```
     pub const fn new() -> Options {
         Options { keys: 100_000, epoch: 4_096, patience: 16, merges_in_calls: false }
     }
 
     /// The most keys that have a value at once, from 1 to 4,194,304 less four times the epoch. Each
-    /// takes about 100 bytes, from the start.
+    /// takes 176 bytes, from the start. Give it room to spare: a store that has more keys takes no
+    /// write any more.
+    ///
+    /// ```
+    /// # use cupolanettle::{OpenError, Options};
+    /// let store = Options::new().keys(1_000_000).open()?; // 173 MiB
+    /// assert_eq!(Options::new().keys(0).open().err(), Some(OpenError::Keys));
+    /// # Ok::<(), OpenError>(())
+    /// ```
     pub const fn keys(mut self, keys: usize) -> Options {
         self.keys = keys;
         self
     }
 
-    /// The most writes between two merges, 4 to 65,536; best a power of two. Each takes about 200
-    /// bytes. Longer epochs make fewer merges, and leave more room for the versions that open
-    /// snapshots keep.
+    /// The most writes between two merges, 4 to 65,536; best a power of two. Each takes 1,248 bytes.
+    /// Longer epochs make fewer merges, and leave more room for the versions that open snapshots
+    /// keep.
+    ///
+    /// ```
+    /// # use cupolanettle::{OpenError, Options};
+    /// let store = Options::new().epoch(65_536).open()?;
+    /// assert_eq!(Options::new().epoch(3).open().err(), Some(OpenError::Epoch));
+    /// # Ok::<(), OpenError>(())
+    /// ```
     pub const fn epoch(mut self, epoch: usize) -> Options {
         self.epoch = epoch;
         self
@@ -56,6 +77,13 @@ impl Options {
 
     /// How often a read looks again at a write that is not finished before it cancels that, up to
     /// 64. The cancelled write is made again.
+    ///
+    /// ```
+    /// # use cupolanettle::{OpenError, Options};
+    /// let reads_never_look_again = Options::new().patience(0).open()?;
+    /// assert_eq!(Options::new().patience(65).open().err(), Some(OpenError::Patience));
+    /// # Ok::<(), OpenError>(())
+    /// ```
     pub const fn patience(mut self, patience: usize) -> Options {
         self.patience = patience;
         self
@@ -63,6 +91,17 @@ impl Options {
 
     /// Lets writes merge, and starts no thread: a write that finds its epoch full merges it first,
     /// and other writes that do so wait for that.
+    ///
+    /// ```
+    /// # use cupolanettle::{Error, Options};
+    /// let store = Options::new().epoch(64).merge_in_calls().open()?;
+    /// let caller = store.caller()?;
+    /// for key in 0..1_000 {
+    ///     caller.put(key, key)?;
+    /// }
+    /// assert_eq!(caller.count(..), 1_000);
+    /// # Ok::<(), Error>(())
+    /// ```
     pub const fn merge_in_calls(mut self) -> Options {
         self.merges_in_calls = true;
         self
@@ -73,6 +112,13 @@ impl Options {
     /// # Errors
     ///
     /// [`OpenError`], with nothing left open.
+    ///
+    /// ```
+    /// # use cupolanettle::{OpenError, Options};
+    /// let options = Options::new().keys(1_000);
+    /// let (one, other) = (options.open()?, options.open()?);
+    /// # Ok::<(), OpenError>(())
+    /// ```
     pub fn open(&self) -> Result<Store, OpenError> {
         if self.keys == 0 {
             return Err(OpenError::Keys);
