@@ -9,7 +9,8 @@ use crate::options::Options;
 use crate::series::{map_lap, store_lap};
 use crate::session::session_lap;
 use crate::sizes::Work;
-use std::alloc::{AllocError, Global};
+use crate::times::Times;
+use std::alloc::Global;
 use std::rt::Clock;
 use std::sync::Wait;
 use std::thread::Threads;
@@ -20,34 +21,6 @@ fn picoseconds(lap: &Lap, threads: u32) -> u64 {
     let time = lap.end.duration_since(lap.start);
     let all = time.as_nanos().saturating_mul(1_000);
     u64::try_from(all / u128::from(calls.max(1))).unwrap_or(u64::MAX)
-}
-
-/// The median of numbers, with the least and the greatest of them.
-#[derive(Drop)]
-struct Spread {
-    median: u64,
-    least: u64,
-    greatest: u64,
-}
-
-impl Spread {
-    fn new(mut numbers: Vec<u64>) -> Result<Spread, AllocError> {
-        numbers.sort()?;
-        Ok(Spread {
-            median: *numbers.get(numbers.len() / 2).unwrap_or(&0),
-            least: *numbers.first().unwrap_or(&0),
-            greatest: *numbers.last().unwrap_or(&0),
-        })
-    }
-
-    /// As a line shows it, or as three values of a row.
-    fn text(&self, alloc: Global, is_csv: bool) -> Result<String, AllocError> {
-        let (median, least, greatest) = (self.median, self.least, self.greatest);
-        if is_csv {
-            return format!(in alloc; "{median},{least},{greatest}");
-        }
-        format!(in alloc; "{median} [{least} {greatest}]")
-    }
 }
 
 /// The first row of comma-separated values: what stands in the others.
@@ -77,6 +50,21 @@ fn lap<R: Threads + Sync + Clock + Wait>(
     }
 }
 
+/// The times of the work in both ways in turn, as often as the options say.
+fn rounds<R: Threads + Sync + Clock + Wait>(
+    rt: &R,
+    alloc: Global,
+    work: &Work,
+) -> Result<Times, Failure> {
+    let mut times = Times::new(alloc);
+    for _ in 0..work.options.repeat {
+        let first = picoseconds(&lap(rt, alloc, work, Way::First)?, work.threads);
+        let second = picoseconds(&lap(rt, alloc, work, Way::Second)?, work.threads);
+        times.push(first, second)?;
+    }
+    Ok(times)
+}
+
 /// Does the line's work by so many threads in two ways in turn, as often as the options say and
 /// once more before, to warm up. Prints the line: the picoseconds of a call of all threads
 /// together, in the first way and in the second, and how many hundredths of the first the second
@@ -102,22 +90,11 @@ pub fn compare<R: Threads + Sync + Clock + Wait + Print + AllocGlobal>(
         println!(rt; "{name} threads {threads} calls {first} and {second}")?;
         return Ok(());
     }
-    let (mut firsts, mut seconds) = (Vec::new(alloc), Vec::new(alloc));
-    let mut percents = Vec::new(alloc);
-    for _ in 0..options.repeat {
-        let first = picoseconds(&lap(rt, alloc, &work, Way::First)?, threads);
-        let second = picoseconds(&lap(rt, alloc, &work, Way::Second)?, threads);
-        firsts.push(first)?;
-        seconds.push(second)?;
-        percents.push(second.saturating_mul(100) / first.max(1))?;
-    }
-    let first = Spread::new(firsts)?.text(alloc, options.is_csv)?;
-    let second = Spread::new(seconds)?.text(alloc, options.is_csv)?;
-    let percent = Spread::new(percents)?.text(alloc, options.is_csv)?;
+    let times = rounds(rt, alloc, &work)?.text(alloc, options.is_csv)?;
     if options.is_csv {
-        println!(rt; "\"{name}\",{threads},{first},{second},{percent}")?;
-        return Ok(());
+        println!(rt; "\"{name}\",{threads},{times}")?;
+    } else {
+        println!(rt; "{name} threads {threads} {times}")?;
     }
-    println!(rt; "{name} threads {threads} ps {first} ps {second} percent {percent}")?;
     Ok(())
 }

@@ -8,6 +8,7 @@ mod batches;
 mod calls;
 mod compared;
 mod draws;
+mod extra;
 mod failure;
 mod lines;
 mod merges;
@@ -16,7 +17,9 @@ mod options;
 mod series;
 mod session;
 mod sizes;
+mod sweeper;
 mod target;
+mod times;
 
 use crate::compared::{COLUMNS, compare};
 use crate::failure::Failure;

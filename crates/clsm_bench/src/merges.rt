@@ -3,6 +3,7 @@ use crate::calls::{Lap, put_filled};
 use crate::failure::Failure;
 use crate::lines::{Role, Way};
 use crate::options::Options;
+use crate::sweeper::Sweeper;
 use clsm_store::{Caller, Config, Merger, Opened, open};
 use clsm_words::Free;
 use std::alloc::Global;
@@ -11,52 +12,68 @@ use std::sync::Wait;
 use std::time::Instant;
 
 /// The seats of a store: one that holds a snapshot, one that puts, and the merger's.
+#[derive(Drop)]
 struct Seats<'a> {
     holder: Caller<'a, Free>,
     writer: Caller<'a, Free>,
-    merger: Merger<'a, Free>,
+    sweeper: Sweeper<'a>,
 }
 
 /// Turns of the merger, each behind so many puts at so many of the filled keys: so many merges, of
 /// which the last is timed, in the second way under a snapshot that was opened before; or a freeze,
 /// in the second way a reclaim.
-#[derive(Drop)]
-struct Turns<'a> {
-    role: &'a Role,
+#[derive(Clone, Copy)]
+struct Turns {
+    /// The merges, or none where a freeze or a reclaim is timed.
+    merges: Option<u32>,
     puts: u32,
     keys: u32,
     way: Way,
 }
 
-/// Takes these turns. Answers the time of the last one.
-fn merge_often<R: Clock + Wait>(
-    rt: &R,
-    alloc: Global,
-    seats: Seats,
-    turns: &Turns,
-) -> Result<Lap, Failure> {
-    let Seats {
-        mut holder,
-        mut writer,
-        mut merger,
-    } = seats;
-    let (merges, is_merge) = match turns.role {
-        Role::Merges(merges) => (*merges, true),
-        _ => (1, false),
-    };
-    if is_merge && turns.way == Way::Second && holder.snapshot().is_err() {
-        return Err(Failure::Unanswered);
+impl Seats<'_> {
+    /// Takes these turns. Answers the time of the last one.
+    fn take<R: Clock + Wait>(
+        &mut self,
+        rt: &R,
+        alloc: Global,
+        turns: Turns,
+    ) -> Result<Lap, Failure> {
+        let is_held = turns.merges.is_some() && turns.way == Way::Second;
+        if is_held && self.holder.snapshot().is_err() {
+            return Err(Failure::Unanswered);
+        }
+        let mut last = Err(Failure::Unanswered);
+        for number in 0..turns.merges.unwrap_or(1) {
+            let first = number.saturating_mul(turns.puts);
+            let end = first.saturating_add(turns.puts);
+            put_filled(rt, alloc, &mut self.writer, first..end, turns.keys)?;
+            last = Ok(self.turn(rt, turns)?);
+        }
+        last
     }
-    let mut lap = Err(Failure::Unanswered);
-    for number in 0..merges {
-        let first = number.saturating_mul(turns.puts);
-        let end = first.saturating_add(turns.puts);
-        put_filled(rt, alloc, &mut writer, first..end, turns.keys)?;
-        let (next, last) = turn(rt, merger, is_merge, turns.way)?;
-        merger = next;
-        lap = Ok(last);
+
+    /// Freezes the epoch, merges it and gives up what that retired. Answers the time of the merge,
+    /// or of the freeze, or, in the second way, of the reclaim. Refused where one is.
+    fn turn<R: Clock + Wait>(&mut self, rt: &R, turns: Turns) -> Result<Lap, Failure> {
+        let begun = Instant::now(rt)?;
+        let is_frozen = self.sweeper.freeze(rt);
+        let cut = Instant::now(rt)?;
+        let is_merged = self.sweeper.merge();
+        let retired = Instant::now(rt)?;
+        let is_reclaimed = self.sweeper.reclaim();
+        let ended = Instant::now(rt)?;
+        if !(is_frozen && is_merged && is_reclaimed) {
+            return Err(Failure::Unanswered);
+        }
+        let (start, end) = match (turns.merges, turns.way) {
+            (Some(_), _) => (cut, retired),
+            (None, Way::First) => (begun, cut),
+            (None, Way::Second) => (retired, ended),
+        };
+        let calls = 1;
+        Ok(Lap { calls, start, end })
     }
-    lap
 }
 
 /// Puts the calls of the options at the filled keys of an empty store, freezes the epoch, merges it
@@ -89,43 +106,19 @@ pub fn merge_lap<R: Clock + Wait>(
     let (Some(holder), Some(writer)) = (seats.pop(), seats.pop()) else {
         return Err(Failure::Unanswered);
     };
-    let seats = Seats {
+    let mut seats = Seats {
         holder: Caller::new(&store, holder),
         writer: Caller::new(&store, writer),
-        merger: Merger::new(&store, merger),
+        sweeper: Sweeper::new(Merger::new(&store, merger)),
     };
     let turns = Turns {
-        role,
+        merges: match role {
+            Role::Merges(merges) => Some(*merges),
+            _ => None,
+        },
         puts,
         keys: options.keys,
         way,
     };
-    merge_often(rt, alloc, seats, &turns)
-}
-
-/// Freezes the epoch, merges it and gives up what that retired. Answers the time of the merge, or
-/// of the freeze, or, in the second way, of the reclaim. Refused where one is.
-fn turn<'a, R: Clock + Wait>(
-    rt: &R,
-    merger: Merger<'a, Free>,
-    is_merge: bool,
-    way: Way,
-) -> Result<(Merger<'a, Free>, Lap), Failure> {
-    let begun = Instant::now(rt)?;
-    let (merger, frozen) = merger.freeze(rt);
-    let cut = Instant::now(rt)?;
-    let (merger, merged) = merger.merge();
-    let retired = Instant::now(rt)?;
-    let (merger, reclaimed) = merger.reclaim();
-    let ended = Instant::now(rt)?;
-    if frozen.is_err() || merged.is_err() || reclaimed.is_err() {
-        return Err(Failure::Unanswered);
-    }
-    let (start, end) = match (is_merge, way) {
-        (true, _) => (cut, retired),
-        (false, Way::First) => (begun, cut),
-        (false, Way::Second) => (retired, ended),
-    };
-    let calls = 1;
-    Ok((merger, Lap { calls, start, end }))
+    seats.take(rt, alloc, turns)
 }

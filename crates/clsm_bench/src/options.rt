@@ -61,6 +61,29 @@ fn number(matches: &ArgMatches<'_>, name: &str) -> Option<u32> {
     u32::try_from(matches.get_one::<u64>(name)?).ok()
 }
 
+/// The options that have a number: the name, the least number, the greatest, and the help.
+const SIZES: [(&str, u64, u64, &str); 4] = [
+    (
+        "calls",
+        1,
+        16_777_216,
+        "Calls a thread, puts a merge, or records [default: 20000]",
+    ),
+    ("repeat", 1, 999, "The rounds that are kept [default: 9]"),
+    (
+        "keys",
+        16,
+        4_194_304,
+        "The keys that are written before the time is taken [default: 32768]",
+    ),
+    (
+        "cells",
+        256,
+        65_536,
+        "The cells of a store [default: 65536]",
+    ),
+];
+
 /// `--NAME N`, a number from the first of these to the last.
 fn size<'a>(alloc: Global, name: &'a str, range: (u64, u64), help: &'a str) -> Arg<'a> {
     let (low, high) = range;
@@ -82,34 +105,16 @@ fn program<'a>(alloc: Global) -> Result<Command<'a>, AllocError> {
         .long("csv")
         .action(ArgAction::SetTrue)
         .help("Prints rows for tools/plot");
+    let mut args = Vec::new(alloc);
+    args.push(series)?;
+    for row in 0..SIZES.len() {
+        let (name, low, high, help) = SIZES[row];
+        args.push(size(alloc, name, (low, high), help))?;
+    }
+    args.push(csv)?;
     Command::new(alloc, "clsm_bench")
         .about("Measures the store beside a map under a lock, and beside itself")
-        .arg(series)?
-        .arg(size(
-            alloc,
-            "calls",
-            (1, 16_777_216),
-            "Calls a thread, puts a merge, or records [default: 20000]",
-        ))?
-        .arg(size(
-            alloc,
-            "repeat",
-            (1, 999),
-            "The rounds that are kept [default: 9]",
-        ))?
-        .arg(size(
-            alloc,
-            "keys",
-            (16, 4_194_304),
-            "The keys that are written before the time is taken [default: 32768]",
-        ))?
-        .arg(size(
-            alloc,
-            "cells",
-            (256, 65_536),
-            "The cells of a store [default: 65536]",
-        ))?
-        .arg(csv)
+        .args(args)
 }
 
 /// What a command line asks for.

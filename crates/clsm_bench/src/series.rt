@@ -1,13 +1,14 @@
 //! Calls of a store beside those of a map, and beside a merger or scans.
 ghost use Rattle.std.specs.Prelude.{◌≡◌, All};
 
-use crate::batches::filled_members;
 use crate::calls::{Lap, Round, put_filled, work_all};
-use crate::draws::{Call, Puts, Series};
+use crate::draws::Series;
+use crate::extra::Extra;
 use crate::failure::Failure;
 use crate::lines::Beside;
 use crate::sizes::Work;
-use crate::target::{MapCaller, Target};
+use crate::sweeper::Sweeper;
+use crate::target::MapCaller;
 use clsm_store::{Caller, Merger, Opened, Seat, Store, open};
 use clsm_words::Free;
 use std::alloc::Global;
@@ -33,81 +34,11 @@ pub fn callers<'a>(
     Ok(callers)
 }
 
-/// Puts at the filled keys, where they are to be found: for a run of level 1 epoch after epoch, of
-/// which each is merged, as many as end with a merge into level 1, which is each fourth.
-fn fill<'a, R: Wait>(
-    rt: &R,
-    alloc: Global,
-    caller: &mut Caller<'_, Free>,
-    mut merger: Merger<'a, Free>,
-    series: &Series,
-) -> Result<Merger<'a, Free>, Failure> {
-    let Puts {
-        merges,
-        frozen,
-        last,
-    } = series.puts();
-    let (keys, cells) = (series.keys, series.cells);
-    let mut first = 0_u32;
-    for _ in 0..merges {
-        let end = first.saturating_add(cells).min(keys);
-        put_filled(rt, alloc, caller, first..end, keys)?;
-        first = end;
-        let (next, swept) = merger.sweep(rt);
-        merger = next;
-        if swept.is_err() {
-            return Err(Failure::Unanswered);
-        }
-    }
-    if frozen > 0 {
-        put_filled(rt, alloc, caller, 0..frozen, keys)?;
-        merger = merger.freeze(rt).0;
-    }
-    put_filled(rt, alloc, caller, 0..last, keys)?;
-    Ok(merger)
-}
-
 /// A round, and what goes on beside its calls.
 #[derive(Drop)]
 struct Scene<'a> {
     beside: &'a Beside,
     round: &'a Round<'a>,
-}
-
-/// Does what is to go on beside the calls, until it is told to stop.
-fn disturb<R: Wait>(
-    rt: &R,
-    alloc: Global,
-    scene: &Scene,
-    extra: (Caller<'_, Free>, Merger<'_, Free>),
-    stop: &AtomicBool,
-) -> Result<(), Failure> {
-    let (mut caller, mut merger) = extra;
-    let keys = scene.round.series.keys;
-    let all = Call::Scan {
-        lo: 0,
-        hi: u64::MAX,
-        rows: keys as usize,
-    };
-    let members = filled_members(alloc, keys)?;
-    for _ in 0..u32::MAX {
-        if stop.load(SeqCst) {
-            return Ok(());
-        }
-        match scene.beside {
-            Beside::Nothing | Beside::Session => return Ok(()),
-            Beside::Merger => merger = merger.sweep(rt).0,
-            Beside::Batcher => {
-                if !caller.write_all(rt, &members) {
-                    merger = merger.sweep(rt).0;
-                }
-            }
-            Beside::Scanner => {
-                let _ = caller.make(rt, alloc, &all);
-            }
-        }
-    }
-    Err(Failure::Unanswered)
 }
 
 /// The calls of the callers but the last one, which fills the store first and is then beside them.
@@ -118,15 +49,21 @@ fn work_beside<R: Threads + Sync + Clock + Wait>(
     merger: Merger<'_, Free>,
     scene: &Scene,
 ) -> Result<Lap, Failure> {
-    let mut caller = callers.pop().ok_or(Failure::Unanswered)?;
-    let merger = fill(rt, alloc, &mut caller, merger, scene.round.series)?;
-    let extra = (caller, merger);
+    let mut extra = Extra {
+        caller: callers.pop().ok_or(Failure::Unanswered)?,
+        sweeper: Sweeper::new(merger),
+    };
+    let Scene { beside, round } = scene;
+    extra.fill(rt, alloc, round.series)?;
     let stop = AtomicBool::new(false);
     let (disturbed, lap) = join(
         rt,
-        || -> Result<(), Failure> { disturb(rt, alloc, scene, extra, &stop) },
+        || -> Result<(), Failure> {
+            let mut extra = extra;
+            extra.disturb(rt, alloc, beside, round.series.keys, &stop)
+        },
         || -> Result<Lap, Failure> {
-            let lap = work_all(rt, alloc, callers, scene.round);
+            let lap = work_all(rt, alloc, callers, round);
             stop.store(true, SeqCst);
             lap
         },

@@ -1,0 +1,69 @@
+//! The times of rounds, and how they are printed.
+use std::alloc::{AllocError, Global};
+
+/// The median of numbers, with the least and the greatest of them.
+#[derive(Drop)]
+struct Spread {
+    median: u64,
+    least: u64,
+    greatest: u64,
+}
+
+impl Spread {
+    fn new(mut numbers: Vec<u64>) -> Result<Spread, AllocError> {
+        numbers.sort()?;
+        Ok(Spread {
+            median: *numbers.get(numbers.len() / 2).unwrap_or(&0),
+            least: *numbers.first().unwrap_or(&0),
+            greatest: *numbers.last().unwrap_or(&0),
+        })
+    }
+
+    /// As a line shows it, or as three values of a row.
+    fn text(&self, alloc: Global, is_csv: bool) -> Result<String, AllocError> {
+        let (median, least, greatest) = (self.median, self.least, self.greatest);
+        if is_csv {
+            return format!(in alloc; "{median},{least},{greatest}");
+        }
+        format!(in alloc; "{median} [{least} {greatest}]")
+    }
+}
+
+/// The times of rounds in both ways, in picoseconds a call, and how many hundredths of the first
+/// each second one is.
+#[derive(Drop)]
+pub struct Times {
+    firsts: Vec<u64>,
+    seconds: Vec<u64>,
+    percents: Vec<u64>,
+}
+
+impl Times {
+    pub fn new(alloc: Global) -> Times {
+        Times {
+            firsts: Vec::new(alloc),
+            seconds: Vec::new(alloc),
+            percents: Vec::new(alloc),
+        }
+    }
+
+    /// Adds a round.
+    pub fn push(&mut self, first: u64, second: u64) -> Result<(), AllocError> {
+        self.firsts.push(first)?;
+        self.seconds.push(second)?;
+        self.percents
+            .push(second.saturating_mul(100) / first.max(1))?;
+        Ok(())
+    }
+
+    /// As a line shows them, or as the values of a row.
+    pub fn text(self, alloc: Global, is_csv: bool) -> Result<String, AllocError> {
+        let first = Spread::new(self.firsts)?.text(alloc, is_csv)?;
+        let second = Spread::new(self.seconds)?.text(alloc, is_csv)?;
+        let percent = Spread::new(self.percents)?.text(alloc, is_csv)?;
+        if is_csv {
+            return format!(in alloc; "{first},{second},{percent}");
+        }
+        format!(in alloc; "ps {first} ps {second} percent {percent}")
+    }
+}
