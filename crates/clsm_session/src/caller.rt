@@ -1,14 +1,16 @@
 //! A caller of a session: the calls of the store, of which writes wait for room.
-ghost use Rattle.std.specs.Prelude.{◌≡◌, ◌≢◌, None, Some, IfErr, IfNone, IfOk, IfSome};
+ghost use Rattle.std.specs.Prelude.{◌≡◌, ◌≢◌, ◌≤◌, None, Some, IfErr, IfNone, IfOk, IfSome};
+ghost use Rattle.clsm_model.specs.History.{IsBeginning};
 ghost use Rattle.clsm_model.specs.declared.record.Deed.TheVariants.{Batch as Group, Close, Get, GetAt, Put, Remove, Rmw as ChangeOf};
 ghost use Rattle.clsm_model.specs.declared.record.Deed.TheVariants.{Scan as ScanOf, Snapshot};
 ghost use Rattle.clsm_model.specs.Right.{page_deed};
 ghost use Rattle.clsm_model.specs.Seats.{FitsDeed};
 ghost use Rattle.clsm_store.specs.Changes.{added, put_if_absent};
+ghost use Rattle.clsm_store.specs.Meetings.{IsUnrecorded, told_by};
 ghost use Rattle.clsm_store.specs.Play.{PlaysCall, WantsMemory};
 ghost use Rattle.clsm_store.specs.Paging.{ReadsNext};
 ghost use Rattle.clsm_store_calls.specs.Scanning.{CountsKeys, IsAtClock, ScansNow, VisitsKeys};
-ghost use Rattle.clsm_store_calls.specs.Seats.{Answers, GivesUpForWrites, IsSameSeat, Refuses};
+ghost use Rattle.clsm_store_calls.specs.Seats.{Answers, GivesUpForWrites, IsSameSeat, Refuses, known_by};
 ghost use Rattle.clsm_store_calls.specs.Tally.{CancelsNone, TakesNoLock};
 ghost use Rattle.clsm_session.specs.Places.{HasPlace};
 ghost use Rattle.clsm_session.specs.Waiting.{CountsTries, FindsFull, IsFullAtLast, IsPatient, IsRefusedAtLast, RefusesCall};
@@ -18,8 +20,8 @@ use crate::job::Place;
 use crate::refusal::{BatchRefused, Refused};
 use crate::writing;
 use clsm_store::{
-    Answer, Call, Caller, Change, Counted, Free, Got, Memory, Open, Page, Pages, Rmw, Scan, Seat,
-    Time, Value, added, put_if_absent,
+    Answer, Call, Caller, Change, Counted, Free, Got, Memory, Message, Open, Page, Pages, Rmw,
+    Scan, Seat, Time, Value, added, put_if_absent,
 };
 use std::alloc::Global;
 use std::marker::{Model, PhantomData};
@@ -257,6 +259,28 @@ impl<'a, R: Wait, P: Place> SessionCaller<'a, R, P> {
         ensures { result ≡ self.now.snapshot }
     {
         self.caller.snapshot_time()
+    }
+
+    /// As `Store::tell`.
+    pub fn tell(&mut self) -> Message
+        ensures seat { self.new ≡ self.old }
+        ensures table { result.table ≡ self.old.store.table }
+        ensures told { told_by result ≡ known_by self.old }
+        ensures due { result.heard ≡ self.old.due }
+    {
+        self.caller.tell()
+    }
+
+    /// As `Store::hear`.
+    pub fn hear(&mut self, message: Message) -> Time
+        requires { message.table ≡ self.old.store.table }
+        ensures above { self.old.due ≤ result }
+        ensures above_told { message.heard ≤ result }
+        ensures seat { IsUnrecorded self.old self.new }
+        ensures time { self.new.due ≡ result }
+        ensures begins { IsBeginning (told_by message) (known_by self.new) }
+    {
+        self.caller.hear(message)
     }
 
     /// Makes the call, and answers what the method of its name answers: it waits, counts and is

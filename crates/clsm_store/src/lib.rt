@@ -9,6 +9,7 @@ mod freezing;
 mod many;
 mod meet;
 pub mod merger;
+mod messages;
 mod opening;
 mod pages;
 mod phase;
@@ -34,6 +35,7 @@ pub use clsm_store_calls::{
 pub use clsm_words::{Free, Kind, Pace};
 pub use freezing::TryFroze;
 pub use merger::{Clean, Frozen, Merger, Retired};
+pub use messages::Message;
 pub use opening::{Opened, open, open_paced};
 pub use pages::Pages;
 pub use phase::{FreezeError, MergeError, NotFrozen, Phase, ReclaimError, TryFreezeError};

@@ -1,0 +1,87 @@
+//! Messages: how one caller comes to know of another that is in other hands.
+ghost use Rattle.std.specs.Prelude.{◌≡◌, ◌≤◌};
+ghost use Rattle.clsm_model.specs.History.{IsBeginning};
+ghost use Rattle.clsm_store_calls.specs.Seats.{known_by};
+ghost use Rattle.clsm_store.specs.Meetings.{IsUnrecorded, told_by};
+
+use crate::caller::Caller;
+use crate::seat::Seat;
+use crate::store::Store;
+use crate::telling;
+use clsm_model::Time;
+use clsm_words::Pace;
+use std::marker::Model;
+
+/// What a caller knew when it told: a beginning of the history of its store, and its due. It has no
+/// bytes. It may be moved to another thread, through a channel too, and is heard once, or dropped.
+/// Contracts see the table of its store, that beginning, as its slots and its batches, and the due.
+#[derive(Drop)]
+pub struct Message {
+    words: clsm_words::Message,
+}
+
+impl Model for Message {
+    ghost use Rattle.clsm_words.specs.Seats.{MessageState};
+
+    ghost Value = { MessageState };
+
+    ghost view = { λ m. m.words };
+}
+
+impl<P: Pace> Store<P> {
+    /// Answers a message for a caller in another thread: all that the seat knows, and its due. The
+    /// seat stays as it was. It makes no step, and takes no memory and no lock.
+    pub fn tell(&self, seat: &mut Seat) -> Message
+        requires seat { seat.old.store ≡ self.now }
+        ensures seat { seat.new ≡ seat.old }
+        ensures table { result.table ≡ self.now.table }
+        ensures told { told_by result ≡ known_by seat.old }
+        ensures due { result.heard ≡ seat.old.due }
+    {
+        let words = telling::tell(self, seat);
+        Message { words }
+    }
+
+    /// Takes a message in: the seat reads at a time of its own, below neither its due nor that which
+    /// its sender had when it told, and then knows all that its sender knew then. It answers that
+    /// time, which is the seat's due from then on: each later call of the seat has a time at or
+    /// above it, except for reads under an earlier snapshot and its close. So its reads see each
+    /// write that its sender had made. A seat may hear a message of its own. It makes six steps,
+    /// and one more for each time below its own that no read has settled yet. It takes no memory
+    /// and no lock, never waits and is never refused.
+    pub fn hear(&self, seat: &mut Seat, message: Message) -> Time
+        requires seat { seat.old.store ≡ self.now }
+        requires message { message.table ≡ self.now.table }
+        ensures above { seat.old.due ≤ result }
+        ensures above_told { message.heard ≤ result }
+        ensures seat { IsUnrecorded seat.old seat.new }
+        ensures time { seat.new.due ≡ result }
+        ensures begins { IsBeginning (told_by message) (known_by seat.new) }
+    {
+        telling::follow(self, seat, message.words)
+    }
+}
+
+impl<'a, P: Pace> Caller<'a, P> {
+    /// As `Store::tell`.
+    pub fn tell(&mut self) -> Message
+        ensures seat { self.new.seat ≡ self.old.seat }
+        ensures table { result.table ≡ self.old.seat.store.table }
+        ensures told { told_by result ≡ known_by self.old.seat }
+        ensures due { result.heard ≡ self.old.seat.due }
+    {
+        self.store.tell(&mut self.seat)
+    }
+
+    /// As `Store::hear`.
+    pub fn hear(&mut self, message: Message) -> Time
+        requires { message.table ≡ self.old.seat.store.table }
+        ensures above { self.old.seat.due ≤ result }
+        ensures above_told { message.heard ≤ result }
+        ensures seat { IsUnrecorded self.old.seat self.new.seat }
+        ensures time { self.new.seat.due ≡ result }
+        ensures begins { IsBeginning (told_by message) (known_by self.new.seat) }
+    {
+        self.store.hear(&mut self.seat, message)
+    }
+}
