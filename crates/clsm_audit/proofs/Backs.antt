@@ -18,7 +18,7 @@ use Rattle.clsm_audit.specs.Faults.{HasNone, IsSecondAt, IsUnknownAt, RanBackAt}
 use Rattle.clsm_audit.specs.Lawful.{HasTimes, HasWrites, HaveTimes, IsFromDue, IsKnown, calls_of, due_of, open_of}
 use Rattle.clsm_audit.specs.Written.{IsWrittenBefore, WritesAt, is_write, span_of, time_past}
 use Rattle.clsm_audit.proofs.Calls.{calls_of-other, calls_of-own}
-use Rattle.clsm_audit.proofs.Indices.{if_here, itself, nobody, taken_more}
+use Rattle.clsm_audit.proofs.Indices.{here_if, if_here, itself, nobody, taken_more}
 use Rattle.clsm_audit.proofs.Seconds.{at_index, here_second, some_within}
 use Rattle.clsm_audit.proofs.Times.{writes_each, writes_within}
 
@@ -157,3 +157,15 @@ none_unknown config records none i = each (slice_get records i) (none i) where
   each : (o : Option CallRecord) → ((IfSome o (λ r. IsKnown config (open_of (take i records) r.seat) r) → ⊥) → ⊥) → IfSome o HasTimes
   each None not = tt
   each (Some r) not = stable_times r (λ no. not (λ known. no known.in_range.times))
+
+-- and such records have known seats
+pub unknown_seat : (config : Config) (records : List CallRecord) → HasNone (IsUnknownAt config records) → (i : ℕ) (r : CallRecord) → i < length records
+    → r ≡ get_or records i r → r.seat < config.seats
+unknown_seat config records none i r within is =
+    ⊎_elim
+    (λ (lt : r.seat < config.seats). lt)
+    (λ (le : config.seats ≤ r.seat).
+    absurd (none i (λ known.
+    let one = here_if (λ q. IsKnown config (open_of (take i records) q.seat) q) records i r within is known in
+    let seat = one.in_range.seat in omega arith)))
+    (cases_lt r.seat config.seats)

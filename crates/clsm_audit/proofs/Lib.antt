@@ -15,6 +15,8 @@ pub mod Readings
 pub mod Searches
 pub mod Seconds
 pub mod Slots
+pub mod Swept
+pub mod Timed
 pub mod Times
 pub mod Turns
 pub mod Walks

@@ -1,8 +1,10 @@
 pub mod Explained
 pub mod Faults
 pub mod Lawful
+pub mod Moments
 pub mod Numbers
 pub mod Order
+pub mod RealTime
 pub mod Replayed
 pub mod Sought
 pub mod States

@@ -133,7 +133,7 @@ fn explain_back(records: &[CallRecord], index: usize) -> Explanation
 }
 
 /// The lowest time of a later call of the seat, by this call alone.
-fn own_due(call: &CallRecord) -> Time
+pub fn own_due(call: &CallRecord) -> Time
     requires { time_past call.now < 2 ^ 64 }
     ensures { result ≡ own_due call.now }
 {

@@ -2,7 +2,7 @@
 use Rattle.std.proofs.Common.{◌≡◌, ◌≢◌, ℕ, zero, suc, ◌+◌, ◌-◌, ◌<◌, ◌≤◌, List, [], ◌∷◌, ◌++◌}
 use Rattle.std.proofs.Common.{length, map, take}
 use Rattle.std.proofs.Common.{drop, get_or, codes, refl, ap, sym, ◌∙◌, arith, subst, append-nil, append_assoc}
-use Rattle.std.proofs.Common.{lit<, Option, Some, None}
+use Rattle.std.proofs.Common.{lit<, Option, Some, None, Bool, false, MatchOption}
 use Rattle.std.proofs.lemmas.List.{map_more, map-append, flat_map_more, get_or-map, length-map}
 use Rattle.std.proofs.lemmas.List.{length-append, take_all}
 use Rattle.std.proofs.lemmas.List.Concat.{flat_map-append}
@@ -14,12 +14,17 @@ use Rattle.clsm_model.specs.declared.record.CallRecord.{CallRecord}
 use Rattle.clsm_model.specs.declared.record.Deed.{Deed}
 use Rattle.clsm_model.specs.declared.record.Deed.TheVariants.{Put, Remove, Rmw, Get}
 use Rattle.clsm_model.specs.declared.record.Deed.TheVariants.{Snapshot, Close, GetAt, Scan, Page, Batch}
-use Rattle.clsm_text.specs.Line.{texts_of}
+use Rattle.smallvec.specs.SmallVec.{SmallVec}
+use Rattle.clsm_text.specs.Found.{Finds}
+use Rattle.clsm_text.specs.Line.{texts_of, words_of, IsComment, SaysWords}
 use Rattle.clsm_text.specs.Number.{IsValue}
 use Rattle.clsm_text.specs.Member.{is_equals, WritesNumber}
 use Rattle.clsm_text.proofs.Readings.{nil_no_value, no_equals}
 use Rattle.clsm_text.specs.Record.{WritesSeat, WritesRow, WriteRows}
 use Rattle.clsm_text.specs.Record.{WritePage, SayDeed, Say}
+use Rattle.clsm_audit.specs.declared.place.Moments.{Moments}
+use Rattle.clsm_text.specs.Lines.{SayLine, SayTimed, WriteMoments}
+use Rattle.clsm_text.specs.declared.timed.RecordLine.{RecordLine}
 use Rattle.clsm_text.specs.Written.{row_text, shown_rows, spaced}
 use Rattle.clsm_text.proofs.Zips.{zip_at, get_seam}
 
@@ -108,6 +113,88 @@ no_page_rows words front k is refused rows (Some key) (others, l, same, write, n
     same_front front others (codes "more") k (codes "more") l (sym is ∙ same) in
     refused rows key (subst (λ (ws : List (List ℕ)). WriteRows ws rows) (sym fronts) write)
     (subst (λ (n : List ℕ). WritesNumber n key) (sym keys) number)
+
+-- ---- the moments behind a record
+
+-- the last three of a list
+last_three : {A : Type 0} (xs : List A) (n : ℕ) (d : A) → length xs ≡ n + 3 →
+    xs ≡ take n xs ++ (get_or xs n d ∷ get_or xs (suc n) d ∷ get_or xs (suc (suc n)) d ∷ [])
+last_three [] n d long = absurd (omega (arith, long))
+last_three (x ∷ []) n d long = absurd (omega (arith, long))
+last_three (x ∷ y ∷ []) n d long = absurd (omega (arith, long))
+last_three (x ∷ y ∷ z ∷ []) zero d long = refl
+last_three (x ∷ y ∷ z ∷ []) (suc n) d long = absurd (omega (arith, long))
+last_three (x ∷ y ∷ z ∷ w ∷ xs) zero d long = absurd (omega (arith, long))
+last_three (x ∷ y ∷ z ∷ w ∷ xs) (suc n) d long =
+    ap (λ (l : List _). x ∷ l) (last_three (y ∷ z ∷ w ∷ xs) n d (omega (arith, long)))
+
+-- a `|` that is the last word but two
+pub bar_found : (words : List (Bor (List ℕ))) (d : Bor (List ℕ)) → 3 ≤ length words →
+    (get_or words (length words - 3) d).now ≡ codes "|" →
+    texts_of words
+    ≡ texts_of (take (length words - 3) words)
+    ++ (codes "|" ∷ (get_or words (length words - 3 + 1) d).now ∷ (get_or words (length words - 3 + 2) d).now ∷ [])
+bar_found words d three is =
+    let place = length words - 3 in
+    let next : suc place ≡ place + 1 = omega arith in
+    let last : suc (suc place) ≡ place + 2 = omega arith in
+    ap texts_of (last_three words place d (omega arith))
+    ∙ map-append (λ (w : Bor (List ℕ)). w.now) (take place words) _
+    ∙ ap (λ (m : List ℕ). texts_of (take place words)
+    ++ (m ∷ (get_or words (suc place) d).now ∷ (get_or words (suc (suc place)) d).now ∷ [])) is
+    ∙ ap (λ i. texts_of (take place words)
+    ++ (codes "|" ∷ (get_or words i d).now ∷ (get_or words (suc (suc place)) d).now ∷ [])) next
+    ∙ ap (λ i. texts_of (take place words)
+    ++ (codes "|" ∷ (get_or words (place + 1) d).now ∷ (get_or words i d).now ∷ [])) last
+
+-- where another word is the last but two
+pub bar_missing : (words : List (Bor (List ℕ))) (d : Bor (List ℕ)) →
+    (get_or words (length words - 3) d).now ≢ codes "|" →
+    (front : List (List ℕ)) (b e : List ℕ) → texts_of words ≢ front ++ (codes "|" ∷ b ∷ e ∷ [])
+bar_missing words d other front b e same =
+    let long : length (texts_of words) ≡ length words =
+    length-map words (λ (w : Bor (List ℕ)). w.now) in
+    let longer : length (texts_of words) ≡ length front + 3 =
+    ap length same ∙ length-append front (codes "|" ∷ b ∷ e ∷ []) in
+    let place : length words - 3 ≡ length front = omega arith in
+    let at : get_or (texts_of words) (length front) d.now ≡ codes "|" =
+    ap (λ (l : List (List ℕ)). get_or l (length front) d.now) same
+    ∙ get_seam front (codes "|") (b ∷ e ∷ []) d.now in
+    let is : get_or (texts_of words) (length front) d.now ≡ (get_or words (length front) d).now =
+    get_or-map (λ (w : Bor (List ℕ)). w.now) words (length front) d d.now (omega arith) in
+    other (rw place (sym is ∙ at))
+
+-- two lists with three more end alike and begin alike
+same_behind : (xs ys : List (List ℕ)) (a b c d e f : List ℕ) →
+    xs ++ (a ∷ b ∷ c ∷ []) ≡ ys ++ (d ∷ e ∷ f ∷ []) → (xs ≡ ys) × (b ≡ e) × (c ≡ f)
+same_behind [] [] a b c d e f same = (refl, cc, cc)
+same_behind [] (y ∷ ys) a b c d e f same =
+    absurd (omega (arith, ap length same, length-append (y ∷ ys) (d ∷ e ∷ f ∷ [])))
+same_behind (x ∷ xs) [] a b c d e f same =
+    absurd (omega (arith, ap length same, length-append (x ∷ xs) (a ∷ b ∷ c ∷ [])))
+same_behind (x ∷ xs) (y ∷ ys) a b c d e f same =
+    let head : x ≡ y = cc in
+    let tail : xs ++ (a ∷ b ∷ c ∷ []) ≡ ys ++ (d ∷ e ∷ f ∷ []) = cc in
+    let (fronts, begins, ends) = same_behind xs ys a b c d e f tail in (cc, begins, ends)
+
+-- words say no record with moments where what stands before the `|` or behind it does not
+pub no_timed : (words front : List (List ℕ)) (b e : List ℕ) → words ≡ front ++ (codes "|" ∷ b ∷ e ∷ []) →
+    ((r : CallRecord) (moments : Moments) → Say front r → ¬ WriteMoments b e moments) →
+    (r : CallRecord) (moments : Moments) → ¬ SayTimed words r moments
+no_timed words front b e is refused r moments says =
+    let (fronts, begins, ends) =
+    same_behind front says.front (codes "|") b e (codes "|") says.begin says.finish (sym is ∙ says.words_are) in
+    refused r moments (subst (λ (ws : List (List ℕ)). Say ws r) (sym fronts) says.says)
+    (subst (λ (w : List ℕ). WriteMoments w e moments) (sym begins)
+    (subst (λ (w : List ℕ). WriteMoments says.begin w moments) (sym ends) says.write))
+
+-- words that say neither a record with moments nor, where it may have none, one without
+pub no_line : (timed : Bool) (words : List (List ℕ)) → ((x : CallRecord × Moments) → ¬ SayTimed words x.0 x.1) →
+    (timed ≡ false → (r : CallRecord) → ¬ Say words r) → (line : RecordLine) → ¬ SayLine timed words line
+no_line timed words none_timed none_plain line = by line.record line.moments where
+  by : (r : CallRecord) (o : Option Moments) → ¬ MatchOption o ((timed ≡ false) × Say words r) (SayTimed words r)
+  by r None says = none_plain says.0 r says.1
+  by r (Some moments) says = none_timed (r, moments) says
 
 -- ---- deeds and records
 
@@ -207,3 +294,13 @@ shown_some rows first others is =
     sym
     (ap shown_rows is ∙ joined (row_text first) (map row_text others)
     ∙ append_assoc (decimal first.0) (61 ∷ text first.1) (spaced (map row_text others)))
+
+-- ---- lines
+
+-- words that say nothing make the line bad
+pub says_none : {A : Type 0} (Says : List (List ℕ) → A → Type 0) (line : List ℕ) (words : SmallVec (Bor (List ℕ))) (slice : List (Bor (List ℕ)))
+    → SaysWords line (Some words) → slice ≡ words.items → Finds (Says (texts_of slice)) None
+    → (¬ IsComment (words_of line)) × ((x : A) → ¬ Says (words_of line) x)
+says_none {A} Says line words slice says same found =
+    let is : texts_of slice ≡ words_of line = ap texts_of same ∙ says.1 in
+    (says.0, subst (λ (ws : List (List ℕ)). (x : A) → ¬ Says ws x) is found)

@@ -9,6 +9,7 @@ use Rattle.clsm_model.specs.declared.record.Deed.TheVariants.{Put, Remove, Rmw, 
 use Rattle.clsm_model.specs.declared.record.Deed.TheVariants.{Snapshot, Close, GetAt, Scan, Page, Batch}
 use Rattle.clsm_model.specs.declared.slot.Change.{Change}
 use Rattle.clsm_model.specs.declared.slot.Change.TheVariants.{Keep, Set, Remove as Removal}
+use Rattle.clsm_audit.specs.declared.place.Moments.{Moments}
 use Rattle.clsm_text.specs.Record.{name_of}
 
 -- a value, or `none`
@@ -56,6 +57,14 @@ record_words r = decimal r.seat ∷ decimal r.time ∷ name_of r.deed ∷ deed_w
 -- its line: the words, with a space between each two
 abbrev pub line_of : CallRecord → List ℕ
 line_of r = join_with_byte 32 (record_words r)
+
+-- the moments of its call: when it began and when it ended
+abbrev pub moments_text : Moments → List ℕ
+moments_text moments = decimal moments.begin ++ codes " " ++ decimal moments.end
+
+-- its line with them
+abbrev pub timed_line_of : CallRecord → Moments → List ℕ
+timed_line_of r moments = line_of r ++ codes " | " ++ moments_text moments
 
 -- each word behind a space
 abbrev pub spaced : List (List ℕ) → List ℕ

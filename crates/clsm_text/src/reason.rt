@@ -1,6 +1,7 @@
-use crate::audit::Listed;
+use crate::judging::Judged;
+use crate::listing::{Listed, TimedList};
 use crate::written::{Line, Reply};
-use clsm_audit::{Explanation, FoundWrite, Rule};
+use clsm_audit::{Explanation, FoundWrite, Moments, Rule};
 use clsm_model::Value;
 use std::fmt;
 use std::io::{self, Write};
@@ -21,6 +22,61 @@ pub fn write_reason<W: Write>(
     };
     write!(output, "{line}\n{reason}")?;
     output.flush()
+}
+
+/// Writes why the record that was judged has its fault, if that is known.
+pub(crate) fn write_judged<W: Write>(
+    output: &mut W,
+    list: &TimedList,
+    judged: &Judged,
+) -> io::Result<()> {
+    if let Some(explanation) = &judged.explanation {
+        return write_reason(output, &list.listed, judged.index, explanation);
+    }
+    match judged.earlier {
+        Some(earlier) => write_stale(output, list, judged.index, earlier),
+        None => Ok(()),
+    }
+}
+
+/// Writes that the call of the record with this index began after that of another one had ended,
+/// which has a later place.
+fn write_stale<W: Write>(
+    output: &mut W,
+    list: &TimedList,
+    index: usize,
+    earlier: usize,
+) -> io::Result<()> {
+    let line = TimedPlace { list, index };
+    let other = TimedPlace {
+        list,
+        index: earlier,
+    };
+    writeln!(
+        output,
+        "{line}\na call with a later place had ended before it began: {other}"
+    )?;
+    output.flush()
+}
+
+/// A record with its place and its moments.
+#[derive(Drop)]
+struct TimedPlace<'a> {
+    list: &'a TimedList,
+    index: usize,
+}
+
+impl fmt::Display for TimedPlace<'_> {
+    fn fmt<W: fmt::Write>(&self, f: &mut fmt::Formatter<W>) -> fmt::Result {
+        let index = self.index;
+        let listed = &self.list.listed;
+        let place = Placed { listed, index };
+        write!(f, "{place}")?;
+        match self.list.moments.get(index) {
+            Some(Moments { begin, end }) => write!(f, " | {begin} {end}"),
+            None => Ok(()),
+        }
+    }
 }
 
 /// What an explanation says, a fact a line.

@@ -28,7 +28,7 @@ pub fn parse_record(alloc: Global, line: &[u8]) -> Result<Option<CallRecord>, Li
 }
 
 /// The record that words say. Refused if memory runs out.
-fn parse_words(alloc: Global, words: &[&str]) -> Result<Option<CallRecord>, AllocError>
+pub fn parse_words(alloc: Global, words: &[&str]) -> Result<Option<CallRecord>, AllocError>
     ensures { IfOk result (Finds (Say (texts_of words.now))) }
 {
     let [seat, time, deed @ ..] = words else {

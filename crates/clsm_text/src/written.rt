@@ -1,8 +1,9 @@
 ghost use Rattle.std.specs.Prelude.{OnOk, Some, map};
 ghost use Rattle.std.specs.Io.KnownBytes.{Appends};
 ghost use Rattle.clsm_text.specs.Written.{reply_text, change_text, row_text, more_words, spaced, member_text};
-ghost use Rattle.clsm_text.specs.Written.{deed_text, line_of};
+ghost use Rattle.clsm_text.specs.Written.{deed_text, line_of, timed_line_of};
 
+use clsm_audit::Moments;
 use clsm_model::{CallRecord, Change, Deed, Members, PageRange, Value};
 use std::fmt;
 use std::io::{self, Write};
@@ -14,6 +15,33 @@ pub fn write_record<W: Write>(output: &mut W, call: &CallRecord) -> io::Result<(
 {
     let line = Line(call);
     write!(output, "{line}")
+}
+
+/// Writes a record and the moments of its call as its line, without a line feed.
+pub fn write_timed_record<W: Write>(
+    output: &mut W,
+    call: &CallRecord,
+    moments: &Moments,
+) -> io::Result<()>
+    ensures { OnOk result
+        (Appends (W.contents output.old) (W.contents output.new) (timed_line_of call.now moments.now)) }
+{
+    let line = TimedLine(call, moments);
+    write!(output, "{line}")
+}
+
+/// A record and the moments of its call as its line, without a line feed.
+#[derive(Drop)]
+struct TimedLine<'a>(&'a CallRecord, &'a Moments);
+
+impl fmt::Display for TimedLine<'_> {
+    ghost output = { λ line. Some (timed_line_of line.0.now line.1.now) };
+
+    fn fmt<W: fmt::Write>(&self, f: &mut fmt::Formatter<W>) -> fmt::Result {
+        let line = Line(self.0);
+        let Moments { begin, end } = *self.1;
+        write!(f, "{line} | {begin} {end}")
+    }
 }
 
 /// A record as its line, without a line feed.

@@ -8,4 +8,4 @@ returns-in-Ok-clause-prints g c status =
 
 pub returns-in-Ok-clause-fault : goal.returns-in-Ok-clause-fault
 returns-in-Ok-clause-fault g c status =
-    prints_fault _ _ _ _ _ c.in-Ok.verdict c.in-Ok.ensures.verdict c.in-Ok.ensures.prints (sym c.status.ensures ∙ status)
+    prints_fault _ _ _ _ _ _ c.in-Ok.verdict c.in-Ok.ensures.verdict c.in-Ok.ensures.prints (sym c.status.ensures ∙ status)

@@ -6,10 +6,10 @@ use Rattle.std.proofs.lemmas.List.{length_push, take_all}
 use Rattle.clsm_text.specs.Input.{is_line_feed}
 use Rattle.clsm_text.specs.Line.{lines_of}
 use Rattle.clsm_text.specs.Audit.{IsListOf, StopsLines}
-use Rattle.clsm_text.specs.Lines.{Reads}
+use Rattle.clsm_text.specs.Lines.{ReadsLine}
 use Rattle.clsm_text.proofs.Lists.{more_none, more_some, stops_at}
-use Rattle.clsm_text.proofs.audit.list_records.Goals.{In-Some}
-use Rattle.clsm_text.proofs.audit.list_records.Goals as goal
+use Rattle.clsm_text.proofs.listing.list_records.Goals.{In-Some}
+use Rattle.clsm_text.proofs.listing.list_records.Goals as goal
 
 -- this turn's line is the next line of the text
 turn : (c : In-Some) →
@@ -45,17 +45,17 @@ counted c =
       c.loop-line.invariant.number,
     )
 
-pub loop-line-preserved-in-Continue-branch-2 : goal.loop-line-preserved-in-Continue-branch-2
-loop-line-preserved-in-Continue-branch-2 c =
-    let (inside, is) = at (goal.at.loop-line-preserved-in-Continue-branch-2 c).In-Some in
+pub loop-line-preserved-in-Continue-1 : goal.loop-line-preserved-in-Continue-1
+loop-line-preserved-in-Continue-1 c =
+    let (inside, is) = at (goal.at.loop-line-preserved-in-Continue-1 c).In-Some in
     record {
       can = search rules;
       ends = tt;
-      number = counted (goal.at.loop-line-preserved-in-Continue-branch-2 c).In-Some;
-      list = rw (c.in_ok-push-in-Ok-Some.ensures.items, c.in_ok-push-in-Ok-Some-2.ensures.items)
-          (more_some _ _ c.in-Some.line.now _ _ c.loop-line.invariant.list inside is
-          c.in-Ok-Some.record
-          (subst (λ o. Reads c.in-Some.line.now (Ok o)) c.in-Ok-Some.field-0-is
+      number = counted (goal.at.loop-line-preserved-in-Continue-1 c).In-Some;
+      list = rw (c.in_ok-push-in-Ok-Some.ensures.records, c.in_ok-push-in-Ok-Some.ensures.lines, c.in_ok-push-in-Ok-Some.ensures.moments)
+          (more_some c.args.timed _ _ c.in-Some.line.now _ _ _ c.loop-line.invariant.list inside is
+          c.in-Ok-Some.said
+          (subst (λ o. ReadsLine c.args.timed c.in-Some.line.now (Ok o)) c.in-Ok-Some.field-0-is
           c.in-Ok-Some.ensures));
     }
 
@@ -66,16 +66,16 @@ loop-line-preserved c =
       can = search rules;
       ends = tt;
       number = counted (goal.at.loop-line-preserved c).In-Some;
-      list = more_none _ _ c.in-Some.line.now _ _ c.loop-line.invariant.list inside is
-          (subst (λ o. Reads c.in-Some.line.now (Ok o)) c.in-Ok-None.field-0-is
+      list = more_none c.args.timed _ _ c.in-Some.line.now _ _ _ c.loop-line.invariant.list inside is
+          (subst (λ o. ReadsLine c.args.timed c.in-Some.line.now (Ok o)) c.in-Ok-None.field-0-is
           c.in-Ok-None.ensures);
     }
 
 pub returns-in-Err-clause-stopped : goal.returns-in-Err-clause-stopped
 returns-in-Err-clause-stopped c =
     let (inside, is) = at (goal.at.returns-in-Err-clause-stopped c).In-Some in
-    subst (StopsLines c.args.text.now) (sym c.at.ensures)
-    (stops_at c.args.text.now c.loop-line.number c.in-Some.line.now _ _ c.in-Err.error
+    subst (StopsLines c.args.timed c.args.text.now) (sym c.at.ensures)
+    (stops_at c.args.timed c.args.text.now c.loop-line.number c.in-Some.line.now _ _ _ c.in-Err.error
     c.loop-line.invariant.list inside is c.in-Err.ensures)
 
 pub returns-clause-listed : goal.returns-clause-listed
@@ -85,7 +85,7 @@ returns-clause-listed c =
     (YieldsList-from_slice_split _ is_line_feed c.args.text.now (cc) (cc) (cc)
     (λ x b q k. search (rules, tests)))
     c.loop-line.yielded _ c.loop-line.yielded_by _ _ c.in-None.is c.next.ensures.steps in
-    subst (λ ls. IsListOf ls c.loop-line.listed.records.items c.loop-line.listed.lines.items)
+    subst (λ ls. IsListOf c.args.timed ls c.loop-line.list.listed.records.items c.loop-line.list.listed.lines.items c.loop-line.list.moments.items)
     (take_all c.loop-line.number (lines_of c.args.text.now)
     (omega (arith, same, c.loop-line.invariant.number)))
     c.loop-line.invariant.list
