@@ -4,3 +4,4 @@ pub mod Kept
 pub mod Ranges
 pub mod Read
 pub mod Taken
+pub mod Statuses

@@ -66,12 +66,14 @@ run rows = record {
   stats = flag_of (codes "stats") rows;
   progress = flag_of (codes "progress") rows;
   records = flag_of (codes "records") rows;
+  clock = flag_of (codes "clock") rows;
 }
 
 abbrev pub audit : List Row → AuditOptions
 audit rows = record {
   seats = number_of (codes "seats") rows;
   cells = number_of (codes "cells") rows;
+  order = flag_of (codes "order") rows;
   history = flag_of (codes "history") rows;
 }
 

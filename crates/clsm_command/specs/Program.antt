@@ -66,12 +66,14 @@ run = command (codes "run")
     ∷ flag (codes "stats")
     ∷ flag (codes "progress")
     ∷ flag (codes "records")
+    ∷ flag (codes "clock")
     ∷ [])
 
 abbrev pub audit : Shape
 audit = command (codes "audit")
     (size (codes "seats") (codes "1")
     ∷ size (codes "cells") (codes "65536")
+    ∷ flag (codes "order")
     ∷ flag (codes "history")
     ∷ [])
 

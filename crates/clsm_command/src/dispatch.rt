@@ -1,13 +1,18 @@
 //! What the command line asks for is done.
+ghost use Rattle.std.specs.Prelude.{◌≡◌, ◌⊎◌, ◌≤◌, IsSomeAnd};
 ghost use Rattle.clsm_command.specs.Answers.{IsInRange};
-ghost use Rattle.clsm_command.specs.declared.options.Options.TheVariants.{Run};
+ghost use Rattle.clsm_command.specs.Doing.{Explores, IsDone, audit_sizes};
+ghost use Rattle.clsm_command.specs.declared.options.Options.TheVariants.{Run, Script};
+ghost use Rattle.clsm_command.specs.declared.refusal.Refusal.TheVariants.{Help};
+ghost use Rattle.clsm_text.specs.Failure.{status_of};
+ghost use Rattle.clap.specs.declared.error.Error.{Error};
 
 use crate::command_line::parse;
 use crate::options::{AuditOptions, ExploreOptions, Options, RunOptions};
 use crate::refusal::Refusal;
 use clsm_explore::{Exploration, Shows as ShowsOf, explore_scripts};
 use clsm_model::Config;
-use clsm_run::{AskedRun, Load, Shows, run};
+use clsm_run::{AskedRun, Load, Shows, run_printed};
 use clsm_script::{Setting, script};
 use clsm_text::{AskedAudit, Failure, Streams, audit_lines};
 use std::alloc::Global;
@@ -20,6 +25,13 @@ use std::thread::Threads;
 /// The entries that a run of level 1 has room for in an exploration.
 const EXPLORED_RUN: usize = 4;
 
+/// How the program ended: its exit status, and its output, unless memory ran out before it was used.
+#[derive(Drop)]
+pub struct Ended<W> {
+    pub status: u8,
+    pub output: Option<W>,
+}
+
 /// Does what the words of a command line ask for, the first of which is the program's name, and
 /// answers the exit status. `script` and `audit` read the input. What is asked for is written to
 /// the output, help too; why the program does not end well is written to the faults.
@@ -27,7 +39,12 @@ const EXPLORED_RUN: usize = 4;
 /// The status is 0 where all was done; 1 for words that are refused, a bad line, or a failed read
 /// or write; 2 for a fault that an audit or an exploration found; 3 for a refused opening, if
 /// memory runs out, or for too many worlds.
-pub fn command<T, S, R, W, E>(rt: &T, alloc: Global, words: &[S], streams: Streams<R, W, E>) -> u8
+pub fn command<T, S, R, W, E>(
+    rt: &T,
+    alloc: Global,
+    words: &[S],
+    streams: Streams<R, W, E>,
+) -> Ended<W>
 where
     T: Threads + Sync + Clock + Wait,
     S: AsStr,
@@ -37,11 +54,20 @@ where
 {
     match parse(alloc, words) {
         Ok(options) => obey(rt, alloc, options, streams),
-        Err(refusal) => refuse(refusal, streams.output, streams.faults),
+        Err(refusal) => {
+            let Streams {
+                mut output,
+                faults,
+                ..
+            } = streams;
+            let status = refuse(refusal, &mut output, faults);
+            let output = Some(output);
+            Ended { status, output }
+        }
     }
 }
 
-fn obey<T, R, W, E>(rt: &T, alloc: Global, options: Options, streams: Streams<R, W, E>) -> u8
+fn obey<T, R, W, E>(rt: &T, alloc: Global, options: Options, streams: Streams<R, W, E>) -> Ended<W>
 where
     T: Threads + Sync + Clock + Wait,
     R: Read + Drop,
@@ -49,28 +75,38 @@ where
     E: Write + Send + Drop,
     requires range { IsInRange options }
 {
-    match options {
-        Options::Script(config) => play(rt, alloc, config, streams),
-        Options::Run(options) => call(rt, alloc, &options, streams.output, streams.faults),
+    if let Options::Script(config) = options {
+        return play(rt, alloc, config, streams);
+    }
+    let Streams {
+        input,
+        mut output,
+        faults,
+    } = streams;
+    let status = match options {
+        Options::Script(_) => unreachable!(),
+        Options::Run(options) => call(rt, alloc, &options, &mut output, faults),
         Options::Audit(options) => {
-            let Streams {
-                input,
-                mut output,
-                faults,
-            } = streams;
             audit_lines(alloc, asked(&options), input, &mut output, faults)
         }
-        Options::Explore(options) => try_orders(alloc, &options, streams.output, streams.faults),
-    }
+        Options::Explore(options) => try_orders(alloc, &options, &mut output, faults),
+    };
+    let output = Some(output);
+    Ended { status, output }
 }
 
 /// Plays the script.
-fn play<T, R, W, E>(rt: &T, alloc: Global, config: Config, streams: Streams<R, W, E>) -> u8
+#[tactic(auto, using(crate::proofs::Statuses::no_fault, crate::proofs::Statuses::script_most))]
+fn play<T, R, W, E>(rt: &T, alloc: Global, config: Config, streams: Streams<R, W, E>) -> Ended<W>
 where
     T: Wait,
     R: Read + Drop,
     W: Write + Drop,
     E: Write + Drop,
+    ensures status { result.status ≤ 3 }
+    ensures done { result.status ≡ 0 → IsSomeAnd result.output (λ output.
+        IsDone (Script config) (R.remaining streams.input) (W.contents streams.output) (W.contents output)) }
+    ensures faultless { ¬ (result.status ≡ 2) }
 {
     let Streams {
         input,
@@ -78,20 +114,23 @@ where
         mut faults,
     } = streams;
     let Ok(mut answers) = BufWriter::new(alloc, output) else {
-        return fail(Failure::Memory, &mut faults);
+        let status = fail(Failure::Memory, &mut faults);
+        let output = None;
+        return Ended { status, output };
     };
     let setting = Setting { rt, alloc, config };
     let status = script(&setting, input, &mut answers, faults);
     // A writer that is dropped would write once more.
-    let (_, _) = answers.into_parts();
-    status
+    let (output, _) = answers.into_parts();
+    let output = Some(output);
+    Ended { status, output }
 }
 
 /// Runs the workload.
-fn call<T, W, E>(rt: &T, alloc: Global, options: &RunOptions, output: W, faults: E) -> u8
+fn call<T, W, E>(rt: &T, alloc: Global, options: &RunOptions, output: &mut W, faults: E) -> u8
 where
     T: Threads + Sync + Clock + Wait,
-    W: Write + Drop,
+    W: Write,
     E: Write + Send + Drop,
     requires range { IsInRange (Run options.now) }
 {
@@ -105,6 +144,7 @@ where
         stats: options.stats,
         progress: options.progress,
         records: options.records,
+        clock: options.clock,
     };
     let asked = AskedRun {
         config: options.config,
@@ -112,14 +152,17 @@ where
         waits: options.wait,
         shows,
     };
-    run(rt, alloc, asked, output, faults)
+    run_printed(rt, alloc, &asked, output, faults)
 }
 
 /// Explores the scripts.
-fn try_orders<W, E>(alloc: Global, options: &ExploreOptions, mut output: W, faults: E) -> u8
+#[tactic(auto, using(crate::proofs::Statuses::at_most))]
+fn try_orders<W, E>(alloc: Global, options: &ExploreOptions, output: &mut W, faults: E) -> u8
 where
-    W: Write + Drop,
+    W: Write,
     E: Write + Drop,
+    ensures status { result ≤ 3 }
+    ensures done { result ≡ 0 → Explores options.now (W.contents output.old) (W.contents output.new) }
 {
     let config = Config {
         cells: options.cells,
@@ -141,11 +184,15 @@ where
         limit: options.limit,
         shows,
     };
-    explore_scripts(alloc, &asked, &mut output, faults)
+    explore_scripts(alloc, &asked, output, faults)
 }
 
 /// What an audit is asked for. Of the sizes of the store it takes only the first two.
-fn asked(options: &AuditOptions) -> AskedAudit {
+fn asked(options: &AuditOptions) -> AskedAudit
+    ensures config { result.config ≡ audit_sizes options.now }
+    ensures order { result.order ≡ options.now.order }
+    ensures history { result.history ≡ options.now.history }
+{
     let config = Config {
         cells: options.cells,
         seats: options.seats,
@@ -155,19 +202,19 @@ fn asked(options: &AuditOptions) -> AskedAudit {
     };
     AskedAudit {
         config,
+        order: options.order,
         history: options.history,
     }
 }
 
 /// Writes why words were refused to the faults, or the help that they ask for to the output.
 /// Answers the exit status, as `command` does.
-pub fn refuse<W: Write + Drop, E: Write + Drop>(
-    refusal: Refusal,
-    mut output: W,
-    mut faults: E,
-) -> u8 {
+pub fn refuse<W: Write, E: Write + Drop>(refusal: Refusal, output: &mut W, mut faults: E) -> u8
+    ensures status { (result ≡ 0) ⊎ ((result ≡ 1) ⊎ (result ≡ 3)) }
+    ensures help { result ≡ 0 → (error : Error) × (refusal ≡ Help error) }
+{
     match refusal {
-        Refusal::Help(text) => match help(&mut output, &text) {
+        Refusal::Help(text) => match help(output, &text) {
             Ok(()) => 0,
             Err(error) => fail(Failure::from(error), &mut faults),
         },
@@ -185,7 +232,9 @@ fn help<W: Write>(output: &mut W, text: &clap::Error) -> io::Result<()> {
     output.flush()
 }
 
-fn fail<E: Write>(failure: Failure, faults: &mut E) -> u8 {
+fn fail<E: Write>(failure: Failure, faults: &mut E) -> u8
+    ensures { result ≡ status_of failure }
+{
     let _ = failure.report(faults);
     failure.status()
 }

@@ -43,7 +43,8 @@ pub(crate) const RUN: &str =
 
 pub(crate) const AFTER_RUN: &str = "\
 Reads nothing. Prints `calls N`, refused ones too, and `audit ok` or `audit fault KIND INDEX`.
-With --records it prints each answered call as a line that `clsm audit` reads, in their place.
+With --records it prints each answered call as a line that `clsm audit` reads, in their place;
+with --clock too, each line ends in ` | BEGIN END`, nanoseconds of the monotonic clock.
 
 Exit status: 0 done; 1 refused words or a failed write; 2 a fault was found; 3 the sizes were
 refused or memory ran out.
@@ -60,6 +61,10 @@ Reads records of answered calls, one a line: SEAT TIME and then the call with it
 Prints `audit ok`, or `audit fault KIND LINE` with the kind and the line of the first fault, and
 says on the standard error why it is one. With --history the records of writes follow `audit ok`,
 by their times.
+
+A line may end in ` | BEGIN END`: two numbers of one clock, read before and after the call. With
+--order each line has them, and a call that ended before another began has to stand before it in
+the history; if one does not, it prints `audit fault Stale LINE`.
 
 Exit status: 0 lawful; 1 a bad line, a failed read or write; 2 a fault was found; 3 memory
 ran out.
@@ -116,9 +121,15 @@ pub(crate) const RUN_PROGRESS: &str = "Show on the standard error how far the ru
 
 pub(crate) const RECORDS: &str = "Print each answered call as a record, in place of the verdict";
 
+pub(crate) const CLOCK: &str =
+    "With --records, print behind each record when its call began and ended";
+
 pub(crate) const AUDIT_SEATS: &str = "Seats that the records may be of, 1 to 64";
 
 pub(crate) const AUDIT_CELLS: &str = "Cells of the store that was called, 4 to 65,536";
+
+pub(crate) const ORDER: &str =
+    "Audit too that each call stands behind those that had ended before it began";
 
 pub(crate) const HISTORY: &str = "Print the records of writes by their times, where all is lawful";
 

@@ -11,6 +11,6 @@ mod program;
 mod refusal;
 
 pub use command_line::{parse, words};
-pub use dispatch::{command, refuse};
+pub use dispatch::{Ended, command, refuse};
 pub use options::{AuditOptions, ExploreOptions, Options, RunOptions};
 pub use refusal::Refusal;

@@ -66,6 +66,7 @@ fn run(matches: &ArgMatches<'_>) -> RunOptions
         stats: flag(matches, "stats"),
         progress: flag(matches, "progress"),
         records: flag(matches, "records"),
+        clock: flag(matches, "clock"),
     }
 }
 
@@ -75,6 +76,7 @@ fn audit(matches: &ArgMatches<'_>) -> AuditOptions
     AuditOptions {
         seats: size(matches, "seats"),
         cells: size(matches, "cells"),
+        order: flag(matches, "order"),
         history: flag(matches, "history"),
     }
 }

@@ -34,6 +34,8 @@ pub struct RunOptions {
     pub progress: bool,
     /// `--records`
     pub records: bool,
+    /// `--clock`
+    pub clock: bool,
 }
 
 /// The options of `clsm audit`.
@@ -43,6 +45,8 @@ pub struct AuditOptions {
     pub seats: usize,
     /// The cells of a region of the store that they were made at.
     pub cells: usize,
+    /// `--order`
+    pub order: bool,
     /// `--history`
     pub history: bool,
 }

@@ -96,7 +96,8 @@ fn run<'a>(alloc: Global) -> Result<Command<'a>, AllocError>
         .arg(flag(alloc, "wait", help::WAIT))?
         .arg(flag(alloc, "stats", help::STATS))?
         .arg(flag(alloc, "progress", help::RUN_PROGRESS))?
-        .arg(flag(alloc, "records", help::RECORDS))
+        .arg(flag(alloc, "records", help::RECORDS))?
+        .arg(flag(alloc, "clock", help::CLOCK))
 }
 
 fn audit<'a>(alloc: Global) -> Result<Command<'a>, AllocError>
@@ -105,6 +106,7 @@ fn audit<'a>(alloc: Global) -> Result<Command<'a>, AllocError>
     named(alloc, "audit", help::AUDIT, help::AFTER_AUDIT)
         .arg(size(alloc, "seats", "1", help::AUDIT_SEATS))?
         .arg(size(alloc, "cells", "65536", help::AUDIT_CELLS))?
+        .arg(flag(alloc, "order", help::ORDER))?
         .arg(flag(alloc, "history", help::HISTORY))
 }
 

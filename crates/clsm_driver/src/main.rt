@@ -13,9 +13,9 @@ fn main(rt: HostRuntime) -> ExitCode {
                 output: rt.stdout(),
                 faults: rt.stderr(),
             };
-            command(&rt, rt.alloc(), &words, streams)
+            command(&rt, rt.alloc(), &words, streams).status
         }
-        Err(refusal) => refuse(refusal, rt.stdout(), rt.stderr()),
+        Err(refusal) => refuse(refusal, &mut rt.stdout(), rt.stderr()),
     };
     ExitCode::from(status)
 }

@@ -5,4 +5,3 @@ mod explore;
 mod failing;
 mod lines;
 mod run;
-mod words;

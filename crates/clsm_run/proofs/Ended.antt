@@ -4,7 +4,7 @@ use Rattle.std.proofs.lemmas.List.Elements.{All-cons, All-nil}
 use Rattle.std.specs.Prelude.{All, vec_len}
 use Rattle.clsm_model.specs.declared.config.Config.{Config}
 use Rattle.clsm_store.specs.Headline.{IsAt, IsWholeHistory, longest_past}
-use Rattle.clsm_store_calls.specs.Seats.{SeatState, StoreId}
+use Rattle.clsm_store_calls.specs.Seats.{HasSizes, SeatState, StoreId}
 use Rattle.clsm_session.specs.Ended.{AreAllSeats, AreDone, IsDone, StopsSession}
 use Rattle.clsm_session.specs.declared.session.Ended.{Ended}
 use Rattle.clsm_session.specs.declared.refusal.SessionError.{SessionError}
@@ -63,16 +63,18 @@ module _ (load : Load) (seats : List SeatState) (made : List Made) (are : AreMad
     settled ended = subst (All (HasSettled load)) same (all_ended (HasSettled load) ws (λ i d lt. (joined i d lt).all) ended)
 
 -- a session ends so, by its contract
-pub ends : (config : Config) (load : Load) (ended : Result (Ended Made) SessionError) → IfOk ended (λ e. AreAllSeats e.store config.seats e.seats.items) →
+pub ends : (config : Config) (load : Load) (ended : Result (Ended Made) SessionError) → IfOk ended (λ e. HasSizes e.store config) →
+    IfOk ended (λ e. AreAllSeats e.store config.seats e.seats.items) →
     IfOk ended (λ e. vec_len e.answers ≡ config.seats) → IfOk ended (λ e. AreDone (Works load) e.store e.seats.items e.answers.items) →
     IfOk ended (λ e. IsWholeHistory e.seats.items (longest_past e.seats.items)) → IfErr ended (StopsSession config) → EndsSession config load ended
-ends config load (Ok e) all count done whole stops = record {
+ends config load (Ok e) sizes all count done whole stops = record {
+  sizes = sizes;
   all_seats = all;
   made = are_made load e.seats.items e.answers.items (let c = count in let n = all.counted in omega (arith, c, n))
       (λ i s m at lt is. made_by load e.store i s m (all.each i s at) (done i s m at lt is));
   whole = whole;
 }
-ends config load (Err error) all count done whole stops = stops
+ends config load (Err error) sizes all count done whole stops = stops
 
 -- all seats of a store are those that are audited
 pub are_seats_of : (store : StoreId) (count : ℕ) (seats : List SeatState) → AreAllSeats store count seats → AreSeatsOf store count seats

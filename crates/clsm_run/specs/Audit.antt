@@ -4,7 +4,7 @@ use Rattle.std.specs.List.{flat_map}
 use Rattle.clsm_model.specs.declared.config.Config.{Config}
 use Rattle.clsm_model.specs.declared.record.CallRecord.{CallRecord}
 use Rattle.clsm_store.specs.Headline.{IsWholeHistory, longest_past}
-use Rattle.clsm_store_calls.specs.Seats.{SeatState, StoreId}
+use Rattle.clsm_store_calls.specs.Seats.{HasSizes, SeatState, StoreId}
 use Rattle.clsm_audit.specs.declared.fault.AuditError.{AuditError}
 use Rattle.clsm_audit.specs.Faults.{IsLawful, IsOneHistory, IsRefusal}
 
@@ -29,9 +29,10 @@ pub record IsAudited (config : Config) (store : StoreId) (seats : List SeatState
   pub records_are : records ≡ all_calls seats
   pub verdict_is : IsVerdict config records verdict
 
--- the seats are all those of some store, their calls are one whole history, and what the verdict
--- says, it says of all of them
+-- the seats are all those of some store of these sizes, their calls are one whole history, and what
+-- the verdict says, it says of all of them
 pub record IsAuditedWhole (config : Config) (seats : List SeatState) (records : List CallRecord) (verdict : Result ⊤ AuditError) : Type 0 where
   pub store : StoreId
+  pub sizes : HasSizes store config
   pub audited : IsAudited config store seats records verdict
   pub whole : IsWholeHistory seats (longest_past seats)

@@ -1,5 +1,5 @@
 -- How a run ends.
-use Rattle.std.specs.Prelude.{◌≡◌, ℕ, ◌⊎◌, ⊤, All, IsTrue, Result, Ok, Err}
+use Rattle.std.specs.Prelude.{◌≡◌, ℕ, ◌⊎◌, ⊤, All, IsTrue, List, Option, Result, Ok, Err}
 use Rattle.clsm_model.specs.declared.config.Config.{Config}
 use Rattle.clsm_model.specs.Config.{IsSound}
 use Rattle.clsm_audit.specs.declared.fault.AuditError.{AuditError}
@@ -7,20 +7,25 @@ use Rattle.clsm_audit.specs.declared.fault.AuditError.TheVariants as audits
 use Rattle.clsm_audit.specs.declared.fault.FaultKind.{FaultKind}
 use Rattle.clsm_store.specs.Headline.{IsWholeHistory, longest_past}
 use Rattle.clsm_store.specs.Opening.{IsRefusal}
-use Rattle.clsm_store_calls.specs.Seats.{StoreId}
+use Rattle.clsm_store_calls.specs.Seats.{HasSizes, StoreId}
+use Rattle.clsm_store_audit.specs.Settled.{AreLawfulAlone}
 use Rattle.clsm_text.specs.declared.failure.Failure.{Failure}
 use Rattle.clsm_text.specs.declared.failure.Failure.TheVariants.{Device, Fault, Refused, Memory}
 use Rattle.clsm_run.specs.Audit.{IsAudited}
 use Rattle.clsm_run.specs.Calls.{HasMadeAll, HasSettled}
+use Rattle.clsm_run.specs.Printed.{PrintsRun}
 use Rattle.clsm_run.specs.declared.load.AskedRun.{AskedRun}
 use Rattle.clsm_run.specs.declared.load.Load.{Load}
 use Rattle.clsm_run.specs.declared.ran.Ran.{Ran}
 
--- all seats of a store made all calls that they were asked for, and all their records were audited
+-- all seats of a store of these sizes made all calls that they were asked for, each of them is
+-- lawful, and all their records were audited
 pub record IsWholeRun (config : Config) (load : Load) (ran : Ran) : Type 0 where
   pub store : StoreId
+  pub sizes : HasSizes store config
   pub audited : IsAudited config store ran.seats.items ran.records.items ran.verdict
   pub made : All (λ seat. HasMadeAll load seat ⊎ HasSettled load seat) ran.seats.items
+  pub lawful : AreLawfulAlone ran.seats.items
 
 -- how a run with this verdict ends
 abbrev pub ending_of : Result ⊤ AuditError → Result ⊤ Failure
@@ -47,24 +52,26 @@ pub record IsRunOf (asked : AskedRun) (ran : Ran) : Type 0 where
   pub whole : IsWholeRun asked.config asked.load ran
   pub history : IsTrue asked.waits → IsWholeHistory ran.seats.items (longest_past ran.seats.items)
 
--- the audit of such a run found no fault
-pub record EndsWell (asked : AskedRun) : Type 0 where
+-- the audit of such a run found no fault, and this is printed behind what the output held
+pub record EndsWell (asked : AskedRun) (before after : Option (List ℕ)) : Type 0 where
   pub ran : Ran
   pub is_run : IsRunOf asked ran
   pub verdict : ran.verdict ≡ Ok tt
+  pub prints : PrintsRun asked ran before after
 
--- the audit of such a run found a fault
-pub record FindsFault (asked : AskedRun) : Type 0 where
+-- the audit of such a run found a fault, and this is printed
+pub record FindsFault (asked : AskedRun) (before after : Option (List ℕ)) : Type 0 where
   pub ran : Ran
   pub kind : FaultKind
   pub index : ℕ
   pub is_run : IsRunOf asked ran
   pub verdict : ran.verdict ≡ Err (audits.Fault kind index)
+  pub prints : PrintsRun asked ran before after
 
 -- why a run does not end well: not all calls were made and audited, or the audit found a fault
-abbrev pub StopsRun : AskedRun → Failure → Type 0
-StopsRun asked Fault = IsSound asked.config × FindsFault asked
-StopsRun asked failure = StopsCalls asked.config failure
+abbrev pub StopsRun : AskedRun → Option (List ℕ) → Option (List ℕ) → Failure → Type 0
+StopsRun asked before after Fault = IsSound asked.config × FindsFault asked before after
+StopsRun asked before after failure = StopsCalls asked.config failure
 
 -- the exit statuses of a run
 abbrev pub IsStatus : ℕ → Type 0

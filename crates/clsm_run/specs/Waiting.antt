@@ -2,7 +2,7 @@
 use Rattle.std.specs.Prelude.{◌≡◌, List, [], ◌∷◌, OnOk, Result, Ok, Err}
 use Rattle.clsm_model.specs.declared.config.Config.{Config}
 use Rattle.clsm_store.specs.Headline.{IsWholeHistory, longest_past}
-use Rattle.clsm_store_calls.specs.Seats.{SeatState}
+use Rattle.clsm_store_calls.specs.Seats.{HasSizes, SeatState}
 use Rattle.clsm_session.specs.Ended.{AreAllSeats, StopsSession}
 use Rattle.clsm_session.specs.declared.session.Ended.{Ended}
 use Rattle.clsm_session.specs.declared.refusal.SessionError.{SessionError}
@@ -22,9 +22,10 @@ AreMade load [] [] = Unit {0}
 AreMade load (s ∷ ss) (m ∷ ms) = IsMade load s m × AreMade load ss ms
 AreMade load _ _ = ⊥
 
--- the seats are all those of the store, their calls are one whole history, and the records are those
--- of these calls
+-- the seats are all those of a store of these sizes, their calls are one whole history, and the
+-- records are those of these calls
 pub record IsEnded (config : Config) (load : Load) (ended : Ended Made) : Type 0 where
+  pub sizes : HasSizes ended.store config
   pub all_seats : AreAllSeats ended.store config.seats ended.seats.items
   pub made : AreMade load ended.seats.items ended.answers.items
   pub whole : IsWholeHistory ended.seats.items (longest_past ended.seats.items)

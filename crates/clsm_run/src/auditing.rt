@@ -1,5 +1,6 @@
 //! The audit of a run.
 ghost use Rattle.std.specs.Prelude.{◌≡◌, IfErr, IfOk, IsOk, OnOk, Ok, Err};
+ghost use Rattle.clsm_store_audit.specs.Settled.{AreLawfulAlone};
 ghost use Rattle.clsm_run.specs.Audit.{IsVerdict};
 ghost use Rattle.clsm_run.specs.Run.{StopsWork, ending_of};
 
@@ -7,6 +8,7 @@ use crate::gathering::Gathered;
 use crate::ran::{Calling, Ran};
 use clsm_audit::{AuditError, audit};
 use clsm_model::{CallRecord, Config};
+use clsm_store_audit::are_lawful_alone;
 use clsm_text::Failure;
 use std::alloc::Global;
 use std::rt::Clock;
@@ -23,6 +25,7 @@ pub fn audited<R: Clock>(
     ensures seats { IfOk result (λ ran. ran.seats.items ≡ gathered.seats.items) }
     ensures records { IfOk result (λ ran. ran.records.items ≡ gathered.records.items) }
     ensures verdict { IfOk result (λ ran. IsVerdict config.now gathered.records.items ran.verdict) }
+    ensures lawful { IfOk result (λ ran. AreLawfulAlone ran.seats.items) }
     ensures stopped { IfErr result StopsWork }
 {
     let Gathered {
@@ -30,6 +33,7 @@ pub fn audited<R: Clock>(
         records,
         notes,
     } = gathered;
+    are_lawful_alone(&seats);
     let start = Instant::now(rt)?;
     let verdict = verdict_of(alloc, config, &records);
     let auditing = start.elapsed(rt)?;

@@ -2,6 +2,7 @@
 ghost use Rattle.std.specs.Prelude.{◌≡◌, All, IfErr, IfOk};
 ghost use Rattle.clsm_store_calls.specs.Seats.{AreNew, IsNewMerger};
 ghost use Rattle.clsm_store.specs.Phase.{merger_in};
+ghost use Rattle.clsm_store_audit.specs.Settled.{AreLawfulAlone};
 ghost use Rattle.clsm_run.specs.Audit.{IsAudited};
 ghost use Rattle.clsm_run.specs.Calls.{HasMadeAll};
 ghost use Rattle.clsm_run.specs.Run.{StopsWork};
@@ -52,6 +53,7 @@ where
     ensures audited { IfOk result (λ ran.
         IsAudited asked.now.config opened.store ran.seats.items ran.records.items ran.verdict) }
     ensures made { IfOk result (λ ran. All (HasMadeAll asked.now.load) ran.seats.items) }
+    ensures lawful { IfOk result (λ ran. AreLawfulAlone ran.seats.items) }
     ensures stopped { IfErr result StopsWork }
 {
     let Opened {

@@ -27,6 +27,8 @@ pub struct Shows {
     pub progress: bool,
     /// Each record, in place of the verdict.
     pub records: bool,
+    /// Behind each record the moments of its call.
+    pub clock: bool,
 }
 
 /// What a run is asked for: the sizes of its store, how much each of its workers does, whether a

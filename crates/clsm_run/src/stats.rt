@@ -3,6 +3,7 @@ use crate::kind::{KINDS, Kind};
 use crate::progress::per_second;
 use crate::ran::Ran;
 use crate::watch::Note;
+use clsm_audit::Moments;
 use clsm_model::Memory;
 use clsm_text::Failure;
 use std::alloc::Global;
@@ -33,8 +34,11 @@ pub fn write_stats<E: Write>(alloc: Global, faults: &mut E, ran: &Ran) -> Result
 fn times_of(alloc: Global, notes: &[Note], kind: Kind) -> Result<Vec<u64>, Memory> {
     let mut times = Vec::new(alloc);
     for note in notes {
-        if note.is_answered && note.kind == kind {
-            times.push(note.nanoseconds).map_err(|_| Memory)?;
+        if !note.is_answered || note.kind != kind {
+            continue;
+        }
+        if let Some(Moments { begin, end }) = note.moments {
+            times.push(end.saturating_sub(begin)).map_err(|_| Memory)?;
         }
     }
     times.sort_unstable();

@@ -3,6 +3,7 @@ ghost use Rattle.std.specs.Prelude.{◌≡◌, All, IfErr, IfOk, OnOk, length, m
 ghost use Rattle.clsm_model.specs.declared.config.Config.{Config};
 ghost use Rattle.clsm_model.specs.Config.{IsSound};
 ghost use Rattle.clsm_session.specs.Ended.{StopsSession};
+ghost use Rattle.clsm_store_audit.specs.Settled.{AreLawfulAlone};
 ghost use Rattle.clsm_run.specs.Audit.{IsAuditedWhole};
 ghost use Rattle.clsm_run.specs.Calls.{HasSettled};
 ghost use Rattle.clsm_run.specs.Run.{StopsCalls, StopsWork};
@@ -45,6 +46,7 @@ where
     ensures opened { OnOk result (IsSound asked.now.config) }
     ensures audited { IfOk result (λ ran. IsAuditedWhole asked.now.config ran.seats.items ran.records.items ran.verdict) }
     ensures made { IfOk result (λ ran. All (HasSettled asked.now.load) ran.seats.items) }
+    ensures lawful { IfOk result (λ ran. AreLawfulAlone ran.seats.items) }
     ensures stopped { IfErr result (StopsCalls asked.now.config) }
 {
     if let Err(error) = asked.config.check() {
@@ -71,6 +73,7 @@ fn audit_ended<R: Clock>(
     requires { IsEnded asked.now.config asked.now.load ended }
     ensures audited { IfOk result (λ ran. IsAuditedWhole asked.now.config ran.seats.items ran.records.items ran.verdict) }
     ensures made { IfOk result (λ ran. All (HasSettled asked.now.load) ran.seats.items) }
+    ensures lawful { IfOk result (λ ran. AreLawfulAlone ran.seats.items) }
     ensures stopped { IfErr result StopsWork }
 {
     let time = time?;

@@ -1,16 +1,17 @@
-//! The times of a worker's calls.
+//! The moments of a worker's calls.
 use crate::kind::Kind;
+use clsm_audit::Moments;
 use clsm_model::Memory;
 use std::alloc::Global;
 use std::rt::Clock;
-use std::time::Instant;
 
-/// How a call went: its kind, whether it was answered and not refused, and how long it took.
+/// How a call went: its kind, whether it was answered and not refused, and when it was made.
 #[derive(Clone, Copy, Debug)]
 pub struct Note {
     pub kind: Kind,
     pub is_answered: bool,
-    pub nanoseconds: u64,
+    /// When it began and ended, in nanoseconds of the monotonic clock; none where that failed.
+    pub moments: Option<Moments>,
 }
 
 /// The notes of a worker's calls, where it takes notes.
@@ -28,33 +29,43 @@ impl Watch {
         }
     }
 
-    /// When a call begins, if it is to be noted. Where the clock fails, it is not.
-    pub fn begin<R: Clock>(&self, rt: &R) -> Option<Instant> {
+    /// What the clock shows when a call begins, if notes are taken and it does not fail.
+    pub fn begin<R: Clock>(&self, rt: &R) -> Option<u64> {
         if !self.is_on {
             return None;
         }
-        Instant::now(rt).ok()
+        nanoseconds(rt)
     }
 
     /// Notes a call that began then and has ended. Refused if memory runs out.
     pub fn note<R: Clock>(
         &mut self,
         rt: &R,
-        begun: Option<Instant>,
+        begun: Option<u64>,
         kind: Kind,
         is_answered: bool,
     ) -> Result<(), Memory> {
-        let Some(begun) = begun else {
+        if !self.is_on {
             return Ok(());
-        };
-        let Ok(time) = begun.elapsed(rt) else {
-            return Ok(());
-        };
+        }
         let note = Note {
             kind,
             is_answered,
-            nanoseconds: u64::try_from(time.as_nanos()).unwrap_or(u64::MAX),
+            moments: moments(begun, nanoseconds(rt)),
         };
         self.notes.push(note).map_err(|_| Memory)
     }
+}
+
+/// What the monotonic clock shows, in nanoseconds, unless it fails.
+fn nanoseconds<R: Clock>(rt: &R) -> Option<u64> {
+    let time = rt.monotonic().ok()?;
+    u64::try_from(time.as_nanos()).ok()
+}
+
+/// The moments of a call, where the clock showed both.
+fn moments(begun: Option<u64>, ended: Option<u64>) -> Option<Moments> {
+    let begin = begun?;
+    let end = ended?.max(begin);
+    Some(Moments { begin, end })
 }

@@ -68,7 +68,7 @@ impl Worker {
         Worker {
             workload: Workload::new(load.seed, number, load.keys, load.batch),
             records: Vec::new(alloc),
-            watch: Watch::new(alloc, task.shows.stats),
+            watch: Watch::new(alloc, task.shows.stats || task.shows.clock),
         }
     }
 

@@ -5,7 +5,6 @@ use Rattle.std.proofs.Math.Seq.{take-suc}
 use Rattle.std.proofs.lemmas.List.{take-append-drop}
 use Rattle.clsm_audit.specs.Faults.{IsFirstFault}
 use Rattle.clsm_audit.specs.declared.fault.AuditError.TheVariants as audits
-use Rattle.clsm_audit.specs.declared.fault.FaultKind.{FaultKind}
 use Rattle.clsm_store.specs.declared.phase.Phase.{Phase}
 use Rattle.clsm_store.specs.declared.play.call.Call.{Call}
 use Rattle.std.specs.Io.KnownBytes.{Appends, Keeps, prepend_known}
@@ -13,17 +12,21 @@ use Rattle.std.proofs.KnownBytes.{Appends-nil, Appends-kept, Appends-trans}
 use Rattle.std.specs.Prelude.{◌⊎◌, ◌≢◌, ◌==◌, if◌then◌else◌, IfErr, IsErrAnd, OnOk, Result, ⊤}
 use Rattle.clsm_model.specs.Config.{IsSound}
 use Rattle.clsm_model.specs.declared.config.Config.{Config}
+use Rattle.clsm_store_audit.specs.Settled.{HaveWholeHistory}
+use Rattle.clsm_store_calls.specs.Seats.{StoreId}
+use Rattle.clsm_text.specs.Failure.{StopsReading, status_of}
 use Rattle.clsm_text.specs.Input.{TakesLine}
 use Rattle.clsm_text.specs.Line.{lines_of, words_of, IsComment}
 use Rattle.clsm_text.proofs.Inputs.{IsEmpty, LeadsTo, Tells, inside, leads_over, line_at, reads_next}
 use Rattle.clsm_script.specs.Answer.{IsFault}
 use Rattle.clsm_script.specs.Command.{IsCommand, Says}
 use Rattle.clsm_script.specs.Line.{Reads}
-use Rattle.clsm_script.specs.Lines.{EndsPlay, FaultsAtAudit, IsFaultyOn, IsNewStage, IsPlayedOn, Outputs, PlayLines, PlaysCommand, PlaysLine, Stage}
+use Rattle.clsm_script.specs.Lines.{EndsPlay, IsNewStage, IsPlayedOn, Outputs, PlayLines, PlaysCommand, PlaysLine, Stage}
 use Rattle.clsm_script.specs.Lines.{outputs_of, stage_of}
 use Rattle.clsm_script.specs.Play.{Plays, PrintsCall, Turns}
 use Rattle.clsm_script.specs.Printed.{answer_text, call_text, line_of}
-use Rattle.clsm_script.specs.Script.{StopsLine, StopsPlay, StopsScript}
+use Rattle.clsm_script.specs.Script.{IsStatus, StopsLine, StopsPlay, StopsScript}
+use Rattle.clsm_script.specs.Session.{IsFaulted, IsSession}
 use Rattle.clsm_text.specs.declared.failure.Failure.{Failure}
 use Rattle.clsm_text.specs.declared.failure.Failure.TheVariants.{BadLine, Device, Fault, Refused, Memory}
 use Rattle.clsm_script.specs.declared.answer.Answer.{Answer}
@@ -173,95 +176,50 @@ prints_over (Some bytes) (Some now) found count start session phase outputs lead
 -- ---- faults
 
 -- only an audit answers a fault
-pub record IsFaultyAudit (command : Command) (old new : Session) (answer : Answer) : Type 0 where
-  pub is : command ≡ commands.Audit
-  pub kind : FaultKind
-  pub index : ℕ
-  pub answered : answer ≡ answers.Audit (Err (audits.Fault kind index))
-  pub same : new ≡ old
-  pub fault : IsFirstFault old.config old.records kind index
-
-pub fault_is_audit : (command : Command) (old new : Session) (p q : Phase) (answer : Answer) → Plays command old new answer → Turns command p q answer
-    → IsFault answer → IsFaultyAudit command old new answer
-fault_is_audit commands.Audit old new p q (answers.Audit (Err (audits.Fault kind index))) plays turns fault =
-    record { is = refl; kind = kind; index = index; answered = refl; same = plays.0; fault = plays.1 }
-fault_is_audit (commands.Call call) old new p q (answers.Audit (Err (audits.Fault kind index))) plays turns fault = absurd plays
-fault_is_audit (commands.Seat number) old new p q (answers.Audit (Err (audits.Fault kind index))) plays turns fault = absurd plays
-fault_is_audit (commands.Meet number) old new p q (answers.Audit (Err (audits.Fault kind index))) plays turns fault = absurd plays
-fault_is_audit commands.Freeze old new p q (answers.Audit (Err (audits.Fault kind index))) plays turns fault = absurd turns
-fault_is_audit commands.Merge old new p q (answers.Audit (Err (audits.Fault kind index))) plays turns fault = absurd turns
-fault_is_audit commands.Reclaim old new p q (answers.Audit (Err (audits.Fault kind index))) plays turns fault = absurd turns
-fault_is_audit command old new p q (answers.Audit (Err audits.Memory)) plays turns fault = absurd fault
-fault_is_audit command old new p q (answers.Audit (Ok done)) plays turns fault = absurd fault
-fault_is_audit command old new p q (answers.Call answer) plays turns fault = absurd fault
-fault_is_audit command old new p q (answers.Seat taken) plays turns fault = absurd fault
-fault_is_audit command old new p q (answers.Meet time) plays turns fault = absurd fault
-fault_is_audit command old new p q (answers.Freeze answer) plays turns fault = absurd fault
-fault_is_audit command old new p q (answers.Merge answer) plays turns fault = absurd fault
-fault_is_audit command old new p q (answers.Reclaim answer) plays turns fault = absurd fault
-
-pub faults_at : (old now new : Option (List ℕ)) (line text : List ℕ) (command : Command) (found : Bool) (count : ℕ) (start : Stage) (before after : Session)
-    (phase : Phase) (answer : Answer) (held given end : Option (List ℕ)) → LeadsTo IsCommand old now count → Tells now found → found ≡ true
-    → IfSome now (λ bytes. TakesLine bytes line new) → text ≡ line → Reads text (Ok (Some command))
-    → PrintTo old count start before phase (outputs_of held given) → IsFaultyAudit command before after answer
-    → Appends given end (line_of (answer_text answer)) → IfSome old (λ bytes. FaultsAtAudit (lines_of bytes) start after (outputs_of held end))
-faults_at None now new line text command found count start before after phase answer held given end leads tells some takes is reads to fault told = tt
-faults_at (Some bytes) None new line text command found count start before after phase answer held given end leads tells some takes is reads to fault told =
-    absurd leads
-faults_at (Some bytes) (Some now) new line text command found count start before after phase answer held given end leads tells some takes is reads to fault
-    told =
-    let read = subst (λ (l : List ℕ). Reads l (Ok (Some command))) is reads in
-    let next = reads_next IsCommand bytes now new line found count leads tells some takes (reads_good line (Some command) read) in
-    let lines = lines_of bytes in
-    let says = subst (λ (k : Command). Says k (words_of line)) fault.is read.1 in
-    let line_is = subst (λ (a : Answer). Appends given end (line_of (answer_text a))) fault.answered told in
-    subst (λ (s : Session). FaultsAtAudit lines start s (outputs_of held end)) (sym fault.same)
-    (record {
-      count = count;
-      phase = phase;
-      printed = to.printed;
-      inside = inside IsCommand lines count line next.0 next.1;
-      played = to.plays;
-      says = subst (λ (l : List ℕ). Says commands.Audit (words_of l)) (sym (line_at IsCommand lines count line next.0 next.1 [])) says;
-      kind = fault.kind;
-      index = fault.index;
-      fault = fault.fault;
-      appended = Appends-trans held given end to.printed _ to.appended line_is;
-    })
+pub fault_found : (store : StoreId) (command : Command) (old new : Session) (p q : Phase) (answer : Answer) → Plays command old new answer
+    → Turns command p q answer → IsFault answer → IsSession store new → IsFaulted store new
+fault_found store commands.Audit old new p q (answers.Audit (Err (audits.Fault kind index))) plays turns fault is = record {
+  of_store = is;
+  kind = kind;
+  index = index;
+  fault = subst (λ (s : Session). IsFirstFault s.config s.records kind index) (sym plays.0) plays.1;
+}
+fault_found store (commands.Call call) old new p q (answers.Audit (Err (audits.Fault kind index))) plays turns fault is = absurd plays
+fault_found store (commands.Seat number) old new p q (answers.Audit (Err (audits.Fault kind index))) plays turns fault is = absurd plays
+fault_found store (commands.Meet number) old new p q (answers.Audit (Err (audits.Fault kind index))) plays turns fault is = absurd plays
+fault_found store commands.Freeze old new p q (answers.Audit (Err (audits.Fault kind index))) plays turns fault is = absurd turns
+fault_found store commands.Merge old new p q (answers.Audit (Err (audits.Fault kind index))) plays turns fault is = absurd turns
+fault_found store commands.Reclaim old new p q (answers.Audit (Err (audits.Fault kind index))) plays turns fault is = absurd turns
+fault_found store command old new p q (answers.Audit (Err audits.Memory)) plays turns fault is = absurd fault
+fault_found store command old new p q (answers.Audit (Ok done)) plays turns fault is = absurd fault
+fault_found store command old new p q (answers.Call answer) plays turns fault is = absurd fault
+fault_found store command old new p q (answers.Seat taken) plays turns fault is = absurd fault
+fault_found store command old new p q (answers.Meet time) plays turns fault is = absurd fault
+fault_found store command old new p q (answers.Freeze answer) plays turns fault is = absurd fault
+fault_found store command old new p q (answers.Merge answer) plays turns fault is = absurd fault
+fault_found store command old new p q (answers.Reclaim answer) plays turns fault is = absurd fault
 
 -- what stops an answer's line stops the play
-pub stops_after : (input : Option (List ℕ)) (start : Stage) (session : Session) (outputs : Outputs) (failure : Failure) → StopsLine failure
-    → (failure ≡ Fault → IfSome input (λ bytes. FaultsAtAudit (lines_of bytes) start session outputs)) → StopsPlay input start session outputs failure
-stops_after input start session outputs (BadLine number) stops fault = absurd stops
-stops_after input start session outputs Device stops fault = tt
-stops_after input start session outputs Fault stops fault = fault refl
-stops_after input start session outputs (Refused error) stops fault = absurd stops
-stops_after input start session outputs Memory stops fault = tt
+pub stops_after : (store : StoreId) (input : Option (List ℕ)) (session : Session) (failure : Failure) → StopsLine failure
+    → (failure ≡ Fault → IsFaulted store session) → StopsPlay store input session failure
+stops_after store input session (BadLine number) stops fault = absurd stops
+stops_after store input session Device stops fault = tt
+stops_after store input session Fault stops fault = fault refl
+stops_after store input session (Refused error) stops fault = absurd stops
+stops_after store input session Memory stops fault = tt
 
 -- what `?` makes of a failure
-pub stops_residual : {T : Type 0} (x : Result T Failure) (input : Option (List ℕ)) (start : Stage) (session : Session) (outputs : Outputs)
-    (failure : Failure) → StopsLine failure → (failure ≡ Fault → IfSome input (λ bytes. FaultsAtAudit (lines_of bytes) start session outputs))
-    → IsErrAnd x (λ y. y ≡ failure) → IfErr x (StopsPlay input start session outputs)
-stops_residual (Ok x) input start session outputs failure stops fault is = tt
-stops_residual (Err y) input start session outputs failure stops fault is =
-    subst (StopsPlay input start session outputs) (sym is) (stops_after input start session outputs failure stops fault)
-
-pub faults_said : (old now new : Option (List ℕ)) (line text : List ℕ) (said : Option Command) (command : Command) (found : Bool) (count : ℕ)
-    (start : Stage) (before after : Session) (phase : Phase) (answer : Answer) (held given given_now : Option (List ℕ)) → LeadsTo IsCommand old now count
-    → Tells now found → found ≡ true → IfSome now (λ bytes. TakesLine bytes line new) → text ≡ line → Reads text (Ok said)
-    → PrintTo old count start before phase (outputs_of held given) → IsFaultyAudit command before after answer
-    → Appends given given_now (line_of (answer_text answer)) → said ≡ Some command
-    → IfSome old (λ bytes. FaultsAtAudit (lines_of bytes) start after (outputs_of held given_now))
-faults_said old now new line text said command found count start before after phase answer held given given_now leads tells some takes is reads to fault told
-    same =
-    faults_at old now new line text command found count start before after phase answer held given given_now leads tells some takes is
-    (subst (λ (o : Option Command). Reads text (Ok o)) same reads) to fault told
+pub stops_residual : {T : Type 0} (x : Result T Failure) (store : StoreId) (input : Option (List ℕ)) (session : Session) (failure : Failure)
+    → StopsLine failure → (failure ≡ Fault → IsFaulted store session) → IsErrAnd x (λ y. y ≡ failure) → IfErr x (StopsPlay store input session)
+stops_residual (Ok x) store input session failure stops fault is = tt
+stops_residual (Err y) store input session failure stops fault is =
+    subst (StopsPlay store input session) (sym is) (stops_after store input session failure stops fault)
 
 -- ---- the end of a script
 
--- the answers that were held back are given out, or a device failed
+-- the answers that were held back are given out
 module _ (config : Config) (start : Stage) (session : Session) (held given new : Option (List ℕ)) (is_new : IsNewStage config start)
-    (kept : Keeps given new) where
+    (kept : Keeps given new) (lawful : HaveWholeHistory session.seats.items) where
   ends_kept : (bytes : List ℕ) → EndsPlay start session (outputs_of held given) bytes → EndsPlay start session (outputs_of held new) bytes
   ends_kept bytes ends = record {
     phase = ends.phase;
@@ -270,79 +228,61 @@ module _ (config : Config) (start : Stage) (session : Session) (held given new :
     appended = Appends-kept held given new ends.printed ends.appended kept;
   }
 
-  faults_kept : (lines : List (List ℕ)) → FaultsAtAudit lines start session (outputs_of held given) → FaultsAtAudit lines start session (outputs_of held new)
-  faults_kept lines faults = record {
-    count = faults.count;
-    phase = faults.phase;
-    printed = faults.printed;
-    inside = faults.inside;
-    played = faults.played;
-    says = faults.says;
-    kind = faults.kind;
-    index = faults.index;
-    fault = faults.fault;
-    appended = Appends-kept held given new _ faults.appended kept;
-  }
-
   ends_on : (input : Option (List ℕ)) → IfSome input (EndsPlay start session (outputs_of held given)) → IfSome input (IsPlayedOn config (outputs_of held new))
   ends_on None ends = tt
-  ends_on (Some bytes) ends = record { old = start; session = session; is_new = is_new; ends = ends_kept bytes ends }
-
-  faults_on : (input : Option (List ℕ)) → IfSome input (λ bytes. FaultsAtAudit (lines_of bytes) start session (outputs_of held given))
-      → IfSome input (IsFaultyOn config (outputs_of held new))
-  faults_on None faults = tt
-  faults_on (Some bytes) faults = record { old = start; session = session; is_new = is_new; faults = faults_kept (lines_of bytes) faults }
-
-  played_on : (input : Option (List ℕ)) (played : Result ⊤ Failure) → OnOk played (IfSome input (EndsPlay start session (outputs_of held given)))
-      → OnOk played (IfSome input (IsPlayedOn config (outputs_of held new)))
-  played_on input (Ok done) ends = ends_on input ends
-  played_on input (Err failure) ends = tt
-
-  stops_on : (input : Option (List ℕ)) (failure : Failure) → IsSound config → StopsPlay input start session (outputs_of held given) failure
-      → StopsScript config input (outputs_of held new) failure
-  stops_on input (BadLine number) sound stops = (sound, stops)
-  stops_on input Device sound stops = (sound, tt)
-  stops_on input Fault sound stops = (sound, faults_on input stops)
-  stops_on input (Refused error) sound stops = absurd stops
-  stops_on input Memory sound stops = (sound, tt)
-
-  stopped_on : (input : Option (List ℕ)) (played : Result ⊤ Failure) → IsSound config
-      → IfErr played (StopsPlay input start session (outputs_of held given)) → IfErr played (StopsScript config input (outputs_of held new))
-  stopped_on input (Ok done) sound stops = tt
-  stopped_on input (Err failure) sound stops = stops_on input failure sound stops
+  ends_on (Some bytes) ends = record { old = start; session = session; is_new = is_new; ends = ends_kept bytes ends; lawful = lawful }
 
 abbrev IsFailedBy : Result ⊤ Failure → Failure → Type 0
 IsFailedBy ended failure = ended ≡ Err failure
 
 -- what the play came to, or a device failed at the end
-module _ (config : Config) (start : Stage) (session : Session) (held given new bytes input : Option (List ℕ)) (played : Result ⊤ Failure)
-    (is_new : IsNewStage config start) (same : bytes ≡ input) where
-  pub ended_played : (ended : Result ⊤ Failure) → (ended ≡ played) ⊎ (ended ≡ Err Device) → (ended ≢ Err Device → Keeps given new)
-      → OnOk played (IfSome bytes (EndsPlay start session (outputs_of held given))) → OnOk ended (IfSome input (IsPlayedOn config (outputs_of held new)))
-  ended_played (Err failure) which kept ends = tt
-  ended_played (Ok done) (inl is) kept ends =
-      let ends_here = subst (λ (r : Result ⊤ Failure). OnOk r (IfSome bytes (EndsPlay start session (outputs_of held given)))) (sym is) ends in
-      ends_on config start session held given new is_new (kept (λ e. absurd (cc))) input
-      (subst (λ (b : Option (List ℕ)). IfSome b (EndsPlay start session (outputs_of held given))) same ends_here)
-  ended_played (Ok done) (inr is) kept ends = absurd (cc)
+module _ (played : Result ⊤ Failure) where
+  pub ended_ok : (A : Type 0) (ended : Result ⊤ Failure) → (ended ≡ played) ⊎ (ended ≡ Err Device) → OnOk played A → OnOk ended A
+  ended_ok A (Err failure) which holds = tt
+  ended_ok A (Ok done) (inl is) holds = subst (λ (r : Result ⊤ Failure). OnOk r A) (sym is) holds
+  ended_ok A (Ok done) (inr is) holds = absurd (cc)
 
-  stops_other : (failure : Failure) → ¬ IsFailedBy (Err failure) Device → (Err failure ≡ played) ⊎ IsFailedBy (Err failure) Device
-      → (¬ IsFailedBy (Err failure) Device → Keeps given new) → IsSound config → IfErr played (StopsPlay bytes start session (outputs_of held given))
-      → StopsScript config input (outputs_of held new) failure
-  stops_other failure other (inl is) kept sound stops =
-      let stops_here = subst (λ (r : Result ⊤ Failure). IfErr r (StopsPlay bytes start session (outputs_of held given))) (sym is) stops in
-      stops_on config start session held given new is_new (kept other) input failure sound
-      (subst (λ (b : Option (List ℕ)). StopsPlay b start session (outputs_of held given) failure) same stops_here)
-  stops_other failure other (inr is) kept sound stops = absurd (other is)
+  stops_bytes : (store : StoreId) (session : Session) (bytes : Option (List ℕ)) (failure : Failure) → ¬ IsFailedBy (Err failure) Device
+      → (Err failure ≡ played) ⊎ IsFailedBy (Err failure) Device → IfErr played (StopsPlay store bytes session) → StopsPlay store bytes session failure
+  stops_bytes store session bytes failure other (inl is) stops =
+      subst (λ (r : Result ⊤ Failure). IfErr r (StopsPlay store bytes session)) (sym is) stops
+  stops_bytes store session bytes failure other (inr is) stops = absurd (other is)
 
-  pub ended_stops : (ended : Result ⊤ Failure) → (ended ≡ played) ⊎ (ended ≡ Err Device) → (ended ≢ Err Device → Keeps given new) → IsSound config
-      → IfErr played (StopsPlay bytes start session (outputs_of held given)) → IfErr ended (StopsScript config input (outputs_of held new))
-  ended_stops (Ok done) which kept sound stops = tt
-  ended_stops (Err Device) which kept sound stops = (sound, tt)
-  ended_stops (Err (BadLine number)) which kept sound stops = stops_other (BadLine number) (λ e. absurd (cc)) which kept sound stops
-  ended_stops (Err Fault) which kept sound stops = stops_other Fault (λ e. absurd (cc)) which kept sound stops
-  ended_stops (Err (Refused error)) which kept sound stops = stops_other (Refused error) (λ e. absurd (cc)) which kept sound stops
-  ended_stops (Err Memory) which kept sound stops = stops_other Memory (λ e. absurd (cc)) which kept sound stops
+  pub ended_fault : (store : StoreId) (session : Session) (bytes : Option (List ℕ)) (ended : Result ⊤ Failure)
+      → (ended ≡ played) ⊎ (ended ≡ Err Device) → IfErr played (StopsPlay store bytes session) → ended ≡ Err Fault → IsFaulted store session
+  ended_fault store session bytes ended which stops is = stops_bytes store session bytes Fault (λ e. absurd (cc))
+      (subst (λ (r : Result ⊤ Failure). (r ≡ played) ⊎ (r ≡ Err Device)) is which) stops
+
+  module _ (store : StoreId) (config : Config) (session : Session) (bytes input : Option (List ℕ)) (same : bytes ≡ input) (sound : IsSound config)
+      (stops : IfErr played (StopsPlay store bytes session)) where
+    pub ended_stops : (ended : Result ⊤ Failure) → (ended ≡ played) ⊎ (ended ≡ Err Device) → ended ≢ Err Fault → IfErr ended (StopsScript config input)
+    ended_stops (Ok done) which faultless = tt
+    ended_stops (Err Device) which faultless = (sound, tt)
+    ended_stops (Err Memory) which faultless = (sound, tt)
+    ended_stops (Err Fault) which faultless = absurd (faultless refl)
+    ended_stops (Err (Refused error)) which faultless = absurd (stops_bytes store session bytes (Refused error) (λ e. absurd (cc)) which stops)
+    ended_stops (Err (BadLine number)) which faultless = (
+      sound,
+      subst (λ (b : Option (List ℕ)). StopsReading IsCommand b (BadLine number)) same
+          (stops_bytes store session bytes (BadLine number) (λ e. absurd (cc)) which stops),
+    )
+
+pub ended_played : (config : Config) (start : Stage) (session : Session) (held given new bytes input : Option (List ℕ)) (ended : Result ⊤ Failure)
+    → IsNewStage config start → bytes ≡ input → (ended ≢ Err Device → Keeps given new) → OnOk ended (HaveWholeHistory session.seats.items)
+    → OnOk ended (IfSome bytes (EndsPlay start session (outputs_of held given))) → OnOk ended (IfSome input (IsPlayedOn config (outputs_of held new)))
+ended_played config start session held given new bytes input (Err failure) is_new same kept lawful ends = tt
+ended_played config start session held given new bytes input (Ok done) is_new same kept lawful ends =
+    ends_on config start session held given new is_new (kept (λ e. absurd (cc))) lawful input
+    (subst (λ (b : Option (List ℕ)). IfSome b (EndsPlay start session (outputs_of held given))) same ends)
+
+-- the status of what stops a script is not that of a fault
+pub status_known : (config : Config) (input : Option (List ℕ)) (failure : Failure) (status : ℕ) → status ≡ status_of failure
+    → StopsScript config input failure → IsStatus status
+status_known config input (BadLine number) status is stops = (1, omega arith, sym is)
+status_known config input Device status is stops = (1, omega arith, sym is)
+status_known config input Fault status is stops = absurd stops.1
+status_known config input (Refused error) status is stops = (2, omega arith, sym is)
+status_known config input Memory status is stops = (2, omega arith, sym is)
 
 -- of a new reader the bytes of its input remain
 kept_input : (input : Option (List ℕ)) → prepend_known [] input ≡ input

@@ -1,6 +1,7 @@
 -- What the lines of a script say, as lines of a text.
 use Rattle.std.proofs.Common.{◌≡◌, ◌+◌, ◌-◌, ◌≤◌, ℕ, List, Bool, true, Option, Some}
 use Rattle.std.proofs.Common.{None, Ok, Err, IfSome, inl, inr, subst}
+use Rattle.clsm_store_calls.specs.Seats.{StoreId}
 use Rattle.clsm_text.proofs.Inputs.{LeadsTo, Tells, leads_on, stops_at_line}
 use Rattle.clsm_text.specs.Failure.{failure_at}
 use Rattle.clsm_text.specs.Input.{TakesLine}
@@ -9,7 +10,6 @@ use Rattle.clsm_text.specs.declared.line.LineError.{LineError}
 use Rattle.clsm_text.specs.declared.line.LineError.TheVariants.{Bad, Memory}
 use Rattle.clsm_script.specs.Command.{IsCommand}
 use Rattle.clsm_script.specs.Line.{Reads}
-use Rattle.clsm_script.specs.Lines.{Outputs, Stage}
 use Rattle.clsm_script.specs.Script.{StopsPlay}
 use Rattle.clsm_script.specs.declared.session.Session.{Session}
 use Rattle.clsm_script.specs.declared.command.Command.{Command}
@@ -31,10 +31,10 @@ leads_past old now new line text said found count leads tells some takes is read
 
 -- a line that is not read stops the play
 pub stops_at_error : (old now new : Option (List ℕ)) (line : List ℕ) (found : Bool) (number : ℕ)
-    (error : LineError) (start : Stage) (session : Session) (outputs : Outputs) → LeadsTo IsCommand old now (number - 1) →
+    (error : LineError) (store : StoreId) (session : Session) → LeadsTo IsCommand old now (number - 1) →
     Tells now found → found ≡ true → IfSome now (λ bytes. TakesLine bytes line new) → 1 ≤ number →
-    Reads line (Err error) → StopsPlay old start session outputs (failure_at number error)
-stops_at_error old now new line found number Bad start session outputs leads tells some takes counted bad =
+    Reads line (Err error) → StopsPlay store old session (failure_at number error)
+stops_at_error old now new line found number Bad store session leads tells some takes counted bad =
     stops_at_line IsCommand old now new line found number Bad leads tells some takes counted
     (λ _. bad)
-stops_at_error old now new line found number Memory start session outputs leads tells some takes counted wanted = tt
+stops_at_error old now new line found number Memory store session leads tells some takes counted wanted = tt

@@ -1,17 +1,25 @@
 -- What calls and meetings make of the seats of a session.
-use Rattle.std.proofs.Common.{◌≡◌, ◌≢◌, ℕ, ◌<◌, List, [], ◌∷◌, ◌++◌, length, set, Option, None}
-use Rattle.std.proofs.Common.{Some, refl, sym, ap, ◌∙◌, subst, arith, All, append-nil}
+use Rattle.std.proofs.Common.{◌≡◌, ◌≢◌, ℕ, ◌<◌, ◌≤◌, List, [], ◌∷◌, ◌++◌, length, set, Option, None}
+use Rattle.std.proofs.Common.{Some, refl, sym, ap, ◌∙◌, subst, arith, All, append-nil, suc, Bool, cond}
 use Rattle.std.proofs.Common.{⊎_elim, get_or, IfSome}
 use Rattle.std.proofs.lemmas.List.{get_or_default, get_or-set_same, get_or-set_other, length-set}
 use Rattle.std.proofs.lemmas.List.Elements.{All-append, All-cons, All-nil, All-from_get_or}
-use Rattle.std.proofs.lemmas.Bool.{cases_eq}
+use Rattle.std.proofs.lemmas.Bool.{cases_eq, ne_eqb}
 use Rattle.std.specs.Option.{option_to_list}
 use Rattle.clsm_model.specs.declared.record.CallRecord.{CallRecord}
+use Rattle.clsm_model.specs.declared.config.Config.{Config}
+use Rattle.clsm_audit.specs.Faults.{IsFirstFault}
 use Rattle.clsm_audit.specs.Lawful.{calls_of}
+use Rattle.clsm_audit.specs.Whole.{HasHistory}
+use Rattle.clsm_audit.specs.declared.fault.FaultKind.{FaultKind}
+use Rattle.clsm_audit.specs.declared.fault.FaultKind.TheVariants.{Unknown, TwoAtOneTime, TimeRanBack, WrongReply}
 use Rattle.clsm_audit.proofs.Calls.{calls_of-own, calls_of-other}
+use Rattle.clsm_audit.proofs.WholeHistory.{is_lawful}
 use Rattle.clsm_store_calls.specs.Seats.{AreNew, SeatState, StoreId, newcomer}
-use Rattle.clsm_store.specs.Headline.{IsAt}
+use Rattle.clsm_store.specs.Headline.{HasAllSeats, IsAt}
 use Rattle.clsm_store.specs.Meetings.{AreOf}
+use Rattle.clsm_store_audit.specs.Settled.{AreRecordsOf}
+use Rattle.clsm_store_audit.proofs.Places.{at_get}
 use Rattle.clsm_script.specs.Play.{PairMeets}
 use Rattle.clsm_script.specs.Session.{AreRecorded, IsRecorded}
 
@@ -174,3 +182,44 @@ pub are_of : (store : StoreId) (records : List CallRecord) (seats : List SeatSta
 are_of store records seats all =
     All-from_get_or (λ s. s.store ≡ store) seats (newcomer store 0)
     (λ i inside. (all i _ (inside, get_or_default seats i _ (newcomer store 0) inside)).store)
+
+-- ---- all seats of the store
+
+-- they are among these
+pub all_seats : (store : StoreId) (records : List CallRecord) (seats : List SeatState) →
+    AreRecorded store records seats → length seats ≡ store.layout.seats → HasAllSeats store seats
+all_seats store records seats all count n lt =
+    let at = at_get seats n (newcomer store n) (omega arith) in
+    (n, get_or seats n (newcomer store n), at, (all n (get_or seats n (newcomer store n)) at).number)
+
+-- records of seats below a number are not those of the number
+none_from : (records : List CallRecord) (count n : ℕ) → All (λ r. r.seat < count) records →
+    count ≤ n → calls_of records n ≡ []
+none_from [] count n known beyond = refl
+none_from (r ∷ rs) count n known beyond =
+    let below : r.seat < count = known 0 r (omega arith) in
+    ap (λ (b : Bool). cond b (r ∷ calls_of rs n) (calls_of rs n))
+    (ne_eqb r.seat n (λ e. omega arith))
+    ∙ none_from rs count n (λ i d lt. known (suc i) d (omega arith)) beyond
+
+-- and their records are those of the store
+pub records_of : (store : StoreId) (records : List CallRecord) (seats : List SeatState) →
+    AreRecorded store records seats → All (λ r. r.seat < length seats) records →
+    length seats ≡ store.layout.seats → AreRecordsOf store seats records
+records_of store records seats all known count = record {
+  theirs = λ i s at.
+      let is = all i s at in
+      subst (λ (n : ℕ). calls_of records n ≡ s.calls) (sym is.number) is.calls;
+  others = λ n beyond. none_from records (length seats) n known (omega arith);
+}
+
+-- records that have a history have no fault
+pub no_fault : (config : Config) (records : List CallRecord) (kind : FaultKind) (index : ℕ) →
+    HasHistory config records → ¬ IsFirstFault config records kind index
+no_fault config records Unknown index has first = (is_lawful config records has).known index first.here
+no_fault config records TwoAtOneTime index has first =
+    (is_lawful config records has).alone index first.1.here
+no_fault config records TimeRanBack index has first =
+    (is_lawful config records has).rises index first.2.here
+no_fault config records WrongReply index has first =
+    (is_lawful config records has).right index first.3.here

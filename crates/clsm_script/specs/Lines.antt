@@ -1,23 +1,18 @@
 -- The lines of a script, played one after another on a new store, and what they print.
-use Rattle.std.specs.Prelude.{◌≡◌, ◌<◌, ◌⊎◌, ℕ, List, [], ◌∷◌, ◌++◌, length, take, slice_index_or}
-use Rattle.std.specs.Prelude.{Err, Option}
+use Rattle.std.specs.Prelude.{◌≡◌, ◌⊎◌, ℕ, List, [], ◌∷◌, ◌++◌, Option}
 use Rattle.std.specs.Io.KnownBytes.{Appends}
-use Rattle.clsm_audit.specs.declared.fault.AuditError.TheVariants.{Fault}
 use Rattle.clsm_model.specs.declared.config.Config.{Config}
-use Rattle.clsm_audit.specs.Faults.{IsFirstFault}
-use Rattle.clsm_audit.specs.declared.fault.FaultKind.{FaultKind}
-use Rattle.clsm_store_calls.specs.Seats.{AreNew, CleanState, IsNewMerger, StoreId}
+use Rattle.clsm_store_calls.specs.Seats.{AreNew, CleanState, HasSizes, IsNewMerger, StoreId}
 use Rattle.clsm_store.specs.declared.phase.Phase.{Phase}
 use Rattle.clsm_store.specs.declared.phase.Phase.TheVariants.{Clean}
+use Rattle.clsm_store_audit.specs.Settled.{HaveWholeHistory}
 use Rattle.clsm_text.specs.Line.{words_of, lines_of, IsComment}
 use Rattle.clsm_script.specs.Answer.{IsFault}
 use Rattle.clsm_script.specs.Command.{Says}
 use Rattle.clsm_script.specs.Play.{Plays, Turns}
 use Rattle.clsm_script.specs.Printed.{answer_text, line_of}
 use Rattle.clsm_script.specs.declared.answer.Answer.{Answer}
-use Rattle.clsm_script.specs.declared.answer.Answer.TheVariants.{Audit as Audited}
 use Rattle.clsm_script.specs.declared.command.Command.{Command}
-use Rattle.clsm_script.specs.declared.command.Command.TheVariants.{Audit}
 use Rattle.clsm_script.specs.declared.session.Session.{Session}
 
 -- where a script stands: its session, the merger's phase, and what it has printed
@@ -63,20 +58,6 @@ pub record EndsPlay (old : Stage) (session : Session) (outputs : Outputs) (bytes
   pub played : PlayLines (lines_of bytes) old (stage_of session phase printed)
   pub appended : Appends outputs.before outputs.after printed
 
--- the lines before one that says `audit` are played, and this audit finds a fault in the records,
--- which is printed behind their answers
-pub record FaultsAtAudit (lines : List (List ℕ)) (old : Stage) (session : Session) (outputs : Outputs) : Type 0 where
-  pub count : ℕ
-  pub phase : Phase
-  pub printed : List ℕ
-  pub inside : count < length lines
-  pub played : PlayLines (take count lines) old (stage_of session phase printed)
-  pub says : Says Audit (words_of (slice_index_or lines count []))
-  pub kind : FaultKind
-  pub index : ℕ
-  pub fault : IsFirstFault session.config session.records kind index
-  pub appended : Appends outputs.before outputs.after (printed ++ line_of (answer_text (Audited (Err (Fault kind index)))))
-
 -- a session of the seats of a new store of these sizes: seat 0 is in use, and there is no record
 pub record IsNewSession (config : Config) (store : StoreId) (session : Session) : Type 0 where
   pub config_is : session.config ≡ config
@@ -84,25 +65,21 @@ pub record IsNewSession (config : Config) (store : StoreId) (session : Session) 
   pub used_is : session.used ≡ 0
   pub no_records : session.records ≡ []
 
--- and its merger has merged nothing, and nothing is printed
+-- and the store has these sizes, its merger has merged nothing, and nothing is printed
 pub record IsNewStage (config : Config) (stage : Stage) : Type 0 where
   pub store : StoreId
   pub merger : CleanState
+  pub sizes : HasSizes store config
   pub session : IsNewSession config store stage.session
   pub merger_is : IsNewMerger store merger
   pub phase_is : stage.phase ≡ Clean merger
   pub printed_is : stage.printed ≡ []
 
--- all lines of the bytes are played on a new store of these sizes, and their answers are printed
+-- all lines of the bytes are played on a new store of these sizes, and their answers are printed; at
+-- the end each seat is lawful, and what they all did is one whole history
 pub record IsPlayedOn (config : Config) (outputs : Outputs) (bytes : List ℕ) : Type 0 where
   pub old : Stage
   pub session : Session
   pub is_new : IsNewStage config old
   pub ends : EndsPlay old session outputs bytes
-
--- an audit among the lines, played on a new store of these sizes, finds a fault
-pub record IsFaultyOn (config : Config) (outputs : Outputs) (bytes : List ℕ) : Type 0 where
-  pub old : Stage
-  pub session : Session
-  pub is_new : IsNewStage config old
-  pub faults : FaultsAtAudit (lines_of bytes) old session outputs
+  pub lawful : HaveWholeHistory session.seats.items

@@ -1,12 +1,13 @@
 ghost use Rattle.std.specs.Prelude.{◌≡◌, ◌≢◌, ◌⊎◌, [], Contains, Err, IfSome, OnOk, IfErr};
 ghost use Rattle.std.specs.Io.Buffered.{reader_buffer, reader_remaining, writer_buffer, writer_contents, writer_inner};
 ghost use Rattle.std.specs.Io.KnownBytes.{Keeps};
-ghost use Rattle.clsm_script.specs.Lines.{EndsPlay, IsFaultyOn, IsPlayedOn, outputs_of, stage_of};
+ghost use Rattle.clsm_store_audit.specs.Settled.{HaveWholeHistory};
+ghost use Rattle.clsm_script.specs.Lines.{EndsPlay, IsPlayedOn, outputs_of, stage_of};
 ghost use Rattle.clsm_script.specs.Play.{PrintsCall};
 ghost use Rattle.clsm_script.specs.Script.{IsScript, IsStatus, StopsPlay, StopsScript};
-ghost use Rattle.clsm_script.specs.Session.{IsSession};
+ghost use Rattle.clsm_script.specs.Session.{IsFaulted, IsSession};
 ghost use Rattle.clsm_text.specs.Failure.{IsOutside};
-ghost use Rattle.clsm_text.specs.declared.failure.Failure.TheVariants.{Device};
+ghost use Rattle.clsm_text.specs.declared.failure.Failure.TheVariants.{Device, Fault};
 ghost use Rattle.clsm_model.specs.Config.{IsSound};
 
 use crate::command::Command;
@@ -41,12 +42,14 @@ struct Host<'a, T, P: Pace> {
 /// answer to the output as a line of its own, as `Answer` shows it, and nothing else. Answers are
 /// held back only as long as the next line is at hand: before more input is waited for, all are
 /// written and flushed. Where a script is not played to its end, a line on the faults says why:
-/// `bad line L` or `device`, with status 1, or `refused N SIZE` or `no memory`, with status 3. An
-/// audit that finds a fault ends the script with status 2, and lines on the faults say why it is
-/// one: what an explanation of `clsm_audit` says. The status of a script that is played to its end
-/// is 0. A write to the faults that fails changes no status.
+/// `bad line L` or `device`, with status 1, or `refused N SIZE` or `no memory`, with status 3. The
+/// status of a script that is played to its end is 0. A write to the faults that fails changes no
+/// status.
 ///
-/// With status 0 or 2 all answers are written. Otherwise some may be held back still: take the
+/// No audit finds a fault. One that did would end the script with status 2, and lines on the faults
+/// would say why: what an explanation of `clsm_audit` says.
+///
+/// With status 0 all answers are written. Otherwise some may be held back still: take the
 /// output apart then, since a writer that is dropped writes what it holds back once more.
 pub fn script<T, R, W, E>(
     setting: &Setting<'_, T>,
@@ -64,8 +67,6 @@ where
     ensures read { result ≡ 0 → IfSome (R.remaining input) IsScript }
     ensures played { result ≡ 0 → IfSome (R.remaining input)
         (IsPlayedOn setting.now.config (outputs_of (writer_contents W.contents output.old) (W.contents (writer_inner output.new)))) }
-    ensures fault { result ≡ 2 → IfSome (R.remaining input)
-        (IsFaultyOn setting.now.config (outputs_of (writer_contents W.contents output.old) (W.contents (writer_inner output.new)))) }
 {
     match play_script(setting, input, output, &mut faults) {
         Ok(()) => 0,
@@ -91,8 +92,7 @@ where
     ensures read { OnOk result (IfSome (R.remaining input) IsScript) }
     ensures played { OnOk result (IfSome (R.remaining input)
         (IsPlayedOn setting.now.config (outputs_of (writer_contents W.contents output.old) (W.contents (writer_inner output.new))))) }
-    ensures stopped { IfErr result (StopsScript setting.now.config (R.remaining input)
-        (outputs_of (writer_contents W.contents output.old) (W.contents (writer_inner output.new)))) }
+    ensures stopped { IfErr result (StopsScript setting.now.config (R.remaining input)) }
 {
     let Setting { alloc, config, .. } = *setting;
     let Opened {
@@ -114,7 +114,23 @@ where
     if let Err(Failure::Fault) = ended {
         session.write_reason(alloc, faults);
     }
+    settle_seats(&store, session, &ended);
     ended
+}
+
+/// Settles the seats of a script that ended so, unless the world or a bad line stopped it. No audit
+/// found a fault.
+fn settle_seats<P: Pace>(store: &Store<P>, session: Session, ended: &Result<(), Failure>)
+    requires ends { OnOk ended.now (IsSession store.now session) }
+    requires fault { ended.now ≡ Err Fault → IsFaulted store.now session }
+    ensures whole { OnOk ended.now (HaveWholeHistory session.seats.items) }
+    ensures faultless { ended.now ≢ Err Fault }
+{
+    match ended {
+        Ok(()) => session.settle(store),
+        Err(Failure::Fault) => session.settle(store),
+        Err(_) => {}
+    }
 }
 
 /// Ends a play: flushes the answers that are held back, unless a device failed before. What is
@@ -146,9 +162,8 @@ fn play_lines<T: Wait, R: Read, W: Write + Drop, P: Pace + Drop>(
     ensures played { OnOk result (IfSome (reader_remaining R.remaining reader.old)
         (EndsPlay (stage_of session.old merger.entry.phase []) session.new
         (outputs_of (writer_contents W.contents answers.old) (writer_contents W.contents answers.new)))) }
-    ensures stopped { IfErr result (StopsPlay (reader_remaining R.remaining reader.old)
-        (stage_of session.old merger.entry.phase []) session.new
-        (outputs_of (writer_contents W.contents answers.old) (writer_contents W.contents answers.new))) }
+    ensures session { OnOk result (IsSession merger.entry.store.now session.new) }
+    ensures stopped { IfErr result (StopsPlay merger.entry.store.now (reader_remaining R.remaining reader.old) session.new) }
 {
     let Setting { rt, alloc, .. } = *setting;
     let Merger { store, mut phase } = merger;

@@ -1,7 +1,9 @@
 //! The seats of a script, and what it keeps of their calls.
 ghost use Rattle.std.specs.Prelude.{◌≡◌, ◌≢◌, ◌<◌, ◌≤◌, length, IfOk, OnOk};
-ghost use Rattle.clsm_store_calls.specs.Seats.{AreNew, StoreId};
+ghost use Rattle.clsm_audit.specs.Whole.{HasHistory};
+ghost use Rattle.clsm_store_calls.specs.Seats.{AreNew, HasSizes, StoreId};
 ghost use Rattle.clsm_store.specs.Meetings.{AreOf};
+ghost use Rattle.clsm_store_audit.specs.Settled.{HaveWholeHistory};
 ghost use Rattle.clsm_script.specs.Lines.{IsNewSession};
 ghost use Rattle.clsm_script.specs.Session.{IsSession};
 ghost use Rattle.clsm_script.specs.Play.{IsAudited, Calls, MeetsSeat, PairMeets, TakesSeat};
@@ -10,6 +12,7 @@ use crate::records::Records;
 use clsm_audit::{AuditError, audit, explain};
 use clsm_model::{Config, Time};
 use clsm_store::{Answer, Call, Pace, Seat, Store};
+use clsm_store_audit::settle_lawful;
 use clsm_text::{Listed, write_reason};
 use std::alloc::{AllocError, Global};
 use std::io::Write;
@@ -46,8 +49,8 @@ fn meet_pair<P: Pace>(store: &Store<P>, seats: &mut [Seat], one: usize, other: u
 impl Session {
     /// A session of the seats of a new store; seat 0 is in use.
     pub fn new(alloc: Global, config: Config, seats: Vec<Seat>) -> Session
-        ensures session { (store : StoreId) → AreNew store config.seats seats.items → 1 ≤ config.seats →
-            IsSession store result }
+        ensures session { (store : StoreId) → HasSizes store config → AreNew store config.seats seats.items →
+            1 ≤ config.seats → IsSession store result }
         ensures fresh { (store : StoreId) → AreNew store config.seats seats.items → IsNewSession config store result }
     {
         Session {
@@ -114,6 +117,17 @@ impl Session {
             Ok(records) => audit(alloc, &self.config, &records),
             Err(_) => Err(AuditError::Memory),
         }
+    }
+
+    /// Settles the seats, which shows that each of them is lawful, and that what they all did is one
+    /// whole history: so no audit of the records finds a fault.
+    pub fn settle<P: Pace>(self, store: &Store<P>)
+        requires { IsSession store.now self }
+        ensures whole { HaveWholeHistory self.seats.items }
+        ensures history { HasHistory self.config self.records }
+    {
+        let Session { config, seats, .. } = self;
+        let _ = settle_lawful(store, &config, seats);
     }
 
     /// Writes to the faults why the first record that has a fault has it, if there is one and

@@ -4,4 +4,5 @@ pub mod Whole
 pub mod Checked
 pub mod Popped
 pub mod Raced
+pub mod Heard
 pub mod CountedCalls

@@ -1,2 +1,3 @@
 pub mod Settled
 pub mod Race
+pub mod Told

@@ -4,8 +4,9 @@ use Rattle.std.specs.List.{AllByRecursion, flat_map}
 use Rattle.clsm_model.specs.declared.record.CallRecord.{CallRecord}
 use Rattle.clsm_model.specs.Seats.{FitsRecord}
 use Rattle.clsm_audit.specs.Lawful.{calls_of}
-use Rattle.clsm_store_calls.specs.Seats.{SeatState, StoreId}
-use Rattle.clsm_store.specs.Headline.{IsAt}
+use Rattle.clsm_store_calls.specs.Seats.{IsLawfulAlone, SeatState, StoreId}
+use Rattle.clsm_store.specs.Headline.{IsAt, IsWholeHistory, longest_past}
+use Rattle.clsm_store.specs.Meetings.{AreMet}
 
 -- the records of each seat are its calls, in its own order, and none is of another number
 pub record AreRecordsOf (store : StoreId) (seats : List SeatState) (records : List CallRecord) : Type 0 where
@@ -40,3 +41,14 @@ HaveFittingCalls seats = (i : ℕ) (s : SeatState) → IsAt seats i s → HasFit
 -- no due is past the end of time
 abbrev pub AreInTime : List SeatState → Type 0
 AreInTime seats = (i : ℕ) (s : SeatState) → IsAt seats i s → s.due ≤ 2 ^ 62
+
+-- each seat is lawful in what it knows itself
+abbrev pub AreLawfulAlone : List SeatState → Type 0
+AreLawfulAlone seats = (i : ℕ) (s : SeatState) → IsAt seats i s → IsLawfulAlone s
+
+-- and once the seats are settled, what they all did is one whole history
+pub record HaveWholeHistory (seats : List SeatState) : Type 0 where
+  pub alone : AreLawfulAlone seats
+  pub settled : List SeatState
+  pub met : AreMet seats settled
+  pub whole : IsWholeHistory settled (longest_past settled)

@@ -107,7 +107,7 @@ pub(super) fn play<T: Threads + Sync + Clock + Wait, R: Read + Drop>(
         output: &mut output,
         faults: &mut faults,
     };
-    let status = command(rt, alloc, words, streams);
+    let status = command(rt, alloc, words, streams).status;
     Ok(Played {
         output: String::from_utf8(output.shown)?,
         faults: String::from_utf8(faults.shown)?,

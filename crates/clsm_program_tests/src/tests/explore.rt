@@ -1,60 +1,10 @@
-//! What explorations of small schedules find, by the calls' own order and by wrong ones.
-use super::device::{SOUND, play};
+//! What explorations of small schedules find, where the calls take their steps in wrong orders.
 use clsm_explore::{
     Deal, ExploreError, MergeStage, Place, Planner, Stage, Task, Untold, explore_with,
 };
 use clsm_law::Layout;
 use clsm_model::{Config, Value};
 use std::test::Fail;
-
-/// The words of an exploration, with how many worlds and ends it tells at last, and its answers.
-/// They are small enough for a test, and too great for a program that is not optimized.
-const SCHEDULES: &[(&[&str], &str, &str)] = &[
-    (
-        &["--merge", "put 1 1", "get 1"],
-        "\rworlds 18276 ends 289 \n",
-        "0 0 put 1 1; 1 0 get 1 none\n0 0 put 1 1; 1 1 get 1 1\n0 0 put 1 1; 1 4 get 1 1\n\
-         0 1 put 1 1; 1 1 get 1 none\n0 4 put 1 1; 1 0 get 1 none\n0 4 put 1 1; 1 4 get 1 none\n\
-         0 4 put 1 1; 1 5 get 1 1\n0 5 put 1 1; 1 5 get 1 none\n",
-    ),
-    // the add cancels times of the put, or finds its write and reads again
-    (
-        &["add 1 1", "put 1 5"],
-        "\rworlds 7379 ends 19 \n",
-        "0 0 rmw 1 none 1; 1 1 put 1 5\n0 1 rmw 1 none 1; 1 2 put 1 5\n\
-         0 1 rmw 1 5 6; 1 0 put 1 5\n0 2 rmw 1 none 1; 1 3 put 1 5\n0 2 rmw 1 5 6; 1 0 put 1 5\n\
-         0 3 rmw 1 5 6; 1 1 put 1 5\n",
-    ),
-    // whatever the merger does meanwhile, a seat reads what it put
-    (
-        &["--merge", "put 1 2;get 1"],
-        "\rworlds 1683 ends 115 \n",
-        "0 0 put 1 2; 0 1 get 1 2\n0 0 put 1 2; 0 4 get 1 2\n0 4 put 1 2; 0 5 get 1 2\n",
-    ),
-    // a snapshot has the writes below its time, and no others
-    (
-        &["snap;getat 1", "put 1 2"],
-        "\rworlds 1107 ends 5 \n",
-        "0 0 snap; 0 0 getat 1 none; 1 0 put 1 2\n0 1 snap; 0 1 getat 1 none; 1 1 put 1 2\n\
-         0 1 snap; 0 1 getat 1 2; 1 0 put 1 2\n",
-    ),
-];
-
-#[test]
-fn small_schedules(rt: HostRuntime) -> Result<(), Fail> {
-    let alloc = rt.alloc();
-    let none: &[u8] = b"";
-    for (words, told, answers) in SCHEDULES {
-        let mut line = vec![in alloc; "clsm", "explore", "--answers", "--progress"]?;
-        line.extend_from_slice(words)?;
-        let played = play(&rt, alloc, &line, none, &SOUND)?;
-        let faults = played.faults.as_str();
-        assert!(rt; faults.ends_with(*told), "{faults}");
-        let output = format!(in alloc; "{answers}explore ok\n")?;
-        played.expect(&rt, &output, faults, 0);
-    }
-    Ok(())
-}
 
 /// What goes wrong.
 #[derive(Clone, Copy, PartialEq, Eq, Debug)]

@@ -1,4 +1,4 @@
-//! How command lines end where their input, their output, their faults or memory fail them.
+//! How command lines end where their input, their output or their faults fail them.
 use super::device::{Failing, Keyboard, NEVER, Played, SOUND, play};
 use std::alloc::Global;
 use std::io::ErrorKind;
@@ -198,31 +198,6 @@ fn writes_that_fail(rt: HostRuntime) -> Result<(), Fail> {
             };
             let played = play(&rt, rt.alloc(), words, input.as_bytes(), &failing)?;
             assert_eq!(rt; played.status, *status);
-        }
-    }
-    Ok(())
-}
-
-const PLAYED_LONGER: Case = (
-    SCRIPT,
-    "put 7 70\nput 8 80\nscan 0 9\npage 0 9 1\naudit\n",
-    "@0\n@1\n7=70 8=80 @2\n7=70 @2 more 8\naudit ok\n",
-);
-
-// Under `rt try --test --fail-alloc N` the Nth allocation of each test is refused.
-#[test]
-fn answers_in_full_or_wants_memory(rt: HostRuntime) -> Result<(), Fail> {
-    for case in [PLAYED, PLAYED_LONGER, AUDITED] {
-        let (words, input, full) = case;
-        let played = play(&rt, rt.alloc(), words, input.as_bytes(), &SOUND)?;
-        let output = played.output.as_str();
-        match played.faults.as_str() {
-            "" => played.expect(&rt, full, "", 0),
-            "no memory\n" => {
-                assert!(rt; full.starts_with(output));
-                assert_eq!(rt; played.status, 3);
-            }
-            _ => played.expect(&rt, "", "refused 5 memory\n", 3),
         }
     }
     Ok(())

@@ -1,6 +1,6 @@
 //! Runs of several workers beside a merger: what differs from one to the next, their records, and
 //! their workloads.
-use super::device::{NEVER, SOUND, Screen, play};
+use super::device::{NEVER, Screen};
 use clsm_audit::{AuditError, FaultKind, audit};
 use clsm_model::{CallRecord, Change, Config, Deal, Deed, Value};
 use clsm_run::{AskedRun, Load, Ran, Shows, Workload, run_on};
@@ -31,6 +31,7 @@ const PLAIN: Shows = Shows {
     stats: false,
     progress: false,
     records: false,
+    clock: false,
 };
 
 /// Calls of 64 keys, drawn by 7.
@@ -40,74 +41,6 @@ const LOAD: Load = Load {
     seed: 7,
     batch: false,
 };
-
-const SHOWING: &[&str] = &[
-    "clsm",
-    "run",
-    "--threads",
-    "2",
-    "--ops",
-    "100",
-    "--batch",
-    "--stats",
-    "--progress",
-];
-
-/// Writes find the epoch full again and again.
-const WAITING: &[&str] = &[
-    "clsm",
-    "run",
-    "--wait",
-    "--threads",
-    "2",
-    "--ops",
-    "100",
-    "--cells",
-    "4",
-    "--stats",
-    "--progress",
-];
-
-const RECORDING: &[&str] = &[
-    "clsm",
-    "run",
-    "--threads",
-    "2",
-    "--ops",
-    "50",
-    "--seed",
-    "7",
-    "--batch",
-    "--records",
-];
-
-const AUDITING: &[&str] = &["clsm", "audit", "--seats", "2", "--cells", "1024"];
-
-/// What is shown beside changes no output, and records pass the audit of lines.
-#[test]
-fn runs_are_shown(rt: HostRuntime) -> Result<(), Fail> {
-    let alloc = rt.alloc();
-    let none: &[u8] = b"";
-    let shown = play(&rt, alloc, SHOWING, none, &SOUND)?;
-    let faults = shown.faults.as_str();
-    shown.expect(&rt, "calls 200\naudit ok\n", faults, 0);
-    assert!(rt; faults.starts_with("\rcalls "));
-    assert!(rt; faults.contains("\nput answered "));
-    assert!(rt; faults.contains("\nbatch answered "));
-    assert!(rt; faults.contains("\nrefused full 0\nmerges "));
-    let waiting = play(&rt, alloc, WAITING, none, &SOUND)?;
-    let faults = waiting.faults.as_str();
-    waiting.expect(&rt, "calls 200\naudit ok\n", faults, 0);
-    assert!(rt; faults.starts_with("\rcalls "));
-    assert!(rt; faults.contains("\nrefused full 0\nmilliseconds "));
-    let records = play(&rt, alloc, RECORDING, none, &SOUND)?;
-    let lines = records.output.as_str();
-    assert_eq!(rt; lines.lines().count(), 100);
-    records.expect(&rt, lines, "", 0);
-    let audited = play(&rt, alloc, AUDITING, lines.as_bytes(), &SOUND)?;
-    audited.expect(&rt, "audit ok\n", "", 0);
-    Ok(())
-}
 
 /// A workload beside one that was drawn by hand, with the reference generator of PCG.
 #[test]

@@ -23,6 +23,7 @@ enum Wrong {
     Judged(usize),
     Faults(usize),
     DrawnLists(usize),
+    DrawnOrders(usize),
     /// The drawn lists do not vary enough.
     Counts,
 }
@@ -55,7 +56,8 @@ fn tables(alloc: Global) -> Result<(), Wrong> {
     levels::least_of_cursors()?;
     levels::judge_by_the_floor()?;
     audit::names(alloc)?;
-    audit::drawn_lists(alloc)
+    audit::drawn_lists(alloc)?;
+    audit::drawn_orders(alloc)
 }
 
 #[test]

@@ -17,4 +17,5 @@ returns c =
     let with_10 = arg_added _ _ _ with_9 c.in_ok-arg-10.ensures c.flag-2.ensures.rule c.flag-2.ensures.local in
     let with_11 = arg_added _ _ _ with_10 c.in_ok-arg-11.ensures c.flag-3.ensures.rule c.flag-3.ensures.local in
     let with_12 = arg_added _ _ _ with_11 c.in_ok-arg-12.ensures c.flag-4.ensures.rule c.flag-4.ensures.local in
-    IfOk-weaker c.arg-13.result _ _ (λ m adds. arg_added _ m _ with_12 adds c.flag-5.ensures.rule c.flag-5.ensures.local) c.arg-13.ensures
+    let with_13 = arg_added _ _ _ with_12 c.in_ok-arg-13.ensures c.flag-5.ensures.rule c.flag-5.ensures.local in
+    IfOk-weaker c.arg-14.result _ _ (λ m adds. arg_added _ m _ with_13 adds c.flag-6.ensures.rule c.flag-6.ensures.local) c.arg-14.ensures

@@ -1,5 +1,7 @@
-use Rattle.clsm_run.proofs.Verdicts.{fault_status}
+use Rattle.clsm_run.proofs.Verdicts.{of_crew}
 use Rattle.clsm_run.proofs.opening.run.Goals as goal
 
-pub returns-clause-fault : goal.returns-clause-fault
-returns-clause-fault g c = fault_status c.args.asked c.in-Err.failure c.status.result c.status.ensures c.in-Err.ensures.stopped
+pub returns-clause-run : goal.returns-clause-run
+returns-clause-run g c =
+    of_crew c.args.asked.now c.in_ok-opened.opened.store c.run_on.result c.in_ok-opened.ensures.store c.if-asked.false c.run_on.ensures.audited
+    c.run_on.ensures.made c.run_on.ensures.lawful

@@ -15,7 +15,7 @@ gather-requires g c =
 
 pub returns-clause-audited : goal.returns-clause-audited
 returns-clause-audited g c =
-    audited_whole c.args.asked.now.config c.args.ended.store c.args.ended.seats.items c.in-Ok.gathered.seats.items
+    audited_whole c.args.asked.now.config c.args.ended.store c.requires.sizes c.args.ended.seats.items c.in-Ok.gathered.seats.items
     c.in-Ok.gathered.records.items c.audited.result
     (are_seats_of c.args.ended.store c.args.asked.now.config.seats c.args.ended.seats.items c.requires.all_seats) c.requires.whole
     (c.in-Ok.ensures.seats ∙ c.in_ok-worked.ensures.seats) c.in-Ok.ensures.records

@@ -3,7 +3,7 @@ use Rattle.clsm_script.specs.Command.{IsCommand}
 use Rattle.clsm_script.specs.Line.{Reads}
 use Rattle.std.specs.Io.Buffered.{reader_remaining}
 use Rattle.clsm_script.proofs.AtHand.{leads_kept, leads_taken, prints_taken}
-use Rattle.clsm_script.proofs.Chains.{fault_is_audit, faults_said, prints_call, prints_command, prints_kept, prints_nothing, prints_on, prints_over}
+use Rattle.clsm_script.proofs.Chains.{fault_found, prints_call, prints_command, prints_kept, prints_nothing, prints_on, prints_over}
 use Rattle.clsm_script.proofs.Chains.{stops_residual}
 use Rattle.clsm_text.proofs.Inputs.{LeadsTo, leads_to_end}
 use Rattle.clsm_script.proofs.Readings.{leads_past, stops_at_error}
@@ -36,7 +36,7 @@ returns-in-Err-clause-stopped g c =
     let bad =
     subst (λ line. Reads line (Err c.in-Err.error)) c.deref.ensures.value c.in-Err.ensures in
     rw c.at.ensures
-    (stops_at_error _ _ _ _ _ _ _ _ _ _ leads c.in_ok-read_line.ensures.found
+    (stops_at_error _ _ _ _ _ _ _ _ _ leads c.in_ok-read_line.ensures.found
     c.if-not-branch.false c.in_ok-read_line.ensures.takes (omega arith) bad)
 
 pub loop-number-preserved-in-Ok-None : goal.loop-number-preserved-in-Ok-None
@@ -102,17 +102,10 @@ loop-number-preserved-in-Call g c =
 
 pub returns-in_err-write_answer-clause-stopped : goal.returns-in_err-write_answer-clause-stopped
 returns-in_err-write_answer-clause-stopped g c =
-    let leads =
-    leads_kept (reader_remaining g.R.Read.remaining) (reader_remaining g.R.Read.remaining c.args.reader.now)
-    c.loop-number.reader c.call_at_hand.new.reader (c.loop-number.number - 1) c.in_default.ensures.kept
-    c.loop-number.invariant.leads in
-    stops_residual c.from_residual-in_err-write_answer.result _ _ _ _ c.in_err-write_answer.field-0.0
+    stops_residual c.from_residual-in_err-write_answer.result _ _ _ c.in_err-write_answer.field-0.0
     c.in_err-write_answer.ensures.stopped
-    (λ is. faults_said _ _ _ _ _ _ _ _ _ _ _ _ _ _ _ _ _ leads c.in_ok-read_line.ensures.found
-    c.if-not-branch.false c.in_ok-read_line.ensures.takes c.deref.ensures.value c.in-Ok-Some.ensures
-    (prints_kept _ _ _ _ _ _ _ _ c.in_ok-flush_before_wait.ensures.kept c.loop-number.invariant.prints)
-    (fault_is_audit _ _ _ _ _ _ c.in_ok-next.ensures.plays c.in_ok-next.ensures.turns
-    (c.in_err-write_answer.ensures.fault (ap Err is))) (c.in_err-write_answer.ensures.prints_fault (ap Err is)) (cc))
+    (λ is. fault_found _ _ _ _ _ _ _ c.in_ok-next.ensures.plays c.in_ok-next.ensures.turns
+    (c.in_err-write_answer.ensures.fault (ap Err is)) c.in_ok-next.ensures.session)
     c.from_residual-in_err-write_answer.ensures.1
 
 pub loop-number-preserved-in-Some : goal.loop-number-preserved-in-Some

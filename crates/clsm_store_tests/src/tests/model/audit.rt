@@ -5,7 +5,10 @@ use clsm_model::{CallRecord, Config, Time};
 use std::alloc::Global;
 
 mod drawn;
+mod order;
 mod plain;
+
+pub(super) use order::drawn_orders;
 
 const END: Time = 1 << 62;
 
@@ -18,20 +21,24 @@ const CELLS: usize = 4;
 /// How many lists are drawn.
 const LISTS: u64 = 10_000;
 
+/// The sizes of a store of so many seats.
+fn sizes(seats: usize) -> Config {
+    Config {
+        cells: CELLS,
+        seats,
+        shards: 1,
+        run: 4,
+        patience: 0,
+    }
+}
+
 /// The first fault of the records, or None.
 fn audited(
     alloc: Global,
     seats: usize,
     records: &[CallRecord],
 ) -> Result<Option<(FaultKind, usize)>, Wrong> {
-    let config = Config {
-        cells: CELLS,
-        seats,
-        shards: 1,
-        run: 4,
-        patience: 0,
-    };
-    match audit(alloc, &config, records) {
+    match audit(alloc, &sizes(seats), records) {
         Ok(()) => Ok(None),
         Err(AuditError::Fault { kind, index }) => Ok(Some((kind, index))),
         Err(AuditError::Memory) => Err(Wrong::Memory),

@@ -1,4 +1,5 @@
 use Rattle.std.proofs.Common.{◌<◌, All, List, length, set, refl, sym, subst, ◌∙◌}
+use Rattle.std.proofs.lemmas.List.{length-set}
 use Rattle.std.proofs.Math.Seq.{lt-length-set}
 use Rattle.clsm_store_calls.specs.Seats.{SeatState}
 use Rattle.clsm_store.specs.Headline.{IsAt}
@@ -34,6 +35,8 @@ returns-clause-session g c =
     let calls = kept.gained.gains _ _ (sym c.number-number.ensures) c.play-answer.ensures.plays in
     let records = kept.kept in
     record {
+      sizes = c.requires.sizes;
+      count = length-set seats k new ∙ c.requires.count;
       used = lt-length-set seats k new c.requires.used;
       seats =
           subst (λ rs. AreRecorded c.args.store.now rs (set seats k new)) (sym records)

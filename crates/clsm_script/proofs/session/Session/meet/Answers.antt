@@ -42,6 +42,8 @@ returns-clause-session g c =
     let left : length seats.items ≡ length (with_items seats new).items =
     sym (ap length same ∙ count) in
     record {
+      sizes = c.requires.sizes;
+      count = sym left ∙ c.requires.count;
       used = subst (λ n. c.args.self.now.used < n) left c.requires.used;
       seats =
           subst (AreRecorded c.args.store.now records) (sym same)

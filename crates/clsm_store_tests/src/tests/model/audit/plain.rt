@@ -13,7 +13,7 @@ fn left_by(change: &Change) -> Option<Option<Value>> {
 }
 
 /// How many times the call takes: a batch one for each member.
-fn span(call: &CallRecord) -> u64 {
+pub fn span(call: &CallRecord) -> u64 {
     match &call.deed {
         Deed::Batch { members } => members.as_slice().len() as u64,
         _ => 1,
@@ -39,7 +39,7 @@ fn written(call: &CallRecord, behind: u64, key: u64) -> Option<Option<Value>> {
 }
 
 /// Whether the call writes.
-fn is_write(call: &CallRecord) -> bool {
+pub fn is_write(call: &CallRecord) -> bool {
     match &call.deed {
         Deed::Put { .. } | Deed::Remove { .. } | Deed::Batch { .. } => true,
         Deed::Rmw { change, .. } => *change != Change::Keep,
@@ -81,7 +81,7 @@ fn is_bad_batch(call: &CallRecord) -> bool {
 }
 
 /// Whether the call stands at the present of its seat, of which this snapshot is open.
-fn is_at_present(call: &CallRecord, open: Option<Time>) -> bool {
+pub fn is_at_present(call: &CallRecord, open: Option<Time>) -> bool {
     match &call.deed {
         Deed::Close | Deed::GetAt { .. } => false,
         Deed::Scan { .. } | Deed::Page { .. } => open.is_none(),
@@ -90,7 +90,7 @@ fn is_at_present(call: &CallRecord, open: Option<Time>) -> bool {
 }
 
 /// The open snapshot of the seat after the first `count` records.
-fn open_before(records: &[CallRecord], count: usize, seat: u32) -> Option<Time> {
+pub fn open_before(records: &[CallRecord], count: usize, seat: u32) -> Option<Time> {
     let mut open = None;
     for call in records.iter().take(count) {
         match call.deed {
