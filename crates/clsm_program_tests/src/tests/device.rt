@@ -1,5 +1,5 @@
 //! Readers and writers that fail once, and what a command line prints on the latter.
-use clsm_command::command;
+use clsm_command::{Ended, command};
 use clsm_text::Streams;
 use std::alloc::Global;
 use std::io::{self, ErrorKind, Read, Write};
@@ -92,7 +92,7 @@ pub(super) fn play<T: Threads + Sync + Clock + Wait, R: Read + Drop>(
     input: R,
     failing: &Failing,
 ) -> Result<Played, Fail> {
-    let mut output = Screen {
+    let output = Screen {
         shown: Vec::with_capacity(alloc, 256)?,
         step: failing.step,
         fails_after: failing.output,
@@ -104,12 +104,16 @@ pub(super) fn play<T: Threads + Sync + Clock + Wait, R: Read + Drop>(
     };
     let streams = Streams {
         input,
-        output: &mut output,
+        output,
         faults: &mut faults,
     };
-    let status = command(rt, alloc, words, streams).status;
+    let Ended { status, output } = command(rt, alloc, words, streams);
+    let shown = match output {
+        Some(screen) => screen.shown,
+        None => Vec::new(alloc),
+    };
     Ok(Played {
-        output: String::from_utf8(output.shown)?,
+        output: String::from_utf8(shown)?,
         faults: String::from_utf8(faults.shown)?,
         status,
     })
