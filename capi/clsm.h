@@ -18,8 +18,8 @@
  * 1. A handle is used between its open and its close only.
  * 2. It is in one call at a time, except for a store. It goes to another thread by a thread's start
  *    or join, a lock, or a sequentially consistent atomic.
- * 3. Each other pointer is to a whole object that nobody else uses during the call, and is not null
- *    unless its parameter is named or_null.
+ * 3. Each other pointer is to a whole object that nobody else uses during the call; what is const
+ *    others may read. It is not null unless its parameter is named or_null.
  * 4. malloc, realloc and free are of one allocator, which aligns by 16.
  * 5. No call is made in a signal handler, in a forked child or in a thread that is then cancelled.
  * 6. A call has CLSM_STACK bytes of stack.
@@ -67,6 +67,7 @@ enum clsm_code {
     CLSM_BAD_EPOCH = 33,    /* options: epoch is out of range */
     CLSM_BAD_PATIENCE = 34, /* options: patience is out of range */
     CLSM_BAD_VALUE = 35,    /* a value of no word or of more than eight; a time not reached yet */
+    CLSM_BAD_BATCH = 36,    /* a batch of no row, or of more rows than an epoch has writes */
     CLSM_BAD_POINTER = 37,  /* a pointer is null that must not be */
     CLSM_BAD_BUILD = 38     /* an option that the library does not know; parts of several builds */
 };
@@ -87,6 +88,7 @@ typedef struct {
     uint64_t length, words[8];
 } clsm_value;
 
+/* In a batch a row without a value removes its key. */
 typedef struct {
     uint64_t key;
     clsm_value value;
@@ -192,6 +194,15 @@ int clsm_remove(clsm_caller *caller, uint64_t key);
  * in place of RUN_FULL and WORN. FULL has called the store's thread, if it has one. */
 int clsm_try_put(clsm_caller *caller, uint64_t key, const uint64_t *words, size_t count);
 int clsm_try_remove(clsm_caller *caller, uint64_t key);
+
+/* Writes all rows at one moment: each read has all of them or none. Of several rows of one key the
+ * last one wins. Their times follow one another; clsm_time answers the first one's. It takes memory
+ * for the rows while it runs, and the room of a put for each of them: if the epoch has not as much
+ * left, it waits for the next epoch. It lets no other write run beside it, but every read.
+ *
+ * OK; RUN_FULL, WORN, MEMORY, BAD_BATCH, BAD_VALUE if a value has more than eight words,
+ * BAD_POINTER. Nothing was written then. */
+int clsm_batch(clsm_caller *caller, const clsm_row *rows, size_t count);
 
 /* ---- Changes
  *

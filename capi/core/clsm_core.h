@@ -16,8 +16,9 @@
  *   writes it.
  * - A handle is in one call at a time. It may go to another thread, by a thread's start or join, a
  *   lock or a sequentially consistent atomic.
- * - Each other pointer is to a whole object of its type, of which no other pointer of the same call
- *   and no other thread makes use until the call ends. None is null, also that to no rows.
+ * - Each other pointer is to a whole object of its type, or to as many as are counted behind it.
+ *   Until the call ends nobody writes what a pointer to const is to, and no other pointer of the
+ *   call and no other thread makes use of what another is to. None is null, also that to no rows.
  * - The room for handles is enough: clsm_core_room answers what they take.
  * - A bool is 0 or 1.
  * - malloc, realloc and free come from one allocator, and align by 16.
@@ -269,6 +270,17 @@ uint32_t clsm_core_try_put(clsm_core_caller *caller, const clsm_core_row *ask,
  * Refused as clsm_core_try_put, but for CLSM_CORE_BAD_VALUE. */
 uint32_t clsm_core_try_remove(clsm_core_caller *caller, const clsm_core_key *ask,
                               clsm_core_time *answer);
+
+/* Writes the rows as one batch: at consecutive times in their order, all of which become visible at
+ * one moment. A row without a value removes its key; of several rows of one key the last one wins.
+ * Answers CLSM_CORE_OK and the time of the first row. It takes memory for the rows while it runs,
+ * and tries to take the lock once. Refused, in this order, with CLSM_CORE_MEMORY,
+ * CLSM_CORE_BAD_VALUE if a value has more than eight words, CLSM_CORE_BAD_BATCH if there is no row
+ * or more than an epoch has cells, CLSM_CORE_BUSY if the lock was not free, and CLSM_CORE_FULL and
+ * the clock's time if the epoch has fewer timestamps left than there are rows: nothing was written
+ * then. */
+uint32_t clsm_core_try_batch(clsm_core_caller *caller, const clsm_core_row *rows, size_t count,
+                             clsm_core_time *answer);
 
 /* ---- a caller's read-modify-writes */
 

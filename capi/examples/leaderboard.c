@@ -35,12 +35,14 @@ static uint64_t place_of(uint64_t score, uint64_t player) {
 
 static uint64_t player_of(const clsm_row *row) { return row->key & UINT32_MAX; }
 
-/* Adds to a score, and moves the player up in the ranking, where it has two rows for a moment. */
+/* Adds to a score, and moves the player up in the ranking by a batch: no read finds the player
+ * twice there, or not at all. */
 static void win(clsm_caller *caller, uint64_t player, uint64_t points) {
     clsm_changed score;
     must(clsm_add(caller, player, points, &score));
-    must(clsm_put(caller, place_of(score.after.words[0], player), score.after.words, 1));
-    if (score.before.length) must(clsm_remove(caller, place_of(score.before.words[0], player)));
+    const clsm_row rows[] = {{place_of(score.after.words[0], player), score.after},
+                             {.key = place_of(score.before.words[0], player)}};
+    must(clsm_batch(caller, rows, score.before.length ? 2 : 1));
     must(clsm_add(caller, ALL, points, NULL));
 }
 
@@ -57,16 +59,12 @@ static void *play(void *own) {
     return NULL;
 }
 
-/* The first players of the ranking at one moment. Of two rows of a player the first one counts. */
+/* The first players of the ranking at one moment. */
 static int best(clsm_caller *caller, clsm_row rows[BEST]) {
     clsm_scan *scan;
     int count = 0;
     must(clsm_scan_open(caller, RANKING, UINT64_MAX, &scan));
-    while (count < BEST && must(clsm_scan_next(scan, &rows[count])) == CLSM_OK) {
-        int first = 0;
-        while (player_of(&rows[first]) != player_of(&rows[count])) first++;
-        if (first == count) count++;
-    }
+    while (count < BEST && must(clsm_scan_next(scan, &rows[count])) == CLSM_OK) count++;
     clsm_scan_close(scan);
     return count;
 }

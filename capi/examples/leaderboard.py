@@ -6,8 +6,9 @@ A player's score stands at the player's number. Scans go by rising key, so there
 each player, at a key that is the smaller the greater the score is: the ranking.
 """
 
+import itertools
 import threading
-from typing import Dict
+from typing import List, Tuple
 
 import cupolanettle
 
@@ -25,10 +26,14 @@ def place_of(score: int, player: int) -> int:
 
 
 def win(store: cupolanettle.Store, player: int, points: int) -> None:
-    """Adds to a score, and moves the player up in the ranking: it has two rows for a moment."""
+    """Adds to a score, and moves the player up in the ranking by a batch.
+
+    No read finds the player twice there, or not at all.
+    """
     score = store.add(player, points)
-    store[place_of(score, player)] = score
-    store.remove(place_of(score - points, player))
+    with store.batch() as batch:
+        batch.remove(place_of(score - points, player))
+        batch[place_of(score, player)] = score
     store.add(ALL, points)
 
 
@@ -39,17 +44,10 @@ def play(store: cupolanettle.Store, own: int) -> None:
             win(store, player, player + 1)
 
 
-def best(store: cupolanettle.Store, count: int) -> Dict[int, cupolanettle.Value]:
-    """The first players of the ranking at one moment, and their scores.
-
-    Of two rows of a player the first one counts.
-    """
-    players: Dict[int, cupolanettle.Value] = {}
-    for place, score in store.scan(RANKING):
-        players.setdefault(place & 0xFFFFFFFF, score)
-        if len(players) == count:
-            break
-    return players
+def best(store: cupolanettle.Store, count: int) -> List[Tuple[int, cupolanettle.Value]]:
+    """The first players of the ranking at one moment, and their scores."""
+    rows = itertools.islice(store.scan(RANKING), count)
+    return [(place & 0xFFFFFFFF, score) for place, score in rows]
 
 
 def main() -> None:
@@ -61,7 +59,7 @@ def main() -> None:
             best(store, 3)  # whoever they are by now
         for thread in threads:
             thread.join()
-        for player, score in best(store, 3).items():
+        for player, score in best(store, 3):
             print(f"player {player}: {score}")
         print(f"all: {store[ALL]}")
 

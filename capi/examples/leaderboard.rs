@@ -4,7 +4,7 @@
 //!
 //! A player's score stands at the player's number. Ranges go by rising key, so there is a second row
 //! for each player, at a key that is the smaller the greater the score is: the ranking.
-use cupolanettle::{Caller, Error, Options, Store};
+use cupolanettle::{Batch, Caller, Error, Options, Store};
 use std::thread;
 
 const PLAYERS: u64 = 100;
@@ -24,15 +24,18 @@ fn player_at(place: u64) -> u64 {
     place & u64::from(u32::MAX)
 }
 
-/// Adds to a score, and moves the player up in the ranking, where it has two rows for a moment.
+/// Adds to a score, and moves the player up in the ranking by a batch: no read finds the player twice
+/// there, or not at all.
 fn win(caller: &Caller, player: u64, points: u64) -> Result<(), Error> {
     let score = caller.add(player, points)?;
-    if let Some(after) = score.after {
-        caller.put(place_of(after[0], player), after)?;
-    }
+    let mut batch = Batch::new();
     if let Some(before) = score.before {
-        caller.remove(place_of(before[0], player))?;
+        batch.remove(place_of(before[0], player));
     }
+    if let Some(after) = score.after {
+        batch.set(place_of(after[0], player), after);
+    }
+    caller.batch(&batch)?;
     caller.add(ALL, points)?;
     Ok(())
 }
@@ -48,18 +51,12 @@ fn play(store: &Store, own: u64) -> Result<(), Error> {
     Ok(())
 }
 
-/// The first players of the ranking at one moment, and their scores. Of two rows of a player the
-/// first one counts.
+/// The first players of the ranking at one moment, and their scores.
 fn best(store: &Store, count: usize) -> Result<Vec<(u64, u64)>, Error> {
-    let mut players: Vec<(u64, u64)> = Vec::new();
-    for row in store.snapshot()?.range(RANKING..) {
+    let mut players = Vec::new();
+    for row in store.snapshot()?.range(RANKING..).take(count) {
         let (place, value) = row?;
-        if players.iter().all(|(player, _)| *player != player_at(place)) {
-            players.push((player_at(place), value[0]));
-        }
-        if players.len() == count {
-            break;
-        }
+        players.push((player_at(place), value[0]));
     }
     Ok(players)
 }

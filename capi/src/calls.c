@@ -123,6 +123,29 @@ int clsm_try_remove(clsm_caller *caller, uint64_t key) {
     return clsm_end(seat, write_once(seat, attempt_remove, &ask, &answer, 1));
 }
 
+/* ---- Batches */
+
+struct batch {
+    const clsm_core_row *rows;
+    size_t count;
+};
+
+static uint32_t attempt_batch(clsm_core_caller *core, const void *ask, void *answer) {
+    const struct batch *batch = ask;
+    return clsm_core_try_batch(core, batch->rows, batch->count, answer);
+}
+
+int clsm_batch(clsm_caller *caller, const clsm_row *rows, size_t count) {
+    struct clsm_seat *seat = (struct clsm_seat *)caller;
+    const struct batch ask = {(const clsm_core_row *)(const void *)rows, count};
+    clsm_core_time answer;
+    int refused = clsm_begin(seat, CLSM_AS_CALLER);
+    if (refused) return refused;
+    if (!rows && count > 0) return clsm_end(seat, CLSM_BAD_POINTER);
+    if (count < 1 || count > seat->store->cells) return clsm_end(seat, CLSM_BAD_BATCH);
+    return clsm_end(seat, write_or_wait(seat, attempt_batch, &ask, &answer, count));
+}
+
 /* ---- Changes */
 
 /* Makes a change, whose answer has what the key had and has. */

@@ -25,6 +25,7 @@ const char *clsm_strerror(int code) {
     case CLSM_BAD_EPOCH: return "bad epoch";
     case CLSM_BAD_PATIENCE: return "bad patience";
     case CLSM_BAD_VALUE: return "bad value";
+    case CLSM_BAD_BATCH: return "bad batch";
     case CLSM_BAD_POINTER: return "null pointer";
     case CLSM_BAD_BUILD: return "bad build";
     default: return "unknown code";

@@ -31,7 +31,7 @@ struct worker {
     pthread_t thread;
     FILE *file;
     clsm_caller *caller;
-    uint64_t calls, range, state;
+    uint64_t calls, epoch, range, state;
 };
 
 /* ---- Draws */
@@ -79,6 +79,17 @@ static void remove_key(struct worker *self) {
     int code = draw(self, 8) ? clsm_remove(self->caller, key) : clsm_try_remove(self->caller, key);
     if (was_written(code))
         record_remove(self->file, clsm_number(self->caller), clsm_time(self->caller), key);
+}
+
+static void batch(struct worker *self) {
+    clsm_row rows[ROWS];
+    const size_t most = self->epoch < ROWS ? self->epoch : ROWS, count = 1 + draw(self, most);
+    for (size_t i = 0; i < count; i++) {
+        rows[i] = (clsm_row){.key = draw_key(self)};
+        if (draw(self, 4)) rows[i].value.length = draw_words(self, rows[i].value.words);
+    }
+    if (was_written(clsm_batch(self->caller, rows, count)))
+        record_batch(self->file, clsm_number(self->caller), clsm_time(self->caller), rows, count);
 }
 
 static void change(struct worker *self) {
@@ -158,7 +169,8 @@ static void *work(void *of) {
     for (uint64_t i = 0; i < self->calls; i++) {
         const uint64_t kind = draw(self, 1000);
         if (kind < 400) put(self);
-        else if (kind < 500) change(self);
+        else if (kind < 480) change(self);
+        else if (kind < 500) batch(self);
         else if (kind < 600) remove_key(self);
         else if (kind < 950) get(self);
         else if (kind < 980) page(self);
@@ -176,6 +188,7 @@ static void begin(struct worker *worker, const char *folder, int round, int thre
     CHECK((size_t)snprintf(name, sizeof name, "%s/%d.%d", folder, round, thread) < sizeof name);
     worker->file = fopen(name, "w");
     CHECK(worker->file);
+    worker->epoch = rounds[round].options.epoch;
     worker->range = rounds[round].range;
     worker->state = (uint64_t)(round * THREADS + thread);
     OK(clsm_caller_open(store, &worker->caller));

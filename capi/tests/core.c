@@ -43,6 +43,7 @@ static void call_empty_caller(clsm_core_caller *caller) {
     clsm_core_paged paged;
     CORE(NO_HANDLE, clsm_core_try_put(caller, &ROW, &time));
     CORE(NO_HANDLE, clsm_core_try_remove(caller, &KEY, &time));
+    CORE(NO_HANDLE, clsm_core_try_batch(caller, rows, 2, &time));
     CORE(NO_HANDLE, clsm_core_try_add(caller, &(clsm_core_adding){7, 1}, &changed));
     CORE(NO_HANDLE, clsm_core_try_replace(caller, &(clsm_core_replacing){.key = 7}, &changed));
     CORE(NO_HANDLE, clsm_core_get(caller, &KEY, &got));
@@ -156,6 +157,19 @@ static void refuse_values(clsm_core_caller *caller) {
     CORE(NOT_FOUND, clsm_core_get(caller, &KEY, &got));
 }
 
+static void refuse_batches(clsm_core_caller *caller) {
+    static clsm_core_row rows[9];
+    clsm_core_time time;
+    clsm_core_got got;
+    for (uint64_t i = 0; i < 9; i++) rows[i] = (clsm_core_row){7, {1, {i}}};
+    CORE(BAD_BATCH, clsm_core_try_batch(caller, rows, 0, &time));
+    CORE(BAD_BATCH, clsm_core_try_batch(caller, rows, 9, &time));
+    rows[1].value.length = 9;
+    CORE(BAD_VALUE, clsm_core_try_batch(caller, rows, 2, &time));
+    CORE(BAD_VALUE, clsm_core_try_batch(caller, rows, 9, &time));
+    CORE(NOT_FOUND, clsm_core_get(caller, &KEY, &got));
+}
+
 static void answer_codes(void) {
     clsm_core_store store;
     clsm_core_caller caller;
@@ -166,9 +180,17 @@ static void answer_codes(void) {
     take_merger(&store, CLSM_CORE_OK, &merger);
     read_snapshot(&caller);
     refuse_values(&caller);
+    refuse_batches(&caller);
     CORE(IDLE, clsm_core_try_freeze(&merger, &ONE, &time));
-    for (int i = 0; i < 8; i++) CORE(OK, clsm_core_try_put(&caller, &ROW, &time));
+    const clsm_core_row rows[] = {ROW, {.key = 7}, ROW};
+    clsm_core_time batch;
+    for (int i = 0; i < 6; i++) CORE(OK, clsm_core_try_put(&caller, &ROW, &time));
+    CORE(FULL, clsm_core_try_batch(&caller, rows, 3, &batch));
+    CHECK(batch.time == time.time + 1);
+    CORE(OK, clsm_core_try_batch(&caller, rows, 2, &batch));
+    CHECK(batch.time == time.time + 1);
     CORE(FULL, clsm_core_try_put(&caller, &ROW, &time));
+    CHECK(time.time == batch.time + 2);
     CORE(OK, clsm_core_try_freeze(&merger, &ONE, &time));
     CORE(OK, clsm_core_try_freeze(&merger, &ONE, &time));
     CORE(OK, clsm_core_try_remove(&caller, &KEY, &time));

@@ -112,6 +112,26 @@ static void read_scan(clsm_caller *caller, uint64_t keys) {
     clsm_scan_close(scan);
 }
 
+/* Writes as many keys as there are from the first one on, all of them again, and removes them. */
+static void write_batches(clsm_caller *caller, uint64_t first) {
+    enum { ROWS = 12 };
+    clsm_row rows[ROWS];
+    uint64_t count;
+    for (uint64_t i = 0; i < ROWS; i++) rows[i] = (clsm_row){first + i, {1, {i}}};
+    int code = clsm_batch(caller, rows, ROWS);
+    if (is_again(code)) {
+        OK(clsm_count(caller, first, UINT64_MAX, &count));
+        CHECK(count == 0);
+        code = clsm_batch(caller, rows, ROWS);
+    }
+    ANSWERS(CLSM_OK, code);
+    OK(clsm_count(caller, first, UINT64_MAX, &count));
+    CHECK(count == ROWS);
+    AGAIN(CLSM_OK, clsm_batch(caller, rows, ROWS));
+    for (uint64_t i = 0; i < ROWS; i++) rows[i].value.length = 0;
+    AGAIN(CLSM_OK, clsm_batch(caller, rows, ROWS));
+}
+
 static void use(int merge) {
     enum { KEYS = 160 };
     clsm_store *store = opened(merge);
@@ -119,6 +139,7 @@ static void use(int merge) {
     OK(clsm_caller_open(store, &caller));
     for (uint64_t key = 0; key < KEYS; key++) OK(clsm_put(caller, key, &key, 1));
     OK(clsm_get(caller, 5, NULL));
+    write_batches(caller, KEYS);
     int code = clsm_sweep(store);
     CHECK(code == CLSM_OK || code == CLSM_IDLE);
     read_pages(caller, KEYS);

@@ -121,19 +121,13 @@ static uint64_t read_time(const struct store *store, enum mock_call call) {
 
 /* ---- Opening and closing */
 
-static void *words_of(void *handle) { return handle; }
-
-static struct store *store_of(void *handle) {
-    struct store *store;
-    memcpy(&store, words_of(handle), sizeof store);
-    return store;
-}
-
 static struct seat seat_of(void *handle) {
     struct seat seat;
     memcpy(&seat, handle, sizeof seat);
     return seat;
 }
+
+static struct store *store_of(void *handle) { return seat_of(handle).store; }
 
 static void make(void *handle, struct store *store, uint64_t number) {
     struct seat seat = {store, number};
@@ -188,12 +182,9 @@ void clsm_core_room(clsm_core_rooms *answer) {
 }
 
 void clsm_core_open(const clsm_core_sizes *ask, clsm_core_code *answer, clsm_core_store *at) {
-    struct store *store = NULL;
     answer->code = refusal_of(ask);
-    if (answer->code == CLSM_CORE_OK) {
-        store = create(ask);
-        if (!store) answer->code = CLSM_CORE_MEMORY;
-    }
+    struct store *store = answer->code == CLSM_CORE_OK ? create(ask) : NULL;
+    if (answer->code == CLSM_CORE_OK && !store) answer->code = CLSM_CORE_MEMORY;
     make(at, store, 0);
 }
 
@@ -255,17 +246,21 @@ static struct entry *entry_for(struct store *store, uint64_t key) {
 
 static uint64_t limit(const struct store *store) { return (store->epoch + 1) * store->sizes.cells; }
 
+static void add_version(struct store *store, uint64_t key, const clsm_core_value *value) {
+    struct entry *entry = entry_for(store, key);
+    struct version *version = store->unused;
+    store->unused = version->older;
+    *version = (struct version){store->clock++, *value, entry->newest};
+    entry->newest = version;
+}
+
 static uint32_t write_at(struct store *store, uint64_t key, const clsm_core_value *value,
                          clsm_core_time *answer) {
     uint32_t code = planned(MOCK_WRITE);
     if (code != CLSM_CORE_OK) return code;
     answer->time = store->clock;
     if (store->clock == limit(store)) return CLSM_CORE_FULL;
-    struct entry *entry = entry_for(store, key);
-    struct version *version = store->unused;
-    store->unused = version->older;
-    *version = (struct version){store->clock++, *value, entry->newest};
-    entry->newest = version;
+    add_version(store, key, value);
     return CLSM_CORE_OK;
 }
 
@@ -288,8 +283,44 @@ uint32_t clsm_core_try_put(clsm_core_caller *at, const clsm_core_row *ask, clsm_
 
 uint32_t clsm_core_try_remove(clsm_core_caller *at, const clsm_core_key *ask,
                               clsm_core_time *answer) {
-    const clsm_core_value none = {.length = 0};
-    return write(at, ask->key, &none, answer);
+    return write(at, ask->key, &(clsm_core_value){.length = 0}, answer);
+}
+
+/* ---- Batches */
+
+static uint32_t refusal_of_rows(size_t cells, const clsm_core_row *rows, size_t count) {
+    for (size_t i = 0; i < count; i++)
+        if (rows[i].value.length > 8) return CLSM_CORE_BAD_VALUE;
+    if (count < 1 || count > cells) return CLSM_CORE_BAD_BATCH;
+    return CLSM_CORE_OK;
+}
+
+static uint32_t write_all(struct store *store, const clsm_core_row *rows, size_t count,
+                          clsm_core_time *answer) {
+    uint32_t code = refusal_of_rows(store->sizes.cells, rows, count);
+    if (code == CLSM_CORE_OK) code = planned(MOCK_WRITE);
+    if (code != CLSM_CORE_OK) return code;
+    answer->time = store->clock;
+    if (count > limit(store) - store->clock) return CLSM_CORE_FULL;
+    for (size_t i = 0; i < count; i++) {
+        clsm_core_value value = {.length = rows[i].value.length};
+        memcpy(value.words, rows[i].value.words, value.length * sizeof value.words[0]);
+        add_version(store, rows[i].key, &value);
+    }
+    return CLSM_CORE_OK;
+}
+
+uint32_t clsm_core_try_batch(clsm_core_caller *at, const clsm_core_row *rows, size_t count,
+                             clsm_core_time *answer) {
+    struct store *store = store_of(at);
+    if (!store) return CLSM_CORE_NO_HANDLE;
+    void *members = malloc(count * sizeof *rows);
+    if (!members && count > 0) return CLSM_CORE_MEMORY;
+    pthread_mutex_lock(&lock);
+    uint32_t code = write_all(store, rows, count, answer);
+    pthread_mutex_unlock(&lock);
+    free(members);
+    return code;
 }
 
 /* ---- Changes */
@@ -493,8 +524,7 @@ static uint64_t floor_of(const struct store *store) {
     return floor;
 }
 
-/* Whether a merge at this floor keeps the version, which is the newest below the floor or is not.
- */
+/* Whether a merge at this floor keeps the version, the newest below the floor or not. */
 static bool is_kept(const struct version *version, uint64_t floor, bool is_newest_below) {
     return version->time >= floor || (is_newest_below && version->value.length > 0);
 }

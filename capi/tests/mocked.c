@@ -50,6 +50,11 @@ static void lose(enum clsm_code code) {
     mock_core_refuse(MOCK_WRITE, (uint32_t)code, LOST);
     OK(clsm_add(caller, 1, 1, NULL));
     CHECK(between_yields() - yields == 3 * (LOST - PAUSED));
+    const clsm_row rows[] = {{2, {1, {20}}}, {3, {1, {30}}}};
+    mock_core_refuse(MOCK_WRITE, (uint32_t)code, LOST);
+    OK(clsm_batch(caller, rows, 2));
+    CHECK(between_yields() - yields == 4 * (LOST - PAUSED));
+    CHECK(clsm_seen(caller) == clsm_time(caller) + 2);
     closed(store, caller);
 }
 
@@ -120,6 +125,32 @@ static void merge_at_half(void) {
     closed(store, other);
 }
 
+/* So does one that a batch draws at once, and one in which a batch found too little room. */
+static void merge_for_batches(void) {
+    enum { EPOCH = 16 };
+    static clsm_row rows[EPOCH];
+    clsm_store *store = opened(EPOCH, 0);
+    clsm_caller *caller = caller_of(store);
+    unsigned made = mock_core_count(MOCK_SWEEP);
+    for (uint64_t i = 0; i < EPOCH; i++) rows[i] = (clsm_row){i, {1, {i}}};
+    OK(clsm_batch(caller, rows, EPOCH / 2));
+    mock_core_await(MOCK_SWEEP, made + 1);
+    for (int i = 0; i < 10; i++) {
+        OK(clsm_put(caller, 1, &WORD, 1));
+        OK(clsm_batch(caller, rows, EPOCH));
+    }
+    mock_core_refuse(MOCK_SWEEP, CLSM_RUN_FULL, UINT_MAX);
+    int code = CLSM_OK;
+    for (int i = 0; code == CLSM_OK; i++) {
+        code = clsm_batch(caller, rows, EPOCH);
+        CHECK(i < 100);
+    }
+    ANSWERS(CLSM_RUN_FULL, code);
+    mock_core_refuse(MOCK_SWEEP, CLSM_OK, 0);
+    OK(clsm_batch(caller, rows, EPOCH));
+    closed(store, caller);
+}
+
 /* Half of an epoch that was drawn while the epoch before was merged is not forgotten. */
 static void merge_on(void) {
     enum { EPOCH = 16, HALF = EPOCH / 2 };
@@ -166,6 +197,7 @@ static void wear_out(int merge) {
     for (uint64_t i = 0; i < 4; i++) OK(clsm_put(caller, i, &WORD, 1));
     ANSWERS(CLSM_WORN, clsm_put(caller, 4, &WORD, 1));
     ANSWERS(CLSM_WORN, clsm_remove(caller, 1));
+    ANSWERS(CLSM_WORN, clsm_batch(caller, &(clsm_row){.key = 1}, 1));
     ANSWERS(CLSM_FULL, clsm_try_put(caller, 4, &WORD, 1));
     ANSWERS(CLSM_WORN, clsm_sweep(store));
     OK(clsm_get(caller, 3, NULL));
@@ -253,6 +285,7 @@ int main(void) {
     merge_in_calls_in_the_way();
     merge_beside_in_the_way();
     merge_at_half();
+    merge_for_batches();
     merge_on();
     call_again();
     wear_out(0);

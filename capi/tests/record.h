@@ -34,6 +34,18 @@ static inline void record_remove(FILE *to, unsigned seat, uint64_t time, uint64_
     fputc('\n', to);
 }
 
+/* A batch, whose first row was written at this time; a row without a value removed its key. */
+static inline void record_batch(FILE *to, unsigned seat, uint64_t time, const clsm_row *rows,
+                                size_t count) {
+    record_begin(to, seat, time, "batch");
+    for (size_t i = 0; i < count; i++) {
+        record_number(to, rows[i].key);
+        fputc('=', to);
+        record_words(to, rows[i].value.words, rows[i].value.length);
+    }
+    fputc('\n', to);
+}
+
 /* A read, `get` of a caller or `getat` of a snapshot, that found this value. */
 static inline void record_read(FILE *to, unsigned seat, uint64_t time, const char *deed,
                                uint64_t key, const clsm_value *value) {

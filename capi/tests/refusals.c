@@ -23,12 +23,12 @@ static clsm_caller *caller_of(clsm_store *store) {
 /* ---- Names */
 
 static void name_codes(void) {
-    static const int codes[] = {CLSM_OK,          CLSM_NOT_FOUND, CLSM_KEPT,         CLSM_DONE,
-                                CLSM_IDLE,        CLSM_FULL,      CLSM_BUSY,         CLSM_RACED,
-                                CLSM_OVERTAKEN,   CLSM_PINNED,    CLSM_MEMORY,       CLSM_NO_SEAT,
-                                CLSM_RUN_FULL,    CLSM_WORN,      CLSM_IN_USE,       CLSM_NO_THREAD,
-                                CLSM_BAD_KEYS,    CLSM_BAD_EPOCH, CLSM_BAD_PATIENCE, CLSM_BAD_VALUE,
-                                CLSM_BAD_POINTER, CLSM_BAD_BUILD};
+    static const int codes[] = {CLSM_OK,        CLSM_NOT_FOUND,   CLSM_KEPT,         CLSM_DONE,
+                                CLSM_IDLE,      CLSM_FULL,        CLSM_BUSY,         CLSM_RACED,
+                                CLSM_OVERTAKEN, CLSM_PINNED,      CLSM_MEMORY,       CLSM_NO_SEAT,
+                                CLSM_RUN_FULL,  CLSM_WORN,        CLSM_IN_USE,       CLSM_NO_THREAD,
+                                CLSM_BAD_KEYS,  CLSM_BAD_EPOCH,   CLSM_BAD_PATIENCE, CLSM_BAD_VALUE,
+                                CLSM_BAD_BATCH, CLSM_BAD_POINTER, CLSM_BAD_BUILD};
     const size_t count = sizeof codes / sizeof *codes;
     for (size_t i = 0; i < count; i++) {
         CHECK(strcmp(clsm_strerror(codes[i]), "unknown code") != 0);
@@ -115,6 +115,7 @@ static void refuse_null_handles(void) {
     ANSWERS(CLSM_BAD_POINTER, clsm_remove(NULL, 1));
     ANSWERS(CLSM_BAD_POINTER, clsm_try_put(NULL, 1, WORDS, 1));
     ANSWERS(CLSM_BAD_POINTER, clsm_try_remove(NULL, 1));
+    ANSWERS(CLSM_BAD_POINTER, clsm_batch(NULL, &row, 1));
     ANSWERS(CLSM_BAD_POINTER, clsm_get(NULL, 1, &value));
     ANSWERS(CLSM_BAD_POINTER, clsm_count(NULL, 0, 1, &keys));
     ANSWERS(CLSM_BAD_POINTER, clsm_page(NULL, 0, 1, &row, 1, &end));

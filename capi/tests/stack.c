@@ -48,6 +48,10 @@ static void remove_keys(void) {
     for (uint64_t key = 0; key < 100; key++) OK(clsm_remove(caller, key));
 }
 static void try_put(void) { clsm_try_put(caller, 5, WORDS, 8); }
+static void batch(void) {
+    for (uint64_t i = 0; i < 16; i++) rows[i] = (clsm_row){i, {1, {i}}};
+    OK(clsm_batch(caller, rows, 16));
+}
 static void get(void) { OK(clsm_get(caller, 500, NULL)); }
 static void count(void) { OK(clsm_count(caller, 0, UINT64_MAX, &keys)); }
 static void page(void) { OK(clsm_page(caller, 0, UINT64_MAX, rows, 64, &end)); }
@@ -96,6 +100,7 @@ int main(int count_of_words, char **words) {
                  {"clsm_try_put", try_put},
                  {"clsm_sweep", sweep},
                  {"clsm_put", put_one},
+                 {"clsm_batch", batch},
                  {"clsm_get", get},
                  {"clsm_count", count},
                  {"clsm_page", page},

@@ -13,7 +13,7 @@ $(T): $(OUT)/settings
 
 # ---- Programs: over the library; `mocked` and `checked` over the parts and the mock core.
 
-$(T)/threads $(T)/refusals $(T)/changes $(T)/lives $(T)/audited: $(T)/%: tests/%.c $(SHARED_HEADERS) $(T)/between.o $(OUT)/libclsm.a
+$(T)/threads $(T)/refusals $(T)/changes $(T)/batch $(T)/lives $(T)/audited: $(T)/%: tests/%.c $(SHARED_HEADERS) $(T)/between.o $(OUT)/libclsm.a
 	$(STRICT) -o $@ $< $(T)/between.o $(OUT)/libclsm.a $(BETWEEN)
 
 $(T)/memory: $(T)/%: tests/%.c $(SHARED_HEADERS) $(OUT)/libclsm.a | $(T)
@@ -91,10 +91,10 @@ warnings:
 
 ROUNDS = $(if $(SANITIZE),2000,20000)
 EXAMPLES = $(patsubst examples/%.c,%,$(wildcard examples/*.c))
-PROGRAMS = threads refusals memory lives stack changes cxx core mocked checked $(EXAMPLES:%=example-%) \
+PROGRAMS = threads refusals memory lives stack changes batch cxx core mocked checked $(EXAMPLES:%=example-%) \
     $(if $(SANITIZE),,shared) $(if $(filter address,$(SANITIZE)),closed) $(if $(AUDIT),audited)
 BUILT = $(PROGRAMS:%=$(T)/%)
-PLAIN = refusals memory lives stack changes cxx core mocked checked $(if $(filter address,$(SANITIZE)),closed)
+PLAIN = refusals memory lives stack changes batch cxx core mocked checked $(if $(filter address,$(SANITIZE)),closed)
 AGAIN = $(MAKE) OUT=$(OUT) CORE=$(CORE)
 # What is not for sanitizers; what the documents show is not in an archive that was packed.
 WHOLE = "$(T)/shared shared" "tests/examples rust $(CORE) $(OUT)/rust" \

@@ -28,9 +28,6 @@ UNUSED_CALLS = {
     "clsm_sweep",
     "clsm_time",
 }
-# Of calls that a library may lack.
-OPTIONAL_CODES = {"BAD_BATCH"}
-
 STRUCTURES: Dict[str, Any] = {
     "clsm_value": library.Value,
     "clsm_row": library.Row,
@@ -120,10 +117,7 @@ class Declarations(unittest.TestCase):
         cls.header = Header(HEADER.read_text(encoding="ascii"))
 
     def test_codes(self) -> None:
-        codes = self.header.codes()
-        for name in OPTIONAL_CODES & codes.keys():
-            del codes[name]
-        self.assertEqual(codes, {code.name: int(code) for code in Code})
+        self.assertEqual(self.header.codes(), {code.name: int(code) for code in Code})
 
     def test_versions(self) -> None:
         project = (PROJECT / "pyproject.toml").read_text(encoding="ascii")
@@ -140,7 +134,7 @@ class Declarations(unittest.TestCase):
     def test_calls(self) -> None:
         found = self.header.calls()
         declared = library.DECLARED.keys()
-        self.assertEqual(declared - found.keys() - library.OPTIONAL, set())
+        self.assertEqual(declared - found.keys(), set())
         self.assertEqual(found.keys() - declared, UNUSED_CALLS)
         for name in declared & found.keys():
             with self.subTest(call=name):
@@ -152,7 +146,7 @@ class Declarations(unittest.TestCase):
         keeping += [library.PUT.attempt, library.REMOVE.attempt]
         releasing = [library.CALLER_READS.count, library.SNAPSHOT_READS.count]
         releasing += [library.PUT.wait, library.REMOVE.wait, library.snapshot_page]
-        releasing += [library.add, library.put_if_absent, library.replace]
+        releasing += [library.add, library.put_if_absent, library.replace, library.batch]
         releasing += [library.store_open, library.store_close, library.snapshot_open]
         releasing += [library.snapshot_close, library.caller_open, library.caller_close]
         self.assertEqual([is_kept_by(call) for call in keeping], [True] * len(keeping))

@@ -33,6 +33,7 @@ class RandomCalls:
         self.calls: List[Callable[[], None]] = [
             *([self.set_item] * 8),
             *([self.remove] * 3),
+            self.write_batch,
             *([self.add] * 4),
             *([self.set_default] * 2),
             *([self.replace] * 3),
@@ -85,6 +86,16 @@ class RandomCalls:
         key = self.key()
         self.store.remove(key)
         self.model.pop(key, None)
+
+    def write_batch(self) -> None:
+        with self.store.batch() as batch:
+            for _ in range(self.random.randrange(20)):
+                key, value = self.key(), self.value_or_none()
+                self.put(key, value)
+                if value is None:
+                    batch.remove(key)
+                else:
+                    batch[key] = value
 
     def add(self) -> None:
         key, by = self.key(), self.random.getrandbits(self.random.choice([2, 64]))

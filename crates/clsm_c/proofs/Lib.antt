@@ -3,4 +3,6 @@ mod Filled
 mod GivenBack
 mod HandedOut
 mod Lent
+mod Listed
+mod Members
 mod Rows

@@ -4,11 +4,12 @@ use Rattle.clsm_model.specs.declared.slot.Change.{Change}
 use Rattle.clsm_model.specs.declared.slot.Change.TheVariants.{Keep, Set, Remove as Removal}
 use Rattle.clsm_model.specs.Config.{IsSound}
 use Rattle.clsm_model.specs.Map.{Pair}
-use Rattle.clsm_model.specs.Right.{page_deed}
+use Rattle.clsm_model.specs.Right.{Member, page_deed}
+use Rattle.clsm_model.specs.Seats.{FitsDeed}
 use Rattle.clsm_model.specs.declared.config.Config.{Config}
 use Rattle.clsm_model.specs.declared.config.OpenError.{OpenError}
 use Rattle.clsm_model.specs.declared.config.OpenError.TheVariants.{Cells, Seats, Shards, Run, Memory, Patience}
-use Rattle.clsm_model.specs.declared.record.Deed.TheVariants.{Close, Get, GetAt, Put, Remove, Rmw as ChangeOf, Snapshot}
+use Rattle.clsm_model.specs.declared.record.Deed.TheVariants.{Batch as Group, Close, Get, GetAt, Put, Remove, Rmw as ChangeOf, Snapshot}
 use Rattle.clsm_model.specs.declared.record.Deed.{Deed}
 use Rattle.clsm_store.specs.Changes.{Replaces, added}
 use Rattle.clsm_store.specs.Freezing.{TryFreezes}
@@ -20,12 +21,16 @@ use Rattle.clsm_store.specs.declared.sweeping.Stopped.{Stopped}
 use Rattle.clsm_store.specs.declared.sweeping.Stopped.TheVariants.{Worn as SweepWorn, RunFull, Pinned}
 use Rattle.clsm_store.specs.declared.sweeping.TrySwept.{TrySwept}
 use Rattle.clsm_store.specs.declared.sweeping.TrySwept.TheVariants.{Busy as SweepBusy, Done as SweepDone, Waited as SweepWaited}
+use Rattle.clsm_store_calls.specs.Batching.{CountsTryBatch, IsRefusedTryBatch}
 use Rattle.clsm_store_calls.specs.Scanning.{CountsKeys, IsAtClock}
 use Rattle.clsm_store_calls.specs.Seats.{Answers, Refuses, SeatState}
 use Rattle.clsm_store_calls.specs.Tally.{CountsTry, TakesNoLock}
 use Rattle.clsm_store_calls.specs.Trying.{RefusesTry}
 use Rattle.clsm_store_calls.specs.TryingChange.{CountsTryChange}
 use Rattle.clsm_store_calls.specs.declared.got.Rmw.{Rmw}
+use Rattle.clsm_store_calls.specs.declared.refusal.BatchError.TheVariants.{Full as NoRoom}
+use Rattle.clsm_store_calls.specs.declared.refusal.TryBatchError.{TryBatchError}
+use Rattle.clsm_store_calls.specs.declared.refusal.TryBatchError.TheVariants.{Busy as BatchBusy, Refused}
 use Rattle.clsm_store_calls.specs.declared.refusal.TryPutError.{TryPutError}
 use Rattle.clsm_store_calls.specs.declared.refusal.TryPutError.TheVariants.{Full, Busy, Raced, Overtaken}
 use Rattle.clsm_store_calls.specs.declared.refusal.Worn.{Worn}
@@ -33,7 +38,7 @@ use Rattle.clsm_handle.specs.Opening.{AreHandles}
 use Rattle.clsm_handle.specs.declared.caller.OwnCaller.{OwnCaller}
 use Rattle.clsm_handle.specs.declared.merger.OwnMerger.{OwnMerger}
 use Rattle.clsm_handle.specs.declared.opening.Handles.{Handles}
-use Rattle.clsm_c.specs.declared.codes.TheConstants.{BAD_EPOCH, BAD_KEYS, BAD_PATIENCE, BAD_SEATS, BAD_SHARDS, BAD_VALUE, BUSY, FULL, IDLE, MEMORY}
+use Rattle.clsm_c.specs.declared.codes.TheConstants.{BAD_BATCH, BAD_EPOCH, BAD_KEYS, BAD_PATIENCE, BAD_SEATS, BAD_SHARDS, BAD_VALUE, BUSY, FULL, IDLE, MEMORY}
 use Rattle.clsm_c.specs.declared.codes.TheConstants.{KEPT, NO_HANDLE, NO_SNAPSHOT, NOT_FOUND, OK, OPEN, OVERTAKEN, PINNED, RACED, RUN_FULL, WORN}
 use Rattle.clsm_c.specs.declared.types.CoreAdding.{CoreAdding}
 use Rattle.clsm_c.specs.declared.types.CoreChanged.{CoreChanged}
@@ -149,6 +154,58 @@ ReplacesAt old ask new answer code =
 
 abbrev pub ReplacesBy : Option OwnCaller → CoreReplacing → Option OwnCaller → CoreChanged → ℕ → Type 0
 ReplacesBy old ask new answer code = ByCaller (λ before after. ReplacesAt before ask after answer code) old new code
+
+-- ---- its batches
+
+-- the row is the member: a write of its value, or, with no value, a removal
+abbrev pub IsMember : CoreRow → Member → Type 0
+IsMember row (key, Set value) = (row.key ≡ key) × IsValue row.value (Some value)
+IsMember row (key, Removal) = (row.key ≡ key) × IsValue row.value None
+IsMember row (key, Keep) = ⊥
+
+-- each row is the member at its place
+abbrev pub AreMembers : List CoreRow → List Member → Type 0
+AreMembers [] [] = ⊤
+AreMembers (row ∷ rows) (member ∷ members) = IsMember row member × AreMembers rows members
+AreMembers _ _ = ⊥
+
+-- one of the rows has a value with too many words
+abbrev pub HasLong : List CoreRow → Type 0
+HasLong [] = ⊥
+HasLong (row ∷ rows) = (8 < row.value.length) ⊎ HasLong rows
+
+-- the code of what a try of a batch came to
+abbrev pub batch_code : Result ℕ TryBatchError → ℕ
+batch_code (Ok t) = OK
+batch_code (Err BatchBusy) = BUSY
+batch_code (Err (Refused (NoRoom t))) = FULL
+batch_code (Err (Refused _)) = BAD_BATCH
+
+-- the time that it answers: the batch's, or the clock's, where too few timestamps were left
+abbrev pub IsBatchTime : ℕ → Result ℕ TryBatchError → Type 0
+IsBatchTime time (Ok t) = time ≡ t
+IsBatchTime time (Err (Refused (NoRoom t))) = time ≡ t
+IsBatchTime time (Err _) = Unit {0}
+
+-- a try to write the rows as one batch came to something, which the code tells
+pub record TriesBatch (old new : SeatState) (rows : List CoreRow) (time code : ℕ) : Type 0 where
+  pub members : List Member
+  pub are : AreMembers rows members
+  pub came : Result ℕ TryBatchError
+  pub told : code ≡ batch_code came
+  pub timed : IsBatchTime time came
+  pub written : IfOk came (λ t. Answers old new t (Group members))
+  pub fits : IfOk came (λ t. FitsDeed old.store.layout.cells (Group members))
+  pub refused : IfErr came (IsRefusedTryBatch old new members)
+  pub counts : CountsTryBatch old.tally new.tally came
+
+-- or one of the values is too long, or memory ran out, and nothing was done
+abbrev pub BatchesAt : SeatState → List CoreRow → SeatState → CoreTime → ℕ → Type 0
+BatchesAt old rows new answer code =
+    TriesBatch old new rows answer.time code ⊎ ((new ≡ old) × (((code ≡ BAD_VALUE) × HasLong rows) ⊎ (code ≡ MEMORY)))
+
+abbrev pub Batches : Option OwnCaller → List CoreRow → Option OwnCaller → CoreTime → ℕ → Type 0
+Batches old rows new answer code = ByCaller (λ before after. BatchesAt before rows after answer code) old new code
 
 -- ---- its reads
 

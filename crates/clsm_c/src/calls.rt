@@ -1,25 +1,26 @@
 //! The calls for C, on slots: safe functions, one for each export, of its name.
-ghost use Rattle.std.specs.Prelude.{◌≡◌};
-ghost use Rattle.clsm_c.specs.Calls.{Adds, Closes, Counts, Fills, FreezesIf, Gets, GetsAt, IsNext, IsPinnedBy, IsRefusedAt, IsTimeOf, Opens, Pages};
-ghost use Rattle.clsm_c.specs.Calls.{Puts, Removes, ReplacesBy, Snaps, Sweeps, TakesCaller, TakesMerger, TellsChange};
-ghost use Rattle.clsm_c.specs.Calls.{change_code, found_code, freeze_code, kept_code, refusal_code, refused_code, sweep_code, try_code, value_after};
+ghost use Rattle.std.specs.Prelude.{◌≡◌, ◌<◌, IfErr, IfNone, IfOk, IfSome};
+ghost use Rattle.clsm_c.specs.Calls.{Adds, AreMembers, Batches, Closes, Counts, Fills, FreezesIf, Gets, GetsAt, IsNext, IsPinnedBy, IsRefusedAt, IsTimeOf, Opens, Pages};
+ghost use Rattle.clsm_c.specs.Calls.{HasLong, IsBatchTime, IsMember, Puts, Removes, ReplacesBy, Snaps, Sweeps, TakesCaller, TakesMerger, TellsChange};
+ghost use Rattle.clsm_c.specs.Calls.{batch_code, change_code, found_code, freeze_code, kept_code, refusal_code, refused_code, sweep_code, try_code, value_after};
 ghost use Rattle.clsm_c.specs.Values.{TellsValue};
 
 use crate::codes::{
-    BAD_EPOCH, BAD_KEYS, BAD_PATIENCE, BAD_SEATS, BAD_SHARDS, BAD_VALUE, BUSY, Code, FULL, IDLE,
-    KEPT, MEMORY, NO_HANDLE, NO_SNAPSHOT, NOT_FOUND, OK, OPEN, OVERTAKEN, PINNED, RACED, RUN_FULL,
-    WORN,
+    BAD_BATCH, BAD_EPOCH, BAD_KEYS, BAD_PATIENCE, BAD_SEATS, BAD_SHARDS, BAD_VALUE, BUSY, Code,
+    FULL, IDLE, KEPT, MEMORY, NO_HANDLE, NO_SNAPSHOT, NOT_FOUND, OK, OPEN, OVERTAKEN, PINNED,
+    RACED, RUN_FULL, WORN,
 };
 use crate::slots::{CallerSlot, MergerSlot, StoreSlot};
 use crate::types::{
     CoreAdding, CoreChanged, CoreCode, CoreCounted, CoreGot, CoreKey, CorePaged, CoreRange,
-    CoreReplacing, CoreRow, CoreSizes, CoreTime, CoreUsed, from_core, to_core, value_or_none,
+    CoreReplacing, CoreRow, CoreSizes, CoreTime, CoreUsed, TooLong, from_core, to_core,
+    value_or_none,
 };
 use clsm_handle::{
-    Change, Config, Got, OpenError, Rmw, Stopped, Time, TryFroze, TryPutError, TrySwept, Value,
-    Worn,
+    BatchError, Change, Config, Got, OpenError, Rmw, Stopped, Time, TryBatchError, TryFroze,
+    TryPutError, TrySwept, Value, Worn,
 };
-use std::alloc::Global;
+use std::alloc::{AllocError, Global};
 
 // ---- stores
 
@@ -233,6 +234,87 @@ pub(crate) fn try_replace(
     };
     let came = caller.try_replace(ask.key, expected, desired);
     tell_change(came, answer)
+}
+
+// ---- a caller's batches
+
+/// Why rows are no members of a batch.
+enum NoMembers {
+    /// The value of one has too many words.
+    TooLong,
+    Memory,
+}
+
+impl From<AllocError> for NoMembers {
+    ghost use Rattle.clsm_c.specs.declared.calls.NoMembers.TheVariants.{Memory};
+
+    ghost from_gives = { λ _ e. e ≡ Memory };
+
+    fn from(_: AllocError) -> NoMembers {
+        NoMembers::Memory
+    }
+}
+
+/// The member that the row is: a write of its value, or a removal if it has none.
+fn to_member(row: &CoreRow) -> Option<(u64, Change)>
+    ensures member { IfSome result (IsMember row.now) }
+    ensures none { IfNone result (8 < row.now.value.length) }
+{
+    match value_or_none(&row.value) {
+        Ok(Some(value)) => Some((row.key, Change::Set(value))),
+        Ok(None) => Some((row.key, Change::Remove)),
+        Err(TooLong) => None,
+    }
+}
+
+/// The members that the rows are.
+fn to_members(alloc: Global, rows: &[CoreRow]) -> Result<Vec<(u64, Change)>, NoMembers>
+    ensures members { IfOk result (λ members. AreMembers rows.now members.items) }
+    ensures long { IfErr result (λ error. error ≡ NoMembers.TooLong → HasLong rows.now) }
+{
+    let mut members = Vec::with_capacity(alloc, rows.len())?;
+    for row in rows {
+        match to_member(row) {
+            Some(member) => members.push_reserved(member),
+            None => return Err(NoMembers::TooLong),
+        }
+    }
+    Ok(members)
+}
+
+/// Tells what a try of a batch came to, and its time, if it has one.
+fn tell_batch(came: Result<Time, TryBatchError>, answer: &mut CoreTime) -> Code
+    ensures code { result ≡ batch_code came }
+    ensures time { IsBatchTime answer.new.time came }
+{
+    match came {
+        Ok(time) => {
+            answer.time = time;
+            OK
+        }
+        Err(TryBatchError::Busy) => BUSY,
+        Err(TryBatchError::Refused(BatchError::Full { time })) => {
+            answer.time = time;
+            FULL
+        }
+        Err(TryBatchError::Refused(_)) => BAD_BATCH,
+    }
+}
+
+pub(crate) fn try_batch(slot: &mut CallerSlot, rows: &[CoreRow], answer: &mut CoreTime) -> Code
+    ensures { Batches slot.old.caller rows.now slot.new.caller answer.new result }
+{
+    let Some(caller) = &mut slot.caller else {
+        return NO_HANDLE;
+    };
+    match to_members(caller.allocator(), rows) {
+        Ok(members) => {
+            let came = caller.try_batch(&members);
+            tell_batch(came, answer)
+        }
+        Err(NoMembers::TooLong) => BAD_VALUE,
+        Err(NoMembers::Memory) => MEMORY,
+    }
 }
 
 // ---- a caller's reads

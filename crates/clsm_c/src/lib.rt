@@ -7,7 +7,7 @@
 
 ghost use Rattle.std.specs.Prelude.{◌≡◌};
 ghost use Rattle.std.specs.Ptr.{room_at};
-ghost use Rattle.clsm_c.specs.Calls.{Adds, Closes, Counts, FreezesIf, Gets, GetsAt, Opens, Pages, Puts, Removes, ReplacesBy, Snaps, Sweeps, TakesCaller, TakesMerger};
+ghost use Rattle.clsm_c.specs.Calls.{Adds, Batches, Closes, Counts, FreezesIf, Gets, GetsAt, Opens, Pages, Puts, Removes, ReplacesBy, Snaps, Sweeps, TakesCaller, TakesMerger};
 ghost use Rattle.clsm_c.specs.Lent.{both, bytes_of, left, lies};
 ghost use Rattle.clsm_c.specs.contracts.slots.CallerSlot.{the_row as caller_row};
 ghost use Rattle.clsm_c.specs.contracts.slots.MergerSlot.{the_row as merger_row};
@@ -156,6 +156,26 @@ pub unsafe extern "C" fn clsm_core_try_remove(
     ensures* { sem 𝓛 (left caller_row caller (λ new. Removes old.caller ask.now new.caller answer.new result)) }
 {
     calls::try_remove(unsafe { &mut *caller.cast::<CallerSlot>() }, ask, answer)
+}
+
+/// Writes the rows as one batch: at consecutive times in their order, all of which become visible at
+/// one moment. A row without a value removes its key; of several rows of one key the last one wins.
+/// Answers `OK` and the time of the first row. It takes memory for the rows while it runs, and tries
+/// to take the lock once. Refused, in this order, with `MEMORY`, `BAD_VALUE` if a value has more than
+/// eight words, `BAD_BATCH` if there is no row or more than an epoch has cells, `BUSY` if the lock
+/// was not free, and `FULL` and the clock's time if the epoch has fewer timestamps left than there
+/// are rows: nothing was written then.
+#[unsafe(no_mangle)]
+pub unsafe extern "C" fn clsm_core_try_batch(
+    caller: *mut u8,
+    rows: &[CoreRow],
+    answer: &mut CoreTime,
+) -> u32
+    ghost old: { CallerSlot }
+    requires* { sem 𝓛 (lies caller_row caller old) }
+    ensures* { sem 𝓛 (left caller_row caller (λ new. Batches old.caller rows.now new.caller answer.new result)) }
+{
+    calls::try_batch(unsafe { &mut *caller.cast::<CallerSlot>() }, rows, answer)
 }
 
 // ---- a caller's read-modify-writes

@@ -1,7 +1,7 @@
 ghost use Rattle.std.specs.Prelude.{◌≡◌, ◌==◌, ◌+◌, ◌<◌, ◌^◌};
 ghost use Rattle.clsm_law.specs.Memory.{link_at};
 ghost use Rattle.clsm_law.specs.declared.layout.Layout.{Layout};
-ghost use Rattle.clsm_law.specs.Relation.{again_after, holds_lock, is_listed, looked, once_more, takes_hold, waited_after};
+ghost use Rattle.clsm_law.specs.Relation.{again_after, first_of, holds_lock, is_idle, is_listed, looked, once_more, takes_hold, waited_after};
 ghost use Rattle.clsm_law.specs.SeatBounds.{IsSmallLook};
 
 use crate::reaches::reached_by_state;
@@ -16,6 +16,23 @@ fn holds_lock(view: &View) -> bool
     ensures { result ≡ holds_lock view.now }
 {
     view.mode != Mode::Free
+}
+
+/// Whether the seat neither holds the lock nor reads.
+fn is_idle(view: &View) -> bool
+    ensures { result ≡ is_idle view.now }
+{
+    view.mode == Mode::Free && !view.pinned
+}
+
+/// The first of the looks, with this one.
+fn first_of(first: Option<Time>, found: Time) -> Option<Time>
+    ensures { result ≡ first_of first found }
+{
+    match first {
+        Some(time) => Some(time),
+        None => Some(found),
+    }
 }
 
 /// Whether a look at MERGED gives the component held.
@@ -41,10 +58,14 @@ fn note_lock(view: &mut View, found: u64)
 fn note_clock(view: &mut View, found: Time)
     ensures { (z : Layout) → view.new ≡ looked z view.old Word.Clock found }
 {
+    if is_idle(view) {
+        view.clock_looks = view.clock_looks.wrapping_add(1);
+    }
     view.fresh_clock = Some(found);
     view.clock = Some(found);
     if holds_lock(view) {
         view.hold_clock = Some(found);
+        view.hold_first = first_of(view.hold_first, found);
     }
     if view.pinned {
         view.pin_clock = Some(found);
@@ -52,6 +73,15 @@ fn note_clock(view: &mut View, found: Time)
     if let SnapshotState::Noted(noted) = view.snapshot {
         view.snapshot = SnapshotState::Timed { noted, time: found };
     }
+}
+
+fn note_limit(view: &mut View, found: Time)
+    ensures { (z : Layout) → view.new ≡ looked z view.old Word.Limit found }
+{
+    if is_idle(view) {
+        view.limit_looks = view.limit_looks.wrapping_add(1);
+    }
+    view.hold_limit = Some(found);
 }
 
 fn note_merged(layout: &Layout, view: &mut View, found: u64)
@@ -168,7 +198,7 @@ pub(crate) fn note_look(layout: &Layout, view: &mut View, word: Word, found: u64
     match word {
         Word::Lock => note_lock(view, found),
         Word::Clock => note_clock(view, found),
-        Word::Limit => view.hold_limit = Some(found),
+        Word::Limit => note_limit(view, found),
         Word::Front => view.reached = view.reached.max(found),
         Word::Merged => note_merged(layout, view, found),
         Word::Head { region, chain } if holds_lock(view) => {

@@ -22,6 +22,7 @@ fn note_pin(view: &mut View)
     view.pinned = true;
     view.held = None;
     view.pin_clock = None;
+    view.waited = None;
 }
 
 /// Notes that a read ends so.

@@ -20,6 +20,7 @@ pub fn idle(alloc: Global, layout: &Layout) -> Result<View, AllocError>
         fresh_heads,
         hold_limit: None,
         hold_clock: None,
+        hold_first: None,
         drawn: None,
         key: None,
         length: None,
@@ -52,5 +53,7 @@ pub fn idle(alloc: Global, layout: &Layout) -> Result<View, AllocError>
         cancelled: 0,
         waited: None,
         hasty: 0,
+        clock_looks: 0,
+        limit_looks: 0,
     })
 }

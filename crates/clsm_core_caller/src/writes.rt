@@ -23,6 +23,7 @@ fn enter(layout: &Layout, view: &mut View, mode: Mode) -> Result<(), AllocError>
     view.fresh_clock = None;
     view.hold_limit = None;
     view.hold_clock = None;
+    view.hold_first = None;
     view.entries = view.entries.wrapping_add(1);
     Ok(())
 }
@@ -106,7 +107,9 @@ pub(crate) fn note_taking(layout: &Layout, view: &mut View, found: u64) -> Resul
     if found == 0 {
         enter(layout, view, Mode::Exclusive)?;
         view.committed = false;
+        return Ok(());
     }
+    view.busy = view.busy.wrapping_add(1);
     view.fresh_lock = None;
     Ok(())
 }

@@ -30,6 +30,8 @@ pub fn opening(alloc: Global, layout: &Layout) -> Result<MergerView, AllocError>
         round: None,
         holds: 0,
         rounds: 0,
+        noted: None,
+        clock_looks: 0,
         merged_floor: 0,
         former_floor: 0,
         readers,

@@ -8,7 +8,7 @@ ghost use Rattle.clsm_law.specs.Deciding.{IsMergerSmall, LooksAtWord};
 use crate::facts::is_last;
 use crate::phases::{is_frozen, is_retired};
 use crate::readers::{forget, reader_at, reader_by};
-use crate::rounds::{floor_by, round_by, round_end, rounds_by};
+use crate::rounds::{floor_by, noted_by, round_by, round_end, rounds_by};
 use clsm_law::{Layout, MergerView, Phase, Step, Word};
 
 fn note_snapshot(layout: &Layout, merger: &mut MergerView, seat: u64, found: u64)
@@ -20,6 +20,7 @@ fn note_snapshot(layout: &Layout, merger: &mut MergerView, seat: u64, found: u64
         let round = round_by(layout, merger.round, seat, found);
         merger.floor = floor_by(layout, merger, round);
         merger.rounds = rounds_by(layout, merger, round);
+        merger.noted = noted_by(layout, merger, round);
         merger.round = round_end(layout, round);
     }
 }
@@ -40,6 +41,7 @@ fn leave(layout: &Layout, merger: &mut MergerView)
     if merger.limit_extended {
         merger.phase = Phase::Frozen;
         merger.round = None;
+        merger.noted = None;
     }
     merger.exclusive = false;
     merger.padded = false;
@@ -77,6 +79,9 @@ pub fn note_merger(layout: &Layout, words: &[u64], merger: &mut MergerView, step
         }
         Step::LeaveExclusive => leave(layout, merger),
         Step::Look(Word::Snap(seat)) => note_snapshot(layout, merger, *seat, found),
+        Step::Look(Word::Clock) if !merger.exclusive => {
+            merger.clock_looks = merger.clock_looks.wrapping_add(1);
+        }
         Step::Look(Word::Pin(seat)) => note_pin(layout, merger, *seat, found),
         Step::Pad(_) => merger.padded = true,
         Step::ClearState(cell) if is_last(layout, words, merger, *cell) => {

@@ -1,5 +1,5 @@
 ghost use Rattle.std.specs.Prelude.{◌≡◌, ◌<◌};
-ghost use Rattle.clsm_law.specs.Merging.{floor_by, is_whole, least, least_or, noted_time, round_by, round_end, rounds_by};
+ghost use Rattle.clsm_law.specs.Merging.{floor_by, is_whole, least, least_noted, least_or, noted_by, noted_time, round_by, round_end, rounds_by};
 ghost use Rattle.clsm_law.specs.Deciding.{IsMergerSmall};
 
 use crate::words::epoch_end;
@@ -70,6 +70,16 @@ fn least_or(bound: Time, round: Option<Round>) -> Time
     }
 }
 
+/// The least time noted in the round.
+fn least_noted(round: Option<Round>) -> Option<Time>
+    ensures { result ≡ least_noted round }
+{
+    match round {
+        Some(round) => round.least,
+        None => None,
+    }
+}
+
 /// What is left of the round: nothing, where it is whole.
 pub(crate) fn round_end(layout: &Layout, round: Option<Round>) -> Option<Round>
     ensures { result ≡ round_end layout.now.seats round }
@@ -98,5 +108,16 @@ pub(crate) fn rounds_by(layout: &Layout, merger: &MergerView, round: Option<Roun
         merger.rounds.wrapping_add(1)
     } else {
         merger.rounds
+    }
+}
+
+/// What the last whole round found noted, with this one.
+pub(crate) fn noted_by(layout: &Layout, merger: &MergerView, round: Option<Round>) -> Option<Time>
+    ensures { result ≡ noted_by layout.now merger.now round }
+{
+    if is_whole(layout, round) {
+        least_noted(round)
+    } else {
+        merger.noted
     }
 }

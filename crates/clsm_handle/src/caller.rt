@@ -1,8 +1,10 @@
 //! A caller that keeps its store.
-ghost use Rattle.std.specs.Prelude.{◌≡◌, ◌≢◌, None, Some, IfErr, IfNone, IfOk, IfSome};
+ghost use Rattle.std.specs.Prelude.{◌≡◌, None, Some, IfErr, IfNone, IfOk, IfSome};
 ghost use Rattle.std.specs.Arc.{arc_value};
-ghost use Rattle.clsm_model.specs.declared.record.Deed.TheVariants.{Close, Get, GetAt, Put, Remove, Rmw as ChangeOf, Snapshot};
+ghost use Rattle.clsm_model.specs.declared.record.Deed.TheVariants.{Batch as Group, Close, Get, GetAt, Put, Remove, Rmw as ChangeOf, Snapshot};
 ghost use Rattle.clsm_model.specs.Right.{page_deed};
+ghost use Rattle.clsm_model.specs.Seats.{FitsDeed};
+ghost use Rattle.clsm_store_calls.specs.Batching.{CountsTryBatch, IsRefusedTryBatch};
 ghost use Rattle.clsm_store_calls.specs.Scanning.{CountsKeys, IsAtClock};
 ghost use Rattle.clsm_store_calls.specs.Seats.{Answers, Refuses};
 ghost use Rattle.clsm_store_calls.specs.Tally.{CountsTry, TakesNoLock};
@@ -11,7 +13,8 @@ ghost use Rattle.clsm_store_calls.specs.TryingChange.{CountsTryChange};
 ghost use Rattle.clsm_store.specs.Changes.{Replaces, added};
 
 use clsm_store::{
-    Counted, Free, Got, Memory, Open, Page, Rmw, Seat, Store, Time, TryPutError, Value,
+    Change, Counted, Free, Got, Memory, Open, Page, Rmw, Seat, Store, Time, TryBatchError,
+    TryPutError, Value,
 };
 use std::alloc::Global;
 use std::sync::Arc;
@@ -71,7 +74,23 @@ impl OwnCaller {
             .try_replace(&mut self.seat, key, expected, desired)
     }
 
+    /// As `Store::try_batch`.
+    pub fn try_batch(&mut self, members: &[(u64, Change)]) -> Result<Time, TryBatchError>
+        ensures written { IfOk result (λ time. Answers self.old.seat self.new.seat time (Group members.now)) }
+        ensures fits { IfOk result (λ time. FitsDeed self.old.seat.store.layout.cells (Group members.now)) }
+        ensures counts { CountsTryBatch self.old.seat.tally self.new.seat.tally result }
+        ensures refused { IfErr result (IsRefusedTryBatch self.old.seat self.new.seat members.now) }
+    {
+        self.store.try_batch(&mut self.seat, members)
+    }
+
+    /// The allocator of what its calls collect.
+    pub fn allocator(&self) -> Global {
+        self.alloc
+    }
+
     /// As `Store::get`.
+    #[inline(always)]
     pub fn get(&mut self, key: u64) -> Got
         ensures answers { Answers self.old.seat self.new.seat result.time (Get key result.value) }
         ensures clock { self.new.seat.clock ≡ Some result.time }

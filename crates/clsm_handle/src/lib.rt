@@ -8,8 +8,8 @@ mod opening;
 
 pub use caller::OwnCaller;
 pub use clsm_store::{
-    Change, Config, Counted, Got, Memory, Open, OpenError, Page, Rmw, Rows, Stopped, Time,
-    TryFroze, TryPutError, TrySwept, Value, Worn,
+    BatchError, Change, Config, Counted, Got, Memory, Open, OpenError, Page, Rmw, Rows, Stopped,
+    Time, TryBatchError, TryFroze, TryPutError, TrySwept, Value, Worn,
 };
 pub use merger::OwnMerger;
 pub use opening::{Handles, open};

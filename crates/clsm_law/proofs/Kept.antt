@@ -18,6 +18,7 @@ use Rattle.clsm_law.proofs.Drawn.Kept.{holding_kept, holding_merged, pending_kep
 use Rattle.clsm_law.proofs.Drawn.Kept.{filled_kept, filled_merged}
 use Rattle.clsm_law.proofs.Lock.Kept.{seated_kept, seated_merged, lock_kept, lock_merged, locked_out_kept, locked_out_merged, sole_kept, sole_merged}
 use Rattle.clsm_law.proofs.Lock.Kept.{merger_kept, merger_merged}
+use Rattle.clsm_law.proofs.Lock.Found.{found_heads_kept, found_heads_merged, found_links_kept, found_links_merged}
 use Rattle.clsm_law.proofs.Noted.Kept.{limits_kept, limits_merged, fresh_clocks_kept, fresh_clocks_merged, hold_clocks_kept, hold_clocks_merged, clocks_kept}
 use Rattle.clsm_law.proofs.Noted.Kept.{clocks_merged, pin_clocks_kept, pin_clocks_merged}
 use Rattle.clsm_law.proofs.Orders.Kept.{ordered_kept, sorted_kept, placed_kept, entered_kept}
@@ -77,6 +78,8 @@ kept s step r = let o = opens_plain s step r in record {
   highs = highs_kept s step o;
   lower = lower_kept s step o;
   higher = higher_kept s step o;
+  found_heads = found_heads_kept s step o;
+  found_links = found_links_kept s step o;
   limits = limits_kept s step o;
   fresh_clocks = fresh_clocks_kept s step o;
   hold_clocks = hold_clocks_kept s step o;
@@ -158,6 +161,8 @@ kept' g step o = record {
   highs = highs_merged g step o;
   lower = lower_merged g step o;
   higher = higher_merged g step o;
+  found_heads = found_heads_merged g step o;
+  found_links = found_links_merged g step o;
   limits = limits_merged g step o;
   fresh_clocks = fresh_clocks_merged g step o;
   hold_clocks = hold_clocks_merged g step o;

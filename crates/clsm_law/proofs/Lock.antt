@@ -1,2 +1,3 @@
 -- How the clauses on the lock are kept.
 pub mod Kept
+pub mod Found

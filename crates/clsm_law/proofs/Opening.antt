@@ -110,6 +110,8 @@ module _ (z : Layout) where
     highs = λ i ne. absurd (ne (ap high_of (idle_at n i)));
     lower = λ i t k e. absurd (none_at drawn_of n i t refl e);
     higher = λ i t k e. absurd (none_at drawn_of n i t refl e);
+    found_heads = λ i t chain x e. let h = ap mode_of (idle_at n i) in absurd (cc (h, e));
+    found_links = λ i t found e. let h = ap mode_of (idle_at n i) in absurd (cc (h, e));
     limits = λ i x e f. absurd (none_at hold_limit_of n i x refl f);
     fresh_clocks = λ i x e. absurd (none_at fresh_clock_of n i x refl e);
     hold_clocks = λ i x e. absurd (none_at hold_clock_of n i x refl e);

@@ -1,5 +1,4 @@
--- The law of a world: what every open step keeps. Each clause is stated over the few functions that
--- it names.
+-- The law of a world: what every open step keeps, each clause over the few functions it names.
 use Rattle.std.specs.Prelude.{◌≡◌, ◌≢◌, ℕ, ◌+◌, ◌-◌, ◌*◌, ◌%◌, ◌<◌, ◌≤◌, ◌&&◌, ◌||◌, ◌⊎◌, Bool, true, false, not, cond, List, [], ◌∷◌, length, slice_index}
 use Rattle.std.specs.Prelude.{slice_index_or, Option, Some, None, is_some}
 use Rattle.std.specs.List.{AllByRecursion, sum_by}
@@ -16,6 +15,7 @@ use Rattle.clsm_law.specs.declared.word.Word.TheVariants.{Lock, Clock, Limit, Fr
 use Rattle.clsm_law.specs.declared.word.Part.{Part}
 use Rattle.clsm_law.specs.declared.word.Part.TheVariants.{Key, Length, Value, Next}
 use Rattle.clsm_law.specs.declared.view.View.{View}
+use Rattle.clsm_law.specs.declared.view.FreshLink.{FreshLink}
 use Rattle.clsm_law.specs.declared.view.Mode.{Mode}
 use Rattle.clsm_law.specs.declared.view.Mode.TheVariants.{Free, Exclusive}
 use Rattle.clsm_law.specs.declared.view.SnapshotState.{SnapshotState}
@@ -23,9 +23,9 @@ use Rattle.clsm_law.specs.declared.view.SnapshotState.TheVariants.{Absent, Noted
 use Rattle.clsm_law.specs.declared.merger.MergerView.{MergerView}
 use Rattle.clsm_law.specs.declared.merger.Round.{Round}
 use Rattle.clsm_law.specs.Codes.{exclusive_hold, last_limit}
-use Rattle.clsm_law.specs.Memory.{Memory, cell_of, region_of, link_of, key_at, room_of}
+use Rattle.clsm_law.specs.Memory.{Memory, cell_of, region_of, link_at, link_of, key_at, room_of}
 use Rattle.clsm_law.specs.Places.{is_named, held_at}
-use Rattle.clsm_law.specs.Views.{IsShort, is_shared, is_exclusive, length_of, words_of, state_of}
+use Rattle.clsm_law.specs.Views.{IsShort, is_shared, is_exclusive, length_of, line_of, words_of, state_of}
 use Rattle.clsm_law.specs.OpenSteps.{open_time}
 use Rattle.clsm_law.specs.Relation.{Chains, Orders, Before}
 use Rattle.clsm_law.specs.Merging.{is_clean, is_frozen, is_retired, is_all_quiet, reader_at, epoch_end}
@@ -62,6 +62,13 @@ order_next_of v = v.order_next
 -- the drawn cell stands in the ordered list
 abbrev pub inserted_of : View → Bool
 inserted_of v = v.inserted
+
+-- the last looks at heads of chains, and at a link of the ordered list, while they are fresh
+abbrev pub fresh_heads_of : View → List (Option ℕ)
+fresh_heads_of v = v.fresh_heads
+
+abbrev pub fresh_link_of : View → Option FreshLink
+fresh_link_of v = v.fresh_link
 
 -- the places of the list that it met last, and found last before and behind the drawn cell
 abbrev pub met_of : View → ℕ
@@ -356,6 +363,23 @@ abbrev pub AreHigher : Layout → Memory → (ℕ → Option ℕ) → (ℕ → O
 AreHigher z memory drawn key inserted high = (i t k : ℕ) → drawn i ≡ Some t → key i ≡ Some k → inserted i ≡ false → high i ≢ 0
     → Before k (place_of_time z t) (key_at memory (high i)) (high i)
 
+-- in an exclusive hold, a head of the current epoch's region is as the seat's fresh look found it
+abbrev pub AreFoundHeads : Layout → Memory → ℕ → (ℕ → Mode) → (ℕ → List (Option ℕ)) → Type 0
+AreFoundHeads z memory limit mode heads = (i t chain x : ℕ) → mode i ≡ Exclusive → limit ≤ t + z.cells → t < limit
+    → slice_index_or (heads i) (line_of (region_of z (cell_of z t)) chain) None ≡ Some x → memory (Head (region_of z (cell_of z t)) chain) ≡ x
+
+-- the link is of the drawn cell's region, not that behind the cell, and leads as the look found it
+pub record IsFoundLink (z : Layout) (memory : Memory) (t : ℕ) (found : FreshLink) : Type 0 where
+  pub before : ℕ
+  pub link : found.link ≡ link_at (region_of z (cell_of z t)) before
+  pub another : before ≢ place_of_time z t
+  pub leads : memory (Order found.link) ≡ found.next
+
+-- in an exclusive hold, that is so of the fresh link, until the drawn cell is inserted
+abbrev pub AreFoundLinks : Layout → Memory → (ℕ → Mode) → (ℕ → Option ℕ) → (ℕ → Bool) → (ℕ → Option FreshLink) → Type 0
+AreFoundLinks z memory mode drawn inserted fresh = (i t : ℕ) (found : FreshLink) → mode i ≡ Exclusive → drawn i ≡ Some t → inserted i ≡ false
+    → fresh i ≡ Some found → IsFoundLink z memory t found
+
 -- a number noted is at most the bound
 abbrev pub AreNotedBelow : (ℕ → Option ℕ) → ℕ → Type 0
 AreNotedBelow noted bound = (i x : ℕ) → noted i ≡ Some x → x ≤ bound
@@ -530,6 +554,9 @@ pub record LawOf (z : Layout) (memory : Memory) (views : List View) (m : MergerV
   pub highs : AreMembers z (memory Limit) orders (each z mode_of views) (each z high_of views)
   pub lower : AreLower z memory (each z drawn_of views) (each z key_of views) (each z low_of views)
   pub higher : AreHigher z memory (each z drawn_of views) (each z key_of views) (each z inserted_of views) (each z high_of views)
+  -- what is found in an exclusive hold
+  pub found_heads : AreFoundHeads z memory (memory Limit) (each z mode_of views) (each z fresh_heads_of views)
+  pub found_links : AreFoundLinks z memory (each z mode_of views) (each z drawn_of views) (each z inserted_of views) (each z fresh_link_of views)
   -- what is noted
   pub limits : AreLimits (each z mode_of views) (each z hold_limit_of views) (memory Limit)
   pub fresh_clocks : AreNotedBelow (each z fresh_clock_of views) (memory Clock)

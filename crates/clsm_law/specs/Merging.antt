@@ -63,6 +63,8 @@ opening z = record {
   floor = 0;
   round = None;
   rounds = 0;
+  noted = None;
+  clock_looks = 0;
   merged_floor = 0;
   former_floor = 0;
   readers = replicate z.seats unseen;
@@ -248,6 +250,15 @@ floor_by z m round = cond (is_whole z.seats round) (max m.floor (least_or (epoch
 abbrev pub rounds_by : Layout → MergerView → Option Round → ℕ
 rounds_by z m round = cond (is_whole z.seats round) (next_word m.rounds) m.rounds
 
+-- the least time noted in a round
+abbrev pub least_noted : Option Round → Option ℕ
+least_noted None = None
+least_noted (Some r) = r.least
+
+-- what the last whole round found noted, with this one
+abbrev pub noted_by : Layout → MergerView → Option Round → Option ℕ
+noted_by z m round = cond (is_whole z.seats round) (least_noted round) m.noted
+
 -- the pin word differs from the one first noted in this retirement, where one was
 abbrev pub differs : Option ℕ → ℕ → Bool
 differs None x = false
@@ -275,9 +286,12 @@ merger_looked z m (Snap i) x = let round = cond (is_frozen m.phase) (round_by m.
   round = cond (is_frozen m.phase) (round_end z.seats round) m.round;
   floor = cond (is_frozen m.phase) (floor_by z m round) m.floor;
   rounds = cond (is_frozen m.phase) (rounds_by z m round) m.rounds;
+  noted = cond (is_frozen m.phase) (noted_by z m round) m.noted;
 }
 -- while a component is retired: whether the seat is quiet
 merger_looked z m (Pin i) x = record m { readers = cond (is_retired m.phase) (slice_set m.readers i (reader_by (reader_at m.readers i) x)) m.readers }
+-- outside a hold of the lock it is counted
+merger_looked z m Clock x = record m { clock_looks = one_more_if (not m.exclusive) m.clock_looks }
 -- of other words nothing is noted
 merger_looked z m _ x = m
 
@@ -285,12 +299,13 @@ merger_looked z m _ x = m
 abbrev pub merger_after : Layout → Facts → MergerView → Step → ℕ → MergerView
 -- won: the lock is held, which is counted
 merger_after z f m EnterExclusive x = record m { exclusive = cond (x == 0) true m.exclusive; holds = one_more_if (x == 0) m.holds }
--- the lock is given back; where the limit was moved in the hold an epoch is frozen, and no round of
--- looks has begun
+-- the lock is given back; where the limit was moved in the hold an epoch is frozen, no round of looks
+-- has begun, and none found a time noted
 merger_after z f m LeaveExclusive x = record m {
   exclusive = false;
   phase = cond m.limit_extended Frozen m.phase;
   round = cond m.limit_extended None m.round;
+  noted = cond m.limit_extended None m.noted;
   padded = false;
   clock_extended = false;
   limit_extended = false;

@@ -270,22 +270,33 @@ takes_hold v = v.pinned && not (is_some v.held)
 abbrev pub holds_lock : View → Bool
 holds_lock v = not (is_free v.mode)
 
+-- the seat neither holds the lock nor reads
+abbrev pub is_idle : View → Bool
+is_idle v = is_free v.mode && not v.pinned
+
+-- the first of the looks, with this one
+abbrev pub first_of : Option ℕ → ℕ → Option ℕ
+first_of None x = Some x
+first_of (Some first) x = Some first
+
 -- what a look notes, by its word
 abbrev pub looked : Layout → View → Word → ℕ → View
 -- it is fresh, unless it finds the lock held exclusively; a seat that does not hold the lock counts
 -- that
 looked z v Lock x = record v { fresh_lock = cond (x == exclusive_hold) None (Some x); busy = one_more_if (is_free v.mode && x == exclusive_hold) v.busy }
--- it is fresh and the last of all, and that of the hold and of the pin, where there are such; and a
--- noted snapshot gets its time
+-- it is fresh and the last of all, and that of the hold and of the pin, where there are such, and
+-- counted where there are none; and a noted snapshot gets its time
 looked z v Clock x = record v {
   fresh_clock = Some x;
   hold_clock = cond (holds_lock v) (Some x) v.hold_clock;
+  hold_first = cond (holds_lock v) (first_of v.hold_first x) v.hold_first;
   clock = Some x;
   pin_clock = cond v.pinned (Some x) v.pin_clock;
   snapshot = timed_by v.snapshot x;
+  clock_looks = one_more_if (is_idle v) v.clock_looks;
 }
--- that is the limit which it looked at last; an entry into the lock blots it out
-looked z v Limit x = record v { hold_limit = Some x }
+-- that is the limit which it looked at last; an entry into the lock blots it out; counted as above
+looked z v Limit x = record v { hold_limit = Some x; limit_looks = one_more_if (is_idle v) v.limit_looks }
 -- each time below it is decided
 looked z v Front x = record v { reached = max v.reached x }
 -- the first one under a pin gives the component held, and the times before that are decided
@@ -326,6 +337,7 @@ after_entry z mode won v = record v {
   fresh_heads = cond won (blank (2 * z.chains)) v.fresh_heads;
   hold_limit = cond won None v.hold_limit;
   hold_clock = cond won None v.hold_clock;
+  hold_first = cond won None v.hold_first;
   entries = one_more_if won v.entries;
 }
 
@@ -397,8 +409,12 @@ view_after z i v (Decide t deed) x = let won = x == 0 in let alone = is_exclusiv
 }
 -- t is found decided, and an own drawn time is given up; what was cancelled is counted
 view_after z i v (Cancel t) x = record (counted_cancel z v t x) { drawn = given_up v.drawn t; reached = reached_after z v t }
--- the lock is held exclusively where it is won, and nothing is committed in this hold
-view_after z i v EnterExclusive x = let won = x == 0 in record (after_entry z Exclusive won v) { committed = cond won false v.committed }
+-- the lock is held exclusively where it is won, and nothing is committed in this hold; a lost one is
+-- counted
+view_after z i v EnterExclusive x = let won = x == 0 in record (after_entry z Exclusive won v) {
+  committed = cond won false v.committed;
+  busy = one_more_if (not won) v.busy;
+}
 -- the lock is given back, as after a shared hold
 view_after z i v LeaveExclusive x = after_leave z v
 -- the member's time is taken as a draw takes one, and then its key is filled
@@ -411,8 +427,9 @@ view_after z i v (Commit members) x = let first = or_zero v.hold_clock in record
   due = first + length members;
   calls = v.calls ++ call_of i first (Group members) ∷ [];
 }
--- a read runs, by the next pin word: no component is held, and no clock is looked at yet
-view_after z i v Pin x = record v { pin = next_word v.pin; pinned = true; held = None; pin_clock = None }
+-- a read runs, by the next pin word: no component is held, no clock is looked at yet, and no time is
+-- waited for
+view_after z i v Pin x = record v { pin = next_word v.pin; pinned = true; held = None; pin_clock = None; waited = None }
 -- the read is over, by the next pin word: what it recorded joins the calls, the due follows, and a
 -- snapshot that got its time is open
 view_after z i v (Unpin end) x = record v {

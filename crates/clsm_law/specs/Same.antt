@@ -32,17 +32,29 @@ use Rattle.clsm_law.specs.declared.merger.Reader.{Reader}
 use Rattle.clsm_law.specs.declared.merger.MergerView.{MergerView}
 use Rattle.clsm_law.specs.Machine.{WorldState}
 
--- the view without its counts, and without how long it waited
+-- the view without its counts, and without how long it waited and the first look of its last hold
 abbrev pub uncounted : View → View
-uncounted v = record v { entries = 0; busy = 0; raced = 0; overtaken = 0; gave_up = 0; cancelled = 0; waited = None; hasty = 0 }
+uncounted v = record v {
+  hold_first = None;
+  entries = 0;
+  busy = 0;
+  raced = 0;
+  overtaken = 0;
+  gave_up = 0;
+  cancelled = 0;
+  waited = None;
+  hasty = 0;
+  clock_looks = 0;
+  limit_looks = 0;
+}
 
 -- what is noted of a seat, without the count of looks
 abbrev pub uncounted_reader : Reader → Reader
 uncounted_reader r = record r { looks = 0 }
 
--- the merger's view without its counts
+-- the merger's view without its counts, and without what the last whole round found
 abbrev pub uncounted_merger : MergerView → MergerView
-uncounted_merger m = record m { holds = 0; rounds = 0; readers = map uncounted_reader m.readers }
+uncounted_merger m = record m { holds = 0; rounds = 0; noted = None; clock_looks = 0; readers = map uncounted_reader m.readers }
 
 -- the world without them
 abbrev pub uncounted_world : WorldState → WorldState

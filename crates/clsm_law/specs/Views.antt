@@ -26,6 +26,7 @@ idle z = record {
   fresh_heads = blank (2 * z.chains);
   hold_limit = None;
   hold_clock = None;
+  hold_first = None;
   drawn = None;
   key = None;
   length = None;
@@ -58,6 +59,8 @@ idle z = record {
   cancelled = 0;
   waited = None;
   hasty = 0;
+  clock_looks = 0;
+  limit_looks = 0;
 }
 
 -- ---- small words

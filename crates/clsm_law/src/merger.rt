@@ -58,6 +58,12 @@ pub struct MergerView {
     /// How many rounds passed all seats, modulo 2^64.
     #[derive_where(skip(EqHashOrd))]
     pub rounds: u64,
+    /// The least time that the last whole round of this epoch found noted.
+    #[derive_where(skip(EqHashOrd))]
+    pub noted: Option<Time>,
+    /// How often it looked at CLOCK outside a hold of the lock, modulo 2^64.
+    #[derive_where(skip(EqHashOrd))]
+    pub clock_looks: u64,
     /// The floors that the runs of this component and of the one before were merged with.
     pub merged_floor: Time,
     pub former_floor: Time,

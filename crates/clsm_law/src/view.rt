@@ -31,7 +31,8 @@ pub struct FreshLink {
     pub next: u64,
 }
 
-/// Looks at the state of a cell, one after another, each of which found it undecided.
+/// Looks at the state of a cell under one pin, one after another, each of which found it undecided.
+/// A pin reaches fewer times than there are cells, so there the cell names one time.
 #[derive(Clone, Copy, Debug)]
 pub struct Waiting {
     pub cell: u64,
@@ -52,6 +53,9 @@ pub struct View {
     /// The last look at LIMIT, unless the lock was taken since; and the last one at CLOCK in a hold.
     pub hold_limit: Option<Time>,
     pub hold_clock: Option<Time>,
+    /// The first look at CLOCK in the last hold.
+    #[derive_where(skip(EqHashOrd))]
+    pub hold_first: Option<Time>,
     /// The time that it drew and has not decided, the parts of its cell that it filled, and whether
     /// the cell is linked.
     pub drawn: Option<Time>,
@@ -106,12 +110,17 @@ pub struct View {
     pub gave_up: u64,
     #[derive_where(skip(EqHashOrd))]
     pub cancelled: u64,
-    /// The last looks at states, where they found one undecided; and the times of other seats that
-    /// it cancelled before it had looked again as often as the patience says, modulo 2^64.
+    /// The last looks at states under this pin, where they found one undecided; and the times of other
+    /// seats that it cancelled before it had looked again as often as the patience says, modulo 2^64.
     #[derive_where(skip(EqHashOrd))]
     pub waited: Option<Waiting>,
     #[derive_where(skip(EqHashOrd))]
     pub hasty: u64,
+    /// Modulo 2^64: looks at CLOCK and at LIMIT while it neither held the lock nor read.
+    #[derive_where(skip(EqHashOrd))]
+    pub clock_looks: u64,
+    #[derive_where(skip(EqHashOrd))]
+    pub limit_looks: u64,
 }
 
 impl Clone for View {

@@ -32,15 +32,10 @@ pub record Leaves (old new : Known) : Type 0 where
 -- ---- a caller's hold alone
 
 -- it entered: it holds the lock alone, in a hold in which it has looked at nothing and committed
--- nothing; what it tried before that is not counted
+-- nothing; how often it was refused before is open
 pub record EntersExclusively (old new : Known) : Type 0 where
   pub place : KeepsPlace old new
-  pub view : new.view ≡ record (after_entry old.layout Exclusive true old.view) { committed = false }
-
--- it tried the lock, and somebody held it
-pub record WaitsOutside (old new : Known) : Type 0 where
-  pub place : KeepsPlace old new
-  pub view : new.view ≡ record old.view { fresh_lock = new.view.fresh_lock }
+  pub view : new.view ≡ record (after_entry old.layout Exclusive true old.view) { committed = false; busy = new.view.busy }
 
 -- ---- the merger's hold
 

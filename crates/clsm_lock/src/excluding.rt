@@ -2,10 +2,11 @@
 ghost use Rattle.std.specs.Prelude.{◌≡◌, [], None, OnErr, OnOk, true, false};
 ghost use Rattle.clsm_law.specs.declared.view.Mode.TheVariants.{Free, Exclusive};
 ghost use Rattle.clsm_law.specs.declared.step.Step.TheVariants.{LeaveExclusive};
+ghost use Rattle.clsm_law.specs.Views.{next_word};
 ghost use Rattle.clsm_law.specs.Merging.{is_clean, is_freeze_whole};
 ghost use Rattle.clsm_words.specs.Knowing.{HoldsAlone};
 ghost use Rattle.clsm_words.specs.Plays.{IsSeatOf, PlaysAsMerger};
-ghost use Rattle.clsm_lock.specs.Keeping.{EntersAlone, EntersExclusively, HoldsAloneAsMerger, Leaves, StaysOutMerger, WaitsOutside};
+ghost use Rattle.clsm_lock.specs.Keeping.{EntersAlone, EntersExclusively, HoldsAloneAsMerger, Leaves, StaysOut, StaysOutMerger};
 
 use crate::sharing::Busy;
 use clsm_law::Answer;
@@ -15,14 +16,18 @@ use std::thread;
 
 /// Tries once to hold the lock alone: one exchange. It never waits. With `Ok` the seat holds the
 /// lock, in a hold in which it has looked at nothing yet: nobody else holds it, so no time is drawn
-/// and undecided. Refused with `Busy` where somebody held it; the seat is then as it was.
+/// and undecided. Refused with `Busy` where somebody held it; the seat is then as it was, but that
+/// its count of such refusals has moved by one.
 pub fn try_lock_exclusive<P: Pace>(words: &Words<P>, seat: &mut RawSeat) -> Result<(), Busy>
     requires of { IsSeatOf words.now seat.old }
     requires free { seat.old.knows.view.mode ≡ Free }
     ensures of { IsSeatOf words.now seat.new }
     ensures entered { OnOk result (EntersExclusively seat.old.knows seat.new.knows) }
+    ensures uncounted { OnOk result (seat.new.knows.view.busy ≡ seat.old.knows.view.busy) }
     ensures alone { OnOk result (HoldsAlone seat.new.knows) }
-    ensures out { OnErr result (WaitsOutside seat.old.knows seat.new.knows) }
+    ensures out { OnErr result (StaysOut seat.old.knows seat.new.knows) }
+    ensures counted { OnErr result (seat.new.knows.view.busy ≡ next_word seat.old.knows.view.busy) }
+    ensures unlooked { OnErr result (seat.new.knows.view.fresh_lock ≡ None) }
 {
     match words.enter_exclusive(seat) {
         Answer::Done => Ok(()),
@@ -32,7 +37,7 @@ pub fn try_lock_exclusive<P: Pace>(words: &Words<P>, seat: &mut RawSeat) -> Resu
 
 /// Holds the lock alone, and waits for that as long as it takes. The seat then holds the lock, in a
 /// hold in which it has looked at nothing yet: nobody else holds it, so no time is drawn and
-/// undecided. Tries that found a holder are not counted.
+/// undecided.
 pub fn lock_exclusive<P: Pace, R: Wait>(rt: &R, words: &Words<P>, seat: &mut RawSeat)
     requires of { IsSeatOf words.now seat.old }
     requires free { seat.old.knows.view.mode ≡ Free }

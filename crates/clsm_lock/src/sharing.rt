@@ -22,6 +22,7 @@ pub struct Busy;
 /// looked at nothing yet. Refused with `Busy` where the look finds an exclusive holder, or the
 /// exchange finds that others entered or left since; the seat is then as it was, but that its count
 /// of such refusals has moved by one.
+#[inline(always)]
 pub fn try_lock_shared<P: Pace>(words: &Words<P>, seat: &mut RawSeat) -> Result<(), Busy>
     requires of { IsSeatOf words.now seat.old }
     requires free { seat.old.knows.view.mode ≡ Free }
@@ -45,6 +46,7 @@ pub fn try_lock_shared<P: Pace>(words: &Words<P>, seat: &mut RawSeat) -> Result<
 
 /// Holds the lock shared, and waits for that as long as it takes. The seat then holds the lock,
 /// in a hold in which it has looked at nothing yet.
+#[inline(always)]
 pub fn lock_shared<P: Pace, R: Wait>(rt: &R, words: &Words<P>, seat: &mut RawSeat)
     requires of { IsSeatOf words.now seat.old }
     requires free { seat.old.knows.view.mode ≡ Free }
@@ -62,6 +64,7 @@ pub fn lock_shared<P: Pace, R: Wait>(rt: &R, words: &Words<P>, seat: &mut RawSea
 
 /// Leaves the lock that the seat holds shared. The seat has drawn no time that it has not decided
 /// or given up. It never waits and is never refused.
+#[inline(always)]
 pub fn unlock_shared<P: Pace>(words: &Words<P>, seat: &mut RawSeat)
     requires of { IsSeatOf words.now seat.old }
     requires holds { seat.old.knows.view.mode ≡ Shared }

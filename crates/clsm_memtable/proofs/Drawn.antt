@@ -1,5 +1,5 @@
 -- What a draw makes of a seat, and the looks before it.
-use Rattle.std.proofs.Common.{◌≡◌, ◌≢◌, ℕ, ◌<◌, ◌≤◌, ◌==◌, not, Bool, true, false, cond, refl, sym, ap, ◌∙◌, subst, arith, Option, Some, None}
+use Rattle.std.proofs.Common.{◌≡◌, ◌≢◌, ℕ, ◌<◌, ◌≤◌, ◌==◌, ◌&&◌, not, Bool, true, false, cond, refl, sym, ap, ◌∙◌, subst, arith, Option, Some, None}
 use Rattle.clsm_law.specs.declared.layout.Layout.{Layout}
 use Rattle.clsm_law.specs.declared.word.Word.TheVariants.{Clock, Limit}
 use Rattle.clsm_law.specs.declared.step.Step.TheVariants.{Draw, Look}
@@ -8,8 +8,8 @@ use Rattle.clsm_law.specs.declared.view.Mode.{Mode}
 use Rattle.clsm_law.specs.declared.view.Mode.TheVariants.{Free, Shared, Exclusive}
 use Rattle.clsm_law.specs.declared.view.SnapshotState.{SnapshotState}
 use Rattle.clsm_law.specs.declared.view.SnapshotState.TheVariants.{Absent, Noted, Timed, Open}
-use Rattle.clsm_law.specs.Views.{IsBelow, is_free, next_word}
-use Rattle.clsm_law.specs.Relation.{looked, taken, timed_by, after_draw}
+use Rattle.clsm_law.specs.Views.{IsBelow, is_free, next_word, or_zero}
+use Rattle.clsm_law.specs.Relation.{first_of, looked, one_more_if, taken, timed_by, after_draw}
 use Rattle.clsm_words.specs.declared.known.Known.{Known}
 use Rattle.clsm_words.specs.Knowing.{IsNearHeld, Sound, Follows}
 use Rattle.clsm_words.specs.Keeping.{KeepsPlace}
@@ -34,23 +34,37 @@ pub shared_holds : (m : Mode) → m ≡ Shared → m ≢ Free
 shared_holds m shared free = absurd cc
 
 -- the view after a look at the limit
-abbrev with_limit : View → ℕ → View
+abbrev pub with_limit : View → ℕ → View
 with_limit v limit = record v { hold_limit = Some limit }
+
+pub limit_seen : (z : Layout) (v : View) (x : ℕ) → v.mode ≢ Free → looked z v Limit x ≡ with_limit v x
+limit_seen z v x holds = ap (λ (b : Bool). record (with_limit v x) { limit_looks = one_more_if (b && not v.pinned) v.limit_looks }) (unfree v.mode holds)
 
 -- and after one at the clock
 abbrev with_clock : View → ℕ → View
-with_clock v time = record v { fresh_clock = Some time; hold_clock = Some time; clock = Some time; pin_clock = cond v.pinned (Some time) v.pin_clock }
+with_clock v time = record v {
+  fresh_clock = Some time;
+  hold_clock = Some time;
+  hold_first = first_of v.hold_first time;
+  clock = Some time;
+  pin_clock = cond v.pinned (Some time) v.pin_clock;
+}
 
 clock_seen : (z : Layout) (v : View) (x : ℕ) → v.mode ≢ Free → IsUnnoted v.snapshot → looked z v Clock x ≡ with_clock v x
 clock_seen z v x holds unnoted =
-    ap (λ (b : Bool). record (with_clock v x) { hold_clock = cond (not b) (Some x) v.hold_clock; snapshot = timed_by v.snapshot x }) (unfree v.mode holds)
+    ap (λ (b : Bool). record (with_clock v x) {
+      hold_clock = cond (not b) (Some x) v.hold_clock;
+      hold_first = cond (not b) (first_of v.hold_first x) v.hold_first;
+      snapshot = timed_by v.snapshot x;
+      clock_looks = one_more_if (b && not v.pinned) v.clock_looks;
+    }) (unfree v.mode holds)
     ∙ ap (λ (s : SnapshotState). record (with_clock v x) { snapshot = s }) (unnoted_same v.snapshot x unnoted)
 
 module _ (k k1 k2 : Known) (limit time : ℕ) (sound : Sound k) (holds : k.view.mode ≢ Free) (unnoted : IsUnnoted k.view.snapshot)
     (a : Follows (Look Limit) k limit k1) (b : Follows (Look Clock) k1 time k2) where
   both_seen : k2.view ≡ with_clock (with_limit k.view limit) time
   both_seen = b.view
-      ∙ ap (λ (v : View). looked k1.layout v Clock time) a.view
+      ∙ ap (λ (v : View). looked k1.layout v Clock time) (a.view ∙ limit_seen k.layout k.view limit holds)
       ∙ clock_seen k1.layout (with_limit k.view limit) time holds unnoted
 
   both_place : KeepsPlace k k2
@@ -65,7 +79,14 @@ module _ (k k1 k2 : Known) (limit time : ℕ) (sound : Sound k) (holds : k.view.
   finds_room = record {
     place = both_place;
     view = subst (λ (v : View). v
-        ≡ record k.view { fresh_clock = Some time; hold_limit = Some limit; hold_clock = Some time; clock = Some time; pin_clock = v.pin_clock })
+        ≡ record k.view {
+          fresh_clock = Some time;
+          hold_limit = Some limit;
+          hold_clock = Some time;
+          hold_first = first_of k.view.hold_first time;
+          clock = Some time;
+          pin_clock = v.pin_clock;
+        })
         (sym both_seen) refl;
     within = within;
     due = let due = b.tells.0 in let e = ap (λ (v : View). v.due) both_seen in omega arith;
@@ -78,8 +99,16 @@ module _ (k k1 k2 : Known) (limit time : ℕ) (sound : Sound k) (holds : k.view.
   pub finds_limit : limit ≤ time → FindsLimit k k2 time
   finds_limit le = let is = both_seen ∙ ap (λ (n : ℕ). with_clock (with_limit k.view n) time) (at_limit le) in record {
     place = both_place;
+    passed = let past = b.tells.5 in let e = ap (λ (v : View). v.past) both_seen in omega arith;
     view = subst (λ (v : View). v
-        ≡ record k.view { fresh_clock = Some time; hold_limit = Some time; hold_clock = Some time; clock = Some time; pin_clock = v.pin_clock }) (sym is) refl;
+        ≡ record k.view {
+          fresh_clock = Some time;
+          hold_limit = Some time;
+          hold_clock = Some time;
+          hold_first = first_of k.view.hold_first time;
+          clock = Some time;
+          pin_clock = v.pin_clock;
+        }) (sym is) refl;
   }
 
   -- ---- the exchange
@@ -101,6 +130,7 @@ module _ (k k1 k2 : Known) (limit time : ℕ) (sound : Sound k) (holds : k.view.
           ≡ record (taken k.view time) {
             hold_limit = v.hold_limit;
             hold_clock = Some time;
+            hold_first = first_of k.view.hold_first time;
             clock = Some time;
             pin_clock = v.pin_clock;
           }) (sym (after true won)) refl;
@@ -115,11 +145,14 @@ module _ (k k1 k2 : Known) (limit time : ℕ) (sound : Sound k) (holds : k.view.
     pub loses_draw : (x == time) ≡ false → LosesDraw k k3
     loses_draw lost = record {
       place = place;
+      first = let is = after false lost in ap (λ (v : View). v.hold_first) is
+          ∙ ap (λ (v : View). first_of k.view.hold_first (or_zero v.clock)) (sym is);
       view = subst (λ (v : View). v
           ≡ record k.view {
             fresh_clock = None;
             hold_limit = v.hold_limit;
             hold_clock = v.hold_clock;
+            hold_first = v.hold_first;
             clock = v.clock;
             pin_clock = v.pin_clock;
             raced = next_word k.view.raced;

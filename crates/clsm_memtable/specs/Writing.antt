@@ -5,11 +5,12 @@ use Rattle.clsm_model.specs.declared.record.Deed.TheVariants.{Batch as Group}
 use Rattle.clsm_model.specs.Right.{Member}
 use Rattle.clsm_law.specs.declared.view.SnapshotState.{SnapshotState}
 use Rattle.clsm_law.specs.declared.view.SnapshotState.TheVariants.{Noted}
-use Rattle.clsm_law.specs.Views.{next_word, IsBelow}
-use Rattle.clsm_law.specs.Relation.{reached_after, call_of, member_of, taken}
+use Rattle.clsm_law.specs.declared.view.View.{View}
+use Rattle.clsm_law.specs.Views.{next_word, or_zero, IsBelow}
+use Rattle.clsm_law.specs.Relation.{first_of, reached_after, call_of, member_of, taken}
 use Rattle.clsm_words.specs.declared.known.Known.{Known}
 use Rattle.clsm_words.specs.Knowing.{IsNearHeld}
-use Rattle.clsm_words.specs.Keeping.{KeepsPlace}
+use Rattle.clsm_words.specs.Keeping.{KeepsPlace, KeepsSeat}
 use Rattle.clsm_memtable.specs.declared.clock.DrawError.{DrawError}
 use Rattle.clsm_memtable.specs.declared.clock.DrawError.TheVariants.{Full, Raced}
 use Rattle.clsm_memtable.specs.declared.cell_state.Decided.{Decided}
@@ -20,7 +21,27 @@ abbrev pub IsUnnoted : SnapshotState → Type 0
 IsUnnoted (Noted noted) = ⊥
 IsUnnoted _ = Unit {0}
 
+-- the view, but that what looks may change is as in another
+abbrev pub aside : View → View → View
+aside v w = record v {
+  fresh_heads = w.fresh_heads;
+  met = w.met;
+  fresh_link = w.fresh_link;
+  low = w.low;
+  high = w.high;
+  reached = w.reached;
+  past = w.past;
+  waited = w.waited;
+}
+
 -- ---- draws
+
+-- in this hold of the lock it looked at the limit, and then at words of the epoch
+pub record LooksAhead (old new : Known) : Type 0 where
+  pub seat : KeepsSeat old new
+  pub past : new.past ≡ old.past
+  pub view : new.view ≡ record (aside old.view new.view) { hold_limit = new.view.hold_limit }
+  pub looked : new.view.hold_limit ≢ None
 
 -- it drew the time: no part of its cell is filled, it is neither linked nor inserted, and no place
 -- of the ordered list is known before or behind it
@@ -29,6 +50,7 @@ pub record Draws (old new : Known) (t : ℕ) : Type 0 where
   pub view : new.view ≡ record (taken old.view t) {
     hold_limit = new.view.hold_limit;
     hold_clock = Some t;
+    hold_first = first_of old.view.hold_first t;
     clock = Some t;
     pin_clock = new.view.pin_clock;
   }
@@ -46,6 +68,7 @@ pub record FindsRoom (old new : Known) (clock limit : ℕ) : Type 0 where
     fresh_clock = Some clock;
     hold_limit = Some limit;
     hold_clock = Some clock;
+    hold_first = first_of old.view.hold_first clock;
     clock = Some clock;
     pin_clock = new.view.pin_clock;
   }
@@ -56,15 +79,25 @@ pub record FindsRoom (old new : Known) (clock limit : ℕ) : Type 0 where
 -- in this hold of the lock the clock stood at the limit
 pub record FindsLimit (old new : Known) (t : ℕ) : Type 0 where
   pub place : KeepsPlace old new
-  pub view : new.view ≡ record old.view { fresh_clock = Some t; hold_limit = Some t; hold_clock = Some t; clock = Some t; pin_clock = new.view.pin_clock }
+  pub passed : old.view.past ≤ t
+  pub view : new.view ≡ record old.view {
+    fresh_clock = Some t;
+    hold_limit = Some t;
+    hold_clock = Some t;
+    hold_first = first_of old.view.hold_first t;
+    clock = Some t;
+    pin_clock = new.view.pin_clock;
+  }
 
 -- another seat drew the time that it looked at
 pub record LosesDraw (old new : Known) : Type 0 where
   pub place : KeepsPlace old new
+  pub first : new.view.hold_first ≡ first_of old.view.hold_first (or_zero new.view.clock)
   pub view : new.view ≡ record old.view {
     fresh_clock = None;
     hold_limit = new.view.hold_limit;
     hold_clock = new.view.hold_clock;
+    hold_first = new.view.hold_first;
     clock = new.view.clock;
     pin_clock = new.view.pin_clock;
     raced = next_word old.view.raced;
@@ -88,6 +121,16 @@ pub record Records (old new : Known) (t : ℕ) (deed : Deed) : Type 0 where
     calls = old.view.calls ++ call_of old.number t deed ∷ [];
   }
 
+-- and the seat, which looked aside meanwhile, left hints that lead to it
+pub record RecordsHinted (old new : Known) (t : ℕ) (deed : Deed) : Type 0 where
+  pub place : KeepsPlace old new
+  pub view : new.view ≡ record (aside old.view new.view) {
+    drawn = None;
+    due = t + 1;
+    calls = old.view.calls ++ call_of old.number t deed ∷ [];
+  }
+  pub reached : old.view.reached ≤ new.view.reached
+
 -- somebody had cancelled the time: nothing is recorded
 pub record LosesTime (old new : Known) (t : ℕ) : Type 0 where
   pub place : KeepsPlace old new
@@ -97,6 +140,11 @@ pub record LosesTime (old new : Known) (t : ℕ) : Type 0 where
 abbrev pub Decides : Known → Known → ℕ → Deed → Decided → Type 0
 Decides old new t deed Done = Records old new t deed
 Decides old new t deed Overtaken = LosesTime old new t
+
+-- and what came of it where hints are left to the write
+abbrev pub DecidesHinted : Known → Known → ℕ → Deed → Decided → Type 0
+DecidesHinted old new t deed Done = RecordsHinted old new t deed
+DecidesHinted old new t deed Overtaken = LosesTime old new t
 
 -- ---- batches
 

@@ -4,7 +4,7 @@ ghost use Rattle.clsm_law.specs.declared.step.Step.TheVariants.{Decide};
 ghost use Rattle.clsm_law.specs.declared.view.Mode.TheVariants.{Shared};
 ghost use Rattle.clsm_words.specs.Plays.{IsSeatOf, MayPlay};
 ghost use Rattle.clsm_search.specs.Seeking.{MayLeaveHints};
-ghost use Rattle.clsm_memtable.specs.Writing.{Decides, GivesUp};
+ghost use Rattle.clsm_memtable.specs.Writing.{Decides, DecidesHinted, GivesUp};
 
 use clsm_law::Answer;
 use clsm_model::{Deed, Time};
@@ -21,6 +21,7 @@ pub enum Decided {
 }
 
 /// Decides the drawn time, whose cell is linked and stands in the ordered list.
+#[inline(always)]
 fn decide_drawn<P: Pace>(words: &Words<P>, seat: &mut RawSeat, time: Time, deed: &Deed) -> Decided
     requires opens { MayPlay words.now seat.old (Decide time deed.now) }
     requires holds { seat.old.knows.view.mode ≡ Shared }
@@ -36,9 +37,10 @@ fn decide_drawn<P: Pace>(words: &Words<P>, seat: &mut RawSeat, time: Time, deed:
 
 /// Decides the drawn time, whose cell is linked, was inserted by this search and says the deed's
 /// write: one exchange. With `Done` the write stands, the call is recorded at the time, and later
-/// calls of the seat have later times; the bucket of its key leads to the cell then. With
+/// calls of the seat have later times; hints lead to the cell then. With
 /// `Overtaken` somebody had cancelled the time: nothing is recorded, and the seat's count of such
 /// times has moved by one. Either way the time is no longer the seat's. It never waits.
+#[inline(always)]
 pub fn decide<P: Pace>(
     words: &Words<P>,
     seat: &mut RawSeat,
@@ -50,7 +52,7 @@ pub fn decide<P: Pace>(
     requires holds { seat.old.knows.view.mode ≡ Shared }
     requires hints { MayLeaveHints seat.old.knows trace.now }
     ensures of { IsSeatOf words.now seat.new }
-    ensures decided { Decides seat.old.knows seat.new.knows time deed.now result }
+    ensures decided { DecidesHinted seat.old.knows seat.new.knows time deed.now result }
 {
     let decided = decide_drawn(words, seat, time, deed);
     if let Decided::Done = decided {

@@ -1,6 +1,6 @@
 //! The link of a drawn cell into its chain.
-ghost use Rattle.std.specs.Prelude.{◌≡◌, ◌≢◌, None, OnOk, OnErr};
-ghost use Rattle.clsm_law.specs.declared.view.Mode.TheVariants.{Free};
+ghost use Rattle.std.specs.Prelude.{◌≡◌, ◌≢◌, None, IsOk, OnOk, OnErr};
+ghost use Rattle.clsm_law.specs.declared.view.Mode.TheVariants.{Free, Exclusive};
 ghost use Rattle.clsm_law.specs.Views.{next_word};
 ghost use Rattle.clsm_words.specs.Plays.{IsSeatOf, IsFilled};
 ghost use Rattle.clsm_memtable.specs.Filling.{Links, StaysUnlinked};
@@ -21,8 +21,9 @@ pub struct Raced;
 /// which it drew the time: one look at the head of the cell's chain, a fill of the cell's next, and
 /// one exchange of the head. With `Ok` the cell stands at the head of its chain. Refused with
 /// `Raced` where another cell was linked there since the look: the seat's count of such refusals
-/// has then moved by one, and the cell is as it was, but for its next. A walk of a chain that the
-/// seat had begun is ended. It never waits.
+/// has then moved by one, and the cell is as it was, but for its next. In an exclusive hold it is
+/// never refused. A walk of a chain that the seat had begun is ended. It never waits.
+#[inline(always)]
 pub(crate) fn try_link<P: Pace>(
     words: &Words<P>,
     seat: &mut RawSeat,
@@ -37,6 +38,7 @@ pub(crate) fn try_link<P: Pace>(
     ensures uncounted { OnOk result (seat.new.knows.view.raced ≡ seat.old.knows.view.raced) }
     ensures raced { OnErr result (StaysUnlinked seat.old.knows seat.new.knows) }
     ensures counted { OnErr result (seat.new.knows.view.raced ≡ next_word seat.old.knows.view.raced) }
+    ensures alone { seat.old.knows.view.mode ≡ Exclusive → IsOk result }
 {
     seat.show_invariant();
     let DrawnCell { time, key } = cell;
@@ -51,6 +53,7 @@ pub(crate) fn try_link<P: Pace>(
 /// Links the drawn cell, and tries until it is linked, as long as that takes. Each try that lost
 /// has moved the seat's count of such refusals by one: another cell was linked, so it tries again at
 /// once. A walk of a chain that the seat had begun is ended.
+#[inline(always)]
 pub(crate) fn link<P: Pace, R: Wait>(rt: &R, words: &Words<P>, seat: &mut RawSeat, cell: DrawnCell)
     requires of { IsSeatOf words.now seat.old }
     requires holds { seat.old.knows.view.mode ≢ Free }

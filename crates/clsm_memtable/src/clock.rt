@@ -50,6 +50,7 @@ pub fn look_room<P: Pace>(words: &Words<P>, seat: &mut RawSeat) -> Room
 /// where the clock is at the limit: there is no time before the next freeze. Refused with `Raced`
 /// where another seat drew the time first: the seat's count of such refusals has then moved by one.
 /// After a refusal it has drawn nothing, and its calls are where they were. It never waits.
+#[inline(always)]
 pub fn draw<P: Pace>(words: &Words<P>, seat: &mut RawSeat) -> Result<Time, DrawError>
     requires of { IsSeatOf words.now seat.old }
     requires holds { seat.old.knows.view.mode ≡ Shared }

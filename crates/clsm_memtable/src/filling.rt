@@ -8,6 +8,7 @@ use clsm_model::{Time, Value};
 use clsm_words::{Pace, RawSeat, Words};
 
 /// Fills the words of the value into the drawn cell.
+#[inline(always)]
 pub(crate) fn fill_words<P: Pace>(words: &Words<P>, seat: &mut RawSeat, time: Time, value: &[u64])
     requires { MayFill words.now seat.old time (length value.now) }
     ensures of { IsSeatOf words.now seat.new }
@@ -23,6 +24,7 @@ pub(crate) fn fill_words<P: Pace>(words: &Words<P>, seat: &mut RawSeat, time: Ti
 }
 
 /// Fills the parts of the drawn cell, except its next.
+#[inline(always)]
 fn fill_cell<P: Pace>(words: &Words<P>, seat: &mut RawSeat, time: Time, key: u64, value: &[u64])
     requires { MayFill words.now seat.old time (length value.now) }
     ensures of { IsSeatOf words.now seat.new }
@@ -41,6 +43,7 @@ fn fill_cell<P: Pace>(words: &Words<P>, seat: &mut RawSeat, time: Time, key: u64
 /// Fills the drawn cell with this write, a value or, with `None`, a removal: its key, its length in
 /// words, which is 0 of a removal, and its words; what stands behind them in the cell is left as it
 /// is. It links nothing, never waits and is never refused.
+#[inline(always)]
 pub fn fill<P: Pace>(
     words: &Words<P>,
     seat: &mut RawSeat,

@@ -9,6 +9,7 @@ ghost use Rattle.clsm_memtable.specs.Settled.{HasWaited, IsToSettle, MaySettleBe
 use clsm_law::Word;
 use clsm_model::Time;
 use clsm_words::{Pace, RawSeat, Words};
+use std::hint::spin_loop;
 
 /// Looks once at the time's state. Answers whether it is decided.
 fn is_decided<P: Pace>(words: &Words<P>, seat: &mut RawSeat, component: u64, time: Time) -> bool
@@ -23,8 +24,16 @@ fn is_decided<P: Pace>(words: &Words<P>, seat: &mut RawSeat, component: u64, tim
     words.look(seat, Word::State(cell)) != 0
 }
 
-/// Looks at the time's state, and as often again as the patience says while it is undecided.
-/// Answers whether it is decided.
+/// Waits a little before another look at a state: the more looks there were, the longer. Each look
+/// takes the cell's line from its writer, who fills it meanwhile.
+fn pause(looks: u64) {
+    for _ in 0..looks.saturating_add(2) {
+        spin_loop();
+    }
+}
+
+/// Looks at the time's state, and as often again as the patience says while it is undecided, with a
+/// pause before each of these looks. Answers whether it is decided.
 fn is_found_decided<P: Pace>(
     words: &Words<P>,
     seat: &mut RawSeat,
@@ -42,6 +51,7 @@ fn is_found_decided<P: Pace>(
     }
     let patience = words.patience();
     for look in 0..patience {
+        pause(look);
         if is_decided(words, seat, component, time) {
             return true;
         }
@@ -50,6 +60,7 @@ fn is_found_decided<P: Pace>(
 }
 
 /// Settles the time: waits for its writer as long as the patience says, and cancels it then.
+#[inline(never)]
 fn settle<P: Pace>(words: &Words<P>, seat: &mut RawSeat, component: u64, time: Time)
     requires { IsToSettle words.now seat.old component time }
     ensures of { IsSeatOf words.now seat.new }
@@ -63,6 +74,7 @@ fn settle<P: Pace>(words: &Words<P>, seat: &mut RawSeat, component: u64, time: T
 
 /// Raises FRONT, which the seat found at `front` before, to the time, and its past with it. Where it
 /// stands there already, a look says so: readers beside each other then keep its line.
+#[inline(always)]
 fn raise<P: Pace>(words: &Words<P>, seat: &mut RawSeat, front: Time, time: Time)
     requires may { MayPlay words.now seat.old (RaiseFront time) }
     ensures of { IsSeatOf words.now seat.new }
@@ -74,12 +86,36 @@ fn raise<P: Pace>(words: &Words<P>, seat: &mut RawSeat, front: Time, time: Time)
     }
 }
 
+/// Settles each time from `front` and the component's first one on up to `time`.
+#[inline(never)]
+fn settle_from<P: Pace>(
+    words: &Words<P>,
+    seat: &mut RawSeat,
+    component: u64,
+    front: Time,
+    time: Time,
+)
+    requires of { IsSeatOf words.now seat.old }
+    requires may { MaySettleBelow seat.old.knows component time }
+    requires front { front ≤ seat.old.knows.view.reached }
+    ensures of { IsSeatOf words.now seat.new }
+    ensures keeps { OnlyReads seat.old.knows seat.new.knows }
+    ensures reached { time ≤ seat.new.knows.view.reached }
+{
+    let merged = component.saturating_mul(words.cells());
+    let first = front.max(merged);
+    for next in first..time {
+        settle(words, seat, component, next);
+    }
+}
+
 /// Settles each time from the one that FRONT and the component begin with up to `time`, and raises
 /// FRONT to `time`: each time below it is decided then, and the seat's past reaches it. A time that
 /// is undecided still when it was looked at again as often as the patience says is cancelled, and
 /// comes to nothing; its writer finds that out and writes again (the cLSM paper's readers wait for
 /// it instead). `component` is what the seat holds, and `time` at most the clock that it looked at
 /// in this read. It never waits, takes no memory and is never refused.
+#[inline(always)]
 pub fn settle_below<P: Pace>(words: &Words<P>, seat: &mut RawSeat, component: u64, time: Time)
     requires of { IsSeatOf words.now seat.old }
     requires may { MaySettleBelow seat.old.knows component time }
@@ -88,10 +124,8 @@ pub fn settle_below<P: Pace>(words: &Words<P>, seat: &mut RawSeat, component: u6
     ensures settled { time ≤ length seat.new.knows.past }
 {
     let front = words.look(seat, Word::Front);
-    let merged = component.saturating_mul(words.cells());
-    let first = front.max(merged);
-    for next in first..time {
-        settle(words, seat, component, next);
+    if front < time {
+        settle_from(words, seat, component, front, time);
     }
     raise(words, seat, front, time);
 }

@@ -1,5 +1,5 @@
 -- A seat after it noted a snapshot, and after it closed one.
-use Rattle.std.proofs.Common.{◌≡◌, ℕ, [], ◌∷◌, ◌++◌, refl, sym, ap, subst, ◌∙◌, arith, Bool, true, cond, not, Option, Some}
+use Rattle.std.proofs.Common.{◌≡◌, ℕ, [], ◌∷◌, ◌++◌, refl, sym, ap, subst, ◌∙◌, arith, ◌&&◌, Bool, true, cond, not, Option, Some}
 use Rattle.clsm_law.specs.declared.layout.Layout.{Layout}
 use Rattle.clsm_law.specs.declared.word.Word.TheVariants.{Clock}
 use Rattle.clsm_law.specs.declared.step.Step.TheVariants.{Note, CloseSnapshot, Look}
@@ -10,7 +10,7 @@ use Rattle.clsm_law.specs.declared.view.SnapshotState.TheVariants.{Absent, Noted
 use Rattle.clsm_law.specs.declared.view.SnapshotState.{SnapshotState}
 use Rattle.clsm_law.specs.Views.{is_free, or_zero}
 use Rattle.clsm_law.specs.OpenSteps.{IsOpenSnapshot, open_time, timed}
-use Rattle.clsm_law.specs.Relation.{call_of, looked}
+use Rattle.clsm_law.specs.Relation.{call_of, first_of, is_idle, looked, one_more_if}
 use Rattle.clsm_model.specs.declared.record.Deed.TheVariants.{Close}
 use Rattle.clsm_words.specs.declared.known.Known.{Known}
 use Rattle.clsm_words.specs.Knowing.{Sound, Follows, IsNearHeld}
@@ -24,7 +24,18 @@ noted_view : (z : Layout) (v : View) (b t : ℕ) → v.mode ≡ Free → v.pinne
 noted_view z v b t free pinned =
     let held = ap (λ (m : Mode). cond (not (is_free m)) (Some t) (cond (not (is_free m)) (Some b) v.hold_clock)) free in
     let under = ap (λ (p : Bool). cond p (Some t) (cond p (Some b) v.pin_clock)) pinned in
-    λ i. record v { fresh_clock = Some t; hold_clock = held i; clock = Some t; pin_clock = under i; snapshot = Timed b t }
+    let first = ap (λ (m : Mode). let one = cond (not (is_free m)) (first_of v.hold_first b) v.hold_first in cond (not (is_free m)) (first_of one t) one) free in
+    let looks : one_more_if (is_idle v) (one_more_if (is_idle v) v.clock_looks) ≡ v.clock_looks =
+    λ i. one_more_if (is_free (free i) && not (pinned i)) (one_more_if (is_free (free i) && not (pinned i)) v.clock_looks) in
+    λ i. record v {
+      fresh_clock = Some t;
+      hold_clock = held i;
+      hold_first = first i;
+      clock = Some t;
+      pin_clock = under i;
+      snapshot = Timed b t;
+      clock_looks = looks i;
+    }
 
 pub notes_of : (old first noted new : Known) (b x t : ℕ) → Sound old → old.view.mode ≡ Free → old.view.pinned ≡ true
     → Follows (Look Clock) old b first → Follows (Note b) first x noted → Follows (Look Clock) noted t new → NotesSnapshot old new t

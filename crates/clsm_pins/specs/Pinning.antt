@@ -8,11 +8,18 @@ use Rattle.clsm_words.specs.declared.known.Known.{Known}
 use Rattle.clsm_words.specs.Knowing.{known_of, told_of}
 use Rattle.clsm_words.specs.Keeping.{KeepsPast}
 
--- it holds the component, in a read that has looked at no clock yet; it has reached all that is
--- merged into it
+-- it holds the component, in a read that has looked at no clock yet and waits for no time; it has
+-- reached all that is merged into it
 pub record Pins (old new : Known) (component : ℕ) : Type 0 where
   pub keeps : KeepsPast old new
-  pub view : new.view ≡ record old.view { pin = next_word old.view.pin; pinned = true; held = Some component; pin_clock = None; reached = new.view.reached }
+  pub view : new.view ≡ record old.view {
+    pin = next_word old.view.pin;
+    pinned = true;
+    held = Some component;
+    pin_clock = None;
+    waited = None;
+    reached = new.view.reached;
+  }
   pub reached : old.view.reached ≤ new.view.reached
   pub merged : component * old.layout.cells ≤ new.view.reached
 

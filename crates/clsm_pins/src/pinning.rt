@@ -11,6 +11,7 @@ use clsm_words::{Pace, RawSeat, Words};
 /// seat holds until it unpins. `pin` is the seat's pin word. What the seat holds is neither merged
 /// away nor reclaimed meanwhile (the cLSM paper's pinned component). It takes no lock, never waits
 /// and is never refused.
+#[inline(always)]
 pub fn pin<P: Pace>(words: &Words<P>, seat: &mut RawSeat, pin: u64) -> u64
     requires of { IsSeatOf words.now seat.old }
     requires free { seat.old.knows.view.pinned ≡ false }
@@ -25,6 +26,7 @@ pub fn pin<P: Pace>(words: &Words<P>, seat: &mut RawSeat, pin: u64) -> u64
 
 /// Ends a read with its records, in one step. `pin` is the seat's pin word. It never waits and is
 /// never refused.
+#[inline(always)]
 pub fn unpin<P: Pace>(words: &Words<P>, seat: &mut RawSeat, pin: u64, end: &End)
     requires opens { MayPlay words.now seat.old (Unpin end.now) }
     requires pin { pin ≡ seat.old.knows.view.pin }

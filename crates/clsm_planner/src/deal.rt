@@ -1,13 +1,18 @@
-use clsm_model::{Change, Deal};
+ghost use Rattle.std.specs.Prelude.{◌↔◌, IsTrue};
+ghost use Rattle.clsm_planner.specs.Playing.{IsPassedOver};
+
+use clsm_model::{Deal, are_writes};
 
 /// Whether the call is passed over: it asks for an open snapshot where there is none, or for none
 /// where one is open; or it is a batch with a member that keeps its key, which is refused before
 /// any step.
-pub(crate) fn is_passed_over(deal: &Deal, has_snapshot: bool) -> bool {
+pub fn is_passed_over(deal: &Deal, has_snapshot: bool) -> bool
+    ensures { IsTrue result ↔ IsPassedOver has_snapshot deal.now }
+{
     match deal {
         Deal::Snap => has_snapshot,
         Deal::Close | Deal::GetAt { .. } => !has_snapshot,
-        Deal::Batch { members } => members.iter().any(|member| member.1 == Change::Keep),
+        Deal::Batch { members } => !are_writes(members),
         _ => false,
     }
 }

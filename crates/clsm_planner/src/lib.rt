@@ -17,6 +17,7 @@ mod scanning;
 mod writing;
 
 pub use caller::Caller;
+pub use deal::is_passed_over;
 pub use inserting::link_behind;
 pub use merger::{MergeStage, Merging};
 pub use place::{Place, Stage};

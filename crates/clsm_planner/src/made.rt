@@ -1,4 +1,7 @@
 //! The steps of a part of a call that were made.
+ghost use Rattle.std.specs.Prelude.{◌≡◌};
+ghost use Rattle.clsm_planner.specs.Playing.{found_of};
+
 use crate::planner::PlanError;
 use clsm_law::{Answer, Step, Word};
 use clsm_model::Memory;
@@ -14,7 +17,9 @@ pub(crate) enum Found {
 }
 
 impl Found {
-    pub(crate) fn of(answer: Answer) -> Found {
+    pub(crate) fn of(answer: Answer) -> Found
+        ensures { result ≡ found_of answer }
+    {
         match answer {
             Answer::Value(word) => Found::Word(word),
             Answer::Done => Found::Done,

@@ -1,5 +1,5 @@
 //! The parts of reads.
-use crate::cells::{newest, settle};
+use crate::cells::{newest, settle, value_at};
 use crate::deal::{is_change, key_of};
 use crate::made::{Made, Stop};
 use crate::place::{Place, Setting, Stage};
@@ -18,8 +18,8 @@ fn value_below(
     time: Time,
     key: u64,
 ) -> Result<Option<Value>, Stop> {
-    if let Some(version) = newest(made, layout, component, time, key)? {
-        return Ok(version.value);
+    if let Some(written) = newest(made, layout, component, time, key)? {
+        return value_at(made, layout, written);
     }
     match search(made, component, key, key, time)? {
         Some(entry) => Ok(entry.value),
@@ -141,7 +141,7 @@ impl Place {
     fn compare(&self, made: &mut Made, setting: &Setting, drawn: Time) -> Result<Place, Stop> {
         let key = key_of(setting.deal);
         let found = newest(made, setting.layout, self.component, drawn, key)?;
-        if found.is_none_or(|version| version.time < self.time) {
+        if found.is_none_or(|written| written < self.time) {
             return Ok(self.at(Stage::Fill));
         }
         made.step(Step::Cancel(drawn))?;

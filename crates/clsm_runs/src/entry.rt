@@ -11,8 +11,7 @@ ghost use Rattle.clsm_runs.specs.Searching.{HasEntry, IsSearchable, count_of, en
 ghost use Rattle.clsm_runs.specs.Staying.{entry_in_stays, has_stays, valued_stays};
 
 use clsm_law::Word;
-use clsm_levels::Entry;
-use clsm_words::{Load, Pace, RawSeat, Words, load_value};
+use clsm_words::{Load, Pace, RawSeat, Words};
 
 /// An entry's words: its key.
 pub(crate) const KEY: u64 = 0;
@@ -45,7 +44,7 @@ pub(crate) struct PlacedEntry {
 }
 
 /// How many entries the run has.
-#[inline]
+#[inline(always)]
 pub(crate) fn count<P: Pace>(words: &Words<P>, seat: &mut RawSeat, run: HeldRun) -> u64
     requires of { IsSeatOf words.now seat.old }
     requires run { IsSearchable seat.old.knows run.component run.place }
@@ -59,7 +58,7 @@ pub(crate) fn count<P: Pace>(words: &Words<P>, seat: &mut RawSeat, run: HeldRun)
 
 impl HeldEntry {
     /// One of its words.
-    #[inline]
+    #[inline(always)]
     pub(crate) fn part<P: Pace>(self, words: &Words<P>, seat: &mut RawSeat, part: u64) -> u64
         requires of { IsSeatOf words.now seat.old }
         requires has { HasEntry seat.old.knows self.run.component self.run.place self.entry }
@@ -83,13 +82,13 @@ impl Load<RawSeat> for HeldEntry {
 
     ghost looks = { λ words a b. IsSeatOf words b × LooksAside a.knows b.knows };
 
-    #[inline]
+    #[inline(always)]
     fn length<P: Pace>(&self, words: &Words<P>, seat: &mut RawSeat) -> usize {
         seat.show_invariant();
         self.part(words, seat, LENGTH) as usize
     }
 
-    #[inline]
+    #[inline(always)]
     fn word<P: Pace>(&self, words: &Words<P>, seat: &mut RawSeat, index: usize) -> u64 {
         self.part(words, seat, VALUE + index as u64)
     }
@@ -104,32 +103,4 @@ impl Load<RawSeat> for HeldEntry {
         (entry_in_stays a.knows b.knows at.run.component at.run.place at.entry looks.1.looks is.1.run) };
 
     ghost looks_on = { λ words a b c first then. (then.0, aside_trans a.knows b.knows c.knows first.1 then.1) };
-}
-
-/// The entry with this key and this time word.
-pub(crate) fn entry<P: Pace>(
-    words: &Words<P>,
-    seat: &mut RawSeat,
-    at: HeldEntry,
-    key: u64,
-    spelled: u64,
-) -> Entry
-    requires of { IsSeatOf words.now seat.old }
-    requires has { HasEntry seat.old.knows at.run.component at.run.place at.entry }
-    requires key { entry_word seat.old.knows at.run.place at.entry 0 ≡ key }
-    requires spelled { entry_word seat.old.knows at.run.place at.entry 1 ≡ spelled }
-    ensures of { IsSeatOf words.now seat.new }
-    ensures looks { LooksAside seat.old.knows seat.new.knows }
-    ensures told { result ≡ entry_in (row_of seat.old.knows) at.run.place at.entry }
-{
-    let time = spelled / 2;
-    if spelled % 2 == 1 {
-        return Entry {
-            key,
-            time,
-            value: None,
-        };
-    }
-    let value = Some(load_value(words, seat, &at));
-    Entry { key, time, value }
 }

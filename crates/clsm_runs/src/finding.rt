@@ -1,17 +1,16 @@
 //! The first entry of a key below a time in one run.
-ghost use Rattle.std.specs.Prelude.{◌≡◌, ◌*◌, ◌≤◌, Some, true, length};
-ghost use Rattle.clsm_levels.specs.Entry.{first_below};
+ghost use Rattle.std.specs.Prelude.{◌≡◌, None, Some, is_some, true};
+ghost use Rattle.clsm_levels.specs.Entry.{first_below, value_of};
 ghost use Rattle.clsm_law.specs.Places.{is_named, entries_in};
 ghost use Rattle.clsm_words.specs.Knowing.{row_of};
 ghost use Rattle.clsm_words.specs.Keeping.{LooksAside};
 ghost use Rattle.clsm_words.specs.Plays.{IsSeatOf};
 ghost use Rattle.clsm_runs.specs.Searching.{HasEntry, IsPosition, IsSearchable, IsSide, StandsFrom};
 
-use crate::entry::{HeldEntry, HeldRun, KEY, TIME, count, entry};
+use crate::entry::{HeldEntry, HeldRun, KEY, TIME, count};
 use crate::side::{Side, Span, Turn};
-use clsm_levels::Entry;
-use clsm_model::Time;
-use clsm_words::{Pace, RawSeat, Words};
+use clsm_model::{Time, Value};
+use clsm_words::{Pace, RawSeat, Words, load_into};
 
 /// What a search is for: the newest version of the key with a time below `until`.
 #[derive(Clone, Copy)]
@@ -23,6 +22,7 @@ pub struct Wanted {
 impl Wanted {
     /// Where the entry stands to the first of the key with a time below `until`. Its time is looked
     /// at only where it is of the key.
+    #[inline(always)]
     fn compare<P: Pace>(self, words: &Words<P>, seat: &mut RawSeat, at: HeldEntry) -> Side
         requires of { IsSeatOf words.now seat.old }
         requires has { HasEntry seat.old.knows at.run.component at.run.place at.entry }
@@ -47,6 +47,7 @@ impl Wanted {
 
     /// The empty span at the first entry of the key with a time below `until`, which it then hit;
     /// where there is none, at the first entry of a greater key, or at the run's end.
+    #[inline(always)]
     pub(crate) fn bound<P: Pace>(self, words: &Words<P>, seat: &mut RawSeat, run: HeldRun) -> Span
         requires of { IsSeatOf words.now seat.old }
         requires run { IsSearchable seat.old.knows run.component run.place }
@@ -72,22 +73,36 @@ impl Wanted {
         span
     }
 
-    /// The first entry of the wanted key with a time below `until` in the run, which the held
-    /// component names. The run's last and first keys may exclude the key; else the search guesses
-    /// by how evenly the keys stand, and halves in turn. As in LevelDB the newest entry of a key
-    /// stands first, so it is the newest version below `until`; a removal is found as an entry
-    /// without a value. Only the found entry's value is read. It never waits, takes no memory and is
-    /// never refused.
-    pub fn find<P: Pace>(self, words: &Words<P>, seat: &mut RawSeat, run: HeldRun) -> Option<Entry>
+    /// Leaves the value of the first entry of the wanted key with a time below `until` in the run,
+    /// which the held component names, in the caller's place, which is empty before; and answers
+    /// whether there is such an entry. The run's last and first keys may exclude the key; else the
+    /// search guesses by how evenly the keys stand, and halves in turn. As in LevelDB the newest
+    /// entry of a key stands first, so it is the newest version below `until`; the place stays
+    /// empty for a removal. Only the found entry's value is read. It never waits, takes no memory
+    /// and is never refused.
+    #[inline(always)]
+    pub(crate) fn find<P: Pace>(
+        self,
+        words: &Words<P>,
+        seat: &mut RawSeat,
+        run: HeldRun,
+        into: &mut Option<Value>,
+    ) -> bool
         requires of { IsSeatOf words.now seat.old }
         requires held { seat.old.knows.view.held ≡ Some run.component }
         requires named { is_named run.component run.place ≡ true }
+        requires empty { into.old ≡ None }
         ensures of { IsSeatOf words.now seat.new }
         ensures looks { LooksAside seat.old.knows seat.new.knows }
-        ensures found { result ≡ first_below (entries_in (row_of seat.old.knows) run.place) self.key self.until }
+        ensures found { result ≡ is_some (first_below (entries_in (row_of seat.old.knows) run.place) self.key self.until) }
+        ensures value { into.new ≡ value_of (first_below (entries_in (row_of seat.old.knows) run.place) self.key self.until) }
     {
-        let (number, spelled) = self.bound(words, seat, run).hit?;
-        let at = HeldEntry { run, entry: number };
-        Some(entry(words, seat, at, self.key, spelled))
+        let Some((entry, spelled)) = self.bound(words, seat, run).hit else {
+            return false;
+        };
+        if spelled % 2 != 1 {
+            load_into(words, seat, &HeldEntry { run, entry }, into);
+        }
+        true
     }
 }

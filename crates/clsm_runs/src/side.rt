@@ -32,7 +32,7 @@ pub(crate) enum Turn {
 impl Turn {
     /// Half of the looks halve the span whatever its keys are, so keys that are far from even cost
     /// at most twice the looks of a search by halving.
-    #[inline]
+    #[inline(always)]
     pub(crate) fn next(self) -> Turn {
         match self {
             Turn::Last => Turn::First,
@@ -58,6 +58,7 @@ pub(crate) struct Span {
 
 impl Span {
     /// All entries of a run with so many.
+    #[inline(always)]
     pub(crate) fn whole(count: u64) -> Span
         ensures { result ≡ record { low = 0; high = count; hit = None; low_key = 0; high_key = 18446744073709551615 } }
     {
@@ -71,6 +72,7 @@ impl Span {
     }
 
     /// The entry that would be of the key if the keys stood evenly between the bounds.
+    #[inline(always)]
     fn even(&self, key: u64) -> u64
         requires { self.now.low < self.now.high }
         ensures { (self.now.low ≤ result) × (result < self.now.high) }
@@ -83,7 +85,7 @@ impl Span {
     }
 
     /// The entry to look at next.
-    #[inline]
+    #[inline(always)]
     pub(crate) fn next(&self, key: u64, turn: Turn) -> u64
         requires { self.now.low < self.now.high }
         ensures { (self.now.low ≤ result) × (result < self.now.high) }

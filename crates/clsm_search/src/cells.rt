@@ -1,18 +1,17 @@
 //! Looks at the cells of times that the seat knows.
-ghost use Rattle.std.specs.Prelude.{◌≡◌};
+ghost use Rattle.std.specs.Prelude.{◌≡◌, None};
 ghost use Rattle.std.proofs.Common.{ap, ◌∙◌};
 ghost use Rattle.clsm_words.specs.Knowing.{IsPartOf, code_of};
 ghost use Rattle.clsm_words.specs.Keeping.{LooksAside};
 ghost use Rattle.clsm_words.specs.Plays.{IsSeatOf};
 ghost use Rattle.clsm_words.proofs.Keeps.{aside_trans};
 ghost use Rattle.clsm_law.specs.declared.word.Part.TheVariants.{Key};
-ghost use Rattle.clsm_search.specs.Searching.{IsKnownTime, is_write, slot_in, value_in};
+ghost use Rattle.clsm_search.specs.Searching.{IsFoundTime, IsKnownTime, is_write, slot_in, value_in};
 ghost use Rattle.clsm_search.specs.Staying.{known_stays, slot_stays};
 
-use crate::found::Found;
 use clsm_law::{Part, Word};
-use clsm_model::Time;
-use clsm_words::{Load, Pace, RawSeat, Words, load_value};
+use clsm_model::{Time, Value};
+use clsm_words::{Load, Pace, RawSeat, Words, load_into};
 
 /// The cell of a time that the seat knows, of a component that it holds.
 #[derive(Clone, Copy)]
@@ -23,7 +22,7 @@ pub(crate) struct KnownCell {
 }
 
 /// What the state of the time's cell is.
-#[inline]
+#[inline(always)]
 pub(crate) fn state<P: Pace>(words: &Words<P>, seat: &mut RawSeat, at: &KnownCell) -> u64
     requires of { IsSeatOf words.now seat.old }
     requires known { IsKnownTime seat.old.knows at.now.component at.now.time at.now.cell }
@@ -37,7 +36,7 @@ pub(crate) fn state<P: Pace>(words: &Words<P>, seat: &mut RawSeat, at: &KnownCel
 
 impl KnownCell {
     /// What the key of the time's cell is.
-    #[inline]
+    #[inline(always)]
     fn key<P: Pace>(&self, words: &Words<P>, seat: &mut RawSeat) -> u64
         requires of { IsSeatOf words.now seat.old }
         requires known { IsKnownTime seat.old.knows self.now.component self.now.time self.now.cell }
@@ -52,6 +51,7 @@ impl KnownCell {
     }
 
     /// Whether the time is a write of the key.
+    #[inline(always)]
     pub(crate) fn is_write<P: Pace>(&self, words: &Words<P>, seat: &mut RawSeat, key: u64) -> bool
         requires of { IsSeatOf words.now seat.old }
         requires known { IsKnownTime seat.old.knows self.now.component self.now.time self.now.cell }
@@ -70,7 +70,7 @@ impl Load<RawSeat> for KnownCell {
 
     ghost looks = { λ words a b. IsSeatOf words b × LooksAside a.knows b.knows };
 
-    #[inline]
+    #[inline(always)]
     fn length<P: Pace>(&self, words: &Words<P>, seat: &mut RawSeat) -> usize {
         seat.show_invariant();
         let cell = self.cell;
@@ -78,7 +78,7 @@ impl Load<RawSeat> for KnownCell {
         words.look(seat, Word::Cell { cell, part }) as usize
     }
 
-    #[inline]
+    #[inline(always)]
     fn word<P: Pace>(&self, words: &Words<P>, seat: &mut RawSeat, index: usize) -> u64 {
         seat.show_invariant();
         let cell = self.cell;
@@ -97,19 +97,30 @@ impl Load<RawSeat> for KnownCell {
     ghost looks_on = { λ words a b c first then. (then.0, aside_trans a.knows b.knows c.knows first.1 then.1) };
 }
 
-/// What the time came to, as far as its key is concerned: the value that it sets, or none.
-pub(crate) fn found<P: Pace>(words: &Words<P>, seat: &mut RawSeat, at: &KnownCell) -> Found
+/// Leaves the value that a write at the time sets in the caller's place, which is empty before and
+/// stays so for a removal. The seat knows the time, and holds the component. It never waits, takes
+/// no memory and is never refused.
+#[inline(always)]
+pub fn value_at<P: Pace>(
+    words: &Words<P>,
+    seat: &mut RawSeat,
+    component: u64,
+    time: Time,
+    into: &mut Option<Value>,
+)
     requires of { IsSeatOf words.now seat.old }
-    requires known { IsKnownTime seat.old.knows at.now.component at.now.time at.now.cell }
+    requires known { IsFoundTime seat.old.knows component time }
+    requires empty { into.old ≡ None }
     ensures of { IsSeatOf words.now seat.new }
     ensures looks { LooksAside seat.old.knows seat.new.knows }
-    ensures time { result.time ≡ at.now.time }
-    ensures value { result.value ≡ value_in (slot_in seat.old.knows at.now.time) }
+    ensures value { into.new ≡ value_in (slot_in seat.old.knows time) }
 {
-    let value = match state(words, seat, at) {
-        2 => Some(load_value(words, seat, at)),
-        _ => None,
+    let at = KnownCell {
+        component,
+        time,
+        cell: words.cell_of(time),
     };
-    let time = at.time;
-    Found { time, value }
+    if state(words, seat, &at) == 2 {
+        load_into(words, seat, &at, into);
+    }
 }

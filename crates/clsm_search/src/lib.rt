@@ -6,7 +6,6 @@
 
 mod buckets;
 mod cells;
-mod found;
 mod frozen;
 mod frozen_walk;
 mod hints;
@@ -16,12 +15,12 @@ mod searching;
 mod versions;
 
 pub use buckets::{Guess, NEAR, guess_of, nearest};
-pub use found::Found;
+pub use cells::value_at;
 pub use frozen::frozen_value;
 pub use frozen_walk::{FrozenWalk, next_write};
 pub use hints::{
     BEGINNING, Descent, Hop, Target, Trace, descend, has_place, is_before, later_of, leave_hints,
-    link_behind, raise_tower, region_of, visit,
+    link_behind, region_of, visit,
 };
 pub use list::{Epoch, has_value, newest_from, seek, value};
 pub use scale::Scale;

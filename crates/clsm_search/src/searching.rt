@@ -1,14 +1,13 @@
 //! The newest write of a key below a time, in the two epochs of a held component.
-ghost use Rattle.std.specs.Prelude.{◌≡◌, ◌+◌, ◌*◌, ◌%◌, ◌<◌, ◌≤◌, ◌≢◌, Some, [], length, IfOk};
+ghost use Rattle.std.specs.Prelude.{◌≡◌, ◌+◌, ◌*◌, ◌%◌, ◌<◌, ◌≤◌, ◌≢◌, Some, [], length, IfOk, IfSome};
 ghost use Rattle.clsm_law.specs.Memory.{cell_of};
 ghost use Rattle.clsm_words.specs.Keeping.{Looks, LooksAside};
 ghost use Rattle.clsm_words.specs.Plays.{IsSeatOf};
 ghost use Rattle.clsm_search.specs.Ordering.{MayWalk};
-ghost use Rattle.clsm_search.specs.Searching.{GoesOn, IsOnChain, IsWalked, MayLookInto, IsNewest, IsNewestIn, IsNewestTime, better, is_later, is_write};
-ghost use Rattle.clsm_search.specs.Searching.{slot_in};
+ghost use Rattle.clsm_search.specs.Searching.{GoesOn, IsFoundTime, IsOnChain, IsWalked, MayLookInto, IsNewest, IsNewestIn};
+ghost use Rattle.clsm_search.specs.Searching.{IsNewestTime, better, is_later, is_write, slot_in};
 
-use crate::cells::{KnownCell, found};
-use crate::found::Found;
+use crate::cells::KnownCell;
 use crate::list::{Epoch, time_at};
 use crate::versions::{Unsure, newest_version};
 use clsm_law::{Part, Word};
@@ -18,6 +17,7 @@ use clsm_words::{Pace, RawSeat, Words};
 /// A walk along a chain passes so many cells before a search by the ordered list takes its place.
 const FEW: u64 = 8;
 
+#[inline(always)]
 fn is_later(best: Option<Time>, time: Time) -> bool
     ensures { result ≡ is_later best time }
 {
@@ -39,6 +39,7 @@ struct ChainWalk {
 
 /// The best so far, or the time of this cell in the epoch, where that is below the epoch's bound,
 /// later, and a write of the key.
+#[inline(always)]
 fn better<P: Pace>(
     words: &Words<P>,
     seat: &mut RawSeat,
@@ -77,7 +78,7 @@ fn better<P: Pace>(
 }
 
 /// What the next of the cell is, on whose time the seat's walk stands.
-#[inline]
+#[inline(always)]
 fn next_of<P: Pace>(words: &Words<P>, seat: &mut RawSeat, cell: u64) -> u64
     requires of { IsSeatOf words.now seat.old }
     requires held { seat.old.knows.view.held ≢ None }
@@ -92,6 +93,7 @@ fn next_of<P: Pace>(words: &Words<P>, seat: &mut RawSeat, cell: u64) -> u64
 }
 
 /// Walks on along the key's chain of the epoch, past so many cells or to its end.
+#[inline(always)]
 fn walk_chain<P: Pace>(
     words: &Words<P>,
     seat: &mut RawSeat,
@@ -142,10 +144,35 @@ fn newest_listed<P: Pace>(
     }
 }
 
+/// The time of the newest write of the key in the epoch, where its chain has more cells than a walk
+/// has passed: by the ordered list or else by the rest of the walk.
+#[inline(never)]
+fn newest_behind<P: Pace>(
+    words: &Words<P>,
+    seat: &mut RawSeat,
+    epoch: Epoch,
+    walk: ChainWalk,
+) -> Option<Time>
+    requires of { IsSeatOf words.now seat.old }
+    requires may { MayWalk seat.old.knows epoch }
+    requires begun { epoch.first < epoch.until }
+    requires chain { IsOnChain seat.old.knows epoch.first walk.next }
+    requires walked { IsWalked seat.old.knows.past seat.old.knows.layout.cells epoch.first walk.key epoch.until walk.best seat.old.knows.trail }
+    ensures of { IsSeatOf words.now seat.new }
+    ensures looks { Looks seat.old.knows seat.new.knows }
+    ensures newest { IsNewestTime seat.old.knows epoch.first walk.key epoch.until result }
+{
+    if let Ok(newest) = newest_listed(words, seat, &epoch, walk.key) {
+        return newest;
+    }
+    walk_chain(words, seat, &epoch, walk, words.cells()).best
+}
+
 impl Epoch {
     /// The time of the newest write of the key in the epoch, which is begun: by the key's chain or,
     /// where that has many cells, by the ordered list. A walk along a chain passes every version of
     /// the key, since links do not stand in it by time.
+    #[inline(always)]
     fn newest_time<P: Pace>(&self, words: &Words<P>, seat: &mut RawSeat, key: u64) -> Option<Time>
         requires of { IsSeatOf words.now seat.old }
         requires may { MayWalk seat.old.knows self.now }
@@ -163,59 +190,54 @@ impl Epoch {
         if walk.next == 0 {
             return walk.best;
         }
-        if let Ok(newest) = newest_listed(words, seat, self, key) {
-            return newest;
-        }
-        walk_chain(words, seat, self, walk, words.cells()).best
+        newest_behind(words, seat, *self, walk)
     }
 
-    /// The newest write of the key in the epoch. Its bound may be behind its end, or before it
-    /// begins.
-    fn newest_in<P: Pace>(&self, words: &Words<P>, seat: &mut RawSeat, key: u64) -> Option<Found>
+    /// The time of the newest write of the key in the epoch, which may begin behind its bound.
+    #[inline(always)]
+    fn newest_in<P: Pace>(&self, words: &Words<P>, seat: &mut RawSeat, key: u64) -> Option<Time>
         requires of { IsSeatOf words.now seat.old }
         requires held { seat.old.knows.view.held ≡ Some self.now.component }
+        requires within { self.now.until ≤ self.now.first + seat.old.knows.layout.cells }
         requires may { MayLookInto seat.old.knows self.now.number self.now.first self.now.until }
         ensures of { IsSeatOf words.now seat.new }
         ensures looks { Looks seat.old.knows seat.new.knows }
+        ensures known { IfSome result (λ time. IsFoundTime seat.new.knows self.now.component time) }
         ensures newest { IsNewestIn seat.old.knows self.now.first key self.now.until result }
     {
         if self.first >= self.until {
             return None;
         }
-        let end = self.first.saturating_add(words.cells());
-        let until = self.until.min(end);
-        let time = Epoch { until, ..*self }.newest_time(words, seat, key)?;
-        let at = KnownCell {
-            component: self.component,
-            time,
-            cell: words.cell_of(time),
-        };
-        Some(found(words, seat, &at))
+        self.newest_time(words, seat, key)
     }
 }
 
-/// The newest write of the key below `until` in the two epochs of the held component: in the later
-/// one, which is searched only where it begins below `until`, and then in the earlier one. With
-/// `None` no write of the key below `until` is at or above the component's first time; it may be in
-/// the runs. Each time below `until` has to be settled. It never waits, takes no memory and is never
-/// refused. A walk of a chain that the seat had begun is ended.
+/// The time of the newest write of the key below `until` in the two epochs of the held component:
+/// in the later one, which is searched only where it begins below `until`, and then in the earlier
+/// one. With `None` no write of the key below `until` is at or above the component's first time; it
+/// may be in the runs. Each time below `until` has to be settled. It never waits, takes no memory
+/// and is never refused. A walk of a chain that the seat had begun is ended.
+#[inline(always)]
 pub fn newest<P: Pace>(
     words: &Words<P>,
     seat: &mut RawSeat,
     component: u64,
     key: u64,
     until: Time,
-) -> Option<Found>
+) -> Option<Time>
     requires of { IsSeatOf words.now seat.old }
     requires held { seat.old.knows.view.held ≡ Some component }
     requires within { until ≤ (component + 2) * seat.old.knows.layout.cells }
     requires settled { until ≤ length seat.old.knows.past }
     ensures of { IsSeatOf words.now seat.new }
     ensures looks { Looks seat.old.knows seat.new.knows }
+    ensures known { IfSome result (λ time. IsFoundTime seat.new.knows component time) }
     ensures newest { IsNewest seat.old.knows component key until result }
 {
     let cells = words.cells();
-    let first = component.saturating_mul(cells);
+    let Some(first) = component.checked_mul(cells) else {
+        return None;
+    };
     let second = first.saturating_add(cells);
     let later = Epoch {
         component,
@@ -227,10 +249,10 @@ pub fn newest<P: Pace>(
         component,
         number: component,
         first,
-        until,
+        until: until.min(second),
     };
     match later.newest_in(words, seat, key) {
-        Some(found) => Some(found),
+        Some(time) => Some(time),
         None => earlier.newest_in(words, seat, key),
     }
 }

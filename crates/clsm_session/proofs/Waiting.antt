@@ -1,18 +1,21 @@
 -- Writes that were refused because there was no room, and tried again.
-use Rattle.std.proofs.Common.{◌≡◌, ◌≤◌, ℕ, List, [], ◌∷◌, ◌++◌, length, Option, Result, Ok, Err, IfErr, refl, sym, ap, ◌∙◌, subst, arith, max}
+use Rattle.std.proofs.Common.{◌≡◌, ◌+◌, ◌-◌, ◌^◌, ◌<◌, ◌≤◌, ◌⊎◌, inl, inr, ℕ, suc, List, [], ◌∷◌, ◌++◌, Option, Some, Result, Ok, Err, IfErr, refl, sym, ap, ◌∙◌, subst, arith}
+use Rattle.std.specs.Fn.{iterate}
 use Rattle.std.specs.Result.{IsErrAnd}
-use Rattle.std.proofs.Math.Nat.{le-max_left, le-max_right, max-le}
 use Rattle.clsm_model.specs.declared.record.CallRecord.{CallRecord}
 use Rattle.clsm_model.specs.declared.record.Deed.{Deed}
 use Rattle.clsm_model.specs.Seats.{IsNext, due_after, open_after}
 use Rattle.clsm_model.proofs.Batches.{begins_self, begins_trans, prefix_length}
 use Rattle.clsm_law.specs.Relation.{call_of}
+use Rattle.clsm_law.specs.Views.{next_word}
 use Rattle.clsm_store_calls.specs.Batching.{IsNoRoom}
-use Rattle.clsm_store_calls.specs.Seats.{Answers, GivesUpForWrites, IsFull, IsSameSeat, Refuses, SeatState, known_by, writes_from}
+use Rattle.clsm_store_calls.specs.Seats.{Answers, GivesUpForWrites, IsFull, IsSameSeat, Refuses, SeatState, known_by, writes_beside}
 use Rattle.clsm_store_calls.specs.Tally.{CancelsNone, Tally}
-use Rattle.clsm_store_calls.proofs.Counting.{counts_both, counts_none, writes_apart}
+use Rattle.clsm_store_calls.proofs.Beside.{beside_apart}
+use Rattle.clsm_store_calls.proofs.Counting.{counts_both, once_more}
+use Rattle.clsm_store_calls.specs.declared.got.Rmw.{Rmw as Answered}
 use Rattle.clsm_store.specs.declared.play.call.Call.{Call}
-use Rattle.clsm_session.specs.Waiting.{IsFullAtLast, IsNoRoomAtLast, RefusesCall}
+use Rattle.clsm_session.specs.Waiting.{GivesUpByAnswer, GivesUpOver, HasEntered, IsFullAtLast, IsNoRoomAtLast, RefusesCall}
 use Rattle.clsm_session.specs.declared.refusal.Refused.{Refused}
 use Rattle.clsm_session.specs.declared.refusal.BatchRefused.{BatchRefused}
 use Rattle.clsm_session.specs.declared.refusal.BatchRefused.TheVariants.{NoRoom}
@@ -52,12 +55,33 @@ answers_after a b c t deed h k = record {
   snapshot = k.snapshot ∙ ap (λ (snapshot : Option ℕ). open_after snapshot t deed) h.snapshot;
 }
 
-pub full_after : (a b c : SeatState) (t : ℕ) → Refuses a b → IsFull b c t → IsFullAtLast a c
-full_after a b c t h k = record { refused = refuses_trans a b c h k.refused; time = t; limit = k.limit; clock = k.clock }
+-- so many holds of the lock
+abbrev pub Holds : ℕ → Tally → Tally → Type 0
+Holds times old new = new.entries ≡ iterate next_word times old.entries
 
-pub no_room_after : (a b c : SeatState) (t members : ℕ) → Refuses a b → IsNoRoom b c t members → IsNoRoomAtLast a c members
-no_room_after a b c t members h k = record {
+-- and one more
+pub holds_more : (times : ℕ) (a b c : Tally) → Holds times a b → c.entries ≡ next_word b.entries → Holds (times + 1) a c
+holds_more times a b c h e =
+    let more : suc times ≡ times + 1 = omega arith in
+    e ∙ ap next_word h ∙ sym (once_more times a.entries) ∙ ap (λ (n : ℕ). iterate next_word n a.entries) more
+
+has_entered : (times : ℕ) (a b c : Tally) → times < 2 ^ 64 - 1 → Holds times a b → c.entries ≡ next_word b.entries → HasEntered a c
+has_entered times a b c few h e = record { times = times + 1; some = omega arith; few = omega arith; counted = holds_more times a b c h e }
+
+pub full_after : (a b c : SeatState) (t times : ℕ) → times < 2 ^ 64 - 1 → Holds times a.tally b.tally → Refuses a b → IsFull b c t → IsFullAtLast a c
+full_after a b c t times few holds h k = record {
   refused = refuses_trans a b c h k.refused;
+  entered = has_entered times a.tally b.tally c.tally few holds k.entered;
+  time = t;
+  limit = k.limit;
+  clock = k.clock;
+}
+
+pub no_room_after : (a b c : SeatState) (t members times : ℕ) → times < 2 ^ 64 - 1 → Holds times a.tally b.tally → Refuses a b → IsNoRoom b c t members
+    → IsNoRoomAtLast a c members
+no_room_after a b c t members times few holds h k = record {
+  refused = refuses_trans a b c h k.refused;
+  entered = has_entered times a.tally b.tally c.tally few holds k.entered;
   time = t;
   clock = k.clock;
   limit = k.limit;
@@ -71,22 +95,46 @@ cancels_self a = record { own = refl; others = refl; hasty = refl }
 pub cancels_trans : (a b c : Tally) → CancelsNone a b → CancelsNone b c → CancelsNone a c
 cancels_trans a b c h k = record { own = k.own ∙ h.own; others = k.others ∙ h.others; hasty = k.hasty ∙ h.hasty }
 
--- times that are given up in any of the tries, one for each write of the key
-pub spared_self : (a : SeatState) (key : ℕ) → GivesUpForWrites a a key
-spared_self a key = counts_none (writes_from a.past key (max a.due (length a.past))) a.tally.gave_up a.tally.gave_up refl
+-- times that are given up in the tries so far: none, or so many as these times allow
+abbrev pub GaveUp : SeatState → SeatState → ℕ → Type 0
+GaveUp a b key = (b.tally.gave_up ≡ a.tally.gave_up) ⊎ ((last : ℕ) × GivesUpOver a b key last)
 
-pub spared_trans : (a b c : SeatState) (key : ℕ) → Refuses a b → IsSameSeat b c → GivesUpForWrites a b key → GivesUpForWrites b c key → GivesUpForWrites a c key
-spared_trans a b c key h same g g' =
-    let before = max a.due (length a.past) in
-    let between = max b.due (length b.past) in
-    let longer : length a.past ≤ length b.past = prefix_length a.past b.past h.same.longer.slots in
-    let due = h.due in
-    let left = le-max_left b.due (length b.past) in
-    let right = le-max_right b.due (length b.past) in
-    let later : before ≤ between = max-le (omega (arith, left)) (omega (arith, right)) in
-    counts_both (writes_from b.past key before) (writes_from c.past key between) (writes_from c.past key before) a.tally.gave_up b.tally.gave_up
-    c.tally.gave_up
-    (writes_apart b.past c.past key before between same.longer.slots later (le-max_right b.due (length b.past))) g g'
+-- and in one try more
+pub spared_next : (a b c : SeatState) (key last : ℕ) → Refuses a b → IsSameSeat b c → GaveUp a b key → GivesUpForWrites b c key last → GivesUpOver a c key last
+spared_next a b c key last h same (inl none) g = record {
+  first = g.first;
+  due = let e = g.due in let f = h.due in omega arith;
+  known = let e = g.known in let more = prefix_length a.past b.past h.same.longer.slots in omega arith;
+  reached = g.reached;
+  until = g.until;
+  counts = record {
+    times = g.counts.times;
+    counted = g.counts.counted ∙ ap (iterate next_word g.counts.times) none;
+    within = subst (λ (n : ℕ). g.counts.times ≤ writes_beside c.past n key g.first last) h.same.number g.counts.within;
+  };
+}
+spared_next a b c key last h same (inr (before, o)) g = let more = prefix_length b.past c.past same.longer.slots in let on = g.known in
+    let within = o.reached in let until = g.until in record {
+      first = o.first;
+      due = o.due;
+      known = o.known;
+      reached = omega arith;
+      until = omega arith;
+      counts = counts_both (writes_beside b.past a.number key o.first before) (writes_beside c.past a.number key g.first last)
+          (writes_beside c.past a.number key o.first last) a.tally.gave_up b.tally.gave_up c.tally.gave_up
+          (beside_apart b.past c.past a.number key o.first before g.first last same.longer.slots o.reached g.known g.until) o.counts
+          (record {
+            times = g.counts.times;
+            counted = g.counts.counted;
+            within = subst (λ (n : ℕ). g.counts.times ≤ writes_beside c.past n key g.first last) h.same.number g.counts.within;
+          });
+    }
+
+-- what was given up before such a refusal
+pub gives_up_refused : (old new : SeatState) (key last : ℕ) (r : Result Answered Refused) (P : Refused → Type 0) → IsErrAnd r P
+    → new.tally.clock ≡ Some last → GivesUpOver old new key last → GivesUpByAnswer old new key r
+gives_up_refused old new key last (Ok _) P is clock h = absurd is
+gives_up_refused old new key last (Err _) P is clock h = (last, clock, h)
 
 -- a refusal that `?` made of one for which there was no room
 no_room_is : {A : Type 0} (r : Result A BatchRefused) (refused : Refused) (P : BatchRefused → Type 0) → IsErrAnd r (λ e. e ≡ NoRoom refused)

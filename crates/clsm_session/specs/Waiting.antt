@@ -1,18 +1,22 @@
 -- What writes that wait for room leave of the seat. Each try that found no room left it as it was,
 -- but for its tally.
-use Rattle.std.specs.Prelude.{◌≡◌, ℕ, ◌+◌, ◌<◌, List, length, Some, Result, Ok, Err, ⊤}
+use Rattle.std.specs.Prelude.{◌≡◌, ℕ, ◌+◌, ◌^◌, ◌<◌, ◌≤◌, List, length, Some, Result, Ok, Err, ⊤}
+use Rattle.std.specs.Fn.{iterate}
 use Rattle.clsm_model.specs.declared.record.Deed.TheVariants.{Batch as Group}
 use Rattle.clsm_model.specs.Right.{Member}
 use Rattle.clsm_model.specs.Seats.{FitsDeed}
+use Rattle.clsm_law.specs.Views.{next_word}
 use Rattle.clsm_store_calls.specs.Batching.{IsNoBatch}
-use Rattle.clsm_store_calls.specs.Seats.{GivesUpForWrites, Refuses, SeatState}
-use Rattle.clsm_store_calls.specs.Tally.{CancelsNone}
+use Rattle.clsm_store_calls.specs.Seats.{CountsUpTo, Refuses, SeatState, writes_beside}
+use Rattle.clsm_store_calls.specs.declared.got.Rmw.{Rmw as Answered}
+use Rattle.clsm_store_calls.specs.Tally.{CancelsNone, Tally}
 use Rattle.clsm_store_calls.specs.declared.refusal.BatchError.TheVariants as errors
 use Rattle.clsm_store.specs.declared.play.answer.Answer.{Answer}
 use Rattle.clsm_store.specs.declared.play.answer.Answer.TheVariants.{Write, Batch as Batched, Change as Changed}
 use Rattle.clsm_store.specs.declared.play.call.Call.{Call}
 use Rattle.clsm_store.specs.declared.play.call.Call.TheVariants.{Put, Remove, Add, Claim, Batch}
 use Rattle.clsm_store.specs.Play.{CountsCall}
+use Rattle.clsm_session.specs.declared.refusal.Refused.{Refused}
 use Rattle.clsm_session.specs.declared.refusal.BatchRefused.{BatchRefused}
 use Rattle.clsm_session.specs.declared.refusal.BatchRefused.TheVariants.{Empty, TooLong, Keep, NoRoom}
 
@@ -20,17 +24,43 @@ use Rattle.clsm_session.specs.declared.refusal.BatchRefused.TheVariants.{Empty, 
 abbrev pub IsPatient : SeatState → SeatState → Type 0
 IsPatient old new = new.tally.hasty ≡ old.tally.hasty
 
--- it was refused, and in its last hold of the lock the clock stood at the limit
+-- The tries gave up at most one time for each write of the key by another seat that stands at or above
+-- the time of the first read, and below this time: not below the due, and above all that the seat knew
+-- before
+pub record GivesUpOver (old new : SeatState) (key last : ℕ) : Type 0 where
+  pub first : ℕ
+  pub due : old.due ≤ first
+  pub known : length old.past ≤ first
+  pub reached : first ≤ length new.past
+  pub until : first ≤ last
+  pub counts : CountsUpTo (writes_beside new.past old.number key first last) old.tally.gave_up new.tally.gave_up
+
+-- by the answer: below the time at which the key was changed, or at which the clock stood at the limit
+-- in the last hold
+abbrev pub GivesUpByAnswer : SeatState → SeatState → ℕ → Result Answered Refused → Type 0
+GivesUpByAnswer old new key (Ok rmw) = GivesUpOver old new key rmw.time
+GivesUpByAnswer old new key (Err _) = (last : ℕ) × (new.tally.clock ≡ Some last) × GivesUpOver old new key last
+
+-- it entered the lock, at least once, and not so often that the count would come round
+pub record HasEntered (old new : Tally) : Type 0 where
+  pub times : ℕ
+  pub some : 1 ≤ times
+  pub few : times < 2 ^ 64
+  pub counted : new.entries ≡ iterate next_word times old.entries
+
+-- it was refused, and in its last hold of the lock, one of this call, the clock stood at the limit
 pub record IsFullAtLast (old new : SeatState) : Type 0 where
   pub refused : Refuses old new
+  pub entered : HasEntered old.tally new.tally
   pub time : ℕ
   pub limit : new.tally.limit ≡ Some time
   pub clock : new.tally.clock ≡ Some time
 
--- it was refused, and in its last hold of the lock so many members did not fit between the clock and
--- the limit
+-- it was refused, and in its last hold of the lock, one of this call, so many members did not fit
+-- between the clock and the limit
 pub record IsNoRoomAtLast (old new : SeatState) (members : ℕ) : Type 0 where
   pub refused : Refuses old new
+  pub entered : HasEntered old.tally new.tally
   pub time : ℕ
   pub clock : new.tally.clock ≡ Some time
   pub limit : ℕ
@@ -54,14 +84,20 @@ RefusesCall (Claim _ _) old new (NoRoom _) = IsFullAtLast old new
 RefusesCall (Batch members) old new refusal = IsRefusedAtLast old new members refusal
 RefusesCall _ _ _ _ = ⊥
 
+-- of a call that is played, by its answer
+abbrev pub GivesUpInCall : SeatState → SeatState → ℕ → Result Answer BatchRefused → Type 0
+GivesUpInCall old new key (Ok (Changed (Ok rmw))) = GivesUpOver old new key rmw.time
+GivesUpInCall old new key (Ok _) = ⊥
+GivesUpInCall old new key (Err _) = (last : ℕ) × (new.tally.clock ≡ Some last) × GivesUpOver old new key last
+
 -- what the call counts: a put, a removal and a batch cancel no time in any of their tries, and an
 -- addition and a claim give up one for each write of their key at most; any other call is made once,
 -- and counts what the store's does
 abbrev pub CountsTries : Call → SeatState → SeatState → Result Answer BatchRefused → Type 0
 CountsTries (Put _ _) old new _ = CancelsNone old.tally new.tally
 CountsTries (Remove _) old new _ = CancelsNone old.tally new.tally
-CountsTries (Add key _) old new _ = IsPatient old new × GivesUpForWrites old new key
-CountsTries (Claim key _) old new _ = IsPatient old new × GivesUpForWrites old new key
+CountsTries (Add key _) old new answer = IsPatient old new × GivesUpInCall old new key answer
+CountsTries (Claim key _) old new answer = IsPatient old new × GivesUpInCall old new key answer
 CountsTries (Batch _) old new _ = CancelsNone old.tally new.tally
 CountsTries call old new (Ok answer) = CountsCall call old new answer
 CountsTries _ _ _ (Err _) = ⊥

@@ -7,13 +7,13 @@ ghost use Rattle.clsm_model.specs.Right.{page_deed};
 ghost use Rattle.clsm_model.specs.Seats.{FitsDeed};
 ghost use Rattle.clsm_store.specs.Changes.{added, put_if_absent};
 ghost use Rattle.clsm_store.specs.Meetings.{IsUnrecorded, told_by};
-ghost use Rattle.clsm_store.specs.Play.{PlaysCall, WantsMemory};
+ghost use Rattle.clsm_store.specs.Play.{PlaysCall, ReadsAtClock, WantsMemory};
 ghost use Rattle.clsm_store.specs.Paging.{ReadsNext};
 ghost use Rattle.clsm_store_calls.specs.Scanning.{CountsKeys, IsAtClock, ScansNow, VisitsKeys};
-ghost use Rattle.clsm_store_calls.specs.Seats.{Answers, GivesUpForWrites, IsSameSeat, Refuses, known_by};
+ghost use Rattle.clsm_store_calls.specs.Seats.{Answers, IsSameSeat, Refuses, known_by};
 ghost use Rattle.clsm_store_calls.specs.Tally.{CancelsNone, TakesNoLock};
 ghost use Rattle.clsm_session.specs.Places.{HasPlace};
-ghost use Rattle.clsm_session.specs.Waiting.{CountsTries, FindsFull, IsFullAtLast, IsPatient, IsRefusedAtLast, RefusesCall};
+ghost use Rattle.clsm_session.specs.Waiting.{CountsTries, FindsFull, GivesUpByAnswer, IsFullAtLast, IsPatient, IsRefusedAtLast, RefusesCall};
 
 use crate::board::Board;
 use crate::job::Place;
@@ -114,7 +114,7 @@ impl<'a, R: Wait, P: Place> SessionCaller<'a, R, P> {
         ensures changed { IfOk result (λ rmw. Answers self.old self.new rmw.time (ChangeOf key rmw.old rmw.change)) }
         ensures answered { IfOk result (λ rmw. F.post f.now rmw.old rmw.change) }
         ensures patient { IsPatient self.old self.new }
-        ensures spared { GivesUpForWrites self.old self.new key }
+        ensures spared { GivesUpByAnswer self.old self.new key result }
         ensures refused { IfErr result (λ refused. IsFullAtLast self.old self.new) }
     {
         writing::rmw(self.rt, self.board, &mut self.caller, key, f)
@@ -127,7 +127,7 @@ impl<'a, R: Wait, P: Place> SessionCaller<'a, R, P> {
         ensures changed { IfOk result (λ rmw. Answers self.old self.new rmw.time (ChangeOf key rmw.old rmw.change)) }
         ensures added { IfOk result (λ rmw. rmw.change ≡ added rmw.old by) }
         ensures patient { IsPatient self.old self.new }
-        ensures spared { GivesUpForWrites self.old self.new key }
+        ensures spared { GivesUpByAnswer self.old self.new key result }
         ensures refused { IfErr result (λ refused. IsFullAtLast self.old self.new) }
     {
         self.rmw(key, &|old| added(old, by))
@@ -139,7 +139,7 @@ impl<'a, R: Wait, P: Place> SessionCaller<'a, R, P> {
         ensures changed { IfOk result (λ rmw. Answers self.old self.new rmw.time (ChangeOf key rmw.old rmw.change)) }
         ensures claimed { IfOk result (λ rmw. rmw.change ≡ put_if_absent rmw.old value) }
         ensures patient { IsPatient self.old self.new }
-        ensures spared { GivesUpForWrites self.old self.new key }
+        ensures spared { GivesUpByAnswer self.old self.new key result }
         ensures refused { IfErr result (λ refused. IsFullAtLast self.old self.new) }
     {
         self.rmw(key, &|old| put_if_absent(old, value))
@@ -159,6 +159,7 @@ impl<'a, R: Wait, P: Place> SessionCaller<'a, R, P> {
     }
 
     /// As `Store::get`.
+    #[inline(always)]
     pub fn get(&mut self, key: u64) -> Got
         ensures answers { Answers self.old self.new result.time (Get key result.value) }
         ensures clock { self.new.clock ≡ Some result.time }
@@ -288,6 +289,7 @@ impl<'a, R: Wait, P: Place> SessionCaller<'a, R, P> {
     pub fn play(&mut self, call: &Call) -> Result<Answer, BatchRefused>
         ensures plays { IfOk result (PlaysCall call.now self.old self.new) }
         ensures counts { CountsTries call.now self.old self.new result }
+        ensures clock { IfOk result (ReadsAtClock call.now self.old self.new) }
         ensures waits { IfOk result (λ answer. ¬ FindsFull answer) }
         ensures memory { IfOk result (λ answer. WantsMemory answer → Refuses self.old self.new) }
         ensures same { IsSameSeat self.old self.new }

@@ -1,16 +1,20 @@
 //! Writes that wait for room: each is tried again once the merger has made room for it.
-ghost use Rattle.std.specs.Prelude.{◌≡◌, IfErr, IfOk, option_copied};
+ghost use Rattle.std.specs.Prelude.{IfErr, IfOk, option_copied};
 ghost use Rattle.clsm_model.specs.declared.record.Deed.TheVariants.{Batch as Group, Rmw as ChangeOf};
 ghost use Rattle.clsm_model.specs.Seats.{FitsDeed};
 ghost use Rattle.clsm_store_calls.specs.Resting.{deed_of};
-ghost use Rattle.clsm_store_calls.specs.Seats.{Answers, GivesUpForWrites, IsFull};
+ghost use Rattle.clsm_store_calls.specs.Seats.{Answers, IsFull};
 ghost use Rattle.clsm_store_calls.specs.Tally.{CancelsNone};
-ghost use Rattle.clsm_session.specs.Waiting.{IsFullAtLast, IsPatient, IsRefusedAtLast};
+ghost use Rattle.clsm_session.specs.Waiting.{GivesUpByAnswer, IsFullAtLast, IsPatient, IsRefusedAtLast};
 
 use crate::board::Board;
 use crate::refusal::{BatchRefused, Refused};
 use clsm_store::{BatchError, Caller, Change, Free, Full, Rmw, Time, Value};
 use std::sync::Wait;
+
+/// A write is tried no more often than this, and then waits for ever: in centuries, as each try takes
+/// the lock. A seat counts its holds of the lock modulo 2^64, so that fewer always move its count.
+const MOST_TRIES: u64 = u64::MAX;
 
 /// Tries to write the value at the key, or with none to remove it.
 fn try_write<'a, R: Wait>(
@@ -42,7 +46,12 @@ pub(crate) fn write<'a, R: Wait>(
     ensures cancels { CancelsNone caller.old.seat.tally caller.new.seat.tally }
     ensures refused { IfErr result (λ refused. IsFullAtLast caller.old.seat caller.new.seat) }
 {
+    let mut tries = 0;
     for _ in rt.forever() {
+        if tries == MOST_TRIES {
+            continue;
+        }
+        tries += 1;
         match try_write(rt, caller, key, value) {
             Ok(time) => {
                 board.note_write(rt, time);
@@ -67,10 +76,15 @@ pub(crate) fn rmw<'a, R: Wait, F: Fn(Option<Value>) -> Change>(
     ensures changed { IfOk result (λ rmw. Answers caller.old.seat caller.new.seat rmw.time (ChangeOf key rmw.old rmw.change)) }
     ensures answered { IfOk result (λ rmw. F.post f.now rmw.old rmw.change) }
     ensures patient { IsPatient caller.old.seat caller.new.seat }
-    ensures spared { GivesUpForWrites caller.old.seat caller.new.seat key }
+    ensures spared { GivesUpByAnswer caller.old.seat caller.new.seat key result }
     ensures refused { IfErr result (λ refused. IsFullAtLast caller.old.seat caller.new.seat) }
 {
+    let mut tries = 0;
     for _ in rt.forever() {
+        if tries == MOST_TRIES {
+            continue;
+        }
+        tries += 1;
         match caller.rmw(rt, key, f) {
             Ok(changed) => {
                 board.note_write(rt, changed.time);
@@ -95,7 +109,12 @@ pub(crate) fn batch<'a, R: Wait>(
     ensures cancels { CancelsNone caller.old.seat.tally caller.new.seat.tally }
     ensures refused { IfErr result (IsRefusedAtLast caller.old.seat caller.new.seat members.now) }
 {
+    let mut tries = 0;
     for _ in rt.forever() {
+        if tries == MOST_TRIES {
+            continue;
+        }
+        tries += 1;
         match caller.batch(rt, members) {
             Ok(time) => {
                 board.note_write(rt, time);

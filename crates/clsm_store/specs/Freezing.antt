@@ -1,6 +1,6 @@
 -- A freeze alone, which freezes an epoch only once enough of it is used, and tries the lock once.
 use Rattle.std.specs.Prelude.{◌≡◌, ℕ, ◌≤◌, Result, Ok, Err}
-use Rattle.clsm_store_calls.specs.Looking.{LooksAtClock, drawn_of}
+use Rattle.clsm_store_calls.specs.Looking.{LooksAtClock, StaysClean, drawn_of}
 use Rattle.clsm_store_calls.specs.Seats.{CleanState}
 use Rattle.clsm_store_calls.specs.declared.refusal.Worn.{Worn}
 use Rattle.clsm_store.specs.declared.freezing.TryFroze.{TryFroze}
@@ -9,17 +9,22 @@ use Rattle.clsm_store.specs.declared.phase.FreezeError.TheVariants.{Worn as Free
 use Rattle.clsm_store.specs.declared.phase.Phase.{Phase}
 use Rattle.clsm_store.specs.declared.phase.Phase.TheVariants.{Clean}
 use Rattle.clsm_store.specs.Phase.{Freezes}
-use Rattle.clsm_store.specs.Sweeping.{IsBusy, Waits, enough}
+use Rattle.clsm_store.specs.Sweeping.{Waits, enough}
 
 -- enough were drawn at the look at the clock, and from there on this was done
 abbrev pub WhereUsed : ℕ → CleanState → (CleanState → Type 0) → Type 0
 WhereUsed used old Does = (looked : CleanState) × LooksAtClock old looked × (enough used looked ≤ drawn_of looked) × Does looked
 
+-- a caller held the lock: nothing was done
+abbrev pub StaysOut : CleanState → Phase → Type 0
+StaysOut old (Clean new) = StaysClean old new
+StaysOut old _ = ⊥
+
 -- from where nothing is frozen: it waits, or finds the lock held, or freezes, or the next limit would
 -- pass 2^62
 abbrev pub TryFreezesClean : ℕ → CleanState → Phase → Result TryFroze Worn → Type 0
 TryFreezesClean used old new (Ok Waited) = Waits used old new
-TryFreezesClean used old new (Ok Busy) = WhereUsed used old (λ looked. IsBusy looked new)
+TryFreezesClean used old new (Ok Busy) = WhereUsed used old (λ looked. StaysOut looked new)
 TryFreezesClean used old new (Ok Done) = WhereUsed used old (λ looked. Freezes (Clean looked) new (Ok looked.merger.merges))
 TryFreezesClean used old new (Err worn) = WhereUsed used old (λ looked. Freezes (Clean looked) new (Err (FreezeWorn worn)))
 

@@ -2,6 +2,7 @@
 use Rattle.std.specs.Prelude.{◌≡◌, ℕ, max, Option, Some, None}
 use Rattle.clsm_model.specs.Right.{page_deed}
 use Rattle.clsm_store_calls.specs.declared.got.Page.{Page}
+use Rattle.clsm_store_calls.specs.Scanning.{IsAtClock}
 use Rattle.clsm_store_calls.specs.Seats.{Answers, SeatState}
 use Rattle.clsm_store.specs.declared.pages.Pages.{Pages}
 
@@ -14,6 +15,7 @@ pub record ReadsPage (old new : SeatState) (before after : Pages) (page : Page) 
   pub from : ℕ
   pub stood : before.next ≡ Some from
   pub answers : Answers old new page.time (page_deed from before.hi before.max page.rows page.more)
+  pub clock : IsAtClock old new page.time
   pub stands : after ≡ record before { next = page.more }
 
 -- so was the next page; or there was none, and nothing was done

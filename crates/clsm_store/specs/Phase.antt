@@ -2,7 +2,7 @@
 use Rattle.std.specs.Prelude.{◌≡◌, ℕ, ◌+◌, ◌*◌, ◌^◌, ◌<◌, ⊤, List, replicate, None, Result, Ok, Err}
 use Rattle.clsm_law.specs.Merging.{unseen}
 use Rattle.clsm_law.specs.Views.{next_word}
-use Rattle.clsm_store_calls.specs.Looking.{LooksAtClock}
+use Rattle.clsm_store_calls.specs.Looking.{StaysClean}
 use Rattle.clsm_store_calls.specs.Seats.{CleanState, MergerState}
 use Rattle.clsm_model.specs.declared.slot.Slot.{Slot}
 use Rattle.clsm_store_calls.specs.Agreeing.{AgreesWith}
@@ -26,10 +26,10 @@ merger_in (Clean clean) = clean.merger
 merger_in (Frozen frozen) = frozen.merger
 merger_in (Retired retired) = retired.merger
 
--- a try to freeze was refused: a caller held the lock, and only the clock was looked at; or the next
--- limit would pass 2^62
+-- a try to freeze was refused: a caller held the lock, and nothing was done; or the next limit would
+-- pass 2^62
 abbrev pub RefusesFreeze : CleanState → CleanState → TryFreezeError → Type 0
-RefusesFreeze old new TryBusy = LooksAtClock old new
+RefusesFreeze old new TryBusy = StaysClean old new
 RefusesFreeze old new (TryWorn _) = (new ≡ old) × (2 ^ 62 < (old.merger.merges + 2) * old.merger.store.layout.cells)
 
 -- where the merger is clean, the epoch is frozen under the lock, with the floor and the rounds of
@@ -75,7 +75,14 @@ Merges old new answer = (new ≡ old) × (answer ≡ Err MergeNotFrozen)
 -- looked at twice. Else nothing is done
 abbrev pub Reclaims : Phase → Phase → Result ⊤ ReclaimError → Type 0
 Reclaims (Retired old) (Clean new) (Ok _) =
-    (new ≡ record { merger = old.merger; floor = old.floor; rounds = old.rounds; clock = new.clock; readers = new.readers })
+    (new ≡ record {
+      merger = old.merger;
+      floor = old.floor;
+      rounds = old.rounds;
+      looks = new.looks;
+      clock = new.clock;
+      readers = new.readers;
+    })
     × AreAllQuiet old.readers new.readers
 Reclaims (Retired old) (Retired new) (Err (Pinned pinned)) =
     (new ≡ record old { readers = new.readers })

@@ -4,8 +4,10 @@ use Rattle.clsm_model.specs.declared.deal.Deal.{Deal}
 use Rattle.clsm_model.specs.declared.deal.Deal.TheVariants as deals
 use Rattle.clsm_model.specs.declared.record.Deed.TheVariants as deeds
 use Rattle.clsm_model.specs.Right.{page_deed}
+use Rattle.clsm_store_calls.specs.Changing.{changed_at}
 use Rattle.clsm_store_calls.specs.Seats.{SeatState, Answers, GivesUpForWrites, IsFull, Refuses}
 use Rattle.clsm_store_calls.specs.Batching.{CountsBatch, IsRefusedBatch}
+use Rattle.clsm_store_calls.specs.Scanning.{IsAtClock}
 use Rattle.clsm_store_calls.specs.Tally.{CancelsNone, CountsTry, TakesLockOnce, TakesNoLock}
 use Rattle.clsm_store_calls.specs.Trying.{RefusesTry}
 use Rattle.clsm_store.specs.Changes.{added, put_if_absent}
@@ -56,8 +58,10 @@ abbrev pub CountsCall : Call → SeatState → SeatState → Answer → Type 0
 CountsCall (Put _ _) old new (Write _) = TakesLockOnce old.tally new.tally × CancelsNone old.tally new.tally
 CountsCall (Remove _) old new (Write _) = TakesLockOnce old.tally new.tally × CancelsNone old.tally new.tally
 CountsCall (Try _ _) old new (Tried answer) = CountsTry old.tally new.tally answer
-CountsCall (Add key _) old new (Changed _) = TakesLockOnce old.tally new.tally × GivesUpForWrites old new key
-CountsCall (Claim key _) old new (Changed _) = TakesLockOnce old.tally new.tally × GivesUpForWrites old new key
+CountsCall (Add key _) old new (Changed answer) =
+    TakesLockOnce old.tally new.tally × GivesUpForWrites old new key (changed_at answer)
+CountsCall (Claim key _) old new (Changed answer) =
+    TakesLockOnce old.tally new.tally × GivesUpForWrites old new key (changed_at answer)
 CountsCall (Get _) old new (Read _) = TakesNoLock old.tally new.tally
 CountsCall Snap old new (Snapshot (Ok _)) = TakesNoLock old.tally new.tally
 CountsCall Snap old new (Snapshot (Err _)) = new.tally ≡ old.tally
@@ -67,6 +71,13 @@ CountsCall (Scan _ _) old new (Scanned _) = TakesNoLock old.tally new.tally
 CountsCall (Page _ _ _) old new (Paged _) = TakesNoLock old.tally new.tally
 CountsCall (Batch _) old new (Batched answer) = CountsBatch old.tally new.tally answer
 CountsCall _ _ _ _ = ⊥
+
+-- a read was answered at the clock as it looked at it, but under a snapshot
+abbrev pub ReadsAtClock : Call → SeatState → SeatState → Answer → Type 0
+ReadsAtClock (Get _) old new (Read got) = new.clock ≡ Some got.time
+ReadsAtClock (Scan _ _) old new (Scanned (Ok scan)) = IsAtClock old new scan.time
+ReadsAtClock (Page _ _ _) old new (Paged (Ok page)) = IsAtClock old new page.time
+ReadsAtClock _ _ _ _ = ⊤
 
 -- the call was refused memory
 abbrev pub WantsMemory : Answer → Type 0

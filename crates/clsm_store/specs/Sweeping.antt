@@ -96,7 +96,7 @@ abbrev pub unfrozen_of : TryFreezeError → Result TrySwept Stopped
 unfrozen_of TryBusy = Ok Busy
 unfrozen_of (TryWorn worn) = Err (Worn worn)
 
--- a caller held the lock: but for looks at the clock the merger is as it was
+-- a caller held the lock: but for its one look at the clock the merger is as it was
 abbrev pub IsBusy : CleanState → Phase → Type 0
 IsBusy old (Clean new) = LooksAtClock old new
 IsBusy old _ = ⊥

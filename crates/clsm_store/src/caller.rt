@@ -5,17 +5,21 @@ ghost use Rattle.clsm_model.specs.declared.record.Deed.TheVariants.{Scan as Scan
 ghost use Rattle.clsm_model.specs.Right.{page_deed};
 ghost use Rattle.clsm_model.specs.Seats.{FitsDeed};
 ghost use Rattle.clsm_law.specs.Relation.{call_of};
-ghost use Rattle.clsm_store_calls.specs.Batching.{CountsBatch, IsRefusedBatch};
+ghost use Rattle.clsm_store_calls.specs.Batching.{CountsBatch, CountsTryBatch, IsRefusedBatch, IsRefusedTryBatch};
 ghost use Rattle.clsm_store_calls.specs.Looking.{FindsRoom};
 ghost use Rattle.clsm_store_calls.specs.Scanning.{CountsKeys, IsAtClock, ScansNow, VisitsKeys};
+ghost use Rattle.clsm_store_calls.specs.Changing.{changed_at};
 ghost use Rattle.clsm_store_calls.specs.Seats.{Answers, GivesUpForWrites, IsFull, Refuses};
 ghost use Rattle.clsm_store_calls.specs.Tally.{CancelsNone, CountsTry, TakesLockOnce, TakesNoLock};
 ghost use Rattle.clsm_store_calls.specs.Trying.{RefusesTry};
+ghost use Rattle.clsm_store_calls.specs.TryingChange.{CountsTryChange};
 
 use crate::seat::Seat;
 use crate::store::Store;
 use clsm_model::{CallRecord, Change, Deed, Memory, Time, Value};
-use clsm_store_calls::{BatchError, Counted, Full, Got, Open, Page, Rmw, Scan, TryPutError};
+use clsm_store_calls::{
+    BatchError, Counted, Full, Got, Open, Page, Rmw, Scan, TryBatchError, TryPutError,
+};
 use clsm_words::Pace;
 use std::alloc::Global;
 use std::sync::Wait;
@@ -77,7 +81,27 @@ impl<'a, P: Pace> Caller<'a, P> {
         self.store.try_put(&mut self.seat, key, value)
     }
 
+    /// As `Store::try_remove`.
+    pub fn try_remove(&mut self, key: u64) -> Result<Time, TryPutError>
+        ensures written { IfOk result (λ time. Answers self.old.seat self.new.seat time (Remove key)) }
+        ensures counts { CountsTry self.old.seat.tally self.new.seat.tally result }
+        ensures refused { IfErr result (RefusesTry self.old.seat self.new.seat) }
+    {
+        self.store.try_remove(&mut self.seat, key)
+    }
+
+    /// As `Store::try_batch`.
+    pub fn try_batch(&mut self, members: &[(u64, Change)]) -> Result<Time, TryBatchError>
+        ensures written { IfOk result (λ time. Answers self.old.seat self.new.seat time (Group members.now)) }
+        ensures fits { IfOk result (λ time. FitsDeed self.old.seat.store.layout.cells (Group members.now)) }
+        ensures counts { CountsTryBatch self.old.seat.tally self.new.seat.tally result }
+        ensures refused { IfErr result (IsRefusedTryBatch self.old.seat self.new.seat members.now) }
+    {
+        self.store.try_batch(&mut self.seat, members)
+    }
+
     /// As `Store::get`.
+    #[inline(always)]
     pub fn get(&mut self, key: u64) -> Got
         ensures answers { Answers self.old.seat self.new.seat result.time (Get key result.value) }
         ensures clock { self.new.seat.clock ≡ Some result.time }
@@ -96,11 +120,26 @@ impl<'a, P: Pace> Caller<'a, P> {
         requires { F.IsAlwaysCallable f.now }
         ensures changed { IfOk result (λ rmw. Answers self.old.seat self.new.seat rmw.time (ChangeOf key rmw.old rmw.change)) }
         ensures lock { TakesLockOnce self.old.seat.tally self.new.seat.tally }
-        ensures spared { GivesUpForWrites self.old.seat self.new.seat key }
+        ensures spared { GivesUpForWrites self.old.seat self.new.seat key (changed_at result) }
         ensures answered { IfOk result (λ rmw. F.post f.now rmw.old rmw.change) }
         ensures full { IfErr result (λ full. IsFull self.old.seat self.new.seat full.time) }
     {
         self.store.rmw(rt, &mut self.seat, key, f)
+    }
+
+    /// As `Store::try_rmw`.
+    pub fn try_rmw<F: Fn(Option<Value>) -> Change>(
+        &mut self,
+        key: u64,
+        f: &F,
+    ) -> Result<Rmw, TryPutError>
+        requires { F.IsAlwaysCallable f.now }
+        ensures changed { IfOk result (λ rmw. Answers self.old.seat self.new.seat rmw.time (ChangeOf key rmw.old rmw.change)) }
+        ensures counts { CountsTryChange self.old.seat self.new.seat key result }
+        ensures answered { IfOk result (λ rmw. F.post f.now rmw.old rmw.change) }
+        ensures refused { IfErr result (RefusesTry self.old.seat self.new.seat) }
+    {
+        self.store.try_rmw(&mut self.seat, key, f)
     }
 
     /// As `Store::snapshot`.

@@ -2,8 +2,9 @@
 ghost use Rattle.std.specs.Prelude.{◌≡◌, ◌≢◌, None, Some, IfNone, IfOk, IfErr, IfSome};
 ghost use Rattle.clsm_model.specs.declared.record.Deed.TheVariants.{Batch as Group, Close, Get, GetAt, Put, Remove, Rmw as ChangeOf, Snapshot};
 ghost use Rattle.clsm_model.specs.Seats.{FitsDeed};
-ghost use Rattle.clsm_store_calls.specs.Batching.{CountsBatch, IsRefusedBatch};
+ghost use Rattle.clsm_store_calls.specs.Batching.{CountsBatch, CountsTryBatch, IsRefusedBatch, IsRefusedTryBatch};
 ghost use Rattle.clsm_store_calls.specs.Looking.{FindsRoom};
+ghost use Rattle.clsm_store_calls.specs.Changing.{changed_at};
 ghost use Rattle.clsm_store_calls.specs.Seats.{Answers, GivesUpForWrites, IsFull};
 ghost use Rattle.clsm_store_calls.specs.Tally.{CancelsNone, CountsTry, TakesLockOnce, TakesNoLock};
 ghost use Rattle.clsm_store_calls.specs.Trying.{RefusesTry};
@@ -14,8 +15,9 @@ use crate::store::Store;
 use clsm_model::{Change, Time, Value};
 use clsm_pins::close_snapshot;
 use clsm_store_calls::{
-    BatchError, Full, Got, Modification, Open, OpenSnapshot, Rmw, TryPutError, batch, change,
-    open_at, pin_after, read, read_under, room_at, try_change, try_write, write,
+    BatchError, Full, Got, Modification, Open, OpenSnapshot, Rmw, TryBatchError, TryPutError,
+    batch, change, open_at, pin_after, read, read_under, room_at, try_batch, try_change, try_write,
+    write,
 };
 use clsm_words::Pace;
 use std::sync::Wait;
@@ -57,7 +59,7 @@ impl<P: Pace> Store<P> {
     /// the first. They become visible together, by one step: no read of any seat is answered between
     /// them, and of members of one key the last one wins. A batch never spans two epochs. It holds
     /// the lock alone, once: it waits for that until no writer is inside, and keeps other writers
-    /// out meanwhile, but no reader. It takes no memory, and gives up no time.
+    /// out meanwhile, but no reader. It takes no memory, gives up no time and loses no exchange.
     ///
     /// Refused, in this order: with `Empty` if there is no member, `TooLong` if there are more
     /// than an epoch has cells, `Keep` if a member keeps its key, each before it enters the lock;
@@ -102,17 +104,40 @@ impl<P: Pace> Store<P> {
         try_write(&self.words, &mut seat.raw, key, &None)
     }
 
+    /// Writes all members as one batch as `batch`, but tries the lock once and never waits. Refused as
+    /// `batch`, and behind the three refusals that come before the lock also with `Busy` if somebody
+    /// held it, shared or alone: the seat is then as before, but for its count of such refusals. Once
+    /// it holds the lock alone, nobody can be faster, so it is refused with `Full` alone.
+    pub fn try_batch(
+        &self,
+        seat: &mut Seat,
+        members: &[(u64, Change)],
+    ) -> Result<Time, TryBatchError>
+        requires { seat.old.store ≡ self.now }
+        ensures written { IfOk result (λ time. Answers seat.old seat.new time (Group members.now)) }
+        ensures fits { IfOk result (λ time. FitsDeed seat.old.store.layout.cells (Group members.now)) }
+        ensures counts { CountsTryBatch seat.old.tally seat.new.tally result }
+        ensures refused { IfErr result (IsRefusedTryBatch seat.old seat.new members.now) }
+    {
+        try_batch(&self.words, &mut seat.raw, members)
+    }
+
     /// The value of the key at a time of the read's own, which is the clock as the read found it:
     /// the value that the newest write below that time left. It takes no lock and never waits; a
     /// write that is drawn below its time and still undecided after one look and `patience` more
     /// is cancelled, and its writer writes again. It is never refused.
+    #[inline(always)]
     pub fn get(&self, seat: &mut Seat, key: u64) -> Got
         requires { seat.old.store ≡ self.now }
         ensures answers { Answers seat.old seat.new result.time (Get key result.value) }
         ensures clock { seat.new.clock ≡ Some result.time }
         ensures lock { TakesNoLock seat.old.tally seat.new.tally }
     {
-        let got = read(&self.words, &mut seat.raw, seat.pin, key);
+        let mut got = Got {
+            time: 0,
+            value: None,
+        };
+        read(&self.words, &mut seat.raw, seat.pin, key, &mut got);
         seat.pin = seat.pin.wrapping_add(2);
         got
     }
@@ -134,7 +159,7 @@ impl<P: Pace> Store<P> {
         requires callable { F.IsAlwaysCallable f.now }
         ensures changed { IfOk result (λ rmw. Answers seat.old seat.new rmw.time (ChangeOf key rmw.old rmw.change)) }
         ensures lock { TakesLockOnce seat.old.tally seat.new.tally }
-        ensures spared { GivesUpForWrites seat.old seat.new key }
+        ensures spared { GivesUpForWrites seat.old seat.new key (changed_at result) }
         ensures answered { IfOk result (λ rmw. F.post f.now rmw.old rmw.change) }
         ensures full { IfErr result (λ full. IsFull seat.old seat.new full.time) }
     {

@@ -2,6 +2,7 @@
 //! replacement of an expected value.
 ghost use Rattle.std.specs.Prelude.{◌≡◌, IfOk, IfErr};
 ghost use Rattle.clsm_model.specs.declared.record.Deed.TheVariants.{Rmw as ChangeOf};
+ghost use Rattle.clsm_store_calls.specs.Changing.{changed_at};
 ghost use Rattle.clsm_store_calls.specs.Seats.{Answers, GivesUpForWrites, IsFull};
 ghost use Rattle.clsm_store_calls.specs.Tally.{TakesLockOnce};
 ghost use Rattle.clsm_store_calls.specs.Trying.{RefusesTry};
@@ -74,7 +75,7 @@ impl<P: Pace> Store<P> {
         ensures changed { IfOk result (λ rmw. Answers seat.old seat.new rmw.time (ChangeOf key rmw.old rmw.change)) }
         ensures added { IfOk result (λ rmw. rmw.change ≡ added rmw.old by) }
         ensures lock { TakesLockOnce seat.old.tally seat.new.tally }
-        ensures spared { GivesUpForWrites seat.old seat.new key }
+        ensures spared { GivesUpForWrites seat.old seat.new key (changed_at result) }
         ensures full { IfErr result (λ full. IsFull seat.old seat.new full.time) }
     {
         self.rmw(rt, seat, key, &|old| added(old, by))
@@ -93,7 +94,7 @@ impl<P: Pace> Store<P> {
         ensures changed { IfOk result (λ rmw. Answers seat.old seat.new rmw.time (ChangeOf key rmw.old rmw.change)) }
         ensures claimed { IfOk result (λ rmw. rmw.change ≡ put_if_absent rmw.old value) }
         ensures lock { TakesLockOnce seat.old.tally seat.new.tally }
-        ensures spared { GivesUpForWrites seat.old seat.new key }
+        ensures spared { GivesUpForWrites seat.old seat.new key (changed_at result) }
         ensures full { IfErr result (λ full. IsFull seat.old seat.new full.time) }
     {
         self.rmw(rt, seat, key, &|old| put_if_absent(old, value))
@@ -155,7 +156,7 @@ impl<'a, P: Pace> Caller<'a, P> {
         ensures changed { IfOk result (λ rmw. Answers self.old.seat self.new.seat rmw.time (ChangeOf key rmw.old rmw.change)) }
         ensures added { IfOk result (λ rmw. rmw.change ≡ added rmw.old by) }
         ensures lock { TakesLockOnce self.old.seat.tally self.new.seat.tally }
-        ensures spared { GivesUpForWrites self.old.seat self.new.seat key }
+        ensures spared { GivesUpForWrites self.old.seat self.new.seat key (changed_at result) }
         ensures full { IfErr result (λ full. IsFull self.old.seat self.new.seat full.time) }
     {
         self.store.add(rt, &mut self.seat, key, by)
@@ -166,9 +167,44 @@ impl<'a, P: Pace> Caller<'a, P> {
         ensures changed { IfOk result (λ rmw. Answers self.old.seat self.new.seat rmw.time (ChangeOf key rmw.old rmw.change)) }
         ensures claimed { IfOk result (λ rmw. rmw.change ≡ put_if_absent rmw.old value) }
         ensures lock { TakesLockOnce self.old.seat.tally self.new.seat.tally }
-        ensures spared { GivesUpForWrites self.old.seat self.new.seat key }
+        ensures spared { GivesUpForWrites self.old.seat self.new.seat key (changed_at result) }
         ensures full { IfErr result (λ full. IsFull self.old.seat self.new.seat full.time) }
     {
         self.store.put_if_absent(rt, &mut self.seat, key, value)
+    }
+    /// As `Store::try_add`.
+    pub fn try_add(&mut self, key: u64, by: u64) -> Result<Rmw, TryPutError>
+        ensures changed { IfOk result (λ rmw. Answers self.old.seat self.new.seat rmw.time (ChangeOf key rmw.old rmw.change)) }
+        ensures added { IfOk result (λ rmw. rmw.change ≡ added rmw.old by) }
+        ensures counts { CountsTryChange self.old.seat self.new.seat key result }
+        ensures refused { IfErr result (RefusesTry self.old.seat self.new.seat) }
+    {
+        self.store.try_add(&mut self.seat, key, by)
+    }
+
+    /// As `Store::try_put_if_absent`.
+    pub fn try_put_if_absent(&mut self, key: u64, value: Value) -> Result<Rmw, TryPutError>
+        ensures changed { IfOk result (λ rmw. Answers self.old.seat self.new.seat rmw.time (ChangeOf key rmw.old rmw.change)) }
+        ensures claimed { IfOk result (λ rmw. rmw.change ≡ put_if_absent rmw.old value) }
+        ensures counts { CountsTryChange self.old.seat self.new.seat key result }
+        ensures refused { IfErr result (RefusesTry self.old.seat self.new.seat) }
+    {
+        self.store.try_put_if_absent(&mut self.seat, key, value)
+    }
+
+    /// As `Store::try_replace`.
+    pub fn try_replace(
+        &mut self,
+        key: u64,
+        expected: Option<Value>,
+        desired: Option<Value>,
+    ) -> Result<Rmw, TryPutError>
+        ensures changed { IfOk result (λ rmw. Answers self.old.seat self.new.seat rmw.time (ChangeOf key rmw.old rmw.change)) }
+        ensures replaced { IfOk result (λ rmw. Replaces rmw.old expected desired rmw.change) }
+        ensures counts { CountsTryChange self.old.seat self.new.seat key result }
+        ensures refused { IfErr result (RefusesTry self.old.seat self.new.seat) }
+    {
+        self.store
+            .try_replace(&mut self.seat, key, expected, desired)
     }
 }

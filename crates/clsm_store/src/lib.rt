@@ -30,7 +30,7 @@ pub use clsm_model::{
 };
 pub use clsm_runs::RunFull;
 pub use clsm_store_calls::{
-    BatchError, Counted, Full, Got, Open, Page, Pinned, Rmw, Scan, TryPutError, Worn,
+    BatchError, Counted, Full, Got, Open, Page, Pinned, Rmw, Scan, TryBatchError, TryPutError, Worn,
 };
 pub use clsm_words::{Free, Kind, Pace};
 pub use freezing::TryFroze;

@@ -117,6 +117,7 @@ fn seat_merger(alloc: Global, layout: &Layout, raw: RawMerger) -> Result<MergerS
       };
       floor = 0;
       rounds = 0;
+      looks = 0;
       clock = (clean_of merger).clock;
       readers = replicate raw.knows.layout.seats unseen;
     }) }

@@ -2,7 +2,7 @@
 ghost use Rattle.std.specs.Prelude.{◌≡◌, None, IfNone, IfSome};
 ghost use Rattle.clsm_model.specs.declared.record.Deed.TheVariants.{GetAt};
 ghost use Rattle.clsm_store_calls.specs.Seats.{Answers, IsSameSeat, Refuses};
-ghost use Rattle.clsm_store.specs.Play.{CountsCall, PlaysCall, WantsMemory};
+ghost use Rattle.clsm_store.specs.Play.{CountsCall, PlaysCall, ReadsAtClock, WantsMemory};
 
 use crate::caller::Caller;
 use crate::seat::Seat;
@@ -38,6 +38,7 @@ impl<P: Pace> Store<P> {
         requires { seat.old.store ≡ self.now }
         ensures plays { PlaysCall call.now seat.old seat.new result }
         ensures counts { CountsCall call.now seat.old seat.new result }
+        ensures clock { ReadsAtClock call.now seat.old seat.new result }
         ensures memory { WantsMemory result → Refuses seat.old seat.new }
         ensures same { IsSameSeat seat.old seat.new }
     {
@@ -67,6 +68,7 @@ impl<'a, P: Pace> Caller<'a, P> {
     pub fn play<R: Wait>(&mut self, rt: &R, alloc: Global, call: &Call) -> Answer
         ensures plays { PlaysCall call.now self.old.seat self.new.seat result }
         ensures counts { CountsCall call.now self.old.seat self.new.seat result }
+        ensures clock { ReadsAtClock call.now self.old.seat self.new.seat result }
         ensures memory { WantsMemory result → Refuses self.old.seat self.new.seat }
         ensures same { IsSameSeat self.old.seat self.new.seat }
     {

@@ -85,6 +85,10 @@ module _ (m : MergerSeat) (message : MessageState) (table : TableId) (told new :
   abbrev old : Known
   old = m.raw.knows
 
+  -- the view, but for what a round and looks at the clock change
+  abbrev floored : MergerView → MergerView → MergerView
+  floored v w = record v { floor = w.floor; round = w.round; rounds = w.rounds; noted = w.noted; clock_looks = w.clock_looks }
+
   -- the merger afterwards
   abbrev pub met : MergerSeat
   met = record { raw = record { table = table; knows = new }; merges = m.merges; floor = m.floor; noted = m.noted; walk = m.walk; seen = m.seen }
@@ -92,20 +96,20 @@ module _ (m : MergerSeat) (message : MessageState) (table : TableId) (told new :
   layout : new.layout ≡ old.layout
   layout = looks.layout ∙ ap (λ (k : Known). k.layout) learns
 
-  view : new.merger ≡ old.merger
-  view = looks.view ∙ ap (λ (k : Known). k.merger) learns
+  view : new.merger ≡ record old.merger { clock_looks = new.merger.clock_looks }
+  view = subst (λ (v : MergerView). v ≡ record told.merger { clock_looks = v.clock_looks }) (sym looks.view) refl
+      ∙ ap (λ (k : Known). record k.merger { clock_looks = new.merger.clock_looks }) learns
 
   pub met_frozen : IsFrozen new m.merges
-  met_frozen = still_frozen old new m.merges (subst (λ (v : MergerView). v ≡ record old.merger { floor = v.floor; round = v.round; rounds = v.rounds })
-      (sym view) refl) frozen
+  met_frozen = still_frozen old new m.merges (subst (λ (v : MergerView). v ≡ floored old.merger v) (sym view) refl) frozen
 
   told_frozen : IsFrozen told m.merges
-  told_frozen = still_frozen old told m.merges (subst (λ (v : MergerView). v ≡ record old.merger { floor = v.floor; round = v.round; rounds = v.rounds })
-      (sym (ap (λ (k : Known). k.merger) learns)) refl) frozen
+  told_frozen = still_frozen old told m.merges (subst (λ (v : MergerView). v ≡ floored old.merger v) (sym (ap (λ (k : Known). k.merger) learns)) refl) frozen
 
   pub met_ready : IsReady met
   met_ready = record {
     floor = ready.floor ∙ ap (λ (v : MergerView). v.floor) (sym view);
+    noted = ready.noted ∙ ap (λ (v : MergerView). v.noted) (sym view);
     early = subst (λ (z : Layout). m.floor ≤ (m.merges + 1) * z.cells) (sym layout) ready.early;
     room = subst (λ (z : Layout). z.cells ≤ vec_capacity m.walk.group) (sym layout) ready.room;
     seats = ready.seats ∙ ap (λ (z : Layout). z.seats) (sym layout);
@@ -123,7 +127,7 @@ module _ (m : MergerSeat) (message : MessageState) (table : TableId) (told new :
     merger = record { store = record { table = same_table i; layout = layout i }; merges = m.merges; holds = (view i).holds };
     floor = m.floor;
     rounds = (view i).rounds;
-    noted = m.noted;
+    noted = (view i).noted;
     epoch = epoch i;
     runs = runs i;
   }

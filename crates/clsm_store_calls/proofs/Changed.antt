@@ -19,11 +19,12 @@ use Rattle.clsm_words.specs.Keeping.{KeepsPast}
 use Rattle.clsm_lock.specs.Keeping.{Enters, Leaves}
 use Rattle.clsm_pins.specs.Pinning.{Pins, Unpins}
 use Rattle.clsm_store_calls.specs.declared.got.Rmw.{Rmw as Answered}
+use Rattle.clsm_store_calls.specs.declared.refusal.Full.{Full as Refusal}
 use Rattle.clsm_store_calls.specs.declared.refusal.TryPutError.{TryPutError}
 use Rattle.clsm_store_calls.specs.declared.refusal.TryPutError.TheVariants.{Full, Busy, Raced, Overtaken}
 use Rattle.clsm_store_calls.specs.Resting.{FindsFull, IsAtRest, Keeps, Records, Still}
 use Rattle.clsm_store_calls.specs.Changing.{ChangesAt, Does, EndsFull, IsSameSeat, IsWrittenFrom, read_end}
-use Rattle.clsm_store_calls.specs.Tally.{HasRead, Tally, counted, tally_of}
+use Rattle.clsm_store_calls.specs.Tally.{HasRead, Tally, counted, looked, tally_of}
 use Rattle.clsm_store_calls.specs.Trying.{Fails}
 use Rattle.clsm_store_calls.specs.TryingChange.{CountsChange, CountsChangeInHold, EndsRefused, EndsUnmade, IsWrittenSince}
 use Rattle.clsm_store_calls.proofs.TriedChange.{counts_later, counts_whole}
@@ -121,6 +122,11 @@ module _ (a b c d e f : Known) (component key : ℕ) (rests : IsAtRest a) (enter
     clock = ap (λ (v : View). v.hold_clock) leaves.view ∙ ap (λ (v : View). v.hold_clock) unpins.view ∙ finds.clock;
   }
 
+  pub full_if : (answer : Result Answered Refusal) → d.view.entries ≡ c.view.entries → IfErr answer (λ full. FindsFull c d full.time)
+      → Unpins d e (read_end key answer) → IfErr answer (λ full. EndsFull a f full.time)
+  full_if (Ok rmw) entries finds unpins = tt
+  full_if (Err refusal) entries finds unpins = full refusal.time entries finds unpins
+
   refused : (error : TryPutError) → d.view.entries ≡ c.view.entries → Fails c d error → Unpins d e Neither → EndsRefused a f error
   refused (Full t) entries fails unpins = full t entries fails unpins
   refused Busy entries fails unpins = unmade fails unpins
@@ -136,12 +142,12 @@ module _ (a b c d e f : Known) (component key : ℕ) (rests : IsAtRest a) (enter
   abbrev entered : Tally
   entered = record (tally_of a) { entries = next_word a.view.entries }
 
-  entered_by : b.view.busy ≡ a.view.busy → tally_of c ≡ record entered { limit = None; clock = None }
-  entered_by busy = ap counted pins.view ∙ ap counted enters.view ∙ ap (λ (n : ℕ). record entered { busy = n; limit = None; clock = None }) busy
+  entered_by : b.view.busy ≡ a.view.busy → tally_of c ≡ record entered { limit = None; first = None; clock = None }
+  entered_by busy = ap counted pins.view ∙ ap counted enters.view ∙ ap (λ (n : ℕ). record entered { busy = n; limit = None; first = None; clock = None }) busy
 
   has_read : b.view.busy ≡ a.view.busy → HasRead entered (tally_of c)
   has_read busy = let same = entered_by busy in
-      same ∙ ap (λ (t : Tally). record entered { limit = t.limit; clock = t.clock; cancelled = t.cancelled }) (sym same)
+      same ∙ ap (λ (t : Tally). record (looked entered t) { cancelled = t.cancelled }) (sym same)
 
   pub counts_if : (answer : Result Answered TryPutError) → (end : End) → b.view.busy ≡ a.view.busy → Unpins d e end
       → CountsChangeInHold (IsWrittenSince c d key) (tally_of c) (tally_of d) answer → CountsChange (IsWrittenSince a f key) (tally_of a) (tally_of f) answer

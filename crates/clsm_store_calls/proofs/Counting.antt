@@ -1,14 +1,16 @@
 -- How many writes of a key stand, as the past goes on.
-use Rattle.std.proofs.Common.{◌≡◌, ℕ, zero, suc, ◌+◌, ◌≤◌, ◌++◌, ◌∷◌, [], List, Bool, true, cond, length, get_or, refl, sym, ap, ◌∙◌, subst, arith, eq-eqb}
+use Rattle.std.proofs.Common.{◌≡◌, ℕ, zero, suc, ◌+◌, ◌-◌, ◌≤◌, ◌++◌, ◌∷◌, [], List, Bool, true, cond, length, take, get_or, refl, sym, ap, ◌∙◌, subst, arith, eq-eqb}
 use Rattle.std.proofs.Common.{Option}
 use Rattle.std.specs.Fn.{iterate}
 use Rattle.std.specs.List.{count_by}
+use Rattle.std.proofs.Math.Seq.{take-append-add}
 use Rattle.std.proofs.lemmas.List.Sums.{sum_by-cons}
 use mathlib.Core.List.{IsPrefix}
 use Rattle.clsm_model.specs.declared.slot.Slot.{Slot}
 use Rattle.clsm_model.specs.declared.slot.Slot.TheVariants.{Nothing, Wrote}
 use Rattle.clsm_law.specs.Views.{next_word}
-use Rattle.clsm_store_calls.specs.Seats.{CountsUpTo, is_write_of, writes_from}
+use Rattle.clsm_store_calls.specs.Changing.{is_write_of, writes_from}
+use Rattle.clsm_store_calls.specs.Seats.{CountsUpTo}
 
 -- a slot more
 more : (p : Slot → Bool) (x : Slot) (xs : List Slot) → count_by p (x ∷ xs) ≡ cond (p x) 1 0 + count_by p xs
@@ -63,40 +65,15 @@ writes_more a b key from t seat written begins le beyond is =
     subst (λ (l : List Slot). get_or l t Nothing ≡ Wrote seat key written → writes_from a key from + 1 ≤ writes_from l key from) begins.1
     (stands_more key from t seat written a begins.0 le beyond) is
 
--- no fewer stand from an earlier time on
-stand_earlier : (key from from' : ℕ) (l : List Slot) → from ≤ from' → writes_from l key from' ≤ writes_from l key from
-stand_earlier key zero zero l le = omega arith
-stand_earlier key from (suc from') [] le = omega arith
-stand_earlier key (suc from) zero l le = absurd (omega arith)
-stand_earlier key zero (suc from') (x ∷ xs) le =
-    let one = more (is_write_of key) x xs in
-    let rest = stand_earlier key zero from' xs (omega arith) in
-    omega arith
-stand_earlier key (suc from) (suc from') (x ∷ xs) le = stand_earlier key from from' xs (omega arith)
-
--- those that stand in the shorter past and those that stand beyond it are others
-stand_apart : (key from from' : ℕ) (a b : List Slot) → from ≤ from' → length a ≤ from'
-    → writes_from a key from + writes_from (a ++ b) key from' ≤ writes_from (a ++ b) key from
-stand_apart key zero from' [] b le short = let rest = stand_earlier key zero from' b le in omega arith
-stand_apart key (suc from) from' [] b le short = let rest = stand_earlier key (suc from) from' b le in omega arith
-stand_apart key from zero (x ∷ xs) b le short = absurd (omega arith)
-stand_apart key zero (suc from') (x ∷ xs) b le short =
-    let one = more (is_write_of key) x xs in
-    let two = more (is_write_of key) x (xs ++ b) in
-    let rest = stand_apart key zero from' xs b (omega arith) (omega arith) in
-    omega arith
-stand_apart key (suc from) (suc from') (x ∷ xs) b le short = stand_apart key from from' xs b (omega arith) (omega arith)
-
-pub writes_apart : (a b : List Slot) (key from from' : ℕ) → IsPrefix a b → from ≤ from' → length a ≤ from'
-    → writes_from a key from + writes_from b key from' ≤ writes_from b key from
-writes_apart a b key from from' begins le short =
-    subst (λ (l : List Slot). writes_from a key from + writes_from l key from' ≤ writes_from l key from) begins.1
-    (stand_apart key from from' a begins.0 le short)
+-- a beginning is one of the first slots too, where they are as many
+pub prefix_take : (a b : List Slot) (n : ℕ) → IsPrefix a b → length a ≤ n → IsPrefix a (take n b)
+prefix_take a b n begins le = let parts : length a + (n - length a) ≡ n = omega arith in
+    (take (n - length a) begins.0, sym (take-append-add a begins.0 (n - length a)) ∙ (λ i. take (parts i) (begins.1 i)))
 
 -- ---- counts
 
 -- a step more at the end
-once_more : (n x : ℕ) → iterate next_word (suc n) x ≡ next_word (iterate next_word n x)
+pub once_more : (n x : ℕ) → iterate next_word (suc n) x ≡ next_word (iterate next_word n x)
 once_more zero x = refl
 once_more (suc n) x = once_more n (next_word x)
 

@@ -18,7 +18,8 @@ use Rattle.clsm_law.specs.OpenSteps.{open_time}
 use Rattle.clsm_words.specs.declared.known.Known.{Known}
 use Rattle.clsm_words.specs.Knowing.{AreReadable, Sound, row_of}
 use Rattle.clsm_words.specs.Keeping.{Looks}
-use Rattle.clsm_search.specs.Searching.{IsNewest}
+use Rattle.clsm_search.specs.Searching.{IsNewest, slot_in, value_in}
+use Rattle.clsm_search.specs.Staying.{slot_stays}
 use Rattle.clsm_store_calls.specs.Reading.{MayReadAt}
 
 -- what the runs answer for a time above what is merged is what they answer at its end
@@ -31,6 +32,11 @@ readable_read z memory h component floor key s runs below from until = elim (cas
       ∙ runs.exact key (component * z.cells) below (omega arith) ∙ ap (value h key) least
   | inr le ↦ let least : s ≡ min s (component * z.cells) = omega arith in runs.exact key s from (omega arith) ∙ ap (value h key) least
 ]
+
+-- where the epochs have a write of the key, its value is the key's
+pub epochs_answer : (k k' : Known) (component key time t : ℕ) → Looks k k' → IsNewest k component key time (Some t)
+    → value_in (slot_in k' t) ≡ value (plain k.past) key time
+epochs_answer k k' component key time t looks newest = ap value_in (slot_stays k k' t looks) ∙ sym (ap left_by newest)
 
 -- where the chains have no write of the key, the runs have its value
 pub runs_answer : (k k' : Known) (component key time : ℕ) (entry : Option Entry) → Looks k k' → Sound k' → k.view.held ≡ Some component

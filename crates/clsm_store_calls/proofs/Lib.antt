@@ -1,4 +1,5 @@
 pub mod Rest
+pub mod Ahead
 pub mod Found
 pub mod Unchanged
 pub mod Counting
@@ -18,3 +19,5 @@ pub mod Asking
 pub mod KeyCounts
 pub mod ReadParts
 pub mod Staged
+pub mod Polls
+pub mod Beside

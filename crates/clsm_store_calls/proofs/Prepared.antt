@@ -82,20 +82,29 @@ row_is k = ap (λ (es : List Entry). merged es) (sym (epoch_is k))
 -- what contracts see of the merger stays, but for the floor, the rounds and what the last one found
 pub same_frozen : (old new : MergerSeat) → new.raw.table ≡ old.raw.table → new.raw.knows.layout ≡ old.raw.knows.layout → new.merges ≡ old.merges
     → new.raw.knows.merger.holds ≡ old.raw.knows.merger.holds → epoch_known new.raw.knows ≡ epoch_known old.raw.knows → runs_known new.raw.knows
-    ≡ runs_known old.raw.knows → frozen_of new ≡ record (frozen_of old) { floor = new.floor; rounds = new.raw.knows.merger.rounds; noted = new.noted }
+    ≡ runs_known old.raw.knows → frozen_of new ≡ record (frozen_of old) {
+      floor = new.floor;
+      rounds = new.raw.knows.merger.rounds;
+      noted = new.raw.knows.merger.noted;
+    }
 same_frozen old new table layout merges holds epoch runs =
     λ i. record {
       merger = record { store = record { table = table i; layout = layout i }; merges = merges i; holds = holds i };
       floor = new.floor;
       rounds = new.raw.knows.merger.rounds;
-      noted = new.noted;
+      noted = new.raw.knows.merger.noted;
       epoch = epoch i;
       runs = runs i;
     }
 
 -- and so does the phase
-pub still_frozen : (k k' : Known) (merges : ℕ) → k'.merger ≡ record k.merger { floor = k'.merger.floor; round = k'.merger.round; rounds = k'.merger.rounds }
-    → IsFrozen k merges → IsFrozen k' merges
+pub still_frozen : (k k' : Known) (merges : ℕ) → k'.merger ≡ record k.merger {
+  floor = k'.merger.floor;
+  round = k'.merger.round;
+  rounds = k'.merger.rounds;
+  noted = k'.merger.noted;
+  clock_looks = k'.merger.clock_looks;
+} → IsFrozen k merges → IsFrozen k' merges
 still_frozen k k' merges view is = record {
   out = record {
     merged = ap (λ (m : MergerView). m.merged) view ∙ is.out.merged;

@@ -11,7 +11,7 @@ use Rattle.clsm_words.specs.declared.known.Known.{Known}
 use Rattle.clsm_words.specs.Knowing.{known_of}
 use Rattle.clsm_words.specs.Keeping.{KeepsPlace, KeepsSeat, OnlyReads}
 use Rattle.clsm_model.proofs.Batches.{begins_self, begins_trans}
-use Rattle.clsm_memtable.specs.Writing.{Draws, FindsLimit, GivesUp, LosesDraw, LosesTime, Records as Decides}
+use Rattle.clsm_memtable.specs.Writing.{Draws, FindsLimit, GivesUp, LosesDraw, LosesTime, RecordsHinted as Decides}
 use Rattle.clsm_memtable.specs.Filling.{Fills}
 use Rattle.clsm_memtable.specs.Inserting.{Enters}
 use Rattle.clsm_store_calls.specs.Resting.{IsSettled, Keeps, Still, Records, FindsFull}

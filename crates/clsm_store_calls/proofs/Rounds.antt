@@ -7,8 +7,8 @@ use Rattle.clsm_law.specs.declared.merger.MergerView.{MergerView}
 use Rattle.clsm_law.specs.declared.merger.Round.{Round}
 use Rattle.clsm_law.specs.declared.word.Word.TheVariants.{Snap}
 use Rattle.clsm_law.specs.Views.{next_word}
-use Rattle.clsm_law.specs.Merging.{epoch_end, floor_by, is_frozen, least, least_or, merger_looked, noted_time, round_by, round_end, round_on, rounds_by}
-use Rattle.clsm_store_calls.specs.Flooring.{floor_at, round_at, rounds_at}
+use Rattle.clsm_law.specs.Merging.{epoch_end, floor_by, is_frozen, least, least_or, merger_looked, noted_by, noted_time, round_by, round_end, round_on, rounds_by}
+use Rattle.clsm_store_calls.specs.Flooring.{floor_at, noted_at, round_at, rounds_at}
 
 module _ (z : Layout) (m : MergerView) (i x before end : ℕ) (found : Option ℕ) (r0 : Option Round) (lt : i < z.seats) (frozen : is_frozen m.phase ≡ true)
     (stands : m.round ≡ round_at z.seats i found r0) (fresh : i ≡ 0 → found ≡ None) (low : m.floor ≡ floor_at z.seats i before end found)
@@ -59,3 +59,15 @@ module _ (z : Layout) (m : MergerView) (i x before end : ℕ) (found : Option �
       ap (λ b. cond b (rounds_by z m (cond b (round_by m.round i x) m.round)) m.rounds) frozen ∙ ap (rounds_by z m) goes_on
       ∙ ap (λ (n : ℕ). cond (i + 1 == z.seats) (next_word n) n) none_yet
       ∙ sym (ap (λ b. cond b counted (cond (i + 1 == z.seats) (next_word counted) counted)) (ne_eqb (i + 1) 0 (λ e. omega arith)))
+
+  -- and so is what it found noted
+  pub next_noted : (before' : Option ℕ) → m.noted ≡ noted_at z.seats i found before'
+      → (merger_looked z m (Snap i) x).noted ≡ noted_at z.seats (i + 1) (least found (noted_time x)) before'
+  next_noted before' at =
+      let none_yet : m.noted ≡ before' = at ∙ dite (ℕ_discrete i 0)
+      (λ (first : i ≡ 0). ap (λ b. cond b before' (cond (i == z.seats) found before')) (eq-eqb i 0 first))
+      (λ ne. ap (λ b. cond b before' (cond (i == z.seats) found before')) (ne_eqb i 0 ne)
+      ∙ ap (λ b. cond b found before') (ne_eqb i z.seats (λ e. omega arith))) in
+      ap (λ b. cond b (noted_by z m (cond b (round_by m.round i x) m.round)) m.noted) frozen ∙ ap (noted_by z m) goes_on
+      ∙ ap (λ (o : Option ℕ). cond (i + 1 == z.seats) (least found (noted_time x)) o) none_yet
+      ∙ sym (ap (λ b. cond b before' (cond (i + 1 == z.seats) (least found (noted_time x)) before')) (ne_eqb (i + 1) 0 (λ e. omega arith)))

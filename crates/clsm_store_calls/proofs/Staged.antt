@@ -1,6 +1,6 @@
 -- Members of a batch, staged one after another.
 use Rattle.std.proofs.Common.{◌≡◌, ◌≢◌, ◌∙◌, ℕ, zero, suc, ◌+◌, ◌^◌, ◌<◌, ◌≤◌, ◌++◌, ◌∷◌, [], List, length, take, get_or, ap, refl, sym, arith, append-nil}
-use Rattle.std.proofs.Common.{false, Option, None, Result, Ok, Err, IfErr}
+use Rattle.std.proofs.Common.{false, Option, None, Result, Ok, Err, IfErr, subst}
 use Rattle.std.proofs.lemmas.List.{append_assoc, length-append, length-take-le, take_more}
 use Rattle.clsm_model.specs.declared.slot.Change.{Change}
 use Rattle.clsm_model.specs.declared.slot.Change.TheVariants.{Keep, Set, Remove}
@@ -9,9 +9,10 @@ use Rattle.clsm_model.specs.declared.record.Deed.TheVariants.{Batch as Group}
 use Rattle.clsm_model.specs.Right.{AreWrites, Member}
 use Rattle.clsm_model.specs.Seats.{FitsDeed}
 use Rattle.clsm_law.specs.declared.view.View.{View}
+use Rattle.clsm_law.specs.declared.view.Mode.TheVariants.{Exclusive}
 use Rattle.clsm_law.specs.Relation.{member_of}
 use Rattle.clsm_words.specs.declared.known.Known.{Known}
-use Rattle.clsm_words.specs.Keeping.{KeepsPlace}
+use Rattle.clsm_words.specs.Knowing.{Sound}
 use Rattle.clsm_words.proofs.Keeps.{seat_stays, seat_trans}
 use Rattle.clsm_lock.specs.Keeping.{EntersExclusively, Leaves}
 use Rattle.clsm_memtable.specs.Filling.{Stages}
@@ -19,9 +20,12 @@ use Rattle.clsm_memtable.specs.Inserting.{Enters, StaysOut}
 use Rattle.clsm_memtable.specs.Writing.{DecidesMember, FindsRoom}
 use Rattle.clsm_store_calls.specs.declared.refusal.BatchError.{BatchError}
 use Rattle.clsm_store_calls.specs.declared.refusal.BatchError.TheVariants.{Full}
-use Rattle.clsm_store_calls.specs.Batching.{FindsNoRoom, FindsNoRoomFor, IsAlone, MayStage, RefusesBatch, StagesAll, with_staged}
+use Rattle.clsm_store_calls.specs.declared.refusal.TryBatchError.TheVariants.{Refused}
+use Rattle.clsm_store_calls.specs.Batching.{CountsAlone, CountsBatch, CountsTryBatch, FindsNoRoom, FindsNoRoomFor, IsAlone, MayStage, RefusesBatch}
+use Rattle.clsm_store_calls.specs.Batching.{StagesAll, entered_once, with_staged}
+use Rattle.clsm_store_calls.specs.Tally.{Tally, counted, looked, tally_of}
 use Rattle.clsm_store_calls.specs.Changing.{value_set}
-use Rattle.clsm_store_calls.specs.Resting.{deed_of}
+use Rattle.clsm_store_calls.specs.Resting.{IsAtRest, IsSettled, deed_of}
 use Rattle.clsm_store_calls.proofs.Rest.{left, still_by, still_trans}
 
 -- each member is a write
@@ -74,27 +78,31 @@ one_member m writes = by m.0 m.1 writes where
 
 -- staged, looked for, entered and decided, with the hints behind it, it is one staged member more
 pub staged_one : (a b c d e f : Known) (t key : ℕ) (written : Option (List ℕ)) (deed : Deed) (m : Member) → Stages a b t key written → StaysOut b c
-    → Enters c d → DecidesMember d e t deed → KeepsPlace e f → f.view ≡ e.view → member_of deed ≡ m ∷ [] → StagesAll a f (m ∷ [])
-staged_one a b c d e f t key written deed m stages looks enters decides place hints is = record {
+    → c.view.raced ≡ b.view.raced → Enters c d → d.view.raced ≡ c.view.raced → DecidesMember d e t deed → StaysOut e f
+    → f.view.raced ≡ e.view.raced → member_of deed ≡ m ∷ [] → StagesAll a f (m ∷ [])
+staged_one a b c d e f t key written deed m stages looks unraced enters won decides hints aside is = record {
   seat =
       seat_trans a b f stages.place.seat
       (seat_trans b c f looks.seat
       (seat_trans c d f enters.seat
-      (seat_trans d e f decides.place.seat place.seat (λ h held held'. ap (λ (v : View). v.held) decides.view ∙ held))
+      (seat_trans d e f decides.place.seat hints.seat (λ h held held'. ap (λ (v : View). v.held) decides.view ∙ held))
       (λ h held held'. ap (λ (v : View). v.held) enters.view ∙ held))
       (λ h held held'. ap (λ (v : View). v.held) looks.view ∙ held))
       (λ h held held'. ap (λ (v : View). v.held) stages.view ∙ held);
   view = (λ i. record f.view { drawn = undrawn i }) ∙ rest ∙ ap (with_staged a.view f.view) more;
 } where
   undrawn : f.view.drawn ≡ None
-  undrawn = ap (λ (v : View). v.drawn) (hints ∙ decides.view)
+  undrawn = ap (λ (v : View). v.drawn) hints.view ∙ ap (λ (v : View). v.drawn) decides.view
 
   rest : with_staged f.view f.view f.view.staged ≡ with_staged a.view f.view f.view.staged
   rest =
-      ap (λ (v : View). with_staged v f.view f.view.staged) hints
+      ap (λ (v : View). with_staged v f.view f.view.staged) hints.view
+      ∙ ap (λ (n : ℕ). record (with_staged e.view f.view f.view.staged) { raced = n }) aside
       ∙ ap (λ (v : View). with_staged v f.view f.view.staged) decides.view
       ∙ ap (λ (v : View). with_staged v f.view f.view.staged) enters.view
+      ∙ ap (λ (n : ℕ). record (with_staged c.view f.view f.view.staged) { raced = n }) won
       ∙ ap (λ (v : View). with_staged v f.view f.view.staged) looks.view
+      ∙ ap (λ (n : ℕ). record (with_staged b.view f.view f.view.staged) { raced = n }) unraced
       ∙ ap (λ (v : View). with_staged v f.view f.view.staged) stages.view
 
   before : d.view.staged ≡ a.view.staged
@@ -102,9 +110,24 @@ staged_one a b c d e f t key written deed m stages looks enters decides place hi
 
   more : f.view.staged ≡ a.view.staged ++ m ∷ []
   more =
-      ap (λ (v : View). v.staged) (hints ∙ decides.view)
+      ap (λ (v : View). v.staged) hints.view
+      ∙ ap (λ (v : View). v.staged) decides.view
       ∙ ap (λ (l : List Member). l ++ member_of deed) before
       ∙ ap (λ (l : List Member). a.view.staged ++ l) is
+
+-- ---- the hold
+
+-- it begins alone
+pub alone_in_hold : (a b : Known) → IsAtRest a → Sound a → EntersExclusively a b → IsAlone b
+alone_in_hold a b rests sound enters = record {
+  exclusive = ap (λ (v : View). v.mode) enters.view;
+  undrawn = ap (λ (v : View). v.drawn) enters.view ∙ rests.undrawn;
+  unstaged =
+      let free : a.view.mode ≢ Exclusive = λ e. let f = rests.free in absurd cc in
+      ap (λ (v : View). v.staged) enters.view ∙ sound.unstaged free;
+  unpinned = ap (λ (v : View). v.pinned) enters.view ∙ rests.unpinned;
+  settled = subst IsSettled (sym (ap (λ (v : View). v.snapshot) enters.view)) rests.settled;
+}
 
 -- ---- the room
 
@@ -135,10 +158,9 @@ may_stage a b clock limit members alone uncommitted h room small = record {
 }
 
 -- the whole call, refused in its hold
-pub refused_alone : (a b c d : Known) (members : List Member) (r : Result ℕ BatchError) → FitsDeed a.layout.cells (Group members) → EntersExclusively a b
-    → Leaves c d → IfErr r (FindsNoRoomFor b c members) → IfErr r (RefusesBatch a d members)
-refused_alone a b c d members (Ok t) fits enters leaves h = tt
-refused_alone a b c d members (Err (Full t)) fits enters leaves h = (
+pub no_room_alone : (a b c d : Known) (members : List Member) (error : BatchError) → FitsDeed a.layout.cells (Group members) → EntersExclusively a b
+    → Leaves c d → FindsNoRoomFor b c members error → RefusesBatch a d members error
+no_room_alone a b c d members (Full t) fits enters leaves h = (
   fits,
   record {
     still = still_trans a b d (still_by a b enters.place (ap left enters.view)) (still_trans b c d h.still (still_by c d leaves.place (ap left leaves.view)));
@@ -148,4 +170,39 @@ refused_alone a b c d members (Err (Full t)) fits enters leaves h = (
     short = h.short;
   },
 )
-refused_alone a b c d members (Err error) fits enters leaves h = absurd h
+no_room_alone a b c d members error fits enters leaves h = absurd h
+
+pub refused_alone : (a b c d : Known) (members : List Member) (r : Result ℕ BatchError) → FitsDeed a.layout.cells (Group members) → EntersExclusively a b
+    → Leaves c d → IfErr r (FindsNoRoomFor b c members) → IfErr r (RefusesBatch a d members)
+refused_alone a b c d members (Ok t) fits enters leaves h = tt
+refused_alone a b c d members (Err error) fits enters leaves h = no_room_alone a b c d members error fits enters leaves h
+
+-- ---- what it counts
+
+module _ (a b c d : Known) (enters : EntersExclusively a b) (counts : tally_of c ≡ looked (tally_of b) (tally_of c)) (leaves : Leaves c d) where
+  same : tally_of d ≡ tally_of c
+  same = ap counted leaves.view
+
+  busy_is : d.view.busy ≡ b.view.busy
+  busy_is = ap (λ (t : Tally). t.busy) same ∙ ap (λ (t : Tally). t.busy) counts
+
+  -- the one entry, and what it looked at in its hold
+  counts_entry : CountsAlone (record (tally_of a) { busy = d.view.busy }) (tally_of d)
+  counts_entry =
+      same ∙ counts ∙ ap (λ (t : Tally). looked t (tally_of c)) (ap counted enters.view)
+      ∙ (λ i. record (looked (entered_once (tally_of a)) (sym same i)) { busy = sym busy_is i })
+
+  pub counts_batch : (members : List Member) (r : Result ℕ BatchError) → IfErr r (FindsNoRoomFor b c members) → CountsBatch (tally_of a) (tally_of d) r
+  counts_batch members (Ok t) h = counts_entry
+  counts_batch members (Err (Full t)) h = counts_entry
+  counts_batch members (Err error) h = absurd h
+
+  -- where it was not refused before it
+  module _ (uncounted : b.view.busy ≡ a.view.busy) where
+    pub counts_alone : CountsAlone (tally_of a) (tally_of d)
+    counts_alone = counts_entry ∙ ap (λ (n : ℕ). looked (entered_once (record (tally_of a) { busy = n })) (tally_of d)) (busy_is ∙ uncounted)
+
+    pub counts_refused : (members : List Member) (error : BatchError) → FindsNoRoomFor b c members error
+        → CountsTryBatch (tally_of a) (tally_of d) (Err (Refused error))
+    counts_refused members (Full t) h = counts_alone
+    counts_refused members error h = absurd h

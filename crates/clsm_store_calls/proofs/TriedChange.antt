@@ -78,7 +78,7 @@ module _ (P Q : Type 0) (a b c : Tally) (read : HasRead a b) (more : P → Q) wh
 
 draw_read : (a b : Known) (t : ℕ) → Draws a b t → HasRead (tally_of a) (tally_of b)
 draw_read a b t draws = let same = ap counted draws.view in
-    same ∙ ap (λ (t : Tally). record (tally_of a) { limit = b.view.hold_limit; clock = t.clock; cancelled = t.cancelled }) (sym same)
+    same ∙ ap (λ (t : Tally). record (looked (tally_of a) t) { limit = b.view.hold_limit; cancelled = t.cancelled }) (sym same)
 
 -- a draw and looks behind it
 pub drawn_read : (a b c : Known) (t : ℕ) → Draws a b t → OnlyReads b c → HasRead (tally_of a) (tally_of c)
@@ -86,14 +86,19 @@ drawn_read a b c t draws reads =
     let drawn : HasRead (tally_of a) (tally_of b) = draw_read a b t draws in
     let read = ap counted reads.view in
     read ∙ ap (λ (t : Tally). record t { cancelled = c.view.cancelled }) drawn
-    ∙ ap (λ (t : Tally). record (tally_of a) { limit = t.limit; clock = t.clock; cancelled = c.view.cancelled }) (sym read)
+    ∙ ap (λ (t : Tally). record (looked (tally_of a) t) { cancelled = c.view.cancelled }) (sym read)
 
 -- the key was written meanwhile
 pub outdated : (P : Type 0) (a b c : Known) (t : ℕ) → HasRead (tally_of a) (tally_of b) → GivesUp b c t → P
     → CountsChangeInHold P (tally_of a) (tally_of c) (Err Raced)
 outdated P a b c t read gives is = let same = ap counted gives.view in
     counts_later P P (tally_of a) (tally_of b) (tally_of c) read (λ is. is) (Err Raced) (record {
-      counts = same ∙ ap (λ (t : Tally). record (tally_of b) { raced = t.raced; overtaken = c.view.overtaken; gave_up = c.view.gave_up; limit = t.limit; clock = t.clock; cancelled = t.cancelled }) (sym same);
+      counts = same ∙ ap (λ (t : Tally). record (looked (tally_of b) t) {
+        raced = t.raced;
+        overtaken = c.view.overtaken;
+        gave_up = c.view.gave_up;
+        cancelled = t.cancelled;
+      }) (sym same);
       why = inr (ap (λ (t : Tally). t.raced) same, gives.counted, is);
     })
 
@@ -108,12 +113,17 @@ lost_counts P a b c (Full t) read lost = absurd lost
 lost_counts P a b c Busy read lost = absurd lost
 lost_counts P a b c Raced read lost = let same = lost.1 in
     counts_later P P (tally_of a) (tally_of b) (tally_of c) read (λ is. is) (Err Raced) (record {
-      counts = same ∙ ap (λ (t : Tally). record (tally_of b) { raced = t.raced; overtaken = c.view.overtaken; gave_up = c.view.gave_up; limit = t.limit; clock = t.clock; cancelled = t.cancelled }) (sym same);
+      counts = same ∙ ap (λ (t : Tally). record (looked (tally_of b) t) {
+        raced = t.raced;
+        overtaken = c.view.overtaken;
+        gave_up = c.view.gave_up;
+        cancelled = t.cancelled;
+      }) (sym same);
       why = inl (ap (λ (t : Tally). t.raced) same, inr lost.2);
     })
 lost_counts P a b c Overtaken read lost = let same = lost.1 in
     counts_later P P (tally_of a) (tally_of b) (tally_of c) read (λ is. is) (Err Overtaken)
-    (same ∙ ap (λ (t : Tally). record (tally_of b) { overtaken = next_word b.view.overtaken; limit = t.limit; clock = t.clock; cancelled = t.cancelled }) (sym same))
+    (same ∙ ap (λ (t : Tally). record (looked (tally_of b) t) { overtaken = next_word b.view.overtaken; cancelled = t.cancelled }) (sym same))
 
 pub lost_fails : (a b c : Known) (error : TryPutError) → Still a b → LosesDrawn b c error → Fails a c error
 lost_fails a b c (Full t) still lost = absurd lost

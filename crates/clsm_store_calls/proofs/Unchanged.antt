@@ -14,8 +14,7 @@ use mathlib.Core.List.{IsPrefix}
 use Rattle.clsm_model.proofs.Histories.{value-same}
 use Rattle.clsm_words.specs.declared.known.Known.{Known}
 use Rattle.clsm_words.specs.Keeping.{Looks}
-use Rattle.clsm_search.specs.declared.found.Found.{Found}
-use Rattle.clsm_search.specs.Searching.{IsNewest}
+use Rattle.clsm_search.specs.Searching.{IsNewest, slot_in, value_in}
 
 its_time : (key t : ℕ) (slot : Slot) (w : Write) → write_of key t slot ≡ Some w → w.time ≡ t
 its_time key t Nothing w e = absurd cc
@@ -52,11 +51,11 @@ module _ (k k' : Known) (component key from until : ℕ) (looks : Looks k k') (l
   same : (t : ℕ) → newest (plain k'.past) key t ≡ newest (plain k.past) key t
   same t = ap (λ (slots : List Slot). newest (plain slots) key t) looks.past
 
-  pub unchanged_found : (found : Found) → IsNewest k component key until (Some found) → found.time < from → value (plain k'.past) key until
+  pub unchanged_found : (t : ℕ) → IsNewest k component key until (Some t) → t < from → value (plain k'.past) key until
       ≡ value (plain k'.past) key from
-  unchanged_found found is lt = there (newest_stays (plain k'.past) key from until le (λ w e.
-      let found_is : Some (record { time = found.time; value = found.value }) ≡ Some w = sym is ∙ sym (same until) ∙ e in
-      subst (λ (n : ℕ). n < from) (time_of (record { time = found.time; value = found.value }) w found_is) lt))
+  unchanged_found t is lt = there (newest_stays (plain k'.past) key from until le (λ w e.
+      let found_is : Some (record { time = t; value = value_in (slot_in k t) }) ≡ Some w = sym is ∙ sym (same until) ∙ e in
+      subst (λ (n : ℕ). n < from) (time_of (record { time = t; value = value_in (slot_in k t) }) w found_is) lt))
     where
       time_of : (v w : Write) → Some v ≡ Some w → v.time ≡ w.time
       time_of v w e = cc

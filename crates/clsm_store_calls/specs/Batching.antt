@@ -10,8 +10,11 @@ use Rattle.clsm_law.specs.Views.{next_word}
 use Rattle.clsm_law.specs.Relation.{call_of}
 use Rattle.clsm_words.specs.declared.known.Known.{Known}
 use Rattle.clsm_words.specs.Keeping.{KeepsSeat}
+use Rattle.clsm_lock.specs.Keeping.{StaysOut}
 use Rattle.clsm_store_calls.specs.declared.refusal.BatchError.{BatchError}
 use Rattle.clsm_store_calls.specs.declared.refusal.BatchError.TheVariants.{Full, TooLong, Empty, Keep}
+use Rattle.clsm_store_calls.specs.declared.refusal.TryBatchError.{TryBatchError}
+use Rattle.clsm_store_calls.specs.declared.refusal.TryBatchError.TheVariants.{Busy, Refused}
 use Rattle.clsm_store_calls.specs.Seats.{Refuses, SeatState}
 use Rattle.clsm_store_calls.specs.Resting.{IsSettled, Keeps, Still}
 use Rattle.clsm_store_calls.specs.Tally.{Tally, looked}
@@ -60,7 +63,6 @@ with_staged v w members = record v {
   met = w.met;
   low = w.low;
   high = w.high;
-  raced = w.raced;
 }
 
 -- it staged these members, behind those before: nothing is recorded
@@ -114,22 +116,36 @@ abbrev pub RefusesBatch : Known → Known → List Member → BatchError → Typ
 RefusesBatch old new members (Full t) = FitsDeed old.layout.cells (Group members) × FindsNoRoom old new t (length members)
 RefusesBatch old new members error = (new ≡ old) × IsNoBatch old.layout.cells members error
 
--- what it counts in its hold of the lock: no time is given up and none cancelled; links and
--- insertions may have been tried again, where there was room
-abbrev pub CountsAlone : Tally → Tally → Result ℕ BatchError → Type 0
-CountsAlone old new (Ok t) = new ≡ record (looked old new) { raced = new.raced }
-CountsAlone old new (Err error) = new ≡ looked old new
-
 -- the counts after one entry into the lock
 abbrev pub entered_once : Tally → Tally
 entered_once old = record old { entries = next_word old.entries }
 
--- what a batch counts: nothing if it is not a batch, else the one entry into the lock, and what
--- came of it there
+-- what a batch counts in its hold of the lock, which it entered once: each exchange is won
+abbrev pub CountsAlone : Tally → Tally → Type 0
+CountsAlone old new = new ≡ looked (entered_once old) new
+
+-- what a batch counts: nothing if it is not a batch, else how often it was refused the lock, and the
+-- one entry into it
 abbrev pub CountsBatch : Tally → Tally → Result ℕ BatchError → Type 0
-CountsBatch old new (Ok t) = CountsAlone (entered_once old) new (Ok t)
-CountsBatch old new (Err (Full t)) = CountsAlone (entered_once old) new (Err (Full t))
+CountsBatch old new (Ok t) = CountsAlone (record old { busy = new.busy }) new
+CountsBatch old new (Err (Full t)) = CountsAlone (record old { busy = new.busy }) new
 CountsBatch old new (Err error) = new ≡ old
+
+-- ---- the same call, which tries the lock once
+
+-- why it was refused: somebody held the lock, and the seat is as it was but for its counts; or as a
+-- batch is refused
+abbrev pub RefusesTryBatch : Known → Known → List Member → TryBatchError → Type 0
+RefusesTryBatch old new members Busy = FitsDeed old.layout.cells (Group members) × StaysOut old new
+RefusesTryBatch old new members (Refused error) = RefusesBatch old new members error
+
+-- what it counts: the one refusal of the lock and that alone, or the one entry into it; nothing if it
+-- is not a batch
+abbrev pub CountsTryBatch : Tally → Tally → Result ℕ TryBatchError → Type 0
+CountsTryBatch old new (Ok t) = CountsAlone old new
+CountsTryBatch old new (Err Busy) = new ≡ record old { busy = next_word old.busy }
+CountsTryBatch old new (Err (Refused (Full t))) = CountsAlone old new
+CountsTryBatch old new (Err (Refused error)) = new ≡ old
 
 -- ---- the call, as contracts of the store see it
 
@@ -148,3 +164,9 @@ pub record IsNoRoom (old new : SeatState) (t members : ℕ) : Type 0 where
 abbrev pub IsRefusedBatch : SeatState → SeatState → List Member → BatchError → Type 0
 IsRefusedBatch old new members (Full t) = FitsDeed old.store.layout.cells (Group members) × IsNoRoom old new t (length members)
 IsRefusedBatch old new members error = (new ≡ old) × IsNoBatch old.store.layout.cells members error
+
+-- why a try was refused: somebody held the lock, and the seat is as it was but for its tally; or as a
+-- batch is refused
+abbrev pub IsRefusedTryBatch : SeatState → SeatState → List Member → TryBatchError → Type 0
+IsRefusedTryBatch old new members Busy = FitsDeed old.store.layout.cells (Group members) × (new ≡ record old { tally = new.tally })
+IsRefusedTryBatch old new members (Refused error) = IsRefusedBatch old new members error

@@ -1,6 +1,7 @@
 -- A read-modify-write at the words.
-use Rattle.std.specs.Prelude.{◌≡◌, ◌≢◌, ℕ, ◌*◌, ◌≤◌, ◌⊎◌, ◌++◌, ◌∷◌, [], Bool, List, true, false, cond, length, max, slice_index_or, Option, Some, None}
+use Rattle.std.specs.Prelude.{◌≡◌, ◌≢◌, ℕ, ◌*◌, ◌≤◌, ◌==◌, ◌⊎◌, ◌++◌, ◌∷◌, [], Bool, List, true, false, cond, drop, length, take, slice_index_or, Option, Some, None}
 use Rattle.std.specs.Prelude.{Result, Ok, Err}
+use Rattle.std.specs.List.{count_by}
 use Rattle.clsm_model.specs.History.{IsBeginning, plain, value}
 use Rattle.clsm_model.specs.declared.slot.Slot.{Slot}
 use Rattle.clsm_model.specs.declared.slot.Slot.TheVariants.{Nothing, Wrote}
@@ -11,7 +12,7 @@ use Rattle.clsm_model.specs.declared.record.Deed.TheVariants.{Rmw}
 use Rattle.clsm_law.specs.declared.step.End.{End}
 use Rattle.clsm_law.specs.declared.step.End.TheVariants.{Neither, Recorded}
 use Rattle.clsm_law.specs.Views.{IsBelow, next_word}
-use Rattle.clsm_law.specs.Relation.{call_of, taken}
+use Rattle.clsm_law.specs.Relation.{call_of, first_of, taken}
 use Rattle.clsm_model.specs.Seats.{due_by}
 use Rattle.clsm_law.specs.declared.view.Mode.TheVariants.{Shared}
 use Rattle.clsm_law.specs.declared.view.View.{View}
@@ -24,7 +25,8 @@ use Rattle.clsm_store_calls.specs.declared.got.Rmw.{Rmw as Answered}
 use Rattle.clsm_store_calls.specs.declared.changing.Modified.{Modified}
 use Rattle.clsm_store_calls.specs.declared.changing.ChangeAttempt.{ChangeAttempt}
 use Rattle.clsm_store_calls.specs.declared.changing.ChangeAttempt.TheVariants.{Done as Finished, Full, Lost}
-use Rattle.clsm_store_calls.specs.Seats.{CountsUpTo, writes_from}
+use Rattle.clsm_store_calls.specs.declared.refusal.Full.{Full as Refusal}
+use Rattle.clsm_store_calls.specs.Seats.{CountsUpTo}
 use Rattle.clsm_store_calls.specs.Resting.{FindsFull, IsSettled, Records, Still}
 
 -- it holds the lock and the component, and has drawn nothing
@@ -51,10 +53,38 @@ pub record ReadsNow (k : Known) (component key t : ℕ) (reply : Option (List �
   pub settled : t ≤ length k.past
   pub is : reply ≡ value (plain k.past) key t
 
--- the seat gave up at most one time for each write of the key that stands at or above the due that
--- it had before, and of which it did not know before
-abbrev pub GivesUpFor : Known → Known → ℕ → Type 0
-GivesUpFor old new key = CountsUpTo (writes_from new.past key (max old.view.due (length old.past))) old.view.gave_up new.view.gave_up
+-- ---- times given up
+
+-- the slot is a write of the key
+abbrev pub is_write_of : ℕ → Slot → Bool
+is_write_of key Nothing = false
+is_write_of key (Wrote seat k written) = k == key
+
+-- how many writes of the key stand at this time or above it
+abbrev pub writes_from : List Slot → ℕ → ℕ → ℕ
+writes_from slots key from = count_by (is_write_of key) (drop from slots)
+
+-- the tries that were lost so far gave up at most one time for each write of the key that stands at or
+-- above the time of the first read; and none before that
+abbrev pub GaveUp : Known → Known → ℕ → Option ℕ → Type 0
+GaveUp old new key None = new.view.gave_up ≡ old.view.gave_up
+GaveUp old new key (Some first) = (old.view.due ≤ first) × (length old.past ≤ first) × (first ≤ length new.past)
+    × CountsUpTo (writes_from new.past key first) old.view.gave_up new.view.gave_up
+
+-- and so the call, below this time
+pub record GivesUpFor (old new : Known) (key last : ℕ) : Type 0 where
+  pub first : ℕ
+  pub looked : new.view.hold_first ≡ Some first
+  pub due : old.view.due ≤ first
+  pub known : length old.past ≤ first
+  pub reached : first ≤ length new.past
+  pub until : first ≤ last
+  pub counts : CountsUpTo (writes_from (take last new.past) key first) old.view.gave_up new.view.gave_up
+
+-- the time at which the call is answered, or refused
+abbrev pub changed_at : Result Answered Refusal → ℕ
+changed_at (Ok rmw) = rmw.time
+changed_at (Err full) = full.time
 
 -- a write of the key stands at this time or above it
 pub record IsWrittenFrom (slots : List Slot) (key from : ℕ) : Type 0 where
@@ -70,6 +100,22 @@ GivesUpOnce old new key from =
     (new.view.gave_up ≡ old.view.gave_up)
     ⊎ ((new.view.gave_up ≡ next_word old.view.gave_up) × IsWrittenFrom new.past key from)
 
+-- what a try gave up behind its read: nothing where it ended, and then it ended at or above the read
+abbrev pub GivesLater : Known → Known → ℕ → ℕ → ChangeAttempt → Type 0
+GivesLater old new key read (Finished rmw) = (new.view.gave_up ≡ old.view.gave_up) × (read ≤ rmw.time)
+GivesLater old new key read (Full t) = (new.view.gave_up ≡ old.view.gave_up) × (read ≤ t)
+GivesLater old new key read Lost = GivesUpOnce old new key read
+
+-- a try with its read, which looks at the clock: for the first time in the hold, if there was no look
+-- yet
+pub record GivesInTry (old new : Known) (key : ℕ) (attempt : ChangeAttempt) : Type 0 where
+  pub read : ℕ
+  pub first : new.view.hold_first ≡ first_of old.view.hold_first read
+  pub due : old.view.due ≤ read
+  pub known : length old.past ≤ read
+  pub settled : read ≤ length new.past
+  pub gave : GivesLater old new key read attempt
+
 -- ---- a draw that goes on until it has a time
 
 -- the view v, but what draws that are lost change of it is as in w
@@ -78,19 +124,26 @@ with_draws = λ v w. record v {
   fresh_clock = w.fresh_clock;
   hold_limit = w.hold_limit;
   hold_clock = w.hold_clock;
+  hold_first = w.hold_first;
   clock = w.clock;
   pin_clock = w.pin_clock;
   raced = w.raced;
 }
 
+-- a first look of the hold stays
+abbrev pub KeepsFirst : Known → Known → Type 0
+KeepsFirst old new = (first : ℕ) → old.view.hold_first ≡ Some first → new.view.hold_first ≡ Some first
+
 -- it has drawn nothing yet: at most it lost draws to other seats
 pub record LosesDraws (old new : Known) : Type 0 where
   pub place : KeepsPlace old new
+  pub first : KeepsFirst old new
   pub view : new.view ≡ with_draws old.view new.view
 
 -- it drew the time, whatever draws it lost before
 pub record DrawsAtLast (old new : Known) (t : ℕ) : Type 0 where
   pub place : KeepsPlace old new
+  pub first : KeepsFirst old new
   pub view : new.view ≡ taken (with_draws old.view new.view) t
   pub clock : (new.view.hold_clock ≡ Some t) × (new.view.clock ≡ Some t)
   pub looked : new.view.hold_limit ≢ None
@@ -102,6 +155,7 @@ pub record DrawsAtLast (old new : Known) (t : ℕ) : Type 0 where
 -- the clock stood at the limit, whatever draws it lost before
 pub record FindsLimitAtLast (old new : Known) (t : ℕ) : Type 0 where
   pub draws : LosesDraws old new
+  pub passed : old.view.past ≤ t
   pub limit : new.view.hold_limit ≡ Some t
   pub clock : new.view.hold_clock ≡ Some t
 
@@ -125,6 +179,7 @@ pub record EndsDrawn (old new : Known) : Type 0 where
   pub entries : new.view.entries ≡ old.view.entries
   pub hasty : new.view.hasty ≡ old.view.hasty
   pub gave_up : new.view.gave_up ≡ old.view.gave_up
+  pub first : new.view.hold_first ≡ old.view.hold_first
   pub reached : old.view.reached ≤ new.view.reached
 
 -- what a decide makes of the drawn time: a write at it, which is recorded where the due was not

@@ -12,7 +12,13 @@ use Rattle.clsm_words.specs.Knowing.{row_of}
 -- of runs stay
 pub record KeepsFrozen (old new : Known) : Type 0 where
   pub layout : new.layout ≡ old.layout
-  pub view : new.merger ≡ record old.merger { floor = new.merger.floor; round = new.merger.round; rounds = new.merger.rounds }
+  pub view : new.merger ≡ record old.merger {
+    floor = new.merger.floor;
+    round = new.merger.round;
+    rounds = new.merger.rounds;
+    noted = new.merger.noted;
+    clock_looks = new.merger.clock_looks;
+  }
   pub past : IsPrefix old.past new.past
   pub runs : (word : Word) → IsRunWord word → row_of new word ≡ row_of old word
 
@@ -30,3 +36,7 @@ floor_at seats seat before end found =
 -- and the number of rounds, modulo 2^64
 abbrev pub rounds_at : ℕ → ℕ → ℕ → ℕ
 rounds_at seats seat before = cond (seat == 0) before (cond (seat == seats) (next_word before) before)
+
+-- and what the last whole round found noted
+abbrev pub noted_at : ℕ → ℕ → Option ℕ → Option ℕ → Option ℕ
+noted_at seats seat found before = cond (seat == 0) before (cond (seat == seats) found before)

@@ -1,16 +1,21 @@
 -- Looks at how full an epoch is: by a caller's seat, and by the merger.
 use Rattle.std.specs.Prelude.{◌≡◌, ℕ, ◌-◌, ◌*◌, ◌≤◌, Some}
+use Rattle.clsm_law.specs.Views.{next_word}
 use Rattle.clsm_words.specs.declared.known.Known.{Known}
 use Rattle.clsm_store_calls.specs.Resting.{OnlyLooks}
 use Rattle.clsm_store_calls.specs.Seats.{CleanState, SeatState}
-use Rattle.clsm_store_calls.specs.Tally.{tally_of}
+use Rattle.clsm_store_calls.specs.Tally.{Tally, tally_of}
 
--- the seat looked at the limit and the clock, and found so many times left: it is as it was, but for
--- what it looked at
+-- the counts after one look at the limit, which found it here, and one at the clock
+abbrev pub with_looks : Tally → ℕ → Tally
+with_looks old limit = record old { clock_looks = next_word old.clock_looks; limit_looks = next_word old.limit_looks; limit = Some limit }
+
+-- the seat looked once at the limit and once at the clock, and found so many times left: it is as it
+-- was, but for what it looked at
 pub record LooksForRoom (old new : Known) (left : ℕ) : Type 0 where
   pub only : OnlyLooks old new
   pub limit : ℕ
-  pub tally : tally_of new ≡ record (tally_of old) { limit = Some limit }
+  pub tally : tally_of new ≡ with_looks (tally_of old) limit
   pub clock : ℕ
   pub looked : new.view.clock ≡ Some clock
   pub above : old.view.due ≤ clock
@@ -20,7 +25,7 @@ pub record LooksForRoom (old new : Known) (left : ℕ) : Type 0 where
 pub record FindsRoom (old new : SeatState) (left : ℕ) : Type 0 where
   pub limit : ℕ
   pub clock : ℕ
-  pub same : new ≡ record old { clock = Some clock; tally = record old.tally { limit = Some limit } }
+  pub same : new ≡ record old { clock = Some clock; tally = with_looks old.tally limit }
   pub above : old.due ≤ clock
   pub left_is : left ≡ limit - clock
 
@@ -28,6 +33,10 @@ pub record FindsRoom (old new : SeatState) (left : ℕ) : Type 0 where
 abbrev pub drawn_of : CleanState → ℕ
 drawn_of s = s.clock - s.merger.merges * s.merger.store.layout.cells
 
--- the merger is as it was, but that it looked at the clock
+-- the merger is as it was, but that it looked at the clock, once
 abbrev pub LooksAtClock : CleanState → CleanState → Type 0
-LooksAtClock old new = new ≡ record old { clock = new.clock }
+LooksAtClock old new = new ≡ record old { looks = next_word old.looks; clock = new.clock }
+
+-- it is as it was, but that the clock may have moved
+abbrev pub StaysClean : CleanState → CleanState → Type 0
+StaysClean old new = new ≡ record old { clock = new.clock }

@@ -32,13 +32,14 @@ runs_known k = runs_of (row_of k) k.merger.merged
 abbrev pub merger_of : MergerSeat → MergerState
 merger_of m = record { store = record { table = m.raw.table; layout = m.raw.knows.layout }; merges = m.merges; holds = m.raw.knows.merger.holds }
 
--- the same while nothing is frozen: with its floor, its rounds, the clock and what was noted of each
--- seat
+-- the same while nothing is frozen: with its floor, its rounds, its looks, the clock and what was
+-- noted of each seat
 abbrev pub clean_of : MergerSeat → CleanState
 clean_of m = record {
   merger = merger_of m;
   floor = m.floor;
   rounds = m.raw.knows.merger.rounds;
+  looks = m.raw.knows.merger.clock_looks;
   clock = row_of m.raw.knows Clock;
   readers = m.raw.knows.merger.readers;
 }
@@ -50,14 +51,20 @@ frozen_of m = record {
   merger = merger_of m;
   floor = m.floor;
   rounds = m.raw.knows.merger.rounds;
-  noted = m.noted;
+  noted = m.raw.knows.merger.noted;
   epoch = epoch_known m.raw.knows;
   runs = runs_known m.raw.knows;
 }
 
 -- and while a component is retired: with what was noted of each seat
 abbrev pub retired_of : MergerSeat → RetiredState
-retired_of m = record { merger = merger_of m; floor = m.floor; rounds = m.raw.knows.merger.rounds; noted = m.noted; readers = m.seen.items }
+retired_of m = record {
+  merger = merger_of m;
+  floor = m.floor;
+  rounds = m.raw.knows.merger.rounds;
+  noted = m.raw.knows.merger.noted;
+  readers = m.seen.items;
+}
 
 -- What the token of a frozen epoch carries is of the history h, whose times are known to the epoch's
 -- end. The epoch's writes are those of h at the epoch's times, the newest first. Each entry of the
@@ -69,10 +76,11 @@ pub record IsOfHistory (h : List Slot) (s : FrozenState) : Type 0 where
   pub writes : AllByRecursion (IsWriteOf (plain h)) (all_of s.runs)
   pub exact : IsExact s.runs (plain h) s.floor (s.merger.merges * s.merger.store.layout.cells)
 
--- it knows its floor, which is not past the end of the epoch of the next merge, and its walk has
--- room for an epoch
+-- it knows its floor, which is not past the end of the epoch of the next merge, and what its last
+-- round found noted, and its walk has room for an epoch
 pub record IsReady (m : MergerSeat) : Type 0 where
   pub floor : m.floor ≡ m.raw.knows.merger.floor
+  pub noted : m.noted ≡ m.raw.knows.merger.noted
   pub early : m.floor ≤ (m.merges + 1) * m.raw.knows.layout.cells
   pub room : m.raw.knows.layout.cells ≤ vec_capacity m.walk.group
   pub seats : length m.seen.items ≡ m.raw.knows.layout.seats
@@ -81,7 +89,7 @@ pub record IsReady (m : MergerSeat) : Type 0 where
 pub record StaysFrozen (old new : MergerSeat) : Type 0 where
   pub frozen : IsFrozen new.raw.knows new.merges
   pub ready : IsReady new
-  pub same : frozen_of new ≡ record (frozen_of old) { floor = new.floor; rounds = new.raw.knows.merger.rounds; noted = new.noted }
+  pub same : frozen_of new ≡ record (frozen_of old) { floor = new.floor; rounds = new.raw.knows.merger.rounds; noted = new.raw.knows.merger.noted }
 
 -- a component is retired
 pub record IsRetiring (m : MergerSeat) : Type 0 where

@@ -1,5 +1,5 @@
 -- What contracts see of a store and its seats, and what calls make of a seat.
-use Rattle.std.specs.Prelude.{◌≡◌, ℕ, ◌<◌, ◌≤◌, ◌==◌, max, Bool, false, List, [], ◌∷◌, ◌++◌, length, drop, replicate, slice_index_or, Option, Some, None}
+use Rattle.std.specs.Prelude.{◌≡◌, ℕ, ◌<◌, ◌≤◌, ◌==◌, ◌&&◌, not, Bool, false, List, [], ◌∷◌, ◌++◌, length, drop, take, replicate, slice_index_or, Option, Some, None}
 use Rattle.std.specs.Fn.{iterate}
 use Rattle.std.specs.List.{AllByRecursion, count_by}
 use Rattle.atomic_table.specs.Seated.{TableId}
@@ -58,7 +58,20 @@ newcomer store number = record {
   calls = [];
   due = 0;
   snapshot = None;
-  tally = record { entries = 0; busy = 0; raced = 0; overtaken = 0; gave_up = 0; cancelled = 0; hasty = 0; limit = None; clock = None };
+  tally = record {
+    entries = 0;
+    busy = 0;
+    raced = 0;
+    overtaken = 0;
+    gave_up = 0;
+    cancelled = 0;
+    hasty = 0;
+    clock_looks = 0;
+    limit_looks = 0;
+    limit = None;
+    first = None;
+    clock = None;
+  };
   clock = None;
 }
 
@@ -74,12 +87,14 @@ pub record MergerState : Type 0 where
   pub holds : ℕ
 
 -- and, while nothing is frozen, the floor of the last try to merge, how many rounds of looks at all
--- snapshot words it made, modulo 2^64, the clock as it was at the merger's last step, and what was
--- noted of each seat since the last merge
+-- snapshot words it made and how often it looked at the clock outside a hold of the lock, both modulo
+-- 2^64, the clock as it was at the merger's last step, and what was noted of each seat since the last
+-- merge
 pub record CleanState : Type 0 where
   pub merger : MergerState
   pub floor : ℕ
   pub rounds : ℕ
+  pub looks : ℕ
   pub clock : ℕ
   pub readers : List Reader
 
@@ -108,6 +123,7 @@ IsNewMerger store new = new ≡ record {
   merger = record { store = store; merges = 0; holds = 0 };
   floor = 0;
   rounds = 0;
+  looks = 0;
   clock = new.clock;
   readers = replicate store.layout.seats unseen;
 }
@@ -146,26 +162,6 @@ pub record Answers (old new : SeatState) (t : ℕ) (deed : Deed) : Type 0 where
   pub due : new.due ≡ due_after old.due old.snapshot t deed
   pub snapshot : new.snapshot ≡ open_after old.snapshot t deed
 
--- the slot is a write of the key
-abbrev pub is_write_of : ℕ → Slot → Bool
-is_write_of key Nothing = false
-is_write_of key (Wrote seat k written) = k == key
-
--- how many writes of the key stand at this time or above it
-abbrev pub writes_from : List Slot → ℕ → ℕ → ℕ
-writes_from slots key from = count_by (is_write_of key) (drop from slots)
-
--- a count went up, modulo 2^64, as many times as this or fewer
-pub record CountsUpTo (most old new : ℕ) : Type 0 where
-  pub times : ℕ
-  pub counted : new ≡ iterate next_word times old
-  pub within : times ≤ most
-
--- the call gave up at most one time for each write of the key that stands at or above the due that
--- the seat had before, and of which it did not know before
-abbrev pub GivesUpForWrites : SeatState → SeatState → ℕ → Type 0
-GivesUpForWrites old new key = CountsUpTo (writes_from new.past key (max old.due (length old.past))) old.tally.gave_up new.tally.gave_up
-
 -- the call was refused: no record, and due and snapshot as before
 pub record Refuses (old new : SeatState) : Type 0 where
   pub same : IsSameSeat old new
@@ -179,3 +175,33 @@ pub record IsFull (old new : SeatState) (t : ℕ) : Type 0 where
   pub entered : new.tally.entries ≡ next_word old.tally.entries
   pub limit : new.tally.limit ≡ Some t
   pub clock : new.tally.clock ≡ Some t
+
+-- ---- times that a read-modify-write gives up
+
+-- the slot is a write of the key by another seat than this one
+abbrev pub is_write_beside : ℕ → ℕ → Slot → Bool
+is_write_beside number key Nothing = false
+is_write_beside number key (Wrote seat k written) = k == key && not (seat == number)
+
+-- how many writes of the key by other seats stand at the first time or above it, and below the last
+abbrev pub writes_beside : List Slot → ℕ → ℕ → ℕ → ℕ → ℕ
+writes_beside slots number key first last = count_by (is_write_beside number key) (drop first (take last slots))
+
+-- a count went up, modulo 2^64, as many times as this or fewer
+pub record CountsUpTo (most old new : ℕ) : Type 0 where
+  pub times : ℕ
+  pub counted : new ≡ iterate next_word times old
+  pub within : times ≤ most
+
+-- The call gave up at most one time for each write of the key by another seat that stands at or above
+-- the time of the call's first read, and below this time, its record's own. The first read is at the
+-- clock as the call looked at it first in its hold of the lock: not below the due, and above all that
+-- the seat knew before
+pub record GivesUpForWrites (old new : SeatState) (key last : ℕ) : Type 0 where
+  pub first : ℕ
+  pub looked : new.tally.first ≡ Some first
+  pub due : old.due ≤ first
+  pub known : length old.past ≤ first
+  pub reached : first ≤ length new.past
+  pub until : first ≤ last
+  pub counts : CountsUpTo (writes_beside new.past old.number key first last) old.tally.gave_up new.tally.gave_up

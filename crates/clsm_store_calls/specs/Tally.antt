@@ -8,8 +8,9 @@ use Rattle.clsm_store_calls.specs.declared.refusal.TryPutError.TheVariants.{Full
 
 -- Each modulo 2^64: its entries into the lock; the tries that it lost there, at draws and links,
 -- and to readers that overtook it; the times of its own that it gave up, those of others that it
--- cancelled, and those among these for which it had not waited as its patience says. And the limit
--- that it looked at last since it entered the lock, and the clock in its last hold of it
+-- cancelled, and those among these for which it had not waited as its patience says; and its looks
+-- at the clock and at the limit while it neither held the lock nor read. And the limit that it looked
+-- at last since it entered the lock, and the clock as it looked at it first and last in its last hold
 pub record Tally : Type 0 where
   pub entries : ℕ
   pub busy : ℕ
@@ -18,7 +19,10 @@ pub record Tally : Type 0 where
   pub gave_up : ℕ
   pub cancelled : ℕ
   pub hasty : ℕ
+  pub clock_looks : ℕ
+  pub limit_looks : ℕ
   pub limit : Option ℕ
+  pub first : Option ℕ
   pub clock : Option ℕ
 
 -- what the view counts
@@ -31,7 +35,10 @@ counted = λ v. record {
   gave_up = v.gave_up;
   cancelled = v.cancelled;
   hasty = v.hasty;
+  clock_looks = v.clock_looks;
+  limit_looks = v.limit_looks;
   limit = v.hold_limit;
+  first = v.hold_first;
   clock = v.hold_clock;
 }
 
@@ -59,7 +66,7 @@ tally_of k = counted k.view
 
 -- the counts as they were, with what it looked at last in a hold of the lock
 abbrev pub looked : Tally → Tally → Tally
-looked old new = record old { limit = new.limit; clock = new.clock }
+looked old new = record old { limit = new.limit; first = new.first; clock = new.clock }
 
 -- it read in a hold of the lock: it may have cancelled times of others, each after as many looks as
 -- its patience says
@@ -69,7 +76,7 @@ HasRead old new = new ≡ record (looked old new) { cancelled = new.cancelled }
 -- it lost a race, and gave up its time where it had drawn one, unless a reader had cancelled that
 -- first
 pub record IsRaced (old new : Tally) : Type 0 where
-  pub counts : new ≡ record old { raced = next_word old.raced; overtaken = new.overtaken; gave_up = new.gave_up; limit = new.limit; clock = new.clock }
+  pub counts : new ≡ record (looked old new) { raced = next_word old.raced; overtaken = new.overtaken; gave_up = new.gave_up }
   pub once : (new.gave_up ≡ old.gave_up) ⊎ (new.gave_up ≡ next_word old.gave_up)
 
 -- what a try in a hold of the lock counts

@@ -6,17 +6,16 @@ ghost use Rattle.clsm_model.specs.declared.record.Deed.TheVariants.{Batch as Gro
 ghost use Rattle.clsm_model.specs.Right.{AreWrites};
 ghost use Rattle.clsm_model.specs.Seats.{FitsDeed};
 ghost use Rattle.clsm_words.specs.Plays.{IsSeatOf};
-ghost use Rattle.clsm_store_calls.specs.Batching.{CountsAlone, CountsBatch, FindsNoRoomFor, HasRoom, IsAlone, IsNoBatch, MayStage, RecordsBatch};
-ghost use Rattle.clsm_store_calls.specs.Batching.{RefusesBatch, StagesAll};
+ghost use Rattle.clsm_store_calls.specs.Batching.{CountsBatch, CountsTryBatch, FindsNoRoomFor, HasRoom, IsAlone, IsNoBatch, MayStage, RecordsBatch};
+ghost use Rattle.clsm_store_calls.specs.Batching.{RefusesBatch, RefusesTryBatch, StagesAll};
 ghost use Rattle.clsm_store_calls.specs.Resting.{IsAtRest};
-ghost use Rattle.clsm_store_calls.specs.Tally.{tally_of};
+ghost use Rattle.clsm_store_calls.specs.Tally.{looked, tally_of};
 
 use crate::changing::value_set;
-use crate::refusal::BatchError;
-use crate::site::Site;
+use crate::refusal::{BatchError, TryBatchError};
 use crate::writing::deed_of;
-use clsm_lock::{lock_exclusive, unlock_exclusive};
-use clsm_memtable::{DrawnCell, Lookahead, commit, decide_member, enter, look_room, stage};
+use clsm_lock::{lock_exclusive, try_lock_exclusive, unlock_exclusive};
+use clsm_memtable::{DrawnCell, Lookahead, commit, decide_member, enter_alone, look_room, stage};
 use clsm_model::{Change, Time, are_writes};
 use clsm_search::leave_hints;
 use clsm_words::{Pace, RawSeat, Words};
@@ -46,75 +45,79 @@ struct Turn {
     member: (u64, Change),
 }
 
-impl<'a, P: Pace, R: Wait> Site<'a, P, R> {
-    /// Stages the next member: takes its time, fills its cell, enters that into its chain and into
-    /// the ordered list, and decides it.
-    fn stage_member(&self, seat: &mut RawSeat, turn: &Turn, lookahead: &mut Lookahead)
-        requires of { IsSeatOf self.now.words.now seat.old }
-        requires may { MayStage seat.old.knows turn.now.time 1 }
-        requires writes { turn.now.member.1 ≢ Keep }
-        ensures of { IsSeatOf self.now.words.now seat.new }
-        ensures staged { StagesAll seat.old.knows seat.new.knows (turn.now.member ∷ []) }
-    {
-        let words = self.words;
-        let time = turn.time;
-        let key = turn.member.0;
-        let cell = DrawnCell { time, key };
-        let value = value_set(&turn.member.1);
-        stage(words, seat, cell, value.as_ref());
-        seat.show_invariant();
-        let guess = lookahead.next(words, seat, time);
-        seat.show_invariant();
-        let trace = enter(self.rt, words, seat, cell, &guess);
-        decide_member(words, seat, time, &deed_of(key, &value));
-        leave_hints(words, seat, time, &trace);
-    }
+/// Stages the next member: takes its time, fills its cell, enters that into its chain and into the
+/// ordered list, and decides it.
+fn stage_member<P: Pace>(
+    words: &Words<P>,
+    seat: &mut RawSeat,
+    turn: &Turn,
+    lookahead: &mut Lookahead,
+)
+    requires of { IsSeatOf words.now seat.old }
+    requires may { MayStage seat.old.knows turn.now.time 1 }
+    requires writes { turn.now.member.1 ≢ Keep }
+    ensures of { IsSeatOf words.now seat.new }
+    ensures staged { StagesAll seat.old.knows seat.new.knows (turn.now.member ∷ []) }
+{
+    let time = turn.time;
+    let key = turn.member.0;
+    let cell = DrawnCell { time, key };
+    let value = value_set(&turn.member.1);
+    stage(words, seat, cell, value.as_ref());
+    seat.show_invariant();
+    let guess = lookahead.next(words, seat, time);
+    seat.show_invariant();
+    let trace = enter_alone(words, seat, cell, &guess);
+    decide_member(words, seat, time, &deed_of(key, &value));
+    seat.show_invariant();
+    leave_hints(words, seat, time, &trace);
+    seat.show_invariant();
+}
 
-    /// Stages all members, in their order, from this time on.
-    fn stage_all(&self, seat: &mut RawSeat, first: Time, members: &[(u64, Change)])
-        requires of { IsSeatOf self.now.words.now seat.old }
-        requires may { MayStage seat.old.knows first (length members.now) }
-        requires writes { AreWrites members.now }
-        ensures of { IsSeatOf self.now.words.now seat.new }
-        ensures staged { StagesAll seat.old.knows seat.new.knows members.now }
-    {
-        let mut lookahead = Lookahead::new(members);
-        let mut time = first;
-        for member in members {
-            let turn = Turn {
-                time,
-                member: *member,
-            };
-            self.stage_member(seat, &turn, &mut lookahead);
-            time += 1;
-        }
+/// Stages all members, in their order, from this time on.
+fn stage_all<P: Pace>(words: &Words<P>, seat: &mut RawSeat, first: Time, members: &[(u64, Change)])
+    requires of { IsSeatOf words.now seat.old }
+    requires may { MayStage seat.old.knows first (length members.now) }
+    requires writes { AreWrites members.now }
+    ensures of { IsSeatOf words.now seat.new }
+    ensures staged { StagesAll seat.old.knows seat.new.knows members.now }
+{
+    let mut lookahead = Lookahead::new(members);
+    let mut time = first;
+    for member in members {
+        let turn = Turn {
+            time,
+            member: *member,
+        };
+        stage_member(words, seat, &turn, &mut lookahead);
+        time += 1;
     }
+}
 
-    /// Stages the batch and commits it, if its members fit between the clock and the limit.
-    fn batch_in_hold(
-        &self,
-        seat: &mut RawSeat,
-        members: &[(u64, Change)],
-    ) -> Result<Time, BatchError>
-        requires of { IsSeatOf self.now.words.now seat.old }
-        requires alone { IsAlone seat.old.knows }
-        requires uncommitted { seat.old.knows.view.committed ≡ false }
-        requires fits { FitsDeed seat.old.knows.layout.cells (Group members.now) }
-        ensures of { IsSeatOf self.now.words.now seat.new }
-        ensures alone { IsAlone seat.new.knows }
-        ensures counts { CountsAlone (tally_of seat.old.knows) (tally_of seat.new.knows) result }
-        ensures written { IfOk result (λ time. RecordsBatch seat.old.knows seat.new.knows time members.now) }
-        ensures room { IfOk result (λ time. HasRoom (tally_of seat.new.knows) time (length members.now)) }
-        ensures refused { IfErr result (FindsNoRoomFor seat.old.knows seat.new.knows members.now) }
-    {
-        let room = look_room(self.words, seat);
-        if members.len() as u64 > room.limit - room.clock {
-            return Err(BatchError::Full { time: room.clock });
-        }
-        self.stage_all(seat, room.clock, members);
-        commit(self.words, seat, room.clock, members);
-        Ok(room.clock)
+/// Stages the batch and commits it, if its members fit between the clock and the limit.
+fn batch_in_hold<P: Pace>(
+    words: &Words<P>,
+    seat: &mut RawSeat,
+    members: &[(u64, Change)],
+) -> Result<Time, BatchError>
+    requires of { IsSeatOf words.now seat.old }
+    requires alone { IsAlone seat.old.knows }
+    requires uncommitted { seat.old.knows.view.committed ≡ false }
+    requires fits { FitsDeed seat.old.knows.layout.cells (Group members.now) }
+    ensures of { IsSeatOf words.now seat.new }
+    ensures alone { IsAlone seat.new.knows }
+    ensures counts { tally_of seat.new.knows ≡ looked (tally_of seat.old.knows) (tally_of seat.new.knows) }
+    ensures written { IfOk result (λ time. RecordsBatch seat.old.knows seat.new.knows time members.now) }
+    ensures room { IfOk result (λ time. HasRoom (tally_of seat.new.knows) time (length members.now)) }
+    ensures refused { IfErr result (FindsNoRoomFor seat.old.knows seat.new.knows members.now) }
+{
+    let room = look_room(words, seat);
+    if members.len() as u64 > room.limit - room.clock {
+        return Err(BatchError::Full { time: room.clock });
     }
+    stage_all(words, seat, room.clock, members);
+    commit(words, seat, room.clock, members);
+    Ok(room.clock)
 }
 
 /// Writes the members as one batch, at consecutive times in their order, and waits for the lock.
@@ -137,7 +140,57 @@ pub fn batch<P: Pace, R: Wait>(
     check_members(members, words.cells())?;
     seat.show_invariant();
     lock_exclusive(rt, words, seat);
-    let answer = Site { rt, words }.batch_in_hold(seat, members);
+    let answer = batch_in_hold(words, seat, members);
     unlock_exclusive(words, seat);
     answer
+}
+
+/// Tries once to write members that are a batch.
+fn try_members<P: Pace>(
+    words: &Words<P>,
+    seat: &mut RawSeat,
+    members: &[(u64, Change)],
+) -> Result<Time, TryBatchError>
+    requires of { IsSeatOf words.now seat.old }
+    requires rests { IsAtRest seat.old.knows }
+    requires fits { FitsDeed seat.old.knows.layout.cells (Group members.now) }
+    ensures of { IsSeatOf words.now seat.new }
+    ensures rests { IsAtRest seat.new.knows }
+    ensures written { IfOk result (λ time. RecordsBatch seat.old.knows seat.new.knows time members.now) }
+    ensures room { IfOk result (λ time. HasRoom (tally_of seat.new.knows) time (length members.now)) }
+    ensures refused { IfErr result (RefusesTryBatch seat.old.knows seat.new.knows members.now) }
+    ensures counts { CountsTryBatch (tally_of seat.old.knows) (tally_of seat.new.knows) result }
+{
+    seat.show_invariant();
+    if try_lock_exclusive(words, seat).is_err() {
+        return Err(TryBatchError::Busy);
+    }
+    let answer = batch_in_hold(words, seat, members);
+    unlock_exclusive(words, seat);
+    match answer {
+        Ok(time) => Ok(time),
+        Err(error) => Err(TryBatchError::Refused(error)),
+    }
+}
+
+/// Tries once to write the members as one batch, at consecutive times in their order.
+pub fn try_batch<P: Pace>(
+    words: &Words<P>,
+    seat: &mut RawSeat,
+    members: &[(u64, Change)],
+) -> Result<Time, TryBatchError>
+    requires of { IsSeatOf words.now seat.old }
+    requires rests { IsAtRest seat.old.knows }
+    ensures of { IsSeatOf words.now seat.new }
+    ensures rests { IsAtRest seat.new.knows }
+    ensures written { IfOk result (λ time. RecordsBatch seat.old.knows seat.new.knows time members.now) }
+    ensures fits { IfOk result (λ time. FitsDeed seat.old.knows.layout.cells (Group members.now)) }
+    ensures room { IfOk result (λ time. HasRoom (tally_of seat.new.knows) time (length members.now)) }
+    ensures refused { IfErr result (RefusesTryBatch seat.old.knows seat.new.knows members.now) }
+    ensures counts { CountsTryBatch (tally_of seat.old.knows) (tally_of seat.new.knows) result }
+{
+    match check_members(members, words.cells()) {
+        Ok(()) => try_members(words, seat, members),
+        Err(error) => Err(TryBatchError::Refused(error)),
+    }
 }

@@ -1,21 +1,23 @@
 //! Read-modify-writes at the words: a read in a hold of the lock, and a write at a later time if no
 //! write of the key came between.
-ghost use Rattle.std.specs.Prelude.{◌≡◌, ◌≢◌, ◌*◌, ◌≤◌, false, true, max, None, Some, length, IfOk, IfErr};
+ghost use Rattle.std.specs.Prelude.{◌≡◌, ◌≢◌, ◌*◌, ◌≤◌, false, true, None, Some, length, IfOk, IfErr};
 ghost use Rattle.clsm_model.specs.declared.record.Deed.TheVariants.{Rmw as ChangeOf};
 ghost use Rattle.clsm_model.specs.declared.slot.Slot.TheVariants.{Wrote};
 ghost use Rattle.clsm_model.specs.History.{plain, value};
 ghost use Rattle.clsm_model.specs.Right.{write_by};
 ghost use Rattle.clsm_law.specs.Views.{next_word};
 ghost use Rattle.clsm_law.specs.OpenSteps.{IsReadBelow};
+ghost use Rattle.clsm_law.specs.Relation.{first_of};
 ghost use Rattle.clsm_law.specs.declared.view.Mode.TheVariants.{Shared};
 ghost use Rattle.clsm_words.specs.Keeping.{OnlyReads};
 ghost use Rattle.clsm_words.specs.Plays.{IsSeatOf};
-ghost use Rattle.clsm_store_calls.specs.Resting.{FindsFull, IsAtRest, Still};
+ghost use Rattle.clsm_store_calls.specs.Resting.{FindsFull, IsAtRest, Still, seat_of};
+ghost use Rattle.clsm_store_calls.specs.Seats.{GivesUpForWrites};
 ghost use Rattle.clsm_store_calls.specs.Tally.{HasRead, tally_of};
 ghost use Rattle.clsm_memtable.specs.Settled.{MaySettleBelow};
 ghost use Rattle.clsm_memtable.specs.Writing.{IsUnnoted};
-ghost use Rattle.clsm_store_calls.specs.Changing.{TriesChange, ChangesAt, Does, DrawsAtLast, EndsDraw, EndsFull, GivesUpFor, GivesUpOnce, IsAnsweredBy};
-ghost use Rattle.clsm_store_calls.specs.Changing.{IsPinnedInHold, IsWrittenFrom, ReadsNow, DecidesDrawn, StaysPinned, WritesLater, deed_by, read_end, is_keep, value_set};
+ghost use Rattle.clsm_store_calls.specs.Changing.{TriesChange, ChangesAt, Does, DrawsAtLast, EndsDraw, EndsFull, GivesInTry, GivesLater, GivesUpFor, IsAnsweredBy};
+ghost use Rattle.clsm_store_calls.specs.Changing.{IsPinnedInHold, IsWrittenFrom, KeepsFirst, ReadsNow, DecidesDrawn, StaysPinned, WritesLater, changed_at, deed_by, read_end, is_keep, value_set};
 
 use crate::got::{Got, Rmw};
 use crate::reading::value_below;
@@ -116,6 +118,7 @@ pub(crate) fn value_now<P: Pace>(
     ensures counts { HasRead (tally_of seat.old.knows) (tally_of seat.new.knows) }
     ensures reads { ReadsNow seat.new.knows component key result.time result.value }
     ensures beyond { length seat.old.knows.past ≤ result.time }
+    ensures first { seat.new.knows.view.hold_first ≡ first_of seat.old.knows.view.hold_first result.time }
 {
     let time = words.look(seat, Word::Clock);
     settle_below(words, seat, component, time);
@@ -143,7 +146,7 @@ pub(crate) fn is_unchanged<P: Pace>(
 {
     settle_below(words, seat, component, span.until);
     match newest(words, seat, component, span.key, span.until) {
-        Some(found) => found.time < span.from,
+        Some(time) => time < span.from,
         None => true,
     }
 }
@@ -203,7 +206,8 @@ impl<'a, P: Pace, R: Wait> Site<'a, P, R> {
         requires writes { write_by 0 (deed_by modified.now) ≡ Some (Wrote 0 modified.now.key modified.now.value) }
         ensures of { IsSeatOf self.now.words.now seat.new }
         ensures stays { StaysPinned seat.old.knows seat.new.knows component }
-        ensures spared { GivesUpOnce seat.old.knows seat.new.knows modified.now.key modified.now.read.time }
+        ensures first { KeepsFirst seat.old.knows seat.new.knows }
+        ensures spared { GivesLater seat.old.knows seat.new.knows modified.now.key modified.now.read.time result }
         ensures writes { WritesLater seat.old.knows seat.new.knows modified.now.key modified.now.read.old modified.now.read.change result }
     {
         seat.show_invariant();
@@ -239,7 +243,7 @@ impl<'a, P: Pace, R: Wait> Site<'a, P, R> {
         requires callable { F.IsAlwaysCallable modification.now.f.now }
         ensures of { IsSeatOf self.now.words.now seat.new }
         ensures stays { StaysPinned seat.old.knows seat.new.knows component }
-        ensures spared { GivesUpOnce seat.old.knows seat.new.knows modification.now.key (max seat.old.knows.view.due (length seat.old.knows.past)) }
+        ensures spared { GivesInTry seat.old.knows seat.new.knows modification.now.key result }
         ensures changes { TriesChange seat.old.knows seat.new.knows component modification.now.key result }
         ensures answered { IsAnsweredBy (F.post modification.now.f.now) result }
     {
@@ -263,9 +267,10 @@ impl<'a, P: Pace, R: Wait> Site<'a, P, R> {
         requires of { IsSeatOf self.now.words.now seat.old }
         requires pinned { IsPinnedInHold seat.old.knows component }
         requires callable { F.IsAlwaysCallable modification.now.f.now }
+        requires unread { seat.old.knows.view.hold_first ≡ None }
         ensures of { IsSeatOf self.now.words.now seat.new }
         ensures stays { StaysPinned seat.old.knows seat.new.knows component }
-        ensures spared { GivesUpFor seat.old.knows seat.new.knows modification.now.key }
+        ensures spared { GivesUpFor seat.old.knows seat.new.knows modification.now.key (changed_at result) }
         ensures changed { IfOk result (λ rmw. Does rmw.change seat.old.knows seat.new.knows component modification.now.key rmw.time rmw.old) }
         ensures answered { IfOk result (λ rmw. F.post modification.now.f.now rmw.old rmw.change) }
         ensures full { IfErr result (λ full. FindsFull seat.old.knows seat.new.knows full.time) }
@@ -309,11 +314,12 @@ pub fn change<P: Pace, R: Wait, F: Fn(Option<Value>) -> Change>(
     ensures pin { seat.new.knows.view.pin ≡ next_word (next_word pin_word) }
     ensures entered { seat.new.knows.view.entries ≡ next_word seat.old.knows.view.entries }
     ensures patient { seat.new.knows.view.hasty ≡ seat.old.knows.view.hasty }
-    ensures spared { GivesUpFor seat.old.knows seat.new.knows modification.now.key }
+    ensures spared { GivesUpForWrites (seat_of seat.old) (seat_of seat.new) modification.now.key (changed_at result) }
     ensures changed { IfOk result (λ rmw. ChangesAt seat.old.knows seat.new.knows rmw.time modification.now.key rmw.old rmw.change) }
     ensures answered { IfOk result (λ rmw. F.post modification.now.f.now rmw.old rmw.change) }
     ensures full { IfErr result (λ full. EndsFull seat.old.knows seat.new.knows full.time) }
 {
+    seat.show_invariant();
     lock_shared(rt, words, seat);
     let component = pin(words, seat, pin_word);
     let answer = Site { rt, words }.change_pinned(seat, component, modification);
@@ -324,5 +330,6 @@ pub fn change<P: Pace, R: Wait, F: Fn(Option<Value>) -> Change>(
         &read_end(modification.key, &answer),
     );
     unlock_shared(words, seat);
+    seat.show_invariant();
     answer
 }

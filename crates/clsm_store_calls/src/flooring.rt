@@ -43,6 +43,7 @@ pub(crate) fn take_floor<P: Pace>(
     ensures of { IsSeatOf words.now merger.new }
     ensures keeps { KeepsFrozen merger.old.knows merger.new.knows }
     ensures floor { result.0 ≡ merger.new.knows.merger.floor }
+    ensures noted { result.1 ≡ merger.new.knows.merger.noted }
     ensures took { result.0 ≡ max before (lesser end result.1) }
     ensures looked { merger.new.knows.merger.rounds ≡ next_word merger.old.knows.merger.rounds }
     ensures kept { before ≤ result.0 }

@@ -1,5 +1,5 @@
 //! The freeze of an epoch.
-ghost use Rattle.std.specs.Prelude.{◌≡◌, ◌+◌, ◌*◌, ◌^◌, ◌≤◌, OnErr, OnOk, true};
+ghost use Rattle.std.specs.Prelude.{◌≡◌, ◌+◌, ◌*◌, ◌^◌, ◌≤◌, None, OnErr, OnOk, true};
 ghost use Rattle.clsm_law.specs.Merging.{epoch_end};
 ghost use Rattle.clsm_law.specs.Views.{next_word};
 ghost use Rattle.clsm_words.specs.Merging.{facts_known};
@@ -37,6 +37,7 @@ fn freeze_held<P: Pace>(words: &Words<P>, merger: &mut RawMerger, merges: u64)
     ensures frozen { IsFrozen merger.new.knows merges }
     ensures floor { merger.new.knows.merger.floor ≡ merger.old.knows.merger.floor }
     ensures rounds { merger.new.knows.merger.rounds ≡ merger.old.knows.merger.rounds }
+    ensures noted { merger.new.knows.merger.noted ≡ None }
     ensures held { merger.new.knows.merger.holds ≡ merger.old.knows.merger.holds }
 {
     let end = (merges + 1) * words.cells();
@@ -55,6 +56,7 @@ pub fn freeze<P: Pace, R: Wait>(rt: &R, words: &Words<P>, merger: &mut RawMerger
     ensures frozen { IsFrozen merger.new.knows merges }
     ensures floor { merger.new.knows.merger.floor ≡ merger.old.knows.merger.floor }
     ensures rounds { merger.new.knows.merger.rounds ≡ merger.old.knows.merger.rounds }
+    ensures noted { merger.new.knows.merger.noted ≡ None }
     ensures held { merger.new.knows.merger.holds ≡ next_word merger.old.knows.merger.holds }
 {
     lock_as_merger(rt, words, merger);
@@ -74,6 +76,7 @@ pub fn try_freeze<P: Pace>(
     ensures frozen { OnOk result (IsFrozen merger.new.knows merges) }
     ensures floor { merger.new.knows.merger.floor ≡ merger.old.knows.merger.floor }
     ensures rounds { merger.new.knows.merger.rounds ≡ merger.old.knows.merger.rounds }
+    ensures noted { OnOk result (merger.new.knows.merger.noted ≡ None) }
     ensures held { OnOk result (merger.new.knows.merger.holds ≡ next_word merger.old.knows.merger.holds) }
     ensures busy { OnErr result (StaysOutMerger merger.old.knows merger.new.knows) }
 {

@@ -24,7 +24,7 @@ mod visiting;
 mod writing;
 
 pub use agreeing::agree_at;
-pub use batching::batch;
+pub use batching::{batch, try_batch};
 pub use changing::{Modification, change};
 pub use freezing::{freeze, try_freeze};
 pub use got::{Counted, Got, Page, Rmw, Scan};
@@ -34,7 +34,7 @@ pub use merger_seat::MergerSeat;
 pub use merging::merge;
 pub use reading::read;
 pub use reclaiming::reclaim;
-pub use refusal::{BatchError, Full, Open, Pinned, TryPutError, Worn};
+pub use refusal::{BatchError, Full, Open, Pinned, TryBatchError, TryPutError, Worn};
 pub use scanning::{Asked, Request, scan_at, scan_now, scan_under};
 pub use snapshotting::{OpenSnapshot, open_at, read_under};
 pub use trying::try_write;

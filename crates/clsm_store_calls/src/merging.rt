@@ -18,7 +18,7 @@ fn renew_floor<P: Pace>(words: &Words<P>, merger: &mut MergerSeat)
     requires ready { IsReady merger.old }
     ensures of { IsSeatOf words.now merger.new.raw }
     ensures stays { StaysFrozen merger.old merger.new }
-    ensures floor { TakesFloor (frozen_of merger.old) merger.new.floor merger.new.raw.knows.merger.rounds merger.new.noted }
+    ensures floor { TakesFloor (frozen_of merger.old) merger.new.floor merger.new.raw.knows.merger.rounds merger.new.raw.knows.merger.noted }
 {
     merger.raw.show_invariant();
     let end = (merger.merges + 1) * words.cells();
@@ -47,7 +47,7 @@ pub fn merge<P: Pace>(words: &Words<P>, merger: &mut MergerSeat) -> Result<(), R
     ensures retired { OnOk result (IsRetiring merger.new) }
     ensures counted { OnOk result (merger_of merger.new ≡ record (merger_of merger.old) { merges = merger.old.merges + 1 }) }
     ensures unseen { OnOk result (merger.new.seen.items ≡ replicate merger.old.raw.knows.layout.seats unseen) }
-    ensures floor { TakesFloor (frozen_of merger.old) merger.new.floor merger.new.raw.knows.merger.rounds merger.new.noted }
+    ensures floor { TakesFloor (frozen_of merger.old) merger.new.floor merger.new.raw.knows.merger.rounds merger.new.raw.knows.merger.noted }
     ensures fits { OnOk result (IsRunFull (frozen_of merger.old) merger.new.floor → ⊥) }
     ensures stays { IfErr result (λ refusal. StaysFrozen merger.old merger.new) }
     ensures full { IfErr result (λ refusal. IsRunFull (frozen_of merger.old) merger.new.floor) }

@@ -17,12 +17,38 @@ use clsm_model::{Deed, Value};
 use clsm_pins::{pin, unpin};
 use clsm_runs::Wanted;
 use clsm_scan::ReadPoint;
-use clsm_search::newest;
+use clsm_search::{newest, value_at};
 use clsm_words::{Pace, RawSeat, Words};
 
-/// The value of the key at the point: by the chains of the component's epochs, and else by its
-/// runs. Its time is not below what is merged into the component, or it is that of the seat's open
-/// snapshot.
+/// Leaves the value of the key at the point in the caller's place, which is empty before: by the
+/// chains of the component's epochs, and else by its runs. Its time is not below what is merged
+/// into the component, or it is that of the seat's open snapshot.
+#[inline(always)]
+fn value_left<P: Pace>(
+    words: &Words<P>,
+    seat: &mut RawSeat,
+    point: ReadPoint,
+    key: u64,
+    into: &mut Option<Value>,
+)
+    requires of { IsSeatOf words.now seat.old }
+    requires may { MayReadBelow seat.old.knows point.component point.until }
+    requires empty { into.old ≡ None }
+    ensures of { IsSeatOf words.now seat.new }
+    ensures looks { Looks seat.old.knows seat.new.knows }
+    ensures value { into.new ≡ value (plain seat.old.knows.past) key point.until }
+{
+    let ReadPoint { component, until } = point;
+    if let Some(time) = newest(words, seat, component, key, until) {
+        value_at(words, seat, component, time, into);
+        return;
+    }
+    seat.show_invariant();
+    let wanted = Wanted { key, until };
+    wanted.search(words, seat, component, into);
+}
+
+/// The value of the key at the point, as `value_left` leaves it.
 pub(crate) fn value_below<P: Pace>(
     words: &Words<P>,
     seat: &mut RawSeat,
@@ -35,19 +61,13 @@ pub(crate) fn value_below<P: Pace>(
     ensures looks { Looks seat.old.knows seat.new.knows }
     ensures value { result ≡ value (plain seat.old.knows.past) key point.until }
 {
-    let ReadPoint { component, until } = point;
-    if let Some(found) = newest(words, seat, component, key, until) {
-        return found.value;
-    }
-    seat.show_invariant();
-    let wanted = Wanted { key, until };
-    match wanted.search(words, seat, component) {
-        Some(entry) => entry.value,
-        None => None,
-    }
+    let mut value = None;
+    value_left(words, seat, point, key, &mut value);
+    value
 }
 
 /// Pins a component, and looks at the clock, which gives the time of a read.
+#[inline(always)]
 fn pin_at_clock<P: Pace>(words: &Words<P>, seat: &mut RawSeat, pin_word: u64) -> ReadPoint
     requires rests { RestsAt words.now seat.old pin_word }
     ensures of { IsSeatOf words.now seat.new }
@@ -59,6 +79,7 @@ fn pin_at_clock<P: Pace>(words: &Words<P>, seat: &mut RawSeat, pin_word: u64) ->
 }
 
 /// Begins a read at a time of its own, below which it settles all.
+#[inline(always)]
 pub(crate) fn begin<P: Pace>(words: &Words<P>, seat: &mut RawSeat, pin_word: u64) -> ReadPoint
     requires rests { RestsAt words.now seat.old pin_word }
     ensures of { IsSeatOf words.now seat.new }
@@ -71,6 +92,7 @@ pub(crate) fn begin<P: Pace>(words: &Words<P>, seat: &mut RawSeat, pin_word: u64
 }
 
 /// The end of a read with this answer.
+#[inline(always)]
 pub(crate) fn end_of(key: u64, got: &Got) -> End
     ensures { result ≡ Recorded (Get key got.now.value) }
 {
@@ -78,16 +100,17 @@ pub(crate) fn end_of(key: u64, got: &Got) -> End
     End::Recorded(Deed::Get { key, reply })
 }
 
-/// Reads the key at a time of its own.
-pub fn read<P: Pace>(words: &Words<P>, seat: &mut RawSeat, pin_word: u64, key: u64) -> Got
+/// Reads the key at a time of its own, and leaves the answer in the caller's place, which has no
+/// value before. (An answer that is returned is copied for each call that it passes.)
+#[inline(never)]
+pub fn read<P: Pace>(words: &Words<P>, seat: &mut RawSeat, pin_word: u64, key: u64, into: &mut Got)
     requires rests { RestsAt words.now seat.old pin_word }
+    requires empty { into.old.value ≡ None }
     ensures rests { RestsAt words.now seat.new (next_word (next_word pin_word)) }
-    ensures reads { ReadsAt seat.old.knows seat.new.knows result.time (Get key result.value) }
+    ensures reads { ReadsAt seat.old.knows seat.new.knows into.new.time (Get key into.new.value) }
 {
     let point = begin(words, seat, pin_word);
-    let value = value_below(words, seat, point, key);
-    let time = point.until;
-    let got = Got { time, value };
-    unpin(words, seat, pin_word.wrapping_add(1), &end_of(key, &got));
-    got
+    into.time = point.until;
+    value_left(words, seat, point, key, &mut into.value);
+    unpin(words, seat, pin_word.wrapping_add(1), &end_of(key, into));
 }

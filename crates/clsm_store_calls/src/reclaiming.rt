@@ -1,6 +1,6 @@
 //! The reclaim of a retired component: it is given up when no reader has it, and its region cleaned
 //! for the epoch after the next.
-ghost use Rattle.std.specs.Prelude.{◌≡◌, ◌+◌, ◌*◌, ◌%◌, ◌<◌, ◌≤◌, true, false, length, IfErr, OnOk};
+ghost use Rattle.std.specs.Prelude.{◌≡◌, ◌+◌, ◌*◌, ◌%◌, ◌<◌, true, length, IfErr, OnOk};
 ghost use Rattle.clsm_law.specs.declared.merger.Phase.TheVariants.{Clean};
 ghost use Rattle.clsm_law.specs.Merging.{is_all_quiet, is_retired, retired_region};
 ghost use Rattle.clsm_words.specs.Plays.{IsSeatOf};
@@ -98,6 +98,7 @@ pub fn reclaim<P: Pace>(
     ensures of { IsSeatOf words.now merger.new }
     ensures floor { merger.new.knows.merger.floor ≡ merger.old.knows.merger.floor }
     ensures rounds { merger.new.knows.merger.rounds ≡ merger.old.knows.merger.rounds }
+    ensures noted { merger.new.knows.merger.noted ≡ merger.old.knows.merger.noted }
     ensures holds { merger.new.knows.merger.holds ≡ merger.old.knows.merger.holds }
     ensures counted { length seen.new.items ≡ length seen.old.items }
     ensures clean { OnOk result (IsClean merger.new.knows merges) }

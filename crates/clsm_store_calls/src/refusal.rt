@@ -66,3 +66,15 @@ pub enum BatchError {
     #[error("keep")]
     Keep,
 }
+
+/// The refusals of `try_batch`, tested in the order of a batch's, but `Busy` before `Full`. Nothing
+/// is written.
+#[derive(Clone, Copy, PartialEq, Eq, Debug, Error)]
+pub enum TryBatchError {
+    /// Somebody held the lock.
+    #[error("busy")]
+    Busy,
+    /// As a batch is refused that waits for the lock.
+    #[error("{0}")]
+    Refused(BatchError),
+}

@@ -10,9 +10,10 @@ use crate::refusal::TryPutError;
 use crate::writing::deed_of;
 use clsm_lock::{try_lock_shared, unlock_shared};
 use clsm_memtable::{
-    Decided, DrawError, DrawnCell, decide, draw, fill, give_up, prefetch, try_enter,
+    Decided, DrawError, DrawnCell, decide, draw, fill, give_up, look_ahead, try_enter,
 };
 use clsm_model::{Time, Value};
+use clsm_search::Guess;
 use clsm_words::{Pace, RawSeat, Words};
 
 /// The time of a write, or why it was not made.
@@ -33,7 +34,35 @@ fn try_draw<P: Pace>(words: &Words<P>, seat: &mut RawSeat) -> Tried
     }
 }
 
-/// Tries once to write the value at the key, or with `None` to remove it, in a hold of the lock.
+/// Tries once to write the value at the key, or with `None` to remove it, in a hold of the lock,
+/// where hints say this of the place.
+fn try_near<P: Pace>(
+    words: &Words<P>,
+    seat: &mut RawSeat,
+    key: u64,
+    value: &Option<Value>,
+    guess: &Guess,
+) -> Tried
+    requires of { IsSeatOf words.now seat.old }
+    requires holds { IsInHold seat.old.knows }
+    ensures of { IsSeatOf words.now seat.new }
+    ensures written { IfOk result (λ time. WritesInHold seat.old.knows seat.new.knows time (deed_of key value.now)) }
+    ensures fails { IfErr result (FailsInHold seat.old.knows seat.new.knows) }
+{
+    let time = try_draw(words, seat)?;
+    fill(words, seat, time, key, value.as_ref());
+    let Ok(trace) = try_enter(words, seat, DrawnCell { time, key }, guess) else {
+        give_up(words, seat, time);
+        return Err(TryPutError::Raced);
+    };
+    match decide(words, seat, time, &deed_of(key, value), &trace) {
+        Decided::Done => Ok(time),
+        Decided::Overtaken => Err(TryPutError::Overtaken),
+    }
+}
+
+/// Looks ahead and tries once to write the value at the key, or with `None` to remove it, in a hold
+/// of the lock.
 fn try_in_hold<P: Pace>(
     words: &Words<P>,
     seat: &mut RawSeat,
@@ -46,17 +75,8 @@ fn try_in_hold<P: Pace>(
     ensures written { IfOk result (λ time. WritesInHold seat.old.knows seat.new.knows time (deed_of key value.now)) }
     ensures fails { IfErr result (FailsInHold seat.old.knows seat.new.knows) }
 {
-    let time = try_draw(words, seat)?;
-    let guess = prefetch(words, seat, time, key);
-    fill(words, seat, time, key, value.as_ref());
-    let Ok(trace) = try_enter(words, seat, DrawnCell { time, key }, &guess) else {
-        give_up(words, seat, time);
-        return Err(TryPutError::Raced);
-    };
-    match decide(words, seat, time, &deed_of(key, value), &trace) {
-        Decided::Done => Ok(time),
-        Decided::Overtaken => Err(TryPutError::Overtaken),
-    }
+    let guess = look_ahead(words, seat, key);
+    try_near(words, seat, key, value, &guess)
 }
 
 /// Tries once to write the value at the key, or with `None` to remove it.

@@ -9,8 +9,9 @@ ghost use Rattle.clsm_store_calls.specs.Writing.{StaysInHold};
 use crate::refusal::Full;
 use crate::site::Site;
 use clsm_lock::{lock_shared, unlock_shared};
-use clsm_memtable::{Decided, DrawError, DrawnCell, decide, draw, enter, fill, prefetch};
+use clsm_memtable::{Decided, DrawError, DrawnCell, decide, draw, enter, fill, look_ahead};
 use clsm_model::{Deed, Time, Value};
+use clsm_search::Guess;
 use clsm_words::{Pace, RawSeat, Words};
 use std::sync::Wait;
 
@@ -24,6 +25,7 @@ pub(crate) enum Attempt {
 }
 
 /// The write of the value at the key, or its removal.
+#[inline(always)]
 pub(crate) fn deed_of(key: u64, value: &Option<Value>) -> Deed
     ensures { result ≡ deed_of key value.now }
 {
@@ -34,8 +36,15 @@ pub(crate) fn deed_of(key: u64, value: &Option<Value>) -> Deed
 }
 
 impl<'a, P: Pace, R: Wait> Site<'a, P, R> {
-    /// Tries once to write, in a hold of the lock.
-    fn try_write(&self, seat: &mut RawSeat, key: u64, value: &Option<Value>) -> Attempt
+    /// Tries once to write, in a hold of the lock, where hints say this of the place.
+    #[inline(always)]
+    fn try_write_near(
+        &self,
+        seat: &mut RawSeat,
+        key: u64,
+        value: &Option<Value>,
+        guess: &Guess,
+    ) -> Attempt
         requires of { IsSeatOf self.now.words.now seat.old }
         requires holds { IsInHold seat.old.knows }
         ensures of { IsSeatOf self.now.words.now seat.new }
@@ -48,18 +57,31 @@ impl<'a, P: Pace, R: Wait> Site<'a, P, R> {
             Err(DrawError::Full(time)) => return Attempt::Full(time),
             Err(DrawError::Raced) => return Attempt::Lost,
         };
-        let guess = prefetch(words, seat, time, key);
         fill(words, seat, time, key, value.as_ref());
-        let trace = enter(self.rt, words, seat, DrawnCell { time, key }, &guess);
+        let trace = enter(self.rt, words, seat, DrawnCell { time, key }, guess);
         match decide(words, seat, time, &deed_of(key, value), &trace) {
             Decided::Done => Attempt::Written(time),
             Decided::Overtaken => Attempt::Lost,
         }
     }
 
+    /// Looks ahead and tries once to write, in a hold of the lock.
+    #[inline(always)]
+    fn try_write(&self, seat: &mut RawSeat, key: u64, value: &Option<Value>) -> Attempt
+        requires of { IsSeatOf self.now.words.now seat.old }
+        requires holds { IsInHold seat.old.knows }
+        ensures of { IsSeatOf self.now.words.now seat.new }
+        ensures stays { StaysInHold seat.old.knows seat.new.knows }
+        ensures tries { Tries seat.old.knows seat.new.knows (deed_of key value.now) result }
+    {
+        let guess = look_ahead(self.words, seat, key);
+        self.try_write_near(seat, key, value, &guess)
+    }
+
     /// Writes, in a hold of the lock, and tries until the write stands or the clock is at the
     /// limit.
     #[tactic(auto, using(crate::proofs::Rest::records_later, crate::proofs::Rest::full_later, crate::proofs::Rest::still_trans))]
+    #[inline(always)]
     fn write_held(&self, seat: &mut RawSeat, key: u64, value: &Option<Value>) -> Result<Time, Full>
         requires of { IsSeatOf self.now.words.now seat.old }
         requires holds { IsInHold seat.old.knows }
@@ -80,6 +102,7 @@ impl<'a, P: Pace, R: Wait> Site<'a, P, R> {
 }
 
 /// Writes the value at the key, or with `None` removes it, and waits for the lock.
+#[inline(always)]
 pub fn write<P: Pace, R: Wait>(
     rt: &R,
     words: &Words<P>,

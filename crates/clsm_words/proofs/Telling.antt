@@ -16,7 +16,7 @@ use Rattle.clsm_law.specs.declared.word.Word.TheVariants.{Lock, Clock, Cell, Sta
 use Rattle.clsm_law.specs.declared.word.Part.{Part}
 use Rattle.clsm_law.specs.declared.word.Part.TheVariants.{Key, Length, Value}
 use Rattle.clsm_law.specs.declared.step.Step.{Step}
-use Rattle.clsm_law.specs.declared.step.Step.TheVariants.{EnterExclusive, Decide, Look}
+use Rattle.clsm_law.specs.declared.step.Step.TheVariants.{EnterExclusive, Link, Insert, Decide, Look}
 use Rattle.clsm_law.specs.declared.view.View.{View}
 use Rattle.clsm_law.specs.declared.view.Mode.TheVariants.{Exclusive}
 use Rattle.clsm_law.specs.Codes.{exclusive_hold, undecided_cell}
@@ -32,13 +32,14 @@ use Rattle.clsm_law.proofs.Rows.Memory.{memory-set}
 use Rattle.clsm_law.proofs.Stepping.Stepped.{lawful_ground}
 use Rattle.clsm_law.proofs.Stepping.Steps.{finds as found_by, memory_by}
 use Rattle.clsm_law.proofs.Lock.Kept.{lock_most}
+use Rattle.clsm_law.proofs.Lock.Found.{head_as_found, link_as_found}
 use Rattle.clsm_words.specs.declared.known.Known.{Known}
 use Rattle.clsm_words.specs.Knowing.{row_of, Opens, code_of, HoldsAlone, IsPartOf, IsNearHeld, Tells}
 use Rattle.clsm_words.specs.Ruled.{world_of, Begins, Ruled}
 use Rattle.clsm_words.proofs.Beginnings.{begins_at, begins_bound}
 use Rattle.clsm_words.proofs.HeldRuns.{clock_near}
 use Rattle.clsm_words.proofs.Knows.{number_inside, own_past}
-use Rattle.clsm_words.proofs.Played.{me_seated, word, word_there, found, next, before, finds, finds_word, same_memory, words', views', slots', batches'}
+use Rattle.clsm_words.proofs.Played.{me_seated, word, word_there, found, next, before, opens, finds, finds_word, same_memory, words', views', slots', batches'}
 use Rattle.clsm_words.proofs.Played.{lawful', next_seated, after_ground}
 
 pub shown_state : (memory : Memory) (cell : ℕ) (slot : Slot) → Shows memory cell (Some slot) → memory (StateOf cell) ≡ code_of slot
@@ -144,6 +145,19 @@ module _ (s : State ℕ Known) (id : ℕ) (k : Known) (r : Ruled k.layout s) (at
       (finds s id k r at sits (Decide t deed) o).2
       ∙ subst (Shows (memory k.layout s.words) (cell_of k.layout t)) none (r.lawful.law.shown t (let from = low.0 in omega arith) low.1)
 
+  -- and a head and a link are as the seat found them
+  head_found : (head : ℕ) (o : Opens k (Link head)) → k.view.mode ≡ Exclusive → found s id k r at sits (Link head) o ≡ head
+  head_found head o alone =
+      let ok = me_seated s id k r at sits (Link head) o in
+      (finds s id k r at sits (Link head) o).2
+      ∙ head_as_found (before s id k r at sits (Link head) o) head (opens s id k r at sits (Link head) o) (ap (λ (u : View). u.mode) ok.view ∙ alone)
+
+  link_found : (p to : ℕ) (o : Opens k (Insert p to)) → k.view.mode ≡ Exclusive → found s id k r at sits (Insert p to) o ≡ to
+  link_found p to o alone =
+      let ok = me_seated s id k r at sits (Insert p to) o in
+      (finds s id k r at sits (Insert p to) o).2
+      ∙ link_as_found (before s id k r at sits (Insert p to) o) p to (opens s id k r at sits (Insert p to) o) (ap (λ (u : View). u.mode) ok.view ∙ alone)
+
   -- who entered the lock alone holds it alone
   enters_alone : (o : Opens k EnterExclusive) → found s id k r at sits EnterExclusive o ≡ 0 → HoldsAlone (next s id k r at sits EnterExclusive o)
   enters_alone o free =
@@ -191,5 +205,7 @@ module _ (s : State ℕ Known) (id : ℕ) (k : Known) (r : Ruled k.layout s) (at
   tells_of (Look (Count place)) o = row_found (Look (Count place)) o refl
   tells_of (Look (Entry place entry part)) o = row_found (Look (Entry place entry part)) o refl
   tells_of EnterExclusive o = enters_alone o
+  tells_of (Link head) o = head_found head o
+  tells_of (Insert p to) o = link_found p to o
   tells_of (Decide t deed) o = member_undecided t deed o
   tells_of step o = tt

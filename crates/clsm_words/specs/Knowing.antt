@@ -18,7 +18,7 @@ use Rattle.clsm_law.specs.declared.word.Word.TheVariants.{Lock, Clock, Merged, H
 use Rattle.clsm_law.specs.declared.word.Part.{Part}
 use Rattle.clsm_law.specs.declared.word.Part.TheVariants.{Key, Length, Value, Next}
 use Rattle.clsm_law.specs.declared.step.Step.{Step}
-use Rattle.clsm_law.specs.declared.step.Step.TheVariants.{EnterExclusive, Decide, Pin, Unpin, Look, RaiseFront}
+use Rattle.clsm_law.specs.declared.step.Step.TheVariants.{EnterExclusive, Link, Insert, Decide, Pin, Unpin, Look, RaiseFront}
 use Rattle.clsm_law.specs.declared.view.View.{View}
 use Rattle.clsm_law.specs.declared.view.Mode.TheVariants.{Free, Exclusive}
 use Rattle.clsm_law.specs.Codes.{exclusive_hold, undecided_cell, cancelled_cell, value_cell, removal_cell, last_limit}
@@ -276,6 +276,8 @@ Tells (Look (Cell cell part)) k x = (t : ℕ) → IsKnownIn k cell t → IsPartO
 Tells (Look (Count place)) k x = x ≡ row_of k (Count place)
 Tells (Look (Entry place entry part)) k x = x ≡ row_of k (Entry place entry part)
 Tells EnterExclusive k x = x ≡ 0 → HoldsAlone k
+Tells (Link head) k x = k.view.mode ≡ Exclusive → x ≡ head
+Tells (Insert p next) k x = k.view.mode ≡ Exclusive → x ≡ next
 Tells (Decide t deed) k x = k.view.mode ≡ Exclusive → x ≡ undecided_cell
 Tells _ k x = Unit {0}
 

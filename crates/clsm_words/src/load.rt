@@ -45,8 +45,62 @@ pub fn load_value<S, L: Load<S>, P: Pace>(words: &Words<P>, seat: &mut S, at: &L
     ensures told { L.value seat.old at.now ≡ Some result }
 {
     let count = at.length(words, seat);
-    let mut read = [0; 8];
-    for index in 0..count {
+    load_words(words, seat, at, count)
+}
+
+/// Leaves the value that stands at the place, as `load_value`, in the caller's place: a value of
+/// one word is copied no further.
+#[inline(always)]
+pub fn load_into<S, L: Load<S>, P: Pace>(
+    words: &Words<P>,
+    seat: &mut S,
+    at: &L,
+    into: &mut Option<Value>,
+)
+    requires { L.stands words.now seat.old at.now }
+    ensures looks { L.looks words.now seat.old seat.new }
+    ensures told { into.new ≡ L.value seat.old at.now }
+{
+    let count = at.length(words, seat);
+    if count == 1 {
+        *into = Some(Value::from(at.word(words, seat, 0)));
+    } else {
+        load_words_into(words, seat, at, count, into);
+    }
+}
+
+/// Leaves the value with so many words that stands at the place in the caller's place.
+#[inline(never)]
+fn load_words_into<S, L: Load<S>, P: Pace>(
+    words: &Words<P>,
+    seat: &mut S,
+    at: &L,
+    count: usize,
+    into: &mut Option<Value>,
+)
+    requires stands { L.stands words.now seat.old at.now }
+    requires counted { count ≡ length_of (L.value seat.old at.now) }
+    requires some { 1 ≤ count }
+    requires few { count ≤ 8 }
+    ensures looks { L.looks words.now seat.old seat.new }
+    ensures told { into.new ≡ L.value seat.old at.now }
+{
+    *into = Some(load_words(words, seat, at, count));
+}
+
+/// The value with so many words that stands at the place.
+#[inline]
+fn load_words<S, L: Load<S>, P: Pace>(words: &Words<P>, seat: &mut S, at: &L, count: usize) -> Value
+    requires stands { L.stands words.now seat.old at.now }
+    requires counted { count ≡ length_of (L.value seat.old at.now) }
+    requires some { 1 ≤ count }
+    requires few { count ≤ 8 }
+    ensures looks { L.looks words.now seat.old seat.new }
+    ensures told { L.value seat.old at.now ≡ Some result }
+{
+    let first = at.word(words, seat, 0);
+    let mut read = [first, 0, 0, 0, 0, 0, 0, 0];
+    for index in 1..count {
         read[index] = at.word(words, seat, index);
     }
     Value::of_padded(read, count)

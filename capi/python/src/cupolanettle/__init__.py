@@ -22,6 +22,7 @@ The package calls the C library ``libclsm.so`` by ``ctypes``: the one that the e
 sources, or is installed in the system.
 """
 
+from ._batch import Batch
 from ._errors import Closed, Code, Error, NoSeat, RunFull
 from ._library import VERSION as __version__
 from ._snapshot import Snapshot
@@ -29,6 +30,7 @@ from ._store import Store
 from ._values import Value
 
 __all__ = [
+    "Batch",
     "Closed",
     "Code",
     "Error",
@@ -41,6 +43,6 @@ __all__ = [
 ]
 
 # Users see these names, and not the files that they are written in.
-for _public in (Closed, Code, Error, NoSeat, RunFull, Snapshot, Store):
+for _public in (Batch, Closed, Code, Error, NoSeat, RunFull, Snapshot, Store):
     _public.__module__ = __name__
 del _public

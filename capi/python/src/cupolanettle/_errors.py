@@ -35,6 +35,7 @@ class Code(enum.IntEnum):
     BAD_EPOCH = 33
     BAD_PATIENCE = 34
     BAD_VALUE = 35
+    BAD_BATCH = 36
     BAD_POINTER = 37
     BAD_BUILD = 38
 

@@ -105,9 +105,6 @@ DECLARED: Dict[str, Tuple[Any, Sequence[Any]]] = {
     "clsm_batch": (c_int, [_HANDLE, POINTER(Row), c_size_t]),
 }
 
-# The calls that a library may lack.
-OPTIONAL = frozenset(["clsm_batch"])
-
 
 # ---- Loading
 
@@ -138,14 +135,6 @@ def _bind(library: ctypes.CDLL, name: str) -> Any:
         raise ImportError(f"{PATH} has no {name}") from error
     function.restype, function.argtypes = DECLARED[name]
     return function
-
-
-def _bind_optional(library: ctypes.CDLL, name: str) -> Optional[Call]:
-    """The call of this name, or ``None`` if the library lacks it."""
-    call: Optional[Call] = None
-    if hasattr(library, name):
-        call = _bind(library, name)
-    return call
 
 
 PATH = _find()
@@ -208,4 +197,4 @@ REMOVE = WriteCalls(_bind(_keeping, "clsm_try_remove"), _bind(_releasing, "clsm_
 add: Call = _bind(_releasing, "clsm_add")
 put_if_absent: Call = _bind(_releasing, "clsm_put_if_absent")
 replace: Call = _bind(_releasing, "clsm_replace")
-batch = _bind_optional(_releasing, "clsm_batch")
+batch: Call = _bind(_releasing, "clsm_batch")

@@ -2,6 +2,7 @@
 
 from __future__ import annotations
 
+import ctypes
 import operator
 import sys
 import warnings
@@ -9,6 +10,7 @@ from types import TracebackType
 from typing import Any, Callable, Dict, Optional, Tuple, Type, Union, overload
 
 from . import _library as library
+from ._batch import Batch
 from ._errors import KEPT, OK, Code, Error, error_of, is_again
 from ._reading import Default, Reader
 from ._scanning import Rows
@@ -143,6 +145,25 @@ class Store(Reader):
                 code = calls.wait(handle.pointer, *arguments)
         if code != OK:
             raise error_of(code)
+
+    def batch(self) -> Batch:
+        """A batch: writes that are made at one moment, at the end of its ``with``.
+
+        >>> with Store() as store:
+        ...     store[1] = 10
+        ...     with store.batch() as batch:
+        ...         batch[2] = store[1]
+        ...         batch.remove(1)
+        ...     list(store.scan())
+        [(2, 10)]
+        """
+        return Batch(self)
+
+    def _write_batch(self, rows: ctypes.Array[library.Row], count: int) -> int:
+        handle = self._handle()
+        with handle.lock:
+            code: int = library.batch(handle.pointer, rows, count)
+        return code
 
     # ---- Changes
 

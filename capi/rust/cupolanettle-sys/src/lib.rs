@@ -12,8 +12,9 @@
 //!   before or after. It stays where it was made: nothing copies, moves, reads or writes it.
 //! - A handle is in one call at a time. It may go to another thread, by a thread's start or join, a
 //!   lock or a sequentially consistent atomic.
-//! - Each other pointer is to a whole object of its type, of which no other pointer of the same
-//!   call and no other thread makes use until the call ends. None is null.
+//! - Each other pointer is to a whole object of its type, or to as many as are counted behind it.
+//!   Until the call ends nobody writes what a `*const` is to, and no other pointer of the call and
+//!   no other thread makes use of what a `*mut` is to. None is null, also that to no rows.
 //! - The room for handles is enough: [`clsm_core_room`] answers what they take.
 //! - `malloc`, `realloc` and `free` are one allocator's, and align by 16.
 //! - No call is made from a signal handler, nor in the forked child of a process with threads.

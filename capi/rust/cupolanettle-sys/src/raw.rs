@@ -284,6 +284,20 @@ unsafe extern "C" {
     /// Refused as `clsm_core_try_put`, but for `BAD_VALUE`.
     pub fn clsm_core_try_remove(caller: *mut Caller, ask: *const Key, answer: *mut Time) -> u32;
 
+    /// Writes the rows as one batch: at consecutive times in their order, all of which become
+    /// visible at one moment. A row without a value removes its key; of several rows of one key the
+    /// last one wins. Answers `OK` and the time of the first row. It takes memory for the rows
+    /// while it runs, and tries to take the lock once. Refused, in this order, with `MEMORY`,
+    /// `BAD_VALUE` if a value has more than eight words, `BAD_BATCH` if there is no row or more
+    /// than an epoch has cells, `BUSY` if the lock was not free, and `FULL` and the clock's time if
+    /// the epoch has fewer timestamps left than there are rows: nothing was written then.
+    pub fn clsm_core_try_batch(
+        caller: *mut Caller,
+        rows: *const Row,
+        count: usize,
+        answer: *mut Time,
+    ) -> u32;
+
     // ---- a caller's read-modify-writes
 
     /// Adds a number to the key's word, which counts as 0 if the key has no value, and answers

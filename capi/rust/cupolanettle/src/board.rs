@@ -40,10 +40,18 @@ struct State {
     is_over: bool,
 }
 
+/// Why the merger's thread was called.
+pub(crate) struct Called {
+    /// How often writes called for room so far.
+    pub(crate) calls: u64,
+    /// One of them waits for room in the next epoch.
+    pub(crate) is_waited_for: bool,
+}
+
 impl State {
-    /// Whether the merger has something to do.
-    fn is_called(&self) -> bool {
-        self.is_half || (self.full >= self.limit && self.calls > self.refused)
+    /// Whether a write waits for room, and the merger has not tried since.
+    fn is_waited_for(&self) -> bool {
+        self.full >= self.limit && self.calls > self.refused
     }
 
     /// Calls the merger for room behind this time, and answers the number of the call.
@@ -135,14 +143,14 @@ impl Board {
 
     // ---- what the merger waits for, and tells
 
-    /// Sleeps until the merger has something to do. Answers how many calls for room there were, or
-    /// `None` where its thread is to end.
-    pub(crate) fn wait_for_call(&self) -> Option<u64> {
+    /// Sleeps until the merger has something to do, or answers `None` where its thread is to end.
+    pub(crate) fn wait_for_call(&self) -> Option<Called> {
         let mut state = lock(&self.state);
         while !state.is_over {
-            if state.is_called() {
+            let is_waited_for = state.is_waited_for();
+            if state.is_half || is_waited_for {
                 state.is_half = false;
-                return Some(state.calls);
+                return Some(Called { calls: state.calls, is_waited_for });
             }
             state = self.called.wait(state).unwrap_or_else(PoisonError::into_inner);
         }

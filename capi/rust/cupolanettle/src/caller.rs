@@ -1,4 +1,5 @@
 //! Callers.
+mod batches;
 mod changes;
 
 use crate::error::{Memory, NoSeat, Refused, TryError, Unseen};
@@ -284,10 +285,17 @@ impl Caller {
     /// shares no word with others until half of that is drawn.
     #[inline]
     fn wrote(&self, time: Time) -> Time {
+        self.wrote_all(time, 1)
+    }
+
+    /// Notes so many writes, the first one at this time.
+    #[inline]
+    fn wrote_all(&self, time: Time, writes: Time) -> Time {
+        let end = time + writes;
         self.time.set(time);
-        self.seen.set(self.seen.get().max(time + 1));
-        if time >= self.tell_at.get() {
-            self.tell_at.set(self.home.shared.works.tell(time));
+        self.seen.set(self.seen.get().max(end));
+        if end > self.tell_at.get() {
+            self.tell_at.set(self.home.shared.works.tell(end - 1));
         }
         time
     }

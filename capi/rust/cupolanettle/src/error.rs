@@ -77,6 +77,35 @@ pub enum ChangeError {
     Refused(Refused),
 }
 
+/// Why a batch was not made. Nothing was written.
+///
+/// ```
+/// use cupolanettle::{Batch, BatchError, Error, Options};
+///
+/// let store = Options::new().keys(1_000).epoch(4).open()?;
+/// let caller = store.caller()?;
+/// let mut batch = Batch::new();
+/// assert_eq!(caller.batch(&batch), Err(BatchError::Empty));
+///
+/// for key in 0..5 {
+///     batch.set(key, 0);
+/// }
+/// assert_eq!(caller.batch(&batch), Err(BatchError::TooLong));
+/// # Ok::<(), Error>(())
+/// ```
+#[non_exhaustive]
+#[derive(Clone, Copy, PartialEq, Eq, Hash, Debug)]
+pub enum BatchError {
+    /// It has no write.
+    Empty,
+    /// It has more writes than an [epoch](crate::Options::epoch).
+    TooLong,
+    /// Memory ran out. The same call may succeed if it is made again.
+    Memory,
+    /// The writes were refused.
+    Refused(Refused),
+}
+
 /// Why a write that never waits was not made. Nothing was written. The same call may succeed if it
 /// is made again.
 ///
@@ -184,6 +213,8 @@ pub enum Error {
     Refused(Refused),
     /// A change did not fit the value of its key.
     Kept(Kept),
+    /// A batch had no write, or too many.
+    Batch(BatchError),
     /// A write that never waits was not made.
     Try(TryError),
     /// All seats were taken.
@@ -233,6 +264,17 @@ impl fmt::Display for ChangeError {
     }
 }
 
+impl fmt::Display for BatchError {
+    fn fmt(&self, f: &mut fmt::Formatter<'_>) -> fmt::Result {
+        match self {
+            BatchError::Empty => f.write_str("the batch has no write"),
+            BatchError::TooLong => f.write_str("the batch has more writes than an epoch"),
+            BatchError::Memory => Memory.fmt(f),
+            BatchError::Refused(refused) => refused.fmt(f),
+        }
+    }
+}
+
 impl fmt::Display for TryError {
     fn fmt(&self, f: &mut fmt::Formatter<'_>) -> fmt::Result {
         f.write_str(match self {
@@ -274,6 +316,7 @@ impl fmt::Display for Error {
             Error::Open(error) => error.fmt(f),
             Error::Refused(error) => error.fmt(f),
             Error::Kept(error) => error.fmt(f),
+            Error::Batch(error) => error.fmt(f),
             Error::Try(error) => error.fmt(f),
             Error::NoSeat(error) => error.fmt(f),
             Error::Memory(error) => error.fmt(f),
@@ -310,6 +353,24 @@ errors! {
 }
 
 impl std::error::Error for ChangeError {}
+
+impl std::error::Error for BatchError {}
+
+impl From<Refused> for BatchError {
+    fn from(refused: Refused) -> BatchError {
+        BatchError::Refused(refused)
+    }
+}
+
+impl From<BatchError> for Error {
+    fn from(error: BatchError) -> Error {
+        match error {
+            BatchError::Refused(refused) => refused.into(),
+            BatchError::Memory => Memory.into(),
+            own => Error::Batch(own),
+        }
+    }
+}
 
 impl From<Kept> for ChangeError {
     fn from(kept: Kept) -> ChangeError {

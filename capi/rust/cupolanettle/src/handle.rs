@@ -139,6 +139,16 @@ impl Handle<raw::Caller> {
             unsafe { raw::clsm_core_page(self.place(), range, first, room, &raw mut answer) };
         (code, answer)
     }
+
+    /// Writes these rows as a batch.
+    pub(crate) fn batch(&self, rows: &[raw::Row]) -> (Code, raw::Time) {
+        let mut answer = raw::Time::default();
+        // SAFETY: as in `ask`, and the rows are one slice, which is only read.
+        let code = unsafe {
+            raw::clsm_core_try_batch(self.place(), rows.as_ptr(), rows.len(), &raw mut answer)
+        };
+        (code, answer)
+    }
 }
 
 /// Whether the core's handles take no more room than is declared for them.

@@ -58,7 +58,8 @@
 //! [`Caller::put`] and [`Caller::remove`] write without a look at what the key has. A change looks
 //! and writes in one step, and answers what the key had and has: [`Caller::add`],
 //! [`Caller::put_if_absent`], [`Caller::replace`], which is a map's compare-and-exchange, and
-//! [`Caller::update`] for any function of the old value.
+//! [`Caller::update`] for any function of the old value. A [`Batch`] has writes of several keys,
+//! which [`Caller::batch`] makes at one moment.
 //!
 //! # Seats
 //!
@@ -89,6 +90,7 @@
 #![warn(missing_docs)]
 #![deny(unsafe_code, unsafe_op_in_unsafe_fn)]
 
+mod batch;
 mod board;
 mod caller;
 mod change;
@@ -103,10 +105,11 @@ mod snapshot;
 mod store;
 mod value;
 
+pub use batch::Batch;
 pub use caller::Caller;
 pub use change::{Changed, Kept};
 pub use error::{
-    BadValue, ChangeError, Error, Memory, NoSeat, OpenError, Refused, TryError, Unseen,
+    BadValue, BatchError, ChangeError, Error, Memory, NoSeat, OpenError, Refused, TryError, Unseen,
 };
 pub use range::{Page, Range};
 pub use snapshot::Snapshot;

@@ -84,6 +84,11 @@ impl Works {
         self.serve(&mut lock(&self.merger), 1)
     }
 
+    /// The times of an epoch.
+    pub(crate) fn cells(&self) -> Time {
+        self.cells
+    }
+
     // ---- what writes ask
 
     /// From which time on writes tell their times.
@@ -113,15 +118,17 @@ impl Works {
     /// Waits for the room, or makes it, for a write that found the epoch full at this time.
     #[cold]
     pub(crate) fn make_room(&self, time: Time) -> Result<(), Refused> {
+        // A batch may find too little room before the end of an epoch, which is then frozen early.
+        let end = time.next_multiple_of(self.cells);
         if !self.merges_in_calls {
-            return self.board.wait_for_room(time);
+            return self.board.wait_for_room(end);
         }
         let mut merger = lock(&self.merger);
-        if self.board.has_room(time) {
+        if self.board.has_room(end) {
             return Ok(());
         }
-        let served = self.serve(&mut merger, self.cells);
-        if self.board.has_room(time) {
+        let served = self.serve(&mut merger, 1);
+        if self.board.has_room(end) {
             return Ok(());
         }
         served
@@ -132,9 +139,10 @@ impl Works {
     /// Merges whenever it is called, until the board is ended.
     fn run(&self) {
         let _ending = Ending(&self.board);
-        while let Some(calls) = self.board.wait_for_call() {
-            if let Err(refusal) = self.serve(&mut lock(&self.merger), self.cells / 2) {
-                self.board.refuse(calls, refusal);
+        while let Some(called) = self.board.wait_for_call() {
+            let used = if called.is_waited_for { 1 } else { self.cells / 2 };
+            if let Err(refusal) = self.serve(&mut lock(&self.merger), used) {
+                self.board.refuse(called.calls, refusal);
             }
         }
     }

@@ -22,7 +22,7 @@ pub(crate) struct Seat {
 
 /// Why a try to write came to nothing.
 pub(crate) enum Lost {
-    /// The epoch that ends at this time is full.
+    /// The epoch of this time, or the one that ends there, has no room.
     Full(Time),
     /// It may be made again at once.
     Again(TryError),
@@ -55,6 +55,15 @@ impl Seat {
     pub(crate) fn try_remove(&self, key: u64) -> Result<Time, Lost> {
         let (code, answer) = self.handle.ask(&handle::TRY_REMOVE, &raw::Key { key });
         written(code, answer)
+    }
+
+    /// Writes all rows, of which there are some, and no more than an epoch has times.
+    pub(crate) fn try_batch(&self, rows: &[raw::Row]) -> Result<Result<Time, Memory>, Lost> {
+        let (code, answer) = self.handle.batch(rows);
+        match code {
+            raw::MEMORY => Ok(Err(Memory)),
+            _ => written(code, answer).map(Ok),
+        }
     }
 
     // ---- changes

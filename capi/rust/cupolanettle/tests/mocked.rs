@@ -2,7 +2,9 @@
 //! links in place of the proved one.
 #![cfg(clsm_mock)]
 
-use cupolanettle::{ChangeError, Error, OpenError, Options, Refused, TryError, Value};
+use cupolanettle::{
+    Batch, BatchError, ChangeError, Error, OpenError, Options, Refused, TryError, Value,
+};
 use std::os::raw::c_uint;
 use std::sync::{Mutex, MutexGuard, PoisonError};
 
@@ -18,6 +20,7 @@ const BUSY: u32 = 9;
 const RACED: u32 = 10;
 const OVERTAKEN: u32 = 11;
 const PINNED: u32 = 12;
+const MEMORY: u32 = 16;
 const RUN_FULL: u32 = 18;
 const WORN: u32 = 19;
 
@@ -130,6 +133,41 @@ fn changes_that_are_lost_are_made_again() -> Result<(), Error> {
         assert_eq!(mock.count(WRITE) - before, 404);
         assert_eq!((caller.time(), caller.seen()), (changed.time, changed.time + 1));
     }
+    Ok(())
+}
+
+#[test]
+fn batches_that_are_lost_are_made_again() -> Result<(), Error> {
+    let mock = Mock::take();
+    let store = Options::new().keys(100).merge_in_calls().open()?;
+    let caller = store.caller()?;
+    let mut batch = Batch::new();
+    batch.set(1, 10).set(2, 20);
+    let before = mock.count(WRITE);
+    mock.refuse(WRITE, BUSY, 100);
+    let time = caller.batch(&batch)?;
+    assert_eq!(mock.count(WRITE) - before, 101);
+    assert_eq!((caller.time(), caller.seen()), (time, time + 2));
+    batch.remove(1);
+    mock.refuse(WRITE, MEMORY, 1);
+    assert_eq!(caller.batch(&batch), Err(BatchError::Memory));
+    assert_eq!((caller.time(), caller.count(..)), (time, 2));
+    caller.batch(&batch)?;
+    assert_eq!(caller.count(..), 1);
+    Ok(())
+}
+
+#[test]
+fn batches_tell_when_half_of_an_epoch_is_drawn() -> Result<(), Error> {
+    let mock = Mock::take();
+    let store = Options::new().keys(100).epoch(8).open()?;
+    let caller = store.caller()?;
+    let (freezes, sweeps) = (mock.count(FREEZE), mock.count(SWEEP));
+    caller.batch(Batch::new().set(1, 10).set(2, 20).set(3, 30).set(4, 40).set(5, 50))?;
+    while mock.count(SWEEP) == sweeps {
+        std::thread::yield_now();
+    }
+    assert_eq!(mock.count(FREEZE) - freezes, 1);
     Ok(())
 }
 

@@ -1,5 +1,5 @@
 //! A hundred thousand random calls of one thread, each answered as a `BTreeMap` answers.
-use cupolanettle::{Caller, ChangeError, Changed, Error, Options, Snapshot, Store, Value};
+use cupolanettle::{Batch, Caller, ChangeError, Changed, Error, Options, Snapshot, Store, Value};
 use std::collections::BTreeMap;
 use std::ops::RangeInclusive;
 
@@ -104,6 +104,25 @@ impl Play {
         assert!(time >= before);
         assert_eq!(self.caller.time(), time);
         assert_eq!(self.caller.seen(), time + 1);
+        Ok(())
+    }
+
+    fn write_batch(&mut self) -> Result<(), Error> {
+        let mut batch = Batch::new();
+        for _ in 0..=self.random.below(20) {
+            let (key, value) = (self.random.key(), self.random.value());
+            if self.random.below(3) == 0 {
+                batch.remove(key);
+                self.map.remove(&key);
+            } else {
+                batch.set(key, value);
+                self.map.insert(key, value);
+            }
+        }
+        let before = self.caller.seen();
+        let time = self.caller.batch(&batch)?;
+        assert!(time >= before);
+        assert_eq!((self.caller.time(), self.caller.seen()), (time, time + batch.len() as u64));
         Ok(())
     }
 
@@ -213,7 +232,8 @@ impl Play {
             }
             2 => Ok(self.store.sweep()?),
             3..=29 => self.read_snapshot(),
-            30..=49 => self.write(),
+            30..=31 => self.write_batch(),
+            32..=49 => self.write(),
             50..=69 => {
                 self.change();
                 Ok(())

@@ -19,6 +19,7 @@ use Rattle.clsm_law.specs.Merging.{is_frozen, epoch_end}
 use Rattle.clsm_law.specs.Worlds.{outcome_at, past_of, open_past, history_of}
 use Rattle.clsm_law.specs.Law.{each, mode_of, drawn_of, met_of, low_of, high_of, hold_limit_of, hold_clock_of, pin_of, pinned_of, held_of, clock_of}
 use Rattle.clsm_law.specs.Law.{pin_clock_of, snapshot_of, reached_of, past_time_of, due_of, calls_of, staged_of, committed_of, taken_by, first_shown}
+use Rattle.clsm_law.specs.Law.{AreFoundHeads, fresh_heads_of}
 use Rattle.clsm_law.specs.Law.{first_live, In, IsDecidedBelow, AreDecidedBelow, IsLockedOut, AreShort, Shows, AreShown, AreStanding, place_of_time}
 use Rattle.clsm_law.specs.Law.{AreInOrder, IsMember, AreMembers, AreNotedBelow, AreLimits, ArePins, AreOdd, AreHeld, AreSnapshots, AreNotes, ArePassed}
 use Rattle.clsm_law.specs.Law.{AreRight, AreRecordsStanding, AreRecorded, AreRising, AreAtMost, LawOf, AreRuns}
@@ -27,6 +28,7 @@ use Rattle.clsm_law.proofs.Frames.{keep1, keep2, keep3, same_each, slots_grown, 
 use Rattle.clsm_law.proofs.Clock.Times.{apart}
 use Rattle.clsm_law.proofs.Setting.{Setting, ground, v, limit_live, live_below_shown, shown_below_merged, clock_below, none_taken, past_below, by_seat}
 use Rattle.clsm_law.proofs.Records.Histories.{past-equal}
+use Rattle.clsm_law.proofs.Lock.Found.{found_links_by}
 use Rattle.clsm_law.proofs.Lock.Kept.{exclusive_free, same_count, sole_same, not_both, merger_unheld}
 use Rattle.clsm_law.proofs.Clock.Kept.{counted, taken_undrawn, below_limit}
 use Rattle.clsm_law.proofs.Drawn.Kept.{drew_pending, drew_owned, drew_alone, drew_filled, holding_by}
@@ -207,6 +209,9 @@ module _ (s : Setting) (t key : ℕ) (o : Stages s t key) where
         → Before (key_at s.memory y.low) y.low k (place_of_time s.z n)) (λ n k d f. absurd cc) (λ i ne. s.law.lower i);
     higher = by_seat s u (λ i y. (n k : ℕ) → y.drawn ≡ Some n → y.key ≡ Some k → y.inserted ≡ false → y.high ≢ 0
         → Before k (place_of_time s.z n) (key_at s.memory y.high) y.high) (λ n k d f. absurd cc) (λ i ne. s.law.higher i);
+    found_heads = keep2 (AreFoundHeads s.z s.memory (s.memory Limit)) (same_each s.z mode_of s.views s.me u s.inside refl)
+        (same_each s.z fresh_heads_of s.views s.me u s.inside refl) s.law.found_heads;
+    found_links = found_links_by s s.memory u (λ i ne e k. refl) (λ n found m d l look. absurd cc);
     limits = keep2 (λ (m : ℕ → Mode) (f : ℕ → Option ℕ). AreLimits m f (s.memory Limit)) (same_each s.z mode_of s.views s.me u s.inside refl)
         (same_each s.z hold_limit_of s.views s.me u s.inside refl) s.law.limits;
     fresh_clocks = by_seat s u (λ i y. (k : ℕ) → y.fresh_clock ≡ Some k → k ≤ s.memory Clock) (λ k f. absurd cc)

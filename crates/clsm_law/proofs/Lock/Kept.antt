@@ -11,7 +11,7 @@ use Rattle.clsm_model.specs.declared.record.Deed.{Deed}
 use Rattle.clsm_model.specs.Right.{write_by}
 use Rattle.clsm_law.specs.declared.layout.Layout.{Layout}
 use Rattle.clsm_law.specs.declared.word.Word.{Word}
-use Rattle.clsm_law.specs.declared.word.Word.TheVariants.{Lock, Snap, Pin as PinOf}
+use Rattle.clsm_law.specs.declared.word.Word.TheVariants.{Lock, Clock, Snap, Pin as PinOf}
 use Rattle.clsm_law.specs.declared.step.Step.{Step}
 use Rattle.clsm_law.specs.declared.step.Step.TheVariants.{EnterShared, LeaveShared, EnterExclusive, LeaveExclusive, Draw, Fill, Decide, Cancel, Look, Pad}
 use Rattle.clsm_law.specs.declared.step.Step.TheVariants.{WriteRun, ClearState, Publish, ExtendClock, ExtendLimit}
@@ -360,6 +360,16 @@ merger_merged g (Look (PinOf i)) o = let h = g.law.merger in let n = found g (Lo
   seats = by_bool (λ b. length (cond b (set g.merger.readers i (reader_by (reader_at g.merger.readers i) n)) g.merger.readers) ≡ g.z.seats)
       (is_retired g.merger.phase)
       (λ _. length-set g.merger.readers i (reader_by (reader_at g.merger.readers i) n) ∙ h.seats) (λ _. h.seats);
+  some_merged = h.some_merged;
+  clean = h.clean;
+  pads = h.pads;
+  extends = h.extends;
+  limit_after = h.limit_after;
+  at_end = h.at_end;
+  top = h.top;
+}
+merger_merged g (Look Clock) o = let h = g.law.merger in record {
+  seats = h.seats;
   some_merged = h.some_merged;
   clean = h.clean;
   pads = h.pads;

@@ -198,6 +198,7 @@ held_merged g EnterExclusive o = held_same g (merger' g EnterExclusive) refl ref
 held_merged g LeaveExclusive o = held_newest g (merger' g LeaveExclusive) refl (λ i c e r. retired_not_clean g.merger.phase r.retired (g.law.merger.clean o.0))
 held_merged g (Look (Snap i)) o = held_same g (merger' g (Look (Snap i))) refl refl refl
 held_merged g (Look (PinOf j)) o = held_looked g j o
+held_merged g (Look Clock) o = held_same g (merger' g (Look Clock)) refl refl refl
 held_merged g (Look word) o = g.law.held
 held_merged g (Pad t) o = held_same g (merger' g (Pad t)) refl refl refl
 held_merged g (ClearState cell) o = held_newest g (merger' g (ClearState cell)) refl

@@ -412,6 +412,7 @@ floors_merged g LeaveExclusive o = floors_same g.z g.merger (merger' g LeaveExcl
     (λ e. g.law.floors.at_rest (clean_frozen g.merger.phase (g.law.merger.clean o.0)))
 floors_merged g (Look (Snap i)) o = floors_looked g i
 floors_merged g (Look (PinOf i)) o = floors_same g.z g.merger (merger' g (Look (PinOf i))) refl refl refl refl g.law.floors g.law.floors.at_rest
+floors_merged g (Look Clock) o = floors_same g.z g.merger (merger' g (Look Clock)) refl refl refl refl g.law.floors g.law.floors.at_rest
 floors_merged g (Look word) o = g.law.floors
 floors_merged g (Pad t) o = floors_same g.z g.merger (merger' g (Pad t)) refl refl refl refl g.law.floors g.law.floors.at_rest
 floors_merged g (ClearState cell) o = floors_same g.z g.merger (merger' g (ClearState cell)) refl refl refl refl g.law.floors

@@ -44,7 +44,7 @@ impl Search {
     /// Whether the call searches behind a step of this kind, if it did so before it or not.
     fn goes_on(self, kind: Kind, searches: bool) -> bool {
         match (self, kind) {
-            (Search::Place, Kind::Draw) => true,
+            (Search::Place, Kind::Look(Word::Limit)) => true,
             (Search::Place, Kind::LeaveShared) => false,
             (Search::Members, Kind::Look(Word::Clock) | Kind::EnterExclusive) => true,
             (Search::Members, Kind::Unpin | Kind::LeaveExclusive) => false,
@@ -62,12 +62,14 @@ impl Search {
     }
 }
 
-/// Whether the step is a look at a list, a chain, a cell or a run.
+/// Whether the step is a look at a list, a chain, a cell or a run, or at LIMIT, which says what list
+/// that is.
 fn is_of_search(kind: Kind) -> bool {
     matches!(
         kind,
         Kind::Look(
-            Word::Order(_)
+            Word::Limit
+                | Word::Order(_)
                 | Word::Head { .. }
                 | Word::Cell { .. }
                 | Word::State(_)

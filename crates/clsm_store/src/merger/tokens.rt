@@ -249,6 +249,7 @@ impl Retired {
           merger = self.merger;
           floor = self.floor;
           rounds = self.rounds;
+          looks = clean.looks;
           clock = clean.clock;
           readers = clean.readers;
         }) }

@@ -13,6 +13,8 @@ pub(super) enum Act {
     Remove(u64),
     /// The writes of a batch.
     Batch(&'static [Write]),
+    /// The same, by a call that tries the lock once.
+    TryBatch(&'static [Write]),
     /// A batch of this word at the key and at the next one.
     BatchTwo(u64, u64),
     /// Puts each number from the second on and below the third, at so many keys in turn.

@@ -5,7 +5,7 @@ use super::gate::Gates;
 use clsm_store::{
     Answer as Called, BatchError, Call, CallRecord, Caller, Change, Counted, Deed, Full, Got,
     Members, MergeError, Merger, Page, PageRange, Pages, ReclaimError, Rmw, Rows, Scan, Stopped,
-    Swept, Time, Value,
+    Swept, Time, TryBatchError, TryPutError, Value,
 };
 use std::alloc::Global;
 use std::ops::Range;
@@ -110,13 +110,18 @@ fn member_of(rt: &impl Abort, write: &Write) -> (u64, Change) {
     }
 }
 
-/// A batch of these writes.
-fn batch_of(rt: &impl Abort, alloc: Global, writes: &[Write]) -> Call {
+/// The members of a batch that the writes are.
+fn members_of(rt: &impl Abort, alloc: Global, writes: &[Write]) -> Members {
     let mut members = Vec::with_capacity(alloc, writes.len()).expect(rt, "memory");
     for write in writes {
         members.push(member_of(rt, write)).expect(rt, "memory");
     }
-    let members = Members::new(members);
+    Members::new(members)
+}
+
+/// A batch of these writes.
+fn batch_of(rt: &impl Abort, alloc: Global, writes: &[Write]) -> Call {
+    let members = members_of(rt, alloc, writes);
     Call::Batch { members }
 }
 
@@ -173,6 +178,20 @@ impl<'a> Actor<'a> {
         let record = self.caller.record_of(time, Deed::Rmw { key, old, change });
         self.records.push(record).expect(rt, "memory");
         answer
+    }
+
+    /// A batch that tries the lock once, whose record is kept.
+    fn try_batch(&mut self, rt: &impl Abort, alloc: Global, writes: &[Write]) -> Answer {
+        let members = members_of(rt, alloc, writes);
+        let time = match self.caller.try_batch(members.as_slice()) {
+            Ok(time) => time,
+            Err(TryBatchError::Busy) => return Answer::Refused(TryPutError::Busy),
+            Err(TryBatchError::Refused(BatchError::Full { time })) => return Answer::Full(time),
+            Err(TryBatchError::Refused(refusal)) => return Answer::Unbatched(refusal),
+        };
+        let record = self.caller.record_of(time, Deed::Batch { members });
+        self.records.push(record).expect(rt, "memory");
+        Answer::At(time)
     }
 
     /// A call of the seat, whose record is kept.
@@ -380,6 +399,7 @@ impl<'a> Actor<'a> {
                 Act::Freeze | Act::Merge | Act::Reclaim | Act::Sweep | Act::SweepIfUsed(_) => {
                     self.command(rt, act)
                 }
+                Act::TryBatch(writes) => self.try_batch(rt, alloc, writes),
                 Act::Room => Answer::Count(self.caller.room()),
                 Act::Count(lo) => self.count(rt, alloc, *lo),
                 Act::Visit(lo) => self.visit(rt, alloc, *lo),

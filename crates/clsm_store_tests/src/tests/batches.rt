@@ -67,6 +67,7 @@ const BESIDE: &[Step] = &[
     (Act::Scan(0), Answer::Rows(2, 2)),
     (Act::Page(0, 1), Answer::Page(2, 1, Some(9))),
     (Act::TryPut(5, 50), BUSY),
+    (Act::TryBatch(TWO), BUSY),
     (Act::Snapshot, Answer::At(2)),
     (Act::GetAt(7), Answer::Got(2, 70)),
     (Act::Scan(0), Answer::Rows(2, 2)),
@@ -153,6 +154,22 @@ const LENGTHS: &[Step] = &[
     (Act::Get(3), Answer::Got(5, 30)),
     (Act::Batch(THREE), Answer::At(5)),
     (Act::Scan(0), Answer::Rows(8, 3)),
+    (Act::Get(3), Answer::Got(8, 23)),
+];
+
+/// The same by tries.
+const TRIES: &[Step] = &[
+    (Act::TryBatch(&[]), EMPTY),
+    (Act::TryBatch(FIVE), TOO_LONG),
+    (Act::TryBatch(&[Write::Keep(2)]), KEEP),
+    (Act::TryBatch(WHOLE), Answer::At(0)),
+    (Act::Get(1), Answer::Got(4, 12)),
+    (Act::Scan(0), Answer::Rows(4, 2)),
+    (Act::TryBatch(&[Write::Word(1, 10)]), Answer::Full(4)),
+    (Act::Sweep, Answer::Clean),
+    (Act::Put(3, 30), Answer::At(4)),
+    (Act::TryBatch(WHOLE), Answer::Full(5)),
+    (Act::TryBatch(THREE), Answer::At(5)),
     (Act::Get(3), Answer::Got(8, 23)),
 ];
 
@@ -275,6 +292,7 @@ pub(super) const CASES: &[Case] = &[
         "batches of each length, and those that are refused",
         LENGTHS
     ),
+    alone!("batches that never wait, and those that are refused", TRIES),
     alone!("a batch of one key", ONE_KEY),
     alone!("batches of eight words", EIGHT_WORDS),
     alone!("batches of removals", REMOVALS),

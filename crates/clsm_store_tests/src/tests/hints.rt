@@ -102,9 +102,13 @@ impl Alone {
 
     /// The key's value, and all pairs from the key on, are those of the map.
     fn compare(&mut self, rt: &impl Abort, alloc: Global, map: &PlainMap, key: u64) {
-        let Got { value, .. } = read(&self.words, &mut self.seat, self.pin, key);
+        let mut got = Got {
+            time: 0,
+            value: None,
+        };
+        read(&self.words, &mut self.seat, self.pin, key, &mut got);
         self.pin = self.pin.wrapping_add(2);
-        assert_eq!(rt; value, map.get(key));
+        assert_eq!(rt; got.value, map.get(key));
         let asked = Asked::All(key, u64::MAX);
         let wanted = Request { alloc, asked };
         let scanned = scan_at(&self.words, &mut self.seat, self.pin, wanted);

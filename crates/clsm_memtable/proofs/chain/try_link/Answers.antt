@@ -5,7 +5,7 @@ use Rattle.clsm_law.specs.Memory.{cell_of, region_of}
 use Rattle.clsm_words.specs.Knowing.{Follows}
 use Rattle.clsm_memtable.proofs.Exchanges.{won, lost}
 use Rattle.clsm_memtable.proofs.Inserts.{head_opens}
-use Rattle.clsm_memtable.proofs.Linked.{links, stays_unlinked, counted}
+use Rattle.clsm_memtable.proofs.Linked.{links, never_lost, stays_unlinked, counted}
 use Rattle.clsm_memtable.proofs.chain.try_link.Goals as goal
 
 pub look-head-requires : goal.look-head-requires
@@ -43,4 +43,6 @@ returns-in_default g c =
       uncounted = tt;
       raced = stays_unlinked k k1 k2 k3 region chain head c.fill.ensures.0 x c.show_invariant.ensures looks c.fill.ensures.1.1 c.link.ensures.1.1 miss;
       counted = counted k k1 k2 k3 region chain head c.fill.ensures.0 x c.show_invariant.ensures looks c.fill.ensures.1.1 c.link.ensures.1.1 miss;
+      alone = λ mode. absurd (never_lost k k1 k2 k3 region chain head c.fill.ensures.0 x c.show_invariant.ensures looks c.fill.ensures.1.1 c.link.ensures.1.1
+          mode miss);
     }

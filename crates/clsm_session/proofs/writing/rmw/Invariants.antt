@@ -1,4 +1,5 @@
-use Rattle.clsm_store_calls.specs.Seats.{GivesUpForWrites, Refuses}
+use Rattle.clsm_store_calls.specs.Seats.{Refuses}
+use Rattle.clsm_session.proofs.Waiting.{GaveUp, Holds}
 use Rattle.clsm_session.specs.Waiting.{IsPatient}
 use Rattle.clsm_session.proofs.writing.rmw.Given as goal
 
@@ -7,6 +8,7 @@ abbrev pub invariant-loop : goal.invariant-loop
 invariant-loop g l = record {
   refused : Refuses l.initial.caller.seat l.caller.seat;
   patient : IsPatient l.initial.caller.seat l.caller.seat;
-  spared : GivesUpForWrites l.initial.caller.seat l.caller.seat l.fn.key;
+  spared : GaveUp l.initial.caller.seat l.caller.seat l.fn.key;
   more : (goal.iterator-loop g).can_next l.iterator' × (goal.iterator-loop g).is_finite l.iterator';
+  holds : Holds l.tries l.initial.caller.seat.tally l.caller.seat.tally;
 }

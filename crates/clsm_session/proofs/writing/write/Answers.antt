@@ -1,4 +1,4 @@
-use Rattle.clsm_session.proofs.Waiting.{answers_after, cancels_trans, refuses_trans}
+use Rattle.clsm_session.proofs.Waiting.{answers_after, cancels_trans, holds_more, refuses_trans}
 use Rattle.clsm_session.proofs.writing.write.Goals as goal
 
 pub returns-in-Ok-clause-written : goal.returns-in-Ok-clause-written
@@ -11,4 +11,7 @@ loop-preserved g c = record {
       cancels_trans c.args.caller.now.seat.tally c.loop.caller.seat.tally c.try_write.new.caller.seat.tally c.loop.invariant.cancels
       c.try_write.ensures.cancels;
   more = (tt, tt);
+  holds =
+      holds_more c.loop.tries c.args.caller.now.seat.tally c.loop.caller.seat.tally c.try_write.new.caller.seat.tally c.loop.invariant.holds
+      c.in-Err.ensures.full.entered;
 }

@@ -2,7 +2,7 @@ use Rattle.std.proofs.Common.{ℕ, ap, sym, subst, ◌∙◌}
 use Rattle.clsm_model.specs.declared.record.Deed.TheVariants.{Batch as Group}
 use Rattle.clsm_model.specs.Seats.{FitsDeed}
 use Rattle.clsm_law.specs.declared.layout.Layout.{Layout}
-use Rattle.clsm_store_calls.proofs.Staged.{refused_alone}
+use Rattle.clsm_store_calls.proofs.Staged.{counts_batch, refused_alone}
 use Rattle.clsm_store_calls.proofs.batching.batch.Goals as goal
 
 pub returns-clause-refused : goal.returns-clause-refused
@@ -12,3 +12,9 @@ returns-clause-refused g c =
     refused_alone c.args.seat.now.knows c.lock_exclusive.new.seat.knows c.batch_in_hold-answer.new.seat.knows c.unlock_exclusive.new.seat.knows
     c.args.members.now
     c.batch_in_hold-answer.result fits c.lock_exclusive.ensures.entered c.unlock_exclusive.ensures.left c.batch_in_hold-answer.ensures.refused
+
+pub returns-clause-counts : goal.returns-clause-counts
+returns-clause-counts g c =
+    counts_batch c.args.seat.now.knows c.lock_exclusive.new.seat.knows c.batch_in_hold-answer.new.seat.knows c.unlock_exclusive.new.seat.knows
+    c.lock_exclusive.ensures.entered c.batch_in_hold-answer.ensures.counts c.unlock_exclusive.ensures.left c.args.members.now
+    c.batch_in_hold-answer.result c.batch_in_hold-answer.ensures.refused

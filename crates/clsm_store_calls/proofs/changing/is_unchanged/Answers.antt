@@ -9,13 +9,13 @@ pub returns-in-Some-clause-unchanged : goal.returns-in-Some-clause-unchanged
 returns-in-Some-clause-unchanged g c = λ early.
     let k = c.settle_below.new.seat.knows in
     unchanged_found k c.newest.new.seat.knows c.args.component c.args.span.key c.args.span.from c.args.span.until c.newest.ensures.looks c.requires.later
-    c.in-Some.found c.in-Some.ensures.newest (ltb-true c.in-Some.found.time c.args.span.from early)
+    c.in-Some.time c.in-Some.ensures.newest (ltb-true c.in-Some.time c.args.span.from early)
 
 pub returns-in-Some-clause-written : goal.returns-in-Some-clause-written
 returns-in-Some-clause-written g c = λ late.
     let k = c.settle_below.new.seat.knows in
-    written_found k c.newest.new.seat.knows c.args.component c.args.span.key c.args.span.from c.args.span.until c.newest.ensures.looks c.in-Some.found
-    c.in-Some.ensures.newest (ltb-false c.in-Some.found.time c.args.span.from late)
+    written_found k c.newest.new.seat.knows c.args.component c.args.span.key c.args.span.from c.args.span.until c.newest.ensures.looks c.in-Some.time
+    c.in-Some.ensures.newest (ltb-false c.in-Some.time c.args.span.from late)
 
 pub returns-in-None-clause-unchanged : goal.returns-in-None-clause-unchanged
 returns-in-None-clause-unchanged g c = λ _.

@@ -5,8 +5,8 @@ use Rattle.clsm_law.specs.declared.word.Word.TheVariants.{Snap}
 use Rattle.clsm_law.specs.Merging.{epoch_end, is_frozen, least}
 use Rattle.clsm_words.proofs.Changing.{look_leaves}
 use Rattle.clsm_model.proofs.Batches.{prefix_trans}
-use Rattle.clsm_store_calls.specs.Flooring.{floor_at, round_at, rounds_at}
-use Rattle.clsm_store_calls.proofs.Rounds.{next_floor, next_round, next_rounds}
+use Rattle.clsm_store_calls.specs.Flooring.{floor_at, noted_at, round_at, rounds_at}
+use Rattle.clsm_store_calls.proofs.Rounds.{next_floor, next_noted, next_round, next_rounds}
 use Rattle.clsm_store_calls.proofs.flooring.take_floor.Goals as goal
 
 pub loop-seat-preserved : goal.loop-seat-preserved
@@ -36,8 +36,15 @@ loop-seat-preserved g c =
       of = c.look_as_merger-word.ensures.0;
       keeps = record {
         layout = follows.layout ∙ is.keeps.layout;
-        view = subst (λ (m : MergerView). m ≡ record k.merger { floor = m.floor; round = m.round; rounds = m.rounds }) (sym view) refl
-            ∙ ap (λ (m : MergerView). record m { floor = new.merger.floor; round = new.merger.round; rounds = new.merger.rounds }) is.keeps.view;
+        view = subst (λ (m : MergerView). m ≡ record k.merger { floor = m.floor; round = m.round; rounds = m.rounds; noted = m.noted; clock_looks = m.clock_looks })
+            (sym view) refl
+            ∙ ap (λ (m : MergerView). record m {
+              floor = new.merger.floor;
+              round = new.merger.round;
+              rounds = new.merger.rounds;
+              noted = new.merger.noted;
+              clock_looks = new.merger.clock_looks;
+            }) is.keeps.view;
         past = prefix_trans first.past k.past new.past is.keeps.past follows.longer;
         runs = λ word run. look_leaves k new (Snap i) x follows word run ∙ is.keeps.runs word run;
       };
@@ -48,6 +55,9 @@ loop-seat-preserved g c =
       floor = ap (λ (m : MergerView). m.floor) view ∙ next_floor z k.merger i x c.args.before c.args.end found first.merger.round inside frozen stands
           is.fresh low ends
           ∙ (λ j. floor_at (sym seats j) (i + 1) c.args.before c.args.end (sym least_is j));
+      noted = ap (λ (m : MergerView). m.noted) view ∙ next_noted z k.merger i x c.args.before c.args.end found first.merger.round inside frozen stands
+          is.fresh low ends first.merger.noted (subst (λ (n : ℕ). k.merger.noted ≡ noted_at n i found first.merger.noted) seats is.noted)
+          ∙ (λ j. noted_at (sym seats j) (i + 1) (sym least_is j) first.merger.noted);
       rounds = ap (λ (m : MergerView). m.rounds) view ∙ next_rounds z k.merger i x c.args.before c.args.end found first.merger.round inside frozen stands
           is.fresh low ends first.merger.rounds counted
           ∙ ap (λ (n : ℕ). rounds_at n (i + 1) first.merger.rounds) (sym seats);

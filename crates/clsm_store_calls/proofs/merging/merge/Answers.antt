@@ -39,9 +39,16 @@ returns-in_err-merge-clause-stays g c =
     } in
     where_refused (StaysFrozen c.args.merger.now left) c.from_residual.result (record {
       frozen = still_frozen k k' ready.merges
-          (changes.view ∙ ap (λ (m : MergerView). record k.merger { floor = m.floor; round = m.round; rounds = m.rounds }) (sym changes.view)) stays.frozen;
+          (changes.view ∙ ap (λ (m : MergerView). record k.merger {
+            floor = m.floor;
+            round = m.round;
+            rounds = m.rounds;
+            noted = m.noted;
+            clock_looks = m.clock_looks;
+          }) (sym changes.view)) stays.frozen;
       ready = record {
         floor = stays.ready.floor ∙ ap (λ (m : MergerView). m.floor) (sym changes.view);
+        noted = stays.ready.noted ∙ ap (λ (m : MergerView). m.noted) (sym changes.view);
         early = subst (λ (z : Layout). ready.floor ≤ (ready.merges + 1) * z.cells) (sym changes.layout) stays.ready.early;
         room = c.in_err-merge.ensures.room;
         seats = stays.ready.seats ∙ ap (λ (z : Layout). z.seats) (sym changes.layout);
@@ -50,7 +57,7 @@ returns-in_err-merge-clause-stays g c =
           (ap (λ (m : MergerView). m.holds) changes.view)
           (epoch_same k k' c.show_invariant.ensures stays.frozen.frozen stays.frozen.out.free changes)
           (runs_same k k' c.show_invariant.ensures stays.frozen.frozen stays.frozen.out.free changes)
-          ∙ ap (λ (s : FrozenState). record s { floor = ready.floor; rounds = k'.merger.rounds; noted = ready.noted }) stays.same;
+          ∙ ap (λ (s : FrozenState). record s { floor = ready.floor; rounds = k'.merger.rounds; noted = k'.merger.noted }) stays.same;
     })
 
 pub returns-in_err-merge-clause-full : goal.returns-in_err-merge-clause-full

@@ -19,6 +19,7 @@ returns-clause-stays g c =
       frozen = still_frozen k floored c.args.merger.now.merges keeps.view c.requires.frozen;
       ready = record {
         floor = c.take_floor-floor.ensures.floor;
+        noted = c.take_floor-floor.ensures.noted;
         early = subst (λ (z : Layout). c.take_floor-floor.result.0 ≤ (c.args.merger.now.merges + 1) * z.cells) (sym c.take_floor-floor.ensures.of.1) early;
         room = subst (λ (z : Layout). z.cells ≤ vec_capacity c.args.merger.now.walk.group) (sym keeps.layout) c.requires.ready.room;
         seats = c.requires.ready.seats ∙ ap (λ (z : Layout). z.seats) (sym keeps.layout);

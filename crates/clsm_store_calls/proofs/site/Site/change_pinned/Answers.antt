@@ -1,19 +1,27 @@
-use Rattle.std.proofs.Common.{◌∙◌}
-use Rattle.clsm_store_calls.specs.declared.changing.ChangeAttempt.TheVariants.{Done, Full, Lost}
+use Rattle.std.proofs.Common.{◌∙◌, rules}
 use Rattle.clsm_store_calls.proofs.Attempts.{does_later}
-use Rattle.clsm_store_calls.proofs.Giving.{gives_again}
+use Rattle.clsm_store_calls.proofs.Giving.{gave_again, gave_none, gives_done, gives_full}
 use Rattle.clsm_store_calls.proofs.Rest.{full_later, still_trans}
 use Rattle.clsm_store_calls.proofs.site.Site.change_pinned.Goals as goal
 
 pub returns-in-Done-clause-spared : goal.returns-in-Done-clause-spared
 returns-in-Done-clause-spared g c =
-    gives_again c.args.seat.now.knows c.loop.seat.knows c.try_change.new.seat.knows c.args.component c.args.modification.now.key (Done c.in-Done.rmw)
-    c.loop.invariant.still c.in-Done.ensures.changes c.loop.invariant.spared c.try_change.ensures.spared
+    gives_done c.args.seat.now.knows c.loop.seat.knows c.try_change.new.seat.knows c.args.component c.args.modification.now.key c.try_change.result
+    c.loop.invariant.still c.try_change.ensures.changes c.try_change.ensures.spared c.in-Done.rmw c.in-Done.is c.loop.invariant.spared
 
 pub returns-in-Full-clause-spared : goal.returns-in-Full-clause-spared
 returns-in-Full-clause-spared g c =
-    gives_again c.args.seat.now.knows c.loop.seat.knows c.try_change.new.seat.knows c.args.component c.args.modification.now.key (Full c.in-Full.time)
-    c.loop.invariant.still c.in-Full.ensures.changes c.loop.invariant.spared c.try_change.ensures.spared
+    gives_full c.args.seat.now.knows c.loop.seat.knows c.try_change.new.seat.knows c.args.component c.args.modification.now.key c.try_change.result
+    c.loop.invariant.still c.try_change.ensures.changes c.try_change.ensures.spared c.in-Full.time c.in-Full.is c.loop.invariant.spared
+
+pub loop-init : goal.loop-init
+loop-init g c = record {
+  of = c.requires.of;
+  stays = search rules;
+  still = search rules;
+  spared = gave_none c.args.seat.now.knows c.args.modification.now.key c.requires.unread;
+  more = (tt, tt);
+}
 
 pub loop-preserved : goal.loop-preserved
 loop-preserved g c = record {
@@ -24,8 +32,8 @@ loop-preserved g c = record {
     patient = c.try_change.ensures.stays.patient ∙ c.loop.invariant.stays.patient;
   };
   still = still_trans c.args.seat.now.knows c.loop.seat.knows c.try_change.new.seat.knows c.loop.invariant.still c.in-Lost.ensures.changes.still;
-  spared = gives_again c.args.seat.now.knows c.loop.seat.knows c.try_change.new.seat.knows c.args.component c.args.modification.now.key Lost
-      c.loop.invariant.still c.in-Lost.ensures.changes c.loop.invariant.spared c.try_change.ensures.spared;
+  spared = gave_again c.args.seat.now.knows c.loop.seat.knows c.try_change.new.seat.knows c.args.component c.args.modification.now.key c.try_change.result
+      c.loop.invariant.still c.try_change.ensures.changes c.try_change.ensures.spared c.in-Lost.is c.loop.invariant.spared;
   more = (tt, tt);
 }
 

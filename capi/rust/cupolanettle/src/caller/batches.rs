@@ -1,0 +1,53 @@
+//! Batches of writes.
+use super::Caller;
+use crate::batch::Batch;
+use crate::error::{BatchError, Memory};
+use crate::Time;
+
+impl Caller {
+    /// Makes all writes of the batch at one moment: each read has all of them or none. It answers
+    /// the time of the first one; the others follow it, in their order.
+    ///
+    /// It takes room for all of them in one epoch, and memory while it runs. It lets no other write
+    /// run beside it, but every read, and waits as [`put`](Caller::put).
+    ///
+    /// # Errors
+    ///
+    /// [`BatchError`], with nothing written.
+    ///
+    /// ```
+    /// # use cupolanettle::{Batch, Caller, Error, Options};
+    /// /// Gives the rooms of both guests to each other.
+    /// fn swap(caller: &Caller, guests: [u64; 2]) -> Result<(), Error> {
+    ///     let now = caller.snapshot()?;
+    ///     let mut batch = Batch::new();
+    ///     for (guest, other) in [(guests[0], guests[1]), (guests[1], guests[0])] {
+    ///         match now.get(other) {
+    ///             Some(room) => batch.set(guest, room),
+    ///             None => batch.remove(guest),
+    ///         };
+    ///     }
+    ///     caller.batch(&batch)?;
+    ///     Ok(())
+    /// }
+    /// # let store = Options::new().keys(1_000).open()?;
+    /// # let caller = store.caller()?;
+    /// # caller.put(1, 10)?;
+    /// # swap(&caller, [1, 2])?;
+    /// # assert_eq!((caller.get(1), caller.get(2)), (None, Some(10.into())));
+    /// # Ok::<(), Error>(())
+    /// ```
+    pub fn batch(&self, batch: &Batch) -> Result<Time, BatchError> {
+        let writes = batch.len() as Time;
+        if batch.is_empty() {
+            return Err(BatchError::Empty);
+        }
+        if writes > self.home.shared.works.cells() {
+            return Err(BatchError::TooLong);
+        }
+        match self.write(|seat| seat.try_batch(batch.rows()))? {
+            Ok(time) => Ok(self.wrote_all(time, writes)),
+            Err(Memory) => Err(BatchError::Memory),
+        }
+    }
+}
