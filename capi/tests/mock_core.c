@@ -12,6 +12,9 @@
 enum { SEATS = 64, NONE = 0 };
 static const uint64_t LAST_LIMIT = (uint64_t)1 << 62;
 
+/* A compiler may leave out an allocation that nothing uses, unless it cannot know the function. */
+static void *(*volatile allocate)(size_t) = malloc;
+
 /* ---- A store */
 
 struct version {
@@ -314,7 +317,7 @@ uint32_t clsm_core_try_batch(clsm_core_caller *at, const clsm_core_row *rows, si
                              clsm_core_time *answer) {
     struct store *store = store_of(at);
     if (!store) return CLSM_CORE_NO_HANDLE;
-    void *members = malloc(count * sizeof *rows);
+    void *members = allocate(count * sizeof *rows);
     if (!members && count > 0) return CLSM_CORE_MEMORY;
     pthread_mutex_lock(&lock);
     uint32_t code = write_all(store, rows, count, answer);
@@ -490,7 +493,7 @@ uint32_t clsm_core_page(clsm_core_caller *at, const clsm_core_range *ask, clsm_c
                         size_t count, clsm_core_paged *answer) {
     struct seat seat = seat_of(at);
     if (!seat.store) return CLSM_CORE_NO_HANDLE;
-    void *found = malloc(sizeof *rows);
+    void *found = allocate(sizeof *rows);
     if (!found) return CLSM_CORE_MEMORY;
     pthread_mutex_lock(&lock);
     fill(seat, ask, rows, count, answer);
