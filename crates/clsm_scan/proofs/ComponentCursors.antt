@@ -1,4 +1,4 @@
--- The cursors over a component's runs find together what a search of its runs finds.
+-- The walks along a component's runs find together what a search of its runs finds.
 use Rattle.std.proofs.Common.{◌≡◌, ℕ, zero, suc, ◌+◌, ◌/◌, ◌%◌, ◌<◌, ◌≤◌, nat_lt, Bool, true, false, cond, List, refl, sym, ap, ◌∙◌, arith, Option, Some}
 use Rattle.std.proofs.Common.{None, Result, Ok, Err, IfOk}
 use Rattle.std.proofs.lemmas.Bool.{ltb-true}
@@ -8,42 +8,32 @@ use Rattle.clsm_model.proofs.Pages.{or_none}
 use Rattle.clsm_levels.specs.declared.entry.Entry.{Entry}
 use Rattle.clsm_levels.specs.Entry.{first_below}
 use Rattle.clsm_levels.specs.Run.{first_in_runs}
-use Rattle.clsm_law.specs.Worlds.{runs_of}
 use Rattle.clsm_words.specs.declared.known.Known.{Known}
 use Rattle.clsm_words.specs.Knowing.{row_of}
-use Rattle.clsm_runs.specs.Searching.{IsSearchable, run_at, runs_below}
+use Rattle.clsm_runs.specs.Searching.{run_at, runs_below}
 use Rattle.clsm_runs.proofs.NamedRuns.{names_one, names_zero}
-use Rattle.clsm_runs.specs.Passing.{IsPassed}
-use Rattle.clsm_scan.specs.declared.ahead.Ahead.{Ahead}
-use Rattle.clsm_scan.specs.declared.run_cursor.RunCursor.{RunCursor}
 use Rattle.clsm_scan.specs.Collected.{IsCollected}
 use Rattle.clsm_scan.specs.Optional.{If, found_in}
-use Rattle.clsm_scan.specs.Sources.{level_one_cursor, level_zero_cursor, run_walk, unread}
-
--- what a cursor over a run finds, and that it is over one
-abbrev pub run_found : Known → Ahead RunCursor → ℕ → Option Entry
-run_found k c key = first_below (run_at k c.walk.run.place) key c.walk.until
-
-abbrev pub run_over : Known → Ahead RunCursor → Type 0
-run_over k c = IsSearchable k c.walk.run.component c.walk.run.place × If (IsPassed k c.walk.run.component c.walk.run.place) c.walk.last
+use Rattle.clsm_scan.specs.Sources.{found_in_runs, level_one_walk, level_zero_walk, run_walk}
+use Rattle.clsm_scan.specs.Walks.{any_found, any_over}
 
 module _ (k : Known) (component until : ℕ) where
-  pub zero_over : (place : ℕ) → k.view.held ≡ Some component → If (run_over k) (level_zero_cursor component place until)
+  pub zero_over : (place : ℕ) → k.view.held ≡ Some component → If (any_over k) (level_zero_walk component place until)
   zero_over place held = elim (nat_lt place (component % 4)) as (λ (b : Bool). nat_lt place (component % 4) ≡ b
-      → If (run_over k) (cond b (Some (unread (run_walk component place until))) None)) [
+      → If (any_over k) (cond b (Some (run_walk component place until)) None)) [
         | true ↦ λ is. (record { held = held; named = names_zero component place (ltb-true place (component % 4) is) }, tt)
         | false ↦ λ is. tt
       ] refl
 
-  pub one_over : k.view.held ≡ Some component → run_over k (level_one_cursor component until)
+  pub one_over : k.view.held ≡ Some component → any_over k (level_one_walk component until)
   one_over held = (record { held = held; named = names_one component }, tt)
 
   abbrev zero_finds : ℕ → ℕ → ℕ → Option Entry
   zero_finds j place key = cond (nat_lt place j) (first_below (run_at k place) key until) None
 
-  zero_found : (place key : ℕ) → found_in (run_found k) (level_zero_cursor component place until) key ≡ zero_finds (component % 4) place key
-  zero_found place key = elim (nat_lt place (component % 4)) as (λ (b : Bool). found_in (run_found k)
-      (cond b (Some (unread (run_walk component place until))) None) key ≡ cond b (first_below (run_at k place) key until) None) [ true ↦ refl | false ↦ refl ]
+  zero_found : (place key : ℕ) → found_in (any_found k) (level_zero_walk component place until) key ≡ zero_finds (component % 4) place key
+  zero_found place key = elim (nat_lt place (component % 4)) as (λ (b : Bool). found_in (any_found k)
+      (cond b (Some (run_walk component place until)) None) key ≡ cond b (first_below (run_at k place) key until) None) [ true ↦ refl | false ↦ refl ]
 
   abbrev one_finds : ℕ → Option Entry
   one_finds key = first_below (run_at k (3 + component / 4 % 2)) key until
@@ -59,10 +49,10 @@ module _ (k : Known) (component until : ℕ) where
   all_found (suc (suc (suc (suc j)))) key lt = absurd (omega arith)
 
   pub runs_found : (key : ℕ)
-      → or_else (found_in (run_found k) (level_zero_cursor component 2 until) key)
-      (or_else (found_in (run_found k) (level_zero_cursor component 1 until) key)
-      (or_else (found_in (run_found k) (level_zero_cursor component 0 until) key) (run_found k (level_one_cursor component until) key)))
-      ≡ first_in_runs (runs_of (row_of k) component) key until
+      → or_else (found_in (any_found k) (level_zero_walk component 2 until) key)
+      (or_else (found_in (any_found k) (level_zero_walk component 1 until) key)
+      (or_else (found_in (any_found k) (level_zero_walk component 0 until) key) (any_found k (level_one_walk component until) key)))
+      ≡ found_in_runs k component until key
   runs_found key = rw (zero_found 2 key, zero_found 1 key, zero_found 0 key) (all_found (component % 4) key (omega arith))
 
 -- ---- rows of what is found

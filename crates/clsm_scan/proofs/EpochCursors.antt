@@ -1,4 +1,4 @@
--- The cursors over a component's two epochs find together what a search of all its writes finds.
+-- The walks along a component's two epochs find together what a search of all its writes finds.
 use Rattle.std.proofs.Common.{◌≡◌, ℕ, zero, suc, ◌+◌, ◌*◌, ◌<◌, ◌≤◌, ◌⊎◌, ◌++◌, Bool, cond, min, List, length, get_or, sym, ap, ◌∙◌, subst, arith, inl, inr}
 use Rattle.std.proofs.Common.{⊎_elim, append_assoc, add-mul, refl, Option, Some, None}
 use Rattle.std.proofs.lemmas.Bool.{cases_lt, lt-ltb, le-ltb}
@@ -14,21 +14,15 @@ use Rattle.clsm_words.specs.Knowing.{IsHeldEpoch}
 use Rattle.clsm_levels.specs.Yields.{IsNextFrom}
 use Rattle.clsm_words.specs.declared.known.Spot.{Spot}
 use Rattle.clsm_search.specs.declared.list.Epoch.{Epoch}
-use Rattle.clsm_search.specs.Ordering.{IsNewestFrom, MayWalk, found_in_epoch, time_at}
+use Rattle.clsm_search.specs.Ordering.{IsNewestFrom, found_in_epoch, time_at}
 use Rattle.clsm_search.specs.Searching.{slot_in, value_in}
 use Rattle.clsm_search.proofs.EpochWrites.{next_none, next_some}
-use Rattle.clsm_scan.specs.declared.ahead.Ahead.{Ahead}
-use Rattle.clsm_scan.specs.declared.epoch_cursor.EpochCursor.{EpochCursor}
+use Rattle.clsm_scan.specs.declared.any_walk.AnyWalk.{AnyWalk}
+use Rattle.clsm_scan.specs.declared.any_walk.AnyWalk.TheVariants.{AlongEpoch}
 use Rattle.clsm_scan.specs.Optional.{If, found_in}
-use Rattle.clsm_scan.specs.Sources.{MayScan, epoch_cursor, unread}
-use Rattle.clsm_scan.specs.Walking.{IsWriteAt, spot_entry}
-
--- what a cursor over an epoch finds, and that it is over one
-abbrev pub epoch_found : Known → Ahead EpochCursor → ℕ → Option Entry
-epoch_found k c key = found_in_epoch k c.walk.epoch key
-
-abbrev pub epoch_over : Known → Ahead EpochCursor → Type 0
-epoch_over k c = MayWalk k c.walk.epoch × If (IsWriteAt k c.walk.epoch) c.walk.last
+use Rattle.clsm_scan.specs.Sources.{MayScan, epoch_walk}
+use Rattle.clsm_scan.specs.Walking.{spot_entry}
+use Rattle.clsm_scan.specs.Walks.{any_found, any_over}
 
 -- ---- writes from one time to another, split at a time between
 
@@ -65,20 +59,20 @@ module _ (k : Known) (component until number first : ℕ) where
   abbrev cells : ℕ
   cells = k.layout.cells
 
-  abbrev cursor : Option (Ahead EpochCursor)
-  cursor = epoch_cursor component number first cells until
+  abbrev walk : Option AnyWalk
+  walk = epoch_walk component number first cells until
 
-  abbrev begun : Ahead EpochCursor
-  begun = unread (record {
+  abbrev begun : AnyWalk
+  begun = AlongEpoch (record {
     epoch = record { component = component; number = number; first = first; until = min until (first + cells) };
     ahead = None;
     last = None;
   })
 
   pub over_epoch : MayScan k component until → (first < until → (first ≡ number * cells) × ((number ≡ component) ⊎ (number ≡ component + 1)))
-      → If (epoch_over k) cursor
+      → If (any_over k) walk
   over_epoch may is = elim (cases_lt first until) [
-    | inl lt ↦ subst (λ (b : Bool). If (epoch_over k) (cond b (Some begun) None)) (sym (lt-ltb first until lt)) (
+    | inl lt ↦ subst (λ (b : Bool). If (any_over k) (cond b (Some begun) None)) (sym (lt-ltb first until lt)) (
       record {
         held = may.held;
         walked = subst (λ (o : Option ℕ). IsHeldEpoch k.layout o (length k.past) number) (sym may.held) (⊎_elim (λ (same : number ≡ component). inl same)
@@ -89,16 +83,16 @@ module _ (k : Known) (component until number first : ℕ) where
       },
       tt,
     )
-    | inr ge ↦ subst (λ (b : Bool). If (epoch_over k) (cond b (Some begun) None)) (sym (le-ltb first until ge)) tt
+    | inr ge ↦ subst (λ (b : Bool). If (any_over k) (cond b (Some begun) None)) (sym (le-ltb first until ge)) tt
   ]
 
-  -- where the epoch begins below until, the cursor finds its writes below that
-  pub found_begun : (key end : ℕ) → first < until → end ≡ min until (first + cells) → found_in (epoch_found k) cursor key ≡ found_from k.past first key end
-  found_begun key end lt is = ap (λ (b : Bool). found_in (epoch_found k) (cond b (Some begun) None) key) (lt-ltb first until lt)
+  -- where the epoch begins below until, the walk finds its writes below that
+  pub found_begun : (key end : ℕ) → first < until → end ≡ min until (first + cells) → found_in (any_found k) walk key ≡ found_from k.past first key end
+  found_begun key end lt is = ap (λ (b : Bool). found_in (any_found k) (cond b (Some begun) None) key) (lt-ltb first until lt)
       ∙ ap (found_from k.past first key) (sym is)
 
-  pub found_unbegun : (key : ℕ) → until ≤ first → found_in (epoch_found k) cursor key ≡ None
-  found_unbegun key ge = ap (λ (b : Bool). found_in (epoch_found k) (cond b (Some begun) None) key) (le-ltb first until ge)
+  pub found_unbegun : (key : ℕ) → until ≤ first → found_in (any_found k) walk key ≡ None
+  found_unbegun key ge = ap (λ (b : Bool). found_in (any_found k) (cond b (Some begun) None) key) (le-ltb first until ge)
 
 -- ---- both
 
@@ -110,10 +104,10 @@ module _ (k : Known) (component until later first second : ℕ) (may : MayScan k
   from = component * k.layout.cells
 
   abbrev newer : ℕ → Option Entry
-  newer key = found_in (epoch_found k) (epoch_cursor component later second k.layout.cells until) key
+  newer key = found_in (any_found k) (epoch_walk component later second k.layout.cells until) key
 
   abbrev older : ℕ → Option Entry
-  older key = found_in (epoch_found k) (epoch_cursor component component first k.layout.cells until) key
+  older key = found_in (any_found k) (epoch_walk component component first k.layout.cells until) key
 
   twice : (component + 2) * k.layout.cells ≡ from + 2 * k.layout.cells
   twice = add-mul component 2 k.layout.cells

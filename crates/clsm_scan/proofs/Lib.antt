@@ -3,4 +3,6 @@ pub mod Rows
 pub mod Counts
 pub mod ComponentCursors
 pub mod EpochCursors
-pub mod AllCursors
+pub mod Places
+pub mod AddedWalks
+pub mod AllWalks

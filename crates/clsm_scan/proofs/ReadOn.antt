@@ -1,5 +1,5 @@
 -- A cursor that reads on, from look to look.
-use Rattle.std.proofs.Common.{◌≡◌, ◌∙◌, ℕ, Option, refl}
+use Rattle.std.proofs.Common.{◌≡◌, ◌∙◌, ◌≤◌, ℕ, Option, arith, refl}
 use Rattle.clsm_levels.specs.declared.entry.Entry.{Entry}
 use Rattle.clsm_words.specs.declared.known.Known.{Known}
 use Rattle.clsm_words.specs.declared.words.WordTable.{WordTable}
@@ -8,13 +8,14 @@ use Rattle.clsm_words.specs.Plays.{IsSeatOf}
 use Rattle.clsm_words.specs.Seats.{RawState}
 use Rattle.clsm_words.proofs.Keeps.{aside_trans, looks_none}
 
--- by looks it came to stand at this key: it is over what it was over, and finds what it found
+-- by looks it came to stand at this key: it is over what it was over, and finds what it found from
+-- there on
 pub record HasReadTo {C : Type 0} (IsOver : Known → C → Type 0) (found : Known → C → ℕ → Option Entry) (StandsAt : Known → C → ℕ → Type 0)
     (words : WordTable) (first seat : RawState) (begun cursor : C) (from : ℕ) : Type 0 where
   pub of : IsSeatOf words seat
   pub looks : LooksAside first.knows seat.knows
   pub over : IsOver seat.knows cursor
-  pub same : (key : ℕ) → found seat.knows cursor key ≡ found first.knows begun key
+  pub same : (key : ℕ) → from ≤ key → found seat.knows cursor key ≡ found first.knows begun key
   pub stands : StandsAt seat.knows cursor from
 
 module _ {C : Type 0} (IsOver : Known → C → Type 0) (found : Known → C → ℕ → Option Entry) (StandsAt : Known → C → ℕ → Type 0) (words : WordTable) where
@@ -24,7 +25,7 @@ module _ {C : Type 0} (IsOver : Known → C → Type 0) (found : Known → C →
     of = of;
     looks = record { looks = looks_none seat.knows; trail = refl };
     over = over;
-    same = λ key. refl;
+    same = λ key le. refl;
     stands = here;
   }
 
@@ -32,13 +33,13 @@ module _ {C : Type 0} (IsOver : Known → C → Type 0) (found : Known → C →
   pub read_on : ((k k' : Known) (s : C) → LooksAside k k' → IsOver k s → IsOver k' s)
       → ((k k' : Known) (s : C) → LooksAside k k' → IsOver k s → (key : ℕ) → found k' s key ≡ found k s key)
       → ((k k' : Known) (s : C) (from : ℕ) → LooksAside k k' → IsOver k s → StandsAt k s from → StandsAt k' s from)
-      → (first a b c : RawState) (x y z : C) (from to : ℕ) → HasReadTo IsOver found StandsAt words first a x y from
-      → LooksAside a.knows b.knows → IsOver b.knows z → ((key : ℕ) → found b.knows z key ≡ found a.knows y key) → StandsAt b.knows z to
+      → (first a b c : RawState) (x y z : C) (from to : ℕ) → from ≤ to → HasReadTo IsOver found StandsAt words first a x y from
+      → LooksAside a.knows b.knows → IsOver b.knows z → ((key : ℕ) → to ≤ key → found b.knows z key ≡ found a.knows y key) → StandsAt b.knows z to
       → IsSeatOf words c → LooksAside b.knows c.knows → HasReadTo IsOver found StandsAt words first c x z to
-  read_on over_stays found_stays stands_stays first a b c x y z from to before looks over same stands of aside = record {
+  read_on over_stays found_stays stands_stays first a b c x y z from to le before looks over same stands of aside = record {
     of = of;
     looks = aside_trans first.knows b.knows c.knows (aside_trans first.knows a.knows b.knows before.looks looks) aside;
     over = over_stays b.knows c.knows z aside over;
-    same = λ key. found_stays b.knows c.knows z aside over key ∙ same key ∙ before.same key;
+    same = λ key le'. found_stays b.knows c.knows z aside over key ∙ same key le' ∙ before.same key (omega arith);
     stands = stands_stays b.knows c.knows z to aside over stands;
   }

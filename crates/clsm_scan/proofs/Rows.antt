@@ -30,11 +30,11 @@ other_below k j lt = grind (arith, nat_tests)
 other_above : (k j : ℕ) → j < k → (k == j) ≡ false
 other_above k j lt = grind (arith, nat_tests)
 
-module _ (found found' : ℕ → Option Entry) (from sought : ℕ) (same : (k : ℕ) → found' k ≡ found k) (passed : ArePassed (left_at found) from sought) where
+module _ (found found' : ℕ → Option Entry) (from sought : ℕ) (same : (k : ℕ) → sought ≤ k → found' k ≡ found k) (passed : ArePassed (left_at found) from sought) where
   pass_empty : (to : ℕ) → AreEmpty found' sought to → ArePassed (left_at found) from to
   pass_empty to empty = λ k le lt. elim (cases_lt k sought) [
     | inl before ↦ passed k le before
-    | inr here ↦ ap value_of (sym (same k) ∙ empty k here lt)
+    | inr here ↦ ap value_of (sym (same k here) ∙ empty k here lt)
   ]
 
   pub none_left : (hi : ℕ) → IsNextFrom found' sought None → IsNextRow (left_at found) from hi None
@@ -44,7 +44,7 @@ module _ (found found' : ℕ → Option Entry) (from sought : ℕ) (same : (k : 
   none_before hi e next lt = λ k le until. pass_empty e.key next.2 k le (omega arith)
 
   value_here : (e : Entry) (written : Option (List ℕ)) → IsNextFrom found' sought (Some e) → e.value ≡ written → left_at found e.key ≡ written
-  value_here e written next is = ap value_of (sym (same e.key) ∙ next.1) ∙ is
+  value_here e written next is = ap value_of (sym (same e.key next.0) ∙ next.1) ∙ is
 
   pub row_here : (hi : ℕ) (e : Entry) (words : List ℕ) → IsNextFrom found' sought (Some e) → from ≤ sought → e.key ≤ hi → e.value ≡ Some words
       → IsNextRow (left_at found) from hi (Some (e.key, words))
@@ -186,10 +186,11 @@ module _ (value : ℕ → Option (List ℕ)) (lo : ℕ) where
       all_rows (row.0 + 1) hi (rows ++ row ∷ []) (rows_taken from hi rows row are le next) (λ k above below. absurd_order k above (omega arith))
       (beyond_pushed hi rows row next.1 beyond)
 
-pub next_row_same : (value value' : ℕ → Option (List ℕ)) (from hi : ℕ) (o : Option Pair) → ((k : ℕ) → value' k ≡ value k) → IsNextRow value' from hi o
+pub next_row_same : (value value' : ℕ → Option (List ℕ)) (from hi : ℕ) (o : Option Pair) → ((k : ℕ) → from ≤ k → value' k ≡ value k) → IsNextRow value' from hi o
     → IsNextRow value from hi o
-next_row_same value value' from hi None same next = λ k above below. sym (same k) ∙ next k above below
-next_row_same value value' from hi (Some row) same next = (next.0, next.1, sym (same row.0) ∙ next.2, λ k above below. sym (same k) ∙ next.3 k above below)
+next_row_same value value' from hi None same next = λ k above below. sym (same k above) ∙ next k above below
+next_row_same value value' from hi (Some row) same next =
+    (next.0, next.1, sym (same row.0 next.0) ∙ next.2, λ k above below. sym (same k above) ∙ next.3 k above below)
 
 -- where there are not as many as may be, one more is not too many
 pub not_full : (max : Option ℕ) (n : ℕ) → is_full max n ≡ false → IsAtMost (n + 1) max

@@ -1,5 +1,5 @@
--- What was read of a cursor, and how two of them make one.
-use Rattle.std.specs.Prelude.{ℕ, Bool, true, false, nat_lt, is_some, List, [], ◌∷◌, Option, Some, None}
+-- What was read of a cursor.
+use Rattle.std.specs.Prelude.{ℕ, Bool, is_some, List, [], ◌∷◌, Option, Some, None}
 use Rattle.clsm_model.specs.Map.{Pair}
 use Rattle.clsm_levels.specs.declared.entry.Entry.{Entry}
 use Rattle.clsm_levels.specs.Entry.{value_of}
@@ -22,9 +22,3 @@ rows_of (Some e) = row_of e.key e.value
 -- the entry has a value
 abbrev pub has_value : Option Entry → Bool
 has_value o = is_some (value_of o)
-
--- of two keys the older cursor's is the lesser, or the only one
-abbrev pub is_older : Option ℕ → Option ℕ → Bool
-is_older newer None = false
-is_older None (Some other) = true
-is_older (Some one) (Some other) = nat_lt other one

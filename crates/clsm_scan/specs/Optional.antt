@@ -1,38 +1,29 @@
--- What holds of a cursor, where there is one.
+-- What holds of something, where it is there.
 use Rattle.std.specs.Prelude.{◌≡◌, ℕ, Option, Some, None, refl}
 use Rattle.clsm_levels.specs.declared.entry.Entry.{Entry}
 
--- what the cursor finds: nothing, where there is none
-abbrev pub found_in : {C : Type 0} → (C → ℕ → Option Entry) → Option C → ℕ → Option Entry
+-- what the walk finds: nothing, where there is none
+abbrev pub found_in : {W : Type 0} → (W → ℕ → Option Entry) → Option W → ℕ → Option Entry
 found_in found None key = None
-found_in found (Some c) key = found c key
+found_in found (Some w) key = found w key
 
--- what was read of the cursor: nothing, where there is none
-abbrev pub last_in : {C : Type 0} → (C → Option Entry) → Option C → Option Entry
+-- what the walk came by last: nothing, where there is none
+abbrev pub last_in : {W : Type 0} → (W → Option Entry) → Option W → Option Entry
 last_in last None = None
-last_in last (Some c) = last c
+last_in last (Some w) = last w
 
--- it holds of the cursor, if there is one
-abbrev pub If : {C : Type 0} → (C → Type 0) → Option C → Type 0
+-- it holds of what is there
+abbrev pub If : {W : Type 0} → (W → Type 0) → Option W → Type 0
 If holds None = Unit {0}
-If holds (Some c) = holds c
+If holds (Some w) = holds w
 
--- ---- what holds of each cursor holds of one that may be missing
+-- ---- what holds of each holds of one that may be missing
 
-pub if_so : {C : Type 0} (P Q : C → Type 0) (o : Option C) → ((c : C) → P c → Q c) → If P o → If Q o
+pub if_so : {W : Type 0} (P Q : W → Type 0) (o : Option W) → ((w : W) → P w → Q w) → If P o → If Q o
 if_so P Q None each holds = holds
-if_so P Q (Some c) each holds = each c holds
+if_so P Q (Some w) each holds = each w holds
 
-pub if_both : {C : Type 0} (R P Q : C → Type 0) (o : Option C) → ((c : C) → R c → P c → Q c) → If R o → If P o → If Q o
-if_both R P Q None each over holds = holds
-if_both R P Q (Some c) each over holds = each c over holds
-
-pub found_same : {C : Type 0} (found found' : C → ℕ → Option Entry) (R : C → Type 0) (o : Option C) → ((c : C) → R c → (key : ℕ) → found' c key ≡ found c key)
+pub found_same : {W : Type 0} (found found' : W → ℕ → Option Entry) (R : W → Type 0) (o : Option W) → ((w : W) → R w → (key : ℕ) → found' w key ≡ found w key)
     → If R o → (key : ℕ) → found_in found' o key ≡ found_in found o key
 found_same found found' R None each over key = refl
-found_same found found' R (Some c) each over key = each c over key
-
-pub last_same : {C : Type 0} (head head' : C → Option Entry) (R : C → Type 0) (o : Option C) → ((c : C) → R c → head' c ≡ head c) → If R o
-    → last_in head' o ≡ last_in head o
-last_same head head' R None each over = refl
-last_same head head' R (Some c) each over = each c over
+found_same found found' R (Some w) each over key = each w over key

@@ -1,5 +1,5 @@
 //! The rows of a range of keys, by a cursor.
-ghost use Rattle.std.specs.Prelude.{◌≡◌, ℕ, ◌+◌, IfOk, IfSome};
+ghost use Rattle.std.specs.Prelude.{◌≡◌, ℕ, ◌+◌, ◌≤◌, IfOk, IfSome};
 ghost use Rattle.clsm_words.specs.Keeping.{LooksAside};
 ghost use Rattle.clsm_words.specs.Plays.{IsSeatOf};
 ghost use Rattle.clsm_scan.specs.Collected.{IsCollected, IsNextKey, is_full, left_at};
@@ -42,8 +42,8 @@ pub(crate) fn next_key<C: Cursor, P: Pace>(
     ensures of { IsSeatOf words.now seat.new }
     ensures looks { LooksAside seat.old.knows seat.new.knows }
     ensures over { C.is_over seat.new.knows cursor.new }
-    ensures same { (k : ℕ) → C.found seat.new.knows cursor.new k ≡ C.found seat.old.knows cursor.old k }
     ensures next { IsNextKey (left_at (C.found seat.old.knows cursor.old)) from hi (C.last seat.new.knows cursor.new) result }
+    ensures same { IfSome result (λ key. (k : ℕ) → key + 1 ≤ k → C.found seat.new.knows cursor.new k ≡ C.found seat.old.knows cursor.old k) }
     ensures stands { IfSome result (λ key. C.stands seat.new.knows cursor.new (key + 1)) }
 {
     let mut sought = from;

@@ -2,9 +2,6 @@
 ghost use Rattle.std.specs.Prelude.{◌≡◌, None};
 ghost use Rattle.clsm_search.specs.Ordering.{MayWalk, StandsAt, found_in_epoch};
 ghost use Rattle.clsm_search.proofs.Orders.{walk_on};
-ghost use Rattle.clsm_search.specs.declared.list.Epoch.{Epoch};
-ghost use Rattle.clsm_words.specs.declared.known.Known.{Known};
-ghost use Rattle.clsm_scan.specs.Heads.{key_of};
 ghost use Rattle.clsm_scan.specs.Optional.{If, if_so};
 ghost use Rattle.clsm_scan.specs.Walking.{IsWriteAt, found_on, spot_entry, spot_same, stands_later, stands_on, write_on};
 
@@ -37,17 +34,6 @@ impl EpochCursor {
     }
 }
 
-/// The key of the spot, if there is one.
-#[inline(always)]
-fn key_of(spot: Option<Spot>) -> Option<u64>
-    ensures { (k : Known) (e : Epoch) → result ≡ key_of (spot_entry k e spot) }
-{
-    match spot {
-        Some(spot) => Some(spot.key),
-        None => None,
-    }
-}
-
 impl Source for EpochCursor {
     ghost found = { λ k w key. found_in_epoch k w.epoch key };
 
@@ -56,11 +42,6 @@ impl Source for EpochCursor {
     ghost stands = { λ k w from. StandsAt k w.epoch from w.ahead };
 
     ghost last = { λ k w. spot_entry k w.epoch w.last };
-
-    fn seek<P: Pace>(&mut self, words: &Words<P>, seat: &mut RawSeat, key: u64) {
-        self.ahead = seek(words, seat, &self.epoch, key);
-        self.last = None;
-    }
 
     #[inline(always)]
     fn has_value<P: Pace>(&self, words: &Words<P>, seat: &mut RawSeat) -> bool {
@@ -93,9 +74,23 @@ impl Source for EpochCursor {
 }
 
 impl Walk for EpochCursor {
+    fn seek<P: Pace>(&mut self, words: &Words<P>, seat: &mut RawSeat, key: u64) {
+        self.ahead = seek(words, seat, &self.epoch, key);
+        self.last = None;
+    }
+
     #[inline(always)]
     fn next<P: Pace>(&mut self, words: &Words<P>, seat: &mut RawSeat, from: u64) -> Option<u64> {
-        self.last = newest_from(words, seat, &self.epoch, &mut self.ahead, from);
-        key_of(self.last)
+        // (place and key are written word by word: a copy of both would wait for them)
+        match newest_from(words, seat, &self.epoch, &mut self.ahead, from) {
+            Some(Spot { place, key }) => {
+                self.last = Some(Spot { place, key });
+                Some(key)
+            }
+            None => {
+                self.last = None;
+                None
+            }
+        }
     }
 }

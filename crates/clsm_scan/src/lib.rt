@@ -1,12 +1,12 @@
-//! Scans: cursors over the epochs and the runs of a held component, merged by rising key.
+//! Scans: walks along the epochs and the runs of a held component, merged by rising key in one flat
+//! list.
 #![tactic(auto)]
 
-mod ahead;
+mod any_walk;
 mod collecting;
 mod cursor;
 mod epoch_cursor;
 mod merged;
-mod optional;
 mod run_cursor;
 mod scanning;
 mod sink;
@@ -14,11 +14,11 @@ mod source;
 mod visiting;
 mod walk;
 
-pub use ahead::{Ahead, Head};
+pub use any_walk::AnyWalk;
 pub use collecting::{Collected, KeyRange, collect};
 pub use cursor::Cursor;
 pub use epoch_cursor::EpochCursor;
-pub use merged::Merged;
+pub use merged::{Merged, Stream};
 pub use run_cursor::RunCursor;
 pub use scanning::{ReadPoint, scan, visit};
 pub use sink::Sink;

@@ -61,11 +61,6 @@ impl Source for RunCursor {
 
     ghost last = { λ k w. passed_entry k w.run.place w.last };
 
-    fn seek<P: Pace>(&mut self, words: &Words<P>, seat: &mut RawSeat, key: u64) {
-        self.position = seek(words, seat, self.run, key, self.until);
-        self.last = None;
-    }
-
     #[inline(always)]
     fn has_value<P: Pace>(&self, _words: &Words<P>, _seat: &mut RawSeat) -> bool {
         match self.last {
@@ -98,6 +93,11 @@ impl Source for RunCursor {
 }
 
 impl Walk for RunCursor {
+    fn seek<P: Pace>(&mut self, words: &Words<P>, seat: &mut RawSeat, key: u64) {
+        self.position = seek(words, seat, self.run, key, self.until);
+        self.last = None;
+    }
+
     #[inline(always)]
     fn next<P: Pace>(&mut self, words: &Words<P>, seat: &mut RawSeat, from: u64) -> Option<u64> {
         let until = self.until;

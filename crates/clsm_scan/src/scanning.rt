@@ -1,17 +1,16 @@
 //! The rows of a range of keys in a held component.
-ghost use Rattle.std.specs.Prelude.{◌≡◌, ◌<◌, ℕ, IfOk, Some};
-ghost use Rattle.clsm_words.specs.declared.known.Known.{Known};
+ghost use Rattle.std.specs.Prelude.{◌≡◌, ◌≤◌, [], length, IfOk, Some};
 ghost use Rattle.clsm_words.specs.Keeping.{LooksAside};
 ghost use Rattle.clsm_words.specs.Plays.{IsSeatOf};
 ghost use Rattle.clsm_scan.specs.Collected.{IsCollected, IsVisit, left_at};
-ghost use Rattle.clsm_scan.specs.Sources.{MayScan, epoch_cursor, found_in_component, level_zero_cursor};
+ghost use Rattle.clsm_scan.specs.Sources.{MayScan, epoch_walk, found_in_component, found_in_epochs, found_in_runs, level_one_walk, level_zero_walk};
+ghost use Rattle.clsm_scan.specs.Streams.{AreAhead, AreOver, HasAdded};
 
-use crate::ahead::Ahead;
+use crate::any_walk::AnyWalk;
 use crate::collecting::{Collected, KeyRange, collect};
 use crate::epoch_cursor::EpochCursor;
 use crate::merged::Merged;
 use crate::run_cursor::RunCursor;
-use crate::source::Source;
 use crate::visiting::{Bounds, KeyCount, Visitor, visit_keys};
 use clsm_law::level_one_place;
 use clsm_levels::level_zero_runs;
@@ -21,29 +20,13 @@ use clsm_search::Epoch;
 use clsm_words::{Pace, RawSeat, Words};
 use std::alloc::Global;
 
-/// Cursors over the runs of a component, the newest first: those of level 0, as far as the
-/// component has them, and that of level 1.
-type Runs = Merged<
-    Option<Ahead<RunCursor>>,
-    Merged<Option<Ahead<RunCursor>>, Merged<Option<Ahead<RunCursor>>, Ahead<RunCursor>>>,
->;
-
-/// Cursors over all of a component, the newest first: its later epoch and the one before, as far as
-/// they begin below the time of the scan, and its runs.
-type Sources = Merged<Option<Ahead<EpochCursor>>, Merged<Option<Ahead<EpochCursor>>, Runs>>;
-
-/// The cursor over the epoch's writes below the time, if it begins below that.
-fn epoch_below(
-    component: u64,
-    number: u64,
-    first: Time,
-    cells: u64,
-    until: Time,
-) -> Option<Ahead<EpochCursor>>
-    ensures { result ≡ epoch_cursor component number first cells until }
+/// The walk along the epoch's writes below the time, if it begins below that.
+#[inline(always)]
+fn epoch_below(component: u64, number: u64, first: Time, cells: u64, until: Time) -> Option<AnyWalk>
+    ensures { result ≡ epoch_walk component number first cells until }
 {
     if first < until {
-        Some(Ahead::new(EpochCursor::new(Epoch {
+        Some(AnyWalk::AlongEpoch(EpochCursor::new(Epoch {
             component,
             number,
             first,
@@ -54,36 +37,26 @@ fn epoch_below(
     }
 }
 
-/// The cursor over the run at the place of level 0, if the component names it.
-fn level_zero(component: u64, place: u64, until: Time) -> Option<Ahead<RunCursor>>
-    ensures { result ≡ level_zero_cursor component place until }
+/// The walk along the run at the place of level 0, if the component names it.
+#[inline(always)]
+fn level_zero(component: u64, place: u64, until: Time) -> Option<AnyWalk>
+    ensures { result ≡ level_zero_walk component place until }
 {
     if place < level_zero_runs(component) {
-        Some(Ahead::new(RunCursor::new(HeldRun { component, place }, until)))
+        let run = HeldRun { component, place };
+        Some(AnyWalk::AlongRun(RunCursor::new(run, until)))
     } else {
         None
     }
 }
 
-/// The cursors over the component's epochs and its runs.
-fn sources<P: Pace>(words: &Words<P>, component: u64, until: Time) -> Sources
-    ensures over { (k : Known) → k.layout ≡ words.now.layout → MayScan k component until → ⟦<Sources as Source>⟧.is_over k result }
-    ensures found { (k : Known) → k.layout ≡ words.now.layout → MayScan k component until → (key : ℕ)
-        → ⟦<Sources as Source>⟧.found k result key ≡ found_in_component k component until key }
+/// The walk along the run of level 1.
+#[inline(always)]
+fn level_one(component: u64, until: Time) -> AnyWalk
+    ensures { result ≡ level_one_walk component until }
 {
-    let cells = words.cells();
-    let first = component.saturating_mul(cells);
-    let second = first.saturating_add(cells);
-    let later = component.saturating_add(1);
     let place = level_one_place(component);
-    let oldest = Merged::new(
-        level_zero(component, 0, until),
-        Ahead::new(RunCursor::new(HeldRun { component, place }, until)),
-    );
-    let older = Merged::new(level_zero(component, 1, until), oldest);
-    let runs = Merged::new(level_zero(component, 2, until), older);
-    let earlier = Merged::new(epoch_below(component, component, first, cells, until), runs);
-    Merged::new(epoch_below(component, later, second, cells, until), earlier)
+    AnyWalk::AlongRun(RunCursor::new(HeldRun { component, place }, until))
 }
 
 /// Where a scan reads: the component that the seat holds, below this time.
@@ -93,20 +66,74 @@ pub struct ReadPoint {
     pub until: Time,
 }
 
-/// The cursor over what the point reads, from this key on.
-#[inline]
-fn cursor_from<P: Pace>(words: &Words<P>, seat: &mut RawSeat, point: ReadPoint, key: u64) -> Sources
+/// Adds the walks along the component's epochs from the key on, the later one first.
+#[inline(always)]
+fn add_epochs<P: Pace>(
+    words: &Words<P>,
+    seat: &mut RawSeat,
+    point: ReadPoint,
+    key: u64,
+    merged: &mut Merged,
+)
     requires of { IsSeatOf words.now seat.old }
     requires may { MayScan seat.old.knows point.component point.until }
+    requires none { merged.old.streams.items ≡ [] }
     ensures of { IsSeatOf words.now seat.new }
-    ensures looks { LooksAside seat.old.knows seat.new.knows }
-    ensures over { ⟦<Sources as Source>⟧.is_over seat.new.knows result }
-    ensures stands { ⟦<Sources as Source>⟧.stands seat.new.knows result key }
-    ensures found { (k : ℕ) → ⟦<Sources as Source>⟧.found seat.new.knows result k ≡ found_in_component seat.old.knows point.component point.until k }
+    ensures room { length merged.new.streams.items ≤ 2 }
+    ensures added { HasAdded key seat.old.knows merged.old seat.new.knows merged.new (found_in_epochs seat.old.knows point.component point.until) }
 {
-    let mut cursor = sources(words, point.component, point.until);
-    cursor.seek(words, seat, key);
-    cursor
+    let ReadPoint { component, until } = point;
+    let cells = words.cells();
+    let first = component.saturating_mul(cells);
+    let second = first.saturating_add(cells);
+    let number = component.saturating_add(1);
+    let later = epoch_below(component, number, second, cells, until);
+    merged.add(words, seat, later, key);
+    let earlier = epoch_below(component, component, first, cells, until);
+    merged.add(words, seat, earlier, key);
+}
+
+/// Adds the walks along the component's runs from the key on, the newest first.
+#[inline(always)]
+fn add_runs<P: Pace>(
+    words: &Words<P>,
+    seat: &mut RawSeat,
+    point: ReadPoint,
+    key: u64,
+    merged: &mut Merged,
+)
+    requires of { IsSeatOf words.now seat.old }
+    requires held { seat.old.knows.view.held ≡ Some point.component }
+    requires room { length merged.old.streams.items ≤ 2 }
+    requires over { AreOver seat.old.knows merged.old.streams.items }
+    requires ahead { AreAhead seat.old.knows key merged.old.hi merged.old.streams.items }
+    ensures of { IsSeatOf words.now seat.new }
+    ensures added { HasAdded key seat.old.knows merged.old seat.new.knows merged.new (found_in_runs seat.old.knows point.component point.until) }
+{
+    let ReadPoint { component, until } = point;
+    merged.add(words, seat, level_zero(component, 2, until), key);
+    merged.add(words, seat, level_zero(component, 1, until), key);
+    merged.add(words, seat, level_zero(component, 0, until), key);
+    merged.add(words, seat, Some(level_one(component, until)), key);
+}
+
+/// Adds the walks along all that the point reads, from the key on.
+#[inline]
+fn add_all<P: Pace>(
+    words: &Words<P>,
+    seat: &mut RawSeat,
+    point: ReadPoint,
+    key: u64,
+    merged: &mut Merged,
+)
+    requires of { IsSeatOf words.now seat.old }
+    requires may { MayScan seat.old.knows point.component point.until }
+    requires none { merged.old.streams.items ≡ [] }
+    ensures of { IsSeatOf words.now seat.new }
+    ensures added { HasAdded key seat.old.knows merged.old seat.new.knows merged.new (found_in_component seat.old.knows point.component point.until) }
+{
+    add_epochs(words, seat, point, key, merged);
+    add_runs(words, seat, point, key, merged);
 }
 
 /// The rows of all keys of the range at the point, by rising key: no more than the range gives. It
@@ -126,8 +153,9 @@ pub fn scan<P: Pace>(
     ensures rows { IfOk result (λ all. IsCollected (left_at (found_in_component seat.old.knows point.component point.until))
         range.lo range.hi range.max all.rows.items all.more) }
 {
-    let mut cursor = cursor_from(words, seat, point, range.lo);
-    collect(words, seat, alloc, &mut cursor, range)
+    let mut merged = Merged::new(range.hi);
+    add_all(words, seat, point, range.lo, &mut merged);
+    collect(words, seat, alloc, &mut merged, range)
 }
 
 /// Has the visitor take the rows of all keys within the bounds at the point, by rising key. It
@@ -149,6 +177,7 @@ pub fn visit<P: Pace, V: Visitor>(
     ensures visits { IsVisit V.takes (left_at (found_in_component seat.old.knows point.component point.until))
         bounds.lo bounds.hi result.keys result.first visitor.old visitor.new }
 {
-    let mut cursor = cursor_from(words, seat, point, bounds.lo);
-    visit_keys(words, seat, &mut cursor, bounds, visitor)
+    let mut merged = Merged::new(bounds.hi);
+    add_all(words, seat, point, bounds.lo, &mut merged);
+    visit_keys(words, seat, &mut merged, bounds, visitor)
 }

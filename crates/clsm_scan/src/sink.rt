@@ -30,7 +30,12 @@ impl Sink for Vec<(u64, Value)> {
 
     #[inline(always)]
     fn take(&mut self, key: u64, value: Value) -> Result<(), Memory> {
-        match self.push((key, value)) {
+        let pushed = match value.words() {
+            // (one word is written where it stays, and not copied with the room for others)
+            [word] => self.push((key, Value::from(*word))),
+            _ => self.push((key, value)),
+        };
+        match pushed {
             Ok(()) => Ok(()),
             Err(_) => Err(Memory),
         }

@@ -21,16 +21,6 @@ pub trait Source {
 
     ghost last: { Known → Self → Option Entry };
 
-    /// Goes to the key: what it comes by from there on is still ahead.
-    fn seek<P: Pace>(&mut self, words: &Words<P>, seat: &mut RawSeat, key: u64)
-        requires of { IsSeatOf words.now seat.old }
-        requires over { is_over seat.old.knows self.old }
-        ensures of { IsSeatOf words.now seat.new }
-        ensures looks { LooksAside seat.old.knows seat.new.knows }
-        ensures over { is_over seat.new.knows self.new }
-        ensures same { (k : ℕ) → found seat.new.knows self.new k ≡ found seat.old.knows self.old k }
-        ensures stands { stands seat.new.knows self.new key };
-
     /// Whether the write that it came by last has a value, which a removal has not.
     fn has_value<P: Pace>(&self, words: &Words<P>, seat: &mut RawSeat) -> bool
         requires of { IsSeatOf words.now seat.old }

@@ -10,6 +10,16 @@ use clsm_words::{Pace, RawSeat, Words};
 
 /// A walk along writes of a held component, which passes each write once.
 pub trait Walk: Source {
+    /// Goes to the key: what it comes by from there on is still ahead.
+    fn seek<P: Pace>(&mut self, words: &Words<P>, seat: &mut RawSeat, key: u64)
+        requires of { IsSeatOf words.now seat.old }
+        requires over { Self.is_over seat.old.knows self.old }
+        ensures of { IsSeatOf words.now seat.new }
+        ensures looks { LooksAside seat.old.knows seat.new.knows }
+        ensures over { Self.is_over seat.new.knows self.new }
+        ensures same { (k : ℕ) → Self.found seat.new.knows self.new k ≡ Self.found seat.old.knows self.old k }
+        ensures stands { Self.stands seat.new.knows self.new key };
+
     /// The key of the newest write below its time of the least key from `from` on that has one. It
     /// goes on behind that key. It takes no memory, and reads no value.
     fn next<P: Pace>(&mut self, words: &Words<P>, seat: &mut RawSeat, from: u64) -> Option<u64>

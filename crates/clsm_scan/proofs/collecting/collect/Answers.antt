@@ -29,7 +29,7 @@ returns-then-is_full-clause-rows g c =
     let before = c.loop-key.invariant in
     let old = c.loop-key.rows.items in
     let here = c.in-Some.ensures.next in
-    let next = next_row_same value value' c.loop-key.from c.args.range.hi (Some (c.in-Some.key, here.words)) (λ k. ap value_of (before.read.same k))
+    let next = next_row_same value value' c.loop-key.from c.args.range.hi (Some (c.in-Some.key, here.words)) (λ k above. ap value_of (before.read.same k above))
     here.next in
     let full : is_full c.args.range.max (length old) ≡ true = ap (is_full c.args.range.max) (sym (c.len.ensures ∙ c.loop-key.rows.ok.0)) ∙ sym c.is_full.ensures
     ∙ c.if-is_full.true in
@@ -56,7 +56,7 @@ most g c =
 next : (g : Over) (c : After-checked_add g) → IsNextRow (value g c) c.loop-key.from c.args.range.hi (Some (row g c))
 next g c =
     let now = left_at (g.C.Source.found c.loop-key.seat.knows c.loop-key.cursor) in
-    next_row_same (value g c) now c.loop-key.from c.args.range.hi (Some (row g c)) (λ k. ap value_of (c.loop-key.invariant.read.same k))
+    next_row_same (value g c) now c.loop-key.from c.args.range.hi (Some (row g c)) (λ k above. ap value_of (c.loop-key.invariant.read.same k above))
     c.in-Some.ensures.next.next
 
 pub returns-in_default-checked_add-clause-rows : goal.returns-in_default-checked_add-clause-rows
@@ -86,7 +86,7 @@ loop-key-preserved g c =
           c.next_key.new.cursor) behind
           (read_on g.C.Source.is_over g.C.Source.found g.C.Source.stands c.args.words.now g.met.C.Source.over_stays g.met.C.Source.found_stays
           g.met.C.Source.stands_stays c.args.seat.now c.loop-key.seat c.next_key.new.seat c.give.new.seat c.args.cursor.now c.loop-key.cursor
-          c.next_key.new.cursor c.loop-key.from (c.in-Some.key + 1) before.read read.looks read.over read.same c.in-Some.ensures.stands
+          c.next_key.new.cursor c.loop-key.from (c.in-Some.key + 1) (let later = row_next.0 in omega arith) before.read read.looks read.over c.in-Some.ensures.same c.in-Some.ensures.stands
           c.in_ok-give.ensures.of c.give.ensures.looks);
       later = let later = row_next.0 in omega arith;
       rows = subst (AreRowsTo (value g turn) c.args.range.lo c.in-Some-checked_add.behind) (sym (put g turn))

@@ -23,7 +23,7 @@ turn g c =
     let le = later g c in
     read_on g.C.Source.is_over g.C.Source.found g.C.Source.stands c.args.words.now g.met.C.Source.over_stays g.met.C.Source.found_stays
     g.met.C.Source.stands_stays c.args.seat.now c.loop-sought.seat c.read.new.seat c.has_value.new.seat c.args.cursor.now c.loop-sought.cursor c.read.new.self
-    c.loop-sought.sought (c.in-Some.key + 1) c.loop-sought.invariant.read read.looks read.over read.same
+    c.loop-sought.sought (c.in-Some.key + 1) (omega arith) c.loop-sought.invariant.read read.looks read.over (λ k above. read.same k (omega arith))
     (g.met.C.Source.stands_later c.read.new.seat.knows c.read.new.self c.loop-sought.sought (c.in-Some.key + 1) (omega arith) read.stands)
     c.has_value.ensures.of c.has_value.ensures.looks
 
@@ -48,9 +48,6 @@ returns-then-has_value-clause-stands g c = (turn g (goal.at.returns-then-has_val
 
 pub returns-in_default-checked_add-clause-over : goal.returns-in_default-checked_add-clause-over
 returns-in_default-checked_add-clause-over g c = (turn g (goal.at.returns-in_default-checked_add-clause-over g c).After-has_value).over
-
-pub returns-in_default-checked_add-clause-same : goal.returns-in_default-checked_add-clause-same
-returns-in_default-checked_add-clause-same g c = (turn g (goal.at.returns-in_default-checked_add-clause-same g c).After-has_value).same
 
 pub loop-sought-preserved : goal.loop-sought-preserved
 loop-sought-preserved g c =

@@ -2,6 +2,7 @@ use Rattle.std.proofs.Common.{sym, ap, ℕ, ◌≤◌}
 use Rattle.clsm_levels.specs.Entry.{value_of}
 use Rattle.clsm_scan.specs.Collected.{IsCollected, left_at}
 use Rattle.clsm_scan.specs.Sources.{found_in_component}
+use Rattle.clsm_scan.proofs.AllWalks.{added_all}
 use Rattle.clsm_scan.proofs.ComponentCursors.{collected_same, if_ok_weaker}
 use Rattle.clsm_scan.proofs.scanning.scan.Goals as goal
 
@@ -11,6 +12,9 @@ returns-clause-rows g c =
     let lo = c.args.range.lo in
     let hi = c.args.range.hi in
     let max = c.args.range.max in
-    let same = λ (key : ℕ) (above : lo ≤ key) (below : key ≤ hi). ap value_of (sym (c.cursor_from-cursor.ensures.found key)) in
+    let found = added_all lo hi c.args.seat.now.knows c.new-merged.result c.add_all.new.seat.knows c.add_all.new.merged
+    (found_in_component c.args.seat.now.knows c.args.point.component c.args.point.until) c.add_all.ensures.added c.new-merged.ensures.none
+    c.new-merged.ensures.hi in
+    let same = λ (key : ℕ) (above : lo ≤ key) (below : key ≤ hi). ap value_of (sym (found key above below)) in
     if_ok_weaker _ (λ all. IsCollected value lo hi max all.rows.items all.more)
     (λ all is. collected_same _ value lo hi max all.rows.items all.more same is) c.collect.result c.collect.ensures.rows

@@ -32,7 +32,7 @@ row g c = (c.in-Some.key, c.in-Some.ensures.next.words)
 next : (g : Over) (c : After-checked_add g) → IsNextRow (value g c) c.loop-key.from c.args.bounds.hi (Some (row g c))
 next g c =
     let now = left_at (g.C.Source.found c.loop-key.seat.knows c.loop-key.cursor) in
-    next_row_same (value g c) now c.loop-key.from c.args.bounds.hi (Some (row g c)) (λ k. ap value_of (c.loop-key.invariant.read.same k))
+    next_row_same (value g c) now c.loop-key.from c.args.bounds.hi (Some (row g c)) (λ k above. ap value_of (c.loop-key.invariant.read.same k above))
     c.in-Some.ensures.next.next
 
 visited : (g : Over) (c : After-checked_add g) → IsVisitTo g.V.Visitor.takes (value g c) c.args.bounds.lo (c.in-Some.key + 1) c.args.bounds.hi
@@ -62,7 +62,7 @@ returns-clause-visits g c =
     let before = c.loop-key.invariant in
     visit_all g.V.Visitor.takes all c.args.bounds.lo c.args.bounds.hi c.loop-key.from c.loop-key.keys c.loop-key.first c.args.visitor.now
     c.loop-key.visitor before.visits
-    (next_row_same all now c.loop-key.from c.args.bounds.hi None (λ k. ap value_of (before.read.same k)) c.in_default.ensures.next)
+    (next_row_same all now c.loop-key.from c.args.bounds.hi None (λ k above. ap value_of (before.read.same k above)) c.in_default.ensures.next)
 
 pub loop-key-preserved : goal.loop-key-preserved
 loop-key-preserved g c =
@@ -75,7 +75,7 @@ loop-key-preserved g c =
           c.next_key.new.cursor) behind
           (read_on g.C.Source.is_over g.C.Source.found g.C.Source.stands c.args.words.now g.met.C.Source.over_stays g.met.C.Source.found_stays
           g.met.C.Source.stands_stays c.args.seat.now c.loop-key.seat c.next_key.new.seat c.visit.new.seat c.args.cursor.now c.loop-key.cursor
-          c.next_key.new.cursor c.loop-key.from (c.in-Some.key + 1) c.loop-key.invariant.read read.looks read.over read.same c.in-Some.ensures.stands
+          c.next_key.new.cursor c.loop-key.from (c.in-Some.key + 1) (let later = row_next.0 in omega arith) c.loop-key.invariant.read read.looks read.over c.in-Some.ensures.same c.in-Some.ensures.stands
           c.visit.ensures.of c.visit.ensures.looks);
       later = let later = row_next.0 in omega arith;
       visits = subst (λ (end : ℕ). IsVisitTo g.V.Visitor.takes (value g turn) c.args.bounds.lo end c.args.bounds.hi c.saturating_add-keys.result

@@ -1,6 +1,6 @@
 use Rattle.clsm_runs.proofs.Standing.{stands_stays}
 use Rattle.clsm_scan.specs.Walking.{found_in_run_on}
-use Rattle.clsm_scan.proofs.run_cursor.RunCursorSource.seek.Goals as goal
+use Rattle.clsm_scan.proofs.run_cursor.RunCursorWalk.seek.Goals as goal
 
 pub returns-clause-same : goal.returns-clause-same
 returns-clause-same g c =
