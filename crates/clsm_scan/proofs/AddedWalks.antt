@@ -84,7 +84,8 @@ module _ (lo : ℕ) (k k' : Known) (m m' : Merged) (w : AnyWalk) (looks : LooksA
       }
 
   -- one that has none leaves
-  pub added_ended : m'.streams.items ≡ m.streams.items → ((key : ℕ) → lo ≤ key → key ≤ m.hi → any_found k w key ≡ None) → HasAdded lo k m k' m' (found_in (any_found k) (Some w))
+  pub added_ended : m'.streams.items ≡ m.streams.items → ((key : ℕ) → lo ≤ key → key ≤ m.hi → any_found k w key ≡ None)
+      → HasAdded lo k m k' m' (found_in (any_found k) (Some w))
   added_ended put none =
       let old = m.streams.items in
       record {

@@ -1,7 +1,7 @@
 -- Streams at places of a list: one that is replaced, one that leaves, and the first with the least
 -- key.
-use Rattle.std.proofs.Common.{◌≡◌, ℕ, zero, suc, ◌+◌, ◌<◌, ◌≤◌, List, [], ◌∷◌, ◌++◌, length, remove, slice_get, slice_index_or, slice_set, ap, ◌∙◌, refl, sym, arith}
-use Rattle.std.proofs.Common.{Bool, true, false, cond, nat_le, inl, inr, subst, Option, Some, None}
+use Rattle.std.proofs.Common.{◌≡◌, ℕ, zero, suc, ◌+◌, ◌<◌, ◌≤◌, List, [], ◌∷◌, ◌++◌, length, remove, slice_get, slice_index_or, slice_set}
+use Rattle.std.proofs.Common.{ap, ◌∙◌, refl, sym, arith, Bool, true, false, cond, nat_le, inl, inr, subst, Option, Some, None}
 use Rattle.std.proofs.lemmas.Bool.{cases_lt, le-leb, leb-true}
 use Rattle.std.specs.List.{AllByRecursion}
 use Rattle.clsm_model.specs.History.{or_else}
@@ -79,7 +79,8 @@ remove_set (s ∷ ss) (suc at) y = ap (λ (l : List Stream). s ∷ l) (remove_se
 -- ---- those that are past
 
 module _ (from : ℕ) where
-  pub past_here : (ss : List Stream) (at : ℕ) (d : Stream) → at < length ss → from ≤ (slice_index_or ss at d).key → ArePast from at ss → ArePast from (suc at) ss
+  pub past_here : (ss : List Stream) (at : ℕ) (d : Stream) → at < length ss → from ≤ (slice_index_or ss at d).key → ArePast from at ss
+      → ArePast from (suc at) ss
   past_here [] at d lt here past = absurd (omega arith)
   past_here (s ∷ ss) zero d lt here past = (here, tt)
   past_here (s ∷ ss) (suc at) d lt here past = (past.0, past_here ss at d (omega arith) here past.1)
@@ -135,7 +136,8 @@ pub record IsLeastSoFar (ss : List Stream) (end lead : ℕ) : Type 0 where
   pub passed : lead < end
   pub least : IsLeastBefore end ss lead
 
-pub so_far_lesser : (ss : List Stream) (end lead : ℕ) → end < length ss → key_at ss end < key_at ss lead → IsLeastSoFar ss end lead → IsLeastSoFar ss (end + 1) end
+pub so_far_lesser : (ss : List Stream) (end lead : ℕ) → end < length ss → key_at ss end < key_at ss lead → IsLeastSoFar ss end lead
+    → IsLeastSoFar ss (end + 1) end
 so_far_lesser ss end lead lt lesser is = record { inside = λ some. lt; passed = omega arith; least = least_lesser ss end lead lesser is.least }
 
 pub so_far_stays : (ss : List Stream) (end lead : ℕ) → key_at ss lead ≤ key_at ss end → IsLeastSoFar ss end lead → IsLeastSoFar ss (end + 1) lead

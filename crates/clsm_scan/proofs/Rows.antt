@@ -30,7 +30,8 @@ other_below k j lt = grind (arith, nat_tests)
 other_above : (k j : ℕ) → j < k → (k == j) ≡ false
 other_above k j lt = grind (arith, nat_tests)
 
-module _ (found found' : ℕ → Option Entry) (from sought : ℕ) (same : (k : ℕ) → sought ≤ k → found' k ≡ found k) (passed : ArePassed (left_at found) from sought) where
+module _ (found found' : ℕ → Option Entry) (from sought : ℕ) (same : (k : ℕ) → sought ≤ k → found' k ≡ found k)
+    (passed : ArePassed (left_at found) from sought) where
   pass_empty : (to : ℕ) → AreEmpty found' sought to → ArePassed (left_at found) from to
   pass_empty to empty = λ k le lt. elim (cases_lt k sought) [
     | inl before ↦ passed k le before
@@ -186,7 +187,8 @@ module _ (value : ℕ → Option (List ℕ)) (lo : ℕ) where
       all_rows (row.0 + 1) hi (rows ++ row ∷ []) (rows_taken from hi rows row are le next) (λ k above below. absurd_order k above (omega arith))
       (beyond_pushed hi rows row next.1 beyond)
 
-pub next_row_same : (value value' : ℕ → Option (List ℕ)) (from hi : ℕ) (o : Option Pair) → ((k : ℕ) → from ≤ k → value' k ≡ value k) → IsNextRow value' from hi o
+pub next_row_same : (value value' : ℕ → Option (List ℕ)) (from hi : ℕ) (o : Option Pair) → ((k : ℕ) → from ≤ k → value' k ≡ value k)
+    → IsNextRow value' from hi o
     → IsNextRow value from hi o
 next_row_same value value' from hi None same next = λ k above below. sym (same k above) ∙ next k above below
 next_row_same value value' from hi (Some row) same next =

@@ -61,6 +61,7 @@ impl Stream {
 /// walk that has no further write up to the greatest key leaves.
 #[derive(Drop)]
 pub struct Merged {
+    /// Two epochs, three runs of level 0 and one of level 1 at most.
     streams: ArrayVec<Stream, 6>,
     /// The place of the first walk of those that came by the least key.
     lead: usize,

@@ -86,8 +86,8 @@ loop-key-preserved g c =
           c.next_key.new.cursor) behind
           (read_on g.C.Source.is_over g.C.Source.found g.C.Source.stands c.args.words.now g.met.C.Source.over_stays g.met.C.Source.found_stays
           g.met.C.Source.stands_stays c.args.seat.now c.loop-key.seat c.next_key.new.seat c.give.new.seat c.args.cursor.now c.loop-key.cursor
-          c.next_key.new.cursor c.loop-key.from (c.in-Some.key + 1) (let later = row_next.0 in omega arith) before.read read.looks read.over c.in-Some.ensures.same c.in-Some.ensures.stands
-          c.in_ok-give.ensures.of c.give.ensures.looks);
+          c.next_key.new.cursor c.loop-key.from (c.in-Some.key + 1) (let later = row_next.0 in omega arith) before.read read.looks read.over
+          c.in-Some.ensures.same c.in-Some.ensures.stands c.in_ok-give.ensures.of c.give.ensures.looks);
       later = let later = row_next.0 in omega arith;
       rows = subst (AreRowsTo (value g turn) c.args.range.lo c.in-Some-checked_add.behind) (sym (put g turn))
           (subst (λ (end : ℕ). AreRowsTo (value g turn) c.args.range.lo end (old ++ row g turn ∷ [])) behind

@@ -75,8 +75,8 @@ loop-key-preserved g c =
           c.next_key.new.cursor) behind
           (read_on g.C.Source.is_over g.C.Source.found g.C.Source.stands c.args.words.now g.met.C.Source.over_stays g.met.C.Source.found_stays
           g.met.C.Source.stands_stays c.args.seat.now c.loop-key.seat c.next_key.new.seat c.visit.new.seat c.args.cursor.now c.loop-key.cursor
-          c.next_key.new.cursor c.loop-key.from (c.in-Some.key + 1) (let later = row_next.0 in omega arith) c.loop-key.invariant.read read.looks read.over c.in-Some.ensures.same c.in-Some.ensures.stands
-          c.visit.ensures.of c.visit.ensures.looks);
+          c.next_key.new.cursor c.loop-key.from (c.in-Some.key + 1) (let later = row_next.0 in omega arith) c.loop-key.invariant.read read.looks
+          read.over c.in-Some.ensures.same c.in-Some.ensures.stands c.visit.ensures.of c.visit.ensures.looks);
       later = let later = row_next.0 in omega arith;
       visits = subst (λ (end : ℕ). IsVisitTo g.V.Visitor.takes (value g turn) c.args.bounds.lo end c.args.bounds.hi c.saturating_add-keys.result
           (Some c.unwrap_or.result) c.args.visitor.now c.visit.new.self) behind (visited g turn);
