@@ -10,6 +10,7 @@ pub mod Shown
 pub mod Turns
 pub mod EpochWrites
 pub mod LastSpots
+pub mod NextVersions
 pub mod Leaps
 pub mod FrozenLists
 pub mod FrozenWalks

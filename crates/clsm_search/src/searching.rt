@@ -4,18 +4,15 @@ ghost use Rattle.clsm_law.specs.Memory.{cell_of};
 ghost use Rattle.clsm_words.specs.Keeping.{Looks, LooksAside};
 ghost use Rattle.clsm_words.specs.Plays.{IsSeatOf};
 ghost use Rattle.clsm_search.specs.Ordering.{MayWalk};
-ghost use Rattle.clsm_search.specs.Searching.{GoesOn, IsFoundTime, IsOnChain, IsWalked, MayLookInto, IsNewest, IsNewestIn};
+ghost use Rattle.clsm_search.specs.Searching.{GoesOn, IsFoundTime, IsHit, IsOnChain, IsWalked, MayLookInto, IsNewest, IsNewestIn};
 ghost use Rattle.clsm_search.specs.Searching.{IsNewestTime, better, is_later, is_write, slot_in};
 
 use crate::cells::KnownCell;
-use crate::list::{Epoch, time_at};
-use crate::versions::{Unsure, newest_version};
+use crate::list::{Epoch, spot_of, time_at};
+use crate::versions::{FEW, Unsure, newest_along, newest_version};
 use clsm_law::{Part, Word};
 use clsm_model::Time;
 use clsm_words::{Pace, RawSeat, Words};
-
-/// A walk along a chain passes so many cells before a search by the ordered list takes its place.
-const FEW: u64 = 8;
 
 #[inline(always)]
 fn is_later(best: Option<Time>, time: Time) -> bool
@@ -92,14 +89,42 @@ fn next_of<P: Pace>(words: &Words<P>, seat: &mut RawSeat, cell: u64) -> u64
     words.look(seat, Word::Cell { cell, part })
 }
 
-/// Walks on along the key's chain of the epoch, past so many cells or to its end.
+/// The walk behind the next cell of the key's chain.
 #[inline(always)]
-fn walk_chain<P: Pace>(
+fn pass_cell<P: Pace>(
+    words: &Words<P>,
+    seat: &mut RawSeat,
+    epoch: &Epoch,
+    walk: ChainWalk,
+) -> ChainWalk
+    requires of { IsSeatOf words.now seat.old }
+    requires may { MayWalk seat.old.knows epoch.now }
+    requires begun { epoch.now.first < epoch.now.until }
+    requires some { walk.next ≢ 0 }
+    requires chain { IsOnChain seat.old.knows epoch.now.first walk.next }
+    requires walked { IsWalked seat.old.knows.past seat.old.knows.layout.cells epoch.now.first walk.key epoch.now.until walk.best seat.old.knows.trail }
+    ensures of { IsSeatOf words.now seat.new }
+    ensures looks { Looks seat.old.knows seat.new.knows }
+    ensures key { result.key ≡ walk.key }
+    ensures chain { IsOnChain seat.new.knows epoch.now.first result.next }
+    ensures walked { IsWalked seat.new.knows.past seat.new.knows.layout.cells epoch.now.first result.key epoch.now.until result.best seat.new.knows.trail }
+    ensures passed { length seat.old.knows.trail ≡ length seat.new.knows.trail + 1 }
+{
+    let cell = walk.next - 1;
+    let best = better(words, seat, epoch, &walk, cell);
+    let next = next_of(words, seat, cell);
+    let key = walk.key;
+    ChainWalk { key, next, best }
+}
+
+/// Walks along the key's chain of the epoch to its first cell that is a write of the key, past few
+/// cells, or to its end.
+#[inline(always)]
+fn walk_to_write<P: Pace>(
     words: &Words<P>,
     seat: &mut RawSeat,
     epoch: &Epoch,
     mut walk: ChainWalk,
-    most: u64,
 ) -> ChainWalk
     requires of { IsSeatOf words.now seat.old }
     requires may { MayWalk seat.old.knows epoch.now }
@@ -110,18 +135,40 @@ fn walk_chain<P: Pace>(
     ensures looks { Looks seat.old.knows seat.new.knows }
     ensures key { result.key ≡ walk.key }
     ensures chain { IsOnChain seat.new.knows epoch.now.first result.next }
-    ensures walked { IsWalked seat.old.knows.past seat.old.knows.layout.cells epoch.now.first walk.key epoch.now.until result.best seat.new.knows.trail }
-    ensures ended { length seat.old.knows.trail ≤ most → seat.new.knows.trail ≡ [] }
+    ensures walked { IsWalked seat.new.knows.past seat.new.knows.layout.cells epoch.now.first result.key epoch.now.until result.best seat.new.knows.trail }
 {
-    for _ in 0..most {
-        if walk.next == 0 {
+    for _ in 0..FEW {
+        if walk.next == 0 || walk.best.is_some() {
             return walk;
         }
-        let cell = walk.next - 1;
-        walk.best = better(words, seat, epoch, &walk, cell);
-        walk.next = next_of(words, seat, cell);
+        walk = pass_cell(words, seat, epoch, walk);
     }
     walk
+}
+
+/// Walks on along the key's chain of the epoch to its end.
+fn walk_chain<P: Pace>(
+    words: &Words<P>,
+    seat: &mut RawSeat,
+    epoch: &Epoch,
+    mut walk: ChainWalk,
+) -> Option<Time>
+    requires of { IsSeatOf words.now seat.old }
+    requires may { MayWalk seat.old.knows epoch.now }
+    requires begun { epoch.now.first < epoch.now.until }
+    requires chain { IsOnChain seat.old.knows epoch.now.first walk.next }
+    requires walked { IsWalked seat.old.knows.past seat.old.knows.layout.cells epoch.now.first walk.key epoch.now.until walk.best seat.old.knows.trail }
+    ensures of { IsSeatOf words.now seat.new }
+    ensures looks { Looks seat.old.knows seat.new.knows }
+    ensures newest { IsNewestTime seat.new.knows epoch.now.first walk.key epoch.now.until result }
+{
+    for _ in 0..words.cells() {
+        if walk.next == 0 {
+            return walk.best;
+        }
+        walk = pass_cell(words, seat, epoch, walk);
+    }
+    walk.best
 }
 
 /// The time of the newest write of the key in the epoch, by its ordered list.
@@ -138,6 +185,33 @@ fn newest_listed<P: Pace>(
     ensures newest { IfOk result (IsNewestTime seat.old.knows epoch.now.first key epoch.now.until) }
 {
     match newest_version(words, seat, epoch, key) {
+        Ok(Some(spot)) => Ok(Some(time_at(words, epoch, spot))),
+        Ok(None) => Ok(None),
+        Err(unsure) => Err(unsure),
+    }
+}
+
+/// The time of the newest write of the key in the epoch, by its ordered list from the write on that
+/// a walk along the chain came to.
+#[inline(always)]
+fn newest_near<P: Pace>(
+    words: &Words<P>,
+    seat: &mut RawSeat,
+    epoch: &Epoch,
+    walk: &ChainWalk,
+) -> Result<Option<Time>, Unsure>
+    requires of { IsSeatOf words.now seat.old }
+    requires may { MayWalk seat.old.knows epoch.now }
+    requires walked { IsHit seat.old.knows.past seat.old.knows.layout.cells epoch.now.first walk.now.key epoch.now.until walk.now.best }
+    ensures of { IsSeatOf words.now seat.new }
+    ensures looks { LooksAside seat.old.knows seat.new.knows }
+    ensures newest { IfOk result (IsNewestTime seat.old.knows epoch.now.first walk.now.key epoch.now.until) }
+{
+    let Some(time) = walk.best else {
+        return Err(Unsure);
+    };
+    let from = spot_of(words, seat, epoch, time, walk.key);
+    match newest_along(words, seat, epoch, walk.key, from) {
         Ok(Some(spot)) => Ok(Some(time_at(words, epoch, spot))),
         Ok(None) => Ok(None),
         Err(unsure) => Err(unsure),
@@ -165,13 +239,13 @@ fn newest_behind<P: Pace>(
     if let Ok(newest) = newest_listed(words, seat, &epoch, walk.key) {
         return newest;
     }
-    walk_chain(words, seat, &epoch, walk, words.cells()).best
+    walk_chain(words, seat, &epoch, walk)
 }
 
 impl Epoch {
-    /// The time of the newest write of the key in the epoch, which is begun: by the key's chain or,
-    /// where that has many cells, by the ordered list. A walk along a chain passes every version of
-    /// the key, since links do not stand in it by time.
+    /// The time of the newest write of the key in the epoch, which is begun: the first write of the
+    /// key in its chain or, where the chain goes on, the last from there on in the ordered list, since
+    /// links do not stand in a chain by time.
     #[inline(always)]
     fn newest_time<P: Pace>(&self, words: &Words<P>, seat: &mut RawSeat, key: u64) -> Option<Time>
         requires of { IsSeatOf words.now seat.old }
@@ -186,9 +260,12 @@ impl Epoch {
         let region = self.number % 2;
         let next = words.look(seat, Word::Head { region, chain });
         let best = None;
-        let walk = walk_chain(words, seat, self, ChainWalk { key, next, best }, FEW);
+        let walk = walk_to_write(words, seat, self, ChainWalk { key, next, best });
         if walk.next == 0 {
             return walk.best;
+        }
+        if let Ok(newest) = newest_near(words, seat, self, &walk) {
+            return newest;
         }
         newest_behind(words, seat, *self, walk)
     }

@@ -129,8 +129,8 @@ pub(crate) fn shared(
     let mut searches = false;
     for place in 0..steps.len() {
         let made = &steps[place];
-        let is_own = searches && search.is_own(made.kind);
-        if !is_own && !made.is_vain && !is_of_runs(made.kind) && !is_of_walk(&steps[place..]) {
+        let is_own = searches && (search.is_own(made.kind) || is_of_walk(&steps[place..]));
+        if !is_own && !made.is_vain && !is_of_runs(made.kind) {
             places.push(place)?;
         }
         searches = search.goes_on(made.kind, searches);

@@ -1,45 +1,50 @@
-use Rattle.std.proofs.Common.{◌≡◌, ℕ, List, length, sym, ap, ◌∙◌, arith, subst}
-use Rattle.clsm_model.specs.declared.slot.Slot.{Slot}
+use Rattle.std.proofs.Common.{◌≡◌, ℕ, sym, ap, ◌∙◌, subst, refl, arith}
 use Rattle.clsm_law.specs.declared.layout.Layout.{Layout}
-use Rattle.clsm_search.specs.Searching.{IsWalked, better, is_hit}
-use Rattle.clsm_words.proofs.Keeps.{looks_trans}
-use Rattle.clsm_search.proofs.Chains.{first_ahead, its_bounds, its_time, chain_goes_on, walked_on}
+use Rattle.clsm_words.proofs.Keeps.{looks_none, looks_trans}
+use Rattle.clsm_search.specs.Searching.{IsNewestTime, IsWalked}
+use Rattle.clsm_search.proofs.Chains.{chain_short, none_left, nothing_ahead}
 use Rattle.clsm_search.proofs.searching.walk_chain.Goals as goal
+
+pub loop-init : goal.loop-init
+loop-init g c =
+    let k = c.args.seat.now.knows in
+    record {
+      of = c.requires.of;
+      looks = looks_none k;
+      key = refl;
+      chain = c.requires.chain;
+      short = let few = chain_short k c.args.epoch.now.first c.args.walk.next c.requires.chain in omega arith;
+      walked = c.requires.walked;
+    }
 
 pub loop-preserved : goal.loop-preserved
 loop-preserved g c =
-    let k0 = c.args.seat.now.knows in
     let k = c.loop.seat.knows in
-    let k1 = c.better-walk.new.seat.knows in
-    let k2 = c.next_of.new.seat.knows in
-    let first = c.args.epoch.now.first in
-    let until = c.args.epoch.now.until in
-    let key = c.loop.walk.key in
-    let best = c.loop.walk.best in
-    let on = c.loop.invariant.chain in
-    let f = first_ahead k first c.loop.walk.next on c.if-walk-eq0.false in
-    let t = f.0 in
-    let bounds = its_bounds k first c.loop.walk.next t f.1 on f.2 in
-    let aside = c.better-walk.ensures.looks in
-    let looks = looks_trans k0 k k1 c.loop.invariant.looks aside.looks in
-    let layout = aside.looks.reads.seat.layout in
-    let layout' = c.next_of.ensures.looks.reads.seat.layout in
-    let goes = chain_goes_on k first c.loop.walk.next t f.1 on f.2 k1 k2 c.next_of.result aside.trail layout layout' c.next_of.ensures.walks in
-    let same = c.loop.invariant.looks in
-    let cells = ap (λ (z : Layout). z.cells) same.reads.seat.layout in
-    let time = its_time k first c.loop.walk.next t f.1 on f.2 in
-    let chosen : c.better-walk.result ≡ better best t until (is_hit k0.past key t) =
-    c.better-walk.ensures.better ∙ ap (λ (n : ℕ). better best n until (is_hit k.past key n)) time
-    ∙ ap (λ (slots : List Slot). better best t until (is_hit slots key t)) same.past in
-    let walked = walked_on k0.past k0.layout.cells first key until best t f.1 bounds.0 (let a = bounds.1 in omega arith)
-    (subst (IsWalked k0.past k0.layout.cells first key until best) f.2 c.loop.invariant.walked) in
+    let k2 = c.pass_cell-walk.new.seat.knows in
+    let passes = c.pass_cell-walk.ensures in
+    let cells : k2.layout.cells ≡ k.layout.cells = ap (λ (z : Layout). z.cells) passes.looks.reads.seat.layout in
     record {
-      of = c.next_of.ensures.of;
-      looks = looks_trans k0 k1 k2 looks c.next_of.ensures.looks;
-      key = c.loop.invariant.key;
-      chain = goes.0;
-      short = λ few. let a = c.loop.invariant.short few in let b = ap (λ (l : List ℕ). length l) f.2 in let d = ap (λ (l : List ℕ). length l) goes.1 in
-          omega arith;
-      walked = subst (λ o. IsWalked k0.past k0.layout.cells first key until o k2.trail) (sym chosen)
-          (subst (IsWalked k0.past k0.layout.cells first key until (better best t until (is_hit k0.past key t))) (sym goes.1) walked);
+      of = passes.of;
+      looks = looks_trans c.args.seat.now.knows k k2 c.loop.invariant.looks passes.looks;
+      key = passes.key ∙ c.loop.invariant.key;
+      chain = passes.chain;
+      short = let short = c.loop.invariant.short in let passed = passes.passed in omega arith;
+      walked = passes.walked;
     }
+
+pub returns-then-walk-eq0-clause-newest : goal.returns-then-walk-eq0-clause-newest
+returns-then-walk-eq0-clause-newest g c =
+    let k = c.loop.seat.knows in
+    let e = c.args.epoch.now in
+    let none = nothing_ahead k e.first c.loop.walk.next c.loop.invariant.chain c.if-walk-eq0.true in
+    subst (λ (key : ℕ). IsNewestTime k e.first key e.until c.loop.walk.best) c.loop.invariant.key
+    (subst (IsWalked k.past k.layout.cells e.first c.loop.walk.key e.until c.loop.walk.best) none c.loop.invariant.walked)
+
+pub returns-clause-newest : goal.returns-clause-newest
+returns-clause-newest g c =
+    let k = c.loop.seat.knows in
+    let e = c.args.epoch.now in
+    let cells : c.args.words.now.layout.cells ≡ k.layout.cells = sym (ap (λ (z : Layout). z.cells) c.loop.invariant.of.1) in
+    let none = none_left k.trail (let end = c.cells-end.ensures in let no = c.loop-test.false in let short = c.loop.invariant.short in omega arith) in
+    subst (λ (key : ℕ). IsNewestTime k e.first key e.until c.loop.walk.best) c.loop.invariant.key
+    (subst (IsWalked k.past k.layout.cells e.first c.loop.walk.key e.until c.loop.walk.best) none c.loop.invariant.walked)

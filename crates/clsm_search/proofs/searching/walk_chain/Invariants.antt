@@ -10,6 +10,6 @@ invariant-loop g l = record {
   looks : Looks l.initial.seat.knows l.seat.knows;
   key : l.walk.key ≡ l.initial.walk.key;
   chain : IsOnChain l.seat.knows l.epoch.first l.walk.next;
-  short : length l.initial.seat.knows.trail ≤ l.most → length l.seat.knows.trail + l.counter ≤ l.most;
-  walked : IsWalked l.initial.seat.knows.past l.initial.seat.knows.layout.cells l.epoch.first l.walk.key l.epoch.until l.walk.best l.seat.knows.trail;
+  short : length l.seat.knows.trail + l.counter ≤ l.seat.knows.layout.cells;
+  walked : IsWalked l.seat.knows.past l.seat.knows.layout.cells l.epoch.first l.walk.key l.epoch.until l.walk.best l.seat.knows.trail;
 }
