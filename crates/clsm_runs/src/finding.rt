@@ -59,15 +59,23 @@ impl Wanted {
         seat.show_invariant();
         let mut span = Span::whole(count(words, seat, run));
         let mut turn = Turn::Last;
+        let mut looks: u32 = 0;
         while span.low < span.high {
             let at = span.next(self.key, turn);
-            turn = turn.next();
+            looks = looks.saturating_add(1);
             match self.compare(words, seat, HeldEntry { run, entry: at }) {
-                Side::Before(found) => (span.low, span.low_key) = (at + 1, found),
+                Side::Before(found) => {
+                    (span.low, span.low_key) = (at + 1, found);
+                    turn = turn.next(&span, true, looks);
+                }
                 Side::Hit(spelled) => {
                     (span.high, span.high_key, span.hit) = (at, self.key, Some((at, spelled)));
+                    turn = turn.next(&span, false, looks);
                 }
-                Side::Behind(found) => (span.high, span.high_key, span.hit) = (at, found, None),
+                Side::Behind(found) => {
+                    (span.high, span.high_key, span.hit) = (at, found, None);
+                    turn = turn.next(&span, false, looks);
+                }
             }
         }
         span
@@ -76,10 +84,10 @@ impl Wanted {
     /// Leaves the value of the first entry of the wanted key with a time below `until` in the run,
     /// which the held component names, in the caller's place, which is empty before; and answers
     /// whether there is such an entry. The run's last and first keys may exclude the key; else the
-    /// search guesses by how evenly the keys stand, and halves in turn. As in LevelDB the newest
-    /// entry of a key stands first, so it is the newest version below `until`; the place stays
-    /// empty for a removal. Only the found entry's value is read. It never waits, takes no memory
-    /// and is never refused.
+    /// search guesses by how the keys stand between them, and by each guess anew, and halves behind
+    /// a few guesses. As in LevelDB the newest entry of a key stands first, so it is the newest
+    /// version below `until`; the place stays empty for a removal. Only the found entry's value is
+    /// read. It never waits, takes no memory and is never refused.
     #[inline(always)]
     pub(crate) fn find<P: Pace>(
         self,

@@ -1,4 +1,4 @@
-//! Sorted runs in the words: their entries are looked at, found by halving, searched run by run,
+//! Sorted runs in the words: their entries are looked at, found by their keys, searched run by run,
 //! and merged.
 #![tactic(auto)]
 

@@ -14,8 +14,8 @@ pub(crate) enum Side {
     Behind(u64),
 }
 
-/// Spans no wider are halved: so many keys stand in a line or two.
-const NARROW: u64 = 16;
+/// So many looks are made at the ends and by guesses; all further ones halve.
+const GUESSES: u32 = 8;
 
 /// Which entry of a span is looked at next.
 #[derive(Clone, Copy)]
@@ -23,23 +23,38 @@ pub(crate) enum Turn {
     /// The last one, and then the first: these may exclude the key.
     Last,
     First,
-    /// The one that would be of the key if the keys stood evenly.
-    Even,
+    /// As far behind the span's beginning, or before its end, as the difference of keys says, where
+    /// this is the slope of the run.
+    Up(u64),
+    Down(u64),
     /// The one in the middle.
     Half,
 }
 
 impl Turn {
-    /// Half of the looks halve the span whatever its keys are, so keys that are far from even cost
-    /// at most twice the looks of a search by halving.
+    /// The turn behind so many looks, where the last entry that was looked at stands before the one
+    /// that is sought, or not, and the span begins behind that entry, or ends there. Where keys
+    /// stand evenly, each guess is nearer by far than the one before. Else the span is halved behind
+    /// a few of them, so the looks are at most those of a search by halving and a few more.
     #[inline(always)]
-    pub(crate) fn next(self) -> Turn {
+    pub(crate) fn next(self, span: &Span, is_before: bool, looks: u32) -> Turn {
+        if looks >= GUESSES {
+            return Turn::Half;
+        }
         match self {
             Turn::Last => Turn::First,
-            Turn::First | Turn::Half => Turn::Even,
-            Turn::Even => Turn::Half,
+            Turn::First => Turn::Up(span.slope()),
+            Turn::Up(slope) | Turn::Down(slope) if is_before => Turn::Up(slope),
+            Turn::Up(slope) | Turn::Down(slope) => Turn::Down(slope),
+            Turn::Half => Turn::Half,
         }
     }
+}
+
+/// How many entries stand to so many keys by the slope, which is that of one key times 2^64.
+#[inline(always)]
+fn entries_to(keys: u64, slope: u64) -> u64 {
+    ((keys as u128 * slope as u128) >> 64) as u64
 }
 
 /// The entries of a run among which the one that is sought may still be.
@@ -71,17 +86,12 @@ impl Span {
         }
     }
 
-    /// The entry that would be of the key if the keys stood evenly between the bounds.
+    /// How many entries stand to one key between the bounds, times 2^64.
     #[inline(always)]
-    fn even(&self, key: u64) -> u64
-        requires { self.now.low < self.now.high }
-        ensures { (self.now.low ≤ result) × (result < self.now.high) }
-    {
-        let width = self.high - self.low;
+    fn slope(&self) -> u64 {
+        let entries = nearest_u64_to_f64(self.high.saturating_sub(self.low));
         let keys = nearest_u64_to_f64(self.high_key.saturating_sub(self.low_key)) + 1.0;
-        let share = nearest_u64_to_f64(key.saturating_sub(self.low_key)) / keys;
-        let ahead = saturating_f64_to_u64(share * nearest_u64_to_f64(width));
-        self.low + ahead.min(width - 1)
+        saturating_f64_to_u64(entries / keys * 18_446_744_073_709_551_616.0)
     }
 
     /// The entry to look at next.
@@ -90,12 +100,20 @@ impl Span {
         requires { self.now.low < self.now.high }
         ensures { (self.now.low ≤ result) × (result < self.now.high) }
     {
-        let width = self.high - self.low;
+        let last = self.high - 1;
+        let others = last - self.low;
         match turn {
-            Turn::Last => self.high - 1,
+            Turn::Last => last,
             Turn::First => self.low,
-            Turn::Even if width > NARROW => self.even(key),
-            _ => self.low + width / 2,
+            Turn::Up(slope) => {
+                let keys = key.saturating_sub(self.low_key);
+                self.low + entries_to(keys, slope).min(others)
+            }
+            Turn::Down(slope) => {
+                let keys = self.high_key.saturating_sub(key);
+                last - entries_to(keys, slope).min(others)
+            }
+            Turn::Half => self.low + others / 2,
         }
     }
 }
