@@ -105,6 +105,25 @@ pub fn next<P: Pace>(
     None
 }
 
+/// Whether an entry that was passed has a value, which a removal has not. It never waits, takes no
+/// memory and is never refused.
+#[inline(always)]
+pub fn has_value<P: Pace>(
+    words: &Words<P>,
+    seat: &mut RawSeat,
+    run: HeldRun,
+    passed: &Passed,
+) -> bool
+    requires of { IsSeatOf words.now seat.old }
+    requires passed { IsPassed seat.old.knows run.component run.place passed.now }
+    ensures of { IsSeatOf words.now seat.new }
+    ensures looks { LooksAside seat.old.knows seat.new.knows }
+    ensures has { result ≡ is_some (entry_in (row_of seat.old.knows) run.place passed.now.number).value }
+{
+    let entry = passed.number;
+    HeldEntry { run, entry }.part(words, seat, TIME) % 2 != 1
+}
+
 /// The value of an entry that was passed, which is no removal. It never waits, takes no memory and
 /// is never refused.
 pub fn value<P: Pace>(words: &Words<P>, seat: &mut RawSeat, run: HeldRun, passed: &Passed) -> Value
