@@ -112,6 +112,17 @@ at_entry P memory p i (suc n) e le lt every = elim (cases_eq e i) [
   | inr other ↦ at_entry P memory p (i + 1) n e (omega arith) (omega arith) every.1
 ]
 
+-- ---- its time is below the first of the component's own
+
+pub older_there : (k : Known) (component place entry : ℕ) → Sound k → HasEntry k component place entry
+    → (entry_in (row_of k) place entry).time < component * k.layout.cells
+older_there k component place entry sound has =
+    let older = λ (e : Entry). e.time < component * k.layout.cells in
+    let inside = has.inside in
+    at_entry older (row_of k) place 0 (count_of k place) entry (omega arith) (omega arith)
+    (at_named (AllByRecursion older) (row_of k) component place has.run.named
+    (each_run older (runs_of (row_of k) component) (sound.reads component has.run.held).runs.older))
+
 -- ---- a value of an entry is a removal or has one to eight words
 
 is_short_at : (k : Known) (component place entry : ℕ) → IsRunAt k component place → entry < count_of k place → IsShort (entry_in (row_of k) place entry).value

@@ -7,12 +7,11 @@ use Rattle.clsm_words.specs.Knowing.{row_of}
 use Rattle.clsm_runs.specs.declared.passing.Passed.{Passed}
 use Rattle.clsm_runs.specs.Searching.{HasEntry, entry_word}
 
--- the run at the place, which the held component names, has the entry with this number, and these
--- are its key and its time word
+-- the run at the place, which the held component names, has the entry with this number, and this is
+-- its key
 pub record IsPassed (k : Known) (component place : ℕ) (passed : Passed) : Type 0 where
   pub has : HasEntry k component place passed.number
   pub key : entry_word k place passed.number 0 ≡ passed.key
-  pub spelled : entry_word k place passed.number 1 ≡ passed.spelled
 
 -- the entry that was passed, if there is one
 abbrev pub passed_entry : Known → ℕ → Option Passed → Option Entry

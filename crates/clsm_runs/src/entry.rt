@@ -1,5 +1,5 @@
 //! Looks at the runs of the component that the seat holds.
-ghost use Rattle.std.specs.Prelude.{◌≡◌, ◌≢◌, ◌%◌, ◌<◌};
+ghost use Rattle.std.specs.Prelude.{◌≡◌, ◌≢◌, ◌*◌, ◌%◌, ◌<◌, ◌≤◌, true, nat_lt};
 ghost use Rattle.std.proofs.Common.{ap};
 ghost use Rattle.clsm_levels.specs.declared.entry.Entry.{Entry};
 ghost use Rattle.clsm_law.specs.Places.{entry_in};
@@ -11,6 +11,7 @@ ghost use Rattle.clsm_runs.specs.Searching.{HasEntry, IsSearchable, count_of, en
 ghost use Rattle.clsm_runs.specs.Staying.{entry_in_stays, has_stays, valued_stays};
 
 use clsm_law::Word;
+use clsm_model::Time;
 use clsm_words::{Load, Pace, RawSeat, Words};
 
 /// An entry's words: its key.
@@ -27,6 +28,19 @@ pub(crate) const VALUE: u64 = 3;
 pub struct HeldRun {
     pub component: u64,
     pub place: u64,
+}
+
+impl HeldRun {
+    /// Whether all times in the component's runs are below `until`: they are below its first time.
+    #[inline(always)]
+    pub(crate) fn is_below<P: Pace>(self, words: &Words<P>, until: Time) -> bool
+        ensures { result ≡ true → self.component * words.now.layout.cells ≤ until }
+    {
+        match self.component.checked_mul(words.cells()) {
+            Some(first) => first <= until,
+            None => false,
+        }
+    }
 }
 
 /// One of its entries.
@@ -70,6 +84,28 @@ impl HeldEntry {
         seat.show_invariant();
         let (place, entry) = (self.run.place, self.entry);
         words.look(seat, Word::Entry { place, entry, part })
+    }
+
+    /// Whether its time is below `until`. It is looked at only where not all times of the run are.
+    #[inline(always)]
+    pub(crate) fn is_below<P: Pace>(
+        self,
+        words: &Words<P>,
+        seat: &mut RawSeat,
+        until: Time,
+        are_all: bool,
+    ) -> bool
+        requires of { IsSeatOf words.now seat.old }
+        requires has { HasEntry seat.old.knows self.run.component self.run.place self.entry }
+        requires all { are_all ≡ true → (entry_in (row_of seat.old.knows) self.run.place self.entry).time < until }
+        ensures of { IsSeatOf words.now seat.new }
+        ensures looks { LooksAside seat.old.knows seat.new.knows }
+        ensures told { result ≡ nat_lt (entry_in (row_of seat.old.knows) self.run.place self.entry).time until }
+    {
+        if are_all {
+            return true;
+        }
+        self.part(words, seat, TIME) / 2 < until
     }
 }
 

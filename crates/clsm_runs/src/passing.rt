@@ -1,12 +1,11 @@
 //! A passage of one run by rising key: it is begun at a key, and goes on from entry to entry.
-ghost use Rattle.std.specs.Prelude.{◌≡◌, ◌≤◌, ℕ, IfSome, Some, is_some, true};
+ghost use Rattle.std.specs.Prelude.{◌≡◌, ◌≤◌, IfSome, Some, is_some, true};
 ghost use Rattle.clsm_levels.specs.Entry.{first_below};
 ghost use Rattle.clsm_levels.specs.Yields.{IsNextFrom, behind};
 ghost use Rattle.clsm_law.specs.Places.{entry_in, is_named};
 ghost use Rattle.clsm_words.specs.Keeping.{LooksAside};
 ghost use Rattle.clsm_words.specs.Knowing.{row_of};
 ghost use Rattle.clsm_words.specs.Plays.{IsSeatOf};
-ghost use Rattle.clsm_words.specs.declared.known.Known.{Known};
 ghost use Rattle.clsm_runs.specs.Passing.{IsPassed, passed_entry};
 ghost use Rattle.clsm_runs.specs.Searching.{StandsFrom, run_at};
 
@@ -36,22 +35,11 @@ pub fn seek<P: Pace>(
     Wanted { key, until }.bound(words, seat, run).low
 }
 
-/// An entry of a run that a passage came by: its number, its key and its time word.
+/// An entry of a run that a passage came by: its number and its key.
 #[derive(Clone, Copy)]
 pub struct Passed {
     number: u64,
     pub key: u64,
-    spelled: u64,
-}
-
-impl Passed {
-    /// Whether it has a value, which a removal has not.
-    #[inline]
-    pub fn has_value(&self) -> bool
-        ensures { (k : Known) (component place : ℕ) → IsPassed k component place self.now → result ≡ is_some (entry_in (row_of k) place self.now.number).value }
-    {
-        self.spelled % 2 != 1
-    }
 }
 
 /// The versions that a passage seeks: those below `until` of the keys from `from` on.
@@ -63,8 +51,9 @@ pub struct Sought {
 
 /// Of the entries from the position on, the newest that is sought of the least key that has one.
 /// The position goes on behind it, or to the run's end where there is none. Versions not below
-/// `until`, and those of keys below `from`, are passed one by one. No value is read. It
-/// never waits, takes no memory and is never refused.
+/// `until`, and those of keys below `from`, are passed one by one. No value is read, nor a time
+/// where all times in the component's runs are below `until`. It never waits, takes no memory and
+/// is never refused.
 pub fn next<P: Pace>(
     words: &Words<P>,
     seat: &mut RawSeat,
@@ -85,6 +74,7 @@ pub fn next<P: Pace>(
 {
     seat.show_invariant();
     let count = count(words, seat, run);
+    let are_all = run.is_below(words, sought.until);
     while *position < count {
         let number = *position;
         *position += 1;
@@ -93,13 +83,8 @@ pub fn next<P: Pace>(
         if key < sought.from {
             continue;
         }
-        let spelled = at.part(words, seat, TIME);
-        if spelled / 2 < sought.until {
-            return Some(Passed {
-                number,
-                key,
-                spelled,
-            });
+        if at.is_below(words, seat, sought.until, are_all) {
+            return Some(Passed { number, key });
         }
     }
     None

@@ -79,7 +79,6 @@ passed_on k k' component place passed looks is =
     record {
       has = has_stays k k' component place passed.number looks is.has;
       key = same.words passed.number 0 ∙ is.key;
-      spelled = same.words passed.number 1 ∙ is.spelled;
     }
 
 pub passed_same : (k k' : Known) (component place : ℕ) (o : Option Passed) → Looks k k' → IsSearchable k component place

@@ -13,7 +13,7 @@ use crate::sink::Sink;
 use crate::source::Source;
 use crate::walk::Walk;
 use clsm_model::Time;
-use clsm_runs::{HeldRun, Passed, Sought, next, seek, value};
+use clsm_runs::{HeldRun, Passed, Sought, has_value, next, seek, value};
 use clsm_words::{Pace, RawSeat, Words};
 
 /// A walk along the run at a place that the held component names.
@@ -62,9 +62,9 @@ impl Source for RunCursor {
     ghost last = { λ k w. passed_entry k w.run.place w.last };
 
     #[inline(always)]
-    fn has_value<P: Pace>(&self, _words: &Words<P>, _seat: &mut RawSeat) -> bool {
+    fn has_value<P: Pace>(&self, words: &Words<P>, seat: &mut RawSeat) -> bool {
         match self.last {
-            Some(passed) => passed.has_value(),
+            Some(passed) => has_value(words, seat, self.run, &passed),
             None => false,
         }
     }
