@@ -7,4 +7,5 @@ pub mod Opening
 pub mod Paging
 pub mod Phase
 pub mod Play
+pub mod Promises
 pub mod Sweeping

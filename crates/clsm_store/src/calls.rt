@@ -1,14 +1,8 @@
 //! The calls of one seat.
-ghost use Rattle.std.specs.Prelude.{◌≡◌, ◌≢◌, None, Some, IfNone, IfOk, IfErr, IfSome};
-ghost use Rattle.clsm_model.specs.declared.record.Deed.TheVariants.{Batch as Group, Close, Get, GetAt, Put, Remove, Rmw as ChangeOf, Snapshot};
-ghost use Rattle.clsm_model.specs.Seats.{FitsDeed};
-ghost use Rattle.clsm_store_calls.specs.Batching.{CountsBatch, CountsTryBatch, IsRefusedBatch, IsRefusedTryBatch};
+ghost use Rattle.std.specs.Prelude.{◌≡◌, ◌≢◌, None};
+ghost use Rattle.clsm_model.specs.declared.record.Deed.TheVariants.{Put, Remove};
 ghost use Rattle.clsm_store_calls.specs.Looking.{FindsRoom};
-ghost use Rattle.clsm_store_calls.specs.Changing.{changed_at};
-ghost use Rattle.clsm_store_calls.specs.Seats.{Answers, GivesUpForWrites, IsFull};
-ghost use Rattle.clsm_store_calls.specs.Tally.{CancelsNone, CountsTry, TakesLockOnce, TakesNoLock};
-ghost use Rattle.clsm_store_calls.specs.Trying.{RefusesTry};
-ghost use Rattle.clsm_store_calls.specs.TryingChange.{CountsTryChange};
+ghost use Rattle.clsm_store.specs.Promises.{ChangesBy, ClosesSnapshot, Gets, GetsAt, OpensSnapshot, TriesToChangeBy, TriesToWrite, TriesToWriteBatch, Writes, WritesBatch};
 
 use crate::seat::Seat;
 use crate::store::Store;
@@ -35,10 +29,7 @@ impl<P: Pace> Store<P> {
         value: Value,
     ) -> Result<Time, Full>
         requires { seat.old.store ≡ self.now }
-        ensures written { IfOk result (λ time. Answers seat.old seat.new time (Put key value)) }
-        ensures lock { TakesLockOnce seat.old.tally seat.new.tally }
-        ensures cancels { CancelsNone seat.old.tally seat.new.tally }
-        ensures full { IfErr result (λ full. IsFull seat.old seat.new full.time) }
+        ensures { Writes seat.old seat.new (Put key value) result }
     {
         write(rt, &self.words, &mut seat.raw, key, &Some(value))
     }
@@ -47,10 +38,7 @@ impl<P: Pace> Store<P> {
     /// waits and is refused as `put`.
     pub fn remove<R: Wait>(&self, rt: &R, seat: &mut Seat, key: u64) -> Result<Time, Full>
         requires { seat.old.store ≡ self.now }
-        ensures written { IfOk result (λ time. Answers seat.old seat.new time (Remove key)) }
-        ensures lock { TakesLockOnce seat.old.tally seat.new.tally }
-        ensures cancels { CancelsNone seat.old.tally seat.new.tally }
-        ensures full { IfErr result (λ full. IsFull seat.old seat.new full.time) }
+        ensures { Writes seat.old seat.new (Remove key) result }
     {
         write(rt, &self.words, &mut seat.raw, key, &None)
     }
@@ -72,10 +60,7 @@ impl<P: Pace> Store<P> {
         members: &[(u64, Change)],
     ) -> Result<Time, BatchError>
         requires { seat.old.store ≡ self.now }
-        ensures written { IfOk result (λ time. Answers seat.old seat.new time (Group members.now)) }
-        ensures fits { IfOk result (λ time. FitsDeed seat.old.store.layout.cells (Group members.now)) }
-        ensures counts { CountsBatch seat.old.tally seat.new.tally result }
-        ensures refused { IfErr result (IsRefusedBatch seat.old seat.new members.now) }
+        ensures { WritesBatch seat.old seat.new members.now result }
     {
         batch(rt, &self.words, &mut seat.raw, members)
     }
@@ -86,9 +71,7 @@ impl<P: Pace> Store<P> {
     /// written then, and the seat is as before, but for its count of such refusals.
     pub fn try_put(&self, seat: &mut Seat, key: u64, value: Value) -> Result<Time, TryPutError>
         requires { seat.old.store ≡ self.now }
-        ensures written { IfOk result (λ time. Answers seat.old seat.new time (Put key value)) }
-        ensures counts { CountsTry seat.old.tally seat.new.tally result }
-        ensures refused { IfErr result (RefusesTry seat.old seat.new) }
+        ensures { TriesToWrite seat.old seat.new (Put key value) result }
     {
         try_write(&self.words, &mut seat.raw, key, &Some(value))
     }
@@ -97,9 +80,7 @@ impl<P: Pace> Store<P> {
     /// `try_put`.
     pub fn try_remove(&self, seat: &mut Seat, key: u64) -> Result<Time, TryPutError>
         requires { seat.old.store ≡ self.now }
-        ensures written { IfOk result (λ time. Answers seat.old seat.new time (Remove key)) }
-        ensures counts { CountsTry seat.old.tally seat.new.tally result }
-        ensures refused { IfErr result (RefusesTry seat.old seat.new) }
+        ensures { TriesToWrite seat.old seat.new (Remove key) result }
     {
         try_write(&self.words, &mut seat.raw, key, &None)
     }
@@ -114,10 +95,7 @@ impl<P: Pace> Store<P> {
         members: &[(u64, Change)],
     ) -> Result<Time, TryBatchError>
         requires { seat.old.store ≡ self.now }
-        ensures written { IfOk result (λ time. Answers seat.old seat.new time (Group members.now)) }
-        ensures fits { IfOk result (λ time. FitsDeed seat.old.store.layout.cells (Group members.now)) }
-        ensures counts { CountsTryBatch seat.old.tally seat.new.tally result }
-        ensures refused { IfErr result (IsRefusedTryBatch seat.old seat.new members.now) }
+        ensures { TriesToWriteBatch seat.old seat.new members.now result }
     {
         try_batch(&self.words, &mut seat.raw, members)
     }
@@ -129,9 +107,7 @@ impl<P: Pace> Store<P> {
     #[inline(always)]
     pub fn get(&self, seat: &mut Seat, key: u64) -> Got
         requires { seat.old.store ≡ self.now }
-        ensures answers { Answers seat.old seat.new result.time (Get key result.value) }
-        ensures clock { seat.new.clock ≡ Some result.time }
-        ensures lock { TakesNoLock seat.old.tally seat.new.tally }
+        ensures { Gets seat.old seat.new key result }
     {
         let mut got = Got {
             time: 0,
@@ -157,11 +133,7 @@ impl<P: Pace> Store<P> {
     ) -> Result<Rmw, Full>
         requires of { seat.old.store ≡ self.now }
         requires callable { F.IsAlwaysCallable f.now }
-        ensures changed { IfOk result (λ rmw. Answers seat.old seat.new rmw.time (ChangeOf key rmw.old rmw.change)) }
-        ensures lock { TakesLockOnce seat.old.tally seat.new.tally }
-        ensures spared { GivesUpForWrites seat.old seat.new key (changed_at result) }
-        ensures answered { IfOk result (λ rmw. F.post f.now rmw.old rmw.change) }
-        ensures full { IfErr result (λ full. IsFull seat.old seat.new full.time) }
+        ensures { ChangesBy seat.old seat.new key (F.post f.now) result }
     {
         let modification = Modification { key, f };
         let answer = change(rt, &self.words, &mut seat.raw, seat.pin, &modification);
@@ -182,10 +154,7 @@ impl<P: Pace> Store<P> {
     ) -> Result<Rmw, TryPutError>
         requires of { seat.old.store ≡ self.now }
         requires callable { F.IsAlwaysCallable f.now }
-        ensures changed { IfOk result (λ rmw. Answers seat.old seat.new rmw.time (ChangeOf key rmw.old rmw.change)) }
-        ensures answered { IfOk result (λ rmw. F.post f.now rmw.old rmw.change) }
-        ensures counts { CountsTryChange seat.old seat.new key result }
-        ensures refused { IfErr result (RefusesTry seat.old seat.new) }
+        ensures { TriesToChangeBy seat.old seat.new key (F.post f.now) result }
     {
         let modification = Modification { key, f };
         let answer = try_change(&self.words, &mut seat.raw, seat.pin, &modification);
@@ -200,9 +169,7 @@ impl<P: Pace> Store<P> {
     /// was done then.
     pub fn snapshot(&self, seat: &mut Seat) -> Result<Time, Open>
         requires { seat.old.store ≡ self.now }
-        ensures opened { IfOk result (λ time. Answers seat.old seat.new time Snapshot) }
-        ensures lock { IfOk result (λ time. TakesNoLock seat.old.tally seat.new.tally) }
-        ensures open { IfErr result (λ refusal. (seat.new ≡ seat.old) × (seat.old.snapshot ≡ Some refusal.time)) }
+        ensures { OpensSnapshot seat.old seat.new result }
     {
         if let Some(time) = seat.snapshot {
             return Err(Open { time });
@@ -217,9 +184,7 @@ impl<P: Pace> Store<P> {
     /// then forget what only it read. It takes no lock, never waits and is never refused.
     pub fn close_snapshot(&self, seat: &mut Seat) -> Option<Time>
         requires { seat.old.store ≡ self.now }
-        ensures closed { IfSome result (λ time. Answers seat.old seat.new time Close) }
-        ensures none { IfNone result ((seat.new ≡ seat.old) × (seat.old.snapshot ≡ None)) }
-        ensures lock { seat.new.tally ≡ seat.old.tally }
+        ensures { ClosesSnapshot seat.old seat.new result }
     {
         let time = seat.snapshot?;
         close_snapshot(&self.words, &mut seat.raw, time);
@@ -232,8 +197,7 @@ impl<P: Pace> Store<P> {
     pub fn get_at(&self, seat: &mut Seat, key: u64) -> Got
         requires of { seat.old.store ≡ self.now }
         requires opened { seat.old.snapshot ≢ None }
-        ensures answers { Answers seat.old seat.new result.time (GetAt key result.value) }
-        ensures lock { seat.new.tally ≡ seat.old.tally }
+        ensures { GetsAt seat.old seat.new key result }
     {
         let Some(time) = seat.snapshot else {
             unreachable!()

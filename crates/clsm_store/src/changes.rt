@@ -1,13 +1,8 @@
 //! Read-modify-writes that most programs make: an addition to a counter, a first write, and the
 //! replacement of an expected value.
-ghost use Rattle.std.specs.Prelude.{◌≡◌, IfOk, IfErr};
-ghost use Rattle.clsm_model.specs.declared.record.Deed.TheVariants.{Rmw as ChangeOf};
-ghost use Rattle.clsm_store_calls.specs.Changing.{changed_at};
-ghost use Rattle.clsm_store_calls.specs.Seats.{Answers, GivesUpForWrites, IsFull};
-ghost use Rattle.clsm_store_calls.specs.Tally.{TakesLockOnce};
-ghost use Rattle.clsm_store_calls.specs.Trying.{RefusesTry};
-ghost use Rattle.clsm_store_calls.specs.TryingChange.{CountsTryChange};
+ghost use Rattle.std.specs.Prelude.{◌≡◌};
 ghost use Rattle.clsm_store.specs.Changes.{Replaces, added, put_if_absent, word_sum};
+ghost use Rattle.clsm_store.specs.Promises.{Adds, PutsIfAbsent, TriesToAdd, TriesToPutIfAbsent, TriesToReplace};
 
 use crate::caller::Caller;
 use crate::seat::Seat;
@@ -72,11 +67,7 @@ impl<P: Pace> Store<P> {
     /// words: the answer's `change` tells. It waits and is refused as `put`.
     pub fn add<R: Wait>(&self, rt: &R, seat: &mut Seat, key: u64, by: u64) -> Result<Rmw, Full>
         requires { seat.old.store ≡ self.now }
-        ensures changed { IfOk result (λ rmw. Answers seat.old seat.new rmw.time (ChangeOf key rmw.old rmw.change)) }
-        ensures added { IfOk result (λ rmw. rmw.change ≡ added rmw.old by) }
-        ensures lock { TakesLockOnce seat.old.tally seat.new.tally }
-        ensures spared { GivesUpForWrites seat.old seat.new key (changed_at result) }
-        ensures full { IfErr result (λ full. IsFull seat.old seat.new full.time) }
+        ensures { Adds seat.old seat.new key by result }
     {
         self.rmw(rt, seat, key, &|old| added(old, by))
     }
@@ -91,11 +82,7 @@ impl<P: Pace> Store<P> {
         value: Value,
     ) -> Result<Rmw, Full>
         requires { seat.old.store ≡ self.now }
-        ensures changed { IfOk result (λ rmw. Answers seat.old seat.new rmw.time (ChangeOf key rmw.old rmw.change)) }
-        ensures claimed { IfOk result (λ rmw. rmw.change ≡ put_if_absent rmw.old value) }
-        ensures lock { TakesLockOnce seat.old.tally seat.new.tally }
-        ensures spared { GivesUpForWrites seat.old seat.new key (changed_at result) }
-        ensures full { IfErr result (λ full. IsFull seat.old seat.new full.time) }
+        ensures { PutsIfAbsent seat.old seat.new key value result }
     {
         self.rmw(rt, seat, key, &|old| put_if_absent(old, value))
     }
@@ -104,10 +91,7 @@ impl<P: Pace> Store<P> {
     /// Refused as `try_rmw`.
     pub fn try_add(&self, seat: &mut Seat, key: u64, by: u64) -> Result<Rmw, TryPutError>
         requires { seat.old.store ≡ self.now }
-        ensures changed { IfOk result (λ rmw. Answers seat.old seat.new rmw.time (ChangeOf key rmw.old rmw.change)) }
-        ensures added { IfOk result (λ rmw. rmw.change ≡ added rmw.old by) }
-        ensures counts { CountsTryChange seat.old seat.new key result }
-        ensures refused { IfErr result (RefusesTry seat.old seat.new) }
+        ensures { TriesToAdd seat.old seat.new key by result }
     {
         self.try_rmw(seat, key, &|old| added(old, by))
     }
@@ -121,10 +105,7 @@ impl<P: Pace> Store<P> {
         value: Value,
     ) -> Result<Rmw, TryPutError>
         requires { seat.old.store ≡ self.now }
-        ensures changed { IfOk result (λ rmw. Answers seat.old seat.new rmw.time (ChangeOf key rmw.old rmw.change)) }
-        ensures claimed { IfOk result (λ rmw. rmw.change ≡ put_if_absent rmw.old value) }
-        ensures counts { CountsTryChange seat.old seat.new key result }
-        ensures refused { IfErr result (RefusesTry seat.old seat.new) }
+        ensures { TriesToPutIfAbsent seat.old seat.new key value result }
     {
         self.try_rmw(seat, key, &|old| put_if_absent(old, value))
     }
@@ -141,10 +122,7 @@ impl<P: Pace> Store<P> {
         desired: Option<Value>,
     ) -> Result<Rmw, TryPutError>
         requires { seat.old.store ≡ self.now }
-        ensures changed { IfOk result (λ rmw. Answers seat.old seat.new rmw.time (ChangeOf key rmw.old rmw.change)) }
-        ensures replaced { IfOk result (λ rmw. Replaces rmw.old expected desired rmw.change) }
-        ensures counts { CountsTryChange seat.old seat.new key result }
-        ensures refused { IfErr result (RefusesTry seat.old seat.new) }
+        ensures { TriesToReplace seat.old seat.new key expected desired result }
     {
         self.try_rmw(seat, key, &|old| replaced(old, expected, desired))
     }
@@ -153,41 +131,27 @@ impl<P: Pace> Store<P> {
 impl<'a, P: Pace> Caller<'a, P> {
     /// As `Store::add`.
     pub fn add<R: Wait>(&mut self, rt: &R, key: u64, by: u64) -> Result<Rmw, Full>
-        ensures changed { IfOk result (λ rmw. Answers self.old.seat self.new.seat rmw.time (ChangeOf key rmw.old rmw.change)) }
-        ensures added { IfOk result (λ rmw. rmw.change ≡ added rmw.old by) }
-        ensures lock { TakesLockOnce self.old.seat.tally self.new.seat.tally }
-        ensures spared { GivesUpForWrites self.old.seat self.new.seat key (changed_at result) }
-        ensures full { IfErr result (λ full. IsFull self.old.seat self.new.seat full.time) }
+        ensures { Adds self.old.seat self.new.seat key by result }
     {
         self.store.add(rt, &mut self.seat, key, by)
     }
 
     /// As `Store::put_if_absent`.
     pub fn put_if_absent<R: Wait>(&mut self, rt: &R, key: u64, value: Value) -> Result<Rmw, Full>
-        ensures changed { IfOk result (λ rmw. Answers self.old.seat self.new.seat rmw.time (ChangeOf key rmw.old rmw.change)) }
-        ensures claimed { IfOk result (λ rmw. rmw.change ≡ put_if_absent rmw.old value) }
-        ensures lock { TakesLockOnce self.old.seat.tally self.new.seat.tally }
-        ensures spared { GivesUpForWrites self.old.seat self.new.seat key (changed_at result) }
-        ensures full { IfErr result (λ full. IsFull self.old.seat self.new.seat full.time) }
+        ensures { PutsIfAbsent self.old.seat self.new.seat key value result }
     {
         self.store.put_if_absent(rt, &mut self.seat, key, value)
     }
     /// As `Store::try_add`.
     pub fn try_add(&mut self, key: u64, by: u64) -> Result<Rmw, TryPutError>
-        ensures changed { IfOk result (λ rmw. Answers self.old.seat self.new.seat rmw.time (ChangeOf key rmw.old rmw.change)) }
-        ensures added { IfOk result (λ rmw. rmw.change ≡ added rmw.old by) }
-        ensures counts { CountsTryChange self.old.seat self.new.seat key result }
-        ensures refused { IfErr result (RefusesTry self.old.seat self.new.seat) }
+        ensures { TriesToAdd self.old.seat self.new.seat key by result }
     {
         self.store.try_add(&mut self.seat, key, by)
     }
 
     /// As `Store::try_put_if_absent`.
     pub fn try_put_if_absent(&mut self, key: u64, value: Value) -> Result<Rmw, TryPutError>
-        ensures changed { IfOk result (λ rmw. Answers self.old.seat self.new.seat rmw.time (ChangeOf key rmw.old rmw.change)) }
-        ensures claimed { IfOk result (λ rmw. rmw.change ≡ put_if_absent rmw.old value) }
-        ensures counts { CountsTryChange self.old.seat self.new.seat key result }
-        ensures refused { IfErr result (RefusesTry self.old.seat self.new.seat) }
+        ensures { TriesToPutIfAbsent self.old.seat self.new.seat key value result }
     {
         self.store.try_put_if_absent(&mut self.seat, key, value)
     }
@@ -199,10 +163,7 @@ impl<'a, P: Pace> Caller<'a, P> {
         expected: Option<Value>,
         desired: Option<Value>,
     ) -> Result<Rmw, TryPutError>
-        ensures changed { IfOk result (λ rmw. Answers self.old.seat self.new.seat rmw.time (ChangeOf key rmw.old rmw.change)) }
-        ensures replaced { IfOk result (λ rmw. Replaces rmw.old expected desired rmw.change) }
-        ensures counts { CountsTryChange self.old.seat self.new.seat key result }
-        ensures refused { IfErr result (RefusesTry self.old.seat self.new.seat) }
+        ensures { TriesToReplace self.old.seat self.new.seat key expected desired result }
     {
         self.store
             .try_replace(&mut self.seat, key, expected, desired)

@@ -1,10 +1,9 @@
 //! The calls that read many keys at one time.
 ghost use Rattle.std.specs.Prelude.{◌≡◌, IfErr, IfOk};
-ghost use Rattle.clsm_model.specs.declared.record.Deed.TheVariants.{Scan as ScanOf};
-ghost use Rattle.clsm_model.specs.Right.{page_deed};
-ghost use Rattle.clsm_store_calls.specs.Scanning.{CountsKeys, IsAnswerTo, IsAtClock, IsKeyVisit, ScansNow, VisitsKeys};
+ghost use Rattle.clsm_store_calls.specs.Scanning.{CountsKeys, IsAnswerTo, IsAtClock, IsKeyVisit, VisitsKeys};
 ghost use Rattle.clsm_store_calls.specs.Seats.{Answers, Refuses, known_by};
 ghost use Rattle.clsm_store_calls.specs.Tally.{TakesNoLock};
+ghost use Rattle.clsm_store.specs.Promises.{CountsRange, ReadsPage, Scans, ScansAnew, VisitsRange};
 
 use crate::seat::Seat;
 use crate::store::Store;
@@ -54,10 +53,7 @@ impl<P: Pace> Store<P> {
     /// recorded then, and the seat is at rest.
     pub fn scan(&self, alloc: Global, seat: &mut Seat, lo: u64, hi: u64) -> Result<Scan, Memory>
         requires { seat.old.store ≡ self.now }
-        ensures answers { IfOk result (λ scan. Answers seat.old seat.new scan.time (ScanOf lo hi scan.rows)) }
-        ensures clock { IfOk result (λ scan. IsAtClock seat.old seat.new scan.time) }
-        ensures lock { TakesNoLock seat.old.tally seat.new.tally }
-        ensures refused { IfErr result (λ refusal. Refuses seat.old seat.new) }
+        ensures { Scans seat.old seat.new lo hi result }
     {
         let (time, deed) = self.read_many(alloc, seat, Asked::All(lo, hi))?;
         match deed {
@@ -79,10 +75,7 @@ impl<P: Pace> Store<P> {
         max: usize,
     ) -> Result<Page, Memory>
         requires { seat.old.store ≡ self.now }
-        ensures answers { IfOk result (λ page. Answers seat.old seat.new page.time (page_deed from hi max page.rows page.more)) }
-        ensures clock { IfOk result (λ page. IsAtClock seat.old seat.new page.time) }
-        ensures lock { TakesNoLock seat.old.tally seat.new.tally }
-        ensures refused { IfErr result (λ refusal. Refuses seat.old seat.new) }
+        ensures { ReadsPage seat.old seat.new from hi max result }
     {
         let (time, deed) = self.read_many(alloc, seat, Asked::First(from, hi, max))?;
         match deed {
@@ -97,9 +90,7 @@ impl<P: Pace> Store<P> {
     /// takes no lock, never waits and is refused as `scan`.
     pub fn scan_now(&self, alloc: Global, seat: &mut Seat, lo: u64, hi: u64) -> Result<Scan, Memory>
         requires { seat.old.store ≡ self.now }
-        ensures scans { IfOk result (λ scan. ScansNow seat.old seat.new scan.time lo hi scan.rows) }
-        ensures lock { TakesNoLock seat.old.tally seat.new.tally }
-        ensures refused { IfErr result (λ refusal. Refuses seat.old seat.new) }
+        ensures { ScansAnew seat.old seat.new lo hi result }
     {
         let bounds = Bounds { lo, hi };
         let wanted = Request {
@@ -140,8 +131,7 @@ impl<P: Pace> Store<P> {
     /// refused. It is recorded as a page of no rows, whose `more` is the first of the keys.
     pub fn count(&self, alloc: Global, seat: &mut Seat, lo: u64, hi: u64) -> Counted
         requires { seat.old.store ≡ self.now }
-        ensures counts { CountsKeys seat.old seat.new result.time lo hi result.keys result.first }
-        ensures lock { TakesNoLock seat.old.tally seat.new.tally }
+        ensures { CountsRange seat.old seat.new lo hi result }
     {
         let mut passing = Visit {
             alloc,
@@ -184,10 +174,8 @@ impl<P: Pace> Store<P> {
     ) -> Counted
         requires of { seat.old.store ≡ self.now }
         requires callable { F.IsAlwaysCallable call.old }
-        ensures visits { VisitsKeys (λ before row after. F.step before row.0 row.1 tt after)
-            seat.old seat.new result.time lo hi result.keys result.first call.old call.new }
-        ensures callable { F.IsAlwaysCallable call.new }
-        ensures lock { TakesNoLock seat.old.tally seat.new.tally }
+        ensures { VisitsRange (λ before row after. F.step before row.0 row.1 tt after) F.IsAlwaysCallable
+            seat.old seat.new lo hi call.old call.new result }
     {
         let mut calling = Visit {
             alloc,

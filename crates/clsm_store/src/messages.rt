@@ -1,8 +1,6 @@
 //! Messages: how one caller comes to know of another that is in other hands.
-ghost use Rattle.std.specs.Prelude.{◌≡◌, ◌≤◌};
-ghost use Rattle.clsm_model.specs.History.{IsBeginning};
-ghost use Rattle.clsm_store_calls.specs.Seats.{known_by};
-ghost use Rattle.clsm_store.specs.Meetings.{IsUnrecorded, told_by};
+ghost use Rattle.std.specs.Prelude.{◌≡◌};
+ghost use Rattle.clsm_store.specs.Promises.{Hears, Tells};
 
 use crate::caller::Caller;
 use crate::seat::Seat;
@@ -33,10 +31,7 @@ impl<P: Pace> Store<P> {
     /// seat stays as it was. It makes no step, and takes no memory and no lock.
     pub fn tell(&self, seat: &mut Seat) -> Message
         requires seat { seat.old.store ≡ self.now }
-        ensures seat { seat.new ≡ seat.old }
-        ensures table { result.table ≡ self.now.table }
-        ensures told { told_by result ≡ known_by seat.old }
-        ensures due { result.heard ≡ seat.old.due }
+        ensures { Tells self.now seat.old seat.new result }
     {
         let words = telling::tell(self, seat);
         Message { words }
@@ -52,11 +47,7 @@ impl<P: Pace> Store<P> {
     pub fn hear(&self, seat: &mut Seat, message: Message) -> Time
         requires seat { seat.old.store ≡ self.now }
         requires message { message.table ≡ self.now.table }
-        ensures above { seat.old.due ≤ result }
-        ensures above_told { message.heard ≤ result }
-        ensures seat { IsUnrecorded seat.old seat.new }
-        ensures time { seat.new.due ≡ result }
-        ensures begins { IsBeginning (told_by message) (known_by seat.new) }
+        ensures { Hears message seat.old seat.new result }
     {
         telling::follow(self, seat, message.words)
     }
@@ -65,10 +56,7 @@ impl<P: Pace> Store<P> {
 impl<'a, P: Pace> Caller<'a, P> {
     /// As `Store::tell`.
     pub fn tell(&mut self) -> Message
-        ensures seat { self.new.seat ≡ self.old.seat }
-        ensures table { result.table ≡ self.old.seat.store.table }
-        ensures told { told_by result ≡ known_by self.old.seat }
-        ensures due { result.heard ≡ self.old.seat.due }
+        ensures { Tells self.old.seat.store self.old.seat self.new.seat result }
     {
         self.store.tell(&mut self.seat)
     }
@@ -76,11 +64,7 @@ impl<'a, P: Pace> Caller<'a, P> {
     /// As `Store::hear`.
     pub fn hear(&mut self, message: Message) -> Time
         requires { message.table ≡ self.old.seat.store.table }
-        ensures above { self.old.seat.due ≤ result }
-        ensures above_told { message.heard ≤ result }
-        ensures seat { IsUnrecorded self.old.seat self.new.seat }
-        ensures time { self.new.seat.due ≡ result }
-        ensures begins { IsBeginning (told_by message) (known_by self.new.seat) }
+        ensures { Hears message self.old.seat self.new.seat result }
     {
         self.store.hear(&mut self.seat, message)
     }

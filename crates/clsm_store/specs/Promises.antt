@@ -1,0 +1,267 @@
+-- What each call of a seat promises: all of it, and once. `Store` makes the call by a seat that it is
+-- given, `Caller` by its own, and both promise the same. `old` is the seat as the call found it, `new`
+-- the seat as it left it, and `result` what it answered. A call asks only for a seat of its store, and
+-- `get_at` also for an open snapshot.
+use Rattle.std.specs.Prelude.{◌≡◌, ℕ, ◌≤◌, List, Option, None, Some, IfNone, IfSome, Result, IfErr, IfOk}
+use Rattle.clsm_model.specs.declared.plain_map.Memory.{Memory}
+use Rattle.clsm_model.specs.declared.record.Deed.{Deed}
+use Rattle.clsm_model.specs.declared.record.Deed.TheVariants.{Batch, Close, Get, GetAt, Rmw as ChangeOf, Scan as ScanOf, Snapshot}
+use Rattle.clsm_model.specs.declared.slot.Change.{Change}
+use Rattle.clsm_model.specs.History.{IsBeginning}
+use Rattle.clsm_model.specs.Map.{Pair}
+use Rattle.clsm_model.specs.Right.{Member, page_deed}
+use Rattle.clsm_model.specs.Seats.{FitsDeed}
+use Rattle.clsm_words.specs.Seats.{MessageState}
+use Rattle.clsm_store_calls.specs.declared.got.Counted.{Counted}
+use Rattle.clsm_store_calls.specs.declared.got.Got.{Got}
+use Rattle.clsm_store_calls.specs.declared.got.Page.{Page}
+use Rattle.clsm_store_calls.specs.declared.got.Rmw.{Rmw}
+use Rattle.clsm_store_calls.specs.declared.got.Scan.{Scan}
+use Rattle.clsm_store_calls.specs.declared.refusal.BatchError.{BatchError}
+use Rattle.clsm_store_calls.specs.declared.refusal.Full.{Full}
+use Rattle.clsm_store_calls.specs.declared.refusal.Open.{Open}
+use Rattle.clsm_store_calls.specs.declared.refusal.TryBatchError.{TryBatchError}
+use Rattle.clsm_store_calls.specs.declared.refusal.TryPutError.{TryPutError}
+use Rattle.clsm_store_calls.specs.Batching.{CountsBatch, CountsTryBatch, IsRefusedBatch, IsRefusedTryBatch}
+use Rattle.clsm_store_calls.specs.Changing.{changed_at}
+use Rattle.clsm_store_calls.specs.Scanning.{CountsKeys, IsAtClock, ScansNow, VisitsKeys}
+use Rattle.clsm_store_calls.specs.Seats.{Answers, GivesUpForWrites, IsFull, Refuses, SeatState, StoreId, known_by}
+use Rattle.clsm_store_calls.specs.Tally.{CancelsNone, CountsTry, TakesLockOnce, TakesNoLock}
+use Rattle.clsm_store_calls.specs.Trying.{RefusesTry}
+use Rattle.clsm_store_calls.specs.TryingChange.{CountsTryChange}
+use Rattle.clsm_store.specs.Changes.{Replaces, added, put_if_absent}
+use Rattle.clsm_store.specs.declared.pages.Pages.{Pages}
+use Rattle.clsm_store.specs.Meetings.{IsUnrecorded, told_by}
+use Rattle.clsm_store.specs.Paging.{ReadsNext}
+
+-- ---- writes
+
+-- put and remove; the deed says which, of which key, and with which value
+pub record Writes (old new : SeatState) (deed : Deed) (result : Result ℕ Full) : Type 0 where
+  -- answered with a time: one record more, the deed at that time
+  pub written : IfOk result (λ time. Answers old new time deed)
+  -- answered or refused: it took the lock once
+  pub lock : TakesLockOnce old.tally new.tally
+  -- it gave up no time of its own, and cancelled none of others
+  pub cancels : CancelsNone old.tally new.tally
+  -- refused: in that hold of the lock the clock stood at the limit, which is this time
+  pub full : IfErr result (λ full. IsFull old new full.time)
+
+-- try_put and try_remove
+pub record TriesToWrite (old new : SeatState) (deed : Deed) (result : Result ℕ TryPutError) : Type 0 where
+  -- as a put
+  pub written : IfOk result (λ time. Answers old new time deed)
+  -- it entered the lock once, or was refused it; and each other refusal is counted
+  pub counts : CountsTry old.tally new.tally result
+  -- refused: no record more, and with `Full` as a put
+  pub refused : IfErr result (RefusesTry old new)
+
+-- batch
+pub record WritesBatch (old new : SeatState) (members : List Member) (result : Result ℕ BatchError) : Type 0 where
+  -- answered with the time of the first member: one record more, the batch at that time
+  pub written : IfOk result (λ time. Answers old new time (Batch members))
+  -- and then it has at least one member, at most as many as an epoch has cells, and each writes
+  pub fits : IfOk result (λ time. FitsDeed old.store.layout.cells (Batch members))
+  -- it took the lock once, or not at all if this is no batch; and it lost no exchange there
+  pub counts : CountsBatch old.tally new.tally result
+  -- refused: for the first cause of `Empty`, `TooLong`, `Keep`, `Full`
+  pub refused : IfErr result (IsRefusedBatch old new members)
+
+-- try_batch
+pub record TriesToWriteBatch (old new : SeatState) (members : List Member) (result : Result ℕ TryBatchError) : Type 0 where
+  -- as a batch
+  pub written : IfOk result (λ time. Answers old new time (Batch members))
+  -- as a batch
+  pub fits : IfOk result (λ time. FitsDeed old.store.layout.cells (Batch members))
+  -- as a batch, but it tried the lock once
+  pub counts : CountsTryBatch old.tally new.tally result
+  -- as a batch, or with `Busy`, if somebody held the lock
+  pub refused : IfErr result (IsRefusedTryBatch old new members)
+
+-- ---- read-modify-writes
+
+-- rmw, add and put_if_absent, whatever they make of the key's value
+pub record Changes (old new : SeatState) (key : ℕ) (result : Result Rmw Full) : Type 0 where
+  -- answered: one record more, of the old value and of what was made of it, at this time
+  pub changed : IfOk result (λ rmw. Answers old new rmw.time (ChangeOf key rmw.old rmw.change))
+  -- answered or refused: it took the lock once
+  pub lock : TakesLockOnce old.tally new.tally
+  -- it gave up at most one time for each write of the key by another seat that came between
+  pub spared : GivesUpForWrites old new key (changed_at result)
+  -- refused: as a put
+  pub full : IfErr result (λ full. IsFull old new full.time)
+
+-- rmw; `Makes value change`: the function may answer the change to the value
+pub record ChangesBy (old new : SeatState) (key : ℕ) (Makes : Option (List ℕ) → Change → Type 0) (result : Result Rmw Full) : Type 0 where
+  pub change : Changes old new key result
+  -- the function answered the change to the old value
+  pub answered : IfOk result (λ rmw. Makes rmw.old rmw.change)
+
+-- add
+pub record Adds (old new : SeatState) (key by : ℕ) (result : Result Rmw Full) : Type 0 where
+  pub change : Changes old new key result
+  -- the change sets the sum, or keeps the old value if there is none
+  pub added : IfOk result (λ rmw. rmw.change ≡ added rmw.old by)
+
+-- put_if_absent
+pub record PutsIfAbsent (old new : SeatState) (key : ℕ) (value : List ℕ) (result : Result Rmw Full) : Type 0 where
+  pub change : Changes old new key result
+  -- the change sets the value if there was none, and else keeps the old one
+  pub claimed : IfOk result (λ rmw. rmw.change ≡ put_if_absent rmw.old value)
+
+-- try_rmw and its kind, whatever they make of the key's value
+pub record TriesToChange (old new : SeatState) (key : ℕ) (result : Result Rmw TryPutError) : Type 0 where
+  -- as a rmw
+  pub changed : IfOk result (λ rmw. Answers old new rmw.time (ChangeOf key rmw.old rmw.change))
+  -- it entered the lock once, or was refused it; refused it gave up at most one time, and else none
+  pub counts : CountsTryChange old new key result
+  -- refused: as a try_put
+  pub refused : IfErr result (RefusesTry old new)
+
+-- try_rmw
+pub record TriesToChangeBy (old new : SeatState) (key : ℕ) (Makes : Option (List ℕ) → Change → Type 0) (result : Result Rmw TryPutError) : Type 0 where
+  pub change : TriesToChange old new key result
+  -- as a rmw
+  pub answered : IfOk result (λ rmw. Makes rmw.old rmw.change)
+
+-- try_add
+pub record TriesToAdd (old new : SeatState) (key by : ℕ) (result : Result Rmw TryPutError) : Type 0 where
+  pub change : TriesToChange old new key result
+  -- as an add
+  pub added : IfOk result (λ rmw. rmw.change ≡ added rmw.old by)
+
+-- try_put_if_absent
+pub record TriesToPutIfAbsent (old new : SeatState) (key : ℕ) (value : List ℕ) (result : Result Rmw TryPutError) : Type 0 where
+  pub change : TriesToChange old new key result
+  -- as a put_if_absent
+  pub claimed : IfOk result (λ rmw. rmw.change ≡ put_if_absent rmw.old value)
+
+-- try_replace
+pub record TriesToReplace (old new : SeatState) (key : ℕ) (expected desired : Option (List ℕ)) (result : Result Rmw TryPutError) : Type 0 where
+  pub change : TriesToChange old new key result
+  -- the change sets the desired value, or removes the key, if the old value was the expected one; and
+  -- else it keeps the old one
+  pub replaced : IfOk result (λ rmw. Replaces rmw.old expected desired rmw.change)
+
+-- ---- reads of one key, and snapshots
+
+-- get
+pub record Gets (old new : SeatState) (key : ℕ) (result : Got) : Type 0 where
+  -- one record more, of the value at this time
+  pub answers : Answers old new result.time (Get key result.value)
+  -- the time is the clock as the seat looked at it last
+  pub clock : new.clock ≡ Some result.time
+  -- it took no lock, lost no try and gave up no time
+  pub lock : TakesNoLock old.tally new.tally
+
+-- snapshot
+pub record OpensSnapshot (old new : SeatState) (result : Result ℕ Open) : Type 0 where
+  -- answered: one record more, and the snapshot is open at this time
+  pub opened : IfOk result (λ time. Answers old new time Snapshot)
+  -- as a get
+  pub lock : IfOk result (λ time. TakesNoLock old.tally new.tally)
+  -- refused: one was open, at this time, and nothing was done
+  pub «open» : IfErr result (λ refusal. (new ≡ old) × (old.snapshot ≡ Some refusal.time))
+
+-- close_snapshot
+pub record ClosesSnapshot (old new : SeatState) (result : Option ℕ) : Type 0 where
+  -- answered with the snapshot's time: one record more, and no snapshot is open
+  pub closed : IfSome result (λ time. Answers old new time Close)
+  -- none was open, and nothing was done
+  pub none : IfNone result ((new ≡ old) × (old.snapshot ≡ None))
+  -- it counted nothing
+  pub lock : new.tally ≡ old.tally
+
+-- get_at
+pub record GetsAt (old new : SeatState) (key : ℕ) (result : Got) : Type 0 where
+  -- one record more, of the value at the snapshot's time
+  pub answers : Answers old new result.time (GetAt key result.value)
+  -- it counted nothing
+  pub lock : new.tally ≡ old.tally
+
+-- ---- reads of many keys
+
+-- scan
+pub record Scans (old new : SeatState) (lo hi : ℕ) (result : Result Scan Memory) : Type 0 where
+  -- answered: one record more, of the rows at this time
+  pub answers : IfOk result (λ scan. Answers old new scan.time (ScanOf lo hi scan.rows))
+  -- unless a snapshot is open, the time is the clock as the seat looked at it last
+  pub clock : IfOk result (λ scan. IsAtClock old new scan.time)
+  -- as a get
+  pub lock : TakesNoLock old.tally new.tally
+  -- refused for memory: no record more
+  pub refused : IfErr result (λ refusal. Refuses old new)
+
+-- page
+pub record ReadsPage (old new : SeatState) (from hi max : ℕ) (result : Result Page Memory) : Type 0 where
+  -- answered: one record more, of the page at this time
+  pub answers : IfOk result (λ page. Answers old new page.time (page_deed from hi max page.rows page.more))
+  -- as a scan
+  pub clock : IfOk result (λ page. IsAtClock old new page.time)
+  -- as a get
+  pub lock : TakesNoLock old.tally new.tally
+  -- as a scan
+  pub refused : IfErr result (λ refusal. Refuses old new)
+
+-- next_page, of `Caller` alone; it takes the pages from `before` to `after`
+pub record ReadsNextPage (old new : SeatState) (before after : Pages) (result : Result (Option Page) Memory) : Type 0 where
+  -- answered: the page where the pages stood, and they stand behind it; or nothing, if none was left
+  pub read : IfOk result (ReadsNext old new before after)
+  -- as a get
+  pub lock : TakesNoLock old.tally new.tally
+  -- as a scan
+  pub refused : IfErr result (λ refusal. Refuses old new)
+  -- refused: the pages stand where they stood
+  pub stands : IfErr result (λ refusal. after ≡ before)
+
+-- scan_now
+pub record ScansAnew (old new : SeatState) (lo hi : ℕ) (result : Result Scan Memory) : Type 0 where
+  -- answered: the rows are those at the clock, also while a snapshot is open; recorded as a get
+  pub scans : IfOk result (λ scan. ScansNow old new scan.time lo hi scan.rows)
+  -- as a get
+  pub lock : TakesNoLock old.tally new.tally
+  -- as a scan
+  pub refused : IfErr result (λ refusal. Refuses old new)
+
+-- count
+pub record CountsRange (old new : SeatState) (lo hi : ℕ) (result : Counted) : Type 0 where
+  -- it answers how many keys have a value, and the first of them; recorded as a page of no rows
+  pub counts : CountsKeys old new result.time lo hi result.keys result.first
+  -- as a get
+  pub lock : TakesNoLock old.tally new.tally
+
+-- visit; its function went from the state `before` to `after`
+pub record VisitsRange {F : Type 0} (Calls : F → Pair → F → Type 0) (IsCallable : F → Type 0) (old new : SeatState) (lo hi : ℕ)
+    (before after : F) (result : Counted) : Type 0 where
+  -- as a count; and the function was called once with each row, by rising key, and not otherwise
+  pub visits : VisitsKeys Calls old new result.time lo hi result.keys result.first before after
+  -- and it may be called again
+  pub callable : IsCallable after
+  -- as a get
+  pub lock : TakesNoLock old.tally new.tally
+
+-- ---- messages
+
+-- tell
+pub record Tells (store : StoreId) (old new : SeatState) (result : MessageState) : Type 0 where
+  -- the seat stays as it was
+  pub seat : new ≡ old
+  -- the message is for the seats of this store
+  pub table : result.table ≡ store.table
+  -- it carries all that the seat knows
+  pub told : told_by result ≡ known_by old
+  -- and its due
+  pub due : result.heard ≡ old.due
+
+-- hear
+pub record Hears (message : MessageState) (old new : SeatState) (result : ℕ) : Type 0 where
+  -- the time is not below the seat's due
+  pub above : old.due ≤ result
+  -- nor below that which the message carries
+  pub above_told : message.heard ≤ result
+  -- the seat read at its new due, which is the clock as it looked at it last; no record more
+  pub seat : IsUnrecorded old new
+  -- that due is the time
+  pub time : new.due ≡ result
+  -- it knows what it was told
+  pub begins : IsBeginning (told_by message) (known_by new)
