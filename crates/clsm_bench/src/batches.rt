@@ -5,11 +5,12 @@ use crate::calls::{Lap, Round, work_all};
 use crate::draws::{Call, Draws, FILLER, Series, key_of};
 use crate::failure::Failure;
 use crate::lines::Way;
-use crate::series::callers;
 use crate::sizes::Work;
+use crate::stores::{StoreJob, work_on};
 use crate::target::Target;
 use clsm_model::{Change, Value};
-use clsm_store::{Opened, open};
+use clsm_store::Caller;
+use clsm_words::Free;
 use std::alloc::{AllocError, Global};
 use std::rt::Clock;
 use std::sync::Wait;
@@ -80,6 +81,17 @@ pub fn work_batches<T: Target, R: Wait + Clock>(
     })
 }
 
+/// The writes of the callers but the last one.
+pub fn write_batches<R: Threads + Sync + Clock + Wait>(
+    rt: &R,
+    alloc: Global,
+    mut callers: Vec<Caller<'_, Free>>,
+    round: &Round,
+) -> Result<Lap, Failure> {
+    let _ = callers.pop();
+    work_all(rt, alloc, callers, round)
+}
+
 /// The writes of each of so many threads on a store that is opened for them: by batches, or in the
 /// second way by puts.
 pub fn batch_lap<R: Threads + Sync + Clock + Wait>(
@@ -98,11 +110,7 @@ pub fn batch_lap<R: Threads + Sync + Clock + Wait>(
         series.members = Some(line.members(options, threads));
     }
     let writes = line.calls(false, options, threads);
-    let Ok(opened) = open(alloc, line.sizes(false, options, threads)) else {
-        return Err(Failure::Refused);
-    };
-    let Opened { store, seats, .. } = opened;
-    let mut callers = callers(alloc, &store, seats)?;
-    let _ = callers.pop();
-    work_all(rt, alloc, callers, &Round::new(&series, writes, threads))
+    let round = &Round::new(&series, writes, threads);
+    let sizes = line.sizes(false, options, threads);
+    work_on(rt, alloc, sizes, StoreJob::Writes(round))
 }

@@ -18,7 +18,7 @@ use std::time::Instant;
 const MOST_LOOKS: u32 = 1 << 20;
 
 /// Calls that were answered, and when they were made.
-#[derive(Drop)]
+#[derive(Clone, Copy)]
 pub struct Lap {
     /// The calls of each thread.
     pub calls: u32,

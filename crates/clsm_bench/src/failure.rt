@@ -5,11 +5,8 @@ use std::io;
 use thiserror::Error;
 
 /// Why a measurement does not end well.
-#[derive(Debug, Drop, Error)]
+#[derive(Clone, Copy, Debug, Error)]
 pub enum Failure {
-    /// The words on the command line are no command line of the program, or ask for help.
-    #[error("{0}")]
-    Words(clap::Error),
     /// A write failed, or the clock or the words on the command line could not be read.
     #[error("device")]
     Device,
@@ -23,9 +20,29 @@ pub enum Failure {
     Memory,
 }
 
-impl From<clap::Error> for Failure {
-    fn from(error: clap::Error) -> Failure {
-        Failure::Words(error)
+/// Why the program does not measure to its end.
+#[derive(Drop)]
+pub enum Stop {
+    /// The words on the command line are no command line of the program, or ask for help.
+    Words(clap::Error),
+    Failed(Failure),
+}
+
+impl From<clap::Error> for Stop {
+    fn from(error: clap::Error) -> Stop {
+        Stop::Words(error)
+    }
+}
+
+impl From<Failure> for Stop {
+    fn from(failure: Failure) -> Stop {
+        Stop::Failed(failure)
+    }
+}
+
+impl From<AllocError> for Stop {
+    fn from(_error: AllocError) -> Stop {
+        Stop::Failed(Failure::Memory)
     }
 }
 

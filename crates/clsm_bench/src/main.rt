@@ -17,12 +17,13 @@ mod options;
 mod series;
 mod session;
 mod sizes;
+mod stores;
 mod sweeper;
 mod target;
 mod times;
 
 use crate::compared::{COLUMNS, compare};
-use crate::failure::Failure;
+use crate::failure::{Failure, Stop};
 use crate::lines::LINES;
 use crate::options::{Asked, Options};
 use clap::error::ErrorKind;
@@ -52,19 +53,34 @@ fn measure<R: Threads + Sync + Clock + Wait + Print + AllocGlobal>(
     Ok(())
 }
 
-/// Does the work that the words on the command line ask for, or a little of each.
-fn bench<R: Threads + Sync + Clock + Wait + Env + Print + AllocGlobal>(
-    rt: &R,
-) -> Result<(), Failure> {
+/// The words on the command line, the first of which is the program's name.
+fn words<R: Env + AllocGlobal>(rt: &R) -> Result<Vec<String>, Failure> {
     let words: Vec<String> = std::env::args(rt)?.collect(rt.alloc())?;
-    if words.len() < 2 {
-        return measure(rt, None, &Options::FEW);
-    }
-    let Asked { series, options } = Asked::parse(rt.alloc(), &words)?;
+    Ok(words)
+}
+
+/// Prints the lines of the series, below a row that says what stands in those of comma-separated
+/// values.
+fn measure_asked<R: Threads + Sync + Clock + Wait + Print + AllocGlobal>(
+    rt: &R,
+    asked: &Asked,
+) -> Result<(), Failure> {
+    let Asked { series, options } = asked;
     if options.is_csv {
         println!(rt; "{COLUMNS}")?;
     }
-    measure(rt, Some(series.as_str()), &options)
+    measure(rt, Some(series.as_str()), options)
+}
+
+/// Does the work that the words on the command line ask for, or a little of each.
+fn bench<R: Threads + Sync + Clock + Wait + Env + Print + AllocGlobal>(rt: &R) -> Result<(), Stop> {
+    let words = words(rt)?;
+    if words.len() < 2 {
+        measure(rt, None, &Options::FEW)?;
+        return Ok(());
+    }
+    measure_asked(rt, &Asked::parse(rt.alloc(), &words)?)?;
+    Ok(())
 }
 
 /// Prints why the words are no command line of the program, or the help that they ask for.
@@ -80,8 +96,8 @@ fn tell(rt: &HostRuntime, text: &clap::Error) -> ExitCode {
 fn main(rt: HostRuntime) -> ExitCode {
     match bench(&rt) {
         Ok(()) => ExitCode::SUCCESS,
-        Err(Failure::Words(text)) => tell(&rt, &text),
-        Err(failure) => {
+        Err(Stop::Words(text)) => tell(&rt, &text),
+        Err(Stop::Failed(failure)) => {
             let _ = eprintln!(rt; "{failure}");
             ExitCode::FAILURE
         }

@@ -3,12 +3,14 @@ use crate::calls::{Lap, put_filled};
 use crate::failure::Failure;
 use crate::lines::{Role, Way};
 use crate::options::Options;
+use crate::stores::{StoreJob, work_on};
 use crate::sweeper::Sweeper;
-use clsm_store::{Caller, Config, Merger, Opened, open};
+use clsm_store::{Caller, Config, Merger};
 use clsm_words::Free;
 use std::alloc::Global;
 use std::rt::Clock;
 use std::sync::Wait;
+use std::thread::Threads;
 use std::time::Instant;
 
 /// The seats of a store: one that holds a snapshot, one that puts, and the merger's.
@@ -23,7 +25,7 @@ struct Seats<'a> {
 /// which the last is timed, in the second way under a snapshot that was opened before; or a freeze,
 /// in the second way a reclaim.
 #[derive(Clone, Copy)]
-struct Turns {
+pub struct Turns {
     /// The merges, or none where a freeze or a reclaim is timed.
     merges: Option<u32>,
     puts: u32,
@@ -76,11 +78,30 @@ impl Seats<'_> {
     }
 }
 
+/// Takes the turns by the last two callers and the merger.
+pub fn take_turns<R: Clock + Wait>(
+    rt: &R,
+    alloc: Global,
+    mut callers: Vec<Caller<'_, Free>>,
+    merger: Merger<'_, Free>,
+    turns: Turns,
+) -> Result<Lap, Failure> {
+    let (Some(holder), Some(writer)) = (callers.pop(), callers.pop()) else {
+        return Err(Failure::Unanswered);
+    };
+    let mut seats = Seats {
+        holder,
+        writer,
+        sweeper: Sweeper::new(merger),
+    };
+    seats.take(rt, alloc, turns)
+}
+
 /// Puts the calls of the options at the filled keys of an empty store, freezes the epoch, merges it
 /// and gives up what that retired, and so often. Answers the time of the last merge, in the second
 /// way under a snapshot that was opened before; or of the freeze, in the second way of the reclaim.
 /// Refused where one is.
-pub fn merge_lap<R: Clock + Wait>(
+pub fn merge_lap<R: Threads + Sync + Clock + Wait>(
     rt: &R,
     alloc: Global,
     role: &Role,
@@ -95,22 +116,6 @@ pub fn merge_lap<R: Clock + Wait>(
         run: puts.saturating_mul(4) as usize,
         patience: 16,
     };
-    let Ok(opened) = open(alloc, config) else {
-        return Err(Failure::Refused);
-    };
-    let Opened {
-        store,
-        mut seats,
-        merger,
-    } = opened;
-    let (Some(holder), Some(writer)) = (seats.pop(), seats.pop()) else {
-        return Err(Failure::Unanswered);
-    };
-    let mut seats = Seats {
-        holder: Caller::new(&store, holder),
-        writer: Caller::new(&store, writer),
-        sweeper: Sweeper::new(Merger::new(&store, merger)),
-    };
     let turns = Turns {
         merges: match role {
             Role::Merges(merges) => Some(*merges),
@@ -120,5 +125,5 @@ pub fn merge_lap<R: Clock + Wait>(
         keys: options.keys,
         way,
     };
-    seats.take(rt, alloc, turns)
+    work_on(rt, alloc, config, StoreJob::Turns(turns))
 }

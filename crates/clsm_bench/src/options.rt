@@ -1,5 +1,5 @@
 //! The command line of the benchmark: which series is measured, and its sizes.
-use crate::failure::Failure;
+use crate::failure::Stop;
 use clap::builder::ValueParser;
 use clap::{Arg, ArgAction, ArgMatches, Command};
 use std::alloc::{AllocError, Global};
@@ -128,7 +128,7 @@ pub struct Asked {
 impl Asked {
     /// Reads the words of a command line, the first of which is the program's name. Refused where
     /// clap finds a fault in them or they ask for help, and if memory runs out.
-    pub fn parse(alloc: Global, words: &[String]) -> Result<Asked, Failure> {
+    pub fn parse(alloc: Global, words: &[String]) -> Result<Asked, Stop> {
         let matches = program(alloc)?.try_get_matches_from(words)?;
         let series = matches.get_str("series").unwrap_or("");
         Ok(Asked {

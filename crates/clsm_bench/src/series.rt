@@ -1,15 +1,14 @@
 //! Calls of a store beside those of a map, and beside a merger or scans.
-ghost use Rattle.std.specs.Prelude.{◌≡◌, All};
-
 use crate::calls::{Lap, Round, put_filled, work_all};
 use crate::draws::Series;
 use crate::extra::Extra;
 use crate::failure::Failure;
 use crate::lines::Beside;
 use crate::sizes::Work;
+use crate::stores::{StoreJob, work_on};
 use crate::sweeper::Sweeper;
 use crate::target::MapCaller;
-use clsm_store::{Caller, Merger, Opened, Seat, Store, open};
+use clsm_store::{Caller, Merger};
 use clsm_words::Free;
 use std::alloc::Global;
 use std::collections::BTreeMap;
@@ -19,30 +18,15 @@ use std::sync::atomic::Ordering::SeqCst;
 use std::sync::{RwLock, Wait};
 use std::thread::{Threads, join};
 
-/// The callers that have these seats.
-pub fn callers<'a>(
-    alloc: Global,
-    store: &'a Store<Free>,
-    seats: Vec<Seat>,
-) -> Result<Vec<Caller<'a, Free>>, Failure>
-    requires { All (λ seat. seat.store ≡ store.now) seats.items }
-{
-    let mut callers = Vec::with_capacity(alloc, seats.len())?;
-    for seat in seats {
-        callers.push(Caller::new(store, seat))?;
-    }
-    Ok(callers)
-}
-
 /// A round, and what goes on beside its calls.
-#[derive(Drop)]
-struct Scene<'a> {
+#[derive(Clone, Copy)]
+pub struct Scene<'a> {
     beside: &'a Beside,
     round: &'a Round<'a>,
 }
 
 /// The calls of the callers but the last one, which fills the store first and is then beside them.
-fn work_beside<R: Threads + Sync + Clock + Wait>(
+pub fn work_beside<R: Threads + Sync + Clock + Wait>(
     rt: &R,
     alloc: Global,
     mut callers: Vec<Caller<'_, Free>>,
@@ -88,22 +72,10 @@ pub fn store_lap<R: Threads + Sync + Clock + Wait>(
     let series = Series::new(alloc, line, options)?;
     let is_merged = matches!(beside, Beside::Merger | Beside::Batcher);
     let calls = line.calls(is_merged, options, threads);
-    let Ok(opened) = open(alloc, line.sizes(is_merged, options, threads)) else {
-        return Err(Failure::Refused);
-    };
-    let Opened {
-        store,
-        seats,
-        merger,
-    } = opened;
-    let callers = callers(alloc, &store, seats)?;
-    let merger = Merger::new(&store, merger);
-    let round = Round::new(&series, calls, threads);
-    let scene = Scene {
-        beside,
-        round: &round,
-    };
-    work_beside(rt, alloc, callers, merger, &scene)
+    let sizes = line.sizes(is_merged, options, threads);
+    let round = &Round::new(&series, calls, threads);
+    let scene = &Scene { beside, round };
+    work_on(rt, alloc, sizes, StoreJob::Beside(scene))
 }
 
 /// The same calls of a map that is made and filled for them.

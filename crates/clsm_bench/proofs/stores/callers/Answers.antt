@@ -2,7 +2,7 @@ use Rattle.std.proofs.Common.{◌≡◌, List, subst}
 use Rattle.std.proofs.lemmas.List.Elements.{All-tail}
 use Rattle.std.specs.Prelude.{All}
 use Rattle.clsm_store_calls.specs.Seats.{SeatState}
-use Rattle.clsm_bench.proofs.series.callers.Goals as goal
+use Rattle.clsm_bench.proofs.stores.callers.Goals as goal
 
 pub loop-seat-preserved : goal.loop-seat-preserved
 loop-seat-preserved c =
