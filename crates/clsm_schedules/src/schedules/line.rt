@@ -1,7 +1,7 @@
 //! What the words of a row say.
 use crate::schedules::play::Wrong;
 use clsm_core::{End, Part, Step, Word};
-use clsm_model::{CallRecord, Deed, Members, Value};
+use clsm_model::{CallRecord, Deed, Value};
 use clsm_text::{LineError, parse_number, parse_record, parse_value};
 use std::alloc::Global;
 
@@ -65,113 +65,172 @@ impl<'a> Line<'a> {
 
     /// A word of the machine.
     pub(crate) fn place(&mut self) -> Result<Word, Wrong> {
-        Ok(match self.word() {
-            "lock" => Word::Lock,
-            "clock" => Word::Clock,
-            "limit" => Word::Limit,
-            "front" => Word::Front,
-            "merged" => Word::Merged,
-            "pin" => Word::Pin(self.number()?),
-            "snap" => Word::Snap(self.number()?),
-            "head" => Word::Head {
-                region: self.number()?,
-                chain: self.number()?,
-            },
-            "cell" => Word::Cell {
-                cell: self.number()?,
-                part: self.part()?,
-            },
-            "order" => Word::Order(self.number()?),
-            "hint" => Word::Hint {
-                cell: self.number()?,
-                hint: self.number()?,
-            },
-            "state" => Word::State(self.number()?),
-            "count" => Word::Count(self.number()?),
-            "entry" => Word::Entry {
-                place: self.number()?,
-                entry: self.number()?,
+        match self.word() {
+            "lock" => Ok(Word::Lock),
+            "clock" => Ok(Word::Clock),
+            "limit" => Ok(Word::Limit),
+            "front" => Ok(Word::Front),
+            "merged" => Ok(Word::Merged),
+            name => self.numbered_place(name),
+        }
+    }
+
+    /// A word with this name, and a number.
+    fn numbered_place(&mut self, name: &str) -> Result<Word, Wrong> {
+        let number = self.number()?;
+        match name {
+            "pin" => Ok(Word::Pin(number)),
+            "snap" => Ok(Word::Snap(number)),
+            "order" => Ok(Word::Order(number)),
+            "state" => Ok(Word::State(number)),
+            "count" => Ok(Word::Count(number)),
+            name => self.place_in(name, number),
+        }
+    }
+
+    /// A word with this name, in the region, the cell or the place of this number.
+    fn place_in(&mut self, name: &str, number: u64) -> Result<Word, Wrong> {
+        if name == "cell" {
+            let part = self.part()?;
+            return Ok(Word::Cell { cell: number, part });
+        }
+        let second = self.number()?;
+        match name {
+            "head" => Ok(Word::Head {
+                region: number,
+                chain: second,
+            }),
+            "hint" => Ok(Word::Hint {
+                cell: number,
+                hint: second,
+            }),
+            "entry" => Ok(Word::Entry {
+                place: number,
+                entry: second,
                 part: self.number()?,
-            },
-            _ => return Err(Wrong::Unread),
-        })
-    }
-
-    /// A step: its name, and what belongs to it.
-    pub(crate) fn step(&mut self, alloc: Global) -> Result<Step, Wrong> {
-        Ok(match self.word() {
-            "look" => Step::Look(self.place()?),
-            "enter-shared" => Step::EnterShared(self.number()?),
-            "leave-shared" => Step::LeaveShared,
-            "draw" => Step::Draw(self.number()?),
-            "fill" => Step::Fill(self.part()?, self.number()?),
-            "link" => Step::Link(self.number()?),
-            "fill-order" => Step::FillOrder(self.number()?),
-            "insert" => Step::Insert(self.number()?, self.number()?),
-            "store-hint" => Step::StoreHint {
-                cell: self.number()?,
-                hint: self.number()?,
-                word: self.number()?,
-            },
-            "decide" => {
-                let Ok(text) = format!(in alloc; "0 {}", self.left) else {
-                    return Err(Wrong::Memory);
-                };
-                let decided = record(alloc, &text)?;
-                Step::Decide(decided.time, decided.deed)
-            }
-            "cancel" => Step::Cancel(self.number()?),
-            "stage" => Step::Stage(self.number()?, self.number()?),
-            "commit" => Step::Commit(self.members(alloc)?),
-            name => self.step_of_reader(alloc, name)?,
-        })
-    }
-
-    /// The members of a batch, as in its record.
-    fn members(&mut self, alloc: Global) -> Result<Members, Wrong> {
-        let Ok(text) = format!(in alloc; "0 0 batch {}", self.left) else {
-            return Err(Wrong::Memory);
-        };
-        match record(alloc, &text)?.deed {
-            Deed::Batch { members } => Ok(members),
+            }),
             _ => Err(Wrong::Unread),
         }
     }
 
-    fn step_of_reader(&mut self, alloc: Global, name: &str) -> Result<Step, Wrong> {
-        Ok(match name {
-            "pin" => Step::Pin,
-            "unpin" => Step::Unpin(End::Neither),
-            "meet" => Step::Unpin(End::Meeting),
-            "record" => {
-                let Ok(text) = format!(in alloc; "0 0 {}", self.left) else {
-                    return Err(Wrong::Memory);
-                };
-                Step::Unpin(End::Recorded(record(alloc, &text)?.deed))
-            }
-            "raise-front" => Step::RaiseFront(self.number()?),
-            "note" => Step::Note(self.number()?),
-            "close-snapshot" => Step::CloseSnapshot,
-            name => self.step_of_merger(name)?,
-        })
+    /// A step: its name, and what belongs to it.
+    pub(crate) fn step(&mut self, alloc: Global) -> Result<Step, Wrong> {
+        let name = self.word();
+        match plain_step(name).or(plain_step_of_merger(name)) {
+            Some(step) => Ok(step),
+            None => self.step_of(alloc, name),
+        }
     }
 
-    fn step_of_merger(&mut self, name: &str) -> Result<Step, Wrong> {
-        Ok(match name {
-            "enter-exclusive" => Step::EnterExclusive,
-            "leave-exclusive" => Step::LeaveExclusive,
-            "pad" => Step::Pad(self.number()?),
-            "write-run" => Step::WriteRun(self.place()?, self.number()?),
-            "clear-head" => Step::ClearHead {
-                region: self.number()?,
-                chain: self.number()?,
+    /// A step with this name, and what belongs to it.
+    fn step_of(&mut self, alloc: Global, name: &str) -> Result<Step, Wrong> {
+        match name {
+            "decide" => {
+                let decided = self.said(alloc, "0")?;
+                Ok(Step::Decide(decided.time, decided.deed))
+            }
+            "record" => {
+                let recorded = self.said(alloc, "0 0")?;
+                Ok(Step::Unpin(End::Recorded(recorded.deed)))
+            }
+            "commit" => match self.said(alloc, "0 0 batch")?.deed {
+                Deed::Batch { members } => Ok(Step::Commit(members)),
+                _ => Err(Wrong::Unread),
             },
-            "clear-state" => Step::ClearState(self.number()?),
-            "clear-order" => Step::ClearOrder(self.number()?),
-            "publish" => Step::Publish,
-            "extend-clock" => Step::ExtendClock,
-            "extend-limit" => Step::ExtendLimit,
-            _ => return Err(Wrong::Unread),
-        })
+            name => self.step_at(name),
+        }
+    }
+
+    /// The record that is left behind its beginning.
+    fn said(&self, alloc: Global, beginning: &str) -> Result<CallRecord, Wrong> {
+        match format!(in alloc; "{beginning} {}", self.left) {
+            Ok(text) => record(alloc, &text),
+            Err(_) => Err(Wrong::Memory),
+        }
+    }
+
+    /// A step with this name at a word or a part.
+    fn step_at(&mut self, name: &str) -> Result<Step, Wrong> {
+        match name {
+            "look" => Ok(Step::Look(self.place()?)),
+            "fill" => Ok(Step::Fill(self.part()?, self.number()?)),
+            "write-run" => Ok(Step::WriteRun(self.place()?, self.number()?)),
+            name => self.numbered_step(name),
+        }
+    }
+
+    /// A step with this name, and one number, two or three.
+    fn numbered_step(&mut self, name: &str) -> Result<Step, Wrong> {
+        let number = self.number()?;
+        match step_with(name, number).or(step_of_merger_with(name, number)) {
+            Some(step) => Ok(step),
+            None => self.step_with_both(name, number),
+        }
+    }
+
+    fn step_with_both(&mut self, name: &str, first: u64) -> Result<Step, Wrong> {
+        let second = self.number()?;
+        match name {
+            "insert" => Ok(Step::Insert(first, second)),
+            "stage" => Ok(Step::Stage(first, second)),
+            "clear-head" => Ok(Step::ClearHead {
+                region: first,
+                chain: second,
+            }),
+            "store-hint" => Ok(Step::StoreHint {
+                cell: first,
+                hint: second,
+                word: self.number()?,
+            }),
+            _ => Err(Wrong::Unread),
+        }
+    }
+}
+
+/// A caller's step that is its name alone.
+fn plain_step(name: &str) -> Option<Step> {
+    match name {
+        "leave-shared" => Some(Step::LeaveShared),
+        "pin" => Some(Step::Pin),
+        "unpin" => Some(Step::Unpin(End::Neither)),
+        "meet" => Some(Step::Unpin(End::Meeting)),
+        "close-snapshot" => Some(Step::CloseSnapshot),
+        _ => None,
+    }
+}
+
+/// And one of the merger.
+fn plain_step_of_merger(name: &str) -> Option<Step> {
+    match name {
+        "enter-exclusive" => Some(Step::EnterExclusive),
+        "leave-exclusive" => Some(Step::LeaveExclusive),
+        "publish" => Some(Step::Publish),
+        "extend-clock" => Some(Step::ExtendClock),
+        "extend-limit" => Some(Step::ExtendLimit),
+        _ => None,
+    }
+}
+
+/// A caller's step with one number.
+fn step_with(name: &str, number: u64) -> Option<Step> {
+    match name {
+        "enter-shared" => Some(Step::EnterShared(number)),
+        "draw" => Some(Step::Draw(number)),
+        "link" => Some(Step::Link(number)),
+        "fill-order" => Some(Step::FillOrder(number)),
+        "cancel" => Some(Step::Cancel(number)),
+        "raise-front" => Some(Step::RaiseFront(number)),
+        "note" => Some(Step::Note(number)),
+        _ => None,
+    }
+}
+
+/// And one of the merger.
+fn step_of_merger_with(name: &str, number: u64) -> Option<Step> {
+    match name {
+        "pad" => Some(Step::Pad(number)),
+        "clear-state" => Some(Step::ClearState(number)),
+        "clear-order" => Some(Step::ClearOrder(number)),
+        _ => None,
     }
 }

@@ -82,16 +82,18 @@ impl Play {
     /// Both worlds as they are opened, by the row `sizes` and five sizes.
     fn new(alloc: Global, left: &str) -> Result<Play, Wrong> {
         let mut line = Line { left };
-        let is_sizes = line.word() == "sizes";
+        if line.word() != "sizes" {
+            return Err(Wrong::Unread);
+        }
         let Ok(layout) = Layout::new(config_of(&mut line)?) else {
             return Err(Wrong::Unread);
         };
-        let (Ok(world), Ok(other)) = (World::new(alloc, &layout), World::new(alloc, &layout)) else {
+        let Ok(world) = World::new(alloc, &layout) else {
             return Err(Wrong::Memory);
         };
-        if !is_sizes {
-            return Err(Wrong::Unread);
-        }
+        let Ok(other) = World::new(alloc, &layout) else {
+            return Err(Wrong::Memory);
+        };
         Ok(Play {
             alloc,
             layout,
