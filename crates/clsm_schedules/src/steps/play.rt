@@ -182,6 +182,24 @@ fn play_row<'a, R: Threads + Wait + Sync>(
     Ok(players)
 }
 
+/// Plays the state, and behind it the row.
+fn play_on<R: Threads + Wait + Sync>(
+    rt: &R,
+    alloc: Global,
+    watch: &Watch,
+    script: &Script,
+    mut players: Vec<Player>,
+) -> Result<Played, Wrong> {
+    for turn in &script.state {
+        if let Some(player) = players.get_mut(turn.player as usize) {
+            player.play(rt, alloc, &turn.command);
+        }
+    }
+    watch.open();
+    let players = play_row(rt, alloc, watch, script, players)?;
+    gather(alloc, watch, script, players)
+}
+
 /// Plays the script on a store, held before the last of these steps of the call of the row.
 pub(crate) fn play_store<R: Threads + Wait + Sync>(
     rt: &R,
@@ -202,16 +220,8 @@ pub(crate) fn play_store<R: Threads + Wait + Sync>(
         seats,
         merger,
     } = opened;
-    let mut players = seat_all(alloc, &store, seats, merger)?;
-    for turn in &script.state {
-        if let Some(player) = players.get_mut(turn.player as usize) {
-            player.play(rt, alloc, &turn.command);
-        }
-    }
-    let watch = store.pace();
-    watch.open();
-    let players = play_row(rt, alloc, watch, script, players)?;
-    gather(alloc, watch, script, players)
+    let players = seat_all(alloc, &store, seats, merger)?;
+    play_on(rt, alloc, store.pace(), script, players)
 }
 
 /// What the store came to.
