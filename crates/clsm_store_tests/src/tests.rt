@@ -1,5 +1,5 @@
-//! Tests of the store: cases, each a table of acts that actors play on a store of its own. And of
-//! what needs no store: tables of the model, of runs and of the audit.
+//! Tests of the store: cases, each a table of acts that actors play on a store of its own. Of what
+//! needs no store: tables of the model, of runs and of the audit. And of the program.
 mod act;
 mod actor;
 mod batches;
@@ -11,5 +11,6 @@ mod hints;
 mod hot;
 mod messages;
 mod model;
+mod program;
 mod settled;
 mod tables;

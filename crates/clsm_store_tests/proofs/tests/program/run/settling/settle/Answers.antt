@@ -3,7 +3,7 @@ use Rattle.std.proofs.lemmas.List.{get_or_default}
 use Rattle.clsm_run.specs.Work.{AreWorked}
 use Rattle.clsm_run.proofs.Brought.{seats_of}
 use Rattle.clsm_run.proofs.Seated.{all_seated, are_seats, told}
-use Rattle.clsm_program_tests.proofs.tests.run.settling.settle.Goals as goal
+use Rattle.clsm_store_tests.proofs.tests.program.run.settling.settle.Goals as goal
 
 pub work_merging-worked-requires-clause-seats : goal.work_merging-worked-requires-clause-seats
 work_merging-worked-requires-clause-seats g c κs within =
