@@ -4,4 +4,5 @@ pub mod Kept
 pub mod Ranges
 pub mod Read
 pub mod Taken
+pub mod Handed
 pub mod Statuses

@@ -1,5 +1,5 @@
 -- The exit statuses of the commands.
-use Rattle.std.proofs.Common.{◌≡◌, ◌≢◌, ◌≤◌, ℕ, List, [], ◌∷◌, All, arith}
+use Rattle.std.proofs.Common.{◌≢◌, ◌≤◌, ℕ, [], ◌∷◌, arith}
 use Rattle.std.proofs.lemmas.List.Elements.{All-cons, All-contains, All-nil}
 use Rattle.std.specs.Prelude.{Contains}
 

@@ -1,5 +1,5 @@
 -- What is done for the options that are read.
-use Rattle.std.specs.Prelude.{◌≡◌, ◌⊎◌, ℕ, IfSome, List, Option, ⊤}
+use Rattle.std.specs.Prelude.{◌≡◌, ℕ, IfSome, List, Option, ⊤}
 use Rattle.clap.specs.Words.{Text}
 use Rattle.clap.specs.declared.error.Error.{Error}
 use Rattle.clsm_model.specs.declared.config.Config.{Config}

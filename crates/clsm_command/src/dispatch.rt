@@ -1,8 +1,8 @@
 //! What the command line asks for is done.
-ghost use Rattle.std.specs.Prelude.{◌≡◌, ◌⊎◌, ◌≤◌, IsSomeAnd};
+ghost use Rattle.std.specs.Prelude.{◌≡◌, ◌⊎◌, ◌≤◌, IsSomeAnd, map};
 ghost use Rattle.clsm_command.specs.Answers.{IsInRange};
-ghost use Rattle.clsm_command.specs.Doing.{Explores, IsDone, audit_sizes};
-ghost use Rattle.clsm_command.specs.declared.options.Options.TheVariants.{Run, Script};
+ghost use Rattle.clsm_command.specs.Doing.{IsAskedFor, IsDone, IsFaulty, IsHelp, audit_sizes};
+ghost use Rattle.clsm_command.specs.declared.options.Options.TheVariants.{Audit, Explore, Run, Script};
 ghost use Rattle.clsm_command.specs.declared.refusal.Refusal.TheVariants.{Help};
 ghost use Rattle.clsm_text.specs.Failure.{status_of};
 ghost use Rattle.clap.specs.declared.error.Error.{Error};
@@ -32,9 +32,9 @@ pub struct Ended<W> {
     pub output: Option<W>,
 }
 
-/// Does what the words of a command line ask for, the first of which is the program's name, and
-/// answers the exit status. `script` and `audit` read the input. What is asked for is written to
-/// the output, help too; why the program does not end well is written to the faults.
+/// Does what the words of a command line ask for, the first of which is the program's name. Answers
+/// the exit status, and the output. `script` and `audit` read the input. What is asked for is
+/// written to the output, help too; why the program does not end well is written to the faults.
 ///
 /// The status is 0 where all was done; 1 for words that are refused, a bad line, or a failed read
 /// or write; 2 for a fault that an audit or an exploration found; 3 for a refused opening, if
@@ -51,6 +51,13 @@ where
     R: Read + Drop,
     W: Write + Drop,
     E: Write + Send + Drop,
+    ensures status { result.status ≤ 3 }
+    ensures done { result.status ≡ 0 → IsHelp (map S.text words.entry.now) ⊎ IsSomeAnd result.output (λ output.
+        IsAskedFor (map S.text words.entry.now) (λ options.
+        IsDone options (R.remaining streams.input) (W.contents streams.output) (W.contents output))) }
+    ensures fault { result.status ≡ 2 → IsSomeAnd result.output (λ output.
+        IsAskedFor (map S.text words.entry.now) (λ options.
+        IsFaulty options (R.remaining streams.input) (W.contents streams.output) (W.contents output))) }
 {
     match parse(alloc, words) {
         Ok(options) => obey(rt, alloc, options, streams),
@@ -67,6 +74,7 @@ where
     }
 }
 
+/// Does what the options ask for.
 fn obey<T, R, W, E>(rt: &T, alloc: Global, options: Options, streams: Streams<R, W, E>) -> Ended<W>
 where
     T: Threads + Sync + Clock + Wait,
@@ -74,25 +82,18 @@ where
     W: Write + Drop,
     E: Write + Send + Drop,
     requires range { IsInRange options }
+    ensures status { result.status ≤ 3 }
+    ensures done { result.status ≡ 0 → IsSomeAnd result.output (λ output.
+        IsDone options (R.remaining streams.input) (W.contents streams.output) (W.contents output)) }
+    ensures fault { result.status ≡ 2 → IsSomeAnd result.output (λ output.
+        IsFaulty options (R.remaining streams.input) (W.contents streams.output) (W.contents output)) }
 {
-    if let Options::Script(config) = options {
-        return play(rt, alloc, config, streams);
+    match options {
+        Options::Script(config) => play(rt, alloc, config, streams),
+        Options::Run(options) => call(rt, alloc, &options, streams),
+        Options::Audit(options) => audit(alloc, &options, streams),
+        Options::Explore(options) => try_orders(alloc, &options, streams),
     }
-    let Streams {
-        input,
-        mut output,
-        faults,
-    } = streams;
-    let status = match options {
-        Options::Script(_) => unreachable!(),
-        Options::Run(options) => call(rt, alloc, &options, &mut output, faults),
-        Options::Audit(options) => {
-            audit_lines(alloc, asked(&options), input, &mut output, faults)
-        }
-        Options::Explore(options) => try_orders(alloc, &options, &mut output, faults),
-    };
-    let output = Some(output);
-    Ended { status, output }
 }
 
 /// Plays the script.
@@ -127,13 +128,29 @@ where
 }
 
 /// Runs the workload.
-fn call<T, W, E>(rt: &T, alloc: Global, options: &RunOptions, output: &mut W, faults: E) -> u8
+fn call<T, R, W, E>(
+    rt: &T,
+    alloc: Global,
+    options: &RunOptions,
+    streams: Streams<R, W, E>,
+) -> Ended<W>
 where
     T: Threads + Sync + Clock + Wait,
-    W: Write,
+    R: Read + Drop,
+    W: Write + Drop,
     E: Write + Send + Drop,
     requires range { IsInRange (Run options.now) }
+    ensures status { result.status ≤ 3 }
+    ensures done { result.status ≡ 0 → IsSomeAnd result.output (λ output.
+        IsDone (Run options.now) (R.remaining streams.input) (W.contents streams.output) (W.contents output)) }
+    ensures fault { result.status ≡ 2 → IsSomeAnd result.output (λ output.
+        IsFaulty (Run options.now) (R.remaining streams.input) (W.contents streams.output) (W.contents output)) }
 {
+    let Streams {
+        mut output,
+        faults,
+        ..
+    } = streams;
     let load = Load {
         ops: options.ops as u32,
         keys: options.keys,
@@ -152,18 +169,56 @@ where
         waits: options.wait,
         shows,
     };
-    run_printed(rt, alloc, &asked, output, faults)
+    let status = run_printed(rt, alloc, &asked, &mut output, faults);
+    let output = Some(output);
+    Ended { status, output }
+}
+
+/// Audits the records.
+#[tactic(auto, using(crate::proofs::Statuses::at_most))]
+fn audit<R, W, E>(alloc: Global, options: &AuditOptions, streams: Streams<R, W, E>) -> Ended<W>
+where
+    R: Read + Drop,
+    W: Write + Drop,
+    E: Write + Drop,
+    ensures status { result.status ≤ 3 }
+    ensures done { result.status ≡ 0 → IsSomeAnd result.output (λ output.
+        IsDone (Audit options.now) (R.remaining streams.input) (W.contents streams.output) (W.contents output)) }
+    ensures fault { result.status ≡ 2 → IsSomeAnd result.output (λ output.
+        IsFaulty (Audit options.now) (R.remaining streams.input) (W.contents streams.output) (W.contents output)) }
+{
+    let Streams {
+        input,
+        mut output,
+        faults,
+    } = streams;
+    let status = audit_lines(alloc, asked(options), input, &mut output, faults);
+    let output = Some(output);
+    Ended { status, output }
 }
 
 /// Explores the scripts.
 #[tactic(auto, using(crate::proofs::Statuses::at_most))]
-fn try_orders<W, E>(alloc: Global, options: &ExploreOptions, output: &mut W, faults: E) -> u8
+fn try_orders<R, W, E>(
+    alloc: Global,
+    options: &ExploreOptions,
+    streams: Streams<R, W, E>,
+) -> Ended<W>
 where
-    W: Write,
+    R: Read + Drop,
+    W: Write + Drop,
     E: Write + Drop,
-    ensures status { result ≤ 3 }
-    ensures done { result ≡ 0 → Explores options.now (W.contents output.old) (W.contents output.new) }
+    ensures status { result.status ≤ 3 }
+    ensures done { result.status ≡ 0 → IsSomeAnd result.output (λ output.
+        IsDone (Explore options.now) (R.remaining streams.input) (W.contents streams.output) (W.contents output)) }
+    ensures fault { result.status ≡ 2 → IsSomeAnd result.output (λ output.
+        IsFaulty (Explore options.now) (R.remaining streams.input) (W.contents streams.output) (W.contents output)) }
 {
+    let Streams {
+        mut output,
+        faults,
+        ..
+    } = streams;
     let config = Config {
         cells: options.cells,
         seats: options.scripts.len(),
@@ -184,7 +239,9 @@ where
         limit: options.limit,
         shows,
     };
-    explore_scripts(alloc, &asked, output, faults)
+    let status = explore_scripts(alloc, &asked, &mut output, faults);
+    let output = Some(output);
+    Ended { status, output }
 }
 
 /// What an audit is asked for. Of the sizes of the store it takes only the first two.
