@@ -3,8 +3,8 @@ use Rattle.std.proofs.Common.{◌≡◌, ℕ, Bool, Option, Some, None, List, su
 use Rattle.std.specs.Prelude.{IfSome, IsSomeAnd}
 use Rattle.clap.specs.Words.{Text}
 use Rattle.clsm_command.specs.Answers.{IsInRange, IsParsed}
-use Rattle.clsm_run.specs.Run.{EndsWell, FindsFault}
-use Rattle.clsm_run.specs.declared.load.AskedRun.{AskedRun}
+use Rattle.clsm_workload.specs.Run.{EndsWell, FindsFault}
+use Rattle.clsm_workload.specs.declared.load.AskedRun.{AskedRun}
 use Rattle.clsm_model.specs.declared.config.Config.{Config}
 use Rattle.clsm_text.specs.Audit.{AreLawful, PrintsFault, PrintsVerdict}
 use Rattle.clsm_text.specs.declared.audit.AskedAudit.{AskedAudit}

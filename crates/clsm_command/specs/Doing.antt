@@ -5,8 +5,8 @@ use Rattle.clap.specs.declared.error.Error.{Error}
 use Rattle.clsm_model.specs.declared.config.Config.{Config}
 use Rattle.clsm_explore.specs.Scripts.{IsExplored}
 use Rattle.clsm_explore.specs.declared.scripts.Exploration.{Exploration}
-use Rattle.clsm_run.specs.Run.{EndsWell, FindsFault}
-use Rattle.clsm_run.specs.declared.load.AskedRun.{AskedRun}
+use Rattle.clsm_workload.specs.Run.{EndsWell, FindsFault}
+use Rattle.clsm_workload.specs.declared.load.AskedRun.{AskedRun}
 use Rattle.clsm_script.specs.Lines.{IsPlayedOn, outputs_of}
 use Rattle.clsm_script.specs.Script.{IsScript}
 use Rattle.clsm_text.specs.Audit.{AreLawful, PrintsFault, PrintsVerdict}

@@ -1,7 +1,7 @@
 //! The parts of a batch, as their steps.
 use crate::schedules::line::{Line, record};
 use crate::schedules::play::{Play, Wrong};
-use clsm_core::{Step, Word};
+use clsm_machine::{Step, Word};
 use clsm_model::{CallRecord, Change, Deed, Time};
 
 /// The write that a member is, alone.

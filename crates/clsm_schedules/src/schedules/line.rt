@@ -1,6 +1,6 @@
 //! What the words of a row say.
 use crate::schedules::play::Wrong;
-use clsm_core::{End, Part, Step, Word};
+use clsm_machine::{End, Part, Step, Word};
 use clsm_model::{CallRecord, Deed, Value};
 use clsm_text::{LineError, parse_number, parse_record, parse_value};
 use std::alloc::Global;

@@ -2,7 +2,7 @@
 use crate::schedules::line::Line;
 use crate::schedules::play::{Play, Wrong};
 use crate::schedules::writes::{word_at, words_of};
-use clsm_core::{Step, Word};
+use clsm_machine::{Step, Word};
 use clsm_model::Time;
 
 impl Play {

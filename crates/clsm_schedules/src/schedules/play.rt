@@ -1,6 +1,6 @@
 //! The player of schedules: a world that is played row by row, with the list of its events.
 use crate::schedules::line::Line;
-use clsm_core::{Answer, Event, Layout, Step, StepError, Word, World};
+use clsm_machine::{Answer, Event, Layout, Step, StepError, Word, World};
 use clsm_model::Config;
 use std::alloc::Global;
 

@@ -2,9 +2,9 @@
 use crate::schedules::line::{Line, record};
 use crate::schedules::play::{Play, Wrong};
 use crate::schedules::writes::{part_at, word_at, words_of};
-use clsm_core::{End, Part, Step, Word};
 use clsm_law::level_one_place;
 use clsm_levels::level_zero_runs;
+use clsm_machine::{End, Part, Step, Word};
 use clsm_model::{CallRecord, Deed, Time, Value};
 
 impl Play {

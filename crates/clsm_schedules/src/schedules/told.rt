@@ -1,7 +1,7 @@
 //! What a world tells, runs of the events, and two worlds beside each other.
 use crate::schedules::line::{Line, record};
 use crate::schedules::play::{Play, Wrong, config_of};
-use clsm_core::{Event, Layout, StepError, World, run};
+use clsm_machine::{Event, Layout, StepError, World, run};
 use clsm_model::{Slot, Time};
 use std::hash::{DefaultHasher, Hash, Hasher};
 

@@ -2,7 +2,7 @@
 //! `puts` with its record.
 use crate::schedules::line::{Line, record};
 use crate::schedules::play::{Play, Wrong};
-use clsm_core::{Part, Step, Word};
+use clsm_machine::{Part, Step, Word};
 use clsm_model::{CallRecord, Change, Deed, Time, Value};
 use clsm_planner::link_behind;
 

@@ -1,0 +1,78 @@
+-- How a run ends.
+use Rattle.std.specs.Prelude.{◌≡◌, ℕ, ◌⊎◌, ⊤, All, IsTrue, List, Option, Result, Ok, Err}
+use Rattle.clsm_model.specs.declared.config.Config.{Config}
+use Rattle.clsm_model.specs.Config.{IsSound}
+use Rattle.clsm_audit.specs.declared.fault.AuditError.{AuditError}
+use Rattle.clsm_audit.specs.declared.fault.AuditError.TheVariants as audits
+use Rattle.clsm_audit.specs.declared.fault.FaultKind.{FaultKind}
+use Rattle.clsm_store.specs.Headline.{IsWholeHistory, longest_past}
+use Rattle.clsm_store.specs.Opening.{IsRefusal}
+use Rattle.clsm_store_calls.specs.Seats.{HasSizes, StoreId}
+use Rattle.clsm_store_audit.specs.Settled.{AreLawfulAlone}
+use Rattle.clsm_text.specs.declared.failure.Failure.{Failure}
+use Rattle.clsm_text.specs.declared.failure.Failure.TheVariants.{Device, Fault, Refused, Memory}
+use Rattle.clsm_workload.specs.Audit.{IsAudited}
+use Rattle.clsm_workload.specs.Calls.{HasMadeAll, HasSettled}
+use Rattle.clsm_workload.specs.Printed.{PrintsRun}
+use Rattle.clsm_workload.specs.declared.load.AskedRun.{AskedRun}
+use Rattle.clsm_workload.specs.declared.load.Load.{Load}
+use Rattle.clsm_workload.specs.declared.ran.Ran.{Ran}
+
+-- all seats of a store of these sizes made all calls that they were asked for, each of them is
+-- lawful, and all their records were audited
+pub record IsWholeRun (config : Config) (load : Load) (ran : Ran) : Type 0 where
+  pub store : StoreId
+  pub sizes : HasSizes store config
+  pub audited : IsAudited config store ran.seats.items ran.records.items ran.verdict
+  pub made : All (λ seat. HasMadeAll load seat ⊎ HasSettled load seat) ran.seats.items
+  pub lawful : AreLawfulAlone ran.seats.items
+
+-- how a run with this verdict ends
+abbrev pub ending_of : Result ⊤ AuditError → Result ⊤ Failure
+ending_of (Ok _) = Ok tt
+ending_of (Err (audits.Fault _ _)) = Err Fault
+ending_of (Err audits.Memory) = Err Memory
+
+-- why the calls of a run are not all made and audited: its sizes were refused, or memory; or its
+-- store was opened, and a device failed
+abbrev pub StopsCalls : Config → Failure → Type 0
+StopsCalls config (Refused error) = IsRefusal config error
+StopsCalls config Memory = ⊤
+StopsCalls config Device = IsSound config
+StopsCalls config _ = ⊥
+
+-- after the opening
+abbrev pub StopsWork : Failure → Type 0
+StopsWork Memory = ⊤
+StopsWork Device = ⊤
+StopsWork _ = ⊥
+
+-- the run is whole, and where its writes wait for room, its calls are one whole history
+pub record IsRunOf (asked : AskedRun) (ran : Ran) : Type 0 where
+  pub whole : IsWholeRun asked.config asked.load ran
+  pub history : IsTrue asked.waits → IsWholeHistory ran.seats.items (longest_past ran.seats.items)
+
+-- the audit of such a run found no fault, and this is printed behind what the output held
+pub record EndsWell (asked : AskedRun) (before after : Option (List ℕ)) : Type 0 where
+  pub ran : Ran
+  pub is_run : IsRunOf asked ran
+  pub verdict : ran.verdict ≡ Ok tt
+  pub prints : PrintsRun asked ran before after
+
+-- the audit of such a run found a fault, and this is printed
+pub record FindsFault (asked : AskedRun) (before after : Option (List ℕ)) : Type 0 where
+  pub ran : Ran
+  pub kind : FaultKind
+  pub index : ℕ
+  pub is_run : IsRunOf asked ran
+  pub verdict : ran.verdict ≡ Err (audits.Fault kind index)
+  pub prints : PrintsRun asked ran before after
+
+-- why a run does not end well: not all calls were made and audited, or the audit found a fault
+abbrev pub StopsRun : AskedRun → Option (List ℕ) → Option (List ℕ) → Failure → Type 0
+StopsRun asked before after Fault = IsSound asked.config × FindsFault asked before after
+StopsRun asked before after failure = StopsCalls asked.config failure
+
+-- the exit statuses of a run
+abbrev pub IsStatus : ℕ → Type 0
+IsStatus status = (status ≡ 0) ⊎ ((status ≡ 1) ⊎ ((status ≡ 2) ⊎ (status ≡ 3)))

@@ -1,0 +1,179 @@
+//! The threads of a run: a worker for each seat of one store, the merger, and the line that moves.
+ghost use Rattle.std.specs.Prelude.{◌≡◌, All, IfErr, IfOk};
+ghost use Rattle.clsm_store_calls.specs.Seats.{AreNew, IsNewMerger};
+ghost use Rattle.clsm_store.specs.Phase.{merger_in};
+ghost use Rattle.clsm_store_audit.specs.Settled.{AreLawfulAlone};
+ghost use Rattle.clsm_workload.specs.Audit.{IsAudited};
+ghost use Rattle.clsm_workload.specs.Calls.{HasMadeAll};
+ghost use Rattle.clsm_workload.specs.Run.{StopsWork};
+ghost use Rattle.clsm_workload.specs.Work.{AreWorked, IsWorked};
+
+use crate::auditing::audited;
+use crate::gathering::gather;
+use crate::load::AskedRun;
+use crate::merger::{merge_beside, merges_of};
+use crate::progress::show_progress;
+use crate::ran::{Calling, Ran};
+use crate::task::Task;
+use crate::worker::{Worked, work};
+use clsm_store::{Caller, Clean, Merger, Opened, Pace, Seat, Store};
+use clsm_text::Failure;
+use std::alloc::{AllocError, Global};
+use std::io::Write;
+use std::rt::Clock;
+use std::sync::Wait;
+use std::thread::{self, Threads, join};
+use std::time::Instant;
+
+/// Who works at a store: its seats, and its merger.
+#[derive(Drop)]
+pub struct Crew<'a, P: Pace + Drop> {
+    pub store: &'a Store<P>,
+    pub seats: Vec<Seat>,
+    pub merger: Clean,
+}
+
+/// Lets each seat of an opened store, of the sizes that are asked for, make the calls of its
+/// workload in a thread of its own, while one more thread merges, and audits all that they
+/// answered. Refused with `Memory` where a worker was refused memory, and with `Device` where the
+/// clock fails.
+pub fn run_on<P, R, E>(
+    rt: &R,
+    alloc: Global,
+    asked: &AskedRun,
+    opened: Opened<P>,
+    faults: &mut E,
+) -> Result<Ran, Failure>
+where
+    P: Pace + Drop + Sync,
+    R: Threads + Sync + Clock + Wait,
+    E: Write + Send,
+    requires seats { AreNew opened.store asked.now.config.seats opened.seats.items }
+    requires merger { IsNewMerger opened.store opened.merger }
+    ensures audited { IfOk result (λ ran.
+        IsAudited asked.now.config opened.store ran.seats.items ran.records.items ran.verdict) }
+    ensures made { IfOk result (λ ran. All (HasMadeAll asked.now.load) ran.seats.items) }
+    ensures lawful { IfOk result (λ ran. AreLawfulAlone ran.seats.items) }
+    ensures stopped { IfErr result StopsWork }
+{
+    let Opened {
+        store,
+        seats,
+        merger,
+    } = opened;
+    let task = Task::new(asked.load, asked.shows);
+    let crew = Crew {
+        store: &store,
+        seats,
+        merger,
+    };
+    let start = Instant::now(rt)?;
+    let (worked, merges) = work_merging(rt, alloc, crew, &task, faults);
+    let time = start.elapsed(rt)?;
+    let worked = worked?;
+    let Ok(gathered) = gather(alloc, worked) else {
+        return Err(Failure::Memory);
+    };
+    let calling = Calling {
+        time,
+        merges: Some(merges),
+    };
+    audited(rt, alloc, &asked.config, gathered, calling)
+}
+
+/// Lets the workers work while the merger merges and the line moves. Answers what they gave back,
+/// and the number of merges. Refused if memory runs out.
+pub fn work_merging<P, R, E>(
+    rt: &R,
+    alloc: Global,
+    crew: Crew<'_, P>,
+    task: &Task,
+    faults: &mut E,
+) -> (Result<Vec<Worked>, AllocError>, u64)
+where
+    P: Pace + Drop + Sync,
+    R: Threads + Sync + Clock + Wait,
+    E: Write + Send,
+    requires seats { All (λ seat. seat.store ≡ crew.store.now) crew.seats.items }
+    requires merger { crew.merger.merger.store ≡ crew.store.now }
+    ensures { IfOk result.0 (λ worked. AreWorked task.now.load crew.entry.seats.items worked.items) }
+{
+    let Crew {
+        store,
+        seats,
+        merger,
+    } = crew;
+    let merger = Merger::new(store, merger);
+    // Where no thread can be made, the first of the two comes last, and finds that all is over.
+    let (merges, worked) = join(
+        rt,
+        || merge_showing(rt, merger, task, faults),
+        || -> Result<Vec<Worked>, AllocError>
+            requires { All (λ seat. seat.store ≡ store.now) seats.items }
+            ensures { IfOk result (λ worked. AreWorked task.entry.now.load seats.items worked.items) }
+        { work_all(rt, alloc, store, seats, task) },
+    );
+    (worked, merges)
+}
+
+/// Lets each seat's worker work in a thread of its own, and says on the board when all have ended.
+fn work_all<P, R>(
+    rt: &R,
+    alloc: Global,
+    store: &Store<P>,
+    seats: Vec<Seat>,
+    task: &Task,
+) -> Result<Vec<Worked>, AllocError>
+where
+    P: Pace + Drop + Sync,
+    R: Threads + Sync + Clock + Wait,
+    requires { All (λ seat. seat.store ≡ store.now) seats.items }
+    ensures { IfOk result (λ worked. AreWorked task.now.load seats.items worked.items) }
+{
+    let worked = thread::map_vec(
+        rt,
+        seats,
+        &|seat: Seat| -> Worked
+            requires { seat.store ≡ store.now }
+            ensures { IsWorked task.entry.now.load seat result }
+        { work_at(rt, alloc, store, seat, task) },
+    );
+    task.board.end();
+    worked
+}
+
+/// Lets the seat's worker work.
+fn work_at<P, R>(rt: &R, alloc: Global, store: &Store<P>, seat: Seat, task: &Task) -> Worked
+where
+    P: Pace + Drop + Sync,
+    R: Clock + Wait,
+    requires { seat.store ≡ store.now }
+    ensures { IsWorked task.now.load seat result }
+{
+    let mut caller = Caller::new(store, seat);
+    let made = work(rt, alloc, &mut caller, task);
+    Worked {
+        seat: caller.seat,
+        made,
+    }
+}
+
+/// Merges until all workers have ended, while the line moves if it is asked for. Answers the number
+/// of merges.
+fn merge_showing<P, R, E>(rt: &R, merger: Merger<'_, P>, task: &Task, faults: &mut E) -> u64
+where
+    P: Pace + Drop + Sync,
+    R: Threads + Sync + Clock + Wait,
+    E: Write + Send,
+{
+    let board = &task.board;
+    if !task.shows.progress {
+        return merges_of(&merge_beside(rt, merger, board).phase);
+    }
+    let (merges, ()) = join(
+        rt,
+        || merges_of(&merge_beside(rt, merger, board).phase),
+        || show_progress(rt, board, faults),
+    );
+    merges
+}
