@@ -1,7 +1,7 @@
--- What each call of a seat promises: all of it, and once. `Store` makes the call by a seat that it is
--- given, `Caller` by its own, and both promise the same. `old` is the seat as the call found it, `new`
--- the seat as it left it, and `result` what it answered. A call asks only for a seat of its store, and
--- `get_at` also for an open snapshot.
+-- The page to read first: what each call of a seat promises, all of it, once. `Store` makes a call
+-- by a seat that it is given, `Caller` by its own, and both promise the same. `old` is the seat as
+-- the call found it, `new` as it left it, and `result` what it answered. A call asks only for a
+-- seat of its store, and `get_at` also for an open snapshot.
 use Rattle.std.specs.Prelude.{◌≡◌, ℕ, ◌≤◌, List, Option, None, Some, IfNone, IfSome, Result, IfErr, IfOk}
 use Rattle.clsm_model.specs.declared.plain_map.Memory.{Memory}
 use Rattle.clsm_model.specs.declared.record.Deed.{Deed}
@@ -31,7 +31,7 @@ use Rattle.clsm_store_calls.specs.Trying.{RefusesTry}
 use Rattle.clsm_store_calls.specs.TryingChange.{CountsTryChange}
 use Rattle.clsm_store.specs.Changes.{Replaces, added, put_if_absent}
 use Rattle.clsm_store.specs.declared.pages.Pages.{Pages}
-use Rattle.clsm_store.specs.Meetings.{IsUnrecorded, told_by}
+use Rattle.clsm_store.specs.Meetings.{IsUnrecorded, Meets, told_by}
 use Rattle.clsm_store.specs.Paging.{ReadsNext}
 
 -- ---- writes
@@ -49,11 +49,11 @@ pub record Writes (old new : SeatState) (deed : Deed) (result : Result ℕ Full)
 
 -- try_put and try_remove
 pub record TriesToWrite (old new : SeatState) (deed : Deed) (result : Result ℕ TryPutError) : Type 0 where
-  -- as a put
+  -- as put
   pub written : IfOk result (λ time. Answers old new time deed)
   -- it entered the lock once, or was refused it; and each other refusal is counted
   pub counts : CountsTry old.tally new.tally result
-  -- refused: no record more, and with `Full` as a put
+  -- refused: no record more, and with `Full` as put
   pub refused : IfErr result (RefusesTry old new)
 
 -- batch
@@ -69,13 +69,13 @@ pub record WritesBatch (old new : SeatState) (members : List Member) (result : R
 
 -- try_batch
 pub record TriesToWriteBatch (old new : SeatState) (members : List Member) (result : Result ℕ TryBatchError) : Type 0 where
-  -- as a batch
+  -- as batch
   pub written : IfOk result (λ time. Answers old new time (Batch members))
-  -- as a batch
+  -- as batch
   pub fits : IfOk result (λ time. FitsDeed old.store.layout.cells (Batch members))
-  -- as a batch, but it tried the lock once
+  -- as batch, but it tried the lock once
   pub counts : CountsTryBatch old.tally new.tally result
-  -- as a batch, or with `Busy`, if somebody held the lock
+  -- refused: as batch, or with `Busy` if somebody held the lock
   pub refused : IfErr result (IsRefusedTryBatch old new members)
 
 -- ---- read-modify-writes
@@ -88,59 +88,65 @@ pub record Changes (old new : SeatState) (key : ℕ) (result : Result Rmw Full) 
   pub lock : TakesLockOnce old.tally new.tally
   -- it gave up at most one time for each write of the key by another seat that came between
   pub spared : GivesUpForWrites old new key (changed_at result)
-  -- refused: as a put
+  -- refused: as put
   pub full : IfErr result (λ full. IsFull old new full.time)
 
 -- rmw; `Makes value change`: the function may answer the change to the value
 pub record ChangesBy (old new : SeatState) (key : ℕ) (Makes : Option (List ℕ) → Change → Type 0) (result : Result Rmw Full) : Type 0 where
+  -- as above
   pub change : Changes old new key result
   -- the function answered the change to the old value
   pub answered : IfOk result (λ rmw. Makes rmw.old rmw.change)
 
 -- add
 pub record Adds (old new : SeatState) (key by : ℕ) (result : Result Rmw Full) : Type 0 where
+  -- as above
   pub change : Changes old new key result
   -- the change sets the sum, or keeps the old value if there is none
   pub added : IfOk result (λ rmw. rmw.change ≡ added rmw.old by)
 
 -- put_if_absent
 pub record PutsIfAbsent (old new : SeatState) (key : ℕ) (value : List ℕ) (result : Result Rmw Full) : Type 0 where
+  -- as above
   pub change : Changes old new key result
   -- the change sets the value if there was none, and else keeps the old one
   pub claimed : IfOk result (λ rmw. rmw.change ≡ put_if_absent rmw.old value)
 
 -- try_rmw and its kind, whatever they make of the key's value
 pub record TriesToChange (old new : SeatState) (key : ℕ) (result : Result Rmw TryPutError) : Type 0 where
-  -- as a rmw
+  -- as rmw
   pub changed : IfOk result (λ rmw. Answers old new rmw.time (ChangeOf key rmw.old rmw.change))
-  -- it entered the lock once, or was refused it; refused it gave up at most one time, and else none
+  -- it entered the lock once, or was refused it; it gave up at most one time if refused, else none
   pub counts : CountsTryChange old new key result
-  -- refused: as a try_put
+  -- refused: as try_put
   pub refused : IfErr result (RefusesTry old new)
 
 -- try_rmw
 pub record TriesToChangeBy (old new : SeatState) (key : ℕ) (Makes : Option (List ℕ) → Change → Type 0) (result : Result Rmw TryPutError) : Type 0 where
+  -- as above
   pub change : TriesToChange old new key result
-  -- as a rmw
+  -- as rmw
   pub answered : IfOk result (λ rmw. Makes rmw.old rmw.change)
 
 -- try_add
 pub record TriesToAdd (old new : SeatState) (key by : ℕ) (result : Result Rmw TryPutError) : Type 0 where
+  -- as above
   pub change : TriesToChange old new key result
-  -- as an add
+  -- as add
   pub added : IfOk result (λ rmw. rmw.change ≡ added rmw.old by)
 
 -- try_put_if_absent
 pub record TriesToPutIfAbsent (old new : SeatState) (key : ℕ) (value : List ℕ) (result : Result Rmw TryPutError) : Type 0 where
+  -- as above
   pub change : TriesToChange old new key result
-  -- as a put_if_absent
+  -- as put_if_absent
   pub claimed : IfOk result (λ rmw. rmw.change ≡ put_if_absent rmw.old value)
 
 -- try_replace
 pub record TriesToReplace (old new : SeatState) (key : ℕ) (expected desired : Option (List ℕ)) (result : Result Rmw TryPutError) : Type 0 where
+  -- as above
   pub change : TriesToChange old new key result
-  -- the change sets the desired value, or removes the key, if the old value was the expected one; and
-  -- else it keeps the old one
+  -- the change makes the desired value of the old one if that was the expected one, else keeps it
   pub replaced : IfOk result (λ rmw. Replaces rmw.old expected desired rmw.change)
 
 -- ---- reads of one key, and snapshots
@@ -158,7 +164,7 @@ pub record Gets (old new : SeatState) (key : ℕ) (result : Got) : Type 0 where
 pub record OpensSnapshot (old new : SeatState) (result : Result ℕ Open) : Type 0 where
   -- answered: one record more, and the snapshot is open at this time
   pub opened : IfOk result (λ time. Answers old new time Snapshot)
-  -- as a get
+  -- as get
   pub lock : IfOk result (λ time. TakesNoLock old.tally new.tally)
   -- refused: one was open, at this time, and nothing was done
   pub «open» : IfErr result (λ refusal. (new ≡ old) × (old.snapshot ≡ Some refusal.time))
@@ -187,60 +193,60 @@ pub record Scans (old new : SeatState) (lo hi : ℕ) (result : Result Scan Memor
   pub answers : IfOk result (λ scan. Answers old new scan.time (ScanOf lo hi scan.rows))
   -- unless a snapshot is open, the time is the clock as the seat looked at it last
   pub clock : IfOk result (λ scan. IsAtClock old new scan.time)
-  -- as a get
+  -- as get
   pub lock : TakesNoLock old.tally new.tally
   -- refused for memory: no record more
   pub refused : IfErr result (λ refusal. Refuses old new)
 
 -- page
-pub record ReadsPage (old new : SeatState) (from hi max : ℕ) (result : Result Page Memory) : Type 0 where
+pub record GivesPage (old new : SeatState) (from hi max : ℕ) (result : Result Page Memory) : Type 0 where
   -- answered: one record more, of the page at this time
   pub answers : IfOk result (λ page. Answers old new page.time (page_deed from hi max page.rows page.more))
-  -- as a scan
+  -- as scan
   pub clock : IfOk result (λ page. IsAtClock old new page.time)
-  -- as a get
+  -- as get
   pub lock : TakesNoLock old.tally new.tally
-  -- as a scan
+  -- as scan
   pub refused : IfErr result (λ refusal. Refuses old new)
 
 -- next_page, of `Caller` alone; it takes the pages from `before` to `after`
-pub record ReadsNextPage (old new : SeatState) (before after : Pages) (result : Result (Option Page) Memory) : Type 0 where
-  -- answered: the page where the pages stood, and they stand behind it; or nothing, if none was left
+pub record GivesNextPage (old new : SeatState) (before after : Pages) (result : Result (Option Page) Memory) : Type 0 where
+  -- answered: the page where they stood, and they stand behind it; or nothing if none was left
   pub read : IfOk result (ReadsNext old new before after)
-  -- as a get
+  -- as get
   pub lock : TakesNoLock old.tally new.tally
-  -- as a scan
+  -- as scan
   pub refused : IfErr result (λ refusal. Refuses old new)
   -- refused: the pages stand where they stood
   pub stands : IfErr result (λ refusal. after ≡ before)
 
 -- scan_now
 pub record ScansAnew (old new : SeatState) (lo hi : ℕ) (result : Result Scan Memory) : Type 0 where
-  -- answered: the rows are those at the clock, also while a snapshot is open; recorded as a get
+  -- answered: the rows at the clock, also while a snapshot is open; recorded as a get of `lo`
   pub scans : IfOk result (λ scan. ScansNow old new scan.time lo hi scan.rows)
-  -- as a get
+  -- as get
   pub lock : TakesNoLock old.tally new.tally
-  -- as a scan
+  -- as scan
   pub refused : IfErr result (λ refusal. Refuses old new)
 
 -- count
 pub record CountsRange (old new : SeatState) (lo hi : ℕ) (result : Counted) : Type 0 where
   -- it answers how many keys have a value, and the first of them; recorded as a page of no rows
   pub counts : CountsKeys old new result.time lo hi result.keys result.first
-  -- as a get
+  -- as get
   pub lock : TakesNoLock old.tally new.tally
 
 -- visit; its function went from the state `before` to `after`
 pub record VisitsRange {F : Type 0} (Calls : F → Pair → F → Type 0) (IsCallable : F → Type 0) (old new : SeatState) (lo hi : ℕ)
     (before after : F) (result : Counted) : Type 0 where
-  -- as a count; and the function was called once with each row, by rising key, and not otherwise
+  -- as count; and the function was called once with each row, by rising key, and not otherwise
   pub visits : VisitsKeys Calls old new result.time lo hi result.keys result.first before after
   -- and it may be called again
   pub callable : IsCallable after
-  -- as a get
+  -- as get
   pub lock : TakesNoLock old.tally new.tally
 
--- ---- messages
+-- ---- how seats come to know of one another
 
 -- tell
 pub record Tells (store : StoreId) (old new : SeatState) (result : MessageState) : Type 0 where
@@ -259,9 +265,31 @@ pub record Hears (message : MessageState) (old new : SeatState) (result : ℕ) :
   pub above : old.due ≤ result
   -- nor below that which the message carries
   pub above_told : message.heard ≤ result
-  -- the seat read at its new due, which is the clock as it looked at it last; no record more
+  -- it read at its new due, which is the clock as it looked at it last, with no record
   pub seat : IsUnrecorded old new
   -- that due is the time
   pub time : new.due ≡ result
   -- it knows what it was told
   pub begins : IsBeginning (told_by message) (known_by new)
+
+-- meet, of `Store` alone; it takes one seat from `first` to `first'`, the other from `second` to
+-- `second'`
+pub record LetsMeet (first first' second second' : SeatState) (result : ℕ) : Type 0 where
+  -- the time is not below the due of the one
+  pub above : first.due ≤ result
+  -- nor below that of the other
+  pub above_other : second.due ≤ result
+  -- the one read at this time or later, with no record
+  pub one : Meets result first first'
+  -- and so the other
+  pub other : Meets result second second'
+  -- the time is the new due of the one
+  pub time : first'.due ≡ result
+  -- the other knows all that the one knows
+  pub begins : IsBeginning (known_by first') (known_by second')
+
+-- ---- elsewhere
+
+-- `room`: `FindsRoom` in `Looking.antt` of clsm_store_calls. `play`: `PlaysCall`, `CountsCall` and
+-- `ReadsAtClock` in `Play.antt`. `settle`: `AreMet` in `Meetings.antt`, and `IsWholeHistory` in
+-- `Headline.antt`. The merger's calls: `Phase.antt`, `Freezing.antt` and `Sweeping.antt`.

@@ -3,7 +3,7 @@ ghost use Rattle.std.specs.Prelude.{◌≡◌, ◌≢◌, None};
 ghost use Rattle.clsm_model.specs.declared.record.Deed.TheVariants.{Put, Remove};
 ghost use Rattle.clsm_law.specs.Relation.{call_of};
 ghost use Rattle.clsm_store_calls.specs.Looking.{FindsRoom};
-ghost use Rattle.clsm_store.specs.Promises.{ChangesBy, ClosesSnapshot, CountsRange, Gets, GetsAt, OpensSnapshot, ReadsPage, Scans, ScansAnew, TriesToChangeBy, TriesToWrite, TriesToWriteBatch, VisitsRange, Writes, WritesBatch};
+ghost use Rattle.clsm_store.specs.Promises.{ChangesBy, ClosesSnapshot, CountsRange, Gets, GetsAt, OpensSnapshot, GivesPage, Scans, ScansAnew, TriesToChangeBy, TriesToWrite, TriesToWriteBatch, VisitsRange, Writes, WritesBatch};
 
 use crate::seat::Seat;
 use crate::store::Store;
@@ -139,7 +139,7 @@ impl<'a, P: Pace> Caller<'a, P> {
 
     /// As `Store::page`.
     pub fn page(&mut self, alloc: Global, from: u64, hi: u64, max: usize) -> Result<Page, Memory>
-        ensures { ReadsPage self.old.seat self.new.seat from hi max result }
+        ensures { GivesPage self.old.seat self.new.seat from hi max result }
     {
         self.store.page(alloc, &mut self.seat, from, hi, max)
     }

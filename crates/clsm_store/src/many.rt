@@ -3,7 +3,7 @@ ghost use Rattle.std.specs.Prelude.{◌≡◌, IfErr, IfOk};
 ghost use Rattle.clsm_store_calls.specs.Scanning.{CountsKeys, IsAnswerTo, IsAtClock, IsKeyVisit, VisitsKeys};
 ghost use Rattle.clsm_store_calls.specs.Seats.{Answers, Refuses, known_by};
 ghost use Rattle.clsm_store_calls.specs.Tally.{TakesNoLock};
-ghost use Rattle.clsm_store.specs.Promises.{CountsRange, ReadsPage, Scans, ScansAnew, VisitsRange};
+ghost use Rattle.clsm_store.specs.Promises.{CountsRange, GivesPage, Scans, ScansAnew, VisitsRange};
 
 use crate::seat::Seat;
 use crate::store::Store;
@@ -75,7 +75,7 @@ impl<P: Pace> Store<P> {
         max: usize,
     ) -> Result<Page, Memory>
         requires { seat.old.store ≡ self.now }
-        ensures { ReadsPage seat.old seat.new from hi max result }
+        ensures { GivesPage seat.old seat.new from hi max result }
     {
         let (time, deed) = self.read_many(alloc, seat, Asked::First(from, hi, max))?;
         match deed {

@@ -1,9 +1,8 @@
 //! The calls by which seats come to know of one another.
-ghost use Rattle.std.specs.Prelude.{◌≡◌, ◌≤◌};
-ghost use Rattle.clsm_model.specs.History.{IsBeginning};
-ghost use Rattle.clsm_store_calls.specs.Seats.{known_by};
+ghost use Rattle.std.specs.Prelude.{◌≡◌};
 ghost use Rattle.clsm_store.specs.Headline.{HasAllSeats, IsJointHistory, IsWholeHistory, longest_past};
-ghost use Rattle.clsm_store.specs.Meetings.{AreChained, AreMet, AreOf, Meets};
+ghost use Rattle.clsm_store.specs.Meetings.{AreChained, AreMet, AreOf};
+ghost use Rattle.clsm_store.specs.Promises.{LetsMeet};
 
 use crate::seat::Seat;
 use crate::settling::{confirm_all, follow_all, tell_all};
@@ -21,12 +20,7 @@ impl<P: Pace> Store<P> {
     pub fn meet(&self, one: &mut Seat, other: &mut Seat) -> Time
         requires one { one.old.store ≡ self.now }
         requires other { other.old.store ≡ self.now }
-        ensures above { one.old.due ≤ result }
-        ensures above_other { other.old.due ≤ result }
-        ensures one { Meets result one.old one.new }
-        ensures other { Meets result other.old other.new }
-        ensures time { one.new.due ≡ result }
-        ensures begins { IsBeginning (known_by one.new) (known_by other.new) }
+        ensures { LetsMeet one.old one.new other.old other.new result }
     {
         let message = tell(self, other);
         let time = follow(self, one, message);

@@ -1,7 +1,7 @@
 //! The pages of a range, one after another.
 ghost use Rattle.std.specs.Prelude.{◌≡◌, Some};
 ghost use Rattle.clsm_store.specs.Paging.{at_least_one};
-ghost use Rattle.clsm_store.specs.Promises.{ReadsNextPage};
+ghost use Rattle.clsm_store.specs.Promises.{GivesNextPage};
 
 use crate::caller::Caller;
 use clsm_model::Memory;
@@ -42,7 +42,7 @@ impl<'a, P: Pace> Caller<'a, P> {
     /// each is of a time of its own. It takes no lock, never waits and is refused as `scan`: the
     /// pages are as before then, and so the next call reads the same one.
     pub fn next_page(&mut self, alloc: Global, pages: &mut Pages) -> Result<Option<Page>, Memory>
-        ensures { ReadsNextPage self.old.seat self.new.seat pages.old pages.new result }
+        ensures { GivesNextPage self.old.seat self.new.seat pages.old pages.new result }
     {
         let Some(from) = pages.next else {
             return Ok(None);
