@@ -1,6 +1,6 @@
 -- The seats that callers give back are all those of the store, in their order, and stay so as they
 -- settle.
-use Rattle.std.proofs.Common.{◌≡◌, ℕ, zero, suc, ◌<◌, List, [], ◌∷◌, length, get_or, map, refl, sym, ap, ◌∙◌, subst, arith}
+use Rattle.std.proofs.Common.{◌≡◌, ℕ, zero, suc, ◌<◌, List, [], ◌∷◌, length, get_or, map, Option, refl, sym, ap, ◌∙◌, subst, arith}
 use Rattle.std.proofs.lemmas.List.{get_or_default, length-map}
 use Rattle.clsm_model.specs.declared.config.Config.{Config}
 use Rattle.clsm_model.specs.Config.{IsSound}
@@ -8,10 +8,17 @@ use Rattle.clsm_store.specs.Headline.{HasAllSeats, IsAt}
 use Rattle.clsm_store.specs.Meetings.{AreMet, AreOf}
 use Rattle.clsm_store_calls.specs.Seats.{AreNew, HasSizes, SeatState, StoreId, newcomer}
 use Rattle.clsm_session.specs.Ended.{AreAllSeats, AreDone, StopsSession, StopsWork}
-use Rattle.clsm_session.specs.Places.{AreBack, IsBack}
+use Rattle.clsm_session.specs.Places.{AreBack, HasCells, HasPlace, IsBack}
 use Rattle.clsm_session.specs.declared.refusal.SessionError.{SessionError}
 use Rattle.clsm_session.specs.declared.refusal.SessionError.TheVariants.{Open, NoThread, Memory}
 use Rattle.clsm_session.specs.declared.worked.Worked.{Worked}
+
+-- the store of the place is the seat's
+pub has_cells : (store : Option StoreId) (number cells : ℕ) (s : SeatState) → HasPlace store number s → cells ≡ s.store.layout.cells → HasCells store cells
+has_cells store number cells s at e = subst (λ (o : Option StoreId). HasCells o cells) at.0 e
+
+pub cells_of : (store : Option StoreId) (number cells : ℕ) (s : SeatState) → HasPlace store number s → HasCells store cells → cells ≡ s.store.layout.cells
+cells_of store number cells s at h = subst (λ (o : Option StoreId). HasCells o cells) (sym at.0) h
 
 abbrev pub seats_of : {A : Type 0} → List (Worked A) → List SeatState
 seats_of ws = map (λ w. w.seat) ws

@@ -1,5 +1,6 @@
 -- Writes that were refused because there was no room, and tried again.
-use Rattle.std.proofs.Common.{◌≡◌, ◌+◌, ◌-◌, ◌^◌, ◌<◌, ◌≤◌, ◌⊎◌, inl, inr, ℕ, suc, List, [], ◌∷◌, ◌++◌, Option, Some, Result, Ok, Err, IfErr, refl, sym, ap, ◌∙◌, subst, arith}
+use Rattle.std.proofs.Common.{◌≡◌, ◌+◌, ◌-◌, ◌*◌, ◌/◌, ◌%◌, ◌^◌, min, ◌<◌, ◌≤◌, ◌⊎◌, inl, inr, ℕ, suc, List, [], ◌∷◌, ◌++◌, Option, Some, Result, Ok, Err, IfErr, refl, sym, ap, ◌∙◌, subst, arith}
+use Rattle.std.proofs.lemmas.Grind.{div_ceil_times}
 use Rattle.std.specs.Fn.{iterate}
 use Rattle.std.specs.Result.{IsErrAnd}
 use Rattle.clsm_model.specs.declared.record.CallRecord.{CallRecord}
@@ -15,8 +16,9 @@ use Rattle.clsm_store_calls.proofs.Beside.{beside_apart}
 use Rattle.clsm_store_calls.proofs.Counting.{counts_both, once_more}
 use Rattle.clsm_store_calls.specs.declared.got.Rmw.{Rmw as Answered}
 use Rattle.clsm_store.specs.declared.play.call.Call.{Call}
-use Rattle.clsm_session.specs.Waiting.{GivesUpByAnswer, GivesUpOver, HasEntered, IsFullAtLast, IsNoRoomAtLast, RefusesCall}
+use Rattle.clsm_session.specs.Waiting.{EndsAt, GivesUpByAnswer, GivesUpOver, HasEntered, IsFullAtLast, IsNoRoomAtLast, IsReason, RefusesCall}
 use Rattle.clsm_session.specs.declared.refusal.Refused.{Refused}
+use Rattle.clsm_session.specs.declared.refusal.Refused.TheVariants.{RunFull, Worn}
 use Rattle.clsm_session.specs.declared.refusal.BatchRefused.{BatchRefused}
 use Rattle.clsm_session.specs.declared.refusal.BatchRefused.TheVariants.{NoRoom}
 
@@ -68,18 +70,20 @@ holds_more times a b c h e =
 has_entered : (times : ℕ) (a b c : Tally) → times < 2 ^ 64 - 1 → Holds times a b → c.entries ≡ next_word b.entries → HasEntered a c
 has_entered times a b c few h e = record { times = times + 1; some = omega arith; few = omega arith; counted = holds_more times a b c h e }
 
-pub full_after : (a b c : SeatState) (t times : ℕ) → times < 2 ^ 64 - 1 → Holds times a.tally b.tally → Refuses a b → IsFull b c t → IsFullAtLast a c
-full_after a b c t times few holds h k = record {
+pub full_after : (a b c : SeatState) (t times cells : ℕ) (reason : Refused) → times < 2 ^ 64 - 1 → Holds times a.tally b.tally → Refuses a b
+    → cells ≡ a.store.layout.cells → IsReason cells t reason → IsFull b c t → IsFullAtLast a c reason
+full_after a b c t times cells reason few holds h same right k = record {
   refused = refuses_trans a b c h k.refused;
   entered = has_entered times a.tally b.tally c.tally few holds k.entered;
   time = t;
   limit = k.limit;
   clock = k.clock;
+  right = subst (λ (n : ℕ). IsReason n t reason) same right;
 }
 
-pub no_room_after : (a b c : SeatState) (t members times : ℕ) → times < 2 ^ 64 - 1 → Holds times a.tally b.tally → Refuses a b → IsNoRoom b c t members
-    → IsNoRoomAtLast a c members
-no_room_after a b c t members times few holds h k = record {
+pub no_room_after : (a b c : SeatState) (t members times cells : ℕ) (reason : Refused) → times < 2 ^ 64 - 1 → Holds times a.tally b.tally → Refuses a b
+    → cells ≡ a.store.layout.cells → IsReason cells t reason → IsNoRoom b c t members → IsNoRoomAtLast a c members reason
+no_room_after a b c t members times cells reason few holds h same right k = record {
   refused = refuses_trans a b c h k.refused;
   entered = has_entered times a.tally b.tally c.tally few holds k.entered;
   time = t;
@@ -87,7 +91,29 @@ no_room_after a b c t members times few holds h k = record {
   limit = k.limit;
   looked = k.looked;
   short = k.short;
+  right = subst (λ (n : ℕ). IsReason n t reason) same right;
 }
+
+-- the end of the epoch that is full at a time, as far as a word reaches
+abbrev pub EndsWithin : ℕ → ℕ → ℕ → Type 0
+EndsWithin cells time limit = (end : ℕ) × EndsAt cells time end × (limit ≡ min end (2 ^ 64 - 1))
+
+pub ends_within : (cells time epochs limit : ℕ) → 1 ≤ cells → epochs ≡ time / cells + min 1 (time % cells) → limit ≡ min (epochs * cells) (2 ^ 64 - 1)
+    → EndsWithin cells time limit
+ends_within cells time epochs limit some e found = let bounds = div_ceil_times time cells (omega arith) in let same = ap (λ (n : ℕ). n * cells) e in (
+  epochs * cells,
+  record { epochs = epochs; whole = refl; reached = let b = bounds.0 in omega arith; least = let b = bounds.1 in omega arith },
+  found,
+)
+
+-- the reason, by the end of the next epoch
+pub is_worn : (cells time limit next : ℕ) → EndsWithin cells time limit → next ≡ min (limit + cells) (2 ^ 64 - 1) → 2 ^ 62 < next
+    → IsReason cells time Worn
+is_worn cells time limit next (end, at, e) f late = (end, at, omega arith)
+
+pub is_run_full : (cells time limit next : ℕ) → EndsWithin cells time limit → next ≡ min (limit + cells) (2 ^ 64 - 1) → next ≤ 2 ^ 62
+    → IsReason cells time RunFull
+is_run_full cells time limit next (end, at, e) f early = (end, at, omega arith)
 
 pub cancels_self : (a : Tally) → CancelsNone a a
 cancels_self a = record { own = refl; others = refl; hasty = refl }
@@ -136,14 +162,13 @@ pub gives_up_refused : (old new : SeatState) (key last : ℕ) (r : Result Answer
 gives_up_refused old new key last (Ok _) P is clock h = absurd is
 gives_up_refused old new key last (Err _) P is clock h = (last, clock, h)
 
--- a refusal that `?` made of one for which there was no room
-no_room_is : {A : Type 0} (r : Result A BatchRefused) (refused : Refused) (P : BatchRefused → Type 0) → IsErrAnd r (λ e. e ≡ NoRoom refused)
-    → P (NoRoom refused) → IfErr r P
-no_room_is (Ok _) refused P is h = absurd is
-no_room_is (Err e) refused P is h = subst P (sym is) h
+-- what holds of the refusal that `?` handed on
+pub refused_by : {A E : Type 0} (r : Result A E) (e : E) (P : E → Type 0) → IsErrAnd r (λ x. x ≡ e) → P e → IfErr r P
+refused_by (Ok _) e P is h = absurd is
+refused_by (Err x) e P is h = subst P (sym is) h
 
 -- the call that is played was refused because there was no room
 pub refuses_so : {A : Type 0} (call made : Call) (old new : SeatState) (refused : Refused) (r : Result A BatchRefused) → call ≡ made
     → IsErrAnd r (λ e. e ≡ NoRoom refused) → RefusesCall made old new (NoRoom refused) → IfErr r (RefusesCall call old new)
 refuses_so call made old new refused r same is h =
-    no_room_is r refused (RefusesCall call old new) is (subst (λ (c : Call). RefusesCall c old new (NoRoom refused)) (sym same) h)
+    refused_by r (NoRoom refused) (RefusesCall call old new) is (subst (λ (c : Call). RefusesCall c old new (NoRoom refused)) (sym same) h)

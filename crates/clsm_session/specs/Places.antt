@@ -1,11 +1,15 @@
 -- The seats that a session deals, and gets back.
-use Rattle.std.specs.Prelude.{◌≡◌, ℕ, ◌<◌, List, length, slice_index_or, Option, Some}
+use Rattle.std.specs.Prelude.{◌≡◌, ℕ, ◌<◌, IfSome, List, length, slice_index_or, Option, Some}
 use Rattle.clsm_store_calls.specs.Seats.{SeatState, StoreId}
 use Rattle.clsm_session.specs.declared.worked.Worked.{Worked}
 
 -- the seat has this place: it is one of this store, and has this number
 abbrev pub HasPlace : Option StoreId → ℕ → SeatState → Type 0
 HasPlace store number s = (Some s.store ≡ store) × (s.number ≡ number)
+
+-- an epoch of the store has so many cells, where there is one
+abbrev pub HasCells : Option StoreId → ℕ → Type 0
+HasCells store cells = IfSome store (λ s. cells ≡ s.layout.cells)
 
 -- the seat is given back, and the answer says what it did
 pub record IsBack {A : Type 0} (does : SeatState → SeatState → A → Type 0) (old : SeatState) (done : Worked A) : Type 0 where

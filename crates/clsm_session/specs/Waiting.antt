@@ -1,6 +1,6 @@
 -- What writes that wait for room leave of the seat. Each try that found no room left it as it was,
 -- but for its tally.
-use Rattle.std.specs.Prelude.{◌≡◌, ℕ, ◌+◌, ◌^◌, ◌<◌, ◌≤◌, List, length, Some, Result, Ok, Err, ⊤}
+use Rattle.std.specs.Prelude.{◌≡◌, ℕ, ◌+◌, ◌*◌, ◌^◌, ◌<◌, ◌≤◌, List, length, Some, Result, Ok, Err, ⊤}
 use Rattle.std.specs.Fn.{iterate}
 use Rattle.clsm_model.specs.declared.record.Deed.TheVariants.{Batch as Group}
 use Rattle.clsm_model.specs.Right.{Member}
@@ -17,6 +17,7 @@ use Rattle.clsm_store.specs.declared.play.call.Call.{Call}
 use Rattle.clsm_store.specs.declared.play.call.Call.TheVariants.{Put, Remove, Add, Claim, Batch}
 use Rattle.clsm_store.specs.Play.{CountsCall}
 use Rattle.clsm_session.specs.declared.refusal.Refused.{Refused}
+use Rattle.clsm_session.specs.declared.refusal.Refused.TheVariants.{RunFull, Worn}
 use Rattle.clsm_session.specs.declared.refusal.BatchRefused.{BatchRefused}
 use Rattle.clsm_session.specs.declared.refusal.BatchRefused.TheVariants.{Empty, TooLong, Keep, NoRoom}
 
@@ -48,17 +49,33 @@ pub record HasEntered (old new : Tally) : Type 0 where
   pub few : times < 2 ^ 64
   pub counted : new.entries ≡ iterate next_word times old.entries
 
--- it was refused, and in its last hold of the lock, one of this call, the clock stood at the limit
-pub record IsFullAtLast (old new : SeatState) : Type 0 where
+-- the epoch that is full at this time ends here: at the least multiple of its cells that is not below
+-- the time
+pub record EndsAt (cells time end : ℕ) : Type 0 where
+  pub epochs : ℕ
+  pub whole : end ≡ epochs * cells
+  pub reached : time ≤ end
+  pub least : end < time + cells
+
+-- the reason that is told where no epoch is made behind the one that is full at this time: `Worn` if it
+-- would end past 2^62, and `RunFull` if it would not
+abbrev pub IsReason : ℕ → ℕ → Refused → Type 0
+IsReason cells time Worn = (end : ℕ) × EndsAt cells time end × (2 ^ 62 < end + cells)
+IsReason cells time RunFull = (end : ℕ) × EndsAt cells time end × (end + cells ≤ 2 ^ 62)
+
+-- it was refused for this reason, and in its last hold of the lock, one of this call, the clock stood at
+-- the limit
+pub record IsFullAtLast (old new : SeatState) (reason : Refused) : Type 0 where
   pub refused : Refuses old new
   pub entered : HasEntered old.tally new.tally
   pub time : ℕ
   pub limit : new.tally.limit ≡ Some time
   pub clock : new.tally.clock ≡ Some time
+  pub right : IsReason old.store.layout.cells time reason
 
--- it was refused, and in its last hold of the lock, one of this call, so many members did not fit
--- between the clock and the limit
-pub record IsNoRoomAtLast (old new : SeatState) (members : ℕ) : Type 0 where
+-- it was refused for this reason, and in its last hold of the lock, one of this call, so many members did
+-- not fit between the clock and the limit
+pub record IsNoRoomAtLast (old new : SeatState) (members : ℕ) (reason : Refused) : Type 0 where
   pub refused : Refuses old new
   pub entered : HasEntered old.tally new.tally
   pub time : ℕ
@@ -66,21 +83,23 @@ pub record IsNoRoomAtLast (old new : SeatState) (members : ℕ) : Type 0 where
   pub limit : ℕ
   pub looked : new.tally.limit ≡ Some limit
   pub short : limit < time + members
+  pub right : IsReason old.store.layout.cells time reason
 
 -- why a batch was refused: only because there was no room; or because it is not a batch, with the seat
 -- as it was
 abbrev pub IsRefusedAtLast : SeatState → SeatState → List Member → BatchRefused → Type 0
-IsRefusedAtLast old new members (NoRoom _) = FitsDeed old.store.layout.cells (Group members) × IsNoRoomAtLast old new (length members)
+IsRefusedAtLast old new members (NoRoom reason) =
+    FitsDeed old.store.layout.cells (Group members) × IsNoRoomAtLast old new (length members) reason
 IsRefusedAtLast old new members Empty = (new ≡ old) × IsNoBatch old.store.layout.cells members errors.Empty
 IsRefusedAtLast old new members TooLong = (new ≡ old) × IsNoBatch old.store.layout.cells members errors.TooLong
 IsRefusedAtLast old new members Keep = (new ≡ old) × IsNoBatch old.store.layout.cells members errors.Keep
 
 -- the call that is played was refused so
 abbrev pub RefusesCall : Call → SeatState → SeatState → BatchRefused → Type 0
-RefusesCall (Put _ _) old new (NoRoom _) = IsFullAtLast old new
-RefusesCall (Remove _) old new (NoRoom _) = IsFullAtLast old new
-RefusesCall (Add _ _) old new (NoRoom _) = IsFullAtLast old new
-RefusesCall (Claim _ _) old new (NoRoom _) = IsFullAtLast old new
+RefusesCall (Put _ _) old new (NoRoom reason) = IsFullAtLast old new reason
+RefusesCall (Remove _) old new (NoRoom reason) = IsFullAtLast old new reason
+RefusesCall (Add _ _) old new (NoRoom reason) = IsFullAtLast old new reason
+RefusesCall (Claim _ _) old new (NoRoom reason) = IsFullAtLast old new reason
 RefusesCall (Batch members) old new refusal = IsRefusedAtLast old new members refusal
 RefusesCall _ _ _ _ = ⊥
 

@@ -1,5 +1,9 @@
 //! What the callers of a session and its merger tell one another.
+ghost use Rattle.std.specs.Prelude.{◌≡◌, ◌≤◌, ◌-◌, ◌^◌, ℕ, IfErr, min};
+ghost use Rattle.clsm_session.specs.Waiting.{EndsAt, IsReason};
+
 use crate::refusal::Refused;
+use clsm_law::LAST_LIMIT;
 use std::sync::atomic::AtomicU64;
 use std::sync::atomic::Ordering::SeqCst;
 use std::sync::{Condvar, Mutex, MutexGuard, Wait};
@@ -15,7 +19,8 @@ pub(crate) struct Board {
     /// The time whose write wakes the merger.
     wake_at: AtomicU64,
     /// The timestamps of an epoch.
-    cells: u64,
+    pub(crate) cells: u64,
+    pub(crate) ghost some_cells: { 1 ≤ cells },
 }
 
 /// What stands on the board.
@@ -28,7 +33,6 @@ struct State {
     /// The calls for room so far, and as many of them as the merger could not serve.
     calls: u64,
     refused: u64,
-    refusal: Refused,
     /// The epoch is half full.
     is_half: bool,
     /// All callers have returned.
@@ -44,13 +48,15 @@ impl State {
 
 impl Board {
     /// The board of a store that was opened with so many cells.
-    pub(crate) fn new(cells: u64) -> Board {
+    pub(crate) fn new(cells: u64) -> Board
+        requires { 1 ≤ cells }
+        ensures { result.cells ≡ cells }
+    {
         let state = State {
             limit: cells,
             full: 0,
             calls: 0,
             refused: 0,
-            refusal: Refused::RunFull,
             is_half: false,
             is_over: false,
         };
@@ -86,11 +92,21 @@ impl Board {
 
     /// Waits until an epoch is there behind the one that this caller found full at this time.
     /// Refused where the merger, called for it, could not make one.
-    pub(crate) fn wait_for_room<R: Wait>(&self, rt: &R, time: u64) -> Result<(), Refused> {
-        let limit = self.end_of_epoch(time);
+    pub(crate) fn wait_for_room<R: Wait>(&self, rt: &R, time: u64) -> Result<(), Refused>
+        ensures { IfErr result (IsReason self.now.cells time) }
+    {
+        if self.is_served(rt, self.end_of_epoch(time)) {
+            return Ok(());
+        }
+        Err(self.reason(time))
+    }
+
+    /// Calls the merger for an epoch behind this limit, and waits for it. Answers whether it is
+    /// there.
+    fn is_served<R: Wait>(&self, rt: &R, limit: u64) -> bool {
         let mut state = self.state.lock(rt);
         if state.limit > limit {
-            return Ok(());
+            return true;
         }
         state.full = state.full.max(limit);
         state.calls = state.calls.saturating_add(1);
@@ -99,29 +115,46 @@ impl Board {
         self.wait_past(rt, state, limit, call)
     }
 
-    /// Waits until the limit has passed this one, or the call is refused.
+    /// Waits until the limit has passed this one, or the call is refused. Answers which.
     fn wait_past<R: Wait>(
         &self,
         rt: &R,
         mut state: MutexGuard<'_, State>,
         limit: u64,
         call: u64,
-    ) -> Result<(), Refused> {
+    ) -> bool {
         for _ in rt.forever() {
             if state.limit > limit {
-                return Ok(());
+                return true;
             }
             if state.refused >= call {
-                return Err(state.refusal);
+                return false;
             }
             state = self.served.wait(rt, state);
         }
         unreachable!()
     }
 
-    /// The least limit of an epoch that is not below this time.
-    fn end_of_epoch(&self, time: u64) -> u64 {
-        time.div_ceil(self.cells.max(1)).saturating_mul(self.cells)
+    /// The end of the epoch that was found full at this time.
+    #[tactic(auto, using(crate::proofs::Waiting::ends_within))]
+    fn end_of_epoch(&self, time: u64) -> u64
+        ensures { (end : ℕ) × EndsAt self.now.cells time end × (result ≡ min end (2 ^ 64 - 1)) }
+    {
+        time.div_ceil(self.cells).saturating_mul(self.cells)
+    }
+
+    /// Why there is no epoch behind the one that was found full at this time. It goes by the time
+    /// alone, as the merger does, which freezes an epoch only if the next one ends at 2^62 or
+    /// before.
+    #[tactic(auto, using(crate::proofs::Waiting::is_worn, crate::proofs::Waiting::is_run_full))]
+    fn reason(&self, time: u64) -> Refused
+        ensures { IsReason self.now.cells time result }
+    {
+        if self.end_of_epoch(time).saturating_add(self.cells) > LAST_LIMIT {
+            Refused::Worn
+        } else {
+            Refused::RunFull
+        }
     }
 
     /// Sleeps until the merger has something to do. Answers how often callers have called for room,
@@ -164,10 +197,9 @@ impl Board {
     }
 
     /// Refuses the first so many calls for room.
-    pub(crate) fn refuse<R: Wait>(&self, rt: &R, calls: u64, refusal: Refused) {
+    pub(crate) fn refuse<R: Wait>(&self, rt: &R, calls: u64) {
         let mut state = self.state.lock(rt);
         state.refused = calls;
-        state.refusal = refusal;
         self.served.notify_all();
     }
 

@@ -40,24 +40,26 @@ pub struct SessionCaller<'a, R: Wait, P: Place> {
 
 impl<'a, R: Wait, P: Place> Model for SessionCaller<'a, R, P> {
     ghost use Rattle.clsm_store_calls.specs.Seats.{SeatState};
-    ghost use Rattle.clsm_session.specs.Places.{HasPlace};
+    ghost use Rattle.clsm_session.specs.Places.{HasCells, HasPlace};
 
     ghost Value = { SeatState };
 
     ghost view = { λ s. s.caller.seat };
 
-    ghost invariant = { λ s. HasPlace P.store P.number s.caller.seat };
+    ghost invariant = { λ s. HasPlace P.store P.number s.caller.seat × HasCells P.store s.board.now.cells };
 }
 
 impl<'a, R: Wait, P: Place> SessionCaller<'a, R, P> {
     /// The caller that has this seat, which has the place.
+    #[tactic(auto, using(crate::proofs::Places::has_cells))]
     pub(crate) fn new(
         rt: &'a R,
         alloc: Global,
         board: &'a Board,
         caller: Caller<'a, Free>,
     ) -> SessionCaller<'a, R, P>
-        requires { HasPlace P.store P.number caller.seat }
+        requires place { HasPlace P.store P.number caller.seat }
+        requires cells { board.now.cells ≡ caller.seat.store.layout.cells }
         ensures { result ≡ caller.entry.seat }
     {
         SessionCaller {
@@ -88,34 +90,38 @@ impl<'a, R: Wait, P: Place> SessionCaller<'a, R, P> {
     /// batch or the merger holds the lock, and while the epoch is full, until the merger has frozen
     /// it. Refused where the merger was called for this write and could not: in the write's last
     /// hold of the lock the clock stood at the limit, nothing was written, and the seat is as before
-    /// but for its tally.
+    /// but for its tally. It is refused with `Worn` if the next epoch would end past 2^62, and else
+    /// with `RunFull`.
+    #[tactic(auto, using(crate::proofs::Places::cells_of))]
     pub fn put(&mut self, key: u64, value: Value) -> Result<Time, Refused>
         ensures written { IfOk result (λ time. Answers self.old self.new time (Put key value)) }
         ensures cancels { CancelsNone self.old.tally self.new.tally }
-        ensures refused { IfErr result (λ refused. IsFullAtLast self.old self.new) }
+        ensures refused { IfErr result (IsFullAtLast self.old self.new) }
     {
         writing::write(self.rt, self.board, &mut self.caller, key, Some(&value))
     }
 
     /// Removes the key, and answers the removal's time, whether or not the key had a value. It
     /// waits and is refused as `put`.
+    #[tactic(auto, using(crate::proofs::Places::cells_of))]
     pub fn remove(&mut self, key: u64) -> Result<Time, Refused>
         ensures written { IfOk result (λ time. Answers self.old self.new time (Remove key)) }
         ensures cancels { CancelsNone self.old.tally self.new.tally }
-        ensures refused { IfErr result (λ refused. IsFullAtLast self.old self.new) }
+        ensures refused { IfErr result (IsFullAtLast self.old self.new) }
     {
         writing::write(self.rt, self.board, &mut self.caller, key, None)
     }
 
     /// Reads the key, and makes of its value what the function answers to it, as `Store::rmw`. The
     /// function may be asked several times. It waits and is refused as `put`.
+    #[tactic(auto, using(crate::proofs::Places::cells_of))]
     pub fn rmw<F: Fn(Option<Value>) -> Change>(&mut self, key: u64, f: &F) -> Result<Rmw, Refused>
         requires { F.IsAlwaysCallable f.now }
         ensures changed { IfOk result (λ rmw. Answers self.old self.new rmw.time (ChangeOf key rmw.old rmw.change)) }
         ensures answered { IfOk result (λ rmw. F.post f.now rmw.old rmw.change) }
         ensures patient { IsPatient self.old self.new }
         ensures spared { GivesUpByAnswer self.old self.new key result }
-        ensures refused { IfErr result (λ refused. IsFullAtLast self.old self.new) }
+        ensures refused { IfErr result (IsFullAtLast self.old self.new) }
     {
         writing::rmw(self.rt, self.board, &mut self.caller, key, f)
     }
@@ -128,7 +134,7 @@ impl<'a, R: Wait, P: Place> SessionCaller<'a, R, P> {
         ensures added { IfOk result (λ rmw. rmw.change ≡ added rmw.old by) }
         ensures patient { IsPatient self.old self.new }
         ensures spared { GivesUpByAnswer self.old self.new key result }
-        ensures refused { IfErr result (λ refused. IsFullAtLast self.old self.new) }
+        ensures refused { IfErr result (IsFullAtLast self.old self.new) }
     {
         self.rmw(key, &|old| added(old, by))
     }
@@ -140,7 +146,7 @@ impl<'a, R: Wait, P: Place> SessionCaller<'a, R, P> {
         ensures claimed { IfOk result (λ rmw. rmw.change ≡ put_if_absent rmw.old value) }
         ensures patient { IsPatient self.old self.new }
         ensures spared { GivesUpByAnswer self.old self.new key result }
-        ensures refused { IfErr result (λ refused. IsFullAtLast self.old self.new) }
+        ensures refused { IfErr result (IsFullAtLast self.old self.new) }
     {
         self.rmw(key, &|old| put_if_absent(old, value))
     }
@@ -149,6 +155,7 @@ impl<'a, R: Wait, P: Place> SessionCaller<'a, R, P> {
     /// the first, as `Store::batch`. It waits and is refused as `put`, and also, before it takes the
     /// lock, with `Empty` where there is no member, `TooLong` where there are more than an epoch has
     /// cells, and `Keep` where a member keeps its key.
+    #[tactic(auto, using(crate::proofs::Places::cells_of))]
     pub fn batch(&mut self, members: &[(u64, Change)]) -> Result<Time, BatchRefused>
         ensures written { IfOk result (λ time. Answers self.old self.new time (Group members.now)) }
         ensures fits { IfOk result (λ time. FitsDeed self.old.store.layout.cells (Group members.now)) }

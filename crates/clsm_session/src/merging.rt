@@ -2,7 +2,6 @@
 ghost use Rattle.std.specs.Prelude.{◌≡◌};
 
 use crate::board::Board;
-use crate::refusal::Refused;
 use clsm_store::merger::Merger;
 use clsm_store::{Clean, Free, Stopped, Store};
 use std::sync::Wait;
@@ -22,7 +21,8 @@ pub(crate) fn merge_beside<R: Wait>(rt: &R, store: &Store<Free>, merger: Clean, 
 }
 
 /// Freezes the epoch, unless one is frozen or a component is retired, and goes on as far as it
-/// can. Callers find room as soon as the epoch is frozen, and are refused if it can't be merged.
+/// can. Callers find room as soon as the epoch is frozen, and are refused if it can't be frozen or
+/// merged.
 fn serve<'a, R: Wait>(
     rt: &R,
     merger: Merger<'a, Free>,
@@ -40,8 +40,7 @@ fn serve<'a, R: Wait>(
             board.call_again(rt);
             thread::yield_now();
         }
-        Err(Stopped::RunFull(_)) => board.refuse(rt, calls, Refused::RunFull),
-        Err(Stopped::Worn(_)) => board.refuse(rt, calls, Refused::Worn),
+        Err(Stopped::RunFull(_) | Stopped::Worn(_)) => board.refuse(rt, calls),
     }
     merger
 }

@@ -5,14 +5,15 @@ use clsm_model::OpenError;
 use thiserror::Error;
 
 /// Why a write of a session is refused: the epoch was full, and the merger, called for this write,
-/// could not make the next one. Nothing was written. The store is too small for what it is to hold.
+/// could not make the next one. Nothing was written.
 #[derive(Clone, Copy, PartialEq, Eq, Debug, Error)]
 pub enum Refused {
-    /// The merge would keep more entries than a run has room for. A snapshot that is closed may
-    /// help: the merger tries again for the next write that finds the epoch full.
+    /// The merge would keep more entries than a run has room for: the store is too small for what it
+    /// is to hold. A snapshot that is closed may help: the merger tries again for the next write
+    /// that finds the epoch full.
     #[error("run full")]
     RunFull,
-    /// Timestamps would pass 2^62. No real run gets there.
+    /// The next epoch would end past 2^62, where times end. No real run gets there.
     #[error("worn")]
     Worn,
 }

@@ -87,6 +87,7 @@ struct Stage<'a, R: Threads + Sync + Wait> {
     alloc: Global,
     store: &'a Store<Free>,
     board: &'a Board,
+    ghost cells: { board.now.cells ≡ store.now.layout.cells },
 }
 
 /// Lets each seat's caller do the job while the merger merges, and answers what they gave back when
@@ -165,7 +166,8 @@ fn work_at<R: Threads + Sync + Wait, J: Job, P: Place>(
     job: &J,
     caller: Caller<'_, Free>,
 ) -> Worked<J::Answer>
-    requires { HasPlace P.store P.number caller.seat }
+    requires place { HasPlace P.store P.number caller.seat }
+    requires store { caller.seat.store ≡ stage.now.store.now }
     ensures place { HasPlace P.store P.number result.seat }
     ensures does { J.does caller.entry.seat result.seat result.answer }
 {

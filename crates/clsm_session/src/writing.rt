@@ -1,5 +1,5 @@
 //! Writes that wait for room: each is tried again once the merger has made room for it.
-ghost use Rattle.std.specs.Prelude.{IfErr, IfOk, option_copied};
+ghost use Rattle.std.specs.Prelude.{◌≡◌, IfErr, IfOk, option_copied};
 ghost use Rattle.clsm_model.specs.declared.record.Deed.TheVariants.{Batch as Group, Rmw as ChangeOf};
 ghost use Rattle.clsm_model.specs.Seats.{FitsDeed};
 ghost use Rattle.clsm_store_calls.specs.Resting.{deed_of};
@@ -12,7 +12,7 @@ use crate::refusal::{BatchRefused, Refused};
 use clsm_store::{BatchError, Caller, Change, Free, Full, Rmw, Time, Value};
 use std::sync::Wait;
 
-/// A write is tried no more often than this, and then waits for ever: in centuries, as each try takes
+/// A write is tried no more often than this, and then waits forever: in centuries, as each try takes
 /// the lock. A seat counts its holds of the lock modulo 2^64, so that fewer always move its count.
 const MOST_TRIES: u64 = u64::MAX;
 
@@ -42,9 +42,10 @@ pub(crate) fn write<'a, R: Wait>(
     key: u64,
     value: Option<&Value>,
 ) -> Result<Time, Refused>
+    requires cells { board.now.cells ≡ caller.old.seat.store.layout.cells }
     ensures written { IfOk result (λ time. Answers caller.old.seat caller.new.seat time (deed_of key (option_copied value.entry))) }
     ensures cancels { CancelsNone caller.old.seat.tally caller.new.seat.tally }
-    ensures refused { IfErr result (λ refused. IsFullAtLast caller.old.seat caller.new.seat) }
+    ensures refused { IfErr result (IsFullAtLast caller.old.seat caller.new.seat) }
 {
     let mut tries = 0;
     for _ in rt.forever() {
@@ -72,12 +73,13 @@ pub(crate) fn rmw<'a, R: Wait, F: Fn(Option<Value>) -> Change>(
     key: u64,
     f: &F,
 ) -> Result<Rmw, Refused>
-    requires { F.IsAlwaysCallable f.now }
+    requires callable { F.IsAlwaysCallable f.now }
+    requires cells { board.now.cells ≡ caller.old.seat.store.layout.cells }
     ensures changed { IfOk result (λ rmw. Answers caller.old.seat caller.new.seat rmw.time (ChangeOf key rmw.old rmw.change)) }
     ensures answered { IfOk result (λ rmw. F.post f.now rmw.old rmw.change) }
     ensures patient { IsPatient caller.old.seat caller.new.seat }
     ensures spared { GivesUpByAnswer caller.old.seat caller.new.seat key result }
-    ensures refused { IfErr result (λ refused. IsFullAtLast caller.old.seat caller.new.seat) }
+    ensures refused { IfErr result (IsFullAtLast caller.old.seat caller.new.seat) }
 {
     let mut tries = 0;
     for _ in rt.forever() {
@@ -104,6 +106,7 @@ pub(crate) fn batch<'a, R: Wait>(
     caller: &mut Caller<'a, Free>,
     members: &[(u64, Change)],
 ) -> Result<Time, BatchRefused>
+    requires cells { board.now.cells ≡ caller.old.seat.store.layout.cells }
     ensures written { IfOk result (λ time. Answers caller.old.seat caller.new.seat time (Group members.now)) }
     ensures fits { IfOk result (λ time. FitsDeed caller.old.seat.store.layout.cells (Group members.now)) }
     ensures cancels { CancelsNone caller.old.seat.tally caller.new.seat.tally }

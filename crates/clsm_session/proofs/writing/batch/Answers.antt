@@ -18,8 +18,8 @@ returns-in-Err-clause-refused g c =
     c.in-Err-Full.ensures.refused in
     let few : c.loop.tries < 2 ^ 64 - 1 = omega arith in (
       subst (λ (store : StoreId). FitsDeed store.layout.cells (Group c.args.members.now)) c.loop.invariant.refused.same.store refused.0,
-      no_room_after c.args.caller.now.seat c.loop.caller.seat c.batch.new.self.seat c.in-Err-Full.time (length c.args.members.now) c.loop.tries few
-          c.loop.invariant.holds c.loop.invariant.refused refused.1,
+      no_room_after c.args.caller.now.seat c.loop.caller.seat c.batch.new.self.seat c.in-Err-Full.time (length c.args.members.now) c.loop.tries
+          _ c.in-Err.refused few c.loop.invariant.holds c.loop.invariant.refused c.requires.cells c.in-Err.ensures refused.1,
     )
 
 pub loop-preserved : goal.loop-preserved
