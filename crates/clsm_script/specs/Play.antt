@@ -46,7 +46,7 @@ PrintsCall call old new before after = (answer : CallAnswer)
     × Calls call old new answer
     × Appends before after (line_of (call_text answer))
 
--- the seat with this number is in use from then on; it is refused where there is no such seat
+-- the seat with this number is in use afterwards; it is refused where there is no such seat
 abbrev pub TakesSeat : ℕ → Session → Session → Option ℕ → Type 0
 TakesSeat number old new (Some taken) =
     (taken ≡ number) × (number < length old.seats.items) × (new ≡ record old { used = number })

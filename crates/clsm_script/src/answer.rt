@@ -27,7 +27,7 @@ pub enum Answer {
     /// - Of a scan `K=V` for each row, then `@T`; `empty @T` where there is no row. Of a page the
     ///   same, then `more K` where a row is left out.
     Call(Called),
-    /// `seat S` with the number of the seat that is used from then on, or `no seat`.
+    /// `seat S` with the number of the seat that makes the calls that follow, or `no seat`.
     Seat(Option<usize>),
     /// `met @T`, or `no seat`.
     Meet(Option<Time>),

@@ -49,8 +49,8 @@ struct Host<'a, T, P: Pace> {
 /// No audit finds a fault. One that did would end the script with status 2, and lines on the faults
 /// would say why: what an explanation of `clsm_audit` says.
 ///
-/// With status 0 all answers are written. Otherwise some may be held back still: take the
-/// output apart then, since a writer that is dropped writes what it holds back once more.
+/// With status 0 all answers are written. Otherwise the output may still hold some back. Call
+/// `into_parts` on it then, since a `BufWriter` that is dropped writes what it holds back.
 pub fn script<T, R, W, E>(
     setting: &Setting<'_, T>,
     input: R,
