@@ -79,7 +79,8 @@ pub(crate) const AFTER_EXPLORE: &str = "\
 Takes a script for each seat: commands of `clsm script`, separated by semicolons, of put, remove,
 get, add, claim, snap, close, getat and scan. Tries each step that comes next in each world that
 the steps lead to, and audits the answers wherever all scripts are at their end. Prints
-`explore ok`, `explore fault`, or `explore too many` where there are more worlds than the limit.
+`explore ok`, `explore fault`, `explore too many` where there are more worlds than the limit, or
+`explore stuck` where a script makes no step.
 With --answers it first prints what the calls can answer: each different end is a line of records
 as `clsm audit` reads them, separated by semicolons, or `no record`. With --schedule there stands
 below each such line a shortest order of steps that leads to it: a column for each seat, the
@@ -87,7 +88,7 @@ merger's last, and a line for each step, with what a look found and whether an e
 With --count it prints `worlds N ends M answers K` before `explore ok`.
 
 Exit status: 0 no fault; 1 refused words, `bad script S`, a failed write; 2 a fault was found; 3
-the sizes were refused, memory ran out, or there were too many worlds.
+the sizes were refused, memory ran out, there were too many worlds, or it is stuck.
 
 Example:
   clsm explore --schedule \"put 1 1\" \"get 1\"";
