@@ -1,26 +1,30 @@
 -- Writes that were refused because there was no room, and tried again.
-use Rattle.std.proofs.Common.{◌≡◌, ◌+◌, ◌-◌, ◌*◌, ◌/◌, ◌%◌, ◌^◌, min, ◌<◌, ◌≤◌, ◌⊎◌, inl, inr, ℕ, suc, List, [], ◌∷◌, ◌++◌, Option, Some, Result, Ok, Err, IfErr, refl, sym, ap, ◌∙◌, subst, arith}
+use Rattle.std.proofs.Common.{◌≡◌, ◌+◌, ◌-◌, ◌*◌, ◌/◌, ◌%◌, ◌^◌, min, ◌<◌, ◌≤◌, ◌⊎◌, inl, inr, ℕ, suc, List, [], ◌∷◌, ◌++◌, Option, Some, Result, Ok, Err, refl, sym, ap, ◌∙◌, subst, arith}
 use Rattle.std.proofs.lemmas.Grind.{div_ceil_times}
 use Rattle.std.specs.Fn.{iterate}
 use Rattle.std.specs.Result.{IsErrAnd}
 use Rattle.clsm_model.specs.declared.record.CallRecord.{CallRecord}
 use Rattle.clsm_model.specs.declared.record.Deed.{Deed}
-use Rattle.clsm_model.specs.Seats.{IsNext, due_after, open_after}
+use Rattle.clsm_model.specs.declared.record.Deed.TheVariants.{Batch as Group}
+use Rattle.clsm_model.specs.Right.{Member}
+use Rattle.clsm_model.specs.Seats.{FitsDeed, IsNext, due_after, open_after}
 use Rattle.clsm_model.proofs.Batches.{begins_self, begins_trans, prefix_length}
 use Rattle.clsm_law.specs.Relation.{call_of}
 use Rattle.clsm_law.specs.Views.{next_word}
-use Rattle.clsm_store_calls.specs.Batching.{IsNoRoom}
-use Rattle.clsm_store_calls.specs.Seats.{Answers, GivesUpForWrites, IsFull, IsSameSeat, Refuses, SeatState, known_by, writes_beside}
+use Rattle.clsm_store_calls.specs.Batching.{IsNoBatch, IsNoRoom}
+use Rattle.clsm_store_calls.specs.Seats.{Answers, GivesUpForWrites, IsFull, IsSameSeat, Refuses, SeatState, StoreId, known_by, writes_beside}
 use Rattle.clsm_store_calls.specs.Tally.{CancelsNone, Tally}
 use Rattle.clsm_store_calls.proofs.Beside.{beside_apart}
 use Rattle.clsm_store_calls.proofs.Counting.{counts_both, once_more}
-use Rattle.clsm_store_calls.specs.declared.got.Rmw.{Rmw as Answered}
+use Rattle.clsm_store_calls.specs.declared.refusal.BatchError.{BatchError}
+use Rattle.clsm_store_calls.specs.declared.refusal.BatchError.TheVariants as errors
+use Rattle.clsm_store.specs.declared.play.answer.Answer.{Answer}
 use Rattle.clsm_store.specs.declared.play.call.Call.{Call}
-use Rattle.clsm_session.specs.Waiting.{EndsAt, GivesUpByAnswer, GivesUpOver, HasEntered, IsFullAtLast, IsNoRoomAtLast, IsReason, RefusesCall}
+use Rattle.clsm_session.specs.Promises.{WaitsToPlay}
+use Rattle.clsm_session.specs.Waiting.{CountsTries, EndsAt, GivesUpOver, HasEntered, IsFullAtLast, IsNoRoomAtLast, IsReason, RefusesCall}
 use Rattle.clsm_session.specs.declared.refusal.Refused.{Refused}
 use Rattle.clsm_session.specs.declared.refusal.Refused.TheVariants.{RunFull, Worn}
 use Rattle.clsm_session.specs.declared.refusal.BatchRefused.{BatchRefused}
-use Rattle.clsm_session.specs.declared.refusal.BatchRefused.TheVariants.{NoRoom}
 
 pub same_trans : (a b c : SeatState) → IsSameSeat a b → IsSameSeat b c → IsSameSeat a c
 same_trans a b c h k = record {
@@ -156,19 +160,33 @@ spared_next a b c key last h same (inr (before, o)) g = let more = prefix_length
           });
     }
 
--- what was given up before such a refusal
-pub gives_up_refused : (old new : SeatState) (key last : ℕ) (r : Result Answered Refused) (P : Refused → Type 0) → IsErrAnd r P
-    → new.tally.clock ≡ Some last → GivesUpOver old new key last → GivesUpByAnswer old new key r
-gives_up_refused old new key last (Ok _) P is clock h = absurd is
-gives_up_refused old new key last (Err _) P is clock h = (last, clock, h)
+-- the result is this refusal
+pub is_refusal : {A E : Type 0} (r : Result A E) (e : E) → IsErrAnd r (λ x. x ≡ e) → r ≡ Err e
+is_refusal (Ok _) e is = absurd is
+is_refusal (Err x) e is = ap Err is
 
--- what holds of the refusal that `?` handed on
-pub refused_by : {A E : Type 0} (r : Result A E) (e : E) (P : E → Type 0) → IsErrAnd r (λ x. x ≡ e) → P e → IfErr r P
-refused_by (Ok _) e P is h = absurd is
-refused_by (Err x) e P is h = subst P (sym is) h
+-- what is a batch is not refused as none
+is_batch : (cells : ℕ) (members : List Member) (error : BatchError) → FitsDeed cells (Group members) → IsNoBatch cells members error → ⊥
+is_batch cells members (errors.Full t) fits why = why
+is_batch cells members errors.Empty fits why = fits.0 why
+is_batch cells members errors.TooLong fits why = let few = fits.1 in omega (arith, few, why)
+is_batch cells members errors.Keep fits why = why.2 fits.2
 
--- the call that is played was refused because there was no room
-pub refuses_so : {A : Type 0} (call made : Call) (old new : SeatState) (refused : Refused) (r : Result A BatchRefused) → call ≡ made
-    → IsErrAnd r (λ e. e ≡ NoRoom refused) → RefusesCall made old new (NoRoom refused) → IfErr r (RefusesCall call old new)
-refuses_so call made old new refused r same is h =
-    refused_by r (NoRoom refused) (RefusesCall call old new) is (subst (λ (c : Call). RefusesCall c old new (NoRoom refused)) (sym same) h)
+-- so it was not refused for room before
+pub no_batch_after : (a b c : SeatState) (members : List Member) (error : BatchError) → Refuses a b → (b ≡ a) ⊎ FitsDeed a.store.layout.cells (Group members)
+    → c ≡ b → IsNoBatch b.store.layout.cells members error → (c ≡ a) × IsNoBatch a.store.layout.cells members error
+no_batch_after a b c members error h (inl same) e why = (
+  e ∙ same,
+  subst (λ (s : SeatState). IsNoBatch s.store.layout.cells members error) same why,
+)
+no_batch_after a b c members error h (inr fits) e why =
+    absurd (is_batch a.store.layout.cells members error fits
+    (subst (λ (store : StoreId). IsNoBatch store.layout.cells members error) h.same.store why))
+
+-- a call that is played is refused as its method
+pub refused_play : (call made : Call) (old new : SeatState) (refused : BatchRefused) (r : Result Answer BatchRefused) → call ≡ made
+    → IsErrAnd r (λ e. e ≡ refused) → CountsTries made old new (Err refused) → IsSameSeat old new → RefusesCall made old new refused → WaitsToPlay call old new r
+refused_play call made old new refused r same is counts seat refuses =
+    subst (λ (c : Call). WaitsToPlay c old new r) (sym same)
+    (subst (WaitsToPlay made old new) (sym (is_refusal r refused is))
+    (record { plays = tt; counts = counts; clock = tt; waits = tt; memory = tt; same = seat; refused = refuses }))

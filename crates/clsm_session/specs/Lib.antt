@@ -1,3 +1,4 @@
 pub mod Ended
 pub mod Places
+pub mod Promises
 pub mod Waiting

@@ -1,19 +1,9 @@
 //! A caller of a session: the calls of the store, of which writes wait for room.
-ghost use Rattle.std.specs.Prelude.{◌≡◌, ◌≢◌, ◌≤◌, None, Some, IfErr, IfNone, IfOk, IfSome};
-ghost use Rattle.clsm_model.specs.History.{IsBeginning};
-ghost use Rattle.clsm_model.specs.declared.record.Deed.TheVariants.{Batch as Group, Close, Get, GetAt, Put, Remove, Rmw as ChangeOf};
-ghost use Rattle.clsm_model.specs.declared.record.Deed.TheVariants.{Scan as ScanOf, Snapshot};
-ghost use Rattle.clsm_model.specs.Right.{page_deed};
-ghost use Rattle.clsm_model.specs.Seats.{FitsDeed};
-ghost use Rattle.clsm_store.specs.Changes.{added, put_if_absent};
-ghost use Rattle.clsm_store.specs.Meetings.{IsUnrecorded, told_by};
-ghost use Rattle.clsm_store.specs.Play.{PlaysCall, ReadsAtClock, WantsMemory};
-ghost use Rattle.clsm_store.specs.Paging.{ReadsNext};
-ghost use Rattle.clsm_store_calls.specs.Scanning.{CountsKeys, IsAtClock, ScansNow, VisitsKeys};
-ghost use Rattle.clsm_store_calls.specs.Seats.{Answers, IsSameSeat, Refuses, known_by};
-ghost use Rattle.clsm_store_calls.specs.Tally.{CancelsNone, TakesNoLock};
+ghost use Rattle.std.specs.Prelude.{◌≡◌};
+ghost use Rattle.clsm_model.specs.declared.record.Deed.TheVariants.{Put, Remove};
+ghost use Rattle.clsm_store.specs.Promises.{ClosesSnapshot, CountsRange, Gets, GivesNextPage, GivesPage, Hears, OpensSnapshot, Scans, ScansAnew, Tells, VisitsRange};
 ghost use Rattle.clsm_session.specs.Places.{HasPlace};
-ghost use Rattle.clsm_session.specs.Waiting.{CountsTries, FindsFull, GivesUpByAnswer, IsFullAtLast, IsPatient, IsRefusedAtLast, RefusesCall};
+ghost use Rattle.clsm_session.specs.Promises.{GetsAtIfOpen, WaitsToAdd, WaitsToChangeBy, WaitsToPlay, WaitsToPutIfAbsent, WaitsToWrite, WaitsToWriteBatch};
 
 use crate::board::Board;
 use crate::job::Place;
@@ -94,9 +84,7 @@ impl<'a, R: Wait, P: Place> SessionCaller<'a, R, P> {
     /// with `RunFull`.
     #[tactic(auto, using(crate::proofs::Places::cells_of))]
     pub fn put(&mut self, key: u64, value: Value) -> Result<Time, Refused>
-        ensures written { IfOk result (λ time. Answers self.old self.new time (Put key value)) }
-        ensures cancels { CancelsNone self.old.tally self.new.tally }
-        ensures refused { IfErr result (IsFullAtLast self.old self.new) }
+        ensures { WaitsToWrite self.old self.new (Put key value) result }
     {
         writing::write(self.rt, self.board, &mut self.caller, key, Some(&value))
     }
@@ -105,9 +93,7 @@ impl<'a, R: Wait, P: Place> SessionCaller<'a, R, P> {
     /// waits and is refused as `put`.
     #[tactic(auto, using(crate::proofs::Places::cells_of))]
     pub fn remove(&mut self, key: u64) -> Result<Time, Refused>
-        ensures written { IfOk result (λ time. Answers self.old self.new time (Remove key)) }
-        ensures cancels { CancelsNone self.old.tally self.new.tally }
-        ensures refused { IfErr result (IsFullAtLast self.old self.new) }
+        ensures { WaitsToWrite self.old self.new (Remove key) result }
     {
         writing::write(self.rt, self.board, &mut self.caller, key, None)
     }
@@ -117,11 +103,7 @@ impl<'a, R: Wait, P: Place> SessionCaller<'a, R, P> {
     #[tactic(auto, using(crate::proofs::Places::cells_of))]
     pub fn rmw<F: Fn(Option<Value>) -> Change>(&mut self, key: u64, f: &F) -> Result<Rmw, Refused>
         requires { F.IsAlwaysCallable f.now }
-        ensures changed { IfOk result (λ rmw. Answers self.old self.new rmw.time (ChangeOf key rmw.old rmw.change)) }
-        ensures answered { IfOk result (λ rmw. F.post f.now rmw.old rmw.change) }
-        ensures patient { IsPatient self.old self.new }
-        ensures spared { GivesUpByAnswer self.old self.new key result }
-        ensures refused { IfErr result (IsFullAtLast self.old self.new) }
+        ensures { WaitsToChangeBy self.old self.new key (F.post f.now) result }
     {
         writing::rmw(self.rt, self.board, &mut self.caller, key, f)
     }
@@ -130,11 +112,7 @@ impl<'a, R: Wait, P: Place> SessionCaller<'a, R, P> {
     /// value where the sum passes 2^64 - 1 or the value has several words: the answer's `change`
     /// tells. It waits and is refused as `put`.
     pub fn add(&mut self, key: u64, by: u64) -> Result<Rmw, Refused>
-        ensures changed { IfOk result (λ rmw. Answers self.old self.new rmw.time (ChangeOf key rmw.old rmw.change)) }
-        ensures added { IfOk result (λ rmw. rmw.change ≡ added rmw.old by) }
-        ensures patient { IsPatient self.old self.new }
-        ensures spared { GivesUpByAnswer self.old self.new key result }
-        ensures refused { IfErr result (IsFullAtLast self.old self.new) }
+        ensures { WaitsToAdd self.old self.new key by result }
     {
         self.rmw(key, &|old| added(old, by))
     }
@@ -142,11 +120,7 @@ impl<'a, R: Wait, P: Place> SessionCaller<'a, R, P> {
     /// Writes the value at the key where the key has none, and else keeps what it has: the answer's
     /// `old` tells. It waits and is refused as `put`.
     pub fn put_if_absent(&mut self, key: u64, value: Value) -> Result<Rmw, Refused>
-        ensures changed { IfOk result (λ rmw. Answers self.old self.new rmw.time (ChangeOf key rmw.old rmw.change)) }
-        ensures claimed { IfOk result (λ rmw. rmw.change ≡ put_if_absent rmw.old value) }
-        ensures patient { IsPatient self.old self.new }
-        ensures spared { GivesUpByAnswer self.old self.new key result }
-        ensures refused { IfErr result (IsFullAtLast self.old self.new) }
+        ensures { WaitsToPutIfAbsent self.old self.new key value result }
     {
         self.rmw(key, &|old| put_if_absent(old, value))
     }
@@ -157,10 +131,7 @@ impl<'a, R: Wait, P: Place> SessionCaller<'a, R, P> {
     /// cells, and `Keep` where a member keeps its key.
     #[tactic(auto, using(crate::proofs::Places::cells_of))]
     pub fn batch(&mut self, members: &[(u64, Change)]) -> Result<Time, BatchRefused>
-        ensures written { IfOk result (λ time. Answers self.old self.new time (Group members.now)) }
-        ensures fits { IfOk result (λ time. FitsDeed self.old.store.layout.cells (Group members.now)) }
-        ensures cancels { CancelsNone self.old.tally self.new.tally }
-        ensures refused { IfErr result (IsRefusedAtLast self.old self.new members.now) }
+        ensures { WaitsToWriteBatch self.old self.new members.now result }
     {
         writing::batch(self.rt, self.board, &mut self.caller, members)
     }
@@ -168,9 +139,7 @@ impl<'a, R: Wait, P: Place> SessionCaller<'a, R, P> {
     /// As `Store::get`.
     #[inline(always)]
     pub fn get(&mut self, key: u64) -> Got
-        ensures answers { Answers self.old self.new result.time (Get key result.value) }
-        ensures clock { self.new.clock ≡ Some result.time }
-        ensures lock { TakesNoLock self.old.tally self.new.tally }
+        ensures { Gets self.old self.new key result }
     {
         self.caller.get(key)
     }
@@ -178,27 +147,21 @@ impl<'a, R: Wait, P: Place> SessionCaller<'a, R, P> {
     /// As `Store::snapshot`. Close it before the job ends or waits for long, since the merger keeps
     /// all that it may read.
     pub fn snapshot(&mut self) -> Result<Time, Open>
-        ensures opened { IfOk result (λ time. Answers self.old self.new time Snapshot) }
-        ensures lock { IfOk result (λ time. TakesNoLock self.old.tally self.new.tally) }
-        ensures open { IfErr result (λ refusal. (self.new ≡ self.old) × (self.old.snapshot ≡ Some refusal.time)) }
+        ensures { OpensSnapshot self.old self.new result }
     {
         self.caller.snapshot()
     }
 
     /// As `Store::close_snapshot`.
     pub fn close_snapshot(&mut self) -> Option<Time>
-        ensures closed { IfSome result (λ time. Answers self.old self.new time Close) }
-        ensures none { IfNone result ((self.new ≡ self.old) × (self.old.snapshot ≡ None)) }
-        ensures lock { self.new.tally ≡ self.old.tally }
+        ensures { ClosesSnapshot self.old self.new result }
     {
         self.caller.close_snapshot()
     }
 
     /// As `Store::get_at`, but answers `None`, with nothing done, where no snapshot is open.
     pub fn get_at(&mut self, key: u64) -> Option<Got>
-        ensures answers { IfSome result (λ got. Answers self.old self.new got.time (GetAt key got.value)) }
-        ensures none { IfNone result ((self.new ≡ self.old) × (self.old.snapshot ≡ None)) }
-        ensures lock { self.new.tally ≡ self.old.tally }
+        ensures { GetsAtIfOpen self.old self.new key result }
     {
         self.caller.snapshot_time()?;
         Some(self.caller.get_at(key))
@@ -206,38 +169,28 @@ impl<'a, R: Wait, P: Place> SessionCaller<'a, R, P> {
 
     /// As `Store::scan`.
     pub fn scan(&mut self, lo: u64, hi: u64) -> Result<Scan, Memory>
-        ensures answers { IfOk result (λ scan. Answers self.old self.new scan.time (ScanOf lo hi scan.rows)) }
-        ensures clock { IfOk result (λ scan. IsAtClock self.old self.new scan.time) }
-        ensures lock { TakesNoLock self.old.tally self.new.tally }
-        ensures refused { IfErr result (λ refusal. Refuses self.old self.new) }
+        ensures { Scans self.old self.new lo hi result }
     {
         self.caller.scan(self.alloc, lo, hi)
     }
 
     /// As `Store::page`.
     pub fn page(&mut self, from: u64, hi: u64, max: usize) -> Result<Page, Memory>
-        ensures answers { IfOk result (λ page. Answers self.old self.new page.time (page_deed from hi max page.rows page.more)) }
-        ensures clock { IfOk result (λ page. IsAtClock self.old self.new page.time) }
-        ensures lock { TakesNoLock self.old.tally self.new.tally }
-        ensures refused { IfErr result (λ refusal. Refuses self.old self.new) }
+        ensures { GivesPage self.old self.new from hi max result }
     {
         self.caller.page(self.alloc, from, hi, max)
     }
 
     /// As `Caller::next_page`.
     pub fn next_page(&mut self, pages: &mut Pages) -> Result<Option<Page>, Memory>
-        ensures read { IfOk result (ReadsNext self.old self.new pages.old pages.new) }
-        ensures lock { TakesNoLock self.old.tally self.new.tally }
-        ensures refused { IfErr result (λ refusal. Refuses self.old self.new) }
-        ensures stands { IfErr result (λ refusal. pages.new ≡ pages.old) }
+        ensures { GivesNextPage self.old self.new pages.old pages.new result }
     {
         self.caller.next_page(self.alloc, pages)
     }
 
     /// As `Store::count`.
     pub fn count(&mut self, lo: u64, hi: u64) -> Counted
-        ensures counts { CountsKeys self.old self.new result.time lo hi result.keys result.first }
-        ensures lock { TakesNoLock self.old.tally self.new.tally }
+        ensures { CountsRange self.old self.new lo hi result }
     {
         self.caller.count(self.alloc, lo, hi)
     }
@@ -245,19 +198,15 @@ impl<'a, R: Wait, P: Place> SessionCaller<'a, R, P> {
     /// As `Store::visit`.
     pub fn visit<F: FnMut(u64, Value)>(&mut self, lo: u64, hi: u64, call: &mut F) -> Counted
         requires { F.IsAlwaysCallable call.old }
-        ensures visits { VisitsKeys (λ before row after. F.step before row.0 row.1 tt after)
-            self.old self.new result.time lo hi result.keys result.first call.old call.new }
-        ensures callable { F.IsAlwaysCallable call.new }
-        ensures lock { TakesNoLock self.old.tally self.new.tally }
+        ensures { VisitsRange (λ before row after. F.step before row.0 row.1 tt after) F.IsAlwaysCallable
+            self.old self.new lo hi call.old call.new result }
     {
         self.caller.visit(self.alloc, lo, hi, call)
     }
 
     /// As `Store::scan_now`.
     pub fn scan_now(&mut self, lo: u64, hi: u64) -> Result<Scan, Memory>
-        ensures scans { IfOk result (λ scan. ScansNow self.old self.new scan.time lo hi scan.rows) }
-        ensures lock { TakesNoLock self.old.tally self.new.tally }
-        ensures refused { IfErr result (λ refusal. Refuses self.old self.new) }
+        ensures { ScansAnew self.old self.new lo hi result }
     {
         self.caller.scan_now(self.alloc, lo, hi)
     }
@@ -271,10 +220,7 @@ impl<'a, R: Wait, P: Place> SessionCaller<'a, R, P> {
 
     /// As `Store::tell`.
     pub fn tell(&mut self) -> Message
-        ensures seat { self.new ≡ self.old }
-        ensures table { result.table ≡ self.old.store.table }
-        ensures told { told_by result ≡ known_by self.old }
-        ensures due { result.heard ≡ self.old.due }
+        ensures { Tells self.old.store self.old self.new result }
     {
         self.caller.tell()
     }
@@ -282,11 +228,7 @@ impl<'a, R: Wait, P: Place> SessionCaller<'a, R, P> {
     /// As `Store::hear`.
     pub fn hear(&mut self, message: Message) -> Time
         requires { message.table ≡ self.old.store.table }
-        ensures above { self.old.due ≤ result }
-        ensures above_told { message.heard ≤ result }
-        ensures seat { IsUnrecorded self.old self.new }
-        ensures time { self.new.due ≡ result }
-        ensures begins { IsBeginning (told_by message) (known_by self.new) }
+        ensures { Hears message self.old self.new result }
     {
         self.caller.hear(message)
     }
@@ -294,13 +236,7 @@ impl<'a, R: Wait, P: Place> SessionCaller<'a, R, P> {
     /// Makes the call, and answers what the method of its name answers: it waits, counts and is
     /// refused as that. A `Try` is made once, as `Store::try_put`.
     pub fn play(&mut self, call: &Call) -> Result<Answer, BatchRefused>
-        ensures plays { IfOk result (PlaysCall call.now self.old self.new) }
-        ensures counts { CountsTries call.now self.old self.new result }
-        ensures clock { IfOk result (ReadsAtClock call.now self.old self.new) }
-        ensures waits { IfOk result (λ answer. ¬ FindsFull answer) }
-        ensures memory { IfOk result (λ answer. WantsMemory answer → Refuses self.old self.new) }
-        ensures same { IsSameSeat self.old self.new }
-        ensures refused { IfErr result (RefusesCall call.now self.old self.new) }
+        ensures { WaitsToPlay call.now self.old self.new result }
     {
         match call {
             Call::Put { key, value } => Ok(Answer::Write(Ok(self.put(*key, *value)?))),

@@ -1,11 +1,8 @@
 //! Writes that wait for room: each is tried again once the merger has made room for it.
-ghost use Rattle.std.specs.Prelude.{◌≡◌, IfErr, IfOk, option_copied};
-ghost use Rattle.clsm_model.specs.declared.record.Deed.TheVariants.{Batch as Group, Rmw as ChangeOf};
-ghost use Rattle.clsm_model.specs.Seats.{FitsDeed};
+ghost use Rattle.std.specs.Prelude.{◌≡◌, option_copied};
 ghost use Rattle.clsm_store_calls.specs.Resting.{deed_of};
-ghost use Rattle.clsm_store_calls.specs.Seats.{Answers, IsFull};
-ghost use Rattle.clsm_store_calls.specs.Tally.{CancelsNone};
-ghost use Rattle.clsm_session.specs.Waiting.{GivesUpByAnswer, IsFullAtLast, IsPatient, IsRefusedAtLast};
+ghost use Rattle.clsm_store.specs.Promises.{Writes};
+ghost use Rattle.clsm_session.specs.Promises.{WaitsToChangeBy, WaitsToWrite, WaitsToWriteBatch};
 
 use crate::board::Board;
 use crate::refusal::{BatchRefused, Refused};
@@ -23,9 +20,7 @@ fn try_write<'a, R: Wait>(
     key: u64,
     value: Option<&Value>,
 ) -> Result<Time, Full>
-    ensures full { IfErr result (λ full. IsFull caller.old.seat caller.new.seat full.time) }
-    ensures written { IfOk result (λ time. Answers caller.old.seat caller.new.seat time (deed_of key (option_copied value.entry))) }
-    ensures cancels { CancelsNone caller.old.seat.tally caller.new.seat.tally }
+    ensures { Writes caller.old.seat caller.new.seat (deed_of key (option_copied value.entry)) result }
 {
     match value {
         Some(value) => caller.put(rt, key, *value),
@@ -43,9 +38,7 @@ pub(crate) fn write<'a, R: Wait>(
     value: Option<&Value>,
 ) -> Result<Time, Refused>
     requires cells { board.now.cells ≡ caller.old.seat.store.layout.cells }
-    ensures written { IfOk result (λ time. Answers caller.old.seat caller.new.seat time (deed_of key (option_copied value.entry))) }
-    ensures cancels { CancelsNone caller.old.seat.tally caller.new.seat.tally }
-    ensures refused { IfErr result (IsFullAtLast caller.old.seat caller.new.seat) }
+    ensures { WaitsToWrite caller.old.seat caller.new.seat (deed_of key (option_copied value.entry)) result }
 {
     let mut tries = 0;
     for _ in rt.forever() {
@@ -75,11 +68,7 @@ pub(crate) fn rmw<'a, R: Wait, F: Fn(Option<Value>) -> Change>(
 ) -> Result<Rmw, Refused>
     requires callable { F.IsAlwaysCallable f.now }
     requires cells { board.now.cells ≡ caller.old.seat.store.layout.cells }
-    ensures changed { IfOk result (λ rmw. Answers caller.old.seat caller.new.seat rmw.time (ChangeOf key rmw.old rmw.change)) }
-    ensures answered { IfOk result (λ rmw. F.post f.now rmw.old rmw.change) }
-    ensures patient { IsPatient caller.old.seat caller.new.seat }
-    ensures spared { GivesUpByAnswer caller.old.seat caller.new.seat key result }
-    ensures refused { IfErr result (IsFullAtLast caller.old.seat caller.new.seat) }
+    ensures { WaitsToChangeBy caller.old.seat caller.new.seat key (F.post f.now) result }
 {
     let mut tries = 0;
     for _ in rt.forever() {
@@ -107,10 +96,7 @@ pub(crate) fn batch<'a, R: Wait>(
     members: &[(u64, Change)],
 ) -> Result<Time, BatchRefused>
     requires cells { board.now.cells ≡ caller.old.seat.store.layout.cells }
-    ensures written { IfOk result (λ time. Answers caller.old.seat caller.new.seat time (Group members.now)) }
-    ensures fits { IfOk result (λ time. FitsDeed caller.old.seat.store.layout.cells (Group members.now)) }
-    ensures cancels { CancelsNone caller.old.seat.tally caller.new.seat.tally }
-    ensures refused { IfErr result (IsRefusedAtLast caller.old.seat caller.new.seat members.now) }
+    ensures { WaitsToWriteBatch caller.old.seat caller.new.seat members.now result }
 {
     let mut tries = 0;
     for _ in rt.forever() {

@@ -1,5 +1,5 @@
-use Rattle.std.proofs.Common.{rules, ◌∙◌, inl, inr, refl}
-use Rattle.clsm_session.proofs.Waiting.{answers_after, gives_up_refused, holds_more, refuses_self, refuses_trans, spared_next}
+use Rattle.std.proofs.Common.{◌-◌, ◌^◌, ◌<◌, ◌∙◌, inl, inr, refl, arith}
+use Rattle.clsm_session.proofs.Waiting.{answers_after, full_after, holds_more, is_refusal, refuses_self, refuses_trans, spared_next}
 use Rattle.clsm_session.proofs.writing.rmw.Goals as goal
 
 pub loop-init : goal.loop-init
@@ -11,13 +11,17 @@ loop-init g c = record {
   holds = refl;
 }
 
-pub returns-in-Ok-clause-changed : goal.returns-in-Ok-clause-changed
-returns-in-Ok-clause-changed g c = answers_after _ _ _ _ _ c.loop.invariant.refused (search rules)
-
-pub returns-in-Ok-clause-spared : goal.returns-in-Ok-clause-spared
-returns-in-Ok-clause-spared g c =
-    spared_next c.args.caller.now.seat c.loop.caller.seat c.rmw.new.self.seat c.args.key c.in-Ok.changed.time c.loop.invariant.refused
-    c.in-Ok.ensures.change.changed.same c.loop.invariant.spared c.in-Ok.ensures.change.spared
+pub returns-in-Ok : goal.returns-in-Ok
+returns-in-Ok g c = record {
+  change = record {
+    changed = answers_after _ _ _ _ _ c.loop.invariant.refused c.in-Ok.ensures.change.changed;
+    patient = c.rmw.ensures.change.lock.hasty ∙ c.loop.invariant.patient;
+    spared = spared_next c.args.caller.now.seat c.loop.caller.seat c.rmw.new.self.seat c.args.key c.in-Ok.changed.time c.loop.invariant.refused
+        c.in-Ok.ensures.change.changed.same c.loop.invariant.spared c.in-Ok.ensures.change.spared;
+    refused = tt;
+  };
+  answered = c.in-Ok.ensures.answered;
+}
 
 pub loop-preserved : goal.loop-preserved
 loop-preserved g c = record {
@@ -34,9 +38,23 @@ loop-preserved g c = record {
       c.in-Err.ensures.change.full.entered;
 }
 
-pub returns-in_err-wait_for_room-in-Err-clause-spared : goal.returns-in_err-wait_for_room-in-Err-clause-spared
-returns-in_err-wait_for_room-in-Err-clause-spared g c =
-    gives_up_refused c.args.caller.now.seat c.rmw.new.self.seat c.args.key c.in-Err.full.time c.from_residual.result _ c.from_residual.ensures.1
-    c.in-Err.ensures.change.full.clock
-    (spared_next c.args.caller.now.seat c.loop.caller.seat c.rmw.new.self.seat c.args.key c.in-Err.full.time c.loop.invariant.refused
-    c.in-Err.ensures.change.full.refused.same c.loop.invariant.spared c.in-Err.ensures.change.spared)
+pub returns-in_err-wait_for_room-in-Err : goal.returns-in_err-wait_for_room-in-Err
+returns-in_err-wait_for_room-in-Err g c =
+    let old = c.args.caller.now.seat in
+    let full = c.in-Err.ensures.change.full in
+    let few : c.loop.tries < 2 ^ 64 - 1 = omega arith in
+    rw (is_refusal c.from_residual.result _ c.from_residual.ensures.1) (record {
+      change = record {
+        changed = tt;
+        patient = c.rmw.ensures.change.lock.hasty ∙ c.loop.invariant.patient;
+        spared = (
+          c.in-Err.full.time,
+          full.clock,
+          spared_next old c.loop.caller.seat c.rmw.new.self.seat c.args.key c.in-Err.full.time c.loop.invariant.refused
+              full.refused.same c.loop.invariant.spared c.in-Err.ensures.change.spared,
+        );
+        refused = full_after old c.loop.caller.seat c.rmw.new.self.seat c.in-Err.full.time c.loop.tries _ _ few c.loop.invariant.holds
+            c.loop.invariant.refused c.requires.cells c.in_err-wait_for_room-in-Err.ensures full;
+      };
+      answered = tt;
+    })

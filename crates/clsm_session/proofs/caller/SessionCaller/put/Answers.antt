@@ -1,5 +1,5 @@
 use Rattle.std.proofs.Common.{rules}
 use Rattle.clsm_session.proofs.caller.SessionCaller.put.Goals as goal
 
-pub returns-clause-written : goal.returns-clause-written
-returns-clause-written g c = search rules
+pub returns : goal.returns
+returns g c = search rules

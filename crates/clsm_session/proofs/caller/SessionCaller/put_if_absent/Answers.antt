@@ -1,5 +1,5 @@
 use Rattle.std.proofs.Common.{rules}
 use Rattle.clsm_session.proofs.caller.SessionCaller.put_if_absent.Goals as goal
 
-pub returns-clause-claimed : goal.returns-clause-claimed
-returns-clause-claimed g c = search rules
+pub returns : goal.returns
+returns g c = search rules

@@ -1,5 +1,5 @@
 use Rattle.std.proofs.Common.{rules}
 use Rattle.clsm_session.proofs.caller.SessionCaller.scan.Goals as goal
 
-pub returns-clause-answers : goal.returns-clause-answers
-returns-clause-answers g c = search rules
+pub returns : goal.returns
+returns g c = search rules

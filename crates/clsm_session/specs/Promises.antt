@@ -1,0 +1,109 @@
+-- What each call of a session's caller promises, all of it, once. Its reads, and how it tells and
+-- hears, promise what the store's do, by the records of `Promises.antt` of clsm_store. Here is what
+-- it promises otherwise: its writes wait until there is room for them. `old` is the seat as the
+-- call found it, `new` as it left it, and `result` what it answered.
+use Rattle.std.specs.Prelude.{◌≡◌, ℕ, List, Option, None, IfNone, IfSome, Result, IfErr, IfOk}
+use Rattle.clsm_model.specs.declared.record.Deed.{Deed}
+use Rattle.clsm_model.specs.declared.record.Deed.TheVariants.{Batch, GetAt, Rmw as ChangeOf}
+use Rattle.clsm_model.specs.declared.slot.Change.{Change}
+use Rattle.clsm_model.specs.Right.{Member}
+use Rattle.clsm_model.specs.Seats.{FitsDeed}
+use Rattle.clsm_store_calls.specs.declared.got.Got.{Got}
+use Rattle.clsm_store_calls.specs.declared.got.Rmw.{Rmw}
+use Rattle.clsm_store_calls.specs.Seats.{Answers, IsSameSeat, Refuses, SeatState}
+use Rattle.clsm_store_calls.specs.Tally.{CancelsNone}
+use Rattle.clsm_store.specs.Changes.{added, put_if_absent}
+use Rattle.clsm_store.specs.declared.play.answer.Answer.{Answer}
+use Rattle.clsm_store.specs.declared.play.call.Call.{Call}
+use Rattle.clsm_store.specs.Play.{PlaysCall, ReadsAtClock, WantsMemory}
+use Rattle.clsm_session.specs.declared.refusal.BatchRefused.{BatchRefused}
+use Rattle.clsm_session.specs.declared.refusal.Refused.{Refused}
+use Rattle.clsm_session.specs.Waiting.{CountsTries, FindsFull, GivesUpByAnswer, IsFullAtLast, IsPatient, IsRefusedAtLast, RefusesCall}
+
+-- ---- writes
+
+-- put and remove; the deed says which, of which key, and with which value
+pub record WaitsToWrite (old new : SeatState) (deed : Deed) (result : Result ℕ Refused) : Type 0 where
+  -- answered with a time: one record more, the deed at that time
+  pub written : IfOk result (λ time. Answers old new time deed)
+  -- in none of its tries it gave up a time of its own, or cancelled one of others
+  pub cancels : CancelsNone old.tally new.tally
+  -- refused: in its last hold of the lock the clock stood at the limit; and for which reason no
+  -- epoch was made behind it
+  pub refused : IfErr result (IsFullAtLast old new)
+
+-- batch
+pub record WaitsToWriteBatch (old new : SeatState) (members : List Member) (result : Result ℕ BatchRefused) : Type 0 where
+  -- answered with the time of the first member: one record more, the batch at that time
+  pub written : IfOk result (λ time. Answers old new time (Batch members))
+  -- and then it has at least one member, at most as many as an epoch has cells, and each writes
+  pub fits : IfOk result (λ time. FitsDeed old.store.layout.cells (Batch members))
+  -- as put
+  pub cancels : CancelsNone old.tally new.tally
+  -- refused: this is no batch; or in its last hold of the lock the members did not fit, and why
+  pub refused : IfErr result (IsRefusedAtLast old new members)
+
+-- ---- read-modify-writes
+
+-- rmw, add and put_if_absent, whatever they make of the key's value
+pub record WaitsToChange (old new : SeatState) (key : ℕ) (result : Result Rmw Refused) : Type 0 where
+  -- answered: one record more, of the old value and of what was made of it, at this time
+  pub changed : IfOk result (λ rmw. Answers old new rmw.time (ChangeOf key rmw.old rmw.change))
+  -- it cancelled no time of others before it had waited for it
+  pub patient : IsPatient old new
+  -- all its tries gave up at most one time for each write of the key by another seat that came
+  -- between
+  pub spared : GivesUpByAnswer old new key result
+  -- refused: as put
+  pub refused : IfErr result (IsFullAtLast old new)
+
+-- rmw; `Makes value change`: the function may answer the change to the value
+pub record WaitsToChangeBy (old new : SeatState) (key : ℕ) (Makes : Option (List ℕ) → Change → Type 0) (result : Result Rmw Refused) : Type 0 where
+  -- as above
+  pub change : WaitsToChange old new key result
+  -- the function answered the change to the old value
+  pub answered : IfOk result (λ rmw. Makes rmw.old rmw.change)
+
+-- add
+pub record WaitsToAdd (old new : SeatState) (key by : ℕ) (result : Result Rmw Refused) : Type 0 where
+  -- as above
+  pub change : WaitsToChange old new key result
+  -- the change sets the sum, or keeps the old value if there is none
+  pub added : IfOk result (λ rmw. rmw.change ≡ added rmw.old by)
+
+-- put_if_absent
+pub record WaitsToPutIfAbsent (old new : SeatState) (key : ℕ) (value : List ℕ) (result : Result Rmw Refused) : Type 0 where
+  -- as above
+  pub change : WaitsToChange old new key result
+  -- the change sets the value if there was none, and else keeps the old one
+  pub claimed : IfOk result (λ rmw. rmw.change ≡ put_if_absent rmw.old value)
+
+-- ---- reads
+
+-- get_at, which asks for no open snapshot
+pub record GetsAtIfOpen (old new : SeatState) (key : ℕ) (result : Option Got) : Type 0 where
+  -- answered: one record more, of the value at the snapshot's time
+  pub answers : IfSome result (λ got. Answers old new got.time (GetAt key got.value))
+  -- no snapshot was open, and nothing was done
+  pub none : IfNone result ((new ≡ old) × (old.snapshot ≡ None))
+  -- it counted nothing
+  pub lock : new.tally ≡ old.tally
+
+-- ---- calls as values
+
+-- play
+pub record WaitsToPlay (call : Call) (old new : SeatState) (result : Result Answer BatchRefused) : Type 0 where
+  -- answered as the method of the call's name answers
+  pub plays : IfOk result (PlaysCall call old new)
+  -- answered or refused: it counted what that method counts
+  pub counts : CountsTries call old new result
+  -- a read's time is that of the method
+  pub clock : IfOk result (ReadsAtClock call old new)
+  -- a write was not answered that there was no room
+  pub waits : IfOk result (λ answer. ¬ FindsFull answer)
+  -- answered that memory ran out: no record more
+  pub memory : IfOk result (λ answer. WantsMemory answer → Refuses old new)
+  -- it is the same seat, which forgot nothing
+  pub same : IsSameSeat old new
+  -- refused: as that method
+  pub refused : IfErr result (RefusesCall call old new)
