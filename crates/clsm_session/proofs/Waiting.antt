@@ -1,5 +1,5 @@
 -- Writes that were refused because there was no room, and tried again.
-use Rattle.std.proofs.Common.{◌≡◌, ◌+◌, ◌-◌, ◌*◌, ◌/◌, ◌%◌, ◌^◌, min, ◌<◌, ◌≤◌, ◌⊎◌, inl, inr, ℕ, suc, List, [], ◌∷◌, ◌++◌, Option, Some, Result, Ok, Err, refl, sym, ap, ◌∙◌, subst, arith}
+use Rattle.std.proofs.Common.{◌≡◌, ◌+◌, ◌-◌, ◌*◌, ◌/◌, ◌%◌, ◌^◌, min, ◌<◌, ◌≤◌, ◌⊎◌, inl, inr, ℕ, suc, List, [], ◌∷◌, ◌++◌, Option, Result, Ok, Err, refl, sym, ap, ◌∙◌, subst, arith}
 use Rattle.std.proofs.lemmas.Grind.{div_ceil_times}
 use Rattle.std.specs.Fn.{iterate}
 use Rattle.std.specs.Result.{IsErrAnd}
@@ -185,7 +185,8 @@ no_batch_after a b c members error h (inr fits) e why =
 
 -- a call that is played is refused as its method
 pub refused_play : (call made : Call) (old new : SeatState) (refused : BatchRefused) (r : Result Answer BatchRefused) → call ≡ made
-    → IsErrAnd r (λ e. e ≡ refused) → CountsTries made old new (Err refused) → IsSameSeat old new → RefusesCall made old new refused → WaitsToPlay call old new r
+    → IsErrAnd r (λ e. e ≡ refused) → CountsTries made old new (Err refused) → IsSameSeat old new → RefusesCall made old new refused
+    → WaitsToPlay call old new r
 refused_play call made old new refused r same is counts seat refuses =
     subst (λ (c : Call). WaitsToPlay c old new r) (sym same)
     (subst (WaitsToPlay made old new) (sym (is_refusal r refused is))

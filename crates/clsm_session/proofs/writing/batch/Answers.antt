@@ -1,4 +1,4 @@
-use Rattle.std.proofs.Common.{rules, ◌-◌, ◌^◌, ◌<◌, ap, arith, inr, length, subst, Err}
+use Rattle.std.proofs.Common.{◌-◌, ◌^◌, ◌<◌, ap, arith, inr, length, subst, Err}
 use Rattle.clsm_model.specs.declared.record.Deed.TheVariants.{Batch as Group}
 use Rattle.clsm_model.specs.Seats.{FitsDeed}
 use Rattle.clsm_store_calls.specs.Batching.{CountsBatch, IsRefusedBatch}
