@@ -2,7 +2,7 @@
 use crate::schedules::line::{Line, record};
 use crate::schedules::play::{Play, Wrong};
 use clsm_machine::{Step, Word};
-use clsm_model::{CallRecord, Change, Deed, Time};
+use clsm_model::{CallRecord, Change, Deed, Members, Time};
 
 /// The write that a member is, alone.
 fn deed_of(key: u64, change: &Change) -> Deed {
@@ -33,30 +33,37 @@ impl Play {
         self.finds(seat, Word::Clock, clock)
     }
 
-    fn stages(&mut self, call: CallRecord) -> Result<(), Wrong> {
+    /// Takes the time for what the call writes.
+    fn stage(&mut self, call: &CallRecord) -> Result<(), Wrong> {
         let key = match &call.deed {
             Deed::Put { key, .. } | Deed::Remove { key } | Deed::Rmw { key, .. } => *key,
             _ => return Err(Wrong::Unread),
         };
-        self.does(call.seat, Step::Stage(call.time, key))?;
+        self.does(call.seat, Step::Stage(call.time, key))
+    }
+
+    fn stages(&mut self, call: CallRecord) -> Result<(), Wrong> {
+        self.stage(&call)?;
         self.writes(call)
     }
 
-    fn batches(&mut self, call: CallRecord) -> Result<(), Wrong> {
-        let CallRecord {
-            seat,
-            time: first,
-            deed,
-        } = call;
-        let Deed::Batch { members } = deed else {
-            return Err(Wrong::Unread);
-        };
+    /// Takes the lock, and stages each member in turn, the first at this time.
+    fn stages_all(&mut self, seat: u32, first: Time, members: &Members) -> Result<(), Wrong> {
         self.holds(seat, first)?;
         for (number, (key, change)) in members.as_slice().iter().enumerate() {
             let time = first.saturating_add(number as u64);
             let deed = deed_of(*key, change);
             self.stages(CallRecord { seat, time, deed })?;
         }
+        Ok(())
+    }
+
+    fn batches(&mut self, call: CallRecord) -> Result<(), Wrong> {
+        let CallRecord { seat, time, deed } = call;
+        let Deed::Batch { members } = deed else {
+            return Err(Wrong::Unread);
+        };
+        self.stages_all(seat, time, &members)?;
         self.does(seat, Step::Commit(members))?;
         self.does(seat, Step::LeaveExclusive)
     }

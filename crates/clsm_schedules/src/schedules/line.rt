@@ -6,7 +6,7 @@ use clsm_text::{LineError, parse_number, parse_record, parse_value};
 use std::alloc::Global;
 
 /// What is left of a row.
-#[derive(Drop)]
+#[derive(Clone, Copy)]
 pub(crate) struct Line<'a> {
     pub(crate) left: &'a str,
 }

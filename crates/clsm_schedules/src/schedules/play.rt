@@ -124,6 +124,18 @@ impl Play {
         }
     }
 
+    /// How the world answers the event. Where it refuses it, the world stays as it was.
+    fn tries(&mut self, event: Event) -> Result<Result<Answer, StepError>, Wrong> {
+        let Ok(before) = self.world.copy() else {
+            return Err(Wrong::Memory);
+        };
+        let answer = self.world.step(event);
+        if answer.is_err() && self.world != before {
+            return Err(Wrong::Other);
+        }
+        Ok(answer)
+    }
+
     /// The step is answered so. It is noted in the list where it is made. Where it is refused the
     /// world stays as it was, and so it does where memory is refused.
     pub(crate) fn answers(
@@ -133,16 +145,10 @@ impl Play {
         expected: Result<Answer, StepError>,
     ) -> Result<(), Wrong> {
         let event = Event { seat, step };
-        let Ok(before) = self.world.copy() else {
-            return Err(Wrong::Memory);
-        };
         let Ok(copy) = event.clone() else {
             return Err(Wrong::Memory);
         };
-        let answer = self.world.step(copy);
-        if answer.is_err() && self.world != before {
-            return Err(Wrong::Other);
-        }
+        let answer = self.tries(copy)?;
         if answer != expected {
             return Err(wrong_answer(answer));
         }

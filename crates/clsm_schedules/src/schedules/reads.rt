@@ -33,21 +33,27 @@ impl Play {
         }
     }
 
-    fn reads(&mut self, component: u64, call: CallRecord) -> Result<(), Wrong> {
-        let CallRecord { seat, time, deed } = call;
+    /// Pins the component, and reads as the call does.
+    fn pins_and_reads(&mut self, component: u64, call: &CallRecord) -> Result<(), Wrong> {
+        let (seat, time) = (call.seat, call.time);
         self.pins(seat, component)?;
-        match &deed {
+        match &call.deed {
             Deed::Get { key, reply } => {
                 self.settles(seat, component, time)?;
-                self.searches(seat, component, time, *key, reply)?;
+                self.searches(seat, component, time, *key, reply)
             }
-            Deed::GetAt { key, reply } => self.searches(seat, component, time, *key, reply)?,
+            Deed::GetAt { key, reply } => self.searches(seat, component, time, *key, reply),
             _ => {
                 self.finds(seat, Word::Clock, time)?;
                 self.does(seat, Step::Note(time))?;
-                self.settles(seat, component, time)?;
+                self.settles(seat, component, time)
             }
         }
+    }
+
+    fn reads(&mut self, component: u64, call: CallRecord) -> Result<(), Wrong> {
+        self.pins_and_reads(component, &call)?;
+        let CallRecord { seat, time, deed } = call;
         self.does(seat, Step::Unpin(End::Recorded(deed)))?;
         match self.world.calls(seat).last() {
             Some(call) if call.time == time => Ok(()),

@@ -66,14 +66,7 @@ impl Play {
             "links" => self.links(line.seat()?, line.number()?, line.number()?),
             "inserts" => self.inserts(line.seat()?, line.number()?, line.number()?),
             "writes" => self.writes(record(self.alloc, line.left)?),
-            "puts" => {
-                let call = record(self.alloc, line.left)?;
-                let seat = call.seat;
-                self.enters(seat)?;
-                self.draws(seat, call.time)?;
-                self.writes(call)?;
-                self.does(seat, Step::LeaveShared)
-            }
+            "puts" => self.puts(record(self.alloc, line.left)?),
             "walks" => self.walks(line),
             name => self.batch(name, line),
         }
@@ -85,6 +78,18 @@ impl Play {
             region: self.layout.region_of(self.layout.cell_of(time)),
             chain: key % self.layout.chains,
         }
+    }
+
+    fn puts(&mut self, call: CallRecord) -> Result<(), Wrong> {
+        let seat = call.seat;
+        self.enters_and_draws(seat, call.time)?;
+        self.writes(call)?;
+        self.does(seat, Step::LeaveShared)
+    }
+
+    fn enters_and_draws(&mut self, seat: u32, time: Time) -> Result<(), Wrong> {
+        self.enters(seat)?;
+        self.draws(seat, time)
     }
 
     fn enters(&mut self, seat: u32) -> Result<(), Wrong> {
@@ -126,12 +131,17 @@ impl Play {
         self.does(seat, Step::Link(first))
     }
 
-    pub(crate) fn writes(&mut self, call: CallRecord) -> Result<(), Wrong> {
-        let CallRecord { seat, time, deed } = call;
-        let (key, value) = written_by(&deed);
+    /// Fills, links and inserts.
+    fn places(&mut self, seat: u32, time: Time, deed: &Deed) -> Result<(), Wrong> {
+        let (key, value) = written_by(deed);
         self.fills(seat, key, &value, Part::Next)?;
         self.links(seat, key, time)?;
-        self.inserts(seat, key, time)?;
+        self.inserts(seat, key, time)
+    }
+
+    pub(crate) fn writes(&mut self, call: CallRecord) -> Result<(), Wrong> {
+        let CallRecord { seat, time, deed } = call;
+        self.places(seat, time, &deed)?;
         self.does(seat, Step::Decide(time, deed))
     }
 

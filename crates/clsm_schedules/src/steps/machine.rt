@@ -35,23 +35,38 @@ struct Begun {
     number: usize,
 }
 
+/// The calls of each seat.
+fn deals_of(alloc: Global, script: &Script) -> Result<Vec<Vec<Deal>>, Wrong> {
+    let mut deals = Vec::new(alloc);
+    for player in [FIRST, OTHER] {
+        if deals.push(script.deals(alloc, player)?).is_err() {
+            return Err(Wrong::Memory);
+        }
+    }
+    Ok(deals)
+}
+
+/// The callers that make these calls.
+fn callers_of(alloc: Global, deals: &[Vec<Deal>]) -> Result<Vec<Caller>, Wrong> {
+    let mut callers = Vec::new(alloc);
+    for calls in deals {
+        if callers.push(Caller::new(alloc, calls.as_slice())).is_err() {
+            return Err(Wrong::Memory);
+        }
+    }
+    Ok(callers)
+}
+
 impl Machine {
     pub(crate) fn new(alloc: Global, script: &Script) -> Result<Machine, Wrong> {
         let Ok(layout) = Layout::new(SIZES) else {
             return Err(Wrong::Unread);
         };
+        let deals = deals_of(alloc, script)?;
+        let callers = callers_of(alloc, &deals)?;
         let Ok(world) = World::new(alloc, &layout) else {
             return Err(Wrong::Memory);
         };
-        let mut callers = Vec::new(alloc);
-        let mut deals = Vec::new(alloc);
-        for player in [FIRST, OTHER] {
-            let calls = script.deals(alloc, player)?;
-            let caller = Caller::new(alloc, calls.as_slice());
-            if callers.push(caller).is_err() || deals.push(calls).is_err() {
-                return Err(Wrong::Memory);
-            }
-        }
         Ok(Machine {
             alloc,
             layout,

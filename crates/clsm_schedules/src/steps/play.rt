@@ -46,8 +46,13 @@ impl Alone {
         let mut machine = Machine::new(alloc, script)?;
         machine.play(script, None)?;
         let steps = machine.steps(script.first.player)?;
-        let places = shared(alloc, Search::of(&script.first.command), &steps)?;
-        let kinds = kinds_at(alloc, &steps, &places)?;
+        Ok(Alone::of(alloc, &script.first, &steps)?)
+    }
+
+    /// Those of the steps of this command that the store makes too.
+    fn of(alloc: Global, turn: &Turn, steps: &[Made]) -> Result<Alone, AllocError> {
+        let places = shared(alloc, Search::of(&turn.command), steps)?;
+        let kinds = kinds_at(alloc, steps, &places)?;
         Ok(Alone { places, kinds })
     }
 }
@@ -55,8 +60,20 @@ impl Alone {
 /// The steps of the one with this number that the store makes too.
 fn shared_steps(alloc: Global, machine: &Machine, turn: &Turn) -> Result<Vec<Kind>, Wrong> {
     let steps = machine.steps(turn.player)?;
-    let places = shared(alloc, Search::of(&turn.command), &steps)?;
-    Ok(kinds_at(alloc, &steps, &places)?)
+    Ok(Alone::of(alloc, turn, &steps)?.kinds)
+}
+
+/// What the script came to on the machine.
+fn gather_machine(alloc: Global, script: &Script, machine: &Machine) -> Result<Played, Wrong> {
+    let other = match &script.other {
+        Some(other) => shared_steps(alloc, machine, other)?,
+        None => Vec::new(alloc),
+    };
+    Ok(Played {
+        first: shared_steps(alloc, machine, &script.first)?,
+        other,
+        records: records_of(alloc, script, machine)?,
+    })
 }
 
 /// Plays the script on the machine, held before the step of the call of the row at this place, if
@@ -70,15 +87,7 @@ pub(crate) fn play_machine(
     if !machine.play(script, hold)? {
         return Ok(None);
     }
-    let other = match &script.other {
-        Some(other) => shared_steps(alloc, &machine, other)?,
-        None => Vec::new(alloc),
-    };
-    Ok(Some(Played {
-        first: shared_steps(alloc, &machine, &script.first)?,
-        other,
-        records: records_of(alloc, script, &machine)?,
-    }))
+    Ok(Some(gather_machine(alloc, script, &machine)?))
 }
 
 /// The record of a page of at most so many rows, by that of the scan of its keys.
@@ -99,6 +108,14 @@ fn paged(alloc: Global, scan: &CallRecord, max: u64) -> Result<CallRecord, Alloc
     Ok(CallRecord { deed, ..*scan })
 }
 
+/// Puts the record of a page of at most so many rows in the place of the last one, that of a scan.
+fn page_last(alloc: Global, records: &mut Vec<CallRecord>, max: u64) -> Result<(), AllocError> {
+    if let Some(scan) = records.pop() {
+        records.push(paged(alloc, &scan, max)?)?;
+    }
+    Ok(())
+}
+
 /// The machine's records of both seats, with a page in the place of a scan that stands for one.
 fn records_of(
     alloc: Global,
@@ -110,10 +127,8 @@ fn records_of(
         for record in machine.records(seat) {
             records.push(record.clone()?)?;
         }
-        if let Some(max) = script.page_of(seat)
-            && let Some(scan) = records.pop()
-        {
-            records.push(paged(alloc, &scan, max)?)?;
+        if let Some(max) = script.page_of(seat) {
+            page_last(alloc, &mut records, max)?;
         }
     }
     Ok(records)
@@ -148,6 +163,17 @@ fn play_both<'a, R: Threads + Wait + Sync>(
     (held, free)
 }
 
+/// The players with these two behind them.
+fn join_players<'a>(
+    mut players: Vec<Player<'a>>,
+    held: Player<'a>,
+    free: Player<'a>,
+) -> Result<Vec<Player<'a>>, AllocError> {
+    players.push(held)?;
+    players.push(free)?;
+    Ok(players)
+}
+
 /// Plays the row behind the state.
 fn play_row<'a, R: Threads + Wait + Sync>(
     rt: &R,
@@ -177,9 +203,7 @@ fn play_row<'a, R: Threads + Wait + Sync>(
     };
     let held = (held, script.first.command);
     let (held, free) = play_both(rt, alloc, watch, held, (free, other.command));
-    players.push(held)?;
-    players.push(free)?;
-    Ok(players)
+    join_players(players, held, free)
 }
 
 /// Plays the state, and behind it the row.
@@ -197,7 +221,7 @@ fn play_on<R: Threads + Wait + Sync>(
     }
     watch.open();
     let players = play_row(rt, alloc, watch, script, players)?;
-    gather(alloc, watch, script, players)
+    gather(alloc, watch, script, &players)
 }
 
 /// Plays the script on a store, held before the last of these steps of the call of the row.
@@ -229,11 +253,11 @@ fn gather(
     alloc: Global,
     watch: &Watch,
     script: &Script,
-    players: Vec<Player>,
+    players: &[Player],
 ) -> Result<Played, Wrong> {
     let mut records = Vec::new(alloc);
     for seat in [FIRST, OTHER] {
-        append(&mut records, &players, seat)?;
+        append(&mut records, players, seat)?;
     }
     let other = match &script.other {
         Some(other) => watch.steps(alloc, other.player)?,
