@@ -11,6 +11,7 @@ use crate::session::session_lap;
 use crate::sizes::Work;
 use crate::times::Times;
 use std::alloc::Global;
+use std::io;
 use std::rt::Clock;
 use std::sync::Wait;
 use std::thread::Threads;
@@ -65,6 +66,20 @@ fn rounds<R: Threads + Sync + Clock + Wait>(
     Ok(times)
 }
 
+/// Prints the times of the line.
+fn print_times<R: Print>(
+    rt: &R,
+    name: &str,
+    threads: u32,
+    times: &str,
+    is_csv: bool,
+) -> io::Result<()> {
+    if is_csv {
+        return println!(rt; "\"{name}\",{threads},{times}");
+    }
+    println!(rt; "{name} threads {threads} {times}")
+}
+
 /// Does the line's work by so many threads in two ways in turn, as often as the options say and
 /// once more before, to warm up. Prints the line: the picoseconds of a call of all threads
 /// together, in the first way and in the second, and how many hundredths of the first the second
@@ -91,10 +106,6 @@ pub fn compare<R: Threads + Sync + Clock + Wait + Print + AllocGlobal>(
         return Ok(());
     }
     let times = rounds(rt, alloc, &work)?.text(alloc, options.is_csv)?;
-    if options.is_csv {
-        println!(rt; "\"{name}\",{threads},{times}")?;
-    } else {
-        println!(rt; "{name} threads {threads} {times}")?;
-    }
+    print_times(rt, name, threads, &times, options.is_csv)?;
     Ok(())
 }

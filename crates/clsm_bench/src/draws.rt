@@ -73,17 +73,24 @@ pub fn key_of(number: u32, index: u32) -> u64 {
     number.wrapping_mul(0x9e37_79b9_7f4a_7c15).rotate_right(32)
 }
 
+/// So many filled keys, by rising size.
+fn sorted_keys(alloc: Global, keys: u32) -> Result<Vec<u64>, AllocError> {
+    let mut sorted = Vec::new(alloc);
+    for index in 0..keys {
+        sorted.push(key_of(FILLER, index))?;
+    }
+    sorted.sort()?;
+    Ok(sorted)
+}
+
 impl<'a> Series<'a> {
     pub fn new(alloc: Global, line: &'a Line, options: &Options) -> Result<Series<'a>, AllocError> {
         let Line { role, filling, .. } = line;
         let keys = line.filled(options);
-        let mut sorted = Vec::new(alloc);
-        if let Role::Scans(_) | Role::Pages(_) | Role::Several(..) = role {
-            for index in 0..keys {
-                sorted.push(key_of(FILLER, index))?;
-            }
-            sorted.sort()?;
-        }
+        let sorted = match role {
+            Role::Scans(_) | Role::Pages(_) | Role::Several(..) => sorted_keys(alloc, keys)?,
+            _ => Vec::new(alloc),
+        };
         let draw = match role {
             Role::Several(_, draw) => draw,
             _ => &Draw::Uniform,

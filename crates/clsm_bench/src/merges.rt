@@ -86,7 +86,10 @@ pub fn take_turns<R: Clock + Wait>(
     merger: Merger<'_, Free>,
     turns: Turns,
 ) -> Result<Lap, Failure> {
-    let (Some(holder), Some(writer)) = (callers.pop(), callers.pop()) else {
+    let Some(holder) = callers.pop() else {
+        return Err(Failure::Unanswered);
+    };
+    let Some(writer) = callers.pop() else {
         return Err(Failure::Unanswered);
     };
     let mut seats = Seats {

@@ -10,7 +10,7 @@ const SERIES: [&str; 7] = [
 ];
 
 /// The sizes of a measurement, and how often it is made.
-#[derive(Drop)]
+#[derive(Clone, Copy)]
 pub struct Options {
     /// The calls of each thread, the puts of a merge, or the records of an audit.
     pub calls: u32,
@@ -94,27 +94,40 @@ fn size<'a>(alloc: Global, name: &'a str, range: (u64, u64), help: &'a str) -> A
         .help(help)
 }
 
-/// The program's command line.
-fn program<'a>(alloc: Global) -> Result<Command<'a>, AllocError> {
-    let series = Arg::new(alloc, "series")
+/// `SERIES`, one of their names.
+fn series<'a>(alloc: Global) -> Arg<'a> {
+    Arg::new(alloc, "series")
         .value_name("SERIES")
         .required(true)
         .value_parser(ValueParser::Names(&SERIES))
-        .help("What is measured");
-    let csv = Arg::new(alloc, "csv")
+        .help("What is measured")
+}
+
+/// `--csv`.
+fn csv<'a>(alloc: Global) -> Arg<'a> {
+    Arg::new(alloc, "csv")
         .long("csv")
         .action(ArgAction::SetTrue)
-        .help("Prints rows for tools/plot");
+        .help("Prints rows for tools/plot")
+}
+
+/// All arguments.
+fn args<'a>(alloc: Global) -> Result<Vec<Arg<'a>>, AllocError> {
     let mut args = Vec::new(alloc);
-    args.push(series)?;
+    args.push(series(alloc))?;
     for row in 0..SIZES.len() {
         let (name, low, high, help) = SIZES[row];
         args.push(size(alloc, name, (low, high), help))?;
     }
-    args.push(csv)?;
+    args.push(csv(alloc))?;
+    Ok(args)
+}
+
+/// The program's command line.
+fn program<'a>(alloc: Global) -> Result<Command<'a>, AllocError> {
     Command::new(alloc, "clsm_bench")
         .about("Measures the store beside a map under a lock, and beside itself")
-        .args(args)
+        .args(args(alloc)?)
 }
 
 /// What a command line asks for.

@@ -33,12 +33,24 @@ pub fn work_beside<R: Threads + Sync + Clock + Wait>(
     merger: Merger<'_, Free>,
     scene: &Scene,
 ) -> Result<Lap, Failure> {
-    let mut extra = Extra {
-        caller: callers.pop().ok_or(Failure::Unanswered)?,
-        sweeper: Sweeper::new(merger),
+    let Some(caller) = callers.pop() else {
+        return Err(Failure::Unanswered);
     };
+    let sweeper = Sweeper::new(merger);
+    let mut extra = Extra { caller, sweeper };
+    extra.fill(rt, alloc, scene.round.series)?;
+    disturb_all(rt, alloc, callers, extra, scene)
+}
+
+/// The calls of these callers, and what goes on beside them.
+fn disturb_all<R: Threads + Sync + Clock + Wait>(
+    rt: &R,
+    alloc: Global,
+    callers: Vec<Caller<'_, Free>>,
+    extra: Extra<'_>,
+    scene: &Scene,
+) -> Result<Lap, Failure> {
     let Scene { beside, round } = scene;
-    extra.fill(rt, alloc, round.series)?;
     let stop = AtomicBool::new(false);
     let (disturbed, lap) = join(
         rt,

@@ -2,7 +2,7 @@
 use std::alloc::{AllocError, Global};
 
 /// The median of numbers, with the least and the greatest of them.
-#[derive(Drop)]
+#[derive(Clone, Copy)]
 struct Spread {
     median: u64,
     least: u64,
@@ -27,6 +27,18 @@ impl Spread {
         }
         format!(in alloc; "{median} [{least} {greatest}]")
     }
+}
+
+/// The spreads of both times and of the hundredths as one text.
+fn line_of(alloc: Global, spreads: [Spread; 3], is_csv: bool) -> Result<String, AllocError> {
+    let [first, second, percent] = spreads;
+    let first = first.text(alloc, is_csv)?;
+    let second = second.text(alloc, is_csv)?;
+    let percent = percent.text(alloc, is_csv)?;
+    if is_csv {
+        return format!(in alloc; "{first},{second},{percent}");
+    }
+    format!(in alloc; "ps {first} ps {second} percent {percent}")
 }
 
 /// The times of rounds in both ways, in picoseconds a call, and how many hundredths of the first
@@ -58,12 +70,9 @@ impl Times {
 
     /// As a line shows them, or as the values of a row.
     pub fn text(self, alloc: Global, is_csv: bool) -> Result<String, AllocError> {
-        let first = Spread::new(self.firsts)?.text(alloc, is_csv)?;
-        let second = Spread::new(self.seconds)?.text(alloc, is_csv)?;
-        let percent = Spread::new(self.percents)?.text(alloc, is_csv)?;
-        if is_csv {
-            return format!(in alloc; "{first},{second},{percent}");
-        }
-        format!(in alloc; "ps {first} ps {second} percent {percent}")
+        let first = Spread::new(self.firsts)?;
+        let second = Spread::new(self.seconds)?;
+        let percent = Spread::new(self.percents)?;
+        line_of(alloc, [first, second, percent], is_csv)
     }
 }
