@@ -4,7 +4,7 @@ use clsm_store::{BatchError, Time, TryPutError, Value};
 
 /// A call of the actor's seat, a command of the merger, or a turn at a gate. A value has one word,
 /// where nothing else is said.
-#[derive(Drop)]
+#[derive(Clone, Copy)]
 pub(super) enum Act {
     Put(u64, u64),
     /// A value of eight words.
@@ -58,7 +58,7 @@ pub(super) enum Act {
 }
 
 /// A member of a batch, with its key.
-#[derive(Clone, Copy, Drop)]
+#[derive(Clone, Copy)]
 pub(super) enum Write {
     /// A value of one word.
     Word(u64, u64),
@@ -70,7 +70,7 @@ pub(super) enum Write {
 }
 
 /// A turn at a gate.
-#[derive(Drop)]
+#[derive(Clone, Copy)]
 pub(super) enum Turn {
     /// From now on the gate holds its seat, or counts its steps.
     Watch,
@@ -87,7 +87,7 @@ pub(super) enum Turn {
     Steps,
 }
 
-#[derive(PartialEq, Drop)]
+#[derive(Clone, Copy, PartialEq)]
 pub(super) enum Answer {
     At(Time),
     Full(Time),

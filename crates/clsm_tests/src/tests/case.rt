@@ -20,7 +20,7 @@ pub(super) const NONE: &[Step] = &[];
 /// A store of these sizes whose gates hold so; what is played on it, phase after phase, and then
 /// round after round. The merger is the first actor's. The audit holds all calls against a plain
 /// map.
-#[derive(Drop)]
+#[derive(Clone, Copy)]
 pub(super) struct Case {
     pub(super) name: &'static str,
     pub(super) config: Config,

@@ -15,7 +15,7 @@ pub(super) enum Mix {
 
 /// A worker's calls: of these kinds, at keys below this number and at one key of its own, until so
 /// many are answered.
-#[derive(Drop)]
+#[derive(Clone, Copy)]
 pub(super) struct Load {
     pub(super) mix: Mix,
     pub(super) keys: u64,

@@ -10,7 +10,7 @@ const TURNS: u64 = 10_000_000;
 
 /// Where a gate holds a seat, once, or again where it is told so: when it is about to make a step of this kind, or of any. So
 /// many such steps it lets pass first, counted since it is watched.
-#[derive(Drop)]
+#[derive(Clone, Copy)]
 pub(super) struct Hold {
     pub(super) seat: u64,
     pub(super) kind: Option<Kind>,

@@ -12,7 +12,7 @@ use std::thread::Threads;
 pub(super) const NEVER: u32 = u32::MAX;
 
 /// A reader that gives so many bytes a call, and fails once after so many calls.
-#[derive(Drop)]
+#[derive(Clone, Copy)]
 pub(super) struct Keyboard<'a> {
     pub(super) left: &'a [u8],
     pub(super) step: usize,
@@ -63,7 +63,7 @@ impl Write for Screen {
 }
 
 /// How many bytes the screens take a call, and after how many calls the output and the faults fail.
-#[derive(Drop)]
+#[derive(Clone, Copy)]
 pub(super) struct Failing {
     pub(super) step: usize,
     pub(super) output: u32,
@@ -84,6 +84,21 @@ pub(super) struct Played {
     pub(super) status: u8,
 }
 
+/// The screens of the output and of the faults.
+fn screens(alloc: Global, failing: &Failing) -> Result<(Screen, Screen), Fail> {
+    let output = Screen {
+        shown: Vec::with_capacity(alloc, 256)?,
+        step: failing.step,
+        fails_after: failing.output,
+    };
+    let faults = Screen {
+        shown: Vec::with_capacity(alloc, 256)?,
+        step: failing.step,
+        fails_after: failing.faults,
+    };
+    Ok((output, faults))
+}
+
 /// Plays a command line.
 pub(super) fn play<T: Threads + Sync + Clock + Wait, R: Read + Drop>(
     rt: &T,
@@ -92,16 +107,7 @@ pub(super) fn play<T: Threads + Sync + Clock + Wait, R: Read + Drop>(
     input: R,
     failing: &Failing,
 ) -> Result<Played, Fail> {
-    let output = Screen {
-        shown: Vec::with_capacity(alloc, 256)?,
-        step: failing.step,
-        fails_after: failing.output,
-    };
-    let mut faults = Screen {
-        shown: Vec::with_capacity(alloc, 256)?,
-        step: failing.step,
-        fails_after: failing.faults,
-    };
+    let (output, mut faults) = screens(alloc, failing)?;
     let streams = Streams {
         input,
         output,

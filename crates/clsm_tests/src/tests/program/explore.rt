@@ -4,6 +4,8 @@ use clsm_explore::{
 };
 use clsm_law::Layout;
 use clsm_model::{Config, Value};
+use std::alloc::Global;
+use std::process::Abort;
 use std::test::Fail;
 
 /// What goes wrong.
@@ -61,18 +63,40 @@ const SMALL: Config = Config {
     patience: 0,
 };
 
-/// Each wrong order is found: a step is not open. With nothing wrong there are more worlds than
-/// the limit. A close with no snapshot is skipped.
+/// What goes wrong, the two calls of the first caller, that of the second one, and the most worlds.
+type Order = (Wrong, Deal, Deal, Deal, usize);
+
+/// The wrong order is found: a step is not open. With nothing wrong there are more worlds than the
+/// limit.
+fn check_order(rt: &impl Abort, alloc: Global, layout: &Layout, order: Order) -> Result<(), Fail> {
+    let (wrong, first, then, second, limit) = order;
+    let deals = vec![in alloc; vec![in alloc; first, then]?, vec![in alloc; second]?]?;
+    assert!(rt; deals.len() as u64 <= layout.seats, "a seat for each list");
+    let task = Task {
+        alloc,
+        layout,
+        deals: &deals,
+    };
+    let merge = matches!(wrong, Wrong::Unfloored | Wrong::SeatLeftOut);
+    let is_found = match explore_with(&wrong, &task, merge, limit, &mut Untold) {
+        Err(ExploreError::TooMany) => wrong == Wrong::Nothing,
+        Err(ExploreError::Refused(_)) => wrong != Wrong::Nothing,
+        _ => false,
+    };
+    assert!(rt; is_found, "{wrong:?}");
+    Ok(())
+}
+
+/// Each wrong order is found. A close with no snapshot is skipped.
 #[test]
 fn wrong_orders_of_calls(rt: HostRuntime) -> Result<(), Fail> {
-    let alloc = rt.alloc();
     let layout = Layout::new(SMALL).expect(&rt, "sizes in their ranges");
     let value = Value::new(&[1]).expect(&rt, "one word");
     let (key, other) = (1, 2);
     let put = || Deal::Put { key, value };
     let another = Deal::Put { key: other, value };
     let add = Deal::Add { key, by: 1 };
-    for (wrong, first, then, second, limit) in [
+    for order in [
         (Wrong::Nothing, put(), Deal::Close, Deal::Close, 1),
         (
             Wrong::Unsettled,
@@ -95,20 +119,7 @@ fn wrong_orders_of_calls(rt: HostRuntime) -> Result<(), Fail> {
             10_000,
         ),
     ] {
-        let deals = vec![in alloc; vec![in alloc; first, then]?, vec![in alloc; second]?]?;
-        assert!(rt; deals.len() as u64 <= layout.seats, "a seat for each list");
-        let task = Task {
-            alloc,
-            layout: &layout,
-            deals: &deals,
-        };
-        let merge = matches!(wrong, Wrong::Unfloored | Wrong::SeatLeftOut);
-        let is_found = match explore_with(&wrong, &task, merge, limit, &mut Untold) {
-            Err(ExploreError::TooMany) => wrong == Wrong::Nothing,
-            Err(ExploreError::Refused(_)) => wrong != Wrong::Nothing,
-            _ => false,
-        };
-        assert!(rt; is_found, "{wrong:?}");
+        check_order(&rt, rt.alloc(), &layout, order)?;
     }
     Ok(())
 }

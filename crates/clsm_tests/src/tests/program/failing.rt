@@ -182,6 +182,26 @@ const STATUSES: &[(&[&str], &str, u8)] = &[
     (&["clsm", "frob"], "", 1),
 ];
 
+/// Plays the command line to faults that fail after so many calls: the status is this one.
+fn check_status<R: Abort + Threads + Sync + Clock + Wait>(
+    rt: &R,
+    alloc: Global,
+    words: &[&str],
+    input: &str,
+    status: u8,
+) -> Result<(), Fail> {
+    for faults in 0..8 {
+        let failing = Failing {
+            step: 4,
+            output: NEVER,
+            faults,
+        };
+        let played = play(rt, alloc, words, input.as_bytes(), &failing)?;
+        assert_eq!(rt; played.status, status);
+    }
+    Ok(())
+}
+
 #[test]
 fn writes_that_fail(rt: HostRuntime) -> Result<(), Fail> {
     for written in WRITES {
@@ -190,15 +210,7 @@ fn writes_that_fail(rt: HostRuntime) -> Result<(), Fail> {
         }
     }
     for (words, input, status) in STATUSES {
-        for faults in 0..8 {
-            let failing = Failing {
-                step: 4,
-                output: NEVER,
-                faults,
-            };
-            let played = play(&rt, rt.alloc(), words, input.as_bytes(), &failing)?;
-            assert_eq!(rt; played.status, *status);
-        }
+        check_status(&rt, rt.alloc(), words, input, *status)?;
     }
     Ok(())
 }
