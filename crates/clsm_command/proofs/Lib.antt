@@ -5,4 +5,5 @@ pub mod Ranges
 pub mod Read
 pub mod Taken
 pub mod Handed
+pub mod Sizes
 pub mod Statuses

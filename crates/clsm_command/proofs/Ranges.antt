@@ -154,7 +154,7 @@ abbrev GivesRange : Shape → Type 0
 GivesRange s = (words : List Text) → level_fault s [] nothing_held words false [] ≡ [] → AreRanged s.name (rows_after s.rules [] words)
 
 -- the first letters of two names
-apart : (x y : ℕ) (xs ys : Text) → (x ≡ y → ⊥) → x ∷ xs ≡ y ∷ ys → ⊥
+pub apart : (x y : ℕ) (xs ys : Text) → (x ≡ y → ⊥) → x ∷ xs ≡ y ∷ ys → ⊥
 apart x y xs ys differ e = differ (ap (λ (t : Text). slice_index_or t 0 x) e)
 
 script_range : (rows : List Row) → AreRanged (codes "script") rows

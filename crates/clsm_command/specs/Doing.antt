@@ -1,9 +1,10 @@
 -- What is done for the options that are read.
-use Rattle.std.specs.Prelude.{◌≡◌, ℕ, IfSome, List, Option, ⊤}
+use Rattle.std.specs.Prelude.{◌≡◌, ℕ, IfSome, List, Option, length, ⊤}
 use Rattle.clap.specs.Words.{Text}
 use Rattle.clap.specs.declared.error.Error.{Error}
 use Rattle.clsm_model.specs.declared.config.Config.{Config}
-use Rattle.clsm_explore.specs.Scripts.{IsExplored}
+use Rattle.clsm_model.specs.Config.{IsSound}
+use Rattle.clsm_explore.specs.Scripts.{FindsFault as ComesToFault, IsExplored}
 use Rattle.clsm_explore.specs.declared.scripts.Exploration.{Exploration}
 use Rattle.clsm_workload.specs.Run.{EndsWell, FindsFault}
 use Rattle.clsm_workload.specs.declared.load.AskedRun.{AskedRun}
@@ -46,6 +47,23 @@ pub record AsksExploration (options : ExploreOptions) (asked : Exploration) : Ty
 abbrev pub audit_sizes : AuditOptions → Config
 audit_sizes options = record { cells = options.cells; seats = options.seats; shards = 1; run = 4; patience = 0 }
 
+-- the sizes of the machine that is explored
+abbrev pub explored_sizes : ExploreOptions → Config
+explored_sizes options = record {
+  cells = options.cells;
+  seats = length options.scripts.items;
+  shards = options.shards;
+  run = 4;
+  patience = options.patience;
+}
+
+-- the sizes that are asked for are in their ranges; an audit wants none
+abbrev pub HasSoundSizes : Options → Type 0
+HasSoundSizes (Script config) = IsSound config
+HasSoundSizes (Run options) = IsSound options.config
+HasSoundSizes (Audit options) = ⊤
+HasSoundSizes (Explore options) = IsSound (explored_sizes options)
+
 -- the run that is asked for ends well, and prints this
 abbrev pub Runs : RunOptions → Option (List ℕ) → Option (List ℕ) → Type 0
 Runs options before after = (asked : AskedRun) × AsksRun options asked × EndsWell asked before after
@@ -57,6 +75,10 @@ RunsIntoFault options before after = (asked : AskedRun) × AsksRun options asked
 -- the exploration that is asked for went through, and prints this
 abbrev pub Explores : ExploreOptions → Option (List ℕ) → Option (List ℕ) → Type 0
 Explores options before after = (asked : Exploration) × AsksExploration options asked × IsExplored asked before after
+
+-- or it comes to a fault, and says so
+abbrev pub ExploresIntoFault : ExploreOptions → Option (List ℕ) → Option (List ℕ) → Type 0
+ExploresIntoFault options before after = (asked : Exploration) × AsksExploration options asked × ComesToFault asked before after
 
 -- the bytes are a script, which is played on a store of these sizes, and prints this
 abbrev pub PlaysScript : Config → Option (List ℕ) → Option (List ℕ) → List ℕ → Type 0
@@ -76,7 +98,7 @@ abbrev pub IsFaulty : Options → Option (List ℕ) → Option (List ℕ) → Op
 IsFaulty (Script config) input before after = ⊥
 IsFaulty (Run options) input before after = RunsIntoFault options before after
 IsFaulty (Audit options) input before after = IfSome input (PrintsFault (audit_sizes options) options.order before after)
-IsFaulty (Explore options) input before after = ⊤
+IsFaulty (Explore options) input before after = ExploresIntoFault options before after
 
 -- the words ask for something, of which this holds
 pub record IsAskedFor (words : List Text) (Holds : Options → Type 0) : Type 0 where

@@ -1,9 +1,9 @@
 //! What the command line asks for is done.
 ghost use Rattle.std.specs.Prelude.{◌≡◌, ◌⊎◌, ◌≤◌, IsSomeAnd, map};
 ghost use Rattle.clsm_command.specs.Answers.{IsInRange};
-ghost use Rattle.clsm_command.specs.Doing.{IsAskedFor, IsDone, IsFaulty, IsHelp, audit_sizes};
+ghost use Rattle.clsm_command.specs.Doing.{HasSoundSizes, IsAskedFor, IsDone, IsFaulty, IsHelp, audit_sizes};
 ghost use Rattle.clsm_command.specs.declared.options.Options.TheVariants.{Audit, Explore, Run, Script};
-ghost use Rattle.clsm_command.specs.declared.refusal.Refusal.TheVariants.{Help};
+ghost use Rattle.clsm_command.specs.declared.refusal.Refusal.TheVariants.{Help, Memory};
 ghost use Rattle.clsm_text.specs.Failure.{status_of};
 ghost use Rattle.clap.specs.declared.error.Error.{Error};
 
@@ -38,7 +38,7 @@ pub struct Ended<W> {
 ///
 /// The status is 0 where all was done; 1 for words that are refused, a bad line, or a failed read
 /// or write; 2 for a fault that an audit or an exploration found; 3 for a refused opening, if
-/// memory runs out, or for too many worlds.
+/// memory runs out, for too many worlds, or where an exploration is stuck.
 pub fn command<T, S, R, W, E>(
     rt: &T,
     alloc: Global,
@@ -58,6 +58,7 @@ where
     ensures fault { result.status ≡ 2 → IsSomeAnd result.output (λ output.
         IsAskedFor (map S.text words.entry.now) (λ options.
         IsFaulty options (R.remaining streams.input) (W.contents streams.output) (W.contents output))) }
+    ensures refused { IsAskedFor (map S.text words.entry.now) (λ options. ¬ HasSoundSizes options) → result.status ≡ 3 }
 {
     match parse(alloc, words) {
         Ok(options) => obey(rt, alloc, options, streams),
@@ -75,6 +76,7 @@ where
 }
 
 /// Does what the options ask for.
+#[tactic(auto, using(crate::proofs::Sizes::audit_refused))]
 fn obey<T, R, W, E>(rt: &T, alloc: Global, options: Options, streams: Streams<R, W, E>) -> Ended<W>
 where
     T: Threads + Sync + Clock + Wait,
@@ -87,6 +89,7 @@ where
         IsDone options (R.remaining streams.input) (W.contents streams.output) (W.contents output)) }
     ensures fault { result.status ≡ 2 → IsSomeAnd result.output (λ output.
         IsFaulty options (R.remaining streams.input) (W.contents streams.output) (W.contents output)) }
+    ensures refused { ¬ HasSoundSizes options → result.status ≡ 3 }
 {
     match options {
         Options::Script(config) => play(rt, alloc, config, streams),
@@ -108,6 +111,7 @@ where
     ensures done { result.status ≡ 0 → IsSomeAnd result.output (λ output.
         IsDone (Script config) (R.remaining streams.input) (W.contents streams.output) (W.contents output)) }
     ensures faultless { ¬ (result.status ≡ 2) }
+    ensures refused { ¬ HasSoundSizes (Script config) → result.status ≡ 3 }
 {
     let Streams {
         input,
@@ -145,6 +149,7 @@ where
         IsDone (Run options.now) (R.remaining streams.input) (W.contents streams.output) (W.contents output)) }
     ensures fault { result.status ≡ 2 → IsSomeAnd result.output (λ output.
         IsFaulty (Run options.now) (R.remaining streams.input) (W.contents streams.output) (W.contents output)) }
+    ensures refused { ¬ HasSoundSizes (Run options.now) → result.status ≡ 3 }
 {
     let Streams {
         mut output,
@@ -198,7 +203,7 @@ where
 }
 
 /// Explores the scripts.
-#[tactic(auto, using(crate::proofs::Statuses::at_most))]
+#[tactic(auto, using(crate::proofs::Statuses::at_most, crate::proofs::Sizes::explored_refused))]
 fn try_orders<R, W, E>(
     alloc: Global,
     options: &ExploreOptions,
@@ -213,6 +218,7 @@ where
         IsDone (Explore options.now) (R.remaining streams.input) (W.contents streams.output) (W.contents output)) }
     ensures fault { result.status ≡ 2 → IsSomeAnd result.output (λ output.
         IsFaulty (Explore options.now) (R.remaining streams.input) (W.contents streams.output) (W.contents output)) }
+    ensures refused { ¬ HasSoundSizes (Explore options.now) → result.status ≡ 3 }
 {
     let Streams {
         mut output,
@@ -269,6 +275,7 @@ fn asked(options: &AuditOptions) -> AskedAudit
 pub fn refuse<W: Write, E: Write + Drop>(refusal: Refusal, output: &mut W, mut faults: E) -> u8
     ensures status { (result ≡ 0) ⊎ ((result ≡ 1) ⊎ (result ≡ 3)) }
     ensures help { result ≡ 0 → (error : Error) × (refusal ≡ Help error) }
+    ensures memory { refusal ≡ Memory → result ≡ 3 }
 {
     match refusal {
         Refusal::Help(text) => match help(output, &text) {
