@@ -39,8 +39,8 @@ pub record EndsAbove (records : List CallRecord) (stamps : List Stamp) (j t : �
   pub writes : is_write (turn_of records stamps turn).deed ≡ true
   pub above : t < time_past (turn_of records stamps turn)
 
--- the replay at the turn j: `until` is the first time past the writes before it, and the map is that
--- of the history below each time from there on up to the writes that come
+-- the replay at the turn j: `until` is the first time past the writes before it, and the map is
+-- that of the history below each time from there on up to the writes that come
 pub record IsPlayed (records : List CallRecord) (stamps : List Stamp) (j until : ℕ) (pairs : List Pair) : Type 0 where
   pub ends : (k : ℕ) → k < j → k < length stamps → is_write (turn_of records stamps k).deed ≡ true → time_past (turn_of records stamps k) ≤ until
   pub reached : (t : ℕ) → t < until → EndsAbove records stamps j t
@@ -89,8 +89,8 @@ module _ (records : List CallRecord) (stamps : List Stamp) (order : IsInTimeOrde
       let i = (get_or stamps k nowhere).index in
       here_if HasTimes records i (at k) (index_in k within) (itself records i (index_in k within)) (times i)
 
-  -- the record of an earlier turn is not later, and if it is a write at the time of a later turn, then
-  -- that turn's record is a write too
+  -- the record of an earlier turn is not later, and if it is a write at the time of a later turn,
+  -- then that turn's record is a write too
   in_order : (j k : ℕ) → j ≤ k → k < length stamps → ((at j).time ≤ (at k).time)
       × ((at j).time ≡ (at k).time → is_write (at j).deed ≡ true → is_write (at k).deed ≡ true)
   in_order j k le within =

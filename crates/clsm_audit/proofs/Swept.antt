@@ -15,7 +15,8 @@ use Rattle.clsm_audit.proofs.Orders.{comes_before-moments}
 
 -- ---- moments that do not fall
 
--- what comes before none of some events is not of a lower moment; a begin is of a higher one than an end
+-- what comes before none of some events is not of a lower moment; a begin is of a higher one than
+-- an end
 not_below : (m n : ℕ) (a b : Bool) → (nat_lt m n || (m == n && (not a && b))) ≡ false → n ≤ m
 not_below m n a b behind = grind (arith, nat_tests)
 

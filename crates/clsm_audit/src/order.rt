@@ -33,14 +33,15 @@ impl From<Memory> for OrderError {
 }
 
 /// Audits the order of answered calls in real time, with the moments of each at its record's index:
-/// whether each call that ended before another one began stands before it in the history. An `audit`
-/// comes first, which knows the seats and times of all records. The place of a write is its time, and
-/// of a batch all of its times; a read stands before the write at its time. A close, and a read under
-/// an open snapshot, has no place: it may be made at any moment. Of two calls, one of which ends at
-/// the moment at which the other begins, none ended before the other.
+/// whether each call that ended before another one began stands before it in the history. An
+/// `audit` comes first, which knows the seats and times of all records. The place of a write is its
+/// time, and of a batch all of its times; a read stands before the write at its time. A close, and
+/// a read under an open snapshot, has no place: it may be made at any moment. Of two calls, one of
+/// which ends at the moment at which the other begins, none ended before the other.
 ///
-/// Refused with `Stale` at the lowest index of a call that is too early, and with `Memory` if memory
-/// runs out, in place of any other answer. It costs as much as a sort of two events for each record.
+/// Refused with `Stale` at the lowest index of a call that is too early, and with `Memory` if
+/// memory runs out, in place of any other answer. It costs as much as a sort of two events for each
+/// record.
 pub fn audit_order(
     alloc: Global,
     config: &Config,

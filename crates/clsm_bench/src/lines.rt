@@ -21,8 +21,8 @@ pub enum Role {
     RisingPuts,
     /// The first thread puts at keys that had no value, the others get.
     OnePuts,
-    /// Batches of so many writes beside as many puts: at keys that had no value, or each at one of a
-    /// few.
+    /// Batches of so many writes beside as many puts: at keys that had no value, or each at one of
+    /// a few.
     Batches(u32),
     HotBatches(u32),
     /// Nine calls in ten are gets, the others puts at filled keys.

@@ -86,8 +86,8 @@ pub fn below(bound: u32, word: u32) -> u32 {
     u32::try_from(wide).unwrap_or(0)
 }
 
-/// How the filled keys are drawn: of so many each as often, or by their ranks, where it has the sums
-/// of the weights of all ranks up to each.
+/// How the filled keys are drawn: of so many each as often, or by their ranks, where it has the
+/// sums of the weights of all ranks up to each.
 #[derive(Drop)]
 pub struct Ranks {
     keys: u32,

@@ -70,9 +70,9 @@ impl Line {
     }
 
     /// The calls for which each of so many threads has room, as many as the options say at most:
-    /// in one epoch, but for reads and beside a merger. Where others get or scan, or what is put has
-    /// a value, half of the times that are left are for puts: a reader may cancel one, and the put
-    /// then takes another.
+    /// in one epoch, but for reads and beside a merger. Where others get or scan, or what is put
+    /// has a value, half of the times that are left are for puts: a reader may cancel one, and the
+    /// put then takes another.
     pub fn calls(&self, is_merged: bool, options: &Options, threads: u32) -> u32 {
         let room = match &self.role {
             Several(mix, _) => return mix.calls(options, threads),

@@ -38,7 +38,8 @@ use denote.Triple.Spec.{triple_of}
 use denote.Triple.Walked.{Stays, stay_dropped, gave_ref, walk_of}
 use Rattle.std.proofs.raw_atomic.Walks.{leaves}
 
--- the types of the handle, of the one that is made of it and of the answer, each of one machine value
+-- the types of the handle, of the one that is made of it and of the answer, each of one machine
+-- value
 pub record Kinds : Type 2 where
   pub R : RattleType
   pub S : RattleType
@@ -201,7 +202,8 @@ module _ (K : Kinds) (Makes : Deed K) (callee : Callee) {M : Type 1} {𝓤 : Ura
         heard ! (Makes x ws.0 ws.1.0 d) (λ makes.
         fsplit ! $ fsplit ! $ move ! (3 ∷ []) $ split ! $ split ! $ lft_end ! tt $ move ! (0 ∷ 6 ∷ 3 ∷ []) $
         use3 𝓛 (later (‵ (part_at R full_share ws.0 b o))) (ref_back 𝓛 R κ₀ γ ws.0 b o) $ await ! tt $
-        -- [the handle lies there; the tokens; what is made owns; the closed borrow; the last answer; the room]
+        -- [the handle lies there; the tokens; what is made owns; the closed borrow; the last
+        -- answer; the room]
         move ! (2 ∷ []) $ peeks ! S (Is S) (shows 𝓛 S) d (v ∷ []) (λ is. let good = K.typed d v is in
         lands_as ! refl refl good $
         first ! $ blocks ! $

@@ -1,4 +1,5 @@
--- A call for C by a handle that fills rows of C's: as `Lent`, with a slice that is lent on. It is the same walk for each such export.
+-- A call for C by a handle that fills rows of C's: as `Lent`, with a slice that is lent on. It is
+-- the same walk for each such export.
 use Rattle.std.proofs.Common.{ℕ, ◌^◌, ◌<◌, List, [], ◌∷◌, ◌++◌, length, refl, w32}
 use seplogic.Ra.Ura.{Ura}
 use base.Fraction.{full_share}
@@ -85,7 +86,8 @@ module _ (K : Kinds) where
     ),
   )
 
-  -- what the call does: the handle before and after, what was asked, the rows before and after, the answer, and the code
+  -- what the call does: the handle before and after, what was asked, the rows before and after, the
+  -- answer, and the code
   abbrev pub Deed : Type 1
   Deed = (K.R).Denot → (K.A).Denot → List (K.E).Denot → (K.R).Denot → List (K.E).Denot → (K.B).Denot → ℕ → Type 0
 
@@ -232,7 +234,8 @@ module _ (K : Kinds) (Does : Deed K) (callee : Callee) {M : Type 1} {𝓤 : Ura 
         use3 𝓛 (later (‵ (part_at R full_share ws.0 b o))) (ref_back 𝓛 R κ₀ γ ws.0 b o) $ await ! tt $
         -- [the handle lies there; the tokens; the code; the closed borrow; the last values]
         move ! (4 ∷ []) $ fsplit ! $ drop ! $ fsplit ! $ fsplit ! $ fsplit ! $ move ! (1 ∷ []) $ feq_l ! (λ same. fjoin ! $ fjoin ! $
-        -- [the last rows and answer; the handle lies there; the tokens; the code; the closed borrow]
+        -- [the last rows and answer; the handle lies there; the tokens; the code; the closed
+        -- borrow]
         move ! (3 ∷ []) $ peeks ! u32 (Is u32) (shows 𝓛 u32) c (v ∷ []) (λ is. lands_as ! refl refl ((uint_Lawful 𝓛 w32).typed c _ is).0 $
         returns ! (look_at ! 0 refl) $ free_all ! refl $
         nothing ! $ fpack ! (Does x s.now w.now ws.0 ws.1.1.0 ws.1.1.1.0 c) (λ _. ftrue) does $ move ! (3 ∷ 0 ∷ []) $ fjoin ! $

@@ -1,4 +1,5 @@
--- A handle that C gives back: it is read out of C's memory, which is room again, and a safe function lets it go. It is the same walk for each such export.
+-- A handle that C gives back: it is read out of C's memory, which is room again, and a safe
+-- function lets it go. It is the same walk for each such export.
 use Rattle.std.proofs.Common.{◌≡◌, ℕ, List, [], ◌∷◌, ◌++◌, refl, ap}
 use seplogic.Ra.Ura.{Ura}
 use base.Fraction.{full_share}

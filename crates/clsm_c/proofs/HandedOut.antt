@@ -1,4 +1,5 @@
--- A handle that is made for C: a safe function makes it, and it is written where C has room for it. It is the same walk for each such export.
+-- A handle that is made for C: a safe function makes it, and it is written where C has room for it.
+-- It is the same walk for each such export.
 use Rattle.std.proofs.Common.{◌≡◌, ℕ, List, [], ◌∷◌, ◌++◌, refl}
 use seplogic.Ra.Ura.{Ura}
 use base.Fraction.{full_share}

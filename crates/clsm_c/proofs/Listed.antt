@@ -1,5 +1,5 @@
--- A call for C by a handle that is given rows of C's to read: as `Lent`, with a slice that is handed
--- on in the place of the question. It is the same walk for each such export.
+-- A call for C by a handle that is given rows of C's to read: as `Lent`, with a slice that is
+-- handed on in the place of the question. It is the same walk for each such export.
 use Rattle.std.proofs.Common.{ℕ, ◌^◌, ◌<◌, List, [], ◌∷◌, ◌++◌, length, refl, w32}
 use seplogic.Ra.Ura.{Ura}
 use base.Fraction.{full_share}
@@ -180,7 +180,8 @@ module _ (K : Kinds) (Does : Deed K) (callee : Callee) {M : Type 1} {𝓤 : Ura 
         use1 𝓛 (later (some (λ (γ : GName). ‵ ((MutRef (named 0) κ₀ R).own_val (record { ref_ptr = (b, o); ghost_name = γ; now = x }) (vptr b o ∷ []))
         ⊛ ‵ (flent κ₀ (Body (mem R) b o γ)))))
         (lends_ref 𝓛 R (named 0) κ₀ x b o) $ await ! tt $ pick ! (λ γ. split ! $
-        -- [the reference; the lender's part; κ₀ alive; answer; true; rows; at; κ' alive; true; κ alive]
+        -- [the reference; the lender's part; κ₀ alive; answer; true; rows; at; κ' alive; true; κ
+        -- alive]
         let h : MutBor R.Denot = record { ref_ptr = (b, o); ghost_name = γ; now = x } in
         let y : (Of K Does 𝓛).Ghost =
         (((κ₀, (κ, (κ', tt))), (full_share, (q, (q', tt))), tt, (h, (s, (r, tt))), (vptr b o ∷ [], (shr_slice_vals s, (mut_vals r, tt)))), tt) in

@@ -144,8 +144,8 @@ abbrev pub Adds : Option OwnCaller → CoreAdding → Option OwnCaller → CoreC
 Adds old ask new answer code =
     ByCaller (λ before after. TriesChange before after ask.key (λ found change. change ≡ added found ask.by) answer code) old new code
 
--- it tried to replace the expected value by the desired one; or one of them is no value, and nothing
--- was done
+-- it tried to replace the expected value by the desired one; or one of them is no value, and
+-- nothing was done
 abbrev pub ReplacesAt : SeatState → CoreReplacing → SeatState → CoreChanged → ℕ → Type 0
 ReplacesAt old ask new answer code =
     ((expected : Option (List ℕ)) × (desired : Option (List ℕ)) × IsValue ask.expected expected × IsValue ask.desired desired

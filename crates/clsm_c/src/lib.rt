@@ -39,8 +39,8 @@ pub extern "C" fn clsm_core_room(answer: &mut CoreRooms)
     *answer = slots::rooms();
 }
 
-/// Opens an empty store of these sizes, takes all its memory, and makes its handle. Answers `OK`, or
-/// the first size out of its range, in the order `BAD_EPOCH` (cells), `BAD_SEATS`, `BAD_SHARDS`,
+/// Opens an empty store of these sizes, takes all its memory, and makes its handle. Answers `OK`,
+/// or the first size out of its range, in the order `BAD_EPOCH` (cells), `BAD_SEATS`, `BAD_SHARDS`,
 /// `BAD_KEYS` (run), `BAD_PATIENCE`, or `MEMORY`: the handle is empty then, and nothing is kept.
 #[unsafe(no_mangle)]
 pub unsafe extern "C" fn clsm_core_open(
@@ -87,7 +87,8 @@ pub unsafe extern "C" fn clsm_core_take_caller(
     unsafe { caller.cast::<CallerSlot>().write(made) }
 }
 
-/// Gives the handle of a caller back. Its seat cannot be taken again, and what it pins stays pinned.
+/// Gives the handle of a caller back. Its seat cannot be taken again, and what it pins stays
+/// pinned.
 #[unsafe(no_mangle)]
 pub unsafe extern "C" fn clsm_core_drop_caller(caller: *mut u8)
     ghost old: { CallerSlot }
@@ -158,13 +159,13 @@ pub unsafe extern "C" fn clsm_core_try_remove(
     calls::try_remove(unsafe { &mut *caller.cast::<CallerSlot>() }, ask, answer)
 }
 
-/// Writes the rows as one batch: at consecutive times in their order, all of which become visible at
-/// one moment. A row without a value removes its key; of several rows of one key the last one wins.
-/// Answers `OK` and the time of the first row. It takes memory for the rows while it runs, and tries
-/// to take the lock once. Refused, in this order, with `MEMORY`, `BAD_VALUE` if a value has more than
-/// eight words, `BAD_BATCH` if there is no row or more than an epoch has cells, `BUSY` if the lock
-/// was not free, and `FULL` and the clock's time if the epoch has fewer timestamps left than there
-/// are rows: nothing was written then.
+/// Writes the rows as one batch: at consecutive times in their order, all of which become visible
+/// at one moment. A row without a value removes its key; of several rows of one key the last one
+/// wins. Answers `OK` and the time of the first row. It takes memory for the rows while it runs,
+/// and tries to take the lock once. Refused, in this order, with `MEMORY`, `BAD_VALUE` if a value
+/// has more than eight words, `BAD_BATCH` if there is no row or more than an epoch has cells,
+/// `BUSY` if the lock was not free, and `FULL` and the clock's time if the epoch has fewer
+/// timestamps left than there are rows: nothing was written then.
 #[unsafe(no_mangle)]
 pub unsafe extern "C" fn clsm_core_try_batch(
     caller: *mut u8,
@@ -180,10 +181,10 @@ pub unsafe extern "C" fn clsm_core_try_batch(
 
 // ---- a caller's read-modify-writes
 
-/// Adds a number to the key's word, which counts as 0 if the key has no value, and answers `OK`, the
-/// time, and the values before and after; or `KEPT` if the value has several words or the sum passes
-/// 2^64 - 1: the value is as before then. Refused as `clsm_core_try_remove`, and with `RACED` also
-/// if another caller wrote the key between its read and its write.
+/// Adds a number to the key's word, which counts as 0 if the key has no value, and answers `OK`,
+/// the time, and the values before and after; or `KEPT` if the value has several words or the sum
+/// passes 2^64 - 1: the value is as before then. Refused as `clsm_core_try_remove`, and with
+/// `RACED` also if another caller wrote the key between its read and its write.
 #[unsafe(no_mangle)]
 pub unsafe extern "C" fn clsm_core_try_add(
     caller: *mut u8,
@@ -215,8 +216,8 @@ pub unsafe extern "C" fn clsm_core_try_replace(
 
 // ---- a caller's reads
 
-/// Reads the key at a time of its own, which is the clock's, and answers the time and the value, and
-/// `OK`, or `NOT_FOUND` if the key has no value: the length is 0 then. It is never refused.
+/// Reads the key at a time of its own, which is the clock's, and answers the time and the value,
+/// and `OK`, or `NOT_FOUND` if the key has no value: the length is 0 then. It is never refused.
 #[unsafe(no_mangle)]
 pub unsafe extern "C" fn clsm_core_get(caller: *mut u8, ask: &CoreKey, answer: &mut CoreGot) -> u32
     ghost old: { CallerSlot }
@@ -226,8 +227,8 @@ pub unsafe extern "C" fn clsm_core_get(caller: *mut u8, ask: &CoreKey, answer: &
     calls::get(unsafe { &mut *caller.cast::<CallerSlot>() }, ask, answer)
 }
 
-/// Opens the caller's snapshot at a time of its own, which is the clock's, and answers `OK` and that
-/// time. Refused with `OPEN` and the time of the one that is open. The key is not looked at.
+/// Opens the caller's snapshot at a time of its own, which is the clock's, and answers `OK` and
+/// that time. Refused with `OPEN` and the time of the one that is open. The key is not looked at.
 #[unsafe(no_mangle)]
 pub unsafe extern "C" fn clsm_core_snapshot(
     caller: *mut u8,
@@ -272,8 +273,8 @@ pub unsafe extern "C" fn clsm_core_get_at(
 }
 
 /// Counts the keys of the range that have a value: below the time of the caller's open snapshot, or
-/// else at a time of its own, which is the clock's. Answers `OK`, that time and the number, which is
-/// 0 if the first key is above the last. It looks at each key of the range.
+/// else at a time of its own, which is the clock's. Answers `OK`, that time and the number, which
+/// is 0 if the first key is above the last. It looks at each key of the range.
 #[unsafe(no_mangle)]
 pub unsafe extern "C" fn clsm_core_count(
     caller: *mut u8,
@@ -287,10 +288,10 @@ pub unsafe extern "C" fn clsm_core_count(
     calls::count(unsafe { &mut *caller.cast::<CallerSlot>() }, ask, answer)
 }
 
-/// Fills rows by rising key: the first ones of the range that have a value, as many as there is room
-/// for. It reads at the time that `clsm_core_count` would. Answers `OK`, that time, the number of
-/// rows, and where the next page begins, if there are more. Refused with `MEMORY`: the rows are as
-/// before.
+/// Fills rows by rising key: the first ones of the range that have a value, as many as there is
+/// room for. It reads at the time that `clsm_core_count` would. Answers `OK`, that time, the number
+/// of rows, and where the next page begins, if there are more. Refused with `MEMORY`: the rows are
+/// as before.
 #[unsafe(no_mangle)]
 pub unsafe extern "C" fn clsm_core_page(
     caller: *mut u8,
@@ -312,10 +313,10 @@ pub unsafe extern "C" fn clsm_core_page(
 
 // ---- the merger's
 
-/// Freezes the epoch, if `used` of its timestamps are drawn, or all, so that writes find room again.
-/// It never merges. Answers `OK` where an epoch is frozen or retired, by this call or before it;
-/// `IDLE` if too few timestamps were drawn; `BUSY` if a caller held the lock; `WORN` at the end of
-/// times, 2^62. The time is not written.
+/// Freezes the epoch, if `used` of its timestamps are drawn, or all, so that writes find room
+/// again. It never merges. Answers `OK` where an epoch is frozen or retired, by this call or before
+/// it; `IDLE` if too few timestamps were drawn; `BUSY` if a caller held the lock; `WORN` at the end
+/// of times, 2^62. The time is not written.
 #[unsafe(no_mangle)]
 pub unsafe extern "C" fn clsm_core_try_freeze(
     merger: *mut u8,

@@ -84,8 +84,8 @@ ExploresIntoFault options before after = (asked : Exploration) × AsksExploratio
 abbrev pub PlaysScript : Config → Option (List ℕ) → Option (List ℕ) → List ℕ → Type 0
 PlaysScript config before after bytes = IsScript bytes × IsPlayedOn config (outputs_of before after) bytes
 
--- what is asked for is done to its end with this input, where its bytes are known, and what it prints
--- stands behind what the output held
+-- what is asked for is done to its end with this input, where its bytes are known, and what it
+-- prints stands behind what the output held
 abbrev pub IsDone : Options → Option (List ℕ) → Option (List ℕ) → Option (List ℕ) → Type 0
 IsDone (Script config) input before after = IfSome input (PlaysScript config before after)
 IsDone (Run options) input before after = Runs options before after

@@ -25,7 +25,8 @@ use std::thread::Threads;
 /// The entries that a run of level 1 has room for in an exploration.
 const EXPLORED_RUN: usize = 4;
 
-/// How the program ended: its exit status, and its output, unless memory ran out before it was used.
+/// How the program ended: its exit status, and its output, unless memory ran out before it was
+/// used.
 #[derive(Drop)]
 pub struct Ended<W> {
     pub status: u8,

@@ -53,8 +53,8 @@ pub record Setting : Type 0 where
 abbrev pub v : Setting → View
 v s = view_at s.z s.views s.me
 
--- the steps of which the clauses speak one by one: a stage is none of them, since it takes a time and
--- then is a fill (`Staged`)
+-- the steps of which the clauses speak one by one: a stage is none of them, since it takes a time
+-- and then is a fill (`Staged`)
 abbrev pub plainly : Step → Step
 plainly (Stage t key) = Pad 0
 plainly step = step

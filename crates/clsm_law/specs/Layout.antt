@@ -53,8 +53,8 @@ place_size z p = 1 + entry_words * room_of z p
 
 -- the row is made of blocks, one behind the other, and these are their lengths: of LOCK, CLOCK,
 -- LIMIT, FRONT and MERGED, of the pins, of the snapshots, of the cells with the heads of the two
--- ordered lists before them, of the values' far words, of the hints, of the heads of the chains, and
--- of the five places. What could push the cells off their lines stands behind them
+-- ordered lists before them, of the values' far words, of the hints, of the heads of the chains,
+-- and of the five places. What could push the cells off their lines stands behind them
 abbrev pub blocks : Layout → List ℕ
 blocks z =
     (to_line + spacing) ∷ spacing ∷ spacing ∷ spacing ∷ spacing ∷ (spacing * z.seats) ∷ (spacing * z.seats)

@@ -54,7 +54,8 @@ region_of z c = cond (nat_lt c z.cells) 0 1
 abbrev pub head_of : Layout → ℕ → ℕ → Word
 head_of z t key = Head (region_of z (cell_of z t)) (key % z.chains)
 
--- ---- places of the ordered lists: 0 is before the first cell, and a cell's place is the cell plus 1
+-- ---- places of the ordered lists: 0 is before the first cell, and a cell's place is the cell plus
+-- 1
 
 -- the number of the link behind a place in the list of a region
 abbrev pub link_at : ℕ → ℕ → ℕ

@@ -299,8 +299,8 @@ merger_looked z m _ x = m
 abbrev pub merger_after : Layout → Facts → MergerView → Step → ℕ → MergerView
 -- won: the lock is held, which is counted
 merger_after z f m EnterExclusive x = record m { exclusive = cond (x == 0) true m.exclusive; holds = one_more_if (x == 0) m.holds }
--- the lock is given back; where the limit was moved in the hold an epoch is frozen, no round of looks
--- has begun, and none found a time noted
+-- the lock is given back; where the limit was moved in the hold an epoch is frozen, no round of
+-- looks has begun, and none found a time noted
 merger_after z f m LeaveExclusive x = record m {
   exclusive = false;
   phase = cond m.limit_extended Frozen m.phase;

@@ -1,6 +1,6 @@
 -- The steps of a caller's seat, by cases in the order of the step's members: the word of each, what
--- it makes of the word, the view after it, the slots and chains after it, and its answer. Where each
--- is open is in `OpenSteps`. `x` is the word that the step finds.
+-- it makes of the word, the view after it, the slots and chains after it, and its answer. Where
+-- each is open is in `OpenSteps`. `x` is the word that the step finds.
 use Rattle.std.specs.Prelude.{◌≡◌, ℕ, ◌+◌, ◌*◌, ◌%◌, ◌^◌, ◌<◌, ◌≤◌, ◌==◌, ◌&&◌, ◌||◌, Bool, true, false, not, cond, nat_lt, nat_le, max, List, [], ◌∷◌}
 use Rattle.std.specs.Prelude.{◌++◌, length, slice_set, Option, Some, None, is_some}
 use prog.Atomic.{either}
@@ -341,8 +341,8 @@ after_entry z mode won v = record v {
   entries = one_more_if won v.entries;
 }
 
--- the lock is given back, no look is fresh, and no place of the list is known; the looks of the hold
--- are known still
+-- the lock is given back, no look is fresh, and no place of the list is known; the looks of the
+-- hold are known still
 abbrev pub after_leave : Layout → View → View
 after_leave z v = record v { mode = Free; fresh_lock = None; fresh_clock = None; fresh_heads = blank (2 * z.chains); met = 0; low = 0; high = 0 }
 
@@ -409,8 +409,8 @@ view_after z i v (Decide t deed) x = let won = x == 0 in let alone = is_exclusiv
 }
 -- t is found decided, and an own drawn time is given up; what was cancelled is counted
 view_after z i v (Cancel t) x = record (counted_cancel z v t x) { drawn = given_up v.drawn t; reached = reached_after z v t }
--- the lock is held exclusively where it is won, and nothing is committed in this hold; a lost one is
--- counted
+-- the lock is held exclusively where it is won, and nothing is committed in this hold; a lost one
+-- is counted
 view_after z i v EnterExclusive x = let won = x == 0 in record (after_entry z Exclusive won v) {
   committed = cond won false v.committed;
   busy = one_more_if (not won) v.busy;
@@ -427,8 +427,8 @@ view_after z i v (Commit members) x = let first = or_zero v.hold_clock in record
   due = first + length members;
   calls = v.calls ++ call_of i first (Group members) ∷ [];
 }
--- a read runs, by the next pin word: no component is held, no clock is looked at yet, and no time is
--- waited for
+-- a read runs, by the next pin word: no component is held, no clock is looked at yet, and no time
+-- is waited for
 view_after z i v Pin x = record v { pin = next_word v.pin; pinned = true; held = None; pin_clock = None; waited = None }
 -- the read is over, by the next pin word: what it recorded joins the calls, the due follows, and a
 -- snapshot that got its time is open

@@ -50,7 +50,8 @@ pub struct View {
     pub fresh_lock: Option<u64>,
     pub fresh_clock: Option<Time>,
     pub fresh_heads: Items<Option<u64>>,
-    /// The last look at LIMIT, unless the lock was taken since; and the last one at CLOCK in a hold.
+    /// The last look at LIMIT, unless the lock was taken since; and the last one at CLOCK in a
+    /// hold.
     pub hold_limit: Option<Time>,
     pub hold_clock: Option<Time>,
     /// The first look at CLOCK in the last hold.
@@ -110,8 +111,9 @@ pub struct View {
     pub gave_up: u64,
     #[derive_where(skip(EqHashOrd))]
     pub cancelled: u64,
-    /// The last looks at states under this pin, where they found one undecided; and the times of other
-    /// seats that it cancelled before it had looked again as often as the patience says, modulo 2^64.
+    /// The last looks at states under this pin, where they found one undecided; and the times of
+    /// other seats that it cancelled before it had looked again as often as the patience says,
+    /// modulo 2^64.
     #[derive_where(skip(EqHashOrd))]
     pub waited: Option<Waiting>,
     #[derive_where(skip(EqHashOrd))]

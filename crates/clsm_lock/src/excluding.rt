@@ -69,9 +69,9 @@ pub fn unlock_exclusive<P: Pace>(words: &Words<P>, seat: &mut RawSeat)
 }
 
 /// Tries once to hold the lock alone as the merger: one exchange. It never waits. Nothing is frozen
-/// then. With `Ok` no caller holds it while the merger does, so no time is drawn, and what each time
-/// came to is known to the merger. Refused with `Busy` where a caller held it; the merger is then as
-/// it was.
+/// then. With `Ok` no caller holds it while the merger does, so no time is drawn, and what each
+/// time came to is known to the merger. Refused with `Busy` where a caller held it; the merger is
+/// then as it was.
 pub fn try_lock_as_merger<P: Pace>(words: &Words<P>, merger: &mut RawMerger) -> Result<(), Busy>
     requires of { IsSeatOf words.now merger.old }
     requires clean { is_clean merger.old.knows.merger.phase ≡ true }

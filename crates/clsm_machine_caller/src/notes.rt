@@ -57,8 +57,8 @@ fn note_close(seat: u32, view: &mut View) -> Result<(), AllocError>
     Ok(())
 }
 
-/// Notes the step, which found this word, in the view of the seat that makes it. Refused if memory runs
-/// out: the view is as it was.
+/// Notes the step, which found this word, in the view of the seat that makes it. Refused if memory
+/// runs out: the view is as it was.
 pub fn note(
     layout: &Layout,
     seat: u32,

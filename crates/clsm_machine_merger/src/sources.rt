@@ -12,8 +12,8 @@ use clsm_model::Slot;
 /// All places, in the order in which those that are named are searched.
 const SEARCH_ORDER: [u64; 5] = [2, 1, 0, LEVEL_ONE, LEVEL_ONE + 1];
 
-/// A merge that the merger is about to publish: the words, what the merger knows, and what all times
-/// came to.
+/// A merge that the merger is about to publish: the words, what the merger knows, and what all
+/// times came to.
 #[derive(Clone, Copy)]
 pub(crate) struct Merge<'a> {
     pub(crate) layout: &'a Layout,

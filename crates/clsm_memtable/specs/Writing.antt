@@ -60,8 +60,8 @@ pub record Draws (old new : Known) (t : ℕ) : Type 0 where
   pub near : IsNearHeld old.layout old.view.held t
   pub passed : old.view.past ≤ t
 
--- in this hold of the lock it looked at the clock and the limit: no time from the clock on is taken,
--- and each below the limit may be
+-- in this hold of the lock it looked at the clock and the limit: no time from the clock on is
+-- taken, and each below the limit may be
 pub record FindsRoom (old new : Known) (clock limit : ℕ) : Type 0 where
   pub place : KeepsPlace old new
   pub view : new.view ≡ record old.view {

@@ -51,8 +51,8 @@ pub(crate) fn try_link<P: Pace>(
 }
 
 /// Links the drawn cell, and tries until it is linked, as long as that takes. Each try that lost
-/// has moved the seat's count of such refusals by one: another cell was linked, so it tries again at
-/// once. A walk of a chain that the seat had begun is ended.
+/// has moved the seat's count of such refusals by one: another cell was linked, so it tries again
+/// at once. A walk of a chain that the seat had begun is ended.
 #[inline(always)]
 pub(crate) fn link<P: Pace, R: Wait>(rt: &R, words: &Words<P>, seat: &mut RawSeat, cell: DrawnCell)
     requires of { IsSeatOf words.now seat.old }

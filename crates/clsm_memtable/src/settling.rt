@@ -72,8 +72,8 @@ fn settle<P: Pace>(words: &Words<P>, seat: &mut RawSeat, component: u64, time: T
     }
 }
 
-/// Raises FRONT, which the seat found at `front` before, to the time, and its past with it. Where it
-/// stands there already, a look says so: readers beside each other then keep its line.
+/// Raises FRONT, which the seat found at `front` before, to the time, and its past with it. Where
+/// it stands there already, a look says so: readers beside each other then keep its line.
 #[inline(always)]
 fn raise<P: Pace>(words: &Words<P>, seat: &mut RawSeat, front: Time, time: Time)
     requires may { MayPlay words.now seat.old (RaiseFront time) }

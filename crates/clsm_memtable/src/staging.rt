@@ -29,11 +29,11 @@ fn stage_cell<P: Pace>(words: &Words<P>, seat: &mut RawSeat, cell: DrawnCell, va
     fill_words(words, seat, cell.time, value);
 }
 
-/// Stages the next member of the seat's batch, in its exclusive hold of the lock, in which it looked
-/// at LIMIT and CLOCK: takes the cell's time, which is behind the members before it and below the
-/// limit, and fills this write in the cell, a value or, with `None`, a removal. The time is the
-/// seat's then as a drawn one is, and the cell has to be entered and decided before the next member.
-/// It never waits and is never refused.
+/// Stages the next member of the seat's batch, in its exclusive hold of the lock, in which it
+/// looked at LIMIT and CLOCK: takes the cell's time, which is behind the members before it and
+/// below the limit, and fills this write in the cell, a value or, with `None`, a removal. The time
+/// is the seat's then as a drawn one is, and the cell has to be entered and decided before the next
+/// member. It never waits and is never refused.
 pub fn stage<P: Pace>(words: &Words<P>, seat: &mut RawSeat, cell: DrawnCell, value: Option<&Value>)
     requires opens { MayPlay words.now seat.old (Stage cell.time cell.key) }
     ensures of { IsSeatOf words.now seat.new }
@@ -47,8 +47,8 @@ pub fn stage<P: Pace>(words: &Words<P>, seat: &mut RawSeat, cell: DrawnCell, val
 
 /// Decides the staged member in work, whose cell is linked, inserted and says the deed's write: one
 /// exchange, which always wins, since nobody else can cancel the time. The write is one staged
-/// member more, which readers see from the commit on; nothing is recorded, and the seat's due stays.
-/// No hint leads to the cell yet. It never waits and is never refused.
+/// member more, which readers see from the commit on; nothing is recorded, and the seat's due
+/// stays. No hint leads to the cell yet. It never waits and is never refused.
 pub fn decide_member<P: Pace>(words: &Words<P>, seat: &mut RawSeat, time: Time, deed: &Deed)
     requires opens { MayPlay words.now seat.old (Decide time deed.now) }
     requires holds { seat.old.knows.view.mode ≡ Exclusive }

@@ -41,7 +41,8 @@ IsPatience c = c.patience ≤ 64
 abbrev pub IsSound : Config → Type 0
 IsSound c = IsCells c × IsSeats c × IsShards c × IsRunRoom c × IsPatience c
 
--- this is the first size out of its range, as it was given, in the order cells, seats, shards, run, patience
+-- this is the first size out of its range, as it was given, in the order cells, seats, shards, run,
+-- patience
 abbrev pub IsFirstFault : Config → OpenError → Type 0
 IsFirstFault c (Cells n) = (n ≡ c.cells) × (¬ IsCells c)
 IsFirstFault c (Seats n) = (n ≡ c.seats) × IsCells c × (¬ IsSeats c)

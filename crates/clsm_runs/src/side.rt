@@ -34,8 +34,8 @@ pub(crate) enum Turn {
 impl Turn {
     /// The turn behind so many looks, where the last entry that was looked at stands before the one
     /// that is sought, or not, and the span begins behind that entry, or ends there. Where keys
-    /// stand evenly, each guess is nearer by far than the one before. Else the span is halved behind
-    /// a few of them, so the looks are at most those of a search by halving and a few more.
+    /// stand evenly, each guess is nearer by far than the one before. Else the span is halved
+    /// behind a few of them, so the looks are at most those of a search by halving and a few more.
     #[inline(always)]
     pub(crate) fn next(self, span: &Span, is_before: bool, looks: u32) -> Turn {
         if looks >= GUESSES {

@@ -68,16 +68,16 @@ abbrev pub IsCollected : (ℕ → Option (List ℕ)) → ℕ → ℕ → Option 
 IsCollected value lo hi max rows None = AreAll value lo hi rows × IsAtMost (length rows) max
 IsCollected value lo hi max rows (Some more) = IsStopped value lo hi max rows more
 
--- So many keys from `lo` to `hi` have a value, as far as a word can hold their number: it is that of
--- the rows of all of them, and this is the first of the keys
+-- So many keys from `lo` to `hi` have a value, as far as a word can hold their number: it is that
+-- of the rows of all of them, and this is the first of the keys
 pub record IsCount (value : ℕ → Option (List ℕ)) (lo hi n : ℕ) (first : Option ℕ) : Type 0 where
   pub rows : List Pair
   pub all : IsCollected value lo hi None rows None
   pub counted : n ≡ min (length rows) 18446744073709551615
   pub begins : first ≡ first_key rows
 
--- A visitor took the rows of all keys from `lo` to `hi` that have a value, by rising key: so many, as
--- far as a word can hold their number, of which this is the first key
+-- A visitor took the rows of all keys from `lo` to `hi` that have a value, by rising key: so many,
+-- as far as a word can hold their number, of which this is the first key
 pub record IsVisit {V : Type 0} (Takes : V → Pair → V → Type 0) (value : ℕ → Option (List ℕ)) (lo hi n : ℕ) (first : Option ℕ) (before after : V) : Type 0 where
   pub count : IsCount value lo hi n first
   pub taken : FoldsTo Takes before count.rows after

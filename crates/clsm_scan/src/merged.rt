@@ -139,8 +139,8 @@ impl Merged {
         }
     }
 
-    /// Has the walk at the place go on to a write with a key from `from` on, if it is not there yet;
-    /// it leaves if there is none. Answers the place behind it.
+    /// Has the walk at the place go on to a write with a key from `from` on, if it is not there
+    /// yet; it leaves if there is none. Answers the place behind it.
     #[inline(always)]
     fn pass_at<P: Pace>(
         &mut self,
@@ -186,8 +186,8 @@ impl Merged {
         self.streams.remove(at);
     }
 
-    /// Has each walk go on to a write with a key from `from` on, if it is not there yet, and leave if
-    /// there is none.
+    /// Has each walk go on to a write with a key from `from` on, if it is not there yet, and leave
+    /// if there is none.
     #[inline(always)]
     fn pass<P: Pace>(&mut self, words: &Words<P>, seat: &mut RawSeat, from: u64)
         requires of { IsSeatOf words.now seat.old }

@@ -11,8 +11,8 @@
 //! Single steps:
 //! - `done SEAT STEP`, `lost SEAT STEP`: it is answered so.
 //! - `found SEAT NUMBER WORD`: a look at the word finds this.
-//! - `refused SEATS STEPS`: each of the steps, which are separated by `; `, is refused to each of the
-//!   seats, which are separated by commas, and the world stays as it was.
+//! - `refused SEATS STEPS`: each of the steps, which are separated by `; `, is refused to each of
+//!   the seats, which are separated by commas, and the world stays as it was.
 //!
 //! What the world tells:
 //! - `has NUMBER WORD`, `has-none WORD`.
@@ -27,7 +27,8 @@
 //! A second world, which is opened with the first: `copies` makes it a copy of the first, `swaps`
 //! takes the one for the other, and `equal` and `differ` compare them, by `==` and by hash.
 //!
-//! Parts of calls stand in `writes.rt`, `batches.rt`, `reads.rt` and `merging.rt`, each with its row.
+//! Parts of calls stand in `writes.rt`, `batches.rt`, `reads.rt` and `merging.rt`, each with its
+//! row.
 
 mod batches;
 mod line;

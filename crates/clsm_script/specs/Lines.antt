@@ -75,8 +75,8 @@ pub record IsNewStage (config : Config) (stage : Stage) : Type 0 where
   pub phase_is : stage.phase ≡ Clean merger
   pub printed_is : stage.printed ≡ []
 
--- all lines of the bytes are played on a new store of these sizes, and their answers are printed; at
--- the end each seat is lawful, and what they all did is one whole history
+-- all lines of the bytes are played on a new store of these sizes, and their answers are printed;
+-- at the end each seat is lawful, and what they all did is one whole history
 pub record IsPlayedOn (config : Config) (outputs : Outputs) (bytes : List ℕ) : Type 0 where
   pub old : Stage
   pub session : Session

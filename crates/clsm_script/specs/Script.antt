@@ -33,7 +33,7 @@ abbrev pub StopsScript : Config → Option (List ℕ) → Failure → Type 0
 StopsScript config input (Refused error) = IsRefusal config error
 StopsScript config input failure = IsSound config × StopsReading IsCommand input failure
 
--- 0 where a script is played to its end; 1 for a bad line, or a failed read or write; 3 for a refused
--- opening, or if memory runs out
+-- 0 where a script is played to its end; 1 for a bad line, or a failed read or write; 3 for a
+-- refused opening, or if memory runs out
 abbrev pub IsStatus : ℕ → Type 0
 IsStatus status = Contains (0 ∷ 1 ∷ 3 ∷ []) status

@@ -10,8 +10,8 @@ use std::sync::Wait;
 /// A command of a script.
 #[derive(Debug, Drop)]
 pub enum Command {
-    /// A call of the seat in use: `put K V`, `remove K`, `try K V`, `add K D`, `claim K V`, `get K`,
-    /// `snap`, `close`, `getat K`, `scan LO HI`, `page FROM HI MAX` or `batch K=V K=none ..`.
+    /// A call of the seat in use: `put K V`, `remove K`, `try K V`, `add K D`, `claim K V`, `get
+    /// K`, `snap`, `close`, `getat K`, `scan LO HI`, `page FROM HI MAX` or `batch K=V K=none ..`.
     Call(Call),
     /// `seat S`: takes the seat with this number into use.
     Seat { number: u64 },

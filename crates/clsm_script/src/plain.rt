@@ -11,8 +11,8 @@ use clsm_store::Call;
 use clsm_text::{line_at_hand, parse_digits};
 use std::io::{BufRead, BufReader, Read};
 
-/// The call of the next line, which is taken then, if the line is plain and all of it is at hand with
-/// its line feed; otherwise nothing is taken.
+/// The call of the next line, which is taken then, if the line is plain and all of it is at hand
+/// with its line feed; otherwise nothing is taken.
 #[inline]
 pub fn call_at_hand<R: Read>(reader: &mut BufReader<R>) -> Option<Call>
     ensures taken { IfSome result (λ call. IfSome (reader_remaining R.remaining reader.old)

@@ -119,8 +119,8 @@ impl Session {
         }
     }
 
-    /// Settles the seats, which shows that each of them is lawful, and that what they all did is one
-    /// whole history: so no audit of the records finds a fault.
+    /// Settles the seats, which shows that each of them is lawful, and that what they all did is
+    /// one whole history: so no audit of the records finds a fault.
     pub fn settle<P: Pace>(self, store: &Store<P>)
         requires { IsSession store.now self }
         ensures whole { HaveWholeHistory self.seats.items }

@@ -244,8 +244,8 @@ fn newest_behind<P: Pace>(
 
 impl Epoch {
     /// The time of the newest write of the key in the epoch, which is begun: the first write of the
-    /// key in its chain or, where the chain goes on, the last from there on in the ordered list, since
-    /// links do not stand in a chain by time.
+    /// key in its chain or, where the chain goes on, the last from there on in the ordered list,
+    /// since links do not stand in a chain by time.
     #[inline(always)]
     fn newest_time<P: Pace>(&self, words: &Words<P>, seat: &mut RawSeat, key: u64) -> Option<Time>
         requires of { IsSeatOf words.now seat.old }

@@ -25,9 +25,9 @@ use Rattle.clsm_session.specs.declared.refusal.BatchRefused.TheVariants.{Empty, 
 abbrev pub IsPatient : SeatState → SeatState → Type 0
 IsPatient old new = new.tally.hasty ≡ old.tally.hasty
 
--- The tries gave up at most one time for each write of the key by another seat that stands at or above
--- the time of the first read, and below this time: not below the due, and above all that the seat knew
--- before
+-- The tries gave up at most one time for each write of the key by another seat that stands at or
+-- above the time of the first read, and below this time: not below the due, and above all that the
+-- seat knew before
 pub record GivesUpOver (old new : SeatState) (key last : ℕ) : Type 0 where
   pub first : ℕ
   pub due : old.due ≤ first
@@ -36,8 +36,8 @@ pub record GivesUpOver (old new : SeatState) (key last : ℕ) : Type 0 where
   pub until : first ≤ last
   pub counts : CountsUpTo (writes_beside new.past old.number key first last) old.tally.gave_up new.tally.gave_up
 
--- by the answer: below the time at which the key was changed, or at which the clock stood at the limit
--- in the last hold
+-- by the answer: below the time at which the key was changed, or at which the clock stood at the
+-- limit in the last hold
 abbrev pub GivesUpByAnswer : SeatState → SeatState → ℕ → Result Answered Refused → Type 0
 GivesUpByAnswer old new key (Ok rmw) = GivesUpOver old new key rmw.time
 GivesUpByAnswer old new key (Err _) = (last : ℕ) × (new.tally.clock ≡ Some last) × GivesUpOver old new key last
@@ -49,22 +49,22 @@ pub record HasEntered (old new : Tally) : Type 0 where
   pub few : times < 2 ^ 64
   pub counted : new.entries ≡ iterate next_word times old.entries
 
--- the epoch that is full at this time ends here: at the least multiple of its cells that is not below
--- the time
+-- the epoch that is full at this time ends here: at the least multiple of its cells that is not
+-- below the time
 pub record EndsAt (cells time end : ℕ) : Type 0 where
   pub epochs : ℕ
   pub whole : end ≡ epochs * cells
   pub reached : time ≤ end
   pub least : end < time + cells
 
--- the reason that is told where no epoch is made behind the one that is full at this time: `Worn` if it
--- would end past 2^62, and `RunFull` if it would not
+-- the reason that is told where no epoch is made behind the one that is full at this time: `Worn`
+-- if it would end past 2^62, and `RunFull` if it would not
 abbrev pub IsReason : ℕ → ℕ → Refused → Type 0
 IsReason cells time Worn = (end : ℕ) × EndsAt cells time end × (2 ^ 62 < end + cells)
 IsReason cells time RunFull = (end : ℕ) × EndsAt cells time end × (end + cells ≤ 2 ^ 62)
 
--- it was refused for this reason, and in its last hold of the lock, one of this call, the clock stood at
--- the limit
+-- it was refused for this reason, and in its last hold of the lock, one of this call, the clock
+-- stood at the limit
 pub record IsFullAtLast (old new : SeatState) (reason : Refused) : Type 0 where
   pub refused : Refuses old new
   pub entered : HasEntered old.tally new.tally
@@ -73,8 +73,8 @@ pub record IsFullAtLast (old new : SeatState) (reason : Refused) : Type 0 where
   pub clock : new.tally.clock ≡ Some time
   pub right : IsReason old.store.layout.cells time reason
 
--- it was refused for this reason, and in its last hold of the lock, one of this call, so many members did
--- not fit between the clock and the limit
+-- it was refused for this reason, and in its last hold of the lock, one of this call, so many
+-- members did not fit between the clock and the limit
 pub record IsNoRoomAtLast (old new : SeatState) (members : ℕ) (reason : Refused) : Type 0 where
   pub refused : Refuses old new
   pub entered : HasEntered old.tally new.tally
@@ -85,8 +85,8 @@ pub record IsNoRoomAtLast (old new : SeatState) (members : ℕ) (reason : Refuse
   pub short : limit < time + members
   pub right : IsReason old.store.layout.cells time reason
 
--- why a batch was refused: only because there was no room; or because it is not a batch, with the seat
--- as it was
+-- why a batch was refused: only because there was no room; or because it is not a batch, with the
+-- seat as it was
 abbrev pub IsRefusedAtLast : SeatState → SeatState → List Member → BatchRefused → Type 0
 IsRefusedAtLast old new members (NoRoom reason) =
     FitsDeed old.store.layout.cells (Group members) × IsNoRoomAtLast old new (length members) reason
@@ -110,8 +110,8 @@ GivesUpInCall old new key (Ok _) = ⊥
 GivesUpInCall old new key (Err _) = (last : ℕ) × (new.tally.clock ≡ Some last) × GivesUpOver old new key last
 
 -- what the call counts: a put, a removal and a batch cancel no time in any of their tries, and an
--- addition and a claim give up one for each write of their key at most; any other call is made once,
--- and counts what the store's does
+-- addition and a claim give up one for each write of their key at most; any other call is made
+-- once, and counts what the store's does
 abbrev pub CountsTries : Call → SeatState → SeatState → Result Answer BatchRefused → Type 0
 CountsTries (Put _ _) old new _ = CancelsNone old.tally new.tally
 CountsTries (Remove _) old new _ = CancelsNone old.tally new.tally

@@ -79,9 +79,9 @@ impl<'a, R: Wait, P: Place> SessionCaller<'a, R, P> {
     /// Writes the value at the key, and answers the write's time. It waits while another caller's
     /// batch or the merger holds the lock, and while the epoch is full, until the merger has frozen
     /// it. Refused where the merger was called for this write and could not: in the write's last
-    /// hold of the lock the clock stood at the limit, nothing was written, and the seat is as before
-    /// but for its tally. It is refused with `Worn` if the next epoch would end past 2^62, and else
-    /// with `RunFull`.
+    /// hold of the lock the clock stood at the limit, nothing was written, and the seat is as
+    /// before but for its tally. It is refused with `Worn` if the next epoch would end past 2^62,
+    /// and else with `RunFull`.
     #[tactic(auto, using(crate::proofs::Places::cells_of))]
     pub fn put(&mut self, key: u64, value: Value) -> Result<Time, Refused>
         ensures { WaitsToWrite self.old self.new (Put key value) result }
@@ -108,9 +108,9 @@ impl<'a, R: Wait, P: Place> SessionCaller<'a, R, P> {
         writing::rmw(self.rt, self.board, &mut self.caller, key, f)
     }
 
-    /// Adds the number to the key's word, which counts as 0 where the key has no value. It keeps the
-    /// value where the sum passes 2^64 - 1 or the value has several words: the answer's `change`
-    /// tells. It waits and is refused as `put`.
+    /// Adds the number to the key's word, which counts as 0 where the key has no value. It keeps
+    /// the value where the sum passes 2^64 - 1 or the value has several words: the answer's
+    /// `change` tells. It waits and is refused as `put`.
     pub fn add(&mut self, key: u64, by: u64) -> Result<Rmw, Refused>
         ensures { WaitsToAdd self.old self.new key by result }
     {
@@ -125,10 +125,10 @@ impl<'a, R: Wait, P: Place> SessionCaller<'a, R, P> {
         self.rmw(key, &|old| put_if_absent(old, value))
     }
 
-    /// Writes all members as one batch, at consecutive times in their order, and answers the time of
-    /// the first, as `Store::batch`. It waits and is refused as `put`, and also, before it takes the
-    /// lock, with `Empty` where there is no member, `TooLong` where there are more than an epoch has
-    /// cells, and `Keep` where a member keeps its key.
+    /// Writes all members as one batch, at consecutive times in their order, and answers the time
+    /// of the first, as `Store::batch`. It waits and is refused as `put`, and also, before it takes
+    /// the lock, with `Empty` where there is no member, `TooLong` where there are more than an
+    /// epoch has cells, and `Keep` where a member keeps its key.
     #[tactic(auto, using(crate::proofs::Places::cells_of))]
     pub fn batch(&mut self, members: &[(u64, Change)]) -> Result<Time, BatchRefused>
         ensures { WaitsToWriteBatch self.old self.new members.now result }

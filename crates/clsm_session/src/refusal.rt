@@ -8,8 +8,8 @@ use thiserror::Error;
 /// could not make the next one. Nothing was written.
 #[derive(Clone, Copy, PartialEq, Eq, Debug, Error)]
 pub enum Refused {
-    /// The merge would keep more entries than a run has room for: the store is too small for what it
-    /// is to hold. A snapshot that is closed may help: the merger tries again for the next write
+    /// The merge would keep more entries than a run has room for: the store is too small for what
+    /// it is to hold. A snapshot that is closed may help: the merger tries again for the next write
     /// that finds the epoch full.
     #[error("run full")]
     RunFull,

@@ -28,15 +28,15 @@ pub struct Ended<A> {
     pub answers: Vec<A>,
 }
 
-/// Opens a store of these sizes, lets each of its callers do the job in a thread of its own beside a
-/// thread for the merger, waits for all of them and settles the seats. All that the callers did is
-/// then one history: each answered write stands in it once, at its own time, each read answered as a
-/// plain map of the writes below its time, no batch is seen in part, no caller's times run back, and
-/// no other write stands in it. What the job says of its answers holds of the seats.
+/// Opens a store of these sizes, lets each of its callers do the job in a thread of its own beside
+/// a thread for the merger, waits for all of them and settles the seats. All that the callers did
+/// is then one history: each answered write stands in it once, at its own time, each read answered
+/// as a plain map of the writes below its time, no batch is seen in part, no caller's times run
+/// back, and no other write stands in it. What the job says of its answers holds of the seats.
 ///
 /// The merger sleeps until half of an epoch is used or a caller has found it full. Refused with
-/// `Open` where the store is not opened, with `NoThread` where no thread can be made for the merger,
-/// both before any caller is called, and with `Memory` if memory runs out.
+/// `Open` where the store is not opened, with `NoThread` where no thread can be made for the
+/// merger, both before any caller is called, and with `Memory` if memory runs out.
 #[tactic(auto, using(crate::proofs::Places::stops_session))]
 pub fn with_store<R: Threads + Sync + Wait, J: Job + Sync>(
     rt: &R,

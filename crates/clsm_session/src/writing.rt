@@ -9,8 +9,9 @@ use crate::refusal::{BatchRefused, Refused};
 use clsm_store::{BatchError, Caller, Change, Free, Full, Rmw, Time, Value};
 use std::sync::Wait;
 
-/// A write is tried no more often than this, and then waits forever: in centuries, as each try takes
-/// the lock. A seat counts its holds of the lock modulo 2^64, so that fewer always move its count.
+/// A write is tried no more often than this, and then waits forever: in centuries, as each try
+/// takes the lock. A seat counts its holds of the lock modulo 2^64, so that fewer always move its
+/// count.
 const MOST_TRIES: u64 = u64::MAX;
 
 /// Tries to write the value at the key, or with none to remove it.

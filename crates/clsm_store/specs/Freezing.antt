@@ -20,8 +20,8 @@ abbrev pub StaysOut : CleanState → Phase → Type 0
 StaysOut old (Clean new) = StaysClean old new
 StaysOut old _ = ⊥
 
--- from where nothing is frozen: it waits, or finds the lock held, or freezes, or the next limit would
--- pass 2^62
+-- from where nothing is frozen: it waits, or finds the lock held, or freezes, or the next limit
+-- would pass 2^62
 abbrev pub TryFreezesClean : ℕ → CleanState → Phase → Result TryFroze Worn → Type 0
 TryFreezesClean used old new (Ok Waited) = Waits used old new
 TryFreezesClean used old new (Ok Busy) = WhereUsed used old (λ looked. StaysOut looked new)

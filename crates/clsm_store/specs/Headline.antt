@@ -19,8 +19,8 @@ IsNumbered seats n = (i : ℕ) × (s : SeatState) × IsAt seats i s × (s.number
 abbrev pub HasAllSeats : StoreId → List SeatState → Type 0
 HasAllSeats store seats = (n : ℕ) → n < store.layout.seats → IsNumbered seats n
 
--- what the seat knows is a beginning of the history, and its calls are its part of it: so no read of
--- its own stands strictly inside a batch
+-- what the seat knows is a beginning of the history, and its calls are its part of it: so no read
+-- of its own stands strictly inside a batch
 pub record IsSeatIn (h : History) (s : SeatState) : Type 0 where
   pub begins : IsBeginning (known_by s) h
   pub part : AreCallsIn h s.number s.calls s.due s.snapshot

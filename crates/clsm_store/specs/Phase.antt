@@ -26,15 +26,15 @@ merger_in (Clean clean) = clean.merger
 merger_in (Frozen frozen) = frozen.merger
 merger_in (Retired retired) = retired.merger
 
--- a try to freeze was refused: a caller held the lock, and nothing was done; or the next limit would
--- pass 2^62
+-- a try to freeze was refused: a caller held the lock, and nothing was done; or the next limit
+-- would pass 2^62
 abbrev pub RefusesFreeze : CleanState → CleanState → TryFreezeError → Type 0
 RefusesFreeze old new TryBusy = StaysClean old new
 RefusesFreeze old new (TryWorn _) = (new ≡ old) × (2 ^ 62 < (old.merger.merges + 2) * old.merger.store.layout.cells)
 
 -- where the merger is clean, the epoch is frozen under the lock, with the floor and the rounds of
--- before, and with no time noted, as no round was made for it yet; or the next limit would pass 2^62;
--- else nothing is done
+-- before, and with no time noted, as no round was made for it yet; or the next limit would pass
+-- 2^62; else nothing is done
 abbrev pub Freezes : Phase → Phase → Result ℕ FreezeError → Type 0
 Freezes (Clean old) (Frozen new) (Ok epoch) =
     (new.merger ≡ record old.merger { holds = next_word old.merger.holds })
@@ -71,8 +71,8 @@ Merges (Frozen _) _ _ = ⊥
 Merges old new answer = (new ≡ old) × (answer ≡ Err MergeNotFrozen)
 
 -- where a component is retired, it is given up, with its floor and rounds as they were, once each
--- seat was found quiet, or the lowest seat that is looked at and not found quiet is named; no seat is
--- looked at twice. Else nothing is done
+-- seat was found quiet, or the lowest seat that is looked at and not found quiet is named; no seat
+-- is looked at twice. Else nothing is done
 abbrev pub Reclaims : Phase → Phase → Result ⊤ ReclaimError → Type 0
 Reclaims (Retired old) (Clean new) (Ok _) =
     (new ≡ record {

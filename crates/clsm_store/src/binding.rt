@@ -10,8 +10,8 @@ use clsm_model::Memory;
 use clsm_words::Pace;
 use std::alloc::{AllocError, Global};
 
-/// The callers of a store, in the order of their seats, and its merger. Each may be moved to another
-/// thread.
+/// The callers of a store, in the order of their seats, and its merger. Each may be moved to
+/// another thread.
 #[derive(Drop)]
 pub struct Bound<'a, P: Pace + Drop> {
     pub callers: Vec<Caller<'a, P>>,

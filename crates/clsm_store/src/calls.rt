@@ -43,11 +43,12 @@ impl<P: Pace> Store<P> {
         write(rt, &self.words, &mut seat.raw, key, &None)
     }
 
-    /// Writes all members as one batch, at consecutive times in their order, and answers the time of
-    /// the first. They become visible together, by one step: no read of any seat is answered between
-    /// them, and of members of one key the last one wins. A batch never spans two epochs. It holds
-    /// the lock alone, once: it waits for that until no writer is inside, and keeps other writers
-    /// out meanwhile, but no reader. It takes no memory, gives up no time and loses no exchange.
+    /// Writes all members as one batch, at consecutive times in their order, and answers the time
+    /// of the first. They become visible together, by one step: no read of any seat is answered
+    /// between them, and of members of one key the last one wins. A batch never spans two epochs.
+    /// It holds the lock alone, once: it waits for that until no writer is inside, and keeps other
+    /// writers out meanwhile, but no reader. It takes no memory, gives up no time and loses no
+    /// exchange.
     ///
     /// Refused, in this order: with `Empty` if there is no member, `TooLong` if there are more
     /// than an epoch has cells, `Keep` if a member keeps its key, each before it enters the lock;
@@ -85,10 +86,11 @@ impl<P: Pace> Store<P> {
         try_write(&self.words, &mut seat.raw, key, &None)
     }
 
-    /// Writes all members as one batch as `batch`, but tries the lock once and never waits. Refused as
-    /// `batch`, and behind the three refusals that come before the lock also with `Busy` if somebody
-    /// held it, shared or alone: the seat is then as before, but for its count of such refusals. Once
-    /// it holds the lock alone, nobody can be faster, so it is refused with `Full` alone.
+    /// Writes all members as one batch as `batch`, but tries the lock once and never waits. Refused
+    /// as `batch`, and behind the three refusals that come before the lock also with `Busy` if
+    /// somebody held it, shared or alone: the seat is then as before, but for its count of such
+    /// refusals. Once it holds the lock alone, nobody can be faster, so it is refused with `Full`
+    /// alone.
     pub fn try_batch(
         &self,
         seat: &mut Seat,
@@ -141,11 +143,11 @@ impl<P: Pace> Store<P> {
         answer
     }
 
-    /// Reads the key, and makes of its value what the function answers to it, as `rmw`, but asks the
-    /// function once, tries each exchange once and never waits. Refused as `try_put`, and with
-    /// `Raced` also if another seat wrote the key between the read and the write: nothing was written
-    /// then. After `Raced` and `Overtaken` a time that it had drawn is given up. Its read may cancel
-    /// times of others, as `get`.
+    /// Reads the key, and makes of its value what the function answers to it, as `rmw`, but asks
+    /// the function once, tries each exchange once and never waits. Refused as `try_put`, and with
+    /// `Raced` also if another seat wrote the key between the read and the write: nothing was
+    /// written then. After `Raced` and `Overtaken` a time that it had drawn is given up. Its read
+    /// may cancel times of others, as `get`.
     pub fn try_rmw<F: Fn(Option<Value>) -> Change>(
         &self,
         seat: &mut Seat,
@@ -210,10 +212,10 @@ impl<P: Pace> Store<P> {
         seat.pin = seat.pin.wrapping_add(2);
         got
     }
-    /// How many timestamps are left in the epoch, as one look at its limit and then one at the clock
-    /// find it, or 0 if the clock has passed that limit. The answer may be old at once: others
-    /// draw timestamps, and a freeze makes room. It records nothing, costs two looks, takes no lock,
-    /// never waits and is never refused.
+    /// How many timestamps are left in the epoch, as one look at its limit and then one at the
+    /// clock find it, or 0 if the clock has passed that limit. The answer may be old at once:
+    /// others draw timestamps, and a freeze makes room. It records nothing, costs two looks, takes
+    /// no lock, never waits and is never refused.
     pub fn room(&self, seat: &mut Seat) -> u64
         requires { seat.old.store ≡ self.now }
         ensures { FindsRoom seat.old seat.new result }

@@ -38,9 +38,9 @@ impl Pages {
 
 impl<'a, P: Pace> Caller<'a, P> {
     /// The next of the pages, which then stand behind it, or `None`, with nothing done, if all were
-    /// read. It reads as `Store::page`, so under an open snapshot all pages are of one map, and else
-    /// each is of a time of its own. It takes no lock, never waits and is refused as `scan`: the
-    /// pages are as before then, and so the next call reads the same one.
+    /// read. It reads as `Store::page`, so under an open snapshot all pages are of one map, and
+    /// else each is of a time of its own. It takes no lock, never waits and is refused as `scan`:
+    /// the pages are as before then, and so the next call reads the same one.
     pub fn next_page(&mut self, alloc: Global, pages: &mut Pages) -> Result<Option<Page>, Memory>
         ensures { GivesNextPage self.old.seat self.new.seat pages.old pages.new result }
     {

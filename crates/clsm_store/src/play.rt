@@ -31,9 +31,9 @@ fn get_at<P: Pace>(store: &Store<P>, seat: &mut Seat, key: u64) -> Option<Got>
 }
 
 impl<P: Pace> Store<P> {
-    /// Makes the call by the seat, and answers what the method of its name answers: it waits, counts
-    /// and is refused as that. A read under a snapshot is refused if none is open, and nothing was
-    /// done then.
+    /// Makes the call by the seat, and answers what the method of its name answers: it waits,
+    /// counts and is refused as that. A read under a snapshot is refused if none is open, and
+    /// nothing was done then.
     pub fn play<R: Wait>(&self, rt: &R, alloc: Global, seat: &mut Seat, call: &Call) -> Answer
         requires { seat.old.store ≡ self.now }
         ensures plays { PlaysCall call.now seat.old seat.new result }

@@ -7,9 +7,7 @@ use Rattle.clsm_words.specs.declared.known.Known.{Known}
 use Rattle.clsm_memtable.specs.Writing.{LooksAhead}
 use Rattle.clsm_store_calls.specs.declared.refusal.TryPutError.{TryPutError}
 use Rattle.clsm_store_calls.specs.declared.refusal.TryPutError.TheVariants.{Full, Busy, Raced, Overtaken}
-use Rattle.clsm_store_calls.specs.declared.writing.Attempt.{Attempt}
-use Rattle.clsm_store_calls.specs.declared.writing.Attempt.TheVariants.{Written, Full as Filled, Lost}
-use Rattle.clsm_store_calls.specs.Resting.{IsInHold, IsSettled, Still, Tries}
+use Rattle.clsm_store_calls.specs.Resting.{IsInHold, IsSettled, Still}
 use Rattle.clsm_store_calls.specs.Tally.{CountsInHold, Tally, counted, looked, tally_of}
 use Rattle.clsm_store_calls.specs.Trying.{Fails, FailsInHold, WritesInHold}
 use Rattle.clsm_store_calls.specs.Writing.{StaysInHold}
@@ -31,23 +29,18 @@ module _ (a b : Known) (h : LooksAhead a b) where
   tally_ahead : tally_of b ≡ record (tally_of a) { limit = b.view.hold_limit }
   tally_ahead = ap counted h.view
 
+  pub looks_in_hold : IsInHold a → StaysInHold a b
+  looks_in_hold hold = record {
+    holds = hold_ahead hold;
+    entered = ap (λ (v : View). v.entries) h.view;
+    cancels = record {
+      own = ap (λ (v : View). v.gave_up) h.view;
+      others = ap (λ (v : View). v.cancelled) h.view;
+      hasty = ap (λ (v : View). v.hasty) h.view;
+    };
+  }
+
   module _ (c : Known) where
-    pub stays_ahead : StaysInHold b c → StaysInHold a c
-    stays_ahead k = record {
-      holds = k.holds;
-      entered = k.entered ∙ ap (λ (v : View). v.entries) h.view;
-      cancels = record {
-        own = k.cancels.own ∙ ap (λ (v : View). v.gave_up) h.view;
-        others = k.cancels.others ∙ ap (λ (v : View). v.cancelled) h.view;
-        hasty = k.cancels.hasty ∙ ap (λ (v : View). v.hasty) h.view;
-      };
-    }
-
-    pub tries_ahead : (deed : Deed) (attempt : Attempt) → Tries b c deed attempt → Tries a c deed attempt
-    tries_ahead deed (Written t) k = records_later a b c t deed still_ahead k
-    tries_ahead deed (Filled t) k = full_later a b c t still_ahead k
-    tries_ahead deed Lost k = still_trans a b c still_ahead k
-
     -- ---- one try at each exchange
 
     once_ahead : (c.view.gave_up ≡ b.view.gave_up) ⊎ (c.view.gave_up ≡ next_word b.view.gave_up)

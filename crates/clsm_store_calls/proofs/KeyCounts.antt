@@ -1,5 +1,5 @@
--- What was counted of a held component is the number of a range's rows. These are no more than there
--- are times below, since each has a write; so a word holds their number.
+-- What was counted of a held component is the number of a range's rows. These are no more than
+-- there are times below, since each has a write; so a word holds their number.
 use Rattle.std.proofs.Common.{◌≡◌, ◌≢◌, ℕ, zero, suc, ◌<◌, ◌≤◌, ◌==◌, Bool, true, false, not, cond, List, [], ◌∷◌, length, refl, sym, ap, ◌∙◌, arith}
 use Rattle.std.proofs.Common.{inl, inr, true≢false, Option, Some, None}
 use Rattle.std.proofs.lemmas.Bool.{cases_lt, eq-eqb, eqb-true, ne_eqb}

@@ -1,5 +1,6 @@
 pub mod Rest
 pub mod Ahead
+pub mod Retries
 pub mod Found
 pub mod Unchanged
 pub mod Counting

@@ -124,8 +124,8 @@ entered_once old = record old { entries = next_word old.entries }
 abbrev pub CountsAlone : Tally → Tally → Type 0
 CountsAlone old new = new ≡ looked (entered_once old) new
 
--- what a batch counts: nothing if it is not a batch, else how often it was refused the lock, and the
--- one entry into it
+-- what a batch counts: nothing if it is not a batch, else how often it was refused the lock, and
+-- the one entry into it
 abbrev pub CountsBatch : Tally → Tally → Result ℕ BatchError → Type 0
 CountsBatch old new (Ok t) = CountsAlone (record old { busy = new.busy }) new
 CountsBatch old new (Err (Full t)) = CountsAlone (record old { busy = new.busy }) new
@@ -139,8 +139,8 @@ abbrev pub RefusesTryBatch : Known → Known → List Member → TryBatchError �
 RefusesTryBatch old new members Busy = FitsDeed old.layout.cells (Group members) × StaysOut old new
 RefusesTryBatch old new members (Refused error) = RefusesBatch old new members error
 
--- what it counts: the one refusal of the lock and that alone, or the one entry into it; nothing if it
--- is not a batch
+-- what it counts: the one refusal of the lock and that alone, or the one entry into it; nothing if
+-- it is not a batch
 abbrev pub CountsTryBatch : Tally → Tally → Result ℕ TryBatchError → Type 0
 CountsTryBatch old new (Ok t) = CountsAlone old new
 CountsTryBatch old new (Err Busy) = new ≡ record old { busy = next_word old.busy }
@@ -165,8 +165,8 @@ abbrev pub IsRefusedBatch : SeatState → SeatState → List Member → BatchErr
 IsRefusedBatch old new members (Full t) = FitsDeed old.store.layout.cells (Group members) × IsNoRoom old new t (length members)
 IsRefusedBatch old new members error = (new ≡ old) × IsNoBatch old.store.layout.cells members error
 
--- why a try was refused: somebody held the lock, and the seat is as it was but for its tally; or as a
--- batch is refused
+-- why a try was refused: somebody held the lock, and the seat is as it was but for its tally; or as
+-- a batch is refused
 abbrev pub IsRefusedTryBatch : SeatState → SeatState → List Member → TryBatchError → Type 0
 IsRefusedTryBatch old new members Busy = FitsDeed old.store.layout.cells (Group members) × (new ≡ record old { tally = new.tally })
 IsRefusedTryBatch old new members (Refused error) = IsRefusedBatch old new members error

@@ -64,8 +64,8 @@ is_write_of key (Wrote seat k written) = k == key
 abbrev pub writes_from : List Slot → ℕ → ℕ → ℕ
 writes_from slots key from = count_by (is_write_of key) (drop from slots)
 
--- the tries that were lost so far gave up at most one time for each write of the key that stands at or
--- above the time of the first read; and none before that
+-- the tries that were lost so far gave up at most one time for each write of the key that stands at
+-- or above the time of the first read; and none before that
 abbrev pub GaveUp : Known → Known → ℕ → Option ℕ → Type 0
 GaveUp old new key None = new.view.gave_up ≡ old.view.gave_up
 GaveUp old new key (Some first) = (old.view.due ≤ first) × (length old.past ≤ first) × (first ≤ length new.past)
@@ -100,14 +100,15 @@ GivesUpOnce old new key from =
     (new.view.gave_up ≡ old.view.gave_up)
     ⊎ ((new.view.gave_up ≡ next_word old.view.gave_up) × IsWrittenFrom new.past key from)
 
--- what a try gave up behind its read: nothing where it ended, and then it ended at or above the read
+-- what a try gave up behind its read: nothing where it ended, and then it ended at or above the
+-- read
 abbrev pub GivesLater : Known → Known → ℕ → ℕ → ChangeAttempt → Type 0
 GivesLater old new key read (Finished rmw) = (new.view.gave_up ≡ old.view.gave_up) × (read ≤ rmw.time)
 GivesLater old new key read (Full t) = (new.view.gave_up ≡ old.view.gave_up) × (read ≤ t)
 GivesLater old new key read Lost = GivesUpOnce old new key read
 
--- a try with its read, which looks at the clock: for the first time in the hold, if there was no look
--- yet
+-- a try with its read, which looks at the clock: for the first time in the hold, if there was no
+-- look yet
 pub record GivesInTry (old new : Known) (key : ℕ) (attempt : ChangeAttempt) : Type 0 where
   pub read : ℕ
   pub first : new.view.hold_first ≡ first_of old.view.hold_first read

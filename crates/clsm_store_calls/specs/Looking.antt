@@ -10,8 +10,8 @@ use Rattle.clsm_store_calls.specs.Tally.{Tally, tally_of}
 abbrev pub with_looks : Tally → ℕ → Tally
 with_looks old limit = record old { clock_looks = next_word old.clock_looks; limit_looks = next_word old.limit_looks; limit = Some limit }
 
--- the seat looked once at the limit and once at the clock, and found so many times left: it is as it
--- was, but for what it looked at
+-- the seat looked once at the limit and once at the clock, and found so many times left: it is as
+-- it was, but for what it looked at
 pub record LooksForRoom (old new : Known) (left : ℕ) : Type 0 where
   pub only : OnlyLooks old new
   pub limit : ℕ

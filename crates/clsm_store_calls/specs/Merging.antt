@@ -44,8 +44,8 @@ clean_of m = record {
   readers = m.raw.knows.merger.readers;
 }
 
--- while an epoch is frozen: with its floor, its rounds and what the last one found, and with what the
--- next merge reads
+-- while an epoch is frozen: with its floor, its rounds and what the last one found, and with what
+-- the next merge reads
 abbrev pub frozen_of : MergerSeat → FrozenState
 frozen_of m = record {
   merger = merger_of m;
@@ -66,10 +66,10 @@ retired_of m = record {
   readers = m.seen.items;
 }
 
--- What the token of a frozen epoch carries is of the history h, whose times are known to the epoch's
--- end. The epoch's writes are those of h at the epoch's times, the newest first. Each entry of the
--- runs is a write of h, and from the floor on they answer as a plain map of h, at each time up to the
--- epoch's first
+-- What the token of a frozen epoch carries is of the history h, whose times are known to the
+-- epoch's end. The epoch's writes are those of h at the epoch's times, the newest first. Each entry
+-- of the runs is a write of h, and from the floor on they answer as a plain map of h, at each time
+-- up to the epoch's first
 pub record IsOfHistory (h : List Slot) (s : FrozenState) : Type 0 where
   pub reaches : (s.merger.merges + 1) * s.merger.store.layout.cells ≤ length h
   pub epoch : s.epoch ≡ entries_of h (s.merger.merges * s.merger.store.layout.cells) ((s.merger.merges + 1) * s.merger.store.layout.cells)
@@ -97,9 +97,9 @@ pub record IsRetiring (m : MergerSeat) : Type 0 where
   pub ready : IsReady m
   pub seen : m.seen.items ≡ m.raw.knows.merger.readers
 
--- It looked at all snapshot words in one round, which found this least time noted, if any. The floor
--- that it took is the greater of the one before and of the epoch's end or that time, where that is
--- less. So a floor never falls, and is not past the epoch's end
+-- It looked at all snapshot words in one round, which found this least time noted, if any. The
+-- floor that it took is the greater of the one before and of the epoch's end or that time, where
+-- that is less. So a floor never falls, and is not past the epoch's end
 pub record TakesFloor (s : FrozenState) (floor rounds : ℕ) (noted : Option ℕ) : Type 0 where
   pub looked : rounds ≡ next_word s.rounds
   pub took : floor ≡ max s.floor (lesser ((s.merger.merges + 1) * s.merger.store.layout.cells) noted)

@@ -61,8 +61,8 @@ pub record IsKeyVisit {V : Type 0} (Takes : V → Pair → V → Type 0) (h : Hi
   pub count : IsKeyCount h s lo hi n
   pub taken : FoldsTo Takes before count.rows after
 
--- The seat counted the keys below the time, up to which it knows all. It is recorded as a page of no
--- rows, which has the first of the keys
+-- The seat counted the keys below the time, up to which it knows all. It is recorded as a page of
+-- no rows, which has the first of the keys
 pub record CountsKeys (old new : SeatState) (t lo hi n : ℕ) (first : Option ℕ) : Type 0 where
   pub answers : Answers old new t (page_deed lo hi 0 [] first)
   pub clock : IsAtClock old new t
@@ -81,8 +81,8 @@ pub record VisitsKeys {F : Type 0} (Calls : F → Pair → F → Type 0) (old ne
 -- ---- scans of the present
 
 -- The rows are all pairs of the range below the time, up to which the seat knows all, and which is
--- the clock as it looked at it last. The scan is recorded as a read of the first key of the range, at
--- its own time, whether or not a snapshot is open
+-- the clock as it looked at it last. The scan is recorded as a read of the first key of the range,
+-- at its own time, whether or not a snapshot is open
 pub record ScansNow (old new : SeatState) (t lo hi : ℕ) (rows : List Pair) : Type 0 where
   pub reply : Option (List ℕ)
   pub answers : Answers old new t (Get lo reply)

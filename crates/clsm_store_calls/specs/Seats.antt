@@ -87,9 +87,9 @@ pub record MergerState : Type 0 where
   pub holds : ℕ
 
 -- and, while nothing is frozen, the floor of the last try to merge, how many rounds of looks at all
--- snapshot words it made and how often it looked at the clock outside a hold of the lock, both modulo
--- 2^64, the clock as it was at the merger's last step, and what was noted of each seat since the last
--- merge
+-- snapshot words it made and how often it looked at the clock outside a hold of the lock, both
+-- modulo 2^64, the clock as it was at the merger's last step, and what was noted of each seat since
+-- the last merge
 pub record CleanState : Type 0 where
   pub merger : MergerState
   pub floor : ℕ
@@ -140,8 +140,8 @@ pub record IsLawfulIn (h : History) (s : SeatState) : Type 0 where
   pub fits : AllByRecursion (FitsRecord s.store.layout.cells) s.calls
   pub rising : IsRising s.calls s.due s.snapshot
 
--- it is lawful in as much of the history as it knows itself, in which the batches don't overlap, and
--- none ends beyond it
+-- it is lawful in as much of the history as it knows itself, in which the batches don't overlap,
+-- and none ends beyond it
 abbrev pub IsLawfulAlone : SeatState → Type 0
 IsLawfulAlone s = IsLawfulIn (known_by s) s × AreInTurn 0 s.batches (length s.past)
 
@@ -193,10 +193,10 @@ pub record CountsUpTo (most old new : ℕ) : Type 0 where
   pub counted : new ≡ iterate next_word times old
   pub within : times ≤ most
 
--- The call gave up at most one time for each write of the key by another seat that stands at or above
--- the time of the call's first read, and below this time, its record's own. The first read is at the
--- clock as the call looked at it first in its hold of the lock: not below the due, and above all that
--- the seat knew before
+-- The call gave up at most one time for each write of the key by another seat that stands at or
+-- above the time of the call's first read, and below this time, its record's own. The first read is
+-- at the clock as the call looked at it first in its hold of the lock: not below the due, and above
+-- all that the seat knew before
 pub record GivesUpForWrites (old new : SeatState) (key last : ℕ) : Type 0 where
   pub first : ℕ
   pub looked : new.tally.first ≡ Some first

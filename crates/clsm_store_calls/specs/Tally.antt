@@ -9,8 +9,9 @@ use Rattle.clsm_store_calls.specs.declared.refusal.TryPutError.TheVariants.{Full
 -- Each modulo 2^64: its entries into the lock; the tries that it lost there, at draws and links,
 -- and to readers that overtook it; the times of its own that it gave up, those of others that it
 -- cancelled, and those among these for which it had not waited as its patience says; and its looks
--- at the clock and at the limit while it neither held the lock nor read. And the limit that it looked
--- at last since it entered the lock, and the clock as it looked at it first and last in its last hold
+-- at the clock and at the limit while it neither held the lock nor read. And the limit that it
+-- looked at last since it entered the lock, and the clock as it looked at it first and last in its
+-- last hold
 pub record Tally : Type 0 where
   pub entries : ℕ
   pub busy : ℕ

@@ -27,9 +27,9 @@ fn least(a: Option<Time>, b: Option<Time>) -> Option<Time>
 }
 
 /// Looks at each snapshot word in the order of the seats, and answers the floor that the merger
-/// takes from them, and the least time that it found noted. The floor is never below the one before,
-/// and else the end of the frozen epoch, or the least time where that is earlier (as in LevelDB,
-/// where the oldest snapshot says what may be dropped).
+/// takes from them, and the least time that it found noted. The floor is never below the one
+/// before, and else the end of the frozen epoch, or the least time where that is earlier (as in
+/// LevelDB, where the oldest snapshot says what may be dropped).
 pub(crate) fn take_floor<P: Pace>(
     words: &Words<P>,
     merger: &mut RawMerger,

@@ -64,8 +64,8 @@ pub struct Page {
     pub more: Option<u64>,
 }
 
-/// The answer of a count: its time, how many keys of the range have a value in the map of the writes
-/// below it, and the first of these keys.
+/// The answer of a count: its time, how many keys of the range have a value in the map of the
+/// writes below it, and the first of these keys.
 #[derive(Clone, Copy, PartialEq, Eq, Debug)]
 pub struct Counted {
     pub time: Time,

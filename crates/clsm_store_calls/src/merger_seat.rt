@@ -12,8 +12,8 @@ pub struct MergerSeat {
     pub raw: RawMerger,
     /// The number of merges so far.
     pub merges: u64,
-    /// The floor that the last merge took, and the least time that its round of looks found noted in
-    /// the snapshot words.
+    /// The floor that the last merge took, and the least time that its round of looks found noted
+    /// in the snapshot words.
     pub floor: Time,
     pub noted: Option<Time>,
     /// The walk along the list of a frozen epoch, with room for the times of an epoch.

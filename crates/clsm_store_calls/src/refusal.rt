@@ -2,8 +2,8 @@
 use clsm_model::Time;
 use thiserror::Error;
 
-/// The refusal of a write: while the seat held the lock, the clock stood at its limit, which is this
-/// time. There is no time for a write before the next freeze.
+/// The refusal of a write: while the seat held the lock, the clock stood at its limit, which is
+/// this time. There is no time for a write before the next freeze.
 #[derive(Clone, Copy, PartialEq, Eq, Debug, Error)]
 #[error("full @{time}")]
 pub struct Full {
@@ -22,8 +22,8 @@ pub struct Open {
 #[error("worn")]
 pub struct Worn;
 
-/// The refusal of a reclaim: the pin word of the seat with this number was found to keep the retired
-/// component.
+/// The refusal of a reclaim: the pin word of the seat with this number was found to keep the
+/// retired component.
 #[derive(Clone, Copy, PartialEq, Eq, Debug, Error)]
 #[error("pinned {0}")]
 pub struct Pinned(pub u32);

@@ -1,4 +1,5 @@
-//! Visits of keys at the words: reads of many keys, at one time. Each is recorded as a page of no rows.
+//! Visits of keys at the words: reads of many keys, at one time. Each is recorded as a page of no
+//! rows.
 ghost use Rattle.std.specs.Prelude.{◌≡◌, ◌≤◌, [], None, Option, Some, length};
 ghost use Rattle.clsm_model.specs.History.{plain};
 ghost use Rattle.clsm_model.specs.Right.{Reads, page_deed};

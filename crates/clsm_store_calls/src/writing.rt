@@ -3,13 +3,16 @@ ghost use Rattle.std.specs.Prelude.{◌≡◌, Some, None, IfOk, IfErr};
 ghost use Rattle.clsm_law.specs.Views.{next_word};
 ghost use Rattle.clsm_words.specs.Plays.{IsSeatOf};
 ghost use Rattle.clsm_store_calls.specs.Tally.{CancelsNone, tally_of};
-ghost use Rattle.clsm_store_calls.specs.Resting.{IsAtRest, IsInHold, FindsFull, Records, Tries, deed_of};
-ghost use Rattle.clsm_store_calls.specs.Writing.{StaysInHold};
+ghost use Rattle.clsm_store_calls.specs.Resting.{IsAtRest, IsInHold, FindsFull, Records, Still, Tries, deed_of};
+ghost use Rattle.clsm_memtable.specs.Inserting.{IsStart};
+ghost use Rattle.clsm_store_calls.specs.Writing.{StartsAgain, StaysInHold};
 
 use crate::refusal::Full;
 use crate::site::Site;
 use clsm_lock::{lock_shared, unlock_shared};
-use clsm_memtable::{Decided, DrawError, DrawnCell, decide, draw, enter, fill, look_ahead};
+use clsm_memtable::{
+    Decided, DrawError, DrawnCell, Start, decide, draw, enter_again, fill, look_ahead,
+};
 use clsm_model::{Deed, Time, Value};
 use clsm_search::Guess;
 use clsm_words::{Pace, RawSeat, Words};
@@ -36,20 +39,23 @@ pub(crate) fn deed_of(key: u64, value: &Option<Value>) -> Deed
 }
 
 impl<'a, P: Pace, R: Wait> Site<'a, P, R> {
-    /// Tries once to write, in a hold of the lock, where hints say this of the place.
+    /// Tries once to write, in a hold of the lock, where the search for the place begins so.
+    #[tactic(auto, using(crate::proofs::Retries::start_raced, crate::proofs::Retries::start_drawn, crate::proofs::Retries::start_filled, crate::proofs::Retries::start_overtaken))]
     #[inline(always)]
-    fn try_write_near(
+    fn try_write_from(
         &self,
         seat: &mut RawSeat,
         key: u64,
         value: &Option<Value>,
-        guess: &Guess,
+        start: &mut Start,
     ) -> Attempt
         requires of { IsSeatOf self.now.words.now seat.old }
         requires holds { IsInHold seat.old.knows }
+        requires start { IsStart seat.old.knows start.old.lost }
         ensures of { IsSeatOf self.now.words.now seat.new }
         ensures stays { StaysInHold seat.old.knows seat.new.knows }
         ensures tries { Tries seat.old.knows seat.new.knows (deed_of key value.now) result }
+        ensures start { StartsAgain seat.new.knows result start.new.lost }
     {
         let words = self.words;
         let time = match draw(words, seat) {
@@ -58,29 +64,56 @@ impl<'a, P: Pace, R: Wait> Site<'a, P, R> {
             Err(DrawError::Raced) => return Attempt::Lost,
         };
         fill(words, seat, time, key, value.as_ref());
-        let trace = enter(self.rt, words, seat, DrawnCell { time, key }, guess);
+        let trace = enter_again(self.rt, words, seat, DrawnCell { time, key }, start);
         match decide(words, seat, time, &deed_of(key, value), &trace) {
             Decided::Done => Attempt::Written(time),
             Decided::Overtaken => Attempt::Lost,
         }
     }
 
-    /// Looks ahead and tries once to write, in a hold of the lock.
+    /// Looks ahead, in a hold of the lock, where the search for the place begins at no lost cell.
+    #[tactic(auto, using(crate::proofs::Retries::stays_none, crate::proofs::Rest::still_none, crate::proofs::Ahead::looks_in_hold, crate::proofs::Ahead::still_ahead))]
     #[inline(always)]
-    fn try_write(&self, seat: &mut RawSeat, key: u64, value: &Option<Value>) -> Attempt
+    fn look_first(&self, seat: &mut RawSeat, key: u64, start: &mut Start)
         requires of { IsSeatOf self.now.words.now seat.old }
         requires holds { IsInHold seat.old.knows }
+        requires start { IsStart seat.old.knows start.old.lost }
+        ensures of { IsSeatOf self.now.words.now seat.new }
+        ensures stays { StaysInHold seat.old.knows seat.new.knows }
+        ensures still { Still seat.old.knows seat.new.knows }
+        ensures start { IsStart seat.new.knows start.new.lost }
+    {
+        if start.lost != 0 {
+            return;
+        }
+        start.guess = look_ahead(self.words, seat, key);
+    }
+
+    /// Tries once to write, in a hold of the lock, from the lost cell of the last try on. Where
+    /// there is none, it looks ahead first.
+    #[inline(always)]
+    fn try_write(
+        &self,
+        seat: &mut RawSeat,
+        key: u64,
+        value: &Option<Value>,
+        start: &mut Start,
+    ) -> Attempt
+        requires of { IsSeatOf self.now.words.now seat.old }
+        requires holds { IsInHold seat.old.knows }
+        requires start { IsStart seat.old.knows start.old.lost }
         ensures of { IsSeatOf self.now.words.now seat.new }
         ensures stays { StaysInHold seat.old.knows seat.new.knows }
         ensures tries { Tries seat.old.knows seat.new.knows (deed_of key value.now) result }
+        ensures start { StartsAgain seat.new.knows result start.new.lost }
     {
-        let guess = look_ahead(self.words, seat, key);
-        self.try_write_near(seat, key, value, &guess)
+        self.look_first(seat, key, start);
+        self.try_write_from(seat, key, value, start)
     }
 
     /// Writes, in a hold of the lock, and tries until the write stands or the clock is at the
     /// limit.
-    #[tactic(auto, using(crate::proofs::Rest::records_later, crate::proofs::Rest::full_later, crate::proofs::Rest::still_trans))]
+    #[tactic(auto, using(crate::proofs::Rest::records_later, crate::proofs::Rest::full_later, crate::proofs::Rest::still_trans, crate::proofs::Rest::still_none, crate::proofs::Retries::stays_none, crate::proofs::Retries::stays_trans))]
     #[inline(always)]
     fn write_held(&self, seat: &mut RawSeat, key: u64, value: &Option<Value>) -> Result<Time, Full>
         requires of { IsSeatOf self.now.words.now seat.old }
@@ -90,8 +123,9 @@ impl<'a, P: Pace, R: Wait> Site<'a, P, R> {
         ensures written { IfOk result (λ time. Records seat.old.knows seat.new.knows time (deed_of key value.now)) }
         ensures full { IfErr result (λ full. FindsFull seat.old.knows seat.new.knows full.time) }
     {
+        let mut start = Start::hinted(Guess::NONE);
         for _ in self.rt.forever() {
-            match self.try_write(seat, key, value) {
+            match self.try_write(seat, key, value, &mut start) {
                 Attempt::Written(time) => return Ok(time),
                 Attempt::Full(time) => return Err(Full { time }),
                 Attempt::Lost => {}

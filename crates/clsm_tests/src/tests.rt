@@ -12,5 +12,6 @@ mod hot;
 mod messages;
 mod model;
 mod program;
+mod retries;
 mod settled;
 mod tables;

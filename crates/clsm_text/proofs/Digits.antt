@@ -20,7 +20,8 @@ digit_below bytes i all inside =
     let range = digit_at bytes i all inside in
     let value = digit_value_digit (get_or bytes i 0) range in omega (arith, range.0, range.1)
 
--- bytes among which one is refused, behind the number that is read of those before it, are no number
+-- bytes among which one is refused, behind the number that is read of those before it, are no
+-- number
 pub refuses_digit : (bytes : List ℕ) (i number byte : ℕ) →
     number ≡ digits_value 10 (take i bytes) → i < length bytes → byte ≡ get_or bytes i 0 →
     ¬ ((digit_value byte < 10) × (number * 10 + digit_value byte < 2 ^ 64)) → ¬ IsNumber bytes

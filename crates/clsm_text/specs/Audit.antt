@@ -80,8 +80,8 @@ pub record HasFaultOn (config : Config) (order : Bool) (bytes : List ℕ) (kind 
   pub fault : IsFirstFault config (records_of said) kind index
   pub stands : StandsOn said index number
 
--- the lines say records that are lawful, and of those whose call is too early the first one stands on
--- the line with this number
+-- the lines say records that are lawful, and of those whose call is too early the first one stands
+-- on the line with this number
 pub record IsStaleOn (config : Config) (bytes : List ℕ) (number : ℕ) : Type 0 where
   pub said : List (Option RecordLine)
   pub says : AreSaid true (lines_of bytes) said

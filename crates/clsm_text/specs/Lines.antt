@@ -34,8 +34,8 @@ SayLine timed words line =
 
 -- ---- a line
 
--- what a line says whose words may say something: nothing, or that; it is bad where it is no text, or
--- says neither
+-- what a line says whose words may say something: nothing, or that; it is bad where it is no text,
+-- or says neither
 abbrev pub ReadsBy : {A : Type 0} → (List (List ℕ) → A → Type 0) → List ℕ → Result (Option A) LineError → Type 0
 ReadsBy Says line (Ok None) = IsUtf8 line × IsComment (words_of line)
 ReadsBy Says line (Ok (Some x)) = IsUtf8 line × Says (words_of line) x

@@ -27,14 +27,14 @@ pub struct AskedAudit {
 /// verdict on the output: `audit ok`, with status 0, or `audit fault KIND LINE`, with status 2,
 /// where `LINE` is the line, counted from 1, of the record that has the fault. After a fault, lines
 /// on the faults say why it is one: what an explanation of `clsm_audit` says. Behind a record
-/// ` | BEGIN END` may stand, the moments of its call. Where the order is asked for, it stands behind
-/// each record, else the line is bad; and where `audit` finds no fault, `audit_order` looks for a
-/// call that is too early, of the kind `Stale`. Where a history is asked for, the records of writes follow `audit ok`, by their times. Where there is no
-/// verdict, a line on the faults says why: `bad line L`, or `device` for a failed read or write,
-/// with status 1, or `no memory`, with status 3. A write to the faults that fails changes no
-/// status. Of the sizes the audit uses the seats and the cells: a record of another seat, or a
-/// batch of more members than cells, is `Unknown`. All records are kept, so memory limits how many
-/// there may be, and how long a line is.
+/// ` | BEGIN END` may stand, the moments of its call. Where the order is asked for, it stands
+/// behind each record, else the line is bad; and where `audit` finds no fault, `audit_order` looks
+/// for a call that is too early, of the kind `Stale`. Where a history is asked for, the records of
+/// writes follow `audit ok`, by their times. Where there is no verdict, a line on the faults says
+/// why: `bad line L`, or `device` for a failed read or write, with status 1, or `no memory`, with
+/// status 3. A write to the faults that fails changes no status. Of the sizes the audit uses the
+/// seats and the cells: a record of another seat, or a batch of more members than cells, is
+/// `Unknown`. All records are kept, so memory limits how many there may be, and how long a line is.
 pub fn audit_lines<R, W, E>(
     alloc: Global,
     asked: AskedAudit,
@@ -87,7 +87,8 @@ fn print_verdict<R: Read + Drop, W: Write, E: Write>(
     Ok(verdict)
 }
 
-/// Writes the verdict as a line, and behind `audit ok` the history of the records if it is asked for.
+/// Writes the verdict as a line, and behind `audit ok` the history of the records if it is asked
+/// for.
 #[tactic(auto, using(crate::proofs::Verdicts::prints_plain, crate::proofs::Verdicts::prints_history))]
 fn write_verdict<W: Write>(
     alloc: Global,

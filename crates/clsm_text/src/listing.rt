@@ -26,7 +26,8 @@ pub struct TimedList {
 }
 
 impl TimedList {
-    /// Puts a record behind the others, with its moments if it has some. Refused if memory runs out.
+    /// Puts a record behind the others, with its moments if it has some. Refused if memory runs
+    /// out.
     fn push(&mut self, said: RecordLine, number: u64) -> Result<(), AllocError>
         ensures records { OnOk result (self.new.listed.records.items ≡ self.old.listed.records.items ++ said.record ∷ []) }
         ensures lines { OnOk result (self.new.listed.lines.items ≡ self.old.listed.lines.items ++ number ∷ []) }

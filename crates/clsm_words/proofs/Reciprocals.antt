@@ -1,4 +1,5 @@
--- A division by a number as a multiplication by its reciprocal: R is W / by, rounded down, or one less.
+-- A division by a number as a multiplication by its reciprocal: R is W / by, rounded down, or one
+-- less.
 use Rattle.std.proofs.Common.{◌≡◌, ℕ, suc, ◌+◌, ◌*◌, ◌/◌, ◌%◌, ◌<◌, ◌≤◌, sym, ap, ◌∙◌, arith}
 use Rattle.std.proofs.lemmas.Nat.{mod-mul-add}
 use Rattle.std.proofs.Math.Nat.{div-mul-le_self, lt-div-mul-add, mul-le-mul_left, mul-le-mul_right}

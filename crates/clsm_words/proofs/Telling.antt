@@ -53,7 +53,8 @@ shown_part memory cell (Wrote seat key written) Length there h = h.2
 shown_part memory cell (Wrote seat key written) (Value j) there h = h.3 j
 shown_part memory cell slot part there h = tt
 
--- while a caller holds the lock alone, each time below the clock whose epoch is not merged is decided
+-- while a caller holds the lock alone, each time below the clock whose epoch is not merged is
+-- decided
 alone_decided : (g : Ground) (me t : ℕ) → each g.z mode_of g.views me ≡ Exclusive → g.merger.merged * g.z.cells ≤ t → t < g.memory Clock
     → g.memory (StateOf (cell_of g.z t)) ≢ undecided_cell
 alone_decided g me t alone from until e =

@@ -129,8 +129,8 @@ pub record Agrees (seats number : ℕ) (calls : List CallRecord) (h : History) :
   pub uncut : AllByRecursion (IsUncutRecord h.batches) calls
   pub listed : AllByRecursion (λ r. IsListedWithin h r.time r.deed) calls
 
--- the step is open to the seat, which needs its own past for it, and raises the front to times alone
--- that are inside no batch
+-- the step is open to the seat, which needs its own past for it, and raises the front to times
+-- alone that are inside no batch
 abbrev pub Opens : Known → Step → Type 0
 Opens k (RaiseFront s) = IsOpen k.layout (plain k.past) k.view (RaiseFront s) × MayRaise k.view s
 Opens k step = IsOpen k.layout (plain k.past) k.view step
@@ -202,13 +202,13 @@ pub record Extends (old new : List ℕ) : Type 0 where
   pub ranks : (p : ℕ) → In p old → rank_of p old ≤ rank_of p new
 
 -- what a seat knows of itself: the words of its open steps are there, the numbers that these make
--- fit 64 bits, the batches of its past don't overlap, and none ends beyond it; its records are right
--- in its past and agree with it, each batch that it recorded fits an epoch, and their times rise to
--- its due, which is no time past the end; nothing is staged outside an exclusive hold of the lock;
--- its drawn time is in the epoch of the limit that it looked at in this hold of the lock, and so is
--- each place of the ordered list that it met, or found before or behind its drawn cell; that list
--- has no more places than an epoch cells; the time of its open snapshot is within its past; what it
--- may search; and that each spot is the place of a cell, with one key
+-- fit 64 bits, the batches of its past don't overlap, and none ends beyond it; its records are
+-- right in its past and agree with it, each batch that it recorded fits an epoch, and their times
+-- rise to its due, which is no time past the end; nothing is staged outside an exclusive hold of
+-- the lock; its drawn time is in the epoch of the limit that it looked at in this hold of the lock,
+-- and so is each place of the ordered list that it met, or found before or behind its drawn cell;
+-- that list has no more places than an epoch cells; the time of its open snapshot is within its
+-- past; what it may search; and that each spot is the place of a cell, with one key
 pub record Sound (k : Known) : Type 0 where
   pub seated : k.seated ≡ true
   pub inside : k.number < k.layout.seats

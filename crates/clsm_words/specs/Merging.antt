@@ -98,8 +98,8 @@ IsRestBehind k p rest = IsRestFrom k.layout 0 k.trail p rest
 -- what the merger's seat knows of itself: the words of its open steps are there; the next merge can
 -- be decided by the words that it knows, and what its runs hold is what its past says; in its hold
 -- of the lock its past ends at the clock; its floor is not below that of the last merge; a write of
--- its past is a removal or has one to eight words; while an epoch is frozen its trail is the epoch's
--- list
+-- its past is a removal or has one to eight words; while an epoch is frozen its trail is the
+-- epoch's list
 pub record IsSoundMerger (k : Known) : Type 0 where
   pub merges : k.merges ≡ true
   pub there : (step : Step) → OpensToMerger k step → is_word k.layout (word_of_merger k.layout k.merger step) ≡ true

@@ -54,8 +54,8 @@ Plays words seat step seat' = (x : ℕ) × Played words seat step x seat'
 abbrev pub PlaysTo : WordTable → RawState → Step → Answer → RawState → Type 0
 PlaysTo words seat step answer seat' = (x : ℕ) × Played words seat step x seat' × (answer ≡ answer_of step x)
 
--- the step that a look at FRONT is which finds x there: where that is not below the time, a raise to
--- the time, which leaves the word as it is
+-- the step that a look at FRONT is which finds x there: where that is not below the time, a raise
+-- to the time, which leaves the word as it is
 abbrev pub confirming : ℕ → ℕ → Step
 confirming time x = cond (nat_lt x time) (Look Front) (RaiseFront time)
 

@@ -51,9 +51,9 @@ pub record IsSpot (z : Layout) (memory : Memory) (orders : Orders) (held : Optio
 -- what is so of a seat in the world: its view is the one of its number, and its past is what the
 -- times below the view's past came to, with the batches that begin below it; while it holds a
 -- component it knows the words of its runs, and their floor, and those of the cells of the times
--- that it knows, and their chains have grown at their heads at most; its trail is an end of a chain that it
--- may walk, and its spots stand in lists that it may walk; the list of its drawn cell has grown at
--- most
+-- that it knows, and their chains have grown at their heads at most; its trail is an end of a chain
+-- that it may walk, and its spots stand in lists that it may walk; the list of its drawn cell has
+-- grown at most
 pub record IsSeated (z : Layout) (words : List ℕ) (m : MergerView) (slots : List (Option Slot)) (batches : List Batch) (chains : Chains) (orders : Orders)
     (views : List View) (k : Known) : Type 0 where
   pub layout : k.layout ≡ z

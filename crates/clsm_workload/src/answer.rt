@@ -61,7 +61,8 @@ const ANY: Moments = Moments {
     end: u64::MAX,
 };
 
-/// Writes each record as a line that ends in the moments of its call. Refused as `write_records` is.
+/// Writes each record as a line that ends in the moments of its call. Refused as `write_records`
+/// is.
 pub fn write_clocked<W: Write>(alloc: Global, output: &mut W, ran: &Ran) -> Result<(), Failure>
     ensures { IfErr result StopsWork }
 {

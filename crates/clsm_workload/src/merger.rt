@@ -7,8 +7,8 @@ use clsm_store::{Merger, Pace, Phase, Stopped};
 use std::sync::Wait;
 use std::thread;
 
-/// Freezes, merges and reclaims again and again, until all workers have ended. It stops earlier, for
-/// good, where a run is full or times end. Gives the merger back.
+/// Freezes, merges and reclaims again and again, until all workers have ended. It stops earlier,
+/// for good, where a run is full or times end. Gives the merger back.
 pub fn merge_beside<'a, P: Pace + Drop, R: Wait>(
     rt: &R,
     mut merger: Merger<'a, P>,

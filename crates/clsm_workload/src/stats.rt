@@ -12,8 +12,8 @@ use std::time::Duration;
 
 /// Writes a line for each kind of calls: how many were answered and how many refused, how many a
 /// second, and the median, the 99th and 99.9th percentile and the greatest of their times in
-/// nanoseconds; and a line with the refusals, one with the merges if they were counted, and one with
-/// the time of the calls and of the audit.
+/// nanoseconds; and a line with the refusals, one with the merges if they were counted, and one
+/// with the time of the calls and of the audit.
 pub fn write_stats<E: Write>(alloc: Global, faults: &mut E, ran: &Ran) -> Result<(), Failure> {
     for kind in KINDS {
         write_kind(alloc, faults, &ran.notes, kind, ran.calling.time)?;

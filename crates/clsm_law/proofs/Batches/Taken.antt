@@ -1,5 +1,5 @@
--- A lawful world in which a seat in an exclusive hold of the lock takes the next time for its batch:
--- what a stage does before it fills the key.
+-- A lawful world in which a seat in an exclusive hold of the lock takes the next time for its
+-- batch: what a stage does before it fills the key.
 use Rattle.std.proofs.Common.{◌≡◌, ◌≢◌, ℕ, ◌+◌, ◌-◌, ◌*◌, ◌<◌, ◌≤◌, true, false, cond, List, [], ◌∷◌, ◌++◌, length, set, sum_by, sym, refl, ap, ◌∙◌, subst}
 use Rattle.std.proofs.Common.{arith, inl, inr, ⊎_elim, Option, Some, None, length-set, length-append, get_or-set_same}
 use Rattle.std.specs.List.{AllByRecursion}

@@ -200,7 +200,8 @@ clock_grows s (Commit members) o = let at = commits_at s members o in omega arit
 clock_grows s (Look word) o = let a = ap (λ (m : Memory). m Clock) (looked_same s word) in omega arith
 clock_grows s step o = omega arith
 
--- a time of each seat's that is not beyond the clock stays so, if that of the seat that made the step does
+-- a time of each seat's that is not beyond the clock stays so, if that of the seat that made the
+-- step does
 pub below_clock : (s : Setting) (step : Step) → Opens s step → (f : View → ℕ) → AreAtMost (each s.z f s.views) (s.memory Clock) → f (w s step) ≤ M s step Clock
     → AreAtMost (each s.z f (V s step)) (M s step Clock)
 below_clock s step o f was own = by_seat s (w s step) (λ i u. f u ≤ M s step Clock) own

@@ -1,5 +1,5 @@
--- How the clauses on what an exclusive holder found are kept: no other seat changes a head or a link
--- meanwhile, and the seat's own exchanges end the look that they were made by.
+-- How the clauses on what an exclusive holder found are kept: no other seat changes a head or a
+-- link meanwhile, and the seat's own exchanges end the look that they were made by.
 use Rattle.std.proofs.Common.{◌≡◌, ◌≢◌, ℕ, zero, suc, ◌+◌, ◌*◌, ◌%◌, ◌<◌, ◌≤◌, ◌&&◌, inl, inr, ⊎_elim, Bool, true, false, cond, List, length}
 use Rattle.std.proofs.Common.{set, sym, refl, ap, ◌∙◌, subst, arith, Option, Some, None, nat_lt, length-set, get_or-set_same, get_or-set_other}
 use Rattle.std.specs.Prelude.{slice_index_or}

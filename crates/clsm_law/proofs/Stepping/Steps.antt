@@ -1,5 +1,5 @@
--- A caller's step as it is made: a stage takes its time and then is a fill, and each other step is as
--- the clauses have it.
+-- A caller's step as it is made: a stage takes its time and then is a fill, and each other step is
+-- as the clauses have it.
 use Rattle.std.proofs.Common.{◌≡◌, ◌≢◌, ℕ, true, false, List, [], ◌∷◌, ◌++◌, set, sym, refl, subst, Option, None, set-set}
 use Rattle.clsm_model.specs.declared.batch.Batch.{Batch}
 use Rattle.clsm_model.specs.declared.slot.Slot.{Slot}

@@ -62,8 +62,8 @@ impl Search {
     }
 }
 
-/// Whether the step is a look at a list, a chain, a cell or a run, or at LIMIT, which says what list
-/// that is.
+/// Whether the step is a look at a list, a chain, a cell or a run, or at LIMIT, which says what
+/// list that is.
 fn is_of_search(kind: Kind) -> bool {
     matches!(
         kind,

@@ -163,9 +163,9 @@ impl Frozen {
         self.merger.merges()
     }
 
-    /// The least time that the last round of looks for this epoch found noted in the snapshot words:
-    /// if that is below the end of the epoch, a snapshot of that time keeps old versions. `None` if
-    /// it found none, or before the first round.
+    /// The least time that the last round of looks for this epoch found noted in the snapshot
+    /// words: if that is below the end of the epoch, a snapshot of that time keeps old versions.
+    /// `None` if it found none, or before the first round.
     #[inline]
     pub fn noted(&self) -> Option<Time>
         ensures { result ≡ self.now.noted }
@@ -183,8 +183,8 @@ impl Frozen {
         self.merger.raw.show_invariant();
     }
 
-    /// Ties the frozen epoch to what a caller's seat knows: the token's writes and runs are those of
-    /// a history that begins with what the seat knows, and of just that where it reaches to the
+    /// Ties the frozen epoch to what a caller's seat knows: the token's writes and runs are those
+    /// of a history that begins with what the seat knows, and of just that where it reaches to the
     /// epoch's end. So with the seat that knows most of settled seats they are those of the joint
     /// history. Token and seat are as they were. It costs one look, takes no memory and no lock,
     /// never waits and is never refused.

@@ -85,8 +85,8 @@ impl Call {
         Some(CallRecord { seat, time, deed })
     }
 
-    /// As `into_record`, of a call and an answer that are used again: their lists are copied. Refused
-    /// if memory runs out, which lists alone take.
+    /// As `into_record`, of a call and an answer that are used again: their lists are copied.
+    /// Refused if memory runs out, which lists alone take.
     pub fn to_record(&self, seat: u32, answer: &Answer) -> Result<Option<CallRecord>, AllocError>
         ensures made { IfOk result (λ made. (old new : SeatState) → old.number ≡ seat →
             PlaysCall self.now old new answer.now → new.calls ≡ old.calls ++ option_to_list made) }
@@ -118,8 +118,8 @@ impl Call {
         Ok(Some(CallRecord { seat, time, deed }))
     }
 
-    /// The time and the deed of the call where it was answered so, with no list on either side; `None`
-    /// where it was refused.
+    /// The time and the deed of the call where it was answered so, with no list on either side;
+    /// `None` where it was refused.
     fn deed_of(&self, answer: &Answer) -> Option<(Time, Deed)>
         ensures made { IfSome result (λ made. (old new : SeatState) →
             PlaysCall self.now old new answer.now → Answers old new made.0 made.1) }

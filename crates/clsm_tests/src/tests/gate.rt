@@ -8,8 +8,8 @@ use std::thread;
 /// How often a thread looks for its turn before it goes on without it.
 const TURNS: u64 = 10_000_000;
 
-/// Where a gate holds a seat, once, or again where it is told so: when it is about to make a step of this kind, or of any. So
-/// many such steps it lets pass first, counted since it is watched.
+/// Where a gate holds a seat, once, or again where it is told so: when it is about to make a step
+/// of this kind, or of any. So many such steps it lets pass first, counted since it is watched.
 #[derive(Clone, Copy)]
 pub(super) struct Hold {
     pub(super) seat: u64,

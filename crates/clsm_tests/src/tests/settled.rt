@@ -1,5 +1,5 @@
-//! Seats that are settled or met: the calls of one, which are audited, a frozen epoch that meets one,
-//! and a put and a get that race.
+//! Seats that are settled or met: the calls of one, which are audited, a frozen epoch that meets
+//! one, and a put and a get that race.
 ghost use Rattle.std.specs.Prelude.{◌≡◌, []};
 ghost use Rattle.clsm_store_calls.specs.Seats.{AreNew, HasSizes, IsNewMerger};
 

@@ -11,12 +11,12 @@ use std::test::*;
 
 /// A write of one word makes 13 steps without its search, one of eight words 20, and a removal 12.
 /// Before its first fill each looks at its chain's head, its own state and the two hints that say
-/// how keys are parted. The first one finds nothing by hints: it looks at one on each of five levels
-/// and at the list's head, fills a link, exchanges one, and leaves two hints that say how keys are
-/// parted, one in its bucket and one in the map, of which it looks at the last two first. The others
-/// look at the hint of their bucket and, before the first fill and again when they search, at the
-/// state and the key of the cell that it names; then at the link behind it, fill and exchange one,
-/// and leave the hint of their bucket, at which they look first.
+/// how keys are parted. The first one finds nothing by hints: it looks at one on each of five
+/// levels and at the list's head, fills a link, exchanges one, and leaves two hints that say how
+/// keys are parted, one in its bucket and one in the map, of which it looks at the last two first.
+/// The others look at the hint of their bucket and, before the first fill and again when they
+/// search, at the state and the key of the cell that it names; then at the link behind it, fill and
+/// exchange one, and leave the hint of their bucket, at which they look first.
 const STEPS: &[Step] = &[
     (Act::Put(7, 70), Answer::At(0)),
     (Act::First(Turn::Steps), Answer::Count(31)),
@@ -74,8 +74,8 @@ const SCANS: &[Step] = &[
 ];
 
 /// Pages in turn are as many as the rows fill, but one where there are none, and with a `max` of 0
-/// each has one row. Under a snapshot they are those of its map, and so is a count. Removed keys are
-/// not counted, and the greatest key is.
+/// each has one row. Under a snapshot they are those of its map, and so is a count. Removed keys
+/// are not counted, and the greatest key is.
 const COUNTS: &[Step] = &[
     (Act::Count(0), Answer::Keys(0, 0)),
     (Act::Pages(0, 2), Answer::Count(1)),
@@ -124,9 +124,9 @@ const VISITS: &[Step] = &[
 ];
 
 /// An epoch has four timestamps. A sweep waits below so many of them, and where more are asked for
-/// than there are it waits for all; an epoch that is frozen already, or a component that is retired,
-/// is swept in any case. A caller finds fewer timestamps left after each write, and all four again
-/// after a freeze.
+/// than there are it waits for all; an epoch that is frozen already, or a component that is
+/// retired, is swept in any case. A caller finds fewer timestamps left after each write, and all
+/// four again after a freeze.
 const USES: &[Step] = &[
     (Act::Room, Answer::Count(4)),
     (Act::SweepIfUsed(1), Answer::Waited),

@@ -43,8 +43,8 @@ fn expect_shown(rt: &impl Abort, played: &Played, case: &Case, shown: usize, sta
     played.expect(rt, output, faults, status);
 }
 
-/// The fewest and the most calls after which an input fails, how it fails, how many bytes are shown,
-/// and the status.
+/// The fewest and the most calls after which an input fails, how it fails, how many bytes are
+/// shown, and the status.
 type End = (u32, u32, &'static [ErrorKind], usize, u8);
 
 const FAILURES: &[ErrorKind] = &[
