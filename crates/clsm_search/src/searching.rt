@@ -9,7 +9,7 @@ ghost use Rattle.clsm_search.specs.Searching.{IsNewestTime, better, is_later, is
 
 use crate::cells::KnownCell;
 use crate::list::{Epoch, spot_of, time_at};
-use crate::versions::{FEW, Unsure, newest_along, newest_version};
+use crate::versions::{FEW, PILE, Unsure, newest_along, newest_version};
 use clsm_law::{Part, Word};
 use clsm_model::Time;
 use clsm_words::{Pace, RawSeat, Words};
@@ -117,14 +117,15 @@ fn pass_cell<P: Pace>(
     ChainWalk { key, next, best }
 }
 
-/// Walks along the key's chain of the epoch to its first cell that is a write of the key, past few
-/// cells, or to its end.
+/// Walks along the key's chain of the epoch to its first cell that is a write of the key, past so
+/// many cells at most, or to its end.
 #[inline(always)]
 fn walk_to_write<P: Pace>(
     words: &Words<P>,
     seat: &mut RawSeat,
     epoch: &Epoch,
     mut walk: ChainWalk,
+    most: u64,
 ) -> ChainWalk
     requires of { IsSeatOf words.now seat.old }
     requires may { MayWalk seat.old.knows epoch.now }
@@ -137,7 +138,7 @@ fn walk_to_write<P: Pace>(
     ensures chain { IsOnChain seat.new.knows epoch.now.first result.next }
     ensures walked { IsWalked seat.new.knows.past seat.new.knows.layout.cells epoch.now.first result.key epoch.now.until result.best seat.new.knows.trail }
 {
-    for _ in 0..FEW {
+    for _ in 0..most {
         if walk.next == 0 || walk.best.is_some() {
             return walk;
         }
@@ -242,6 +243,36 @@ fn newest_behind<P: Pace>(
     walk_chain(words, seat, &epoch, walk)
 }
 
+/// The time of the newest write of the key in the epoch, where its chain has more cells than a
+/// short walk has passed. If the next one is below the epoch's bound, those that were passed have
+/// cancelled times, or other keys: the walk goes on past many.
+#[inline(never)]
+fn newest_further<P: Pace>(
+    words: &Words<P>,
+    seat: &mut RawSeat,
+    epoch: Epoch,
+    walk: ChainWalk,
+) -> Option<Time>
+    requires of { IsSeatOf words.now seat.old }
+    requires may { MayWalk seat.old.knows epoch }
+    requires begun { epoch.first < epoch.until }
+    requires chain { IsOnChain seat.old.knows epoch.first walk.next }
+    requires walked { IsWalked seat.old.knows.past seat.old.knows.layout.cells epoch.first walk.key epoch.until walk.best seat.old.knows.trail }
+    ensures of { IsSeatOf words.now seat.new }
+    ensures looks { Looks seat.old.knows seat.new.knows }
+    ensures newest { IsNewestTime seat.old.knows epoch.first walk.key epoch.until result }
+{
+    let offset = words.number_in_region(walk.next.saturating_sub(1));
+    if walk.best.is_some() || offset >= epoch.until - epoch.first {
+        return newest_behind(words, seat, epoch, walk);
+    }
+    let further = walk_to_write(words, seat, &epoch, walk, PILE);
+    if let Ok(newest) = newest_near(words, seat, &epoch, &further) {
+        return newest;
+    }
+    newest_behind(words, seat, epoch, further)
+}
+
 impl Epoch {
     /// The time of the newest write of the key in the epoch, which is begun: the first write of the
     /// key in its chain or, where the chain goes on, the last from there on in the ordered list,
@@ -260,14 +291,14 @@ impl Epoch {
         let region = self.number % 2;
         let next = words.look(seat, Word::Head { region, chain });
         let best = None;
-        let walk = walk_to_write(words, seat, self, ChainWalk { key, next, best });
+        let walk = walk_to_write(words, seat, self, ChainWalk { key, next, best }, FEW);
         if walk.next == 0 {
             return walk.best;
         }
         if let Ok(newest) = newest_near(words, seat, self, &walk) {
             return newest;
         }
-        newest_behind(words, seat, *self, walk)
+        newest_further(words, seat, *self, walk)
     }
 
     /// The time of the newest write of the key in the epoch, which may begin behind its bound.

@@ -78,13 +78,13 @@ pub returns-in-Ok-clause-newest : goal.returns-in-Ok-clause-newest
 returns-in-Ok-clause-newest g c =
     newest_of g (goal.at.returns-in-Ok-clause-newest g c).After-walk_to_write-walk c.in-Ok.newest c.in-Ok.ensures.newest
 
-pub newest_behind-requires-clause-chain : goal.newest_behind-requires-clause-chain
-newest_behind-requires-clause-chain g c =
+pub newest_further-requires-clause-chain : goal.newest_further-requires-clause-chain
+newest_further-requires-clause-chain g c =
     chain_stays c.walk_to_write-walk.new.seat.knows c.newest_near.new.seat.knows c.args.self.now.first c.walk_to_write-walk.result.next
     c.newest_near.ensures.looks c.walk_to_write-walk.ensures.chain
 
-pub newest_behind-requires-clause-walked : goal.newest_behind-requires-clause-walked
-newest_behind-requires-clause-walked g c =
+pub newest_further-requires-clause-walked : goal.newest_further-requires-clause-walked
+newest_further-requires-clause-walked g c =
     let e = c.args.self.now in
     walked_stays c.walk_to_write-walk.new.seat.knows c.newest_near.new.seat.knows e.first c.walk_to_write-walk.result.key e.until
     c.walk_to_write-walk.result.best c.newest_near.ensures.looks c.walk_to_write-walk.ensures.walked
@@ -95,12 +95,12 @@ returns-clause-looks g c =
     let k1 = c.walk_to_write-walk.new.seat.knows in
     let k2 = c.newest_near.new.seat.knows in
     let near = looks_trans k k1 k2 (walked g (goal.at.returns-clause-looks g c).After-walk_to_write-walk) c.newest_near.ensures.looks.looks in
-    looks_trans k k2 c.newest_behind.new.seat.knows near c.newest_behind.ensures.looks
+    looks_trans k k2 c.newest_further.new.seat.knows near c.newest_further.ensures.looks
 
 pub returns-clause-newest : goal.returns-clause-newest
 returns-clause-newest g c =
     let e = c.args.self.now in
     let k1 = c.walk_to_write-walk.new.seat.knows in
-    newest_of g (goal.at.returns-clause-newest g c).After-walk_to_write-walk c.newest_behind.result
-    (newest_before k1 c.newest_near.new.seat.knows e.first c.walk_to_write-walk.result.key e.until c.newest_behind.result c.newest_near.ensures.looks.looks
-    c.newest_behind.ensures.newest)
+    newest_of g (goal.at.returns-clause-newest g c).After-walk_to_write-walk c.newest_further.result
+    (newest_before k1 c.newest_near.new.seat.knows e.first c.walk_to_write-walk.result.key e.until c.newest_further.result c.newest_near.ensures.looks.looks
+    c.newest_further.ensures.newest)
