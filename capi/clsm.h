@@ -113,7 +113,7 @@ typedef struct {
     size_t keys;      /* most keys with a value: 1 to 4,194,304 - 4 * epoch; 0: 100,000 */
     size_t epoch;     /* most writes between two merges: 4 to 65,536; 0: 4,096 */
     int patience;     /* how often a read looks again at an unfinished write before it cancels
-                         that: 1 to 64; 0: 16; -1: never */
+                         that: 1 to 64; 0: 64; -1: never */
     int merge;        /* 0: a thread of the store merges; CLSM_MERGE_IN_CALLS: writes do */
     uint64_t zero[4]; /* 0: later options */
 } clsm_options;

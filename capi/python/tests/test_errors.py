@@ -77,9 +77,9 @@ class Options(unittest.TestCase):
         with mock.patch.object(library, "store_open", refuse):
             self.assertRaises(Error, Store)
             self.assertRaises(Error, Store, keys=7, epoch=5, patience=0, merge_in_calls=True)
-            self.assertRaises(Error, Store, patience=64)
+            self.assertRaises(Error, Store, patience=16)
         found = [[value.keys, value.epoch, value.patience, value.merge] for value in told]
-        given = [[100_000, 4_096, 16, 0], [7, 5, -1, 1], [100_000, 4_096, 64, 0]]
+        given = [[100_000, 4_096, 64, 0], [7, 5, -1, 1], [100_000, 4_096, 16, 0]]
         self.assertEqual(found, given)
         self.assertEqual([list(value.zero) for value in told], [[0] * 4] * 3)
 

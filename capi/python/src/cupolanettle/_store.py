@@ -88,7 +88,7 @@ class Store(Reader):
         *,
         keys: int = 100_000,
         epoch: int = 4_096,
-        patience: int = 16,
+        patience: int = 64,
         merge_in_calls: bool = False,
     ) -> None:
         options = library.Options(

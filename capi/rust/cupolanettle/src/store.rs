@@ -33,16 +33,16 @@ pub struct Options {
 }
 
 impl Options {
-    /// Room for 100,000 keys, epochs of 4,096 writes, a patience of 16 looks, and a thread that
+    /// Room for 100,000 keys, epochs of 4,096 writes, a patience of 64 looks, and a thread that
     /// merges: 22 MiB.
     ///
     /// ```
     /// # use cupolanettle::Options;
-    /// let written_out = Options::new().keys(100_000).epoch(4_096).patience(16);
+    /// let written_out = Options::new().keys(100_000).epoch(4_096).patience(64);
     /// assert_eq!(Options::new(), written_out);
     /// ```
     pub const fn new() -> Options {
-        Options { keys: 100_000, epoch: 4_096, patience: 16, merges_in_calls: false }
+        Options { keys: 100_000, epoch: 4_096, patience: 64, merges_in_calls: false }
     }
 
     /// The most keys that have a value at once, from 1 to 4,194,304 less four times the epoch. Each
