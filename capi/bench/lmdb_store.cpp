@@ -130,7 +130,7 @@ public:
     // The file is to grow to so many bytes: where the system had less, writing it would end the program.
     explicit Folder(std::size_t bytes) {
         if (std::filesystem::space("/dev/shm").available < bytes) throw Failure("lmdb: too little room in /dev/shm");
-        std::string path = "/dev/shm/clsm-bench-XXXXXX";
+        std::string path = "/dev/shm/clsm-bench-" + std::string(6, 'X');
         if (!mkdtemp(path.data())) throw Failure("lmdb: no folder in /dev/shm");
         path_ = path;
     }
