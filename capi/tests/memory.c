@@ -1,17 +1,20 @@
 /* Refuses each allocation of the library in turn. The call that needs it answers MEMORY and leaves
  * all as it was, and works when it is made again; nothing is lost. Link it with -Wl,--wrap= for
- * malloc, calloc, realloc and free. */
+ * malloc, calloc, realloc, posix_memalign and free. */
 #include "check.h"
 
+#include <errno.h>
 #include <stdatomic.h>
 
 void *__wrap_malloc(size_t);
 void *__wrap_calloc(size_t, size_t);
 void *__wrap_realloc(void *, size_t);
+int __wrap_posix_memalign(void **, size_t, size_t);
 void __wrap_free(void *);
 void *__real_malloc(size_t);
 void *__real_calloc(size_t, size_t);
 void *__real_realloc(void *, size_t);
+int __real_posix_memalign(void **, size_t, size_t);
 void __real_free(void *);
 
 /* Requests so far, the one that is refused, and what is not freed. */
@@ -38,6 +41,13 @@ void *__wrap_realloc(void *old, size_t size) {
     return old ? memory : kept_too(memory);
 }
 
+int __wrap_posix_memalign(void **memory, size_t alignment, size_t size) {
+    if (is_refused()) return ENOMEM;
+    const int refused = __real_posix_memalign(memory, alignment, size);
+    if (!refused) atomic_fetch_add(&kept, 1);
+    return refused;
+}
+
 void __wrap_free(void *memory) {
     if (memory) atomic_fetch_sub(&kept, 1);
     __real_free(memory);
@@ -61,14 +71,13 @@ static bool is_again(int code) {
         ANSWERS(code, answered_);                                                                  \
     } while (0)
 
-static clsm_store *opened(int merge) {
-    const clsm_options options = {.keys = 200, .epoch = 16, .merge = merge};
+static clsm_store *opened(const clsm_options *options) {
     clsm_store *store = NULL;
     const long before = atomic_load(&kept);
-    int code = clsm_open(&options, &store);
+    int code = clsm_open(options, &store);
     if (is_again(code)) {
         CHECK(!store && atomic_load(&kept) == before);
-        code = clsm_open(&options, &store);
+        code = clsm_open(options, &store);
     }
     ANSWERS(CLSM_OK, code);
     return store;
@@ -132,9 +141,9 @@ static void write_batches(clsm_caller *caller, uint64_t first) {
     AGAIN(CLSM_OK, clsm_batch(caller, rows, ROWS));
 }
 
-static void use(int merge) {
+static void use_all_calls(int merge) {
     enum { KEYS = 160 };
-    clsm_store *store = opened(merge);
+    clsm_store *store = opened(&(clsm_options){.keys = 200, .epoch = 16, .merge = merge});
     clsm_caller *caller;
     OK(clsm_caller_open(store, &caller));
     for (uint64_t key = 0; key < KEYS; key++) OK(clsm_put(caller, key, &key, 1));
@@ -149,8 +158,20 @@ static void use(int merge) {
     OK(clsm_close(store));
 }
 
+/* A store whose tables are large enough for large pages. */
+static void use_large_tables(int merge) {
+    clsm_store *store = opened(&(clsm_options){.merge = merge});
+    clsm_caller *caller;
+    const uint64_t key = 7;
+    OK(clsm_caller_open(store, &caller));
+    OK(clsm_put(caller, key, &key, 1));
+    OK(clsm_get(caller, key, NULL));
+    clsm_caller_close(caller);
+    OK(clsm_close(store));
+}
+
 /* Uses a store once for each of its allocations. */
-static void refuse_each(int merge) {
+static void refuse_each(void (*use)(int), int merge) {
     const long before = atomic_load(&kept);
     for (long number = 1;; number++) {
         memories = 0;
@@ -166,7 +187,8 @@ static void refuse_each(int merge) {
 }
 
 int main(void) {
-    refuse_each(0);
-    refuse_each(CLSM_MERGE_IN_CALLS);
+    refuse_each(use_all_calls, 0);
+    refuse_each(use_all_calls, CLSM_MERGE_IN_CALLS);
+    refuse_each(use_large_tables, 0);
     return passed("memory");
 }

@@ -4,7 +4,7 @@ T = $(OUT)/tests
 comma = ,
 wrap = $(patsubst %,-Wl$(comma)--wrap=%,$(1))
 BETWEEN = $(call wrap,pthread_cond_wait pthread_cond_signal pthread_cond_broadcast pthread_create pthread_join sched_yield)
-HEAP = $(call wrap,malloc calloc realloc free)
+HEAP = $(call wrap,malloc calloc realloc posix_memalign free)
 STRICT = $(C) -Werror
 SHARED_HEADERS = clsm.h tests/check.h tests/between.h tests/mock_core.h tests/record.h
 
@@ -77,7 +77,7 @@ names: $(OUT)/libclsm.a $(OUT)/libclsm.so.0 $(OUT)/names
 
 warnings:
 	for cc in $(CC) $(CLANG); do \
-	    for file in src/*.c tests/*.c examples/*.c; do \
+	    for file in core/*.c src/*.c tests/*.c examples/*.c; do \
 	        $$cc -std=c11 $(WARNINGS) -Werror -O2 -I. -fsyntax-only -pthread $$file || exit 1; \
 	    done; \
 	    $$cc -std=c11 $(WARNINGS) -Werror -O2 -fsyntax-only -pthread -DCLSM_CHECKED src/*.c || exit 1; \

@@ -1,250 +1,157 @@
 -- A call for C by a handle that fills rows of C's: as `Lent`, with a slice that is lent on. It is
 -- the same walk for each such export.
-use Rattle.std.proofs.Common.{ℕ, ◌^◌, ◌<◌, List, [], ◌∷◌, ◌++◌, length, refl, w32}
+use Rattle.std.proofs.Common.{ℕ, ◌^◌, ◌<◌, List, [], ◌∷◌, length, refl, w32}
 use seplogic.Ra.Ura.{Ura}
 use base.Fraction.{full_share}
-use mir.Syntax.{Body as Code, Callee, Fn, named, erased, imm, mut, ty_int, ty_ptr, ty_ref, deref, field, place}
-use mir.Syntax.{copy, local, value_local, assign, rv_opd, addr_of, aggregate, call, seq, block, return}
-use mir.Val.{Val, vptr}
-use base.Logic.{SProp, ent, sep, emp, via, snd∗, never, never_e, id⊢}
-use base.Fml.{Lft, GName, Share, ftrue, fsep, flft, flent, fex}
-use prog.Wp.{Calls, Loops, WpFn}
+use mir.Syntax.{Body as Code, Callee, Fn, Local, named, erased, imm, mut, ty_int, ty_ptr, ty_ref, deref, field, place}
+use mir.Syntax.{copy, local, value_local, assign, rv_opd, addr_of, aggregate, call, seq, return}
+use base.Logic.{ent, sep, id⊢}
+use base.Fml.{Lft, Share}
+use prog.Wp.{Calls, Loops}
 use types.Logic.{Logic, sem}
-use types.SemTy.{Body}
-use contract.Monad.{fact}
-use types.Kit.{Item, feq_l, keep, at_ret, ‵, raw, ◌⊛◌, some, later, ◌$◌, ◌∵◌, !, qed}
-use types.Kit.{by, move, drop, use1, use3, split, join, pick, fsplit, fjoin, fpack, await}
+use types.Kit.{feq_l, keep, at_ret, ‵, raw, ◌⊛◌, ◌$◌, ◌∵◌, !, qed, by, move, drop, split, fsplit, fjoin}
 use types.Part.{whole, sub, agg}
-use types.Tokens.{lft_new, lft_end}
 use types.Run.{exec, stop, fld, hop, from, addr, of_opd, and_then, no_more, first, blocks, returns, enter}
 use types.ByLocal.{env, alloc_all, pass_all, free_all, look_at, look_in_at, get, get_in, sets, sets_last, lands_as, through}
 use sound.WpLaws.{FmC}
 use denote.Exit.{yes}
-use denote.RattleType.{RattleType, owns}
+use denote.RattleType.{owns}
 use denote.Laws.{Is, shows}
-use denote.Memory.{part_at, mem, pointee, lone}
+use denote.Memory.{part_at, pointee, lone}
 use denote.Plain.{uint_Lawful}
-use denote.Builtin.{One, u32, RefOf, RefMutOf, SliceRefMutOf}
-use denote.Ref.{MutBor, MutRef, Bor, ShrRef, mut_vals, shr_vals}
-use denote.Slice.{MutSlice, mut_slice_vals, slice_ty}
-use denote.Lend.{lends_ref, ref_back}
-use denote.RawPtr.{Ptr, block_ptr, null_ptr, RawPtr, rawptr_vals, lies_at}
-use denote.Signature.{plain}
-use denote.Steps.{peeks, heard, nothing}
-use denote.Triple.Statement.{Contract, Triple}
-use denote.Triple.Call.{calls_at}
-use denote.Triple.Clauses.{Clauses, Ended, Lasts, lasts, closing}
-use denote.Triple.Entry.{on_entry}
-use denote.Triple.Spec.{triple_of}
-use denote.Triple.Walked.{Stays, stay_dropped, gave_ref, gave_slice, walk_of}
+use denote.Builtin.{u32, RefOf, RefMutOf, SliceRefMutOf}
+use denote.Ref.{MutBor, MutRef, Bor, ShrRef, mut_vals, mut_Tells, shr_vals, shr_Tells}
+use denote.Slice.{MutSlice, mut_slice_vals, mut_slice_Tells, slice_ty}
+use denote.RawPtr.{Ptr, block_ptr, RawPtr, rawptr_vals, rawptr_Tells, lies_at}
+use denote.Signature.{Slot, plain}
+use denote.Steps.{peeks, nothing}
+use denote.Triple.Statement.{Triple}
+use denote.Triple.Clauses.{Ended}
+use denote.Triple.Entry.{alive}
+use denote.Triple.Walked.{AllGo, Goes-dropped, Goes-gave_ref, Goes-gave_slice, Stays, stay_dropped, gave_ref, gave_slice}
 use Rattle.std.proofs.raw_atomic.Walks.{leaves}
+use Rattle.clsm_c.proofs.Exporting.{Begins, Ends, Export, Exported, Lending, Outcome, Safe, Single, Walk}
+use Rattle.clsm_c.proofs.Exporting.{at_blocks, borrows, calls_lending, ended_of, export, exported, fn_of, keeps_handle, left_there, lends}
 
--- the types of the handle, of what is asked, of a row and of the answer, each of one machine value
-pub record Kinds : Type 2 where
-  pub R : RattleType
-  pub A : RattleType
-  pub E : RattleType
-  pub B : RattleType
-  pub one-R : One R.mir
-  pub one-A : One A.mir
-  pub one-E : One E.mir
-  pub one-B : One B.mir
-
-module _ (K : Kinds) where
-  -- ---- the safe function
-  abbrev pub of_ended : Ended
-  of_ended = record {
-    signature = record {
-      lifetimes = 4;
-      outlives = [];
-      params = RefMutOf (0 ∷ []) tt (plain (λ _. K.R)) (λ _. K.one-R) ∷ RefOf (1 ∷ []) tt (plain (λ _. K.A)) (λ _. K.one-A)
-          ∷ SliceRefMutOf (2 ∷ []) tt (plain (λ _. K.E)) (λ _. K.one-E) ∷ RefMutOf (3 ∷ []) tt (plain (λ _. K.B)) (λ _. K.one-B) ∷ [];
-      result = plain (λ _. u32);
-    };
-    kept = (yes, (yes, (yes, (yes, tt))));
+-- the types of the handle, of what is asked, of a row and of the answer
+module _ (R A E B : Single) where
+  abbrev inner : Lending
+  inner = record {
+    n = 3;
+    R = R;
+    ps = RefOf (1 ∷ []) tt (plain (λ _. A.row)) (λ _. A.one) ∷ SliceRefMutOf (2 ∷ []) tt (plain (λ _. E.row)) (λ _. E.one)
+        ∷ RefMutOf (3 ∷ []) tt (plain (λ _. B.row)) (λ _. B.one) ∷ [];
+    ks = (yes, (yes, (yes, tt)));
+    S = u32;
   }
 
-  -- ---- the export: a pointer in the place of the handle
-  abbrev pub ended : Ended
-  ended = record {
-    signature = record {
-      lifetimes = 3;
-      outlives = [];
-      params = plain (λ _. RawPtr) ∷ RefOf (0 ∷ []) tt (plain (λ _. K.A)) (λ _. K.one-A)
-          ∷ SliceRefMutOf (1 ∷ []) tt (plain (λ _. K.E)) (λ _. K.one-E) ∷ RefMutOf (2 ∷ []) tt (plain (λ _. K.B)) (λ _. K.one-B) ∷ [];
-      result = plain (λ _. u32);
-    };
-    kept = (yes, (yes, (yes, (yes, tt))));
-  }
+  abbrev params : List (Slot 3)
+  params = plain (λ _. RawPtr) ∷ RefOf (0 ∷ []) tt (plain (λ _. A.row)) (λ _. A.one) ∷ SliceRefMutOf (1 ∷ []) tt (plain (λ _. E.row)) (λ _. E.one)
+      ∷ RefMutOf (2 ∷ []) tt (plain (λ _. B.row)) (λ _. B.one) ∷ []
 
-  abbrev pub stayed : Stays (ended).signature.params (ended).kept
+  abbrev outer : Ended
+  outer = ended_of 3 params (yes, (yes, (yes, (yes, tt)))) u32
+
+  abbrev stayed : Stays (outer).signature.params (outer).kept
   stayed = (
     stay_dropped (plain (λ _. RawPtr)) yes,
     (
-      stay_dropped (RefOf (0 ∷ []) tt (plain (λ _. K.A)) (λ _. K.one-A)) yes,
-      (gave_slice (1 ∷ []) tt (plain (λ _. K.E)), (gave_ref (2 ∷ []) tt (plain (λ _. K.B)), tt)),
+      stay_dropped (RefOf (0 ∷ []) tt (plain (λ _. A.row)) (λ _. A.one)) yes,
+      (gave_slice (1 ∷ []) tt (plain (λ _. E.row)), (gave_ref (2 ∷ []) tt (plain (λ _. B.row)), tt)),
+    ),
+  )
+
+  goes : {M : Type 1} {𝓤 : Ura M} (𝓛 : Logic 𝓤) → AllGo 𝓛 3 (outer).signature.params (outer).kept stayed
+  goes 𝓛 = (
+    Goes-dropped 𝓛 3 (plain (λ _. RawPtr)) yes (λ κs x g. refl),
+    (
+      Goes-dropped 𝓛 3 (RefOf (0 ∷ []) tt (plain (λ _. A.row)) (λ _. A.one)) yes (λ κs x g. refl),
+      (Goes-gave_slice 𝓛 3 1 tt (plain (λ _. E.row)), (Goes-gave_ref 𝓛 3 2 tt (plain (λ _. B.row)), tt)),
     ),
   )
 
   -- what the call does: the handle before and after, what was asked, the rows before and after, the
   -- answer, and the code
   abbrev pub Deed : Type 1
-  Deed = (K.R).Denot → (K.A).Denot → List (K.E).Denot → (K.R).Denot → List (K.E).Denot → (K.B).Denot → ℕ → Type 0
+  Deed = (R.row).Denot → (A.row).Denot → List (E.row).Denot → (R.row).Denot → List (E.row).Denot → (B.row).Denot → ℕ → Type 0
 
-  module _ (Does : Deed) {M : Type 1} (𝓤 : Ura M) where
-    abbrev pub of_clauses : Clauses 𝓤 of_ended
-    of_clauses κs a = record {
-      ghost = Unit {0};
-      requires = λ _. emp 𝓤;
-      ensures = λ _ r e. fact 𝓤
-          (Does a.0.now a.1.0.now a.1.1.0.now e.0.now e.1.1.0.now e.1.1.1.0.now r);
-    }
-
-  module _ (Does : Deed) {M : Type 1} {𝓤 : Ura M} (𝓛 : Logic 𝓤) where
-    abbrev pub clauses : Clauses 𝓤 ended
-    clauses κs a = record {
-      ghost = (K.R).Denot;
-      requires = λ x. sem 𝓛 (lies_at K.R full_share a.0 x);
-      ensures = λ x r e. sem 𝓛
-          (fex (K.R).Denot (λ z. fsep (lies_at K.R full_share a.0 z) (fex (Does x a.1.0.now a.1.1.0.now z e.1.1.0.now e.1.1.1.0.now r) (λ _. ftrue))));
-    }
-
-    abbrev pub Of : Contract 𝓤
-    Of = triple_of 𝓛 (of_ended).signature (closing 𝓛 of_ended (of_clauses Does 𝓤))
+  abbrev locals : List Local
+  locals =
+      local (ty_int w32) value_local ∷ local ty_ptr value_local ∷ local (ty_ref (named 0) imm (pointee (A.row).written)) value_local
+      ∷ local (slice_ty (ty_ref (named 1) mut (pointee (E.row).written))) value_local
+      ∷ local (ty_ref (named 2) mut (pointee (B.row).written)) value_local
+      ∷ local (ty_ref erased mut (pointee (R.row).written)) value_local ∷ local (ty_ref erased mut (pointee (R.row).written)) value_local
+      ∷ local ty_ptr value_local
+      ∷ local (ty_ref erased imm (pointee (A.row).written)) value_local ∷ local (ty_ref erased mut (pointee (E.row).written)) value_local
+      ∷ local (slice_ty (ty_ref erased mut (pointee (E.row).written))) value_local
+      ∷ local (ty_ref erased mut (pointee (B.row).written)) value_local ∷ []
 
   module _ (callee : Callee) where
-    abbrev pub rest : Code
+    abbrev rest : Code
     rest =
         seq (assign (place 5 []) (rv_opd (copy (place 6 []))))
         (seq (assign (place 8 []) (rv_opd (copy (place 2 []))))
-        (seq (assign (place 9 []) (addr_of (place 3 (field 0 ∷ deref (lone (K.E).mir) ∷ []))))
+        (seq (assign (place 9 []) (addr_of (place 3 (field 0 ∷ deref (lone (E.row).mir) ∷ []))))
         (seq (assign (place 10 []) (aggregate (copy (place 9 []) ∷ copy (place 3 (field 1 ∷ [])) ∷ [])))
-        (seq (assign (place 11 []) (addr_of (place 4 (deref (lone (K.B).mir) ∷ []))))
+        (seq (assign (place 11 []) (addr_of (place 4 (deref (lone (B.row).mir) ∷ []))))
         (seq (call callee (copy (place 5 []) ∷ copy (place 8 []) ∷ copy (place 10 []) ∷ copy (place 11 []) ∷ []) (place 0 []))
         return)))))
 
-    abbrev pub function : Fn
-    function = record {
-      lifetimes = 3;
-      outlives = [];
-      ty_params = [];
-      givens = 0;
-      params = 4;
-      locals = local (ty_int w32) value_local ∷ local ty_ptr value_local ∷ local (ty_ref (named 0) imm (pointee (K.A).written)) value_local
-          ∷ local (slice_ty (ty_ref (named 1) mut (pointee (K.E).written))) value_local ∷ local (ty_ref (named 2) mut (pointee (K.B).written)) value_local
-          ∷ local (ty_ref erased mut (pointee (K.R).written)) value_local ∷ local (ty_ref erased mut (pointee (K.R).written)) value_local
-          ∷ local ty_ptr value_local
-          ∷ local (ty_ref erased imm (pointee (K.A).written)) value_local ∷ local (ty_ref erased mut (pointee (K.E).written)) value_local
-          ∷ local (slice_ty (ty_ref erased mut (pointee (K.E).written))) value_local ∷ local (ty_ref erased mut (pointee (K.B).written)) value_local ∷ [];
-      body = seq (block (seq (assign (place 7 []) (rv_opd (copy (place 1 [])))) (assign (place 6 []) (addr_of (place 7 (deref (lone (K.R).mir) ∷ [])))))) rest;
-    }
+    abbrev function : Fn
+    function = fn_of 3 4 locals (seq (borrows 7 6 (lone (R.row).mir)) rest)
 
-module _ (K : Kinds) (Does : Deed K) (callee : Callee) {M : Type 1} {𝓤 : Ura M} (𝓛 : Logic 𝓤) (C : Calls 𝓤 𝓛.H) (Λ : Loops 𝓤 𝓛.H) (fm : FmC 𝓤 𝓛.H 𝓛.laws C)
-    (known : Triple 𝓤 (C callee) (Of K Does 𝓛)) (κ κ' κ'' : Lft) (q q' q'' : Share)
-    (s : Bor (K.A).Denot) (w : MutBor (List (K.E).Denot)) (count : length w.now < 2 ^ 64) (r : MutBor (K.B).Denot) (x : (K.R).Denot) where
-  open 𝓛 use {H}
+module _ (R A E B : Single) (Does : Deed R A E B) (callee : Callee) {M : Type 1} {𝓤 : Ura M} (𝓛 : Logic 𝓤) where
+  abbrev outcome : Outcome (lends (inner R A E B))
+  outcome κs a r e = Does a.0.now a.1.0.now a.1.1.0.now e.0.now e.1.1.0.now e.1.1.1.0.now r
 
-  abbrev A : RattleType
-  A = K.A
+  abbrev X : Export 𝓛
+  X = export (outer R A E B) (stayed R A E B)
+      (λ κs a. keeps_handle 𝓛 (outer R A E B) κs R.row a.0 (λ x z r e. Does x a.1.0.now a.1.1.0.now z e.1.1.0.now e.1.1.1.0.now r))
+      (function R A E B callee) callee (Safe 𝓛 (lends (inner R A E B)) outcome)
 
-  abbrev B : RattleType
-  B = K.B
+  module _ (C : Calls 𝓤 𝓛.H) (Λ : Loops 𝓤 𝓛.H) (fm : FmC 𝓤 𝓛.H 𝓛.laws C) (known : Triple 𝓤 (C callee) (Safe 𝓛 (lends (inner R A E B)) outcome))
+      (κ κ' κ'' : Lft) (q q' q'' : Share) (s : Bor (A.row).Denot) (w : MutBor (List (E.row).Denot)) (count : length w.now < 2 ^ 64)
+      (r : MutBor (B.row).Denot) (x : (R.row).Denot) where
+    abbrev bound : Ptr → (Walk X).Ghost
+    bound p =
+        (((κ, (κ', (κ'', tt))), (q, (q', (q'', tt))), tt, (p, (s, (w, (r, tt)))), (rawptr_vals p, (shr_vals s, (mut_slice_vals w, (mut_vals r, tt))))), x)
 
-  abbrev E : RattleType
-  E = K.E
-
-  abbrev R : RattleType
-  R = K.R
-
-  abbrev passed : Ptr → List Val × (List Val × (List Val × (List Val × Unit {0})))
-  passed p = (rawptr_vals p, (shr_vals s, (mut_slice_vals w, (mut_vals r, tt))))
-
-  abbrev Entry : Ptr → SProp 𝓤
-  Entry p = on_entry 𝓛 (ended K).signature (κ, (κ', (κ'', tt))) (q, (q', (q'', tt))) (p, (s, (w, (r, tt)))) (passed p)
-
-  abbrev bound : Ptr → (walk_of 𝓛 (ended K) (stayed K) (clauses K Does 𝓛)).Ghost
-  bound p = (((κ, (κ', (κ'', tt))), (q, (q', (q'', tt))), tt, (p, (s, (w, (r, tt)))), passed p), x)
-
-  abbrev Post : Ptr → Val → SProp 𝓤
-  Post p = (walk_of 𝓛 (ended K) (stayed K) (clauses K Does 𝓛)).post (bound p)
-
-  abbrev fn : Fn
-  fn = function K callee
-
-  abbrev words : Ptr → List Val
-  words p = rawptr_vals p ++ (shr_vals s ++ (mut_slice_vals w ++ (mut_vals r ++ [])))
-
-  abbrev Runs : Ptr → SProp 𝓤
-  Runs p = WpFn 𝓤 H C Λ fn (words p) (Post p)
-
-  abbrev toks : Item 𝓤
-  toks = ‵ (flft κ q) ⊛ (‵ (flft κ' q') ⊛ (‵ (flft κ'' q'') ⊛ ‵ ftrue))
-
-  module _ (b o : ℕ) where
-    abbrev p : Ptr
-    p = block_ptr b o
-
-    walk : ent 𝓤 (sep 𝓤 (Entry p) (sem 𝓛 (part_at R full_share x b o))) (Runs p)
-    walk =
-        qed 𝓛 ((toks ⊛ ‵ (owns (RawPtr ∷ ShrRef (named 0) κ A ∷ MutSlice (named 1) κ' E ∷ MutRef (named 2) κ'' B ∷ []) (p, (s, (w, (r, tt)))) (passed p)))
-        ∷ ‵ (part_at R full_share x b o) ∷ []) ∵
-        split ! $ move ! (1 ∷ []) $ fsplit ! $ drop ! $ fsplit ! $ move ! (1 ∷ []) $ fsplit ! $ move ! (1 ∷ []) $ fsplit ! $
-        -- [answer; true; rows; ask; the tokens; the handle lies there]
-        enter ! C Λ fn (words p) _ $
+    walk : (b o : ℕ) → ent 𝓤 (sep 𝓤 (Begins X (bound (block_ptr b o))) (sem 𝓛 (part_at R.row full_share x b o))) (Ends X C Λ (bound (block_ptr b o)))
+    walk b o =
+        let y : (Walk X).Ghost = bound (block_ptr b o) in
+        qed 𝓛 ((raw (alive 𝓛 (outer R A E B).signature y.0.0 y.0.1)
+        ⊛ ‵ (owns (RawPtr ∷ ShrRef (named 0) κ A.row ∷ MutSlice (named 1) κ' E.row ∷ MutRef (named 2) κ'' B.row ∷ []) y.0.3 y.0.4))
+        ∷ ‵ (part_at R.row full_share x b o) ∷ []) ∵
+        split ! $ move ! (1 ∷ []) $ fsplit ! $ drop ! $
+        enter ! C Λ (X).code ((Walk X).args y) _ $
         alloc_all ! (λ l. pass_all ! refl ((tt, tt), ((tt, tt), ((tt, (tt, (record { fits = count }, tt))), ((tt, tt), tt)))) $
-        first ! $ blocks ! $
-        sets ! (of_opd ! (get ! refl)) refl (tt, tt) $
-        sets_last ! (addr ! (through ! refl (stop !))) refl (tt, tt) $
-        exec ! C Λ (env (fn).locals l) (rest K callee) (at_ret (env (fn).locals l) (Post p)) $
+        first ! $ blocks ! $ sets ! (of_opd ! (get ! refl)) refl (tt, tt) $ sets_last ! (addr ! (through ! refl (stop !))) refl (tt, tt) $
+        exec ! C Λ (env (X).code.locals l) (rest R A E B callee) (at_ret (env (X).code.locals l) ((Walk X).post y)) $
         sets ! (of_opd ! (get ! refl)) refl (tt, tt) $
         sets ! (of_opd ! (get ! refl)) refl (tt, tt) $
         sets ! (addr ! (from ! (fld ! refl (hop ! (look_in_at ! 3 (sub ! 0 refl (whole !))) (stop !))))) refl (tt, tt) $
         sets ! (agg ! (and_then ! (get ! refl) (and_then ! (get_in ! (fld ! refl (stop !)) (sub ! 1 refl (whole !))) (no_more !)))) refl
         (tt, (tt, (record { fits = count }, tt))) $
-        sets ! (addr ! (through ! refl (stop !))) refl (tt, tt) $
-        -- the handle is lent for κ₀
-        lft_new ! tt (λ α. let κ₀ : Lft = α ∷ [] in move ! (6 ∷ []) $
-        use1 𝓛 (later (some (λ (γ : GName). ‵ ((MutRef (named 0) κ₀ R).own_val (record { ref_ptr = (b, o); ghost_name = γ; now = x }) (vptr b o ∷ []))
-        ⊛ ‵ (flent κ₀ (Body (mem R) b o γ)))))
-        (lends_ref 𝓛 R (named 0) κ₀ x b o) $ await ! tt $ pick ! (λ γ. split ! $
-        let h : MutBor R.Denot = record { ref_ptr = (b, o); ghost_name = γ; now = x } in
-        let y : (Of K Does 𝓛).Ghost = (
-          (
-            (κ₀, (κ, (κ', (κ'', tt)))),
-            (full_share, (q, (q', (q'', tt)))),
-            tt,
-            (h, (s, (w, (r, tt)))),
-            (vptr b o ∷ [], (shr_vals s, (mut_slice_vals w, (mut_vals r, tt)))),
-          ),
-          tt,
-        ) in
-        -- [the reference; the lender's part; κ₀ alive; answer; true; rows; ask; the tokens]
-        move ! (3 ∷ 4 ∷ []) $ fjoin ! $ move ! (4 ∷ 0 ∷ []) $ fjoin ! $ move ! (4 ∷ 0 ∷ []) $ fjoin ! $ move ! (1 ∷ 0 ∷ []) $ fjoin ! $
-        move ! (2 ∷ 3 ∷ []) $ join ! $ join ! $ nothing ! $ move ! (1 ∷ 0 ∷ []) $ join ! $
-        use1 𝓛 (raw ((Of K Does 𝓛).pre y)) (id⊢ 𝓤 _) $
-        calls_at ! fm (Of K Does 𝓛) known y (and_then ! (get ! refl) (and_then ! (get ! refl) (and_then ! (get ! refl) (and_then ! (get ! refl) (no_more !)))))
-        (λ v.
-        use1 𝓛 (later (some (λ (c : ℕ). ((‵ (flft κ₀ full_share) ⊛ toks) ⊛ ‵ (u32.own_val c (v ∷ [])))
-        ⊛ some (λ (ws : Lasts (of_ended K) (κ₀, (κ, (κ', (κ'', tt)))) (h, (s, (w, (r, tt))))).
-        ‵ (lasts (of_ended K) (κ₀, (κ, (κ', (κ'', tt)))) (h, (s, (w, (r, tt)))) ws)
-        ⊛ raw (fact 𝓤 (Does x s.now w.now ws.0 ws.1.1.0 ws.1.1.1.0 c)))))) (id⊢ 𝓤 _) $ await ! tt $
-        pick ! (λ c. split ! $ move ! (1 ∷ []) $ pick ! (λ ws. split ! $ move ! (1 ∷ []) $
-        heard ! (Does x s.now w.now ws.0 ws.1.1.0 ws.1.1.1.0 c) (λ does.
-        fsplit ! $ fsplit ! $ move ! (3 ∷ []) $ split ! $ split ! $ lft_end ! tt $ move ! (0 ∷ 6 ∷ 3 ∷ []) $
-        use3 𝓛 (later (‵ (part_at R full_share ws.0 b o))) (ref_back 𝓛 R κ₀ γ ws.0 b o) $ await ! tt $
-        -- [the handle lies there; the tokens; the code; the closed borrow; the last values]
-        move ! (4 ∷ []) $ fsplit ! $ drop ! $ fsplit ! $ fsplit ! $ fsplit ! $ move ! (1 ∷ []) $ feq_l ! (λ same. fjoin ! $ fjoin ! $
-        -- [the last rows and answer; the handle lies there; the tokens; the code; the closed
-        -- borrow]
-        move ! (3 ∷ []) $ peeks ! u32 (Is u32) (shows 𝓛 u32) c (v ∷ []) (λ is. lands_as ! refl refl ((uint_Lawful 𝓛 w32).typed c _ is).0 $
+        sets ! (addr ! (through ! refl (stop !))) refl (tt, tt) $ move ! (1 ∷ []) $
+        calls_lending ! fm (inner R A E B) outcome known y.0.0 y.0.1 b o x (λ _. y.0.3.1) (λ _. y.0.4.1)
+        (‵ (owns (ShrRef (named 0) κ A.row ∷ MutSlice (named 1) κ' E.row ∷ MutRef (named 2) κ'' B.row ∷ []) y.0.3.1 y.0.4.1)) (λ κ₀. id⊢ 𝓤 _)
+        (λ κ₀ γ. and_then ! (get ! refl) (and_then ! (get ! refl) (and_then ! (get ! refl) (and_then ! (get ! refl) (no_more !))))) (λ κ₀ γ v c ws does.
+        -- [the tokens; the code; the last values; the handle]
+        move ! (2 ∷ []) $ fsplit ! $ drop ! $ fsplit ! $ fsplit ! $ fsplit ! $ move ! (1 ∷ []) $ feq_l ! (λ same. fjoin ! $ fjoin ! $
+        -- [the last rows and answer; the tokens; the code; the handle]
+        move ! (2 ∷ []) $ peeks ! u32 (Is u32) (shows 𝓛 u32) c (v ∷ []) (λ is. lands_as ! refl refl ((uint_Lawful 𝓛 w32).typed c _ is).0 $
         returns ! (look_at ! 0 refl) $ free_all ! refl $
-        nothing ! $ fpack ! (Does x s.now w.now ws.0 ws.1.1.0 ws.1.1.1.0 c) (λ _. ftrue) does $ move ! (3 ∷ 0 ∷ []) $ fjoin ! $
-        fpack ! R.Denot (λ z. fsep (lies_at R full_share p z) (fex (Does x s.now w.now z ws.1.1.0 ws.1.1.1.0 c) (λ _. ftrue))) ws.0 $
-        -- [the handle; the code; the last rows and answer; the tokens; the closed borrow]
+        move ! (3 ∷ []) $ left_there ! R.row (block_ptr b o) (λ z. Does x s.now w.now z ws.1.1.0 ws.1.1.1.0 c) ws.0 does $
+        -- [the handle; the code; the last rows and answer; the tokens]
         nothing ! $ move ! (0 ∷ 3 ∷ []) $ fjoin ! $ nothing ! $ fjoin ! $
-        move ! (3 ∷ 0 ∷ 2 ∷ 1 ∷ []) $ keep ! (0 ∷ 1 ∷ 2 ∷ 3 ∷ []) $
-        by ! (leaves 𝓛 (ended K) (stayed K) (clauses K Does 𝓛) (bound p) v c (tt, (tt, (ws.1.1.0, (ws.1.1.1.0, tt)))) (tt, (tt, (same, (tt, tt))))))))))))))
+        keep ! (3 ∷ 0 ∷ 2 ∷ 1 ∷ []) $
+        by ! (leaves 𝓛 (X).ended (X).stayed (X).clauses y v c (tt, (tt, (ws.1.1.0, (ws.1.1.1.0, tt)))) (tt, (tt, (same, (tt, tt)))))))))
 
-  pub filled : (p : Ptr) → ent 𝓤 (sep 𝓤 (Entry p) (sem 𝓛 (lies_at R full_share p x))) (Runs p)
-  filled (block_ptr b o) = walk b o
-  filled null_ptr = via 𝓤 (never 𝓤) (snd∗ 𝓤 (Entry null_ptr) (never 𝓤)) (never_e 𝓤 _)
+    walked : (p : Ptr) → ent 𝓤 (sep 𝓤 (Begins X (bound p)) (sem 𝓛 (lies_at R.row full_share p x))) (Ends X C Λ (bound p))
+    walked = at_blocks 𝓛 (λ p. lies_at R.row full_share p x) refl (λ p. Begins X (bound p)) (λ p. Ends X C Λ (bound p)) walk
+
+  pub filled : Exported X
+  filled = exported X (goes R A E B 𝓛) (λ κs. (rawptr_vals, (shr_vals, (mut_slice_vals, (mut_vals, tt)))))
+      (λ κs. (rawptr_Tells, (shr_Tells (named 0) κs.0 A.row, (mut_slice_Tells (named 1) κs.1.0 E.row, (mut_Tells (named 2) κs.1.1.0 B.row, tt)))))
+      (λ C Λ fm known κs qs bounds a x are.
+      walked C Λ fm known κs.0 κs.1.0 κs.1.1.0 qs.0 qs.1.0 qs.1.1.0 a.1.0 a.1.1.0 are.1.1.0.0.1.0 a.1.1.1.0 x a.0)

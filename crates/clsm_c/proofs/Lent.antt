@@ -1,211 +1,122 @@
 -- A call for C by a handle: the handle that lies at the pointer is lent to a safe function for a
 -- lifetime that is made for the call, and comes back once that is ended. It is the same walk for
 -- each such export.
-use Rattle.std.proofs.Common.{ℕ, List, [], ◌∷◌, ◌++◌, refl, w32}
+use Rattle.std.proofs.Common.{ℕ, List, [], ◌∷◌, refl, w32}
 use seplogic.Ra.Ura.{Ura}
 use base.Fraction.{full_share}
-use mir.Syntax.{Body as Code, Callee, Fn, named, erased, imm, mut, ty_int, ty_ptr, ty_ref, deref, place}
-use mir.Syntax.{copy, local, value_local, assign, rv_opd, addr_of, call, seq, block, return}
-use mir.Val.{Val, vptr}
-use base.Logic.{SProp, ent, sep, emp, via, snd∗, never, never_e, id⊢}
-use base.Fml.{Lft, GName, Share, ftrue, fsep, flft, flent, fex}
-use prog.Wp.{Calls, Loops, WpFn}
+use mir.Syntax.{Body as Code, Callee, Fn, Local, named, erased, mut, ty_int, ty_ptr, ty_ref, deref, place}
+use mir.Syntax.{copy, local, value_local, assign, rv_opd, addr_of, call, seq, return}
+use base.Logic.{ent, sep, id⊢}
+use base.Fml.{Lft, Share}
+use prog.Wp.{Calls, Loops}
 use types.Logic.{Logic, sem}
-use types.SemTy.{Body}
-use contract.Monad.{fact}
-use types.Kit.{Item, keep, at_ret, ‵, raw, ◌⊛◌, some, later, ◌$◌, ◌∵◌, !, qed, by, move, use1, use3, split, join, pick, fsplit, fjoin, fpack, await}
-use types.Tokens.{lft_new, lft_end}
+use types.Kit.{keep, at_ret, ‵, raw, ◌⊛◌, ◌$◌, ◌∵◌, !, qed, by, move, drop, split, fsplit, fjoin}
 use types.Run.{exec, stop, addr, of_opd, and_then, no_more, first, blocks, returns, enter}
 use types.ByLocal.{env, alloc_all, pass_all, free_all, look_at, get, sets, sets_last, lands_as, through}
 use sound.WpLaws.{FmC}
 use denote.Exit.{yes}
-use denote.RattleType.{RattleType, owns}
+use denote.RattleType.{owns}
 use denote.Laws.{Is, shows}
-use denote.Memory.{part_at, mem, pointee, lone}
+use denote.Memory.{part_at, pointee, lone}
 use denote.Plain.{uint_Lawful}
-use denote.Builtin.{One, u32, RefOf, RefMutOf}
-use denote.Ref.{MutBor, MutRef, Bor, ShrRef, mut_vals, shr_vals}
-use denote.Lend.{lends_ref, ref_back}
-use denote.RawPtr.{Ptr, block_ptr, null_ptr, RawPtr, rawptr_vals, lies_at}
+use denote.Builtin.{u32, RefMutOf}
+use denote.Ref.{MutBor, MutRef, Bor, mut_vals, mut_Tells}
+use denote.RawPtr.{Ptr, block_ptr, RawPtr, rawptr_vals, rawptr_Tells, lies_at}
 use denote.Signature.{plain}
-use denote.Steps.{peeks, heard, nothing}
-use denote.Triple.Statement.{Contract, Triple}
-use denote.Triple.Call.{calls_at}
-use denote.Triple.Clauses.{Clauses, Ended, Lasts, lasts, closing}
-use denote.Triple.Entry.{on_entry}
-use denote.Triple.Spec.{triple_of}
-use denote.Triple.Walked.{Stays, stay_dropped, gave_ref, walk_of}
+use denote.Steps.{peeks, nothing}
+use denote.Triple.Statement.{Triple}
+use denote.Triple.Clauses.{Ended}
+use denote.Triple.Entry.{alive}
+use denote.Triple.Walked.{AllGo, Goes-dropped, Goes-gave_ref, Stays, stay_dropped, gave_ref}
 use Rattle.std.proofs.raw_atomic.Walks.{leaves}
+use Rattle.clsm_c.proofs.Exporting.{Begins, Ends, Export, Exported, Lending, Outcome, Safe, Single, Walk}
+use Rattle.clsm_c.proofs.Exporting.{at_blocks, borrows, calls_lending, ended_of, export, exported, fn_of, keeps_handle, left_there, lends}
+use Rattle.clsm_c.proofs.Question.{Question, row, slot_at}
 
--- the types of the handle, of what is asked and of the answer, each of one machine value
-pub record Kinds : Type 2 where
-  pub R : RattleType
-  pub A : RattleType
-  pub B : RattleType
-  pub one-R : One R.mir
-  pub one-A : One A.mir
-  pub one-B : One B.mir
+-- the types of the handle and of the answer, and what is asked
+module _ (R : Single) (Q : Question) (B : Single) where
+  -- the safe function: a `&mut` to the handle, what is asked, a `&mut` to the answer
+  abbrev inner : Lending
+  inner = record { n = 2; R = R; ps = slot_at 3 1 tt Q ∷ RefMutOf (2 ∷ []) tt (plain (λ _. B.row)) (λ _. B.one) ∷ []; ks = (yes, (yes, tt)); S = u32 }
 
-module _ (K : Kinds) where
-  -- ---- the safe function: a `&mut` to the handle, a `&` to what is asked, a `&mut` to the answer
-  abbrev pub of_ended : Ended
-  of_ended = record {
-    signature = record {
-      lifetimes = 3;
-      outlives = [];
-      params = RefMutOf (0 ∷ []) tt (plain (λ _. K.R)) (λ _. K.one-R) ∷ RefOf (1 ∷ []) tt (plain (λ _. K.A)) (λ _. K.one-A)
-          ∷ RefMutOf (2 ∷ []) tt (plain (λ _. K.B)) (λ _. K.one-B) ∷ [];
-      result = plain (λ _. u32);
-    };
-    kept = (yes, (yes, (yes, tt)));
-  }
+  -- the export: a pointer in the place of the first
+  abbrev outer : Ended
+  outer = ended_of 2 (plain (λ _. RawPtr) ∷ slot_at 2 0 tt Q ∷ RefMutOf (1 ∷ []) tt (plain (λ _. B.row)) (λ _. B.one) ∷ []) (yes, (yes, (yes, tt))) u32
 
-  -- ---- the export: a pointer in the place of the first
-  abbrev pub ended : Ended
-  ended = record {
-    signature = record {
-      lifetimes = 2;
-      outlives = [];
-      params = plain (λ _. RawPtr) ∷ RefOf (0 ∷ []) tt (plain (λ _. K.A)) (λ _. K.one-A) ∷ RefMutOf (1 ∷ []) tt (plain (λ _. K.B)) (λ _. K.one-B) ∷ [];
-      result = plain (λ _. u32);
-    };
-    kept = (yes, (yes, (yes, tt)));
-  }
+  abbrev stayed : Stays (outer).signature.params (outer).kept
+  stayed = (stay_dropped (plain (λ _. RawPtr)) yes, (stay_dropped (slot_at 2 0 tt Q) yes, (gave_ref (1 ∷ []) tt (plain (λ _. B.row)), tt)))
 
-  abbrev pub stayed : Stays (ended).signature.params (ended).kept
-  stayed = (
-    stay_dropped (plain (λ _. RawPtr)) yes,
-    (stay_dropped (RefOf (0 ∷ []) tt (plain (λ _. K.A)) (λ _. K.one-A)) yes, (gave_ref (1 ∷ []) tt (plain (λ _. K.B)), tt)),
+  goes : {M : Type 1} {𝓤 : Ura M} (𝓛 : Logic 𝓤) → AllGo 𝓛 2 (outer).signature.params (outer).kept stayed
+  goes 𝓛 = (
+    Goes-dropped 𝓛 2 (plain (λ _. RawPtr)) yes (λ κs x g. refl),
+    (Goes-dropped 𝓛 2 (slot_at 2 0 tt Q) yes (λ κs x g. refl), (Goes-gave_ref 𝓛 2 1 tt (plain (λ _. B.row)), tt)),
   )
 
   -- what the call does: the handle and the answer before and after, what was asked, and the code
   abbrev pub Deed : Type 1
-  Deed = (K.R).Denot → (K.A).Denot → (K.R).Denot → (K.B).Denot → ℕ → Type 0
+  Deed = (R.row).Denot → (Q.parts).Asked → (R.row).Denot → (B.row).Denot → ℕ → Type 0
 
-  module _ (Does : Deed) {M : Type 1} (𝓤 : Ura M) where
-    abbrev pub of_clauses : Clauses 𝓤 of_ended
-    of_clauses κs a = record { ghost = Unit {0}; requires = λ _. emp 𝓤; ensures = λ _ r e. fact 𝓤 (Does a.0.now a.1.0.now e.0.now e.1.1.0.now r) }
-
-  module _ (Does : Deed) {M : Type 1} {𝓤 : Ura M} (𝓛 : Logic 𝓤) where
-    abbrev pub clauses : Clauses 𝓤 ended
-    clauses κs a = record {
-      ghost = (K.R).Denot;
-      requires = λ x. sem 𝓛 (lies_at K.R full_share a.0 x);
-      ensures = λ x r e. sem 𝓛 (fex (K.R).Denot (λ z. fsep (lies_at K.R full_share a.0 z) (fex (Does x a.1.0.now z e.1.1.0.now r) (λ _. ftrue))));
-    }
-
-    abbrev pub Of : Contract 𝓤
-    Of = triple_of 𝓛 (of_ended).signature (closing 𝓛 of_ended (of_clauses Does 𝓤))
+  abbrev locals : List Local
+  locals =
+      local (ty_int w32) value_local ∷ local ty_ptr value_local ∷ local ((Q.parts).ty (named 0)) value_local
+      ∷ local (ty_ref (named 1) mut (pointee (B.row).written)) value_local
+      ∷ local (ty_ref erased mut (pointee (R.row).written)) value_local ∷ local (ty_ref erased mut (pointee (R.row).written)) value_local
+      ∷ local ty_ptr value_local ∷ local ((Q.parts).ty erased) value_local ∷ local (ty_ref erased mut (pointee (B.row).written)) value_local ∷ []
 
   module _ (callee : Callee) where
-    abbrev pub rest : Code
+    abbrev rest : Code
     rest =
         seq (assign (place 4 []) (rv_opd (copy (place 5 []))))
         (seq (assign (place 7 []) (rv_opd (copy (place 2 []))))
-        (seq (assign (place 8 []) (addr_of (place 3 (deref (lone (K.B).mir) ∷ []))))
+        (seq (assign (place 8 []) (addr_of (place 3 (deref (lone (B.row).mir) ∷ []))))
         (seq (call callee (copy (place 4 []) ∷ copy (place 7 []) ∷ copy (place 8 []) ∷ []) (place 0 []))
         return)))
 
-    abbrev pub function : Fn
-    function = record {
-      lifetimes = 2;
-      outlives = [];
-      ty_params = [];
-      givens = 0;
-      params = 3;
-      locals = local (ty_int w32) value_local ∷ local ty_ptr value_local ∷ local (ty_ref (named 0) imm (pointee (K.A).written)) value_local
-          ∷ local (ty_ref (named 1) mut (pointee (K.B).written)) value_local
-          ∷ local (ty_ref erased mut (pointee (K.R).written)) value_local ∷ local (ty_ref erased mut (pointee (K.R).written)) value_local
-          ∷ local ty_ptr value_local
-          ∷ local (ty_ref erased imm (pointee (K.A).written)) value_local ∷ local (ty_ref erased mut (pointee (K.B).written)) value_local ∷ [];
-      body = seq (block (seq (assign (place 6 []) (rv_opd (copy (place 1 [])))) (assign (place 5 []) (addr_of (place 6 (deref (lone (K.R).mir) ∷ [])))))) rest;
-    }
+    abbrev function : Fn
+    function = fn_of 2 3 locals (seq (borrows 6 5 (lone (R.row).mir)) rest)
 
-module _ (K : Kinds) (Does : Deed K) (callee : Callee) {M : Type 1} {𝓤 : Ura M} (𝓛 : Logic 𝓤) (C : Calls 𝓤 𝓛.H) (Λ : Loops 𝓤 𝓛.H) (fm : FmC 𝓤 𝓛.H 𝓛.laws C)
-    (known : Triple 𝓤 (C callee) (Of K Does 𝓛)) (κ κ' : Lft) (q q' : Share) (s : Bor (K.A).Denot) (r : MutBor (K.B).Denot) (x : (K.R).Denot) where
-  open 𝓛 use {H}
+module _ (R : Single) (Q : Question) (B : Single) (Does : Deed R Q B) (callee : Callee) {M : Type 1} {𝓤 : Ura M} (𝓛 : Logic 𝓤) where
+  abbrev outcome : Outcome (lends (inner R Q B))
+  outcome κs a r e = Does a.0.now a.1.0.now e.0.now e.1.1.0.now r
 
-  abbrev A : RattleType
-  A = K.A
+  abbrev X : Export 𝓛
+  X = export (outer R Q B) (stayed R Q B) (λ κs a. keeps_handle 𝓛 (outer R Q B) κs R.row a.0 (λ x z r e. Does x a.1.0.now z e.1.1.0.now r))
+      (function R Q B callee) callee (Safe 𝓛 (lends (inner R Q B)) outcome)
 
-  abbrev B : RattleType
-  B = K.B
+  module _ (C : Calls 𝓤 𝓛.H) (Λ : Loops 𝓤 𝓛.H) (fm : FmC 𝓤 𝓛.H 𝓛.laws C) (known : Triple 𝓤 (C callee) (Safe 𝓛 (lends (inner R Q B)) outcome))
+      (κ κ' : Lft) (q q' : Share) (s : Bor (Q.parts).Asked) (r : MutBor (B.row).Denot) (x : (R.row).Denot)
+      (asked : Is (row Q.parts (named 0) κ) s ((Q.parts).val s ∷ [])) where
+    abbrev bound : Ptr → (Walk X).Ghost
+    bound p = (((κ, (κ', tt)), (q, (q', tt)), tt, (p, (s, (r, tt))), (rawptr_vals p, ((Q.parts).val s ∷ [], (mut_vals r, tt)))), x)
 
-  abbrev R : RattleType
-  R = K.R
-
-  abbrev passed : Ptr → List Val × (List Val × (List Val × Unit {0}))
-  passed p = (rawptr_vals p, (shr_vals s, (mut_vals r, tt)))
-
-  abbrev Entry : Ptr → SProp 𝓤
-  Entry p = on_entry 𝓛 (ended K).signature (κ, (κ', tt)) (q, (q', tt)) (p, (s, (r, tt))) (passed p)
-
-  abbrev bound : Ptr → (walk_of 𝓛 (ended K) (stayed K) (clauses K Does 𝓛)).Ghost
-  bound p = (((κ, (κ', tt)), (q, (q', tt)), tt, (p, (s, (r, tt))), passed p), x)
-
-  abbrev Post : Ptr → Val → SProp 𝓤
-  Post p = (walk_of 𝓛 (ended K) (stayed K) (clauses K Does 𝓛)).post (bound p)
-
-  abbrev fn : Fn
-  fn = function K callee
-
-  abbrev Runs : Ptr → SProp 𝓤
-  Runs p = WpFn 𝓤 H C Λ fn (rawptr_vals p ++ (shr_vals s ++ (mut_vals r ++ []))) (Post p)
-
-  abbrev toks : Item 𝓤
-  toks = ‵ (flft κ q) ⊛ (‵ (flft κ' q') ⊛ ‵ ftrue)
-
-  module _ (b o : ℕ) where
-    abbrev p : Ptr
-    p = block_ptr b o
-
-    walk : ent 𝓤 (sep 𝓤 (Entry p) (sem 𝓛 (part_at R full_share x b o))) (Runs p)
-    walk =
-        qed 𝓛 ((toks ⊛ ‵ (owns (RawPtr ∷ ShrRef (named 0) κ A ∷ MutRef (named 1) κ' B ∷ []) (p, (s, (r, tt))) (passed p)))
-        ∷ ‵ (part_at R full_share x b o) ∷ []) ∵
-        split ! $ split ! $ move ! (1 ∷ []) $ split ! $ move ! (3 ∷ []) $ fsplit ! $ move ! (1 ∷ []) $ fsplit ! $ move ! (1 ∷ []) $ fsplit ! $
-        -- [answer; true; ask; at; κ' alive; true; κ alive; the handle lies there]
-        enter ! C Λ fn (vptr b o ∷ shr_vals s ++ (mut_vals r ++ [])) _ $
-        alloc_all ! (λ l. pass_all ! refl ((tt, tt), ((tt, tt), ((tt, tt), tt))) $
-        first ! $ blocks ! $
+    walk : (b o : ℕ) → ent 𝓤 (sep 𝓤 (Begins X (bound (block_ptr b o))) (sem 𝓛 (part_at R.row full_share x b o))) (Ends X C Λ (bound (block_ptr b o)))
+    walk b o =
+        let y : (Walk X).Ghost = bound (block_ptr b o) in
+        qed 𝓛 ((raw (alive 𝓛 (outer R Q B).signature y.0.0 y.0.1) ⊛ ‵ (owns (RawPtr ∷ row Q.parts (named 0) κ ∷ MutRef (named 1) κ' B.row ∷ []) y.0.3 y.0.4))
+        ∷ ‵ (part_at R.row full_share x b o) ∷ []) ∵
+        split ! $ move ! (1 ∷ []) $ fsplit ! $ drop ! $
+        -- [what the others own; the tokens; the handle]
+        enter ! C Λ (X).code ((Walk X).args y) _ $
+        alloc_all ! (λ l. pass_all ! refl ((tt, tt), (Q.typed (named 0) (named 0) κ s asked, ((tt, tt), tt))) $
+        first ! $ blocks ! $ sets ! (of_opd ! (get ! refl)) refl (tt, tt) $ sets_last ! (addr ! (through ! refl (stop !))) refl (tt, tt) $
+        exec ! C Λ (env (X).code.locals l) (rest R Q B callee) (at_ret (env (X).code.locals l) ((Walk X).post y)) $
         sets ! (of_opd ! (get ! refl)) refl (tt, tt) $
-        sets_last ! (addr ! (through ! refl (stop !))) refl (tt, tt) $
-        exec ! C Λ (env (fn).locals l) (rest K callee) (at_ret (env (fn).locals l) (Post p)) $
-        sets ! (of_opd ! (get ! refl)) refl (tt, tt) $
-        sets ! (of_opd ! (get ! refl)) refl (tt, tt) $
-        sets ! (addr ! (through ! refl (stop !))) refl (tt, tt) $
-        -- the handle is lent for κ₀
-        lft_new ! tt (λ α. let κ₀ : Lft = α ∷ [] in move ! (8 ∷ []) $
-        use1 𝓛 (later (some (λ (γ : GName). ‵ ((MutRef (named 0) κ₀ R).own_val (record { ref_ptr = (b, o); ghost_name = γ; now = x }) (vptr b o ∷ []))
-        ⊛ ‵ (flent κ₀ (Body (mem R) b o γ)))))
-        (lends_ref 𝓛 R (named 0) κ₀ x b o) $ await ! tt $ pick ! (λ γ. split ! $
-        -- [the reference; the lender's part; κ₀ alive; answer; true; ask; at; κ' alive; true; κ
-        -- alive]
-        let h : MutBor R.Denot = record { ref_ptr = (b, o); ghost_name = γ; now = x } in
-        let y : (Of K Does 𝓛).Ghost =
-        (((κ₀, (κ, (κ', tt))), (full_share, (q, (q', tt))), tt, (h, (s, (r, tt))), (vptr b o ∷ [], (shr_vals s, (mut_vals r, tt)))), tt) in
-        move ! (3 ∷ 4 ∷ []) $ fjoin ! $ move ! (4 ∷ 0 ∷ []) $ fjoin ! $ move ! (1 ∷ 0 ∷ []) $ fjoin ! $
-        move ! (4 ∷ 5 ∷ []) $ join ! $ move ! (5 ∷ 0 ∷ []) $ join ! $ move ! (3 ∷ 0 ∷ []) $ join ! $ join ! $ nothing ! $ move ! (1 ∷ 0 ∷ []) $ join ! $
-        use1 𝓛 (raw ((Of K Does 𝓛).pre y)) (id⊢ 𝓤 _) $
-        calls_at ! fm (Of K Does 𝓛) known y (and_then ! (get ! refl) (and_then ! (get ! refl) (and_then ! (get ! refl) (no_more !)))) (λ v.
-        use1 𝓛 (later (some (λ (c : ℕ). ((‵ (flft κ₀ full_share) ⊛ toks) ⊛ ‵ (u32.own_val c (v ∷ [])))
-        ⊛ some (λ (ws : Lasts (of_ended K) (κ₀, (κ, (κ', tt))) (h, (s, (r, tt)))).
-        ‵ (lasts (of_ended K) (κ₀, (κ, (κ', tt))) (h, (s, (r, tt))) ws) ⊛ raw (fact 𝓤 (Does x s.now ws.0 ws.1.1.0 c)))))) (id⊢ 𝓤 _) $ await ! tt $
-        pick ! (λ c. split ! $ move ! (1 ∷ []) $ pick ! (λ ws. split ! $ move ! (1 ∷ []) $
-        heard ! (Does x s.now ws.0 ws.1.1.0 c) (λ does.
-        -- [the last values; the tokens and the code; the lender's part; at]
-        fsplit ! $ fsplit ! $ move ! (3 ∷ []) $ split ! $ split ! $ lft_end ! tt $ move ! (0 ∷ 6 ∷ 3 ∷ []) $
-        use3 𝓛 (later (‵ (part_at R full_share ws.0 b o))) (ref_back 𝓛 R κ₀ γ ws.0 b o) $ await ! tt $
-        -- [the handle lies there; the tokens; the code; the closed borrow; the last values; at]
-        move ! (2 ∷ []) $ peeks ! u32 (Is u32) (shows 𝓛 u32) c (v ∷ []) (λ is. lands_as ! refl refl ((uint_Lawful 𝓛 w32).typed c _ is).0 $
+        sets ! (of_opd ! (get ! refl)) refl (Q.typed (named 0) erased κ s asked) $
+        sets ! (addr ! (through ! refl (stop !))) refl (tt, tt) $ move ! (1 ∷ []) $
+        calls_lending ! fm (inner R Q B) outcome known y.0.0 y.0.1 b o x (λ _. y.0.3.1) (λ _. y.0.4.1)
+        (‵ (owns (row Q.parts (named 0) κ ∷ MutRef (named 1) κ' B.row ∷ []) y.0.3.1 y.0.4.1)) (λ κ₀. id⊢ 𝓤 _)
+        (λ κ₀ γ. and_then ! (get ! refl) (and_then ! (get ! refl) (and_then ! (get ! refl) (no_more !)))) (λ κ₀ γ v c ws does.
+        move ! (1 ∷ []) $ peeks ! u32 (Is u32) (shows 𝓛 u32) c (v ∷ []) (λ is. lands_as ! refl refl ((uint_Lawful 𝓛 w32).typed c _ is).0 $
         returns ! (look_at ! 0 refl) $ free_all ! refl $
-        nothing ! $ fpack ! (Does x s.now ws.0 ws.1.1.0 c) (λ _. ftrue) does $ move ! (2 ∷ 0 ∷ []) $ fjoin ! $
-        fpack ! R.Denot (λ z. fsep (lies_at R full_share p z) (fex (Does x s.now z ws.1.1.0 c) (λ _. ftrue))) ws.0 $
-        nothing ! $ move ! (0 ∷ 5 ∷ []) $ fjoin ! $
-        -- [what is left of the parameters; the handle; the code; the tokens; ..]
-        move ! (3 ∷ 0 ∷ 2 ∷ 1 ∷ []) $ keep ! (0 ∷ 1 ∷ 2 ∷ 3 ∷ []) $
-        by ! (leaves 𝓛 (ended K) (stayed K) (clauses K Does 𝓛) (bound p) v c (tt, (tt, (ws.1.1.0, tt))) (tt, (tt, (tt, tt))))))))))))
+        -- [the code; the tokens; the last values; the handle]
+        move ! (3 ∷ []) $ left_there ! R.row (block_ptr b o) (λ z. Does x s.now z ws.1.1.0 c) ws.0 does $ nothing ! $ move ! (0 ∷ 4 ∷ []) $ fjoin ! $
+        keep ! (3 ∷ 0 ∷ 2 ∷ 1 ∷ []) $
+        by ! (leaves 𝓛 (X).ended (X).stayed (X).clauses y v c (tt, (tt, (ws.1.1.0, tt))) (tt, (tt, (tt, tt)))))))
 
-  pub lent : (p : Ptr) → ent 𝓤 (sep 𝓤 (Entry p) (sem 𝓛 (lies_at R full_share p x))) (Runs p)
-  lent (block_ptr b o) = walk b o
-  lent null_ptr = via 𝓤 (never 𝓤) (snd∗ 𝓤 (Entry null_ptr) (never 𝓤)) (never_e 𝓤 _)
+    walked : (p : Ptr) → ent 𝓤 (sep 𝓤 (Begins X (bound p)) (sem 𝓛 (lies_at R.row full_share p x))) (Ends X C Λ (bound p))
+    walked = at_blocks 𝓛 (λ p. lies_at R.row full_share p x) refl (λ p. Begins X (bound p)) (λ p. Ends X C Λ (bound p)) walk
+
+  pub lent : Exported X
+  lent = exported X (goes R Q B 𝓛) (λ κs. (rawptr_vals, ((λ s. (Q.parts).val s ∷ []), (mut_vals, tt))))
+      (λ κs. (rawptr_Tells, (Q.tells (named 0) κs.0, (mut_Tells (named 1) κs.1.0 B.row, tt))))
+      (λ C Λ fm known κs qs bounds a x are. walked C Λ fm known κs.0 κs.1.0 qs.0 qs.1.0 a.1.0 a.1.1.0 x are.1.0 a.0)

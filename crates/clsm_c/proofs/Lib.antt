@@ -1,8 +1,10 @@
 mod Dealt
+mod Exporting
 mod Filled
 mod GivenBack
 mod HandedOut
+mod Handles
 mod Lent
-mod Listed
 mod Members
+mod Question
 mod Rows

@@ -20,7 +20,7 @@ use clsm_handle::{
     BatchError, Change, Config, Got, OpenError, Rmw, Stopped, Time, TryBatchError, TryFroze,
     TryPutError, TrySwept, Value, Worn,
 };
-use std::alloc::{AllocError, Global};
+use std::alloc::Global;
 
 // ---- stores
 
@@ -245,16 +245,6 @@ enum NoMembers {
     Memory,
 }
 
-impl From<AllocError> for NoMembers {
-    ghost use Rattle.clsm_c.specs.declared.calls.NoMembers.TheVariants.{Memory};
-
-    ghost from_gives = { λ _ e. e ≡ Memory };
-
-    fn from(_: AllocError) -> NoMembers {
-        NoMembers::Memory
-    }
-}
-
 /// The member that the row is: a write of its value, or a removal if it has none.
 fn to_member(row: &CoreRow) -> Option<(u64, Change)>
     ensures member { IfSome result (IsMember row.now) }
@@ -272,7 +262,9 @@ fn to_members(alloc: Global, rows: &[CoreRow]) -> Result<Vec<(u64, Change)>, NoM
     ensures members { IfOk result (λ members. AreMembers rows.now members.items) }
     ensures long { IfErr result (λ error. error ≡ NoMembers.TooLong → HasLong rows.now) }
 {
-    let mut members = Vec::with_capacity(alloc, rows.len())?;
+    let Ok(mut members) = Vec::with_capacity(alloc, rows.len()) else {
+        return Err(NoMembers::Memory);
+    };
     for row in rows {
         match to_member(row) {
             Some(member) => members.push_reserved(member),

@@ -1,5 +1,5 @@
 //! The parts of reads.
-use crate::cells::{newest, settle, value_at};
+use crate::cells::{Span, is_written_in, newest, settle, value_at};
 use crate::deal::{is_change, key_of};
 use crate::made::{Made, Stop};
 use crate::place::{Place, Setting, Stage};
@@ -139,9 +139,13 @@ impl Place {
     }
 
     fn compare(&self, made: &mut Made, setting: &Setting, drawn: Time) -> Result<Place, Stop> {
-        let key = key_of(setting.deal);
-        let found = newest(made, setting.layout, self.component, drawn, key)?;
-        if found.is_none_or(|written| written < self.time) {
+        let span = Span {
+            component: self.component,
+            key: key_of(setting.deal),
+            from: self.time,
+            until: drawn,
+        };
+        if !is_written_in(made, setting.layout, &span)? {
             return Ok(self.at(Stage::Fill));
         }
         made.step(Step::Cancel(drawn))?;

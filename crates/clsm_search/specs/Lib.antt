@@ -4,3 +4,4 @@ pub mod Staying
 pub mod Ordering
 pub mod Seeking
 pub mod Versions
+pub mod Spans

@@ -12,6 +12,7 @@ mod hints;
 mod list;
 mod scale;
 mod searching;
+mod spans;
 mod versions;
 
 pub use buckets::{Guess, NEAR, guess_of, nearest};
@@ -25,3 +26,4 @@ pub use hints::{
 pub use list::{Epoch, has_value, newest_from, seek, value};
 pub use scale::Scale;
 pub use searching::newest;
+pub use spans::{Span, is_written_in};

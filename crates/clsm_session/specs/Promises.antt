@@ -2,13 +2,12 @@
 -- hears, promise what the store's do, by the records of `Promises.antt` of clsm_store. Here is what
 -- it promises otherwise: its writes wait until there is room for them. `old` is the seat as the
 -- call found it, `new` as it left it, and `result` what it answered.
-use Rattle.std.specs.Prelude.{◌≡◌, ℕ, List, Option, None, IfNone, IfSome, Result, IfErr, IfOk}
+use Rattle.std.specs.Prelude.{◌≡◌, ℕ, List, Option, Result, IfErr, IfOk}
 use Rattle.clsm_model.specs.declared.record.Deed.{Deed}
-use Rattle.clsm_model.specs.declared.record.Deed.TheVariants.{Batch, GetAt, Rmw as ChangeOf}
+use Rattle.clsm_model.specs.declared.record.Deed.TheVariants.{Batch, Rmw as ChangeOf}
 use Rattle.clsm_model.specs.declared.slot.Change.{Change}
 use Rattle.clsm_model.specs.Right.{Member}
 use Rattle.clsm_model.specs.Seats.{FitsDeed}
-use Rattle.clsm_store_calls.specs.declared.got.Got.{Got}
 use Rattle.clsm_store_calls.specs.declared.got.Rmw.{Rmw}
 use Rattle.clsm_store_calls.specs.Seats.{Answers, IsSameSeat, Refuses, SeatState}
 use Rattle.clsm_store_calls.specs.Tally.{CancelsNone}
@@ -77,17 +76,6 @@ pub record WaitsToPutIfAbsent (old new : SeatState) (key : ℕ) (value : List �
   pub change : WaitsToChange old new key result
   -- the change sets the value if there was none, and else keeps the old one
   pub claimed : IfOk result (λ rmw. rmw.change ≡ put_if_absent rmw.old value)
-
--- ---- reads
-
--- get_at, which asks for no open snapshot
-pub record GetsAtIfOpen (old new : SeatState) (key : ℕ) (result : Option Got) : Type 0 where
-  -- answered: one record more, of the value at the snapshot's time
-  pub answers : IfSome result (λ got. Answers old new got.time (GetAt key got.value))
-  -- no snapshot was open, and nothing was done
-  pub none : IfNone result ((new ≡ old) × (old.snapshot ≡ None))
-  -- it counted nothing
-  pub lock : new.tally ≡ old.tally
 
 -- ---- calls as values
 

@@ -1,5 +1,5 @@
 -- A sweep goes on from a part of it that was done.
-use Rattle.std.proofs.Common.{◌∙◌, ◌+◌, ap, ℕ, ◌≤◌, Ok, Err, Result}
+use Rattle.std.proofs.Common.{◌∙◌, ◌+◌, ap, refl, ℕ, ◌≤◌, Ok, Err, Result}
 use Rattle.std.specs.Prelude.{⊤}
 use Rattle.clsm_store_calls.specs.Looking.{LooksAtClock, drawn_of}
 use Rattle.clsm_store_calls.specs.Seats.{CleanState, FrozenState, RetiredState}
@@ -9,7 +9,8 @@ use Rattle.clsm_store.specs.declared.sweeping.Stopped.{Stopped}
 use Rattle.clsm_store.specs.declared.sweeping.Stopped.TheVariants.{Worn, RunFull, Pinned}
 use Rattle.clsm_store.specs.declared.phase.TryFreezeError.{TryFreezeError}
 use Rattle.clsm_store.specs.declared.phase.TryFreezeError.TheVariants.{Busy as TryBusy, Worn as TryWorn}
-use Rattle.clsm_store.specs.Phase.{Freezes, Merges, RefusesFreeze}
+use Rattle.clsm_store.specs.Phase.{Freezes, Merges}
+use Rattle.clsm_store.specs.Promises.{RefusesFreeze, TriesToFreezeEpoch}
 use Rattle.clsm_store.specs.Sweeping.{SweepsClean, SweepsCleanIf, SweepsFrozen, SweepsRetired, TrySweepsClean, done_of, enough, tried_of, unfrozen_of}
 
 -- the epoch is merged
@@ -40,8 +41,14 @@ pub tried_on : (used : ℕ) (old looked : CleanState) (new : Phase) (answer : Re
 tried_on used old looked new (Ok done) looks many swept = (looked, looks, many, swept)
 tried_on used old looked new (Err stopped) looks many swept = (looked, looks, many, swept)
 
+-- the lock was tried once, and the epoch is frozen as by a freeze that waits
+pub frozen_by_try : (old : CleanState) (frozen : FrozenState) → TriesToFreezeEpoch old (Ok frozen)
+    → Freezes (Clean old) (Frozen frozen) (Ok old.merger.merges)
+frozen_by_try old frozen tried =
+    (record { frozen = tried.frozen; floor = tried.floor; noted = tried.noted; worn = tt }, refl)
+
 -- and nothing was frozen
 pub unfrozen_on : (used : ℕ) (old looked new : CleanState) (error : TryFreezeError) → LooksAtClock old looked → enough used looked ≤ drawn_of looked
     → RefusesFreeze looked new error → TrySweepsClean used old (Clean new) (unfrozen_of error)
 unfrozen_on used old looked new TryBusy looks many refuses = refuses ∙ ap (λ (s : CleanState). record s { clock = new.clock }) looks
-unfrozen_on used old looked new (TryWorn worn) looks many refuses = (looked, looks, many, refuses)
+unfrozen_on used old looked new (TryWorn worn) looks many refuses = (looked, looks, many, record { frozen = tt; floor = tt; noted = tt; worn = refuses })

@@ -1,8 +1,12 @@
 -- The page to read first: what each call of a seat promises, all of it, once. `Store` makes a call
 -- by a seat that it is given, `Caller` by its own, and both promise the same. `old` is the seat as
 -- the call found it, `new` as it left it, and `result` what it answered. A call asks only for a
--- seat of its store, and `get_at` also for an open snapshot.
-use Rattle.std.specs.Prelude.{◌≡◌, ℕ, ◌≤◌, List, Option, None, Some, IfNone, IfSome, Result, IfErr, IfOk}
+-- seat of its store, and `get_at` also for an open snapshot. At the end stand the merger's calls:
+-- each asks for its store's token in one phase, `old`, and hands one back.
+use Rattle.std.specs.Prelude.{◌≡◌, ℕ, ◌+◌, ◌*◌, ◌^◌, ◌<◌, ◌≤◌, List, replicate}
+use Rattle.std.specs.Prelude.{Option, None, Some, IfNone, IfSome, Result, IfErr, IfOk}
+use Rattle.clsm_law.specs.Merging.{unseen}
+use Rattle.clsm_law.specs.Views.{next_word}
 use Rattle.clsm_model.specs.declared.plain_map.Memory.{Memory}
 use Rattle.clsm_model.specs.declared.record.Deed.{Deed}
 use Rattle.clsm_model.specs.declared.record.Deed.TheVariants.{Batch, Close, Get, GetAt, Rmw as ChangeOf, Scan as ScanOf, Snapshot}
@@ -11,6 +15,7 @@ use Rattle.clsm_model.specs.History.{IsBeginning}
 use Rattle.clsm_model.specs.Map.{Pair}
 use Rattle.clsm_model.specs.Right.{Member, page_deed}
 use Rattle.clsm_model.specs.Seats.{FitsDeed}
+use Rattle.clsm_runs.specs.declared.merging.RunFull.{RunFull}
 use Rattle.clsm_words.specs.Seats.{MessageState}
 use Rattle.clsm_store_calls.specs.declared.got.Counted.{Counted}
 use Rattle.clsm_store_calls.specs.declared.got.Got.{Got}
@@ -20,19 +25,31 @@ use Rattle.clsm_store_calls.specs.declared.got.Scan.{Scan}
 use Rattle.clsm_store_calls.specs.declared.refusal.BatchError.{BatchError}
 use Rattle.clsm_store_calls.specs.declared.refusal.Full.{Full}
 use Rattle.clsm_store_calls.specs.declared.refusal.Open.{Open}
+use Rattle.clsm_store_calls.specs.declared.refusal.Pinned.{Pinned}
 use Rattle.clsm_store_calls.specs.declared.refusal.TryBatchError.{TryBatchError}
 use Rattle.clsm_store_calls.specs.declared.refusal.TryPutError.{TryPutError}
+use Rattle.clsm_store_calls.specs.declared.refusal.Worn.{Worn}
+use Rattle.clsm_store_calls.specs.Agreeing.{AgreesWith}
 use Rattle.clsm_store_calls.specs.Batching.{CountsBatch, CountsTryBatch, IsRefusedBatch, IsRefusedTryBatch}
 use Rattle.clsm_store_calls.specs.Changing.{changed_at}
+use Rattle.clsm_store_calls.specs.Looking.{StaysClean}
+use Rattle.clsm_store_calls.specs.Merging.{IsRunFull, TakesFloor}
+use Rattle.clsm_store_calls.specs.Reclaiming.{AreAllQuiet, IsLowestLoud}
 use Rattle.clsm_store_calls.specs.Scanning.{CountsKeys, IsAtClock, ScansNow, VisitsKeys}
-use Rattle.clsm_store_calls.specs.Seats.{Answers, GivesUpForWrites, IsFull, Refuses, SeatState, StoreId, known_by}
+use Rattle.clsm_store_calls.specs.Seats.{Answers, GivesUpForWrites, IsFull, IsSameSeat, Refuses, SeatState, StoreId, known_by}
+use Rattle.clsm_store_calls.specs.Seats.{CleanState, FrozenState, RetiredState}
 use Rattle.clsm_store_calls.specs.Tally.{CancelsNone, CountsTry, TakesLockOnce, TakesNoLock}
 use Rattle.clsm_store_calls.specs.Trying.{RefusesTry}
 use Rattle.clsm_store_calls.specs.TryingChange.{CountsTryChange}
 use Rattle.clsm_store.specs.Changes.{Replaces, added, put_if_absent}
 use Rattle.clsm_store.specs.declared.pages.Pages.{Pages}
+use Rattle.clsm_store.specs.declared.phase.TryFreezeError.{TryFreezeError}
+use Rattle.clsm_store.specs.declared.phase.TryFreezeError.TheVariants.{Busy, Worn as WornToo}
+use Rattle.clsm_store.specs.declared.play.answer.Answer.{Answer}
+use Rattle.clsm_store.specs.declared.play.call.Call.{Call}
 use Rattle.clsm_store.specs.Meetings.{IsUnrecorded, Meets, told_by}
 use Rattle.clsm_store.specs.Paging.{ReadsNext}
+use Rattle.clsm_store.specs.Play.{CountsCall, PlaysCall, ReadsAtClock, WantsMemory}
 
 -- ---- writes
 
@@ -288,8 +305,106 @@ pub record LetsMeet (first first' second second' : SeatState) (result : ℕ) : T
   -- the other knows all that the one knows
   pub begins : IsBeginning (known_by first') (known_by second')
 
+-- ---- calls as values
+
+-- play
+pub record Plays (call : Call) (old new : SeatState) (result : Answer) : Type 0 where
+  -- answered as the method of the call's name answers
+  pub plays : PlaysCall call old new result
+  -- it counted what that method counts
+  pub counts : CountsCall call old new result
+  -- a read's time is that of the method
+  pub clock : ReadsAtClock call old new result
+  -- answered that memory ran out: no record more
+  pub memory : WantsMemory result → Refuses old new
+  -- it is the same seat, which forgot nothing
+  pub same : IsSameSeat old new
+
+-- get_at as it is played, and as a session makes it: it asks for no open snapshot
+pub record GetsAtIfOpen (old new : SeatState) (key : ℕ) (result : Option Got) : Type 0 where
+  -- answered: as get_at
+  pub answers : IfSome result (λ got. Answers old new got.time (GetAt key got.value))
+  -- no snapshot was open, and nothing was done
+  pub none : IfNone result ((new ≡ old) × (old.snapshot ≡ None))
+  -- it counted nothing
+  pub lock : new.tally ≡ old.tally
+
+-- ---- the merger
+
+-- freeze
+pub record FreezesEpoch (old : CleanState) (result : Result FrozenState (CleanState × Worn)) : Type 0 where
+  -- frozen: it held the lock once, and the store and the number of merges are as before
+  pub frozen : IfOk result (λ frozen. frozen.merger ≡ record old.merger { holds = next_word old.merger.holds })
+  -- and so are the floor and the rounds
+  pub floor : IfOk result (λ frozen. (frozen.floor ≡ old.floor) × (frozen.rounds ≡ old.rounds))
+  -- and no time is noted, as no round was made for this epoch yet
+  pub noted : IfOk result (λ frozen. frozen.noted ≡ None)
+  -- refused: the next limit would pass 2^62, and nothing was done
+  pub worn : IfErr result (λ refused. (refused.0 ≡ old) × (2 ^ 62 < (old.merger.merges + 2) * old.merger.store.layout.cells))
+
+-- a try to freeze was refused: a caller held the lock, and nothing was done; or the next limit
+-- would pass 2^62
+abbrev pub RefusesFreeze : CleanState → CleanState → TryFreezeError → Type 0
+RefusesFreeze old new Busy = StaysClean old new
+RefusesFreeze old new (WornToo _) = (new ≡ old) × (2 ^ 62 < (old.merger.merges + 2) * old.merger.store.layout.cells)
+
+-- try_freeze
+pub record TriesToFreezeEpoch (old : CleanState) (result : Result FrozenState (CleanState × TryFreezeError)) : Type 0 where
+  -- as freeze
+  pub frozen : IfOk result (λ frozen. frozen.merger ≡ record old.merger { holds = next_word old.merger.holds })
+  -- as freeze
+  pub floor : IfOk result (λ frozen. (frozen.floor ≡ old.floor) × (frozen.rounds ≡ old.rounds))
+  -- as freeze
+  pub noted : IfOk result (λ frozen. frozen.noted ≡ None)
+  -- refused: as freeze, or a caller held the lock, and nothing was done
+  pub refused : IfErr result (λ refused. RefusesFreeze old refused.0 refused.1)
+
+-- meet, of a frozen epoch; it takes the seat from `before` to `after`
+pub record MeetsSeat (old new : FrozenState) (before after : SeatState) : Type 0 where
+  -- the token stays as it was
+  pub token : new ≡ old
+  -- and so does the seat
+  pub seat : after ≡ before
+  -- the epoch's writes and the runs are those of a history that begins with what the seat knows
+  pub agrees : AgreesWith before.past old
+
+-- merge
+pub record MergesEpoch (old : FrozenState) (result : Result RetiredState (FrozenState × RunFull)) : Type 0 where
+  -- merged: one merge more
+  pub retired : IfOk result (λ retired. retired.merger ≡ record old.merger { merges = old.merger.merges + 1 })
+  -- and no seat was looked at yet for what this retired
+  pub unseen : IfOk result (λ retired. retired.readers ≡ replicate old.merger.store.layout.seats unseen)
+  -- it took a floor, in one round of looks
+  pub floor : IfOk result (λ retired. TakesFloor old retired.floor retired.rounds retired.noted)
+  -- by which there was room
+  pub fits : IfOk result (λ retired. IsRunFull old retired.floor → ⊥)
+  -- refused: but for the floor, the rounds and the time noted, the token is as it was
+  pub frozen : IfErr result (λ refused. refused.0 ≡ record old { floor = refused.0.floor; rounds = refused.0.rounds; noted = refused.0.noted })
+  -- it took a floor then, too
+  pub refloored : IfErr result (λ refused. TakesFloor old refused.0.floor refused.0.rounds refused.0.noted)
+  -- by which there was no room
+  pub full : IfErr result (λ refused. IsRunFull old refused.0.floor)
+
+-- reclaim
+pub record ReclaimsRetired (old : RetiredState) (result : Result CleanState (RetiredState × Pinned)) : Type 0 where
+  -- reclaimed: the store, the number of merges, the floor and the rounds are as before
+  pub clean : IfOk result (λ clean. clean ≡ record {
+    merger = old.merger;
+    floor = old.floor;
+    rounds = old.rounds;
+    looks = clean.looks;
+    clock = clean.clock;
+    readers = clean.readers;
+  })
+  -- and each seat was found quiet, by one look
+  pub quiet : IfOk result (λ clean. AreAllQuiet old.readers clean.readers)
+  -- refused: but for what was seen of the seats, the token is as it was
+  pub retired : IfErr result (λ refused. refused.0 ≡ record old { readers = refused.0.readers })
+  -- the seat that is named was looked at and not found quiet; all lower ones are
+  pub pinned : IfErr result (λ refused. IsLowestLoud old.readers refused.0.readers refused.1.0)
+
 -- ---- elsewhere
 
--- `room`: `FindsRoom` in `Looking.antt` of clsm_store_calls. `play`: `PlaysCall`, `CountsCall` and
--- `ReadsAtClock` in `Play.antt`. `settle`: `AreMet` in `Meetings.antt`, and `IsWholeHistory` in
--- `Headline.antt`. The merger's calls: `Phase.antt`, `Freezing.antt` and `Sweeping.antt`.
+-- `room`: `FindsRoom` in `Looking.antt` of clsm_store_calls. `settle`: `AreMet` in `Meetings.antt`,
+-- and `IsWholeHistory` in `Headline.antt`. The merger's calls of a `Phase`, which may be any, and
+-- its sweeps: `Phase.antt`, `Freezing.antt` and `Sweeping.antt`.

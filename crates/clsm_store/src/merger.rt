@@ -2,7 +2,7 @@
 //! is.
 ghost use Rattle.std.specs.Prelude.{◌≡◌, IfOk};
 ghost use Rattle.clsm_store.specs.declared.phase.Phase.TheVariants.{Clean as CleanPhase};
-ghost use Rattle.clsm_store.specs.Phase.{Freezes, Meets, Merges, Reclaims, merger_in};
+ghost use Rattle.clsm_store.specs.Phase.{Freezes, MeetsMerger, Merges, Reclaims, merger_in};
 ghost use Rattle.clsm_store.specs.Sweeping.{Sweeps, SweepsIf};
 
 use crate::phase::{FreezeError, MergeError, NotFrozen, Phase, ReclaimError};
@@ -48,9 +48,7 @@ impl<'a, P: Pace + Drop> Merger<'a, P> {
     /// As `Frozen::meet`: the seat is one of the store's. Refused in any other phase.
     pub fn meet(&mut self, seat: &mut Seat) -> Result<(), NotFrozen>
         requires { seat.old.store ≡ self.old.store.now }
-        ensures phase { self.new.phase ≡ self.old.phase }
-        ensures seat { seat.new ≡ seat.old }
-        ensures meets { Meets self.old.phase seat.old.past result }
+        ensures { MeetsMerger self.old.phase self.new.phase seat.old seat.new result }
     {
         self.phase.meet(self.store, seat)
     }

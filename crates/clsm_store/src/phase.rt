@@ -1,6 +1,6 @@
 //! The merger's token of a store, in whichever phase it is.
 ghost use Rattle.std.specs.Prelude.{◌≡◌};
-ghost use Rattle.clsm_store.specs.Phase.{Freezes, Meets, Merges, Reclaims, merger_in};
+ghost use Rattle.clsm_store.specs.Phase.{Freezes, MeetsMerger, Merges, Reclaims, merger_in};
 
 use crate::merger::{Clean, Frozen, Retired};
 use crate::seat::Seat;
@@ -104,9 +104,7 @@ impl Phase {
     ) -> Result<(), NotFrozen>
         requires token { (merger_in self.old).store ≡ store.now }
         requires seat { seat.old.store ≡ store.now }
-        ensures phase { self.new ≡ self.old }
-        ensures seat { seat.new ≡ seat.old }
-        ensures meets { Meets self.old seat.old.past result }
+        ensures { MeetsMerger self.old self.new seat.old seat.new result }
     {
         match self {
             Phase::Frozen(frozen) => {

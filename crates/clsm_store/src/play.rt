@@ -1,8 +1,6 @@
 //! Calls as values: a seat makes one, and is answered.
-ghost use Rattle.std.specs.Prelude.{◌≡◌, None, IfNone, IfSome};
-ghost use Rattle.clsm_model.specs.declared.record.Deed.TheVariants.{GetAt};
-ghost use Rattle.clsm_store_calls.specs.Seats.{Answers, IsSameSeat, Refuses};
-ghost use Rattle.clsm_store.specs.Play.{CountsCall, PlaysCall, ReadsAtClock, WantsMemory};
+ghost use Rattle.std.specs.Prelude.{◌≡◌};
+ghost use Rattle.clsm_store.specs.Promises.{GetsAtIfOpen, Plays};
 
 use crate::caller::Caller;
 use crate::seat::Seat;
@@ -21,10 +19,7 @@ pub use call::Call;
 /// Reads the key under the seat's snapshot; `None` if none is open, and nothing was done then.
 fn get_at<P: Pace>(store: &Store<P>, seat: &mut Seat, key: u64) -> Option<Got>
     requires { seat.old.store ≡ store.now }
-    ensures answers { IfSome result
-        (λ got. Answers seat.old seat.new got.time (GetAt key got.value)) }
-    ensures none { IfNone result ((seat.new ≡ seat.old) × (seat.old.snapshot ≡ None)) }
-    ensures lock { seat.new.tally ≡ seat.old.tally }
+    ensures { GetsAtIfOpen seat.old seat.new key result }
 {
     seat.snapshot_time()?;
     Some(store.get_at(seat, key))
@@ -36,11 +31,7 @@ impl<P: Pace> Store<P> {
     /// nothing was done then.
     pub fn play<R: Wait>(&self, rt: &R, alloc: Global, seat: &mut Seat, call: &Call) -> Answer
         requires { seat.old.store ≡ self.now }
-        ensures plays { PlaysCall call.now seat.old seat.new result }
-        ensures counts { CountsCall call.now seat.old seat.new result }
-        ensures clock { ReadsAtClock call.now seat.old seat.new result }
-        ensures memory { WantsMemory result → Refuses seat.old seat.new }
-        ensures same { IsSameSeat seat.old seat.new }
+        ensures { Plays call.now seat.old seat.new result }
     {
         match call {
             Call::Put { key, value } => Answer::Write(self.put(rt, seat, *key, *value)),
@@ -66,11 +57,7 @@ impl<P: Pace> Store<P> {
 impl<'a, P: Pace> Caller<'a, P> {
     /// As `Store::play`.
     pub fn play<R: Wait>(&mut self, rt: &R, alloc: Global, call: &Call) -> Answer
-        ensures plays { PlaysCall call.now self.old.seat self.new.seat result }
-        ensures counts { CountsCall call.now self.old.seat self.new.seat result }
-        ensures clock { ReadsAtClock call.now self.old.seat self.new.seat result }
-        ensures memory { WantsMemory result → Refuses self.old.seat self.new.seat }
-        ensures same { IsSameSeat self.old.seat self.new.seat }
+        ensures { Plays call.now self.old.seat self.new.seat result }
     {
         self.store.play(rt, alloc, &mut self.seat, call)
     }

@@ -1,6 +1,7 @@
 -- Where no write of a key came between two times, the key has the same value at both.
-use Rattle.std.proofs.Common.{◌≡◌, ℕ, zero, suc, ◌*◌, ◌<◌, ◌≤◌, ◌==◌, min, List, length, get_or, refl, sym, ap, ◌∙◌, subst, arith, inl, inr, Option, Some, None}
-use Rattle.std.proofs.lemmas.Bool.{cases_lt}
+use Rattle.std.proofs.Common.{◌≡◌, ℕ, zero, suc, ◌*◌, ◌<◌, ◌≤◌, ◌==◌, ◌↔◌, Bool, true, false, not, min, List, length, get_or, refl, sym, ap, ◌∙◌, subst, arith, inl, inr, IsTrue, Option}
+use Rattle.std.proofs.Common.{Some, None}
+use Rattle.std.proofs.lemmas.Bool.{cases_lt, false_from_ne_true}
 use Rattle.std.proofs.lemmas.List.{get_or_append_left}
 use Rattle.std.proofs.lemmas.Option.{cond_some}
 use Rattle.clsm_model.specs.declared.slot.Slot.{Slot}
@@ -14,7 +15,13 @@ use mathlib.Core.List.{IsPrefix}
 use Rattle.clsm_model.proofs.Histories.{value-same}
 use Rattle.clsm_words.specs.declared.known.Known.{Known}
 use Rattle.clsm_words.specs.Keeping.{Looks}
-use Rattle.clsm_search.specs.Searching.{IsNewest, slot_in, value_in}
+use Rattle.clsm_law.proofs.Finding.Values.{newest_none}
+use Rattle.clsm_search.specs.declared.spans.Span.{Span}
+use Rattle.clsm_search.specs.Searching.{IsNewest, is_hit, slot_in, value_in}
+use Rattle.clsm_search.specs.Spans.{IsWrittenIn}
+use Rattle.clsm_search.proofs.Chains.{wrote_of}
+use Rattle.clsm_search.proofs.NewestWrites.{none_written}
+use Rattle.clsm_store_calls.specs.Changing.{IsWrittenFrom}
 
 its_time : (key t : ℕ) (slot : Slot) (w : Write) → write_of key t slot ≡ Some w → w.time ≡ t
 its_time key t Nothing w e = absurd cc
@@ -64,6 +71,36 @@ module _ (k k' : Known) (component key from until : ℕ) (looks : Looks k k') (l
       ≡ value (plain k'.past) key from
   unchanged_none merged is = there (newest_stays (plain k'.past) key from until le (λ w e.
       let b = newest_below (plain k.past) key (min until (component * k.layout.cells)) w (sym is ∙ sym (same until) ∙ e) in omega arith))
+
+-- ---- a span, by its times
+
+module _ (k k' : Known) (span : Span) (looks : Looks k k') where
+  unwritten : span.from ≤ span.until → (¬ IsWrittenIn k span) → value (plain k'.past) span.key span.until ≡ value (plain k'.past) span.key span.from
+  unwritten le none = ap (λ (slots : List Slot). value (plain slots) span.key span.until) looks.past
+      ∙ ap left_by (newest_none (plain k.past) span.key span.from span.until le (λ t from below.
+      none_written (slot_in k t) span.key t (false_from_ne_true (is_hit k.past span.key t)
+      (λ hit. none (record { time = t; from = from; below = below; write = hit })))))
+      ∙ sym (ap (λ (slots : List Slot). value (plain slots) span.key span.from) looks.past)
+
+  written : IsWrittenIn k span → IsWrittenFrom k'.past span.key span.from
+  written is = let wrote = wrote_of (slot_in k is.time) span.key is.write in record {
+    time = is.time;
+    above = is.from;
+    seat = wrote.0;
+    written = wrote.1;
+    stands = ap (λ (slots : List Slot). get_or slots is.time Nothing) looks.past ∙ wrote.2;
+  }
+
+  -- where a look at each finds no write of its key, the key has the same value at both ends
+  pub span_unchanged : (is_written : Bool) → (IsTrue is_written ↔ IsWrittenIn k span) → span.from ≤ span.until → not is_written ≡ true
+      → value (plain k'.past) span.key span.until ≡ value (plain k'.past) span.key span.from
+  span_unchanged true tells le none = absurd cc
+  span_unchanged false tells le none = unwritten le (λ is. absurd (cc (tells.1 is)))
+
+  -- and else a write of it stands there
+  pub span_written : (is_written : Bool) → (IsTrue is_written ↔ IsWrittenIn k span) → not is_written ≡ false → IsWrittenFrom k'.past span.key span.from
+  span_written true tells some = written (tells.0 refl)
+  span_written false tells some = absurd cc
 
 -- a value below a time of the past stays as the past grows
 pub value_later : (a b c : List Slot) (key s : ℕ) → b ≡ a → IsPrefix b c → s ≤ length a → value (plain a) key s ≡ value (plain c) key s

@@ -31,9 +31,12 @@ use clsm_memtable::{
 use clsm_model::{Change, Deed, Time, Value};
 use clsm_pins::{pin, unpin};
 use clsm_scan::ReadPoint;
-use clsm_search::newest;
+use clsm_search::{Span, is_written_in, newest};
 use clsm_words::{Pace, RawSeat, Words};
 use std::sync::Wait;
+
+/// The times of a span are looked at one by one where there are at most so many.
+const FEW_TIMES: u64 = 64;
 
 /// A change that is asked for: the key, and the function that answers to the key's value what is
 /// made of it.
@@ -50,14 +53,6 @@ pub(crate) struct Modified {
     pub(crate) key: u64,
     pub(crate) read: Rmw,
     pub(crate) value: Option<Value>,
-}
-
-/// A key, and the times from `from` on and below `until`.
-#[derive(Clone, Copy)]
-pub(crate) struct Span {
-    pub(crate) key: u64,
-    pub(crate) from: Time,
-    pub(crate) until: Time,
 }
 
 /// What came of one try to change a key.
@@ -127,7 +122,9 @@ pub(crate) fn value_now<P: Pace>(
     Got { time, value }
 }
 
-/// Settles all below the span's end, and answers whether no write of its key is in it.
+/// Settles all below the span's end, and answers whether no write of its key is in it: by a look at
+/// each of its times where they are few, and else by a search. So a change that nobody disturbs
+/// makes no look for writes, and one among others a look or two at each time between.
 pub(crate) fn is_unchanged<P: Pace>(
     words: &Words<P>,
     seat: &mut RawSeat,
@@ -145,6 +142,10 @@ pub(crate) fn is_unchanged<P: Pace>(
     ensures unchanged { result ≡ true → value (plain seat.new.knows.past) span.key span.until ≡ value (plain seat.new.knows.past) span.key span.from }
 {
     settle_below(words, seat, component, span.until);
+    let times = span.until - span.from;
+    if times <= FEW_TIMES {
+        return !is_written_in(words, seat, component, &span);
+    }
     match newest(words, seat, component, span.key, span.until) {
         Some(time) => time < span.from,
         None => true,

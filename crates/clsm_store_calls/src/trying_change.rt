@@ -13,8 +13,7 @@ ghost use Rattle.clsm_store_calls.specs.Trying.{Fails};
 ghost use Rattle.clsm_store_calls.specs.TryingChange.{CountsChange, CountsChangeInHold, EndsRefused, EndsTime, IsWrittenSince, LosesDrawn, WritesChange, pin_after};
 
 use crate::changing::{
-    Modification, Modified, Span, ask, deed_of, is_keep, is_unchanged, read_end, value_now,
-    value_set,
+    Modification, Modified, ask, deed_of, is_keep, is_unchanged, read_end, value_now, value_set,
 };
 use crate::got::Rmw;
 use crate::refusal::TryPutError;
@@ -24,6 +23,7 @@ use clsm_memtable::{
 };
 use clsm_model::{Change, Time, Value};
 use clsm_pins::{pin, unpin};
+use clsm_search::Span;
 use clsm_words::{Pace, RawSeat, Words};
 
 /// What was read of the key and is made of it, or why it was not changed.

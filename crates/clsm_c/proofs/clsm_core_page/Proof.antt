@@ -1,44 +1,19 @@
 -- `clsm_core_page` meets its contract: a call by a handle that fills rows.
-use Rattle.std.proofs.Common.{[], ◌∷◌, refl}
-use contract.Running.{tables, tables_of}
-use mir.Syntax.{named}
-use sound.WpLaws.{fm_of}
-use denote.Builtin.{RefOf}
-use denote.Exit.{yes}
-use denote.Ref.{mut_vals, mut_Tells, shr_vals, shr_Tells}
-use denote.RawPtr.{RawPtr, rawptr_vals, rawptr_Tells}
-use denote.Signature.{plain}
-use denote.Slice.{mut_slice_vals, mut_slice_Tells}
-use denote.Triple.Walked.{Goes-dropped, Goes-gave_ref, Goes-gave_slice}
-use Rattle.std.proofs.raw_atomic.Walks.{proved}
 use Rattle.clsm_c.specs.Calls.{Pages}
-use Rattle.clsm_c.specs.contracts.slots.CallerSlot as slot
+use Rattle.clsm_c.specs.contracts.slots.CallerSlot as handle
 use Rattle.clsm_c.specs.contracts.types.CoreRange as asked
 use Rattle.clsm_c.specs.contracts.types.CoreRow as listed
 use Rattle.clsm_c.specs.contracts.types.CorePaged as answered
-use Rattle.clsm_c.proofs.Filled.{Kinds, filled, stayed}
-use Rattle.clsm_c.proofs.calls.page.Symbol.{name as #page}
+use Rattle.clsm_c.proofs.Exporting.{single}
+use Rattle.clsm_c.proofs.Filled.{filled}
+use Rattle.clsm_c.proofs.calls.page.Symbol.{name as safe}
 use Rattle.clsm_c.proofs.calls.page.Met as of_thm
 use Rattle.clsm_c.specs.contracts.clsm_core_page.Key.{name as key}
-use Rattle.clsm_c.specs.contracts.clsm_core_page as f
 use Rattle.clsm_c.proofs.clsm_core_page.Statement.{statement}
 use Rattle.clsm_c.proofs.clsm_core_page.Code as code
 
 pub clsm_core_page_spec : {M : Type 1} → statement M
-unfolding tables_of
 clsm_core_page_spec 𝓤 𝓛 𝓜 𝓡 wired =
-    let A = asked.the_row in let B = answered.the_row in let E = listed.the_row in let 𝓣 = tables 𝓤 𝓛.H 𝓜 𝓡 𝓡.env in
-    let K : Kinds = record { R = slot.the_row; A = A; E = E; B = B; one-R = tt; one-A = tt; one-E = tt; one-B = tt } in
-    proved 𝓛 f.ended (stayed K) (f.clauses 𝓛 𝓜.mem 𝓡.returns) 𝓜 𝓡 (
-      Goes-dropped 𝓛 3 (plain (λ _. RawPtr)) yes (λ κs x g. refl),
-      (
-        Goes-dropped 𝓛 3 (RefOf (0 ∷ []) tt (plain (λ _. A)) (λ _. tt)) yes (λ κs x g. refl),
-        (Goes-gave_slice 𝓛 3 1 tt (plain (λ _. E)), (Goes-gave_ref 𝓛 3 2 tt (plain (λ _. B)), tt)),
-      ),
-    )
-    key code.function (code.unfolded 𝓤 𝓛.H 𝓜 𝓡 wired) (λ κs. (rawptr_vals, (shr_vals, (mut_slice_vals, (mut_vals, tt)))))
-    (λ κs. (rawptr_Tells, (shr_Tells (named 0) κs.0 A, (mut_slice_Tells (named 1) κs.1.0 E, (mut_Tells (named 2) κs.1.1.0 B, tt)))))
-    (λ κs qs bounds a x are. filled K (λ old ask before new rows answer result. Pages old.caller ask before new.caller rows answer result) #page
-    𝓛 𝓣.C 𝓣.Λ (fm_of 𝓤 𝓛.H 𝓛.laws (tables_of 𝓤 𝓛.H 𝓜 𝓣))
-    (of_thm.met 𝓤 𝓛 𝓜 𝓡 (code.calls-clsm_c::calls::page 𝓡.env wired))
-    κs.0 κs.1.0 κs.1.1.0 qs.0 qs.1.0 qs.1.1.0 a.1.0 a.1.1.0 are.1.1.0.0.1.0 a.1.1.1.0 x a.0)
+    filled (single handle.the_row tt) (single asked.the_row tt) (single listed.the_row tt) (single answered.the_row tt)
+    (λ old ask before new rows answer result. Pages old.caller ask before new.caller rows answer result)
+    safe 𝓛 𝓜 𝓡 key (code.unfolded 𝓤 𝓛.H 𝓜 𝓡 wired) (of_thm.met 𝓤 𝓛 𝓜 𝓡 (code.calls-clsm_c::calls::page 𝓡.env wired))

@@ -1,11 +1,10 @@
 //! The merger's tokens, one for each phase, and what it does in each.
-ghost use Rattle.std.specs.Prelude.{◌≡◌, ◌+◌, ◌*◌, ◌^◌, ◌<◌, replicate, None, IfOk, IfErr};
-ghost use Rattle.clsm_law.specs.Merging.{unseen};
-ghost use Rattle.clsm_law.specs.Views.{next_word};
+ghost use Rattle.std.specs.Prelude.{◌≡◌};
 ghost use Rattle.clsm_store_calls.specs.Freezing.{IsClean, IsFrozen};
 ghost use Rattle.clsm_store_calls.specs.Looking.{LooksAtClock, drawn_of};
-ghost use Rattle.clsm_store_calls.specs.Merging.{IsReady, IsRetiring, IsRunFull, TakesFloor, clean_of, frozen_of, retired_of};
+ghost use Rattle.clsm_store_calls.specs.Merging.{IsReady, IsRetiring, clean_of, frozen_of, retired_of};
 ghost use Rattle.clsm_store_calls.specs.Seats.{CleanState, FrozenState, RetiredState};
+ghost use Rattle.clsm_store.specs.Promises.{FreezesEpoch, MeetsSeat, MergesEpoch, ReclaimsRetired, TriesToFreezeEpoch};
 
 use crate::phase::TryFreezeError;
 use crate::seat::Seat;
@@ -102,10 +101,7 @@ impl Clean {
         store: &Store<P>,
     ) -> Result<Frozen, (Clean, Worn)>
         requires { self.merger.store ≡ store.now }
-        ensures frozen { IfOk result (λ frozen. frozen.merger ≡ record self.merger { holds = next_word self.merger.holds }) }
-        ensures floor { IfOk result (λ frozen. (frozen.floor ≡ self.floor) × (frozen.rounds ≡ self.rounds)) }
-        ensures noted { IfOk result (λ frozen. frozen.noted ≡ None) }
-        ensures worn { IfErr result (λ refused. (refused.0 ≡ self) × (2 ^ 62 < (self.merger.merges + 2) * self.merger.store.layout.cells)) }
+        ensures { FreezesEpoch self result }
     {
         let merges = self.merger.merges;
         if merges > LAST_LIMIT / store.words.cells() - 2 {
@@ -120,8 +116,6 @@ impl Clean {
 }
 
 impl Clean {
-    ghost use Rattle.clsm_store.specs.Phase.{RefusesFreeze};
-
     /// Freezes the current epoch as `freeze`, but tries the lock once and never waits. Refused, and
     /// with the token, with `Worn` as `freeze`, and with `Busy` if a caller held the lock: nothing
     /// was done then.
@@ -130,10 +124,7 @@ impl Clean {
         store: &Store<P>,
     ) -> Result<Frozen, (Clean, TryFreezeError)>
         requires { self.merger.store ≡ store.now }
-        ensures frozen { IfOk result (λ frozen. frozen.merger ≡ record self.merger { holds = next_word self.merger.holds }) }
-        ensures floor { IfOk result (λ frozen. (frozen.floor ≡ self.floor) × (frozen.rounds ≡ self.rounds)) }
-        ensures noted { IfOk result (λ frozen. frozen.noted ≡ None) }
-        ensures refused { IfErr result (λ refused. RefusesFreeze self refused.0 refused.1) }
+        ensures { TriesToFreezeEpoch self result }
     {
         let merges = self.merger.merges;
         let last = LAST_LIMIT / store.words.cells() - 2;
@@ -152,7 +143,6 @@ impl Clean {
 impl Frozen {
     ghost use Rattle.std.specs.Prelude.{List};
     ghost use Rattle.clsm_model.specs.declared.slot.Slot.{Slot};
-    ghost use Rattle.clsm_store_calls.specs.Agreeing.{AgreesWith};
     ghost use Rattle.clsm_store_calls.specs.Merging.{IsOfHistory};
 
     /// The number of merges so far, which is the number of the frozen epoch.
@@ -191,9 +181,7 @@ impl Frozen {
     pub fn meet<P: Pace>(&mut self, store: &Store<P>, seat: &mut Seat)
         requires token { self.old.merger.store ≡ store.now }
         requires seat { seat.old.store ≡ store.now }
-        ensures token { self.new ≡ self.old }
-        ensures seat { seat.new ≡ seat.old }
-        ensures agrees { AgreesWith seat.old.past self.old }
+        ensures { MeetsSeat self.old self.new seat.old seat.new }
     {
         let message = tell(store, seat);
         agree_at(&store.words, &mut self.merger, message);
@@ -210,13 +198,7 @@ impl Frozen {
     /// closed may help the next try.
     pub fn merge<P: Pace>(mut self, store: &Store<P>) -> Result<Retired, (Frozen, RunFull)>
         requires { self.merger.store ≡ store.now }
-        ensures retired { IfOk result (λ retired. retired.merger ≡ record self.merger { merges = self.merger.merges + 1 }) }
-        ensures unseen { IfOk result (λ retired. retired.readers ≡ replicate self.merger.store.layout.seats unseen) }
-        ensures floor { IfOk result (λ retired. TakesFloor self retired.floor retired.rounds retired.noted) }
-        ensures fits { IfOk result (λ retired. IsRunFull self retired.floor → ⊥) }
-        ensures frozen { IfErr result (λ refused. refused.0 ≡ record self { floor = refused.0.floor; rounds = refused.0.rounds; noted = refused.0.noted }) }
-        ensures refloored { IfErr result (λ refused. TakesFloor self refused.0.floor refused.0.rounds refused.0.noted) }
-        ensures full { IfErr result (λ refused. IsRunFull self refused.0.floor) }
+        ensures { MergesEpoch self result }
     {
         match merge(&store.words, &mut self.merger) {
             Ok(()) => Ok(Retired {
@@ -228,8 +210,6 @@ impl Frozen {
 }
 
 impl Retired {
-    ghost use Rattle.clsm_store_calls.specs.Reclaiming.{AreAllQuiet, IsLowestLoud};
-
     /// The number of merges so far.
     #[inline]
     pub fn merges(&self) -> u64
@@ -245,17 +225,7 @@ impl Retired {
     /// for the next try. It never waits.
     pub fn reclaim<P: Pace>(mut self, store: &Store<P>) -> Result<Clean, (Retired, Pinned)>
         requires { self.merger.store ≡ store.now }
-        ensures clean { IfOk result (λ clean. clean ≡ record {
-          merger = self.merger;
-          floor = self.floor;
-          rounds = self.rounds;
-          looks = clean.looks;
-          clock = clean.clock;
-          readers = clean.readers;
-        }) }
-        ensures quiet { IfOk result (λ clean. AreAllQuiet self.readers clean.readers) }
-        ensures retired { IfErr result (λ refused. refused.0 ≡ record self { readers = refused.0.readers }) }
-        ensures pinned { IfErr result (λ refused. IsLowestLoud self.readers refused.0.readers refused.1.0) }
+        ensures { ReclaimsRetired self result }
     {
         let merges = self.merger.merges;
         match reclaim(

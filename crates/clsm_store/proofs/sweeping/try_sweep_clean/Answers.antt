@@ -1,9 +1,9 @@
-use Rattle.std.proofs.Common.{◌≡◌, ◌≤◌, min, ap, refl, sym, subst, ◌∙◌, ℕ}
+use Rattle.std.proofs.Common.{◌≡◌, ◌≤◌, min, ap, sym, subst, ◌∙◌, ℕ}
 use Rattle.clsm_store_calls.specs.Looking.{drawn_of}
 use Rattle.clsm_store_calls.specs.Seats.{CleanState, StoreId}
 use Rattle.clsm_store.specs.declared.phase.Phase.TheVariants.{Clean}
 use Rattle.clsm_store.specs.Sweeping.{TrySweepsClean, enough}
-use Rattle.clsm_store.proofs.SweepParts.{frozen_on, tried_on, unfrozen_on}
+use Rattle.clsm_store.proofs.SweepParts.{frozen_by_try, frozen_on, tried_on, unfrozen_on}
 use Rattle.clsm_store.proofs.sweeping.try_sweep_clean.Goals as goal
 
 pub returns-in-Ok-clause-sweeps : goal.returns-in-Ok-clause-sweeps
@@ -19,7 +19,7 @@ returns-in-Ok-clause-sweeps g c =
     subst (TrySweepsClean c.args.used c.args.clean phase.0) (sym c.tried.ensures)
     (tried_on c.args.used c.args.clean looked phase.0 phase.1 looks many
     (frozen_on looked c.in-Ok.frozen phase.0 phase.1
-    (c.in-Ok.ensures.frozen, c.in-Ok.ensures.floor.0, c.in-Ok.ensures.floor.1, c.in-Ok.ensures.noted, refl) c.sweep_frozen-phase.ensures.sweeps))
+    (frozen_by_try looked c.in-Ok.frozen c.in-Ok.ensures) c.sweep_frozen-phase.ensures.sweeps))
 
 pub returns-in-Err-clause-sweeps : goal.returns-in-Err-clause-sweeps
 returns-in-Err-clause-sweeps g c =

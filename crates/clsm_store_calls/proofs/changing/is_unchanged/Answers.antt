@@ -1,9 +1,19 @@
 use Rattle.std.proofs.Common.{◌*◌, ◌≤◌, sym, subst}
 use Rattle.std.proofs.lemmas.Bool.{ltb-false, ltb-true}
 use Rattle.clsm_law.specs.declared.layout.Layout.{Layout}
-use Rattle.clsm_store_calls.proofs.Unchanged.{unchanged_found, unchanged_none}
+use Rattle.clsm_store_calls.proofs.Unchanged.{span_unchanged, span_written, unchanged_found, unchanged_none}
 use Rattle.clsm_store_calls.proofs.Giving.{written_found}
 use Rattle.clsm_store_calls.proofs.changing.is_unchanged.Goals as goal
+
+pub returns-then-times-le-FEW_TIMES-clause-unchanged : goal.returns-then-times-le-FEW_TIMES-clause-unchanged
+returns-then-times-le-FEW_TIMES-clause-unchanged g c =
+    span_unchanged c.settle_below.new.seat.knows c.is_written_in.new.seat.knows c.args.span c.is_written_in.ensures.looks.looks c.is_written_in.result
+    c.is_written_in.ensures.written c.requires.later
+
+pub returns-then-times-le-FEW_TIMES-clause-written : goal.returns-then-times-le-FEW_TIMES-clause-written
+returns-then-times-le-FEW_TIMES-clause-written g c =
+    span_written c.settle_below.new.seat.knows c.is_written_in.new.seat.knows c.args.span c.is_written_in.ensures.looks.looks c.is_written_in.result
+    c.is_written_in.ensures.written
 
 pub returns-in-Some-clause-unchanged : goal.returns-in-Some-clause-unchanged
 returns-in-Some-clause-unchanged g c = λ early.
