@@ -119,7 +119,7 @@ typedef struct clsm_core_store {
 
 /* The handle of a caller, and its seat. */
 typedef struct clsm_core_caller {
-    CLSM_CORE_ALIGNED(64) uint64_t own[8];
+    CLSM_CORE_ALIGNED(64) uint64_t own[32];
 } clsm_core_caller;
 
 /* The handle of the merger. */
@@ -419,7 +419,7 @@ static_assert(sizeof(clsm_core_paged) == 32
               "clsm_core_paged as the library has it");
 static_assert(sizeof(clsm_core_store) == 192,
               "clsm_core_store as the library has it");
-static_assert(sizeof(clsm_core_caller) == 64,
+static_assert(sizeof(clsm_core_caller) == 256,
               "clsm_core_caller as the library has it");
 static_assert(sizeof(clsm_core_merger) == 192,
               "clsm_core_merger as the library has it");

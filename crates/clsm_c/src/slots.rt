@@ -12,7 +12,7 @@ use std::mem::size_of;
 /// The words that `capi/core/clsm_core.h` reserves for each kind of handle.
 pub const STORE_WORDS: usize = 24;
 
-pub const CALLER_WORDS: usize = 8;
+pub const CALLER_WORDS: usize = 32;
 
 pub const MERGER_WORDS: usize = 24;
 

@@ -1,5 +1,5 @@
 -- Where each word stands in the one row of words, and the row as a memory.
-use Rattle.std.specs.Prelude.{◌≡◌, ℕ, ◌+◌, ◌*◌, ◌-◌, ◌==◌, ◌%◌, max, cond, suc, List, [], ◌∷◌, sum, take, slice_index}
+use Rattle.std.specs.Prelude.{◌≡◌, ℕ, ◌+◌, ◌*◌, ◌-◌, ◌==◌, ◌%◌, max, cond, nat_le, suc, List, [], ◌∷◌, sum, take, slice_index}
 use Rattle.clsm_model.specs.Config.{IsBetween}
 use Rattle.clsm_model.specs.declared.config.Config.{Config}
 use Rattle.clsm_law.specs.declared.layout.Layout.{Layout}
@@ -43,9 +43,16 @@ cell_words = 8
 abbrev pub far_words : ℕ
 far_words = 5
 
--- an entry's words
+-- an entry's words: its key, those near the keys, and those far from them
 abbrev pub entry_words : ℕ
 entry_words = 11
+
+-- the near ones are its time, its length and the first two words of its value
+abbrev pub near_entry_words : ℕ
+near_entry_words = 4
+
+abbrev pub far_entry_words : ℕ
+far_entry_words = 6
 
 -- a place's words: its count, and the entries that it has room for
 abbrev pub place_size : Layout → ℕ → ℕ
@@ -100,9 +107,11 @@ cell_offset c (Value (suc (suc (suc j)))) = far_words * c + j
 cell_offset c part = cell_words * (2 + c) + part_offset part
 
 -- where a word of an entry stands behind its place's count: the keys of all entries side by side,
--- and then the other words of each
+-- then the near words of each, and then the far words of each
 abbrev pub entry_offset : ℕ → ℕ → ℕ → ℕ
-entry_offset room e i = cond (i == 0) e (room + ((entry_words - 1) * e + (i - 1)))
+entry_offset room e i = cond (i == 0) e (cond (nat_le i near_entry_words)
+    (room + (near_entry_words * e + (i - 1)))
+    ((1 + near_entry_words) * room + (far_entry_words * e + (i - 1 - near_entry_words))))
 
 -- where a word stands in its block; an ordered list's head has a line of its own, and the link's
 -- place in it; the hints stand in three rows

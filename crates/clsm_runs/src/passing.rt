@@ -1,5 +1,5 @@
 //! A passage of one run by rising key: it is begun at a key, and goes on from entry to entry.
-ghost use Rattle.std.specs.Prelude.{◌≡◌, ◌≤◌, IfSome, Some, is_some, true};
+ghost use Rattle.std.specs.Prelude.{◌≡◌, ◌≤◌, ◌∷◌, [], IfSome, Some, is_some, true};
 ghost use Rattle.clsm_levels.specs.Entry.{first_below};
 ghost use Rattle.clsm_levels.specs.Yields.{IsNextFrom, behind};
 ghost use Rattle.clsm_law.specs.Places.{entry_in, is_named};
@@ -12,7 +12,7 @@ ghost use Rattle.clsm_runs.specs.Searching.{StandsFrom, run_at};
 use crate::entry::{HeldEntry, HeldRun, KEY, TIME, count};
 use crate::finding::Wanted;
 use clsm_model::{Time, Value};
-use clsm_words::{Pace, RawSeat, Words, load_value};
+use clsm_words::{Pace, RawSeat, Words, load_value, load_word};
 
 /// Where a passage of the run begins, which the held component names: at the first entry of the key
 /// with a time below `until`; where there is none, at the first of a greater key, or at the run's
@@ -109,8 +109,29 @@ pub fn has_value<P: Pace>(
     HeldEntry { run, entry }.part(words, seat, TIME) % 2 != 1
 }
 
+/// The word of the value of an entry that was passed, which is no removal, if that is its only one.
+/// It never waits, takes no memory and is never refused.
+#[inline(always)]
+pub fn word_alone<P: Pace>(
+    words: &Words<P>,
+    seat: &mut RawSeat,
+    run: HeldRun,
+    passed: &Passed,
+) -> Option<u64>
+    requires of { IsSeatOf words.now seat.old }
+    requires passed { IsPassed seat.old.knows run.component run.place passed.now }
+    requires sets { is_some (entry_in (row_of seat.old.knows) run.place passed.now.number).value ≡ true }
+    ensures of { IsSeatOf words.now seat.new }
+    ensures looks { LooksAside seat.old.knows seat.new.knows }
+    ensures told { IfSome result (λ word. (entry_in (row_of seat.old.knows) run.place passed.now.number).value ≡ Some (word ∷ [])) }
+{
+    let entry = passed.number;
+    load_word(words, seat, &HeldEntry { run, entry })
+}
+
 /// The value of an entry that was passed, which is no removal. It never waits, takes no memory and
 /// is never refused.
+#[inline(never)]
 pub fn value<P: Pace>(words: &Words<P>, seat: &mut RawSeat, run: HeldRun, passed: &Passed) -> Value
     requires of { IsSeatOf words.now seat.old }
     requires passed { IsPassed seat.old.knows run.component run.place passed.now }

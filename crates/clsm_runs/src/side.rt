@@ -1,6 +1,7 @@
 //! Where an entry stands in its run, and where the one that is sought may still be.
 ghost use Rattle.std.specs.Prelude.{◌≡◌, ◌<◌, ◌≤◌, None};
 
+use clsm_words::{Guide, RawSeat};
 use std::num::{nearest_u64_to_f64, saturating_f64_to_u64};
 
 /// Where an entry stands to the first of a key with a time below a bound.
@@ -14,41 +15,60 @@ pub(crate) enum Side {
     Behind(u64),
 }
 
-/// So many looks are made at the ends and by guesses; all further ones halve.
+/// So many looks are made by guesses; all further ones halve.
 const GUESSES: u32 = 8;
 
-/// Which entry of a span is looked at next.
+/// How a search goes on in a span. Where keys stand evenly, each guess is nearer by far than the
+/// one before. Else the span is halved behind a few of them, so the looks are at most those of a
+/// search by halving and a few more.
 #[derive(Clone, Copy)]
-pub(crate) enum Turn {
-    /// The last one, and then the first: these may exclude the key.
-    Last,
-    First,
-    /// As far behind the span's beginning, or before its end, as the difference of keys says, where
-    /// this is the slope of the run.
-    Up(u64),
-    Down(u64),
-    /// The one in the middle.
-    Half,
+pub(crate) struct Turn {
+    /// The last entry that was looked at stands before the span, and is not its end.
+    pub(crate) is_before: bool,
+    pub(crate) looks: u32,
+    /// How many entries stand to one key, times 2^64.
+    pub(crate) slope: u64,
 }
 
 impl Turn {
-    /// The turn behind so many looks, where the last entry that was looked at stands before the one
-    /// that is sought, or not, and the span begins behind that entry, or ends there. Where keys
-    /// stand evenly, each guess is nearer by far than the one before. Else the span is halved
-    /// behind a few of them, so the looks are at most those of a search by halving and a few more.
+    /// The turn before the first look at a run whose keys the guide says to stand so.
     #[inline(always)]
-    pub(crate) fn next(self, span: &Span, is_before: bool, looks: u32) -> Turn {
-        if looks >= GUESSES {
-            return Turn::Half;
-        }
-        match self {
-            Turn::Last => Turn::First,
-            Turn::First => Turn::Up(span.slope()),
-            Turn::Up(slope) | Turn::Down(slope) if is_before => Turn::Up(slope),
-            Turn::Up(slope) | Turn::Down(slope) => Turn::Down(slope),
-            Turn::Half => Turn::Half,
+    pub(crate) fn first(guide: &Guide) -> Turn {
+        Turn {
+            is_before: true,
+            looks: 0,
+            slope: guide.slope,
         }
     }
+
+    /// The turn behind a look.
+    #[inline(always)]
+    pub(crate) fn after(self, is_before: bool) -> Turn {
+        Turn {
+            is_before,
+            looks: self.looks.saturating_add(1),
+            slope: self.slope,
+        }
+    }
+
+    /// The turn behind the last look at the run at this place. Where guesses led nowhere, the seat
+    /// keeps its guide no longer.
+    #[inline(always)]
+    pub(crate) fn end(self, seat: &mut RawSeat, place: u64)
+        ensures { seat.new ≡ seat.old }
+    {
+        if self.looks > GUESSES {
+            seat.leave_guide(place, Guide::NONE);
+        }
+    }
+}
+
+/// How many entries stand to one key, times 2^64, where so many stand between these keys.
+#[inline(always)]
+pub(crate) fn slope(count: u64, first: u64, last: u64) -> u64 {
+    let entries = nearest_u64_to_f64(count);
+    let keys = nearest_u64_to_f64(last.saturating_sub(first)) + 1.0;
+    saturating_f64_to_u64(entries / keys * 18_446_744_073_709_551_616.0)
 }
 
 /// How many entries stand to so many keys by the slope, which is that of one key times 2^64.
@@ -72,26 +92,18 @@ pub(crate) struct Span {
 }
 
 impl Span {
-    /// All entries of a run with so many.
+    /// All entries of a run with so many, which guesses say to stand between these keys.
     #[inline(always)]
-    pub(crate) fn whole(count: u64) -> Span
-        ensures { result ≡ record { low = 0; high = count; hit = None; low_key = 0; high_key = 18446744073709551615 } }
+    pub(crate) fn whole(count: u64, guide: &Guide) -> Span
+        ensures { result ≡ record { low = 0; high = count; hit = None; low_key = guide.now.first; high_key = guide.now.last } }
     {
         Span {
             low: 0,
             high: count,
             hit: None,
-            low_key: 0,
-            high_key: u64::MAX,
+            low_key: guide.first,
+            high_key: guide.last,
         }
-    }
-
-    /// How many entries stand to one key between the bounds, times 2^64.
-    #[inline(always)]
-    fn slope(&self) -> u64 {
-        let entries = nearest_u64_to_f64(self.high.saturating_sub(self.low));
-        let keys = nearest_u64_to_f64(self.high_key.saturating_sub(self.low_key)) + 1.0;
-        saturating_f64_to_u64(entries / keys * 18_446_744_073_709_551_616.0)
     }
 
     /// The entry to look at next.
@@ -102,18 +114,15 @@ impl Span {
     {
         let last = self.high - 1;
         let others = last - self.low;
-        match turn {
-            Turn::Last => last,
-            Turn::First => self.low,
-            Turn::Up(slope) => {
-                let keys = key.saturating_sub(self.low_key);
-                self.low + entries_to(keys, slope).min(others)
-            }
-            Turn::Down(slope) => {
-                let keys = self.high_key.saturating_sub(key);
-                last - entries_to(keys, slope).min(others)
-            }
-            Turn::Half => self.low + others / 2,
+        if turn.looks >= GUESSES {
+            return self.low + others / 2;
+        }
+        if turn.is_before {
+            let keys = key.saturating_sub(self.low_key);
+            self.low + entries_to(keys, turn.slope).min(others)
+        } else {
+            let keys = self.high_key.saturating_sub(key);
+            last - entries_to(keys, turn.slope).min(others)
         }
     }
 }

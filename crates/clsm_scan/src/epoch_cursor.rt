@@ -1,14 +1,19 @@
 //! A walk along the ordered list of an epoch.
-ghost use Rattle.std.specs.Prelude.{◌≡◌, None};
+ghost use Rattle.std.specs.Prelude.{◌≡◌, ◌∷◌, [], None, true};
+ghost use Rattle.clsm_model.specs.Map.{Pair};
 ghost use Rattle.clsm_search.specs.Ordering.{MayWalk, StandsAt, found_in_epoch};
 ghost use Rattle.clsm_search.proofs.Orders.{walk_on};
+ghost use Rattle.clsm_words.specs.Keeping.{LooksAside};
+ghost use Rattle.clsm_words.specs.Plays.{IsSeatOf};
+ghost use Rattle.clsm_scan.specs.Heads.{has_value, rows_of};
 ghost use Rattle.clsm_scan.specs.Optional.{If, if_so};
 ghost use Rattle.clsm_scan.specs.Walking.{IsWriteAt, found_on, spot_entry, spot_same, stands_later, stands_on, write_on};
 
 use crate::sink::Sink;
 use crate::source::Source;
 use crate::walk::Walk;
-use clsm_search::{Epoch, has_value, newest_from, seek, value};
+use clsm_model::Value;
+use clsm_search::{Epoch, has_value, newest_from, seek, value, word_alone};
 use clsm_words::{Pace, RawSeat, Spot, Words};
 
 /// A walk along an epoch of the held component.
@@ -34,6 +39,32 @@ impl EpochCursor {
     }
 }
 
+impl EpochCursor {
+    /// Gives the sink a row, as `give`, whose value may have many words. This is rare, and kept
+    /// apart from what most rows need.
+    #[inline(never)]
+    fn give_long<P: Pace, S: Sink>(
+        &self,
+        words: &Words<P>,
+        seat: &mut RawSeat,
+        to: &mut S,
+    ) -> S::Reply
+        requires of { IsSeatOf words.now seat.old }
+        requires over { MayWalk seat.old.knows self.now.epoch × If (IsWriteAt seat.old.knows self.now.epoch) self.now.last }
+        requires has { has_value (spot_entry seat.old.knows self.now.epoch self.now.last) ≡ true }
+        requires ready { S.is_ready to.old }
+        ensures of { IsSeatOf words.now seat.new }
+        ensures looks { LooksAside seat.old.knows seat.new.knows }
+        ensures ready { S.is_ready to.new }
+        ensures takes { (row : Pair) → rows_of (spot_entry seat.old.knows self.now.epoch self.now.last) ≡ row ∷ [] → S.takes to.old row result to.new }
+    {
+        match self.last {
+            Some(spot) => to.take(spot.key, value(words, seat, &self.epoch, spot)),
+            None => unreachable!(),
+        }
+    }
+}
+
 impl Source for EpochCursor {
     ghost found = { λ k w key. found_in_epoch k w.epoch key };
 
@@ -54,7 +85,10 @@ impl Source for EpochCursor {
     #[inline(always)]
     fn give<P: Pace, S: Sink>(&self, words: &Words<P>, seat: &mut RawSeat, to: &mut S) -> S::Reply {
         match self.last {
-            Some(spot) => to.take(spot.key, value(words, seat, &self.epoch, spot)),
+            Some(spot) => match word_alone(words, seat, &self.epoch, spot) {
+                Some(word) => to.take(spot.key, Value::from(word)),
+                None => self.give_long(words, seat, to),
+            },
             None => unreachable!(),
         }
     }

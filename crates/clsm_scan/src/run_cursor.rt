@@ -1,19 +1,22 @@
 //! A walk along a run in the words.
-ghost use Rattle.std.specs.Prelude.{◌≡◌, ℕ, IfSome, None};
+ghost use Rattle.std.specs.Prelude.{◌≡◌, ◌∷◌, [], ℕ, IfSome, None, true};
+ghost use Rattle.clsm_model.specs.Map.{Pair};
 ghost use Rattle.clsm_levels.specs.Entry.{first_below};
 ghost use Rattle.clsm_runs.specs.Passing.{IsPassed, passed_entry};
 ghost use Rattle.clsm_runs.specs.Searching.{IsSearchable, StandsFrom, run_at};
 ghost use Rattle.clsm_runs.proofs.Standing.{stands_later, stands_stays};
 ghost use Rattle.clsm_words.specs.declared.known.Known.{Known};
-ghost use Rattle.clsm_scan.specs.Heads.{key_of};
+ghost use Rattle.clsm_words.specs.Keeping.{LooksAside};
+ghost use Rattle.clsm_words.specs.Plays.{IsSeatOf};
+ghost use Rattle.clsm_scan.specs.Heads.{has_value, key_of, rows_of};
 ghost use Rattle.clsm_scan.specs.Optional.{If, if_so};
 ghost use Rattle.clsm_scan.specs.Walking.{found_in_run_on, passed_on, passed_same, run_on};
 
 use crate::sink::Sink;
 use crate::source::Source;
 use crate::walk::Walk;
-use clsm_model::Time;
-use clsm_runs::{HeldRun, Passed, Sought, has_value, next, seek, value};
+use clsm_model::{Time, Value};
+use clsm_runs::{HeldRun, Passed, Sought, has_value, next, seek, value, word_alone};
 use clsm_words::{Pace, RawSeat, Words};
 
 /// A walk along the run at a place that the held component names.
@@ -52,6 +55,32 @@ fn key_of(passed: Option<Passed>) -> Option<u64>
     }
 }
 
+impl RunCursor {
+    /// Gives the sink a row, as `give`, whose value may have many words. This is rare, and kept
+    /// apart from what most rows need.
+    #[inline(never)]
+    fn give_long<P: Pace, S: Sink>(
+        &self,
+        words: &Words<P>,
+        seat: &mut RawSeat,
+        to: &mut S,
+    ) -> S::Reply
+        requires of { IsSeatOf words.now seat.old }
+        requires over { IsSearchable seat.old.knows self.now.run.component self.now.run.place × If (IsPassed seat.old.knows self.now.run.component self.now.run.place) self.now.last }
+        requires has { has_value (passed_entry seat.old.knows self.now.run.place self.now.last) ≡ true }
+        requires ready { S.is_ready to.old }
+        ensures of { IsSeatOf words.now seat.new }
+        ensures looks { LooksAside seat.old.knows seat.new.knows }
+        ensures ready { S.is_ready to.new }
+        ensures takes { (row : Pair) → rows_of (passed_entry seat.old.knows self.now.run.place self.now.last) ≡ row ∷ [] → S.takes to.old row result to.new }
+    {
+        match self.last {
+            Some(passed) => to.take(passed.key, value(words, seat, self.run, &passed)),
+            None => unreachable!(),
+        }
+    }
+}
+
 impl Source for RunCursor {
     ghost found = { λ k w key. first_below (run_at k w.run.place) key w.until };
 
@@ -72,7 +101,10 @@ impl Source for RunCursor {
     #[inline(always)]
     fn give<P: Pace, S: Sink>(&self, words: &Words<P>, seat: &mut RawSeat, to: &mut S) -> S::Reply {
         match self.last {
-            Some(passed) => to.take(passed.key, value(words, seat, self.run, &passed)),
+            Some(passed) => match word_alone(words, seat, self.run, &passed) {
+                Some(word) => to.take(passed.key, Value::from(word)),
+                None => self.give_long(words, seat, to),
+            },
             None => unreachable!(),
         }
     }

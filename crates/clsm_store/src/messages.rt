@@ -40,9 +40,10 @@ impl<P: Pace> Store<P> {
     /// Takes a message in: the seat reads at a time of its own, below neither its due nor that
     /// which its sender had when it told, and then knows all that its sender knew then. It answers
     /// that time. Each later call of the seat has a time at or above it, except for reads under an
-    /// earlier snapshot and its close, so its reads see each write that its sender had made. A seat may hear a message of its own. It makes six steps,
-    /// and one more for each time below its own that no read has settled yet. It takes no memory
-    /// and no lock, never waits and is never refused.
+    /// earlier snapshot and its close, so its reads see each write that its sender had made. A seat
+    /// may hear a message of its own. It makes six steps, and one more for each time below its own
+    /// that no read has settled yet. It takes no memory and no lock, never waits and is never
+    /// refused.
     pub fn hear(&self, seat: &mut Seat, message: Message) -> Time
         requires seat { seat.old.store ≡ self.now }
         requires message { message.table ≡ self.now.table }

@@ -11,6 +11,6 @@ mod rule;
 mod words;
 
 pub use known::{Known, Spot};
-pub use load::{Load, load_into, load_value};
+pub use load::{Load, load_into, load_value, load_word};
 pub use pace::{Free, Kind, Pace};
-pub use words::{Message, RawMerger, RawSeat, WordTable, Words};
+pub use words::{Guide, Message, RawMerger, RawSeat, WordTable, Words};

@@ -1,5 +1,5 @@
 //! Values that stand in words, read word by word.
-ghost use Rattle.std.specs.Prelude.{◌≡◌, ℕ, ◌<◌, ◌≤◌, List, Option, Some, slice_index};
+ghost use Rattle.std.specs.Prelude.{◌≡◌, ℕ, ◌<◌, ◌≤◌, ◌∷◌, [], List, Option, Some, IfSome, slice_index};
 ghost use Rattle.clsm_law.specs.Views.{length_of, words_of};
 ghost use Rattle.clsm_words.specs.declared.words.WordTable.{WordTable};
 
@@ -46,6 +46,20 @@ pub fn load_value<S, L: Load<S>, P: Pace>(words: &Words<P>, seat: &mut S, at: &L
 {
     let count = at.length(words, seat);
     load_words(words, seat, at, count)
+}
+
+/// The word of the value that stands at the place, if that is its only one.
+#[inline(always)]
+pub fn load_word<S, L: Load<S>, P: Pace>(words: &Words<P>, seat: &mut S, at: &L) -> Option<u64>
+    requires { L.stands words.now seat.old at.now }
+    ensures looks { L.looks words.now seat.old seat.new }
+    ensures told { IfSome result (λ word. L.value seat.old at.now ≡ Some (word ∷ [])) }
+{
+    if at.length(words, seat) == 1 {
+        Some(at.word(words, seat, 0))
+    } else {
+        None
+    }
 }
 
 /// Leaves the value that stands at the place, as `load_value`, in the caller's place: a value of

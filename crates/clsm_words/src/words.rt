@@ -98,11 +98,38 @@ impl<P: Pace> Words<P> {
     }
 }
 
+/// How the keys stand in a run, as a search found them: a guess, which may be anything.
+#[derive(Clone, Copy)]
+pub struct Guide {
+    /// How many entries the run had.
+    pub count: u64,
+    /// Its first key and its last.
+    pub first: u64,
+    pub last: u64,
+    /// How many entries stand to one key, times 2^64.
+    pub slope: u64,
+}
+
+impl Guide {
+    /// That of no run.
+    pub const NONE: Guide = Guide {
+        count: 0,
+        first: 0,
+        last: 0,
+        slope: 0,
+    };
+}
+
+/// The places of runs.
+const PLACES: usize = 5;
+
 /// A caller's seat at the words. Contracts see which words they are, and what the seat knows.
 #[derive(Drop)]
 pub struct RawSeat {
     pub(crate) seat: Seat<u64, Known>,
     pub(crate) number: u64,
+    /// What searches of runs left for later ones, for each place.
+    pub(crate) guides: [Guide; PLACES],
 }
 
 impl Model for RawSeat {
@@ -127,6 +154,20 @@ impl RawSeat {
         ensures { result ≡ self.now.knows.number }
     {
         self.number
+    }
+
+    /// The guide that was left for the run at this place.
+    #[inline(always)]
+    pub fn guide(&self, place: u64) -> Guide {
+        self.guides[(place as usize).min(PLACES - 1)]
+    }
+
+    /// Leaves the guide for the run at this place.
+    #[inline(always)]
+    pub fn leave_guide(&mut self, place: u64, guide: Guide)
+        ensures { self.new ≡ self.old }
+    {
+        self.guides[(place as usize).min(PLACES - 1)] = guide;
     }
 
     /// Shows what holds of every seat. It does nothing when it runs.

@@ -104,7 +104,7 @@ pub struct Store {
 /// The handle of a caller, and its seat.
 #[repr(C, align(64))]
 pub struct Caller {
-    own: [u64; 8],
+    own: [u64; 32],
 }
 
 /// The handle of the merger.
@@ -421,5 +421,5 @@ const _: () = assert!(offset_of!(Paged, rows) == 8);
 const _: () = assert!(offset_of!(Paged, next) == 16);
 const _: () = assert!(offset_of!(Paged, more) == 24);
 const _: () = assert!(size_of::<Store>() == 192);
-const _: () = assert!(size_of::<Caller>() == 64);
+const _: () = assert!(size_of::<Caller>() == 256);
 const _: () = assert!(size_of::<Merger>() == 192);

@@ -1,6 +1,6 @@
 -- Each word there is stands in the row, and no two stand at one place.
-use Rattle.std.proofs.Common.{◌≡◌, ◌≢◌, ℕ, zero, suc, ◌+◌, ◌-◌, ◌*◌, ◌<◌, ◌≤◌, ◌&&◌, true, length, get_or, nat_lt, refl, ap, sym, arith, ne_eqb, inl, inr, ◌⊎◌}
-use Rattle.std.proofs.lemmas.Bool.{and_parts, ltb-true}
+use Rattle.std.proofs.Common.{◌≡◌, ◌≢◌, ℕ, zero, suc, ◌+◌, ◌-◌, ◌*◌, ◌<◌, ◌≤◌, ◌&&◌, true, length, get_or, nat_lt, refl, ap, sym, ◌∙◌, arith, ne_eqb, inl, inr, ◌⊎◌}
+use Rattle.std.proofs.lemmas.Bool.{and_parts, cases_lt, le-leb, lt-leb, ltb-true}
 use Rattle.clsm_law.specs.declared.layout.Layout.{Layout}
 use Rattle.clsm_law.specs.declared.word.Word.{Word}
 use Rattle.clsm_law.specs.declared.word.Word.TheVariants.{Lock, Clock, Limit, Front, Merged, Pin, Snap, Head, Cell, Order, Hint, State, Count, Entry}
@@ -17,12 +17,53 @@ use Rattle.clsm_law.proofs.Cases.{below}
 place_block : (z : Layout) (p : ℕ) → p < 5 → get_or (blocks z) (11 + p) 0 ≡ place_size z p
 place_block z = below (λ p. get_or (blocks z) (11 + p) 0 ≡ place_size z p) 5 (refl, (refl, (refl, (refl, (refl, tt)))))
 
--- an entry's key stands among the keys, and its other words behind them
-pub entry_first : (room e : ℕ) → entry_offset room e 0 ≡ e
-entry_first room e = refl
+-- an entry's key stands among the keys, its near words behind them, and its far words behind these
+abbrev IsFirst : ℕ → ℕ → ℕ → ℕ → Type 0
+IsFirst room e i offset = (i ≡ 0) × (offset ≡ e)
 
-pub entry_rest : (room e i : ℕ) → entry_offset room e (suc i) ≡ room + (10 * e + i)
-entry_rest room e i = let less : suc i - 1 ≡ i = omega arith in rw (ne_eqb (suc i) 0 (λ q. absurd (omega arith)), less) refl
+abbrev IsNear : ℕ → ℕ → ℕ → ℕ → Type 0
+IsNear room e i offset = (0 < i) × (i < 5) × (offset ≡ room + (4 * e + (i - 1)))
+
+abbrev IsFar : ℕ → ℕ → ℕ → ℕ → Type 0
+IsFar room e i offset = (5 ≤ i) × (offset ≡ 5 * room + (6 * e + (i - 5)))
+
+entry_near : (room e i : ℕ) → 0 < i → i < 5 → entry_offset room e i ≡ room + (4 * e + (i - 1))
+entry_near room e i some few = rw (ne_eqb i 0 (λ q. absurd (omega arith)), le-leb i 4 (omega arith)) refl
+
+entry_far : (room e i : ℕ) → 5 ≤ i → entry_offset room e i ≡ 5 * room + (6 * e + (i - 5))
+entry_far room e i many =
+    let less : i - 1 - 4 ≡ i - 5 = omega arith in rw (ne_eqb i 0 (λ q. absurd (omega arith)), lt-leb i 4 (omega arith), less) refl
+
+entry_where : (room e i : ℕ) → IsFirst room e i (entry_offset room e i) ⊎ (IsNear room e i (entry_offset room e i) ⊎ IsFar room e i (entry_offset room e i))
+entry_where room e zero = inl (refl, refl)
+entry_where room e (suc i) = elim (cases_lt (suc i) 5) [
+  | inl few ↦ inr (inl (omega arith, few, entry_near room e (suc i) (omega arith) few))
+  | inr many ↦ inr (inr (many, entry_far room e (suc i) many))
+]
+
+-- it stands among the words of its place, and no two stand at one place
+entry_below : (room e i : ℕ) → e < room → i < 11 → entry_offset room e i < 11 * room
+entry_below room e i lt part = by (entry_offset room e i) (entry_where room e i)
+  where
+    by : (o : ℕ) → IsFirst room e i o ⊎ (IsNear room e i o ⊎ IsFar room e i o) → o < 11 * room
+    by o (inl f) = let at = f.1 in omega arith
+    by o (inr (inl n)) = let few = n.1 in let at = n.2 in omega arith
+    by o (inr (inr m)) = let many = m.0 in let at = m.1 in omega arith
+
+same_entry : (room x y i j : ℕ) → x < room → y < room → i < 11 → j < 11 → entry_offset room x i ≡ entry_offset room y j → (x ≡ y) × (i ≡ j)
+same_entry room x y i j a b h k e = by (entry_offset room x i) (entry_offset room y j) e (entry_where room x i) (entry_where room y j)
+  where
+    by : (o q : ℕ) → o ≡ q → IsFirst room x i o ⊎ (IsNear room x i o ⊎ IsFar room x i o) → IsFirst room y j q ⊎ (IsNear room y j q ⊎ IsFar room y j q) →
+        (x ≡ y) × (i ≡ j)
+    by o q e (inl (c, at)) (inl (d, at')) = (omega arith, omega arith)
+    by o q e (inl (c, at)) (inr (inl (d, d', at'))) = absurd (omega arith)
+    by o q e (inl (c, at)) (inr (inr (d, at'))) = absurd (omega arith)
+    by o q e (inr (inl (c, c', at))) (inl (d, at')) = absurd (omega arith)
+    by o q e (inr (inl (c, c', at))) (inr (inl (d, d', at'))) = let f : x ≡ y = omega arith in (f, omega arith)
+    by o q e (inr (inl (c, c', at))) (inr (inr (d, at'))) = absurd (omega arith)
+    by o q e (inr (inr (c, at))) (inl (d, at')) = absurd (omega arith)
+    by o q e (inr (inr (c, at))) (inr (inl (d, d', at'))) = absurd (omega arith)
+    by o q e (inr (inr (c, at))) (inr (inr (d, at'))) = let f : x ≡ y = omega arith in (f, omega arith)
 
 -- a part stands in its block: in its cell's line behind the state, or among the other words
 part_inside : (z : Layout) (c : ℕ) (part : Part) → c < 2 * z.cells → is_part part ≡ true → cell_offset c part < get_or (blocks z) (part_block part) 0
@@ -103,8 +144,8 @@ offset_below z (Head (suc zero) chain) h = let a = and_parts (nat_lt 1 2) (nat_l
 offset_below z (Head (suc (suc region)) chain) h =
     let a = and_parts (nat_lt (suc (suc region)) 2) (nat_lt chain z.chains) h in absurd (omega (arith, ltb-true (suc (suc region)) 2 a.0))
 offset_below z (Count p) h = rw (place_block z p (ltb-true p 5 h)) (omega arith)
-offset_below z (Entry p e zero) h = let x = entered z p e zero h in let o = entry_first (room_of z p) e in rw (place_block z p x.place) (omega arith)
-offset_below z (Entry p e (suc i)) h = let x = entered z p e (suc i) h in let o = entry_rest (room_of z p) e i in rw (place_block z p x.place) (omega arith)
+offset_below z (Entry p e i) h =
+    let x = entered z p e i h in let o = entry_below (room_of z p) e i x.entry x.part in rw (place_block z p x.place) (omega arith)
 offset_below z _ h = omega arith
 
 -- each word stands in the row
@@ -170,6 +211,9 @@ same_hint n c d (suc (suc (suc i))) j x y a b e = absurd (omega arith)
 same_hint n c d i (suc (suc (suc j))) x y a b e = absurd (omega arith)
 same_hint n c d _ _ x y a b e = absurd (omega arith)
 
+behind_count : (a b : ℕ) → 1 + a ≡ 1 + b → a ≡ b
+behind_count a b e = omega arith
+
 same_place : (z : Layout) (v w : Word) → is_word z v ≡ true → is_word z w ≡ true → block_of v ≡ block_of w → offset_of z v ≡ offset_of z w → v ≡ w
 same_place z Lock Lock h k b e = refl
 same_place z Clock Clock h k b e = refl
@@ -213,39 +257,15 @@ same_place z (Head q y) (Cell c p) h k b e = let m = (part_block_within p).1 in 
 same_place z (Cell c p) w h k b e = let m = (part_block_within p).0 in absurd (omega arith)
 same_place z v (Cell c p) h k b e = let m = (part_block_within p).0 in absurd (omega arith)
 same_place z (Count p) (Count q) h k b e = let f : p ≡ q = omega arith in ap Count f
-same_place z (Entry p x zero) (Entry q y zero) h k b e =
-    let m = entered z p x zero h in
-    let n = entered z q y zero k in
-    let s = entry_first (room_of z p) x in
-    let t = entry_first (room_of z q) y in
+same_place z (Entry p x i) (Entry q y j) h k b e =
+    let m = entered z p x i h in
+    let n = entered z q y j k in
     let f : p ≡ q = omega arith in
     let r = ap (room_of z) f in
-    let g : x ≡ y = omega arith in cc
-same_place z (Entry p x (suc i)) (Entry q y (suc j)) h k b e =
-    let m = entered z p x (suc i) h in
-    let n = entered z q y (suc j) k in
-    let s = entry_rest (room_of z p) x i in
-    let t = entry_rest (room_of z q) y j in
-    let f : p ≡ q = omega arith in
-    let r = ap (room_of z) f in
-    let g : x ≡ y = omega arith in
-    let u : i ≡ j = omega arith in cc
-same_place z (Entry p x zero) (Entry q y (suc j)) h k b e =
-    let m = entered z p x zero h in
-    let n = entered z q y (suc j) k in
-    let s = entry_first (room_of z p) x in
-    let t = entry_rest (room_of z q) y j in
-    let f : p ≡ q = omega arith in
-    let r = ap (room_of z) f in
-    absurd (omega arith)
-same_place z (Entry p x (suc i)) (Entry q y zero) h k b e =
-    let m = entered z p x (suc i) h in
-    let n = entered z q y zero k in
-    let s = entry_rest (room_of z p) x i in
-    let t = entry_first (room_of z q) y in
-    let f : p ≡ q = omega arith in
-    let r = ap (room_of z) f in
-    absurd (omega arith)
+    let within : y < room_of z p = rw r n.entry in
+    let s = behind_count (entry_offset (room_of z p) x i) (entry_offset (room_of z q) y j) e ∙ ap (λ room. entry_offset room y j) (sym r) in
+    let d = same_entry (room_of z p) x y i j m.entry within m.part n.part s in
+    let g = d.0 in let u = d.1 in cc
 same_place z _ _ h k b e = absurd (omega arith)
 
 -- no two words stand at one place

@@ -1,9 +1,9 @@
-use Rattle.std.proofs.Common.{arith}
+use Rattle.std.proofs.Common.{arith, refl}
 use Rattle.clsm_words.specs.Knowing.{row_of}
 use Rattle.clsm_words.specs.Keeping.{LooksAside}
 use Rattle.clsm_words.proofs.Keeps.{aside_trans}
 use Rattle.clsm_runs.specs.declared.side.Side.{Side}
-use Rattle.clsm_runs.specs.declared.side.Side.TheVariants.{Before, Behind}
+use Rattle.clsm_runs.specs.declared.side.Side.TheVariants.{Before, Behind, Hit}
 use Rattle.clsm_runs.specs.Searching.{IsSide, count_of}
 use Rattle.clsm_runs.proofs.NamedRuns.{run_there}
 use Rattle.clsm_runs.proofs.Looking.{side_stays}
@@ -39,6 +39,22 @@ loop-span-preserved-in-Before g c =
         within = before.within;
         stands = skips k place c.args.self.key c.args.self.until c.loop-span.span.low at run before.stands (omega arith) (omega arith) side;
         at_high = before.at_high;
+      };
+    }
+
+pub loop-span-preserved-in-Hit : goal.loop-span-preserved-in-Hit
+loop-span-preserved-in-Hit g c =
+    let at = c.next-at.result in
+    let before = c.loop-span.invariant.span in
+    let side = stood g (goal.at.loop-span-preserved-in-Hit g c).After-compare (Hit c.in-Hit.spelled) c.in-Hit.ensures.side in
+    record {
+      of = c.compare.ensures.of;
+      looks = looks g (goal.at.loop-span-preserved-in-Hit g c).After-compare;
+      span = record {
+        order = omega arith;
+        within = omega arith;
+        stands = before.stands;
+        at_high = (refl, omega arith, side);
       };
     }
 
