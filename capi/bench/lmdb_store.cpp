@@ -154,7 +154,8 @@ public:
     static constexpr bool removes = true;
 
     explicit LmdbStore(std::size_t keys) {
-        const std::size_t room = keys * 128 + (std::size_t{16} << 20);
+        // While a reader stands still, no page that it may see is used again, and the file grows.
+        const std::size_t room = keys * 512 + (std::size_t{64} << 20);
         // Open files live on without their folder, and end with the program, however it ends.
         const Folder folder(room);
         MDB_env *env = nullptr;
