@@ -1,5 +1,6 @@
 -- A sweep over the begins and ends of calls: one event more.
-use Rattle.std.proofs.Common.{◌≡◌, ℕ, ◌+◌, ◌<◌, ◌≤◌, ◌==◌, ◌&&◌, ◌||◌, nat_lt, not, Bool, true, false, List, [], ◌∷◌, ◌++◌, length, get_or, take, Option, None, Some}
+use Rattle.std.proofs.Common.{◌≡◌, ℕ, ◌+◌, ◌<◌, ◌≤◌, ◌==◌, ◌&&◌, ◌||◌, nat_lt, not, Bool, true, false, List, [], ◌∷◌, ◌++◌, length, get_or, take, Option, None}
+use Rattle.std.proofs.Common.{Some}
 use Rattle.std.proofs.Common.{sym, ◌∙◌, ap, subst, ⊎_elim, arith}
 use Rattle.std.proofs.lemmas.Bool.Decides.{nat_tests}
 use Rattle.std.proofs.lemmas.List.{get_or-take, get_or_default, length-take, take_more}
@@ -176,7 +177,8 @@ module _ (events : List Event) (begin : Event) (begins : begin.is_end ≡ false)
 -- ---- all events
 
 -- an event comes before none of those that stand before it
-pub comes_behind : (events : List Event) → IsSortedBy comes_before events → (i : ℕ) (d : Event) → i < length events → ComesBehind (take i events) (get_or events i d)
+pub comes_behind : (events : List Event) → IsSortedBy comes_before events → (i : ℕ) (d : Event) → i < length events
+    → ComesBehind (take i events) (get_or events i d)
 comes_behind events sorted i d within e among =
     let k = among.0 in
     let lt : k < length (take i events) = among.1 in
@@ -188,7 +190,8 @@ comes_behind events sorted i d within e among =
     sym (ap (λ (x : Event). comes_before (get_or events i d) x) at) ∙ sym (ap (λ (x : Event). comes_before x (get_or events k e)) here) ∙ far
 
 -- the next event was passed
-pub swept_more : (events : List Event) → IsSortedBy comes_before events → (i : ℕ) (d : Event) → i < length events → (old new : Sweep) → HasSwept (take i events) old
+pub swept_more : (events : List Event) → IsSortedBy comes_before events → (i : ℕ) (d : Event) → i < length events → (old new : Sweep)
+    → HasSwept (take i events) old
     → ((before : List Event) → HasSwept before old → ComesBehind before (get_or events i d) → HasSwept (before ++ get_or events i d ∷ []) new)
     → HasSwept (take (i + 1) events) new
 swept_more events sorted i d within old new swept passes =

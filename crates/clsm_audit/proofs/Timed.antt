@@ -22,7 +22,8 @@ use Rattle.clsm_audit.proofs.Indices.{get_here}
 -- ---- one call more
 
 -- the place of the record at an index, by the state of its seat
-pub place_here : (records : List CallRecord) (i : ℕ) (r : CallRecord) (states : List SeatState) (state : SeatState) → i < length records → r ≡ get_or records i r
+pub place_here : (records : List CallRecord) (i : ℕ) (r : CallRecord) (states : List SeatState) (state : SeatState) → i < length records
+    → r ≡ get_or records i r
     → AreStates (take i records) states → r.seat < length states → state ≡ get_or states r.seat state
     → place_of state.snapshot r ≡ place_in records i (slice_get records i)
 place_here records i r states state within is before seat found =
@@ -114,7 +115,8 @@ module _ (records : List CallRecord) (moments : List Moments) where
       ⊎_elim
       (λ (lt : i < length records). lt)
       (λ (past : length records ≤ i).
-      let none : call_at records moments i ≡ None = ap (λ (o : Option CallRecord). call_by (place_in records i o) (slice_get moments i)) (slice_get_past records i past) in
+      let none : call_at records moments i ≡ None = ap (λ (o : Option CallRecord). call_by (place_in records i o) (slice_get moments i))
+      (slice_get_past records i past) in
       let clash : Some call ≡ None = sym is ∙ none in
       absurd (cc clash))
       (cases_lt i (length records))
@@ -161,7 +163,8 @@ module _ (records : List CallRecord) (moments : List Moments) where
     -- an event that is a begin is that of its call, and one that is an end
     begin_is : (e : Event) → Contains events e → e.is_end ≡ false → IsSomeAnd (call_at records moments e.index) (λ call. begin_of e.index call ≡ e)
     begin_is e among begins = by (call_at records moments e.index)
-        (event_is (length records) e (Contains-permutation events (events_below records moments (length records)) e (IsPermutation-sym _ _ order.same) among)) where
+        (event_is (length records) e (Contains-permutation events (events_below records moments (length records)) e (IsPermutation-sym _ _ order.same)
+        among)) where
           by : (o : Option TimedCall) → IsSomeAnd o (IsEventOf e) → IsSomeAnd o (λ call. begin_of e.index call ≡ e)
           by None is = absurd is
           by (Some call) is = ⊎_elim
@@ -171,7 +174,8 @@ module _ (records : List CallRecord) (moments : List Moments) where
 
     finish_is : (e : Event) → Contains events e → e.is_end ≡ true → IsSomeAnd (call_at records moments e.index) (λ call. end_of e.index call ≡ e)
     finish_is e among ends = by (call_at records moments e.index)
-        (event_is (length records) e (Contains-permutation events (events_below records moments (length records)) e (IsPermutation-sym _ _ order.same) among)) where
+        (event_is (length records) e (Contains-permutation events (events_below records moments (length records)) e (IsPermutation-sym _ _ order.same)
+        among)) where
           by : (o : Option TimedCall) → IsSomeAnd o (IsEventOf e) → IsSomeAnd o (λ call. end_of e.index call ≡ e)
           by None is = absurd is
           by (Some call) is = ⊎_elim

@@ -16,7 +16,8 @@ use Rattle.clsm_model.specs.Right.{write_at}
 use Rattle.clsm_model.specs.Seats.{AreCallsIn, IsListedRecord, IsNext, IsRecordIn, IsRightDeed, IsRightRecord, StandsAs, writes_at}
 use Rattle.clsm_model.proofs.Histories.{Reads-same}
 use Rattle.clsm_audit.specs.Faults.{HasNone, IsLawful, IsSecondAt}
-use Rattle.clsm_audit.specs.Lawful.{FitsRegion, HasWrites, IsAtSnapshot, IsFromDue, IsFromDueAt, IsInRange, IsKnown, IsKnownAt, IsRightAt, calls_of, due_of, open_of}
+use Rattle.clsm_audit.specs.Lawful.{FitsRegion, HasWrites, IsAtSnapshot, IsFromDue, IsFromDueAt, IsInRange, IsKnown, IsKnownAt, IsRightAt, calls_of, due_of}
+use Rattle.clsm_audit.specs.Lawful.{open_of}
 use Rattle.clsm_audit.specs.Whole.{HasHistory, IsPartOf}
 use Rattle.clsm_audit.specs.Written.{IsWrittenBefore, WritesAt, history_of, time_past, write_of}
 use Rattle.clsm_audit.proofs.Batches.{outside_record, uncut_from}

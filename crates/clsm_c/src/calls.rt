@@ -1,8 +1,10 @@
 //! The calls for C, on slots: safe functions, one for each export, of its name.
 ghost use Rattle.std.specs.Prelude.{◌≡◌, ◌<◌, IfErr, IfNone, IfOk, IfSome};
-ghost use Rattle.clsm_c.specs.Calls.{Adds, AreMembers, Batches, Closes, Counts, Fills, FreezesIf, Gets, GetsAt, IsNext, IsPinnedBy, IsRefusedAt, IsTimeOf, Opens, Pages};
+ghost use Rattle.clsm_c.specs.Calls.{Adds, AreMembers, Batches, Closes, Counts, Fills, FreezesIf, Gets, GetsAt, IsNext, IsPinnedBy, IsRefusedAt, IsTimeOf};
+ghost use Rattle.clsm_c.specs.Calls.{Opens, Pages};
 ghost use Rattle.clsm_c.specs.Calls.{HasLong, IsBatchTime, IsMember, Puts, Removes, ReplacesBy, Snaps, Sweeps, TakesCaller, TakesMerger, TellsChange};
-ghost use Rattle.clsm_c.specs.Calls.{batch_code, change_code, found_code, freeze_code, kept_code, refusal_code, refused_code, sweep_code, try_code, value_after};
+ghost use Rattle.clsm_c.specs.Calls.{batch_code, change_code, found_code, freeze_code, kept_code, refusal_code, refused_code, sweep_code, try_code};
+ghost use Rattle.clsm_c.specs.Calls.{value_after};
 ghost use Rattle.clsm_c.specs.Values.{TellsValue};
 
 use crate::codes::{

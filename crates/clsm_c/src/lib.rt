@@ -7,7 +7,8 @@
 
 ghost use Rattle.std.specs.Prelude.{◌≡◌};
 ghost use Rattle.std.specs.Ptr.{room_at};
-ghost use Rattle.clsm_c.specs.Calls.{Adds, Batches, Closes, Counts, FreezesIf, Gets, GetsAt, Opens, Pages, Puts, Removes, ReplacesBy, Snaps, Sweeps, TakesCaller, TakesMerger};
+ghost use Rattle.clsm_c.specs.Calls.{Adds, Batches, Closes, Counts, FreezesIf, Gets, GetsAt, Opens, Pages, Puts, Removes, ReplacesBy, Snaps, Sweeps};
+ghost use Rattle.clsm_c.specs.Calls.{TakesCaller, TakesMerger};
 ghost use Rattle.clsm_c.specs.Lent.{both, bytes_of, left, lies};
 ghost use Rattle.clsm_c.specs.contracts.slots.CallerSlot.{the_row as caller_row};
 ghost use Rattle.clsm_c.specs.contracts.slots.MergerSlot.{the_row as merger_row};

@@ -24,7 +24,8 @@ noted_view : (z : Layout) (v : View) (b t : ℕ) → v.mode ≡ Free → v.pinne
 noted_view z v b t free pinned =
     let held = ap (λ (m : Mode). cond (not (is_free m)) (Some t) (cond (not (is_free m)) (Some b) v.hold_clock)) free in
     let under = ap (λ (p : Bool). cond p (Some t) (cond p (Some b) v.pin_clock)) pinned in
-    let first = ap (λ (m : Mode). let one = cond (not (is_free m)) (first_of v.hold_first b) v.hold_first in cond (not (is_free m)) (first_of one t) one) free in
+    let first = ap (λ (m : Mode). let one = cond (not (is_free m)) (first_of v.hold_first b) v.hold_first in cond (not (is_free m)) (first_of one t) one)
+    free in
     let looks : one_more_if (is_idle v) (one_more_if (is_idle v) v.clock_looks) ≡ v.clock_looks =
     λ i. one_more_if (is_free (free i) && not (pinned i)) (one_more_if (is_free (free i) && not (pinned i)) v.clock_looks) in
     λ i. record v {

@@ -18,7 +18,8 @@ pins_of old mid new x c sound one two =
     let reached = ap (λ (v : View). v.reached) e in
     record {
       keeps = past_trans old mid new (past_by Pin old mid x one refl) (past_by (Look Merged) mid new c two refl);
-      view = e ∙ ap (λ (r : ℕ). record old.view { pin = next_word old.view.pin; pinned = true; held = Some c; pin_clock = None; waited = None; reached = r }) (sym reached);
+      view = e ∙ ap (λ (r : ℕ). record old.view
+          { pin = next_word old.view.pin; pinned = true; held = Some c; pin_clock = None; waited = None; reached = r }) (sym reached);
       reached = omega arith;
       merged = omega arith;
     }

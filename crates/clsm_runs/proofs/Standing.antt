@@ -1,15 +1,19 @@
 -- A passage of a run: it stays over looks and for greater keys, goes on over what is not found, and
 -- finds the next.
-use Rattle.std.proofs.Common.{ℕ, ◌+◌, ◌<◌, ◌≤◌, ◌⊎◌, inl, List, refl, sym, ap, ◌∙◌, arith, Some}
+use Rattle.std.proofs.Common.{ℕ, ◌+◌, ◌*◌, ◌<◌, ◌≤◌, ◌⊎◌, inl, List, refl, subst, sym, ap, ◌∙◌, arith, Some}
 use Rattle.clsm_levels.specs.declared.entry.Entry.{Entry}
 use Rattle.clsm_levels.specs.Entry.{first_below}
 use Rattle.clsm_levels.specs.Run.{IsRun}
 use Rattle.clsm_levels.specs.Yields.{IsNextFrom}
+use Rattle.clsm_law.specs.declared.layout.Layout.{Layout}
 use Rattle.clsm_law.specs.declared.word.Word.TheVariants.{Entry as EntryWord}
 use Rattle.clsm_law.specs.Places.{entry_in}
 use Rattle.clsm_words.specs.declared.known.Known.{Known}
 use Rattle.clsm_words.specs.Knowing.{row_of}
 use Rattle.clsm_words.specs.Keeping.{Looks}
+use Rattle.clsm_runs.specs.declared.entry.HeldRun.{HeldRun}
+use Rattle.clsm_runs.specs.declared.passing.Passage.{Passage}
+use Rattle.clsm_runs.specs.Passing.{IsPassageFrom}
 use Rattle.clsm_runs.specs.Searching.{IsSearchable, StandsFrom, count_of, rest_from, run_at}
 use Rattle.clsm_runs.specs.Staying.{place_stays}
 use Rattle.clsm_runs.proofs.Looking.{rest_stays, run_stays}
@@ -36,6 +40,22 @@ pub stands_later : (k : Known) (place until from from' position : ℕ) → from 
 stands_later k place until from from' position le stands = record {
   within = stands.within;
   passed = λ key later. stands.passed key (omega arith);
+}
+
+pub passage_stays : (k k' : Known) (run : HeldRun) (until from : ℕ) (passage : Passage) → Looks k k' →
+    IsSearchable k run.component run.place → IsPassageFrom k run until from passage → IsPassageFrom k' run until from passage
+passage_stays k k' run until from passage looks held is = record {
+  stands = stands_stays k k' run.component run.place until from passage.position looks held is.stands;
+  count = let same = (place_stays k k' run.component run.place looks held).count in let count = is.count in omega arith;
+  all = λ all. subst (λ (z : Layout). run.component * z.cells ≤ until) (sym looks.reads.seat.layout) (is.all all);
+}
+
+pub passage_later : (k : Known) (run : HeldRun) (until from later : ℕ) (passage : Passage) → from ≤ later →
+    IsPassageFrom k run until from passage → IsPassageFrom k run until later passage
+passage_later k run until from later passage le is = record {
+  stands = stands_later k run.place until from later passage.position le is.stands;
+  count = is.count;
+  all = is.all;
 }
 
 -- ---- the entry at the position

@@ -6,33 +6,56 @@ ghost use Rattle.clsm_law.specs.Places.{entry_in, is_named};
 ghost use Rattle.clsm_words.specs.Keeping.{LooksAside};
 ghost use Rattle.clsm_words.specs.Knowing.{row_of};
 ghost use Rattle.clsm_words.specs.Plays.{IsSeatOf};
-ghost use Rattle.clsm_runs.specs.Passing.{IsPassed, passed_entry};
-ghost use Rattle.clsm_runs.specs.Searching.{StandsFrom, run_at};
+ghost use Rattle.clsm_runs.specs.Passing.{IsPassageFrom, IsPassed, passed_entry};
+ghost use Rattle.clsm_runs.specs.Searching.{run_at};
 
 use crate::entry::{HeldEntry, HeldRun, KEY, TIME, count};
 use crate::finding::Wanted;
 use clsm_model::{Time, Value};
 use clsm_words::{Pace, RawSeat, Words, load_value, load_word};
 
-/// Where a passage of the run begins, which the held component names: at the first entry of the key
-/// with a time below `until`; where there is none, at the first of a greater key, or at the run's
-/// end. The search is that of `find`, and no value is read. It never waits, takes
-/// no memory and is never refused.
+/// How far a passage of a run has come: to the entry at the position, of so many; and whether all
+/// times in its component's runs are below the time that it is for.
+#[derive(Clone, Copy)]
+pub struct Passage {
+    pub position: u64,
+    pub count: u64,
+    pub are_all: bool,
+}
+
+impl Passage {
+    /// The passage of no entry.
+    pub const NONE: Passage = Passage {
+        position: 0,
+        count: 0,
+        are_all: false,
+    };
+}
+
+/// The passage of the run, which the held component names, from the first entry of the key with a
+/// time below `until` on; where there is none, from the first of a greater key, or the run's end.
+/// The search is that of `find`, and no value is read. It never waits, takes no memory and is never
+/// refused.
 pub fn seek<P: Pace>(
     words: &Words<P>,
     seat: &mut RawSeat,
     run: HeldRun,
     key: u64,
     until: Time,
-) -> u64
+) -> Passage
     requires of { IsSeatOf words.now seat.old }
     requires held { seat.old.knows.view.held ≡ Some run.component }
     requires named { is_named run.component run.place ≡ true }
     ensures of { IsSeatOf words.now seat.new }
     ensures looks { LooksAside seat.old.knows seat.new.knows }
-    ensures stands { StandsFrom seat.old.knows run.place until key result }
+    ensures stands { IsPassageFrom seat.old.knows run until key result }
 {
-    Wanted { key, until }.bound(words, seat, run).low
+    let position = Wanted { key, until }.bound(words, seat, run).low;
+    Passage {
+        position,
+        count: count(words, seat, run),
+        are_all: run.is_below(words, until),
+    }
 }
 
 /// An entry of a run that a passage came by: its number and its key.
@@ -54,36 +77,35 @@ pub struct Sought {
 /// `until`, and those of keys below `from`, are passed one by one. No value is read, nor a time
 /// where all times in the component's runs are below `until`. It never waits, takes no memory and
 /// is never refused.
+#[inline(always)]
 pub fn next<P: Pace>(
     words: &Words<P>,
     seat: &mut RawSeat,
     run: HeldRun,
-    position: &mut u64,
+    passage: &mut Passage,
     sought: Sought,
 ) -> Option<Passed>
     requires of { IsSeatOf words.now seat.old }
     requires held { seat.old.knows.view.held ≡ Some run.component }
     requires named { is_named run.component run.place ≡ true }
-    requires stands { StandsFrom seat.old.knows run.place sought.until sought.from position.old }
+    requires stands { IsPassageFrom seat.old.knows run sought.until sought.from passage.old }
     ensures of { IsSeatOf words.now seat.new }
     ensures looks { LooksAside seat.old.knows seat.new.knows }
     ensures passed { IfSome result (IsPassed seat.new.knows run.component run.place) }
     ensures next { IsNextFrom (λ key. first_below (run_at seat.old.knows run.place) key sought.until) sought.from
         (passed_entry seat.new.knows run.place result) }
-    ensures stands { StandsFrom seat.old.knows run.place sought.until (behind sought.from (passed_entry seat.new.knows run.place result)) position.new }
+    ensures stands { IsPassageFrom seat.old.knows run sought.until (behind sought.from (passed_entry seat.new.knows run.place result)) passage.new }
 {
     seat.show_invariant();
-    let count = count(words, seat, run);
-    let are_all = run.is_below(words, sought.until);
-    while *position < count {
-        let number = *position;
-        *position += 1;
+    while passage.position < passage.count {
+        let number = passage.position;
+        passage.position += 1;
         let at = HeldEntry { run, entry: number };
         let key = at.part(words, seat, KEY);
         if key < sought.from {
             continue;
         }
-        if at.is_below(words, seat, sought.until, are_all) {
+        if at.is_below(words, seat, sought.until, passage.are_all) {
             return Some(Passed { number, key });
         }
     }

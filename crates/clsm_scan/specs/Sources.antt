@@ -1,5 +1,5 @@
 -- What a held component has of each key, and the walks along it.
-use Rattle.std.specs.Prelude.{◌≡◌, ℕ, ◌+◌, ◌*◌, ◌/◌, ◌%◌, ◌≤◌, nat_lt, cond, min, length, Option, Some, None}
+use Rattle.std.specs.Prelude.{◌≡◌, ℕ, ◌+◌, ◌*◌, ◌/◌, ◌%◌, ◌≤◌, nat_lt, cond, false, min, length, Option, Some, None}
 use Rattle.clsm_model.specs.History.{or_else}
 use Rattle.clsm_levels.specs.declared.entry.Entry.{Entry}
 use Rattle.clsm_levels.specs.Entry.{entries_of, first_below}
@@ -44,7 +44,12 @@ epoch_walk component number first cells until =
 -- the walk along the run at a place
 abbrev pub run_walk : ℕ → ℕ → ℕ → AnyWalk
 run_walk component place until =
-    AlongRun (record { run = record { component = component; place = place }; until = until; position = 0; last = None })
+    AlongRun (record {
+      run = record { component = component; place = place };
+      until = until;
+      passage = record { position = 0; count = 0; are_all = false };
+      last = None;
+    })
 
 -- that along the run at a place of level 0, where the component names it
 abbrev pub level_zero_walk : ℕ → ℕ → ℕ → Option AnyWalk

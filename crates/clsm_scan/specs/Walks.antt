@@ -6,9 +6,9 @@ use Rattle.clsm_words.specs.declared.known.Known.{Known}
 use Rattle.clsm_words.specs.Keeping.{LooksAside}
 use Rattle.clsm_search.specs.Ordering.{MayWalk, StandsAt, found_in_epoch}
 use Rattle.clsm_search.proofs.Orders.{walk_on}
-use Rattle.clsm_runs.specs.Passing.{IsPassed, passed_entry}
-use Rattle.clsm_runs.specs.Searching.{IsSearchable, StandsFrom, run_at}
-use Rattle.clsm_runs.proofs.Standing.{stands_later as run_later, stands_stays as run_stays}
+use Rattle.clsm_runs.specs.Passing.{IsPassageFrom, IsPassed, passed_entry}
+use Rattle.clsm_runs.specs.Searching.{IsSearchable, run_at}
+use Rattle.clsm_runs.proofs.Standing.{passage_later, passage_stays}
 use Rattle.clsm_scan.specs.declared.any_walk.AnyWalk.{AnyWalk}
 use Rattle.clsm_scan.specs.declared.any_walk.AnyWalk.TheVariants.{AlongEpoch, AlongRun}
 use Rattle.clsm_scan.specs.Optional.{If, if_so}
@@ -28,7 +28,7 @@ any_over k (AlongRun w) = IsSearchable k w.run.component w.run.place × If (IsPa
 -- no write with a key from this one on is behind it
 abbrev pub any_stands : Known → AnyWalk → ℕ → Type 0
 any_stands k (AlongEpoch w) from = StandsAt k w.epoch from w.ahead
-any_stands k (AlongRun w) from = StandsFrom k w.run.place w.until from w.position
+any_stands k (AlongRun w) from = IsPassageFrom k w.run w.until from w.passage
 
 -- the write that it came by last
 abbrev pub any_last : Known → AnyWalk → Option Entry
@@ -54,12 +54,11 @@ any_found_stays k k' (AlongRun w) looks over key = found_in_run_on k k' w.run.co
 
 pub any_stands_stays : (k k' : Known) (w : AnyWalk) (from : ℕ) → LooksAside k k' → any_over k w → any_stands k w from → any_stands k' w from
 any_stands_stays k k' (AlongEpoch w) from looks over stands = stands_on k k' w.epoch from w.ahead looks.looks over.0 stands
-any_stands_stays k k' (AlongRun w) from looks over stands =
-    run_stays k k' w.run.component w.run.place w.until from w.position looks.looks over.0 stands
+any_stands_stays k k' (AlongRun w) from looks over stands = passage_stays k k' w.run w.until from w.passage looks.looks over.0 stands
 
 pub any_stands_later : (k : Known) (w : AnyWalk) (from later : ℕ) → from ≤ later → any_stands k w from → any_stands k w later
 any_stands_later k (AlongEpoch w) from later le stands = stands_later k w.epoch from later w.ahead le stands
-any_stands_later k (AlongRun w) from later le stands = run_later k w.run.place w.until from later w.position le stands
+any_stands_later k (AlongRun w) from later le stands = passage_later k w.run w.until from later w.passage le stands
 
 pub any_last_stays : (k k' : Known) (w : AnyWalk) → LooksAside k k' → any_over k w → any_last k' w ≡ any_last k w
 any_last_stays k k' (AlongEpoch w) looks over = spot_same k k' w.epoch w.last looks.looks

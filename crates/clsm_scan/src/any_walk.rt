@@ -1,5 +1,6 @@
 //! A walk along an epoch or a run.
-ghost use Rattle.clsm_scan.specs.Walks.{any_found, any_found_stays, any_last, any_last_stays, any_over, any_over_stays, any_stands, any_stands_later, any_stands_stays};
+ghost use Rattle.clsm_scan.specs.Walks.{any_found, any_found_stays, any_last, any_last_stays, any_over, any_over_stays, any_stands, any_stands_later};
+ghost use Rattle.clsm_scan.specs.Walks.{any_stands_stays};
 
 use crate::epoch_cursor::EpochCursor;
 use crate::run_cursor::RunCursor;

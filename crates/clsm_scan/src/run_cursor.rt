@@ -1,10 +1,10 @@
 //! A walk along a run in the words.
-ghost use Rattle.std.specs.Prelude.{◌≡◌, ◌∷◌, [], ℕ, IfSome, None, true};
+ghost use Rattle.std.specs.Prelude.{◌≡◌, ◌∷◌, [], ℕ, IfSome, None, false, true};
 ghost use Rattle.clsm_model.specs.Map.{Pair};
 ghost use Rattle.clsm_levels.specs.Entry.{first_below};
-ghost use Rattle.clsm_runs.specs.Passing.{IsPassed, passed_entry};
-ghost use Rattle.clsm_runs.specs.Searching.{IsSearchable, StandsFrom, run_at};
-ghost use Rattle.clsm_runs.proofs.Standing.{stands_later, stands_stays};
+ghost use Rattle.clsm_runs.specs.Passing.{IsPassageFrom, IsPassed, passed_entry};
+ghost use Rattle.clsm_runs.specs.Searching.{IsSearchable, run_at};
+ghost use Rattle.clsm_runs.proofs.Standing.{passage_later, passage_stays};
 ghost use Rattle.clsm_words.specs.declared.known.Known.{Known};
 ghost use Rattle.clsm_words.specs.Keeping.{LooksAside};
 ghost use Rattle.clsm_words.specs.Plays.{IsSeatOf};
@@ -16,7 +16,7 @@ use crate::sink::Sink;
 use crate::source::Source;
 use crate::walk::Walk;
 use clsm_model::{Time, Value};
-use clsm_runs::{HeldRun, Passed, Sought, has_value, next, seek, value, word_alone};
+use clsm_runs::{HeldRun, Passage, Passed, Sought, has_value, next, seek, value, word_alone};
 use clsm_words::{Pace, RawSeat, Words};
 
 /// A walk along the run at a place that the held component names.
@@ -25,7 +25,7 @@ pub struct RunCursor {
     run: HeldRun,
     /// It yields versions below this time.
     until: Time,
-    position: u64,
+    passage: Passage,
     /// The entry that it came by last, if there was one.
     last: Option<Passed>,
 }
@@ -33,12 +33,12 @@ pub struct RunCursor {
 impl RunCursor {
     /// The walk at the run's beginning.
     pub fn new(run: HeldRun, until: Time) -> RunCursor
-        ensures { result ≡ record { run = run; until = until; position = 0; last = None } }
+        ensures { result ≡ record { run = run; until = until; passage = record { position = 0; count = 0; are_all = false }; last = None } }
     {
         RunCursor {
             run,
             until,
-            position: 0,
+            passage: Passage::NONE,
             last: None,
         }
     }
@@ -66,7 +66,8 @@ impl RunCursor {
         to: &mut S,
     ) -> S::Reply
         requires of { IsSeatOf words.now seat.old }
-        requires over { IsSearchable seat.old.knows self.now.run.component self.now.run.place × If (IsPassed seat.old.knows self.now.run.component self.now.run.place) self.now.last }
+        requires over { IsSearchable seat.old.knows self.now.run.component self.now.run.place
+            × If (IsPassed seat.old.knows self.now.run.component self.now.run.place) self.now.last }
         requires has { has_value (passed_entry seat.old.knows self.now.run.place self.now.last) ≡ true }
         requires ready { S.is_ready to.old }
         ensures of { IsSeatOf words.now seat.new }
@@ -86,7 +87,7 @@ impl Source for RunCursor {
 
     ghost is_over = { λ k w. IsSearchable k w.run.component w.run.place × If (IsPassed k w.run.component w.run.place) w.last };
 
-    ghost stands = { λ k w from. StandsFrom k w.run.place w.until from w.position };
+    ghost stands = { λ k w from. IsPassageFrom k w.run w.until from w.passage };
 
     ghost last = { λ k w. passed_entry k w.run.place w.last };
 
@@ -117,16 +118,16 @@ impl Source for RunCursor {
 
     ghost found_stays = { λ k k' w looks over. found_in_run_on k k' w.run.component w.run.place w.until looks.looks over.0 };
 
-    ghost stands_stays = { λ k k' w from looks over stands. stands_stays k k' w.run.component w.run.place w.until from w.position looks.looks over.0 stands };
+    ghost stands_stays = { λ k k' w from looks over stands. passage_stays k k' w.run w.until from w.passage looks.looks over.0 stands };
 
-    ghost stands_later = { λ k w from later le stands. stands_later k w.run.place w.until from later w.position le stands };
+    ghost stands_later = { λ k w from later le stands. passage_later k w.run w.until from later w.passage le stands };
 
     ghost last_stays = { λ k k' w looks over. passed_same k k' w.run.component w.run.place w.last looks.looks over.0 };
 }
 
 impl Walk for RunCursor {
     fn seek<P: Pace>(&mut self, words: &Words<P>, seat: &mut RawSeat, key: u64) {
-        self.position = seek(words, seat, self.run, key, self.until);
+        self.passage = seek(words, seat, self.run, key, self.until);
         self.last = None;
     }
 
@@ -134,7 +135,7 @@ impl Walk for RunCursor {
     fn next<P: Pace>(&mut self, words: &Words<P>, seat: &mut RawSeat, from: u64) -> Option<u64> {
         let until = self.until;
         let sought = Sought { from, until };
-        self.last = next(words, seat, self.run, &mut self.position, sought);
+        self.last = next(words, seat, self.run, &mut self.passage, sought);
         key_of(self.last)
     }
 }

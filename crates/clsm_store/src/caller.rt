@@ -3,7 +3,8 @@ ghost use Rattle.std.specs.Prelude.{◌≡◌, ◌≢◌, None};
 ghost use Rattle.clsm_model.specs.declared.record.Deed.TheVariants.{Put, Remove};
 ghost use Rattle.clsm_law.specs.Relation.{call_of};
 ghost use Rattle.clsm_store_calls.specs.Looking.{FindsRoom};
-ghost use Rattle.clsm_store.specs.Promises.{ChangesBy, ClosesSnapshot, CountsRange, Gets, GetsAt, OpensSnapshot, GivesPage, Scans, ScansAnew, TriesToChangeBy, TriesToWrite, TriesToWriteBatch, VisitsRange, Writes, WritesBatch};
+ghost use Rattle.clsm_store.specs.Promises.{ChangesBy, ClosesSnapshot, CountsRange, Gets, GetsAt, OpensSnapshot, GivesPage, Scans, ScansAnew, TriesToChangeBy};
+ghost use Rattle.clsm_store.specs.Promises.{TriesToWrite, TriesToWriteBatch, VisitsRange, Writes, WritesBatch};
 
 use crate::seat::Seat;
 use crate::store::Store;

@@ -2,7 +2,8 @@
 ghost use Rattle.std.specs.Prelude.{◌≡◌, ◌≢◌, None};
 ghost use Rattle.clsm_model.specs.declared.record.Deed.TheVariants.{Put, Remove};
 ghost use Rattle.clsm_store_calls.specs.Looking.{FindsRoom};
-ghost use Rattle.clsm_store.specs.Promises.{ChangesBy, ClosesSnapshot, Gets, GetsAt, OpensSnapshot, TriesToChangeBy, TriesToWrite, TriesToWriteBatch, Writes, WritesBatch};
+ghost use Rattle.clsm_store.specs.Promises.{ChangesBy, ClosesSnapshot, Gets, GetsAt, OpensSnapshot, TriesToChangeBy, TriesToWrite, TriesToWriteBatch, Writes};
+ghost use Rattle.clsm_store.specs.Promises.{WritesBatch};
 
 use crate::seat::Seat;
 use crate::store::Store;

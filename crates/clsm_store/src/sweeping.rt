@@ -1,7 +1,8 @@
 //! The merger's sweep: it freezes, merges and reclaims, from the phase in which the merger is.
 ghost use Rattle.std.specs.Prelude.{◌≡◌};
 ghost use Rattle.clsm_store.specs.Phase.{merger_in};
-ghost use Rattle.clsm_store.specs.Sweeping.{Sweeps, SweepsClean, SweepsCleanIf, SweepsFrozen, SweepsIf, SweepsRetired, TrySweeps, TrySweepsClean, done_of, tried_of, unfrozen_of};
+ghost use Rattle.clsm_store.specs.Sweeping.{Sweeps, SweepsClean, SweepsCleanIf, SweepsFrozen, SweepsIf, SweepsRetired, TrySweeps, TrySweepsClean, done_of};
+ghost use Rattle.clsm_store.specs.Sweeping.{tried_of, unfrozen_of};
 
 use crate::merger::{Clean, Frozen, Retired};
 use crate::phase::{Phase, TryFreezeError};

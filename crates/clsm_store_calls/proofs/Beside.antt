@@ -109,7 +109,8 @@ all_beside slots number key first last none =
 -- answered
 abbrev Made : Known → Known → ℕ → ℕ → Type 0
 Made a f key last =
-    (f.view.calls ≡ a.view.calls) ⊎ ((old : Option (List ℕ)) × (change : Change) × (f.view.calls ≡ a.view.calls ++ call_of a.number last (Rmw key old change) ∷ []))
+    (f.view.calls ≡ a.view.calls) ⊎ ((old : Option (List ℕ)) × (change : Change)
+    × (f.view.calls ≡ a.view.calls ++ call_of a.number last (Rmw key old change) ∷ []))
 
 module _ (a f : Known) (key last : ℕ) (sound : Sound a) (sound' : Sound f) (number : f.number ≡ a.number) (made : Made a f key last)
     (h : GivesUpFor a f key last) where

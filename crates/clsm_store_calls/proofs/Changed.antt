@@ -1,5 +1,6 @@
 -- A whole read-modify-write from its parts.
-use Rattle.std.proofs.Common.{◌≡◌, ℕ, ◌+◌, ◌++◌, ◌∷◌, [], List, length, max, refl, sym, ap, subst, ◌∙◌, arith, append-nil, Option, None, Ok, Err, Result, IfOk, IfErr}
+use Rattle.std.proofs.Common.{◌≡◌, ℕ, ◌+◌, ◌++◌, ◌∷◌, [], List, length, max, refl, sym, ap, subst, ◌∙◌, arith, append-nil, Option, None, Ok, Err, Result, IfOk}
+use Rattle.std.proofs.Common.{IfErr}
 use Rattle.clsm_model.specs.declared.slot.Slot.{Slot}
 use Rattle.clsm_model.specs.declared.slot.Change.{Change}
 use Rattle.clsm_model.specs.declared.slot.Change.TheVariants.{Keep, Set, Remove}

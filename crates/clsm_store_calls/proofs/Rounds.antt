@@ -7,7 +7,8 @@ use Rattle.clsm_law.specs.declared.merger.MergerView.{MergerView}
 use Rattle.clsm_law.specs.declared.merger.Round.{Round}
 use Rattle.clsm_law.specs.declared.word.Word.TheVariants.{Snap}
 use Rattle.clsm_law.specs.Views.{next_word}
-use Rattle.clsm_law.specs.Merging.{epoch_end, floor_by, is_frozen, least, least_or, merger_looked, noted_by, noted_time, round_by, round_end, round_on, rounds_by}
+use Rattle.clsm_law.specs.Merging.{epoch_end, floor_by, is_frozen, least, least_or, merger_looked, noted_by, noted_time, round_by, round_end, round_on}
+use Rattle.clsm_law.specs.Merging.{rounds_by}
 use Rattle.clsm_store_calls.specs.Flooring.{floor_at, noted_at, round_at, rounds_at}
 
 module _ (z : Layout) (m : MergerView) (i x before end : ℕ) (found : Option ℕ) (r0 : Option Round) (lt : i < z.seats) (frozen : is_frozen m.phase ≡ true)

@@ -1,5 +1,6 @@
 -- A read-modify-write at the words.
-use Rattle.std.specs.Prelude.{◌≡◌, ◌≢◌, ℕ, ◌*◌, ◌≤◌, ◌==◌, ◌⊎◌, ◌++◌, ◌∷◌, [], Bool, List, true, false, cond, drop, length, take, slice_index_or, Option, Some, None}
+use Rattle.std.specs.Prelude.{◌≡◌, ◌≢◌, ℕ, ◌*◌, ◌≤◌, ◌==◌, ◌⊎◌, ◌++◌, ◌∷◌, [], Bool, List, true, false, cond, drop, length, take, slice_index_or, Option, Some}
+use Rattle.std.specs.Prelude.{None}
 use Rattle.std.specs.Prelude.{Result, Ok, Err}
 use Rattle.std.specs.List.{count_by}
 use Rattle.clsm_model.specs.History.{IsBeginning, plain, value}

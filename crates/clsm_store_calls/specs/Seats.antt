@@ -1,5 +1,6 @@
 -- What contracts see of a store and its seats, and what calls make of a seat.
-use Rattle.std.specs.Prelude.{◌≡◌, ℕ, ◌<◌, ◌≤◌, ◌==◌, ◌&&◌, not, Bool, false, List, [], ◌∷◌, ◌++◌, length, drop, take, replicate, slice_index_or, Option, Some, None}
+use Rattle.std.specs.Prelude.{◌≡◌, ℕ, ◌<◌, ◌≤◌, ◌==◌, ◌&&◌, not, Bool, false, List, [], ◌∷◌, ◌++◌, length, drop, take, replicate, slice_index_or, Option, Some}
+use Rattle.std.specs.Prelude.{None}
 use Rattle.std.specs.Fn.{iterate}
 use Rattle.std.specs.List.{AllByRecursion, count_by}
 use Rattle.atomic_table.specs.Seated.{TableId}

@@ -16,8 +16,10 @@ ghost use Rattle.clsm_store_calls.specs.Seats.{GivesUpForWrites};
 ghost use Rattle.clsm_store_calls.specs.Tally.{HasRead, tally_of};
 ghost use Rattle.clsm_memtable.specs.Settled.{MaySettleBelow};
 ghost use Rattle.clsm_memtable.specs.Writing.{IsUnnoted};
-ghost use Rattle.clsm_store_calls.specs.Changing.{TriesChange, ChangesAt, Does, DrawsAtLast, EndsDraw, EndsFull, GivesInTry, GivesLater, GivesUpFor, IsAnsweredBy};
-ghost use Rattle.clsm_store_calls.specs.Changing.{IsPinnedInHold, IsWrittenFrom, KeepsFirst, ReadsNow, DecidesDrawn, StaysPinned, WritesLater, changed_at, deed_by, read_end, is_keep, value_set};
+ghost use Rattle.clsm_store_calls.specs.Changing.{TriesChange, ChangesAt, Does, DrawsAtLast, EndsDraw, EndsFull, GivesInTry, GivesLater, GivesUpFor};
+ghost use Rattle.clsm_store_calls.specs.Changing.{IsAnsweredBy};
+ghost use Rattle.clsm_store_calls.specs.Changing.{IsPinnedInHold, IsWrittenFrom, KeepsFirst, ReadsNow, DecidesDrawn, StaysPinned, WritesLater, changed_at};
+ghost use Rattle.clsm_store_calls.specs.Changing.{deed_by, read_end, is_keep, value_set};
 
 use crate::got::{Got, Rmw};
 use crate::reading::value_below;

@@ -10,7 +10,8 @@ ghost use Rattle.clsm_store_calls.specs.Changing.{ChangesAt, Does, IsPinnedInHol
 ghost use Rattle.clsm_store_calls.specs.Resting.{IsAtRest, Records};
 ghost use Rattle.clsm_store_calls.specs.Tally.{tally_of};
 ghost use Rattle.clsm_store_calls.specs.Trying.{Fails};
-ghost use Rattle.clsm_store_calls.specs.TryingChange.{CountsChange, CountsChangeInHold, EndsRefused, EndsTime, IsWrittenSince, LosesDrawn, WritesChange, pin_after};
+ghost use Rattle.clsm_store_calls.specs.TryingChange.{CountsChange, CountsChangeInHold, EndsRefused, EndsTime, IsWrittenSince, LosesDrawn, WritesChange};
+ghost use Rattle.clsm_store_calls.specs.TryingChange.{pin_after};
 
 use crate::changing::{
     Modification, Modified, ask, deed_of, is_keep, is_unchanged, read_end, value_now, value_set,
@@ -81,7 +82,8 @@ fn try_write_later<P: Pace>(
     ensures stays { StaysPinned seat.old.knows seat.new.knows component }
     ensures written { IfOk result (WritesChange seat.old.knows seat.new.knows modified.now) }
     ensures fails { IfErr result (Fails seat.old.knows seat.new.knows) }
-    ensures counts { CountsChangeInHold (IsWrittenFrom seat.new.knows.past modified.now.key modified.now.read.time) (tally_of seat.old.knows) (tally_of seat.new.knows) result }
+    ensures counts { CountsChangeInHold (IsWrittenFrom seat.new.knows.past modified.now.key modified.now.read.time) (tally_of seat.old.knows)
+        (tally_of seat.new.knows) result }
 {
     seat.show_invariant();
     let time = match draw(words, seat) {
@@ -118,7 +120,8 @@ fn try_change_pinned<P: Pace, F: Fn(Option<Value>) -> Change>(
     ensures changed { IfOk result (λ rmw. Does rmw.change seat.old.knows seat.new.knows component modification.now.key rmw.time rmw.old) }
     ensures answered { IfOk result (λ rmw. F.post modification.now.f.now rmw.old rmw.change) }
     ensures fails { IfErr result (Fails seat.old.knows seat.new.knows) }
-    ensures counts { CountsChangeInHold (IsWrittenSince seat.old.knows seat.new.knows modification.now.key) (tally_of seat.old.knows) (tally_of seat.new.knows) result }
+    ensures counts { CountsChangeInHold (IsWrittenSince seat.old.knows seat.new.knows modification.now.key) (tally_of seat.old.knows)
+        (tally_of seat.new.knows) result }
 {
     let key = modification.key;
     let got = value_now(words, seat, component, key);
@@ -157,7 +160,8 @@ pub fn try_change<P: Pace, F: Fn(Option<Value>) -> Change>(
     ensures changed { IfOk result (λ rmw. ChangesAt seat.old.knows seat.new.knows rmw.time modification.now.key rmw.old rmw.change) }
     ensures answered { IfOk result (λ rmw. F.post modification.now.f.now rmw.old rmw.change) }
     ensures refused { IfErr result (EndsRefused seat.old.knows seat.new.knows) }
-    ensures counts { CountsChange (IsWrittenSince seat.old.knows seat.new.knows modification.now.key) (tally_of seat.old.knows) (tally_of seat.new.knows) result }
+    ensures counts { CountsChange (IsWrittenSince seat.old.knows seat.new.knows modification.now.key) (tally_of seat.old.knows) (tally_of seat.new.knows)
+        result }
 {
     if try_lock_shared(words, seat).is_err() {
         return Err(TryPutError::Busy);

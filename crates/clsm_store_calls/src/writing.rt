@@ -40,7 +40,7 @@ pub(crate) fn deed_of(key: u64, value: &Option<Value>) -> Deed
 
 impl<'a, P: Pace, R: Wait> Site<'a, P, R> {
     /// Tries once to write, in a hold of the lock, where the search for the place begins so.
-    #[tactic(auto, using(crate::proofs::Retries::start_raced, crate::proofs::Retries::start_drawn, crate::proofs::Retries::start_filled, crate::proofs::Retries::start_overtaken))]
+    #[tactic(auto, using(crate::proofs::Retries::start_raced, crate::proofs::Retries::start_drawn, crate::proofs::Retries::start_filled, crate::proofs::Retries::start_overtaken,))]
     #[inline(always)]
     fn try_write_from(
         &self,
@@ -72,7 +72,7 @@ impl<'a, P: Pace, R: Wait> Site<'a, P, R> {
     }
 
     /// Looks ahead, in a hold of the lock, where the search for the place begins at no lost cell.
-    #[tactic(auto, using(crate::proofs::Retries::stays_none, crate::proofs::Rest::still_none, crate::proofs::Ahead::looks_in_hold, crate::proofs::Ahead::still_ahead))]
+    #[tactic(auto, using(crate::proofs::Retries::stays_none, crate::proofs::Rest::still_none, crate::proofs::Ahead::looks_in_hold, crate::proofs::Ahead::still_ahead,))]
     #[inline(always)]
     fn look_first(&self, seat: &mut RawSeat, key: u64, start: &mut Start)
         requires of { IsSeatOf self.now.words.now seat.old }
@@ -113,7 +113,7 @@ impl<'a, P: Pace, R: Wait> Site<'a, P, R> {
 
     /// Writes, in a hold of the lock, and tries until the write stands or the clock is at the
     /// limit.
-    #[tactic(auto, using(crate::proofs::Rest::records_later, crate::proofs::Rest::full_later, crate::proofs::Rest::still_trans, crate::proofs::Rest::still_none, crate::proofs::Retries::stays_none, crate::proofs::Retries::stays_trans))]
+    #[tactic(auto, using(crate::proofs::Rest::records_later, crate::proofs::Rest::full_later, crate::proofs::Rest::still_trans, crate::proofs::Rest::still_none, crate::proofs::Retries::stays_none, crate::proofs::Retries::stays_trans,))]
     #[inline(always)]
     fn write_held(&self, seat: &mut RawSeat, key: u64, value: &Option<Value>) -> Result<Time, Full>
         requires of { IsSeatOf self.now.words.now seat.old }

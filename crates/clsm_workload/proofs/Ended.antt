@@ -22,7 +22,8 @@ abbrev pub made_of : List Worked → List Made
 made_of ws = map (λ (w : Worked). w.made) ws
 
 -- what was made by a seat that was settled since
-made_by : (load : Load) (store : StoreId) (i : ℕ) (s : SeatState) (m : Made) → (s.store ≡ store) × (s.number ≡ i) → IsDone (Works load) store i s m → IsMade load s m
+made_by : (load : Load) (store : StoreId) (i : ℕ) (s : SeatState) (m : Made) → (s.store ≡ store) × (s.number ≡ i) → IsDone (Works load) store i s m
+    → IsMade load s m
 made_by load store i s m here d = record {
   records = d.settled.calls ∙ d.says.records;
   all = on_ok_map m.ended (λ made. record { ended = d.ended; made = by_newcomer load store i s d.ended here made; settled = d.settled }) d.says.all;

@@ -39,7 +39,8 @@ audited_is config store seats records (Ok r) are calls same kept verdict = recor
 audited_is config store seats records (Err _) are calls same kept verdict = tt
 
 -- and where these seats are those that a session handed back
-pub audited_whole : (config : Config) (store : StoreId) → HasSizes store config → (ended seats : List SeatState) (records : List CallRecord) (ran : Result Ran Failure) →
+pub audited_whole : (config : Config) (store : StoreId) → HasSizes store config
+    → (ended seats : List SeatState) (records : List CallRecord) (ran : Result Ran Failure) →
     AreSeatsOf store config.seats ended → IsWholeHistory ended (longest_past ended) → seats ≡ ended → records ≡ all_calls seats →
     IfOk ran (λ r. r.seats.items ≡ seats) → IfOk ran (λ r. r.records.items ≡ records) → IfOk ran (λ r. IsVerdict config records r.verdict) →
     IfOk ran (λ r. IsAuditedWhole config r.seats.items r.records.items r.verdict)

@@ -26,7 +26,8 @@ use Rattle.clsm_law.proofs.Cases.{by_test, by_bool}
 use Rattle.clsm_law.proofs.Frames.{put_other, not_given_up}
 use Rattle.clsm_law.proofs.Clock.Times.{region_below}
 use Rattle.clsm_law.proofs.Clock.Kept.{limit_same}
-use Rattle.clsm_law.proofs.Setting.{Setting, v, x, w, M, V, Opens, looked_same, by_seat, own, own_drawn, Ground, memory', OpensTo, merger_looked_same, drawn_shown}
+use Rattle.clsm_law.proofs.Setting.{Setting, v, x, w, M, V, Opens, looked_same, by_seat, own, own_drawn, Ground, memory', OpensTo, merger_looked_same}
+use Rattle.clsm_law.proofs.Setting.{drawn_shown}
 use Rattle.clsm_law.proofs.Lock.Kept.{exclusive_free, not_both}
 use Rattle.clsm_law.proofs.Chains.Merged.{current_region}
 use Rattle.clsm_law.proofs.Orders.Facts.{R, P, link_same, link_behind, another_place}

@@ -56,7 +56,8 @@ returns-in-Page-clause-explains c = λ config.
     let map = wrong_map records c.args.index r c.index-records-index.is c.requires.reply.wrong c.in_ok-map.map c.requires.uncut c.in_ok-map.ensures in
     let range = subst (λ (xs : List Pair). IsRange h r.time c.in-Page.range.from c.in-Page.range.hi xs) (sym c.deref-in-Page.ensures.value)
     (c.in_ok-all-in-Page.ensures.history h r.time map) in
-    has_wrong records c.args.index r c.index-records-index.is c.requires.reply.wrong (λ q. Explains config records c.args.index q (WrongNext c.in-Page.more page.1))
+    has_wrong records c.args.index r c.index-records-index.is c.requires.reply.wrong
+    (λ q. Explains config records c.args.index q (WrongNext c.in-Page.more page.1))
     (next_explains config records c.args.index r c.in-Page.range c.in-Page.rows c.as_slice-in-Page.result.now page.0.now
     c.deref-in-Page.result.now c.in-Page.more page.1
     (wrong_reads records c.args.index r c.index-records-index.is c.requires.reply.wrong uncut) c.in-Page.is c.as_slice-in-Page.ensures range

@@ -24,7 +24,8 @@ returns c =
     let epoch = c.args.epoch.now in
     let runs = map (λ (run : Vec Entry Global). run.items) c.args.runs.now in
     let all = wanted merges floor epoch runs in
-    let sorted : c.deref.result.now ≡ merged (sources merges epoch runs) = c.deref.ensures.value ∙ c.in_ok-entries.ensures ∙ ap merged c.in_ok-sources.ensures in
+    let sorted : c.deref.result.now ≡ merged (sources merges epoch runs) = c.deref.ensures.value ∙ c.in_ok-entries.ensures
+    ∙ ap merged c.in_ok-sources.ensures in
     let run = IfOk-weaker c.kept.result (λ (run : Vec Entry Global). run.items ≡ kept floor (is_to_level_one merges) c.deref.result.now)
     (λ (run : Vec Entry Global). run.items ≡ all)
     (λ run is. wanted_from_sources merges floor epoch runs c.deref.result.now run.items sorted is)

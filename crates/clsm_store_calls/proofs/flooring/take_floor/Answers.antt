@@ -36,7 +36,8 @@ loop-seat-preserved g c =
       of = c.look_as_merger-word.ensures.0;
       keeps = record {
         layout = follows.layout ∙ is.keeps.layout;
-        view = subst (λ (m : MergerView). m ≡ record k.merger { floor = m.floor; round = m.round; rounds = m.rounds; noted = m.noted; clock_looks = m.clock_looks })
+        view = subst (λ (m : MergerView). m ≡ record k.merger
+            { floor = m.floor; round = m.round; rounds = m.rounds; noted = m.noted; clock_looks = m.clock_looks })
             (sym view) refl
             ∙ ap (λ (m : MergerView). record m {
               floor = new.merger.floor;

@@ -20,7 +20,8 @@ returns-clause-changed g c =
     let entered = when_ok c.try_lock_shared.result c.if-is_err.ensures.negation c.try_lock_shared.ensures.entered in
     changed_if a b p d e f c.pin-component.result c.args.modification.now.key c.requires.rests entered c.pin-component.ensures.pinned
     c.unlock_shared.ensures.left
-    c.try_change_pinned-answer.result c.try_change_pinned-answer.ensures.changed (subst (λ (end : End). Unpins d e end) c.read_end.ensures c.unpin.ensures.unpinned)
+    c.try_change_pinned-answer.result c.try_change_pinned-answer.ensures.changed
+    (subst (λ (end : End). Unpins d e end) c.read_end.ensures c.unpin.ensures.unpinned)
 
 pub returns-clause-refused : goal.returns-clause-refused
 returns-clause-refused g c =

@@ -45,7 +45,8 @@ returns-in_err-try_write_drawn-clause-fails g c =
     let k'' = c.is_unchanged.new.seat.knows in
     let end = c.try_write_drawn.new.seat.knows in
     let still = still_trans k k' k'' (still_drawn k k' c.in-Ok.time c.in-Ok.ensures.drawn) (still_reads k' k'' c.is_unchanged.ensures.reads) in
-    let fails : Fails k end c.in_err-try_write_drawn.field-0.0 = lost_fails k k'' end c.in_err-try_write_drawn.field-0.0 still c.in_err-try_write_drawn.ensures.lost in
+    let fails : Fails k end c.in_err-try_write_drawn.field-0.0 = lost_fails k k'' end c.in_err-try_write_drawn.field-0.0 still
+    c.in_err-try_write_drawn.ensures.lost in
     search rules
 
 pub returns-clause-written : goal.returns-clause-written

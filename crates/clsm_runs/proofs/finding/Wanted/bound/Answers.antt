@@ -18,7 +18,8 @@ looks : (g : Over) (c : After-compare g) → LooksAside c.args.seat.now.knows c.
 looks g c = aside_trans c.args.seat.now.knows c.loop-span.seat.knows c.compare.new.seat.knows c.loop-span.invariant.looks c.compare.ensures.looks
 
 -- where it stands it stood before
-stood : (g : Over) (c : After-compare g) (s : Side) → IsSide (row_of c.loop-span.seat.knows) c.args.run.place c.next-at.result c.args.self.key c.args.self.until s
+stood : (g : Over) (c : After-compare g) (s : Side) → IsSide (row_of c.loop-span.seat.knows) c.args.run.place c.next-at.result c.args.self.key
+    c.args.self.until s
     → IsSide (row_of c.args.seat.now.knows) c.args.run.place c.next-at.result c.args.self.key c.args.self.until s
 stood g c s = side_stays c.args.seat.now.knows c.loop-span.seat.knows c.args.run.component c.args.run.place c.next-at.result c.args.self.key c.args.self.until s
     c.loop-span.invariant.looks.looks c.requires.run

@@ -31,7 +31,8 @@ returns-then-find-clause-value g c =
     let k = c.args.seat.now.knows in
     let turn = (goal.at.returns-then-find-clause-value g c).After-find in
     let all = found_here (row_of k) c.args.component c.args.self.key c.args.self.until c.loop-place.place
-    (runs_of (row_of k) c.args.component) c.loop-place.invariant.searched (here g turn) (omega arith) (sym c.find.ensures.found ∙ c.if-find.true) (stood g turn) in
+    (runs_of (row_of k) c.args.component) c.loop-place.invariant.searched (here g turn) (omega arith) (sym c.find.ensures.found ∙ c.if-find.true)
+    (stood g turn) in
     c.find.ensures.value ∙ ap value_of all
 
 pub loop-place-preserved : goal.loop-place-preserved
@@ -54,7 +55,8 @@ returns-clause-value g c =
     let place = 3 + c.args.component / 4 % 2 in
     let run : IsSearchable k c.args.component place = record { held = c.requires.held; named = names_one c.args.component } in
     let last = first_below (run_at c.loop-place.seat.knows place) c.args.self.key c.args.self.until in
-    let found = found_stays k c.loop-place.seat.knows c.args.component place c.args.self.key c.args.self.until last c.loop-place.invariant.looks.looks run refl in
+    let found = found_stays k c.loop-place.seat.knows c.args.component place c.args.self.key c.args.self.until last c.loop-place.invariant.looks.looks run
+    refl in
     (rw c.level_one_place-place.ensures at c.find-2.ensures.value)
     ∙ ap value_of (found_last (row_of k) c.args.component c.args.self.key c.args.self.until c.loop-place.place
     (runs_of (row_of k) c.args.component) c.loop-place.invariant.searched last (omega arith) found)

@@ -1,6 +1,6 @@
 use Rattle.clsm_levels.specs.Yields.{behind}
 use Rattle.clsm_runs.specs.Passing.{passed_entry}
-use Rattle.clsm_runs.proofs.Standing.{stands_stays}
+use Rattle.clsm_runs.proofs.Standing.{passage_stays}
 use Rattle.clsm_scan.specs.Walking.{found_in_run_on}
 use Rattle.clsm_scan.proofs.run_cursor.RunCursorWalk.next.Goals as goal
 
@@ -16,6 +16,6 @@ pub returns-clause-stands : goal.returns-clause-stands
 returns-clause-stands g c =
     let walk = c.args.self.now in
     let k' = c.next-self.new.seat.knows in
-    stands_stays c.args.seat.now.knows k' walk.run.component walk.run.place walk.until
-    (behind c.args.from (passed_entry k' walk.run.place c.next-self.result)) c.next-self.new.position c.next-self.ensures.looks.looks c.requires.over.0
+    passage_stays c.args.seat.now.knows k' walk.run walk.until
+    (behind c.args.from (passed_entry k' walk.run.place c.next-self.result)) c.next-self.new.passage c.next-self.ensures.looks.looks c.requires.over.0
     c.next-self.ensures.stands

@@ -1,4 +1,4 @@
-use Rattle.clsm_runs.proofs.Standing.{stands_stays}
+use Rattle.clsm_runs.proofs.Standing.{passage_stays}
 use Rattle.clsm_scan.specs.Walking.{found_in_run_on}
 use Rattle.clsm_scan.proofs.run_cursor.RunCursorWalk.seek.Goals as goal
 
@@ -10,5 +10,5 @@ returns-clause-same g c =
 pub returns-clause-stands : goal.returns-clause-stands
 returns-clause-stands g c =
     let walk = c.args.self.now in
-    stands_stays c.args.seat.now.knows c.seek-self.new.seat.knows walk.run.component walk.run.place walk.until c.args.key c.seek-self.result
-    c.seek-self.ensures.looks.looks c.requires.over.0 c.seek-self.ensures.stands
+    passage_stays c.args.seat.now.knows c.seek-self.new.seat.knows walk.run walk.until c.args.key c.seek-self.result c.seek-self.ensures.looks.looks
+    c.requires.over.0 c.seek-self.ensures.stands

@@ -12,4 +12,5 @@ returns-clause-looks g c =
 pub returns-clause-told : goal.returns-clause-told
 returns-clause-told g c = let k = c.args.seat.now.knows in
     let looks = looks_at_part k c.look.new.seat.knows c.args.self.now.cell c.look.result Key c.show_invariant.ensures c.look.ensures.1 in
-    part_told k c.look.new.seat.knows c.args.self.now.component c.args.self.now.time c.args.self.now.cell c.look.result Key c.requires.known looks c.look.ensures.1
+    part_told k c.look.new.seat.knows c.args.self.now.component c.args.self.now.time c.args.self.now.cell c.look.result Key c.requires.known looks
+    c.look.ensures.1
