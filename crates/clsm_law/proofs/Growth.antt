@@ -16,35 +16,35 @@ use Rattle.clsm_law.specs.Worlds.{outcome_at}
 use Rattle.clsm_law.specs.Law.{Shows, first_shown}
 use Rattle.clsm_law.proofs.Cases.{by_test}
 use Rattle.clsm_law.proofs.Frames.{at_each, puts_slot, slots_grown, keep1}
-use Rattle.clsm_law.proofs.Setting.{Setting, ground, v, x, S, Opens, undecided, drawn_shown, held_shown, shown_below_merged, clock_below}
+use Rattle.clsm_law.proofs.Setting.{Setting, v, x, S, Opens, undecided, drawn_shown, held_shown, shown_below_merged, clock_below}
 
 -- the time of an open Cancel is shown
 pub cancels_shown : (s : Setting) (t : ℕ) → Opens s (Cancel t) → (first_shown s.z s.merger ≤ t) × (t < length s.slots)
 cancels_shown s t o = ⊎_elim
-    (λ (e : ((v s).drawn ≡ Some t) × ((v s).mode ≡ Shared)). let p = drawn_shown (ground s) s.me t e.0 in
-    (let a = shown_below_merged (ground s) in let b = p.0 in omega arith, p.1))
+    (λ (e : ((v s).drawn ≡ Some t) × ((v s).mode ≡ Shared)). let p = drawn_shown s.ground s.me t e.0 in
+    (let a = shown_below_merged s.ground in let b = p.0 in omega arith, p.1))
     (λ h. (from (v s).held refl h.0, until (v s).clock refl h.1)) o
   where
     from : (o : Option ℕ) → (v s).held ≡ o → HoldsFrom s.z o t → first_shown s.z s.merger ≤ t
     from None e h = absurd h
-    from (Some m) e h = let a = held_shown (ground s) s.me m s.inside e in omega arith
+    from (Some m) e h = let a = held_shown s.ground s.me m s.inside e in omega arith
 
     until : (o : Option ℕ) → (v s).clock ≡ o → IsBelow t o → t < length s.slots
     until None e h = absurd h
-    until (Some n) e h = let a = s.law.clocks s.me n e in let b = clock_below (ground s) in omega arith
+    until (Some n) e h = let a = s.law.clocks s.me n e in let b = clock_below s.ground in omega arith
 
 -- the slot of a Decide or a Cancel that wins was undecided
 pub decides_undecided : (s : Setting) (t : ℕ) → (v s).drawn ≡ Some t → s.memory (State (cell_of s.z t)) ≡ 0 → outcome_at s.slots t ≡ None
-decides_undecided s t e empty = let p = drawn_shown (ground s) s.me t e in
-    undecided (ground s) t (let a = shown_below_merged (ground s) in let b = p.0 in omega arith) p.1 empty
+decides_undecided s t e empty = let p = drawn_shown s.ground s.me t e in
+    undecided s.ground t (let a = shown_below_merged s.ground in let b = p.0 in omega arith) p.1 empty
 
 pub cancels_undecided : (s : Setting) (t : ℕ) → Opens s (Cancel t) → s.memory (State (cell_of s.z t)) ≡ 0 → outcome_at s.slots t ≡ None
-cancels_undecided s t o empty = let p = cancels_shown s t o in undecided (ground s) t p.0 p.1 empty
+cancels_undecided s t o empty = let p = cancels_shown s t o in undecided s.ground t p.0 p.1 empty
 
 -- and the state of an undecided drawn time is empty
 pub undecided_empty : (s : Setting) (t : ℕ) → (v s).drawn ≡ Some t → outcome_at s.slots t ≡ None → s.memory (State (cell_of s.z t)) ≡ 0
-undecided_empty s t e none = let p = drawn_shown (ground s) s.me t e in
-    subst (Shows s.memory (cell_of s.z t)) none (s.law.shown t (let a = shown_below_merged (ground s) in let b = p.0 in omega arith) p.1)
+undecided_empty s t e none = let p = drawn_shown s.ground s.me t e in
+    subst (Shows s.memory (cell_of s.z t)) none (s.law.shown t (let a = shown_below_merged s.ground in let b = p.0 in omega arith) p.1)
 
 stays_but : (s : Setting) (t : ℕ) (a : Option Slot) → t < length s.slots → outcome_at s.slots t ≡ None → (u : ℕ) (b : Slot) → outcome_at s.slots u ≡ Some b
     → outcome_at (set s.slots t a) u ≡ Some b
@@ -56,7 +56,7 @@ pub slots_stay : (s : Setting) (step : Step) → Opens s step → (u : ℕ) (b :
 slots_stay s (Draw t) o = λ u b e. by_test (λ c. outcome_at (cond c (s.slots ++ None ∷ []) s.slots) u ≡ Some b) (x s (Draw t)) t
     (λ _. (λ k. slots_grown s.slots k u) ∙ e) (λ _. e)
 slots_stay s (Decide t deed) o = λ u b e. by_test (λ c. outcome_at (cond c (set s.slots t (write_by s.me deed)) s.slots) u ≡ Some b) (x s (Decide t deed)) 0
-    (λ z. stays_but s t _ (drawn_shown (ground s) s.me t o.0).1 (decides_undecided s t o.0 z) u b e) (λ _. e)
+    (λ z. stays_but s t _ (drawn_shown s.ground s.me t o.0).1 (decides_undecided s t o.0 z) u b e) (λ _. e)
 slots_stay s (Cancel t) o = λ u b e. by_test (λ c. outcome_at (cond c (set s.slots t (Some Nothing)) s.slots) u ≡ Some b) (x s (Cancel t)) 0
     (λ z. stays_but s t _ (cancels_shown s t o).1 (cancels_undecided s t o z) u b e) (λ _. e)
 slots_stay s step o = λ u b e. e
@@ -95,7 +95,7 @@ pub writes_kept : (s : Setting) (step : Step) → Opens s step → (from : ℕ) 
 writes_kept s (Draw t) o from P now was = by_test (λ b. OfWrites from (outcome_at (cond b (s.slots ++ None ∷ []) s.slots)) P) (x s (Draw t)) t
     (λ _. keep1 (λ (f : ℕ → Option Slot). OfWrites from f P) (slots_grown s.slots) was) (λ _. was)
 writes_kept s (Decide t deed) o from P now was = by_test (λ b. OfWrites from (outcome_at (cond b (set s.slots t (write_by s.me deed)) s.slots)) P)
-    (x s (Decide t deed)) 0 (λ _. writes_settled s.slots t (write_by s.me deed) from P (drawn_shown (ground s) s.me t o.0).1 now was) (λ _. was)
+    (x s (Decide t deed)) 0 (λ _. writes_settled s.slots t (write_by s.me deed) from P (drawn_shown s.ground s.me t o.0).1 now was) (λ _. was)
 writes_kept s (Cancel t) o from P now was = by_test (λ b. OfWrites from (outcome_at (cond b (set s.slots t (Some Nothing)) s.slots)) P) (x s (Cancel t)) 0
     (λ _. writes_settled s.slots t (Some Nothing) from P (cancels_shown s t o).1 (λ i key written e. absurd cc) was) (λ _. was)
 writes_kept s step o from P now was = was

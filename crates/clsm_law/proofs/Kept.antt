@@ -1,17 +1,18 @@
 -- A lawful world stays lawful under every open step: each clause by its own lemma.
+use Rattle.clsm_law.specs.declared.view.View.{View}
 use Rattle.clsm_law.specs.declared.step.Step.{Step}
 use Rattle.clsm_law.specs.Law.{LawOf}
 use Rattle.clsm_law.proofs.Setting.{Setting, Ground, M, V, S, B, C, O, Allows, merger', memory', slots', chains', orders', OpensTo}
 use Rattle.clsm_law.proofs.Batches.Opens.{opens_plain}
 use Rattle.clsm_law.proofs.Batches.Staging.{staging_kept, staging_merged}
-use Rattle.clsm_law.proofs.Batches.Kept.{fitting_kept, front_clock_kept, front_clock_merged, past_clock_kept, past_clock_merged, reached_clock_kept}
-use Rattle.clsm_law.proofs.Batches.Kept.{reached_clock_merged, in_turn_kept, in_turn_merged, written_kept, written_merged, uncut_front_kept}
+use Rattle.clsm_law.proofs.Batches.Kept.{fitting_kept, front_clock_kept, front_clock_merged, own_past, own_reached, in_turn_kept, in_turn_merged}
+use Rattle.clsm_law.proofs.Batches.Kept.{written_kept, written_merged, uncut_front_kept}
 use Rattle.clsm_law.proofs.Batches.Kept.{uncut_front_merged, uncut_pins_kept, uncut_snapshots_kept, uncut_pasts_kept, uncut_kept, listed_kept}
 use Rattle.clsm_law.proofs.Decided.Cells.{shown_kept, shown_merged, empty_kept, empty_merged}
 use Rattle.clsm_law.proofs.Chains.Kept.{chained_kept, lies_kept, once_kept, standing_kept, linked_kept, loose_kept}
 use Rattle.clsm_law.proofs.Chains.Merged.{chained_merged, lies_merged, once_merged, standing_merged, linked_merged, loose_merged}
 use Rattle.clsm_law.proofs.Clock.Kept.{clock_kept, clock_merged, limit_kept, limit_merged, begun_kept, begun_merged, bounded_kept, bounded_merged}
-use Rattle.clsm_law.proofs.Clock.Kept.{current_kept, current_merged, top_kept, top_merged, merged_kept, merged_merged}
+use Rattle.clsm_law.proofs.Clock.Kept.{below_clock, below_clock', current_kept, current_merged, top_kept, top_merged, merged_kept, merged_merged}
 use Rattle.clsm_law.proofs.Decided.Kept.{front_kept, front_merged, merged_decided_kept, merged_decided_merged, past_kept, past_merged, reached_kept}
 use Rattle.clsm_law.proofs.Decided.Kept.{reached_merged}
 use Rattle.clsm_law.proofs.Drawn.Kept.{holding_kept, holding_merged, pending_kept, pending_merged, owned_kept, owned_merged, alone_kept, alone_merged}
@@ -19,8 +20,7 @@ use Rattle.clsm_law.proofs.Drawn.Kept.{filled_kept, filled_merged}
 use Rattle.clsm_law.proofs.Lock.Kept.{seated_kept, seated_merged, lock_kept, lock_merged, locked_out_kept, locked_out_merged, sole_kept, sole_merged}
 use Rattle.clsm_law.proofs.Lock.Kept.{merger_kept, merger_merged}
 use Rattle.clsm_law.proofs.Lock.Found.{found_heads_kept, found_heads_merged, found_links_kept, found_links_merged}
-use Rattle.clsm_law.proofs.Noted.Kept.{limits_kept, limits_merged, fresh_clocks_kept, fresh_clocks_merged, hold_clocks_kept, hold_clocks_merged, clocks_kept}
-use Rattle.clsm_law.proofs.Noted.Kept.{clocks_merged, pin_clocks_kept, pin_clocks_merged}
+use Rattle.clsm_law.proofs.Noted.Kept.{limits_kept, limits_merged, noted_by, noted_more, fresh_clock_after, hold_clock_after, clock_after, pin_clock_after}
 use Rattle.clsm_law.proofs.Orders.Kept.{ordered_kept, sorted_kept, placed_kept, entered_kept}
 use Rattle.clsm_law.proofs.Orders.Inserted.{inserted_kept, outside_kept, leading_kept}
 use Rattle.clsm_law.proofs.Orders.Known.{met_kept, lows_kept, highs_kept}
@@ -28,7 +28,7 @@ use Rattle.clsm_law.proofs.Orders.Sides.{lower_kept, higher_kept}
 use Rattle.clsm_law.proofs.Orders.Merged.{ordered_merged, sorted_merged, placed_merged, entered_merged, inserted_merged, outside_merged, leading_merged}
 use Rattle.clsm_law.proofs.Orders.Merged.{met_merged, lows_merged, highs_merged, lower_merged, higher_merged}
 use Rattle.clsm_law.proofs.Pins.Kept.{pins_kept, pins_merged, odd_kept, odd_merged, held_kept, held_merged, notes_kept, notes_merged}
-use Rattle.clsm_law.proofs.Records.Kept.{right_kept, right_merged, stand_kept, stand_merged, recorded_kept, recorded_merged, dues_kept, dues_merged}
+use Rattle.clsm_law.proofs.Records.Kept.{right_kept, right_merged, stand_kept, stand_merged, recorded_kept, recorded_merged, own_due}
 use Rattle.clsm_law.proofs.Records.Kept.{own_dues_kept, own_dues_merged}
 use Rattle.clsm_law.proofs.Records.Rising.{rising_kept, rising_merged}
 use Rattle.clsm_law.proofs.Runs.Kept.{runs_kept, runs_merged, former_runs_kept, former_runs_merged}
@@ -81,10 +81,10 @@ kept s step r = let o = opens_plain s step r in record {
   found_heads = found_heads_kept s step o;
   found_links = found_links_kept s step o;
   limits = limits_kept s step o;
-  fresh_clocks = fresh_clocks_kept s step o;
-  hold_clocks = hold_clocks_kept s step o;
-  clocks = clocks_kept s step o;
-  pin_clocks = pin_clocks_kept s step o;
+  fresh_clocks = noted_by s step o View.fresh_clock s.law.fresh_clocks (fresh_clock_after s step);
+  hold_clocks = noted_by s step o View.hold_clock s.law.hold_clocks (hold_clock_after s step);
+  clocks = noted_by s step o View.clock s.law.clocks (clock_after s step);
+  pin_clocks = noted_by s step o View.pin_clock s.law.pin_clocks (pin_clock_after s step);
   past = past_kept s step o;
   reached = reached_kept s step o;
   pins = pins_kept s step o;
@@ -100,11 +100,11 @@ kept s step r = let o = opens_plain s step r in record {
   stand = stand_kept s step o;
   recorded = recorded_kept s step o;
   rising = rising_kept s step o;
-  dues = dues_kept s step o;
+  dues = below_clock s step o View.due s.law.dues (own_due s step o);
   own_dues = own_dues_kept s step o;
   front_clock = front_clock_kept s step o;
-  past_clock = past_clock_kept s step o;
-  reached_clock = reached_clock_kept s step o;
+  past_clock = below_clock s step o View.past s.law.past_clock (own_past s step o);
+  reached_clock = below_clock s step o View.reached s.law.reached_clock (own_reached s step o);
   staging = staging_kept s step o;
   in_turn = in_turn_kept s step o;
   written = written_kept s step o;
@@ -164,10 +164,10 @@ kept' g step o = record {
   found_heads = found_heads_merged g step o;
   found_links = found_links_merged g step o;
   limits = limits_merged g step o;
-  fresh_clocks = fresh_clocks_merged g step o;
-  hold_clocks = hold_clocks_merged g step o;
-  clocks = clocks_merged g step o;
-  pin_clocks = pin_clocks_merged g step o;
+  fresh_clocks = noted_more g step o View.fresh_clock g.law.fresh_clocks;
+  hold_clocks = noted_more g step o View.hold_clock g.law.hold_clocks;
+  clocks = noted_more g step o View.clock g.law.clocks;
+  pin_clocks = noted_more g step o View.pin_clock g.law.pin_clocks;
   past = past_merged g step o;
   reached = reached_merged g step o;
   pins = pins_merged g step o;
@@ -183,11 +183,11 @@ kept' g step o = record {
   stand = stand_merged g step o;
   recorded = recorded_merged g step o;
   rising = rising_merged g step o;
-  dues = dues_merged g step o;
+  dues = below_clock' g step o View.due g.law.dues;
   own_dues = own_dues_merged g step o;
   front_clock = front_clock_merged g step o;
-  past_clock = past_clock_merged g step o;
-  reached_clock = reached_clock_merged g step o;
+  past_clock = below_clock' g step o View.past g.law.past_clock;
+  reached_clock = below_clock' g step o View.reached g.law.reached_clock;
   staging = staging_merged g step o;
   in_turn = in_turn_merged g step o;
   written = written_merged g step o;

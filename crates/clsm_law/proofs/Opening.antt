@@ -14,8 +14,7 @@ use Rattle.clsm_law.specs.Views.{idle}
 use Rattle.clsm_law.specs.OpenSteps.{open_time}
 use Rattle.clsm_law.specs.Merging.{opening, unseen}
 use Rattle.clsm_law.specs.Worlds.{view_at, outcome_at, past_of, history_of, runs_of}
-use Rattle.clsm_law.specs.Law.{LawOf, IsSnapshot, taken_by, note_of, each, mode_of, drawn_of, holders, met_of, low_of, high_of, hold_limit_of}
-use Rattle.clsm_law.specs.Law.{fresh_clock_of, hold_clock_of, clock_of, pin_clock_of, past_time_of, reached_of, pin_of, held_of}
+use Rattle.clsm_law.specs.Law.{LawOf, IsSnapshot, taken_by, note_of, each, holders}
 use Rattle.clsm_law.specs.Batches.{IsStaging}
 use Rattle.clsm_model.specs.Seats.{IsRightRecord, IsStandingRecord, IsUncutRecord, IsListedRecord, FitsRecord, IsRising}
 use Rattle.clsm_law.specs.Machine.{IsLawful, opened}
@@ -64,7 +63,7 @@ module _ (z : Layout) where
     seated = length-replicate n (idle z);
     lock = no_holders n;
     locked_out = λ e. absurd cc;
-    sole = λ i j e. let h = ap mode_of (idle_at n i) in absurd (cc (h, e));
+    sole = λ i j e. let h = ap View.mode (idle_at n i) in absurd (cc (h, e));
     merger = record {
       seats = length-replicate n unseen;
       some_merged = λ e. absurd cc;
@@ -82,11 +81,11 @@ module _ (z : Layout) where
     current = omega arith;
     top = let a = sound.0 in let b = a.1 in omega arith;
     merged = refl;
-    holding = λ i t e. absurd (none_at drawn_of n i t refl e);
-    pending = λ i t e. absurd (none_at drawn_of n i t refl e);
+    holding = λ i t e. absurd (none_at View.drawn n i t refl e);
+    pending = λ i t e. absurd (none_at View.drawn n i t refl e);
     owned = λ t lt. absurd (omega arith);
-    alone = λ i j t e. absurd (none_at drawn_of n i t refl e);
-    filled = λ i t w p e. absurd (none_at drawn_of n i t refl e);
+    alone = λ i j t e. absurd (none_at View.drawn n i t refl e);
+    filled = λ i t w p e. absurd (none_at View.drawn n i t refl e);
     front = λ t lt. absurd (omega arith);
     merged_decided = λ t lt. absurd (omega arith);
     short = λ t i key written e. absurd cc;
@@ -96,32 +95,32 @@ module _ (z : Layout) where
     lies = λ r s t i. absurd i;
     once = λ r s. tt;
     standing = λ t i key written a e. absurd cc;
-    linked = λ i t e. absurd (none_at drawn_of n i t refl e);
-    loose = λ i t e. absurd (none_at drawn_of n i t refl e);
+    linked = λ i t e. absurd (none_at View.drawn n i t refl e);
+    loose = λ i t e. absurd (none_at View.drawn n i t refl e);
     ordered = λ r lt. refl;
     sorted = λ r. tt;
     placed = λ r p i. absurd i;
     entered = λ t i key written a e. absurd cc;
-    inserted = λ i t e. absurd (none_at drawn_of n i t refl e);
-    outside = λ i t e. absurd (none_at drawn_of n i t refl e);
-    leading = λ i t w e. absurd (none_at drawn_of n i t refl e);
-    met = λ i ne. absurd (ne (ap met_of (idle_at n i)));
-    lows = λ i ne. absurd (ne (ap low_of (idle_at n i)));
-    highs = λ i ne. absurd (ne (ap high_of (idle_at n i)));
-    lower = λ i t k e. absurd (none_at drawn_of n i t refl e);
-    higher = λ i t k e. absurd (none_at drawn_of n i t refl e);
-    found_heads = λ i t chain x e. let h = ap mode_of (idle_at n i) in absurd (cc (h, e));
-    found_links = λ i t found e. let h = ap mode_of (idle_at n i) in absurd (cc (h, e));
-    limits = λ i x e f. absurd (none_at hold_limit_of n i x refl f);
-    fresh_clocks = λ i x e. absurd (none_at fresh_clock_of n i x refl e);
-    hold_clocks = λ i x e. absurd (none_at hold_clock_of n i x refl e);
-    clocks = λ i x e. absurd (none_at clock_of n i x refl e);
-    pin_clocks = λ i x e. absurd (none_at pin_clock_of n i x refl e);
-    past = λ i t lt. let h = ap past_time_of (idle_at n i) in absurd (omega arith);
-    reached = λ i t lt. let h = ap reached_of (idle_at n i) in absurd (omega arith);
-    pins = λ i lt. sym (ap pin_of (idle_at n i));
+    inserted = λ i t e. absurd (none_at View.drawn n i t refl e);
+    outside = λ i t e. absurd (none_at View.drawn n i t refl e);
+    leading = λ i t w e. absurd (none_at View.drawn n i t refl e);
+    met = λ i ne. absurd (ne (ap View.met (idle_at n i)));
+    lows = λ i ne. absurd (ne (ap View.low (idle_at n i)));
+    highs = λ i ne. absurd (ne (ap View.high (idle_at n i)));
+    lower = λ i t k e. absurd (none_at View.drawn n i t refl e);
+    higher = λ i t k e. absurd (none_at View.drawn n i t refl e);
+    found_heads = λ i t chain x e. let h = ap View.mode (idle_at n i) in absurd (cc (h, e));
+    found_links = λ i t found e. let h = ap View.mode (idle_at n i) in absurd (cc (h, e));
+    limits = λ i x e f. absurd (none_at View.hold_limit n i x refl f);
+    fresh_clocks = λ i x e. absurd (none_at View.fresh_clock n i x refl e);
+    hold_clocks = λ i x e. absurd (none_at View.hold_clock n i x refl e);
+    clocks = λ i x e. absurd (none_at View.clock n i x refl e);
+    pin_clocks = λ i x e. absurd (none_at View.pin_clock n i x refl e);
+    past = λ i t lt. let h = ap View.past (idle_at n i) in absurd (omega arith);
+    reached = λ i t lt. let h = ap View.reached (idle_at n i) in absurd (omega arith);
+    pins = λ i lt. sym (ap View.pin (idle_at n i));
     odd = λ i. all_idle (λ (v : View). v.pin % 2 ≡ cond v.pinned 1 0) refl n i;
-    held = λ i c e. absurd (none_at held_of n i c refl e);
+    held = λ i c e. absurd (none_at View.held n i c refl e);
     notes = λ i lt. all_idle (λ (v : View). 0 ≡ note_of v.snapshot) refl n i;
     snapshots = λ i. all_idle (λ (v : View). IsSnapshot 0 0 v.past v.pinned v.snapshot) tt n i;
     passed = tt;
@@ -146,7 +145,7 @@ module _ (z : Layout) where
     recorded = λ t i key written lt e. absurd cc;
     rising = λ i. all_idle (λ (v : View). IsRising v.calls v.due (open_time v.snapshot)) (record { rises = tt; due_is = omega arith; open_is = refl }) n i;
     dues = λ i. all_idle (λ (v : View). v.due ≤ 0) (omega arith) n i;
-    own_dues = λ i t e. absurd (none_at drawn_of n i t refl e);
+    own_dues = λ i t e. absurd (none_at View.drawn n i t refl e);
     front_clock = omega arith;
     past_clock = λ i. all_idle (λ (v : View). v.past ≤ 0) (omega arith) n i;
     reached_clock = λ i. all_idle (λ (v : View). v.reached ≤ 0) (omega arith) n i;

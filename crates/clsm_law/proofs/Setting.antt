@@ -29,13 +29,13 @@ use Rattle.clsm_law.specs.Relation.{Chains, Orders, word_of, changed, view_after
 use Rattle.clsm_law.specs.Merging.{is_clean, Facts, IsOpenToMerger, word_of_merger, changed_by_merger, merger_after, slots_after_merger, epoch_end}
 use Rattle.clsm_law.specs.Merging.{chains_after_merger, orders_after_merger, is_retired, is_frozen, is_all_quiet, reader_at}
 use Rattle.clsm_law.specs.Worlds.{view_at, outcome_at, past_of, open_past, facts_of}
-use Rattle.clsm_law.specs.Law.{LawOf, Shows, each, mode_of, taken_by, drawn_of, held_of, pin_of, past_time_of, IsRetiredFor, first_shown, first_live}
+use Rattle.clsm_law.specs.Law.{LawOf, Shows, each, taken_by, IsRetiredFor, first_shown, first_live}
 use Rattle.clsm_law.specs.Law.{is_held_back}
 use Rattle.clsm_law.proofs.Frames.{at_each, put_same, puts_each, past_end}
 use Rattle.clsm_law.proofs.Clock.Times.{Live}
 
--- a lawful world and one of its seats
-pub record Setting : Type 0 where
+-- a lawful world
+pub record Ground : Type 0 where
   pub z : Layout
   pub sound : IsLayout z
   pub memory : Memory
@@ -46,6 +46,11 @@ pub record Setting : Type 0 where
   pub chains : Chains
   pub orders : Orders
   pub law : LawOf z memory views merger slots batches chains orders
+
+-- and one of its seats
+pub record Setting : Type 0 where
+  pub ground : Ground
+  pub open ground use *
   pub me : ℕ
   pub inside : me < length views
 
@@ -112,33 +117,6 @@ own_drawn s ne = is (v s).drawn ne where
   is : (o : Option ℕ) → o ≢ None → o ≡ Some (or_zero o)
   is None ne = absurd (ne refl)
   is (Some t) ne = refl
-
--- a lawful world
-pub record Ground : Type 0 where
-  pub z : Layout
-  pub sound : IsLayout z
-  pub memory : Memory
-  pub views : List View
-  pub merger : MergerView
-  pub slots : List (Option Slot)
-  pub batches : List Batch
-  pub chains : Chains
-  pub orders : Orders
-  pub law : LawOf z memory views merger slots batches chains orders
-
-abbrev pub ground : Setting → Ground
-ground s = record {
-  z = s.z;
-  sound = s.sound;
-  memory = s.memory;
-  views = s.views;
-  merger = s.merger;
-  slots = s.slots;
-  batches = s.batches;
-  chains = s.chains;
-  orders = s.orders;
-  law = s.law;
-}
 
 -- ---- a step of the merger
 
@@ -255,10 +233,10 @@ module _ (g : Ground) where
       (elim (is_frozen g.merger.phase || g.merger.limit_extended) as (λ b. g.merger.merged * g.z.cells + g.z.cells
       ≤ cond b ((g.merger.merged + 2) * g.z.cells) ((g.merger.merged + 1) * g.z.cells)) [ true ↦ omega arith | false ↦ omega arith ])
 
-  pub drawn_shown : (i t : ℕ) → each g.z drawn_of g.views i ≡ Some t → (g.merger.merged * g.z.cells ≤ t) × (t < length g.slots)
+  pub drawn_shown : (i t : ℕ) → each g.z View.drawn g.views i ≡ Some t → (g.merger.merged * g.z.cells ≤ t) × (t < length g.slots)
   drawn_shown i t e = let p = g.law.pending i t e in let a = p.0 in let b = merged_below_limit in (omega arith, p.1)
 
-  pub drawn_live : (i t : ℕ) → each g.z drawn_of g.views i ≡ Some t → Live g.z (first_live g.z g.merger) t
+  pub drawn_live : (i t : ℕ) → each g.z View.drawn g.views i ≡ Some t → Live g.z (first_live g.z g.merger) t
   drawn_live i t e = let p = drawn_shown i t e in shown_live t (let a = shown_below_merged in let b = p.0 in omega arith) p.1
 
   -- the state of a shown time tells whether it is decided
@@ -293,14 +271,14 @@ module _ (g : Ground) where
       slot drawn (Some (Wrote i key value)) e h = record { drawn = drawn; seat = i; key = key; value = value; slot = e }
 
   -- only drawn times are known
-  pub past_below : (i : ℕ) → each g.z past_time_of g.views i ≤ length g.slots
-  past_below i = elim (cases_lt (length g.slots) (each g.z past_time_of g.views i)) [
+  pub past_below : (i : ℕ) → each g.z View.past g.views i ≤ length g.slots
+  past_below i = elim (cases_lt (length g.slots) (each g.z View.past g.views i)) [
     | inl lt ↦ absurd (g.law.past i (length g.slots) lt (past_end g.slots))
     | inr le ↦ le
   ]
 
   -- no seat has drawn a time while the merger holds the lock
-  pub none_drawn : g.merger.exclusive ≡ true → (i t : ℕ) → each g.z drawn_of g.views i ≢ Some t
+  pub none_drawn : g.merger.exclusive ≡ true → (i t : ℕ) → each g.z View.drawn g.views i ≢ Some t
   none_drawn e i t d = g.law.holding i t d (g.law.locked_out e i)
 
   -- the clock is not beyond the times that are taken
@@ -308,7 +286,7 @@ module _ (g : Ground) where
   clock_below = let a = g.law.clock in omega arith
 
   -- where no caller holds the lock exclusively no time is taken beyond it
-  pub none_taken : (views : List View) → ((i : ℕ) → each g.z mode_of views i ≢ Exclusive) → sum_by taken_by views ≡ 0
+  pub none_taken : (views : List View) → ((i : ℕ) → each g.z View.mode views i ≢ Exclusive) → sum_by taken_by views ≡ 0
   none_taken [] none = refl
   none_taken (y ∷ ys) none = let a = sum_by-cons taken_by y ys in let b = none_taken ys (λ i. none (suc i)) in let c = taken_none y.mode (none 0) in omega arith
     where
@@ -317,13 +295,13 @@ module _ (g : Ground) where
       taken_none Shared ne = refl
       taken_none Exclusive ne = absurd (ne refl)
 
-  pub clock_even : ((i : ℕ) → each g.z mode_of g.views i ≢ Exclusive) → g.memory Clock ≡ length g.slots
+  pub clock_even : ((i : ℕ) → each g.z View.mode g.views i ≢ Exclusive) → g.memory Clock ≡ length g.slots
   clock_even none = let a = g.law.clock in let b = none_taken g.views none in omega arith
 
   -- so it is while a caller holds the lock shared
-  pub clock_shared : (i : ℕ) → each g.z mode_of g.views i ≡ Shared → g.memory Clock ≡ length g.slots
+  pub clock_shared : (i : ℕ) → each g.z View.mode g.views i ≡ Shared → g.memory Clock ≡ length g.slots
   clock_shared i shared = clock_even (λ j e. dite (ℕ_discrete i j)
-      (λ (same : i ≡ j). absurd (let other : each g.z mode_of g.views i ≡ Exclusive = ap (each g.z mode_of g.views) same ∙ e in cc))
+      (λ (same : i ≡ j). absurd (let other : each g.z View.mode g.views i ≡ Exclusive = ap (each g.z View.mode g.views) same ∙ e in cc))
       (λ ne. absurd (let free = g.law.sole j i e ne in cc)))
 
   -- and while the merger holds it
@@ -331,17 +309,17 @@ module _ (g : Ground) where
   clock_merger held = clock_even (λ j e. absurd (let free = g.law.locked_out held j in cc))
 
   -- only a seat holds a component
-  pub holder_below : (i c : ℕ) → each g.z held_of g.views i ≡ Some c → i < length g.views
+  pub holder_below : (i c : ℕ) → each g.z View.held g.views i ≡ Some c → i < length g.views
   holder_below i c e = elim (cases_lt i (length g.views)) [
     | inl lt ↦ lt
-    | inr le ↦ absurd (let none : each g.z held_of g.views i ≡ None = ap held_of (get_or_past g.views i (idle g.z) le) in cc (none, e))
+    | inr le ↦ absurd (let none : each g.z View.held g.views i ≡ None = ap View.held (get_or_past g.views i (idle g.z) le) in cc (none, e))
   ]
 
   -- who holds a component holds one whose cells are shown
-  pub held_shown : (i c : ℕ) → i < length g.views → each g.z held_of g.views i ≡ Some c → first_shown g.z g.merger ≤ c * g.z.cells
+  pub held_shown : (i c : ℕ) → i < length g.views → each g.z View.held g.views i ≡ Some c → first_shown g.z g.merger ≤ c * g.z.cells
   held_shown i c lt e = ⊎_elim
       (λ (same : c ≡ g.merger.merged). let a = shown_below_merged in subst (λ (k : ℕ). first_shown g.z g.merger ≤ k * g.z.cells) (sym same) a)
-      (λ (r : IsRetiredFor g.merger i (each g.z pin_of g.views i) c).
+      (λ (r : IsRetiredFor g.merger i (each g.z View.pin g.views i) c).
       let loud : is_all_quiet g.merger.readers ≡ false = not_all_quiet g.merger.readers i
       (let a = g.law.merger.seats in let b = g.law.seated in omega arith) r.loud in
       let back : is_held_back g.merger ≡ true = rw (r.retired, loud) refl in

@@ -1,9 +1,13 @@
 -- The numbers that stand for something else in a word.
-use Rattle.std.specs.Prelude.{ℕ, ◌^◌}
+use Rattle.std.specs.Prelude.{ℕ, ◌+◌, ◌-◌, ◌%◌, ◌^◌}
 
 -- LOCK under an exclusive hold; a number of shared holders is below it
 abbrev pub exclusive_hold : ℕ
-exclusive_hold = 4294967296
+exclusive_hold = 2 ^ 32
+
+-- what fetch_sub of n leaves of a word x of 64 bits: who leaves LOCK takes its hold from it
+abbrev pub less : ℕ → ℕ → ℕ
+less n x = (x + (2 ^ 64 - n)) % 2 ^ 64
 
 -- the greatest limit: each time is below it
 abbrev pub last_limit : ℕ

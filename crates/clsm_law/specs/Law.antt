@@ -7,7 +7,6 @@ use Rattle.clsm_model.specs.declared.slot.Slot.{Slot}
 use Rattle.clsm_model.specs.declared.slot.Slot.TheVariants.{Nothing, Wrote}
 use Rattle.clsm_model.specs.declared.record.CallRecord.{CallRecord}
 use Rattle.clsm_model.specs.History.{History, IsUncut, AreInTurn}
-use Rattle.clsm_model.specs.Right.{Member}
 use Rattle.clsm_levels.specs.Content.{IsContent}
 use Rattle.clsm_levels.specs.Place.{AreWithin}
 use Rattle.clsm_law.specs.declared.layout.Layout.{Layout}
@@ -25,7 +24,7 @@ use Rattle.clsm_law.specs.declared.merger.Round.{Round}
 use Rattle.clsm_law.specs.Codes.{exclusive_hold, last_limit}
 use Rattle.clsm_law.specs.Memory.{Memory, cell_of, region_of, link_at, link_of, key_at, room_of}
 use Rattle.clsm_law.specs.Places.{is_named, held_at}
-use Rattle.clsm_law.specs.Views.{IsShort, is_shared, is_exclusive, length_of, line_of, words_of, state_of}
+use Rattle.clsm_law.specs.Views.{IsShort, hold_of, is_exclusive, length_of, line_of, words_of, state_of}
 use Rattle.clsm_law.specs.OpenSteps.{open_time}
 use Rattle.clsm_law.specs.Relation.{Chains, Orders, Before}
 use Rattle.clsm_law.specs.Merging.{is_clean, is_frozen, is_retired, is_all_quiet, reader_at, epoch_end}
@@ -39,99 +38,6 @@ use Rattle.clsm_law.specs.Worlds.{view_at, outcome_at, past_of, history_of, runs
 abbrev pub each : {A : Type 0} → Layout → (View → A) → List View → ℕ → A
 each z f views i = f (view_at z views i)
 
--- how the seat holds the lock
-abbrev pub mode_of : View → Mode
-mode_of v = v.mode
-
--- the time that it drew and has neither decided nor given up
-abbrev pub drawn_of : View → Option ℕ
-drawn_of v = v.drawn
-
--- the key that it filled in the drawn cell
-abbrev pub key_of : View → Option ℕ
-key_of v = v.key
-
--- the drawn cell is linked
-abbrev pub linked_of : View → Bool
-linked_of v = v.linked
-
--- the link that it filled behind the drawn cell
-abbrev pub order_next_of : View → Option ℕ
-order_next_of v = v.order_next
-
--- the drawn cell stands in the ordered list
-abbrev pub inserted_of : View → Bool
-inserted_of v = v.inserted
-
--- the last looks at heads of chains, and at a link of the ordered list, while they are fresh
-abbrev pub fresh_heads_of : View → List (Option ℕ)
-fresh_heads_of v = v.fresh_heads
-
-abbrev pub fresh_link_of : View → Option FreshLink
-fresh_link_of v = v.fresh_link
-
--- the places of the list that it met last, and found last before and behind the drawn cell
-abbrev pub met_of : View → ℕ
-met_of v = v.met
-
-abbrev pub low_of : View → ℕ
-low_of v = v.low
-
-abbrev pub high_of : View → ℕ
-high_of v = v.high
-
--- the last look at CLOCK, while it is fresh
-abbrev pub fresh_clock_of : View → Option ℕ
-fresh_clock_of v = v.fresh_clock
-
--- the look at LIMIT in the last hold of the lock
-abbrev pub hold_limit_of : View → Option ℕ
-hold_limit_of v = v.hold_limit
-
--- the look at CLOCK in the last hold of the lock
-abbrev pub hold_clock_of : View → Option ℕ
-hold_clock_of v = v.hold_clock
-
--- its pin word
-abbrev pub pin_of : View → ℕ
-pin_of v = v.pin
-
--- a read of the seat runs
-abbrev pub pinned_of : View → Bool
-pinned_of v = v.pinned
-
--- the component that it holds
-abbrev pub held_of : View → Option ℕ
-held_of v = v.held
-
--- the last look at CLOCK, whenever it was
-abbrev pub clock_of : View → Option ℕ
-clock_of v = v.clock
-
--- the last look at CLOCK under the pin
-abbrev pub pin_clock_of : View → Option ℕ
-pin_clock_of v = v.pin_clock
-
--- how far it is with its snapshot
-abbrev pub snapshot_of : View → SnapshotState
-snapshot_of v = v.snapshot
-
--- the time below which it found each one decided
-abbrev pub reached_of : View → ℕ
-reached_of v = v.reached
-
--- the end of its past: the history below that time
-abbrev pub past_time_of : View → ℕ
-past_time_of v = v.past
-
--- the time below which it makes no later call, except those under an open snapshot
-abbrev pub due_of : View → ℕ
-due_of v = v.due
-
--- its records, in order
-abbrev pub calls_of : View → List CallRecord
-calls_of v = v.calls
-
 -- a part of the drawn cell, where the seat has filled it
 abbrev pub part_of : View → Part → Option ℕ
 part_of v Key = v.key
@@ -139,17 +45,9 @@ part_of v Length = v.length
 part_of v (Value j) = slice_index_or v.words j None
 part_of v Next = v.next
 
--- the members of its batch that are decided and not committed
-abbrev pub staged_of : View → List Member
-staged_of v = v.staged
-
--- it committed a batch in this hold of the lock
-abbrev pub committed_of : View → Bool
-committed_of v = v.committed
-
--- what a seat adds to LOCK: 1 for a shared hold
+-- what a seat adds to LOCK
 abbrev pub holders : View → ℕ
-holders v = cond (is_shared v.mode) 1 (cond (is_exclusive v.mode) exclusive_hold 0)
+holders v = hold_of v.mode
 
 -- the times from the clock on that a seat has taken for its batch: those of the members that are
 -- decided, and of the one that it writes
@@ -511,8 +409,8 @@ pub record LawOf (z : Layout) (memory : Memory) (views : List View) (m : MergerV
   -- the lock
   pub seated : length views ≡ z.seats
   pub lock : memory Lock ≡ cond m.exclusive exclusive_hold (sum_by holders views)
-  pub locked_out : IsLockedOut m.exclusive (each z mode_of views)
-  pub sole : AreSole (each z mode_of views)
+  pub locked_out : IsLockedOut m.exclusive (each z View.mode views)
+  pub sole : AreSole (each z View.mode views)
   pub merger : IsMerger z m (length slots)
   -- the clock
   pub clock : memory Clock + sum_by taken_by views ≡ length slots
@@ -523,11 +421,11 @@ pub record LawOf (z : Layout) (memory : Memory) (views : List View) (m : MergerV
   pub top : memory Limit ≤ last_limit
   pub merged : memory Merged ≡ m.merged
   -- drawn times
-  pub holding : AreHolding (each z drawn_of views) (each z mode_of views)
-  pub pending : ArePending z (memory Limit) (each z drawn_of views) (length slots) (outcome_at slots)
-  pub owned : AreOwned (each z drawn_of views) (length slots) (outcome_at slots)
-  pub alone : AreAlone (each z drawn_of views)
-  pub filled : AreFilled z memory (each z drawn_of views) (each z part_of views)
+  pub holding : AreHolding (each z View.drawn views) (each z View.mode views)
+  pub pending : ArePending z (memory Limit) (each z View.drawn views) (length slots) (outcome_at slots)
+  pub owned : AreOwned (each z View.drawn views) (length slots) (outcome_at slots)
+  pub alone : AreAlone (each z View.drawn views)
+  pub filled : AreFilled z memory (each z View.drawn views) (each z part_of views)
   -- decided times
   pub front : IsDecidedBelow (outcome_at slots) (memory Front)
   pub merged_decided : IsDecidedBelow (outcome_at slots) (m.merged * z.cells)
@@ -539,62 +437,62 @@ pub record LawOf (z : Layout) (memory : Memory) (views : List View) (m : MergerV
   pub lies : AreIn z memory (first_live z m) (length slots) chains
   pub once : AreOnce chains
   pub standing : AreStanding z (first_shown z m) (outcome_at slots) chains
-  pub linked : AreLinked z (each z drawn_of views) (each z key_of views) (each z linked_of views) chains
-  pub loose : AreLoose (each z drawn_of views) (each z linked_of views) chains
+  pub linked : AreLinked z (each z View.drawn views) (each z View.key views) (each z View.linked views) chains
+  pub loose : AreLoose (each z View.drawn views) (each z View.linked views) chains
   -- ordered lists
   pub ordered : AreOrdered memory orders
   pub sorted : AreSorted memory orders
   pub placed : ArePlaced z (first_live z m) (length slots) orders
   pub entered : AreInOrder z (first_shown z m) (outcome_at slots) orders
-  pub inserted : AreInserted z (each z drawn_of views) (each z linked_of views) (each z inserted_of views) orders
-  pub outside : AreOutside z (each z drawn_of views) (each z inserted_of views) orders
-  pub leading : AreLeading z memory (each z drawn_of views) (each z inserted_of views) (each z order_next_of views)
-  pub met : AreMembers z (memory Limit) orders (each z mode_of views) (each z met_of views)
-  pub lows : AreMembers z (memory Limit) orders (each z mode_of views) (each z low_of views)
-  pub highs : AreMembers z (memory Limit) orders (each z mode_of views) (each z high_of views)
-  pub lower : AreLower z memory (each z drawn_of views) (each z key_of views) (each z low_of views)
-  pub higher : AreHigher z memory (each z drawn_of views) (each z key_of views) (each z inserted_of views) (each z high_of views)
+  pub inserted : AreInserted z (each z View.drawn views) (each z View.linked views) (each z View.inserted views) orders
+  pub outside : AreOutside z (each z View.drawn views) (each z View.inserted views) orders
+  pub leading : AreLeading z memory (each z View.drawn views) (each z View.inserted views) (each z View.order_next views)
+  pub met : AreMembers z (memory Limit) orders (each z View.mode views) (each z View.met views)
+  pub lows : AreMembers z (memory Limit) orders (each z View.mode views) (each z View.low views)
+  pub highs : AreMembers z (memory Limit) orders (each z View.mode views) (each z View.high views)
+  pub lower : AreLower z memory (each z View.drawn views) (each z View.key views) (each z View.low views)
+  pub higher : AreHigher z memory (each z View.drawn views) (each z View.key views) (each z View.inserted views) (each z View.high views)
   -- what is found in an exclusive hold
-  pub found_heads : AreFoundHeads z memory (memory Limit) (each z mode_of views) (each z fresh_heads_of views)
-  pub found_links : AreFoundLinks z memory (each z mode_of views) (each z drawn_of views) (each z inserted_of views) (each z fresh_link_of views)
+  pub found_heads : AreFoundHeads z memory (memory Limit) (each z View.mode views) (each z View.fresh_heads views)
+  pub found_links : AreFoundLinks z memory (each z View.mode views) (each z View.drawn views) (each z View.inserted views) (each z View.fresh_link views)
   -- what is noted
-  pub limits : AreLimits (each z mode_of views) (each z hold_limit_of views) (memory Limit)
-  pub fresh_clocks : AreNotedBelow (each z fresh_clock_of views) (memory Clock)
-  pub hold_clocks : AreNotedBelow (each z hold_clock_of views) (memory Clock)
-  pub clocks : AreNotedBelow (each z clock_of views) (memory Clock)
-  pub pin_clocks : AreNotedBelow (each z pin_clock_of views) (memory Clock)
-  pub past : AreDecidedBelow (outcome_at slots) (each z past_time_of views)
-  pub reached : AreDecidedBelow (outcome_at slots) (each z reached_of views)
+  pub limits : AreLimits (each z View.mode views) (each z View.hold_limit views) (memory Limit)
+  pub fresh_clocks : AreNotedBelow (each z View.fresh_clock views) (memory Clock)
+  pub hold_clocks : AreNotedBelow (each z View.hold_clock views) (memory Clock)
+  pub clocks : AreNotedBelow (each z View.clock views) (memory Clock)
+  pub pin_clocks : AreNotedBelow (each z View.pin_clock views) (memory Clock)
+  pub past : AreDecidedBelow (outcome_at slots) (each z View.past views)
+  pub reached : AreDecidedBelow (outcome_at slots) (each z View.reached views)
   pub front_clock : memory Front ≤ memory Clock
-  pub past_clock : AreAtMost (each z past_time_of views) (memory Clock)
-  pub reached_clock : AreAtMost (each z reached_of views) (memory Clock)
+  pub past_clock : AreAtMost (each z View.past views) (memory Clock)
+  pub reached_clock : AreAtMost (each z View.reached views) (memory Clock)
   -- pins and snapshots
-  pub pins : ArePins z memory (each z pin_of views)
-  pub odd : AreOdd (each z pin_of views) (each z pinned_of views)
-  pub held : AreHeld m (each z held_of views) (each z pinned_of views) (each z pin_of views)
-  pub notes : AreNotes z memory (each z snapshot_of views)
-  pub snapshots : AreSnapshots m.floor (memory Clock) (each z past_time_of views) (each z pinned_of views) (each z snapshot_of views)
-  pub passed : ArePassed (is_frozen m.phase) m.round (epoch_end z m) (each z snapshot_of views)
+  pub pins : ArePins z memory (each z View.pin views)
+  pub odd : AreOdd (each z View.pin views) (each z View.pinned views)
+  pub held : AreHeld m (each z View.held views) (each z View.pinned views) (each z View.pin views)
+  pub notes : AreNotes z memory (each z View.snapshot views)
+  pub snapshots : AreSnapshots m.floor (memory Clock) (each z View.past views) (each z View.pinned views) (each z View.snapshot views)
+  pub passed : ArePassed (is_frozen m.phase) m.round (epoch_end z m) (each z View.snapshot views)
   -- runs
   pub floors : AreFloors z m
   pub runs : AreRuns z memory (history_of slots) m.merged m.merged_floor
   pub former_runs : is_held_back m ≡ true → AreRuns z memory (history_of slots) (m.merged - 1) m.former_floor
   -- records
-  pub right : AreRight (λ i. past_of slots (each z past_time_of views i)) (each z calls_of views)
-  pub stand : AreRecordsStanding (outcome_at slots) (each z calls_of views)
-  pub recorded : AreRecorded (memory Clock) (outcome_at slots) (each z calls_of views)
-  pub rising : AreRising (each z calls_of views) (each z due_of views) (each z snapshot_of views)
-  pub dues : AreAtMost (each z due_of views) (memory Clock)
-  pub own_dues : AreDuesBelowOwn (each z drawn_of views) (outcome_at slots) (each z due_of views)
+  pub right : AreRight (λ i. past_of slots (each z View.past views i)) (each z View.calls views)
+  pub stand : AreRecordsStanding (outcome_at slots) (each z View.calls views)
+  pub recorded : AreRecorded (memory Clock) (outcome_at slots) (each z View.calls views)
+  pub rising : AreRising (each z View.calls views) (each z View.due views) (each z View.snapshot views)
+  pub dues : AreAtMost (each z View.due views) (memory Clock)
+  pub own_dues : AreDuesBelowOwn (each z View.drawn views) (outcome_at slots) (each z View.due views)
   -- batches
-  pub staging : AreStaging (memory Clock) (outcome_at slots) (each z mode_of views) (each z drawn_of views) (each z staged_of views)
-      (each z committed_of views) (each z hold_clock_of views)
+  pub staging : AreStaging (memory Clock) (outcome_at slots) (each z View.mode views) (each z View.drawn views) (each z View.staged views)
+      (each z View.committed views) (each z View.hold_clock views)
   pub in_turn : AreInTurn 0 batches (memory Clock)
   pub written : AllByRecursion (IsWritten (outcome_at slots)) batches
   pub uncut_front : IsUncut batches (memory Front)
-  pub uncut_pins : AreUncutNotes batches (each z pin_clock_of views)
-  pub uncut_snapshots : AreUncutSnapshots batches (each z snapshot_of views)
-  pub uncut_pasts : AreUncutPasts batches (each z past_time_of views)
-  pub uncut : AreUncut batches (each z calls_of views)
-  pub listed : AreListed batches (each z calls_of views)
-  pub fitting : AreFitting z.cells (each z calls_of views)
+  pub uncut_pins : AreUncutNotes batches (each z View.pin_clock views)
+  pub uncut_snapshots : AreUncutSnapshots batches (each z View.snapshot views)
+  pub uncut_pasts : AreUncutPasts batches (each z View.past views)
+  pub uncut : AreUncut batches (each z View.calls views)
+  pub listed : AreListed batches (each z View.calls views)
+  pub fitting : AreFitting z.cells (each z View.calls views)

@@ -30,29 +30,33 @@ pub record HasSizesOf (z : Layout) (config : Config) : Type 0 where
 abbrev pub spacing : ℕ
 spacing = 16
 
--- the row begins so many words before a line of 64 bytes
-abbrev pub to_line : ℕ
-to_line = 6
-
--- from a cell to the next: a cell has a line to itself
+-- from a cell to the next: a cell has a line of 64 bytes to itself
 abbrev pub cell_words : ℕ
 cell_words = 8
 
--- the first three words of a value stand in its cell's line, the other five in a block behind the
--- cells
+-- the row begins two words behind such a line, so many before the next
+abbrev pub to_line : ℕ
+to_line = cell_words - 2
+
+-- the first words of a value stand in its cell's line
+abbrev pub near_words : ℕ
+near_words = 3
+
+-- the others of its eight in a block behind the cells
 abbrev pub far_words : ℕ
-far_words = 5
+far_words = 8 - near_words
 
--- an entry's words: its key, those near the keys, and those far from them
-abbrev pub entry_words : ℕ
-entry_words = 11
-
--- the near ones are its time, its length and the first two words of its value
+-- the words of an entry near the keys: its time, its length and the first two words of its value
 abbrev pub near_entry_words : ℕ
 near_entry_words = 4
 
+-- and those far from them
 abbrev pub far_entry_words : ℕ
 far_entry_words = 6
+
+-- an entry's words: its key and these
+abbrev pub entry_words : ℕ
+entry_words = 1 + near_entry_words + far_entry_words
 
 -- a place's words: its count, and the entries that it has room for
 abbrev pub place_size : Layout → ℕ → ℕ

@@ -1,6 +1,6 @@
 -- The steps of the merger, by cases in the order of the step's members. Beside its view, a step of
 -- the merger knows some facts of the world.
-use Rattle.std.specs.Prelude.{◌≡◌, ℕ, ◌+◌, ◌-◌, ◌*◌, ◌%◌, ◌^◌, ◌<◌, ◌≤◌, ◌==◌, ◌&&◌, ◌||◌, Bool, true, false, not, cond, max, min, List, [], ◌++◌, length}
+use Rattle.std.specs.Prelude.{◌≡◌, ℕ, ◌+◌, ◌-◌, ◌*◌, ◌%◌, ◌<◌, ◌≤◌, ◌==◌, ◌&&◌, ◌||◌, Bool, true, false, not, cond, max, min, List, [], ◌++◌, length}
 use Rattle.std.specs.Prelude.{replicate, slice_index_or, slice_set, Option, Some, None}
 use Rattle.std.specs.List.{list_all}
 use prog.Atomic.{either}
@@ -19,7 +19,7 @@ use Rattle.clsm_law.specs.declared.merger.Phase.{Phase}
 use Rattle.clsm_law.specs.declared.merger.Phase.TheVariants.{Clean, Frozen, Retired}
 use Rattle.clsm_law.specs.declared.merger.Round.{Round}
 use Rattle.clsm_law.specs.declared.merger.Reader.{Reader}
-use Rattle.clsm_law.specs.Codes.{exclusive_hold, last_limit, cancelled_cell}
+use Rattle.clsm_law.specs.Codes.{exclusive_hold, less, last_limit, cancelled_cell}
 use Rattle.clsm_law.specs.Memory.{cell_of, region_of, room_of, is_word}
 use Rattle.clsm_law.specs.Places.{number_of, is_named}
 use Rattle.clsm_law.specs.Views.{next_word}
@@ -182,7 +182,7 @@ abbrev pub changed_by_merger : Layout → MergerView → Step → ℕ → ℕ
 -- compare_exchange: the exclusive hold, where nobody holds the lock
 changed_by_merger z m EnterExclusive x = either (x == 0) exclusive_hold x
 -- fetch_sub of the same: no holder
-changed_by_merger z m LeaveExclusive x = (x + 18446744069414584320) % 2 ^ 64
+changed_by_merger z m LeaveExclusive x = less exclusive_hold x
 -- load
 changed_by_merger z m (Look word) x = x
 -- store: cancelled

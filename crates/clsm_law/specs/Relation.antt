@@ -1,7 +1,7 @@
 -- The steps of a caller's seat, by cases in the order of the step's members: the word of each, what
 -- it makes of the word, the view after it, the slots and chains after it, and its answer. Where
 -- each is open is in `OpenSteps`. `x` is the word that the step finds.
-use Rattle.std.specs.Prelude.{◌≡◌, ℕ, ◌+◌, ◌*◌, ◌%◌, ◌^◌, ◌<◌, ◌≤◌, ◌==◌, ◌&&◌, ◌||◌, Bool, true, false, not, cond, nat_lt, nat_le, max, List, [], ◌∷◌}
+use Rattle.std.specs.Prelude.{◌≡◌, ℕ, ◌+◌, ◌*◌, ◌%◌, ◌<◌, ◌≤◌, ◌==◌, ◌&&◌, ◌||◌, Bool, true, false, not, cond, nat_lt, nat_le, max, List, [], ◌∷◌}
 use Rattle.std.specs.Prelude.{◌++◌, length, slice_set, Option, Some, None, is_some}
 use prog.Atomic.{either}
 use Rattle.clsm_model.specs.declared.batch.Batch.{Batch}
@@ -30,7 +30,7 @@ use Rattle.clsm_law.specs.declared.view.Mode.TheVariants.{Free, Shared, Exclusiv
 use Rattle.clsm_law.specs.declared.view.Mode.{Mode}
 use Rattle.clsm_law.specs.declared.view.SnapshotState.{SnapshotState}
 use Rattle.clsm_law.specs.declared.view.SnapshotState.TheVariants.{Absent, Noted, Timed, Open}
-use Rattle.clsm_law.specs.Codes.{exclusive_hold, undecided_cell, cancelled_cell, value_cell, removal_cell}
+use Rattle.clsm_law.specs.Codes.{exclusive_hold, less, undecided_cell, cancelled_cell, value_cell, removal_cell}
 use Rattle.clsm_law.specs.Memory.{cell_of, region_of, link_at, head_of}
 use Rattle.clsm_law.specs.Views.{blank, or_zero, next_word, is_below, is_free, is_exclusive, line_of, own_time, own_line, own_region, own_place, state_of}
 use Rattle.clsm_law.specs.OpenSteps.{open_time, time_of_read, is_old, timed}
@@ -142,7 +142,7 @@ abbrev pub changed : Layout → View → Step → ℕ → ℕ
 -- compare_exchange: one holder more, where the number is l
 changed z v (EnterShared l) x = either (x == l) (l + 1) x
 -- fetch_sub 1: one holder fewer
-changed z v LeaveShared x = (x + 18446744073709551615) % 2 ^ 64
+changed z v LeaveShared x = less 1 x
 -- compare_exchange: the next time, where the clock is t
 changed z v (Draw t) x = either (x == t) (t + 1) x
 -- store
@@ -162,7 +162,7 @@ changed z v (Cancel t) x = either (x == undecided_cell) cancelled_cell x
 -- compare_exchange: the exclusive hold, where nobody holds the lock
 changed z v EnterExclusive x = either (x == 0) exclusive_hold x
 -- fetch_sub of the same: no holder
-changed z v LeaveExclusive x = (x + 18446744069414584320) % 2 ^ 64
+changed z v LeaveExclusive x = less exclusive_hold x
 -- store
 changed z v (Stage t key) x = key
 -- store: the time behind the last member

@@ -32,21 +32,14 @@ use Rattle.clsm_law.specs.declared.merger.Reader.{Reader}
 use Rattle.clsm_law.specs.declared.merger.MergerView.{MergerView}
 use Rattle.clsm_law.specs.Machine.{WorldState}
 
--- the view without its counts, and without how long it waited and the first look of its last hold
+-- the view without how long it waited and the first look of its last hold
+abbrev pub untimed : View → View
+untimed v = record v { hold_first = None; waited = None }
+
+-- and without its counts
 abbrev pub uncounted : View → View
-uncounted v = record v {
-  hold_first = None;
-  entries = 0;
-  busy = 0;
-  raced = 0;
-  overtaken = 0;
-  gave_up = 0;
-  cancelled = 0;
-  waited = None;
-  hasty = 0;
-  clock_looks = 0;
-  limit_looks = 0;
-}
+uncounted v =
+    record (untimed v) { entries = 0; busy = 0; raced = 0; overtaken = 0; gave_up = 0; cancelled = 0; hasty = 0; clock_looks = 0; limit_looks = 0 }
 
 -- what is noted of a seat, without the count of looks
 abbrev pub uncounted_reader : Reader → Reader

@@ -8,7 +8,7 @@ use Rattle.clsm_law.specs.declared.view.View.{View}
 use Rattle.clsm_law.specs.declared.view.Mode.{Mode}
 use Rattle.clsm_law.specs.declared.view.Mode.TheVariants.{Free, Shared, Exclusive}
 use Rattle.clsm_law.specs.declared.view.SnapshotState.TheVariants.{Absent}
-use Rattle.clsm_law.specs.Codes.{value_cell, removal_cell}
+use Rattle.clsm_law.specs.Codes.{exclusive_hold, value_cell, removal_cell}
 use Rattle.clsm_law.specs.Memory.{cell_of, region_of}
 
 -- ---- a seat at its beginning
@@ -89,10 +89,11 @@ abbrev pub is_free : Mode → Bool
 is_free Free = true
 is_free _ = false
 
--- the lock is held shared
-abbrev pub is_shared : Mode → Bool
-is_shared Shared = true
-is_shared _ = false
+-- what the hold adds to LOCK: 1 where it is shared
+abbrev pub hold_of : Mode → ℕ
+hold_of Free = 0
+hold_of Shared = 1
+hold_of Exclusive = exclusive_hold
 
 -- the lock is held exclusively
 abbrev pub is_exclusive : Mode → Bool

@@ -1,7 +1,7 @@
 //! The numbers that stand for something else in a word.
 use clsm_model::Time;
 
-/// LOCK while the merger holds it; a number of shared holders is below it.
+/// LOCK while one holds it alone; a number of shared holders is below it.
 pub const EXCLUSIVE_HOLD: u64 = 1 << 32;
 
 /// The greatest limit: each time is below it.

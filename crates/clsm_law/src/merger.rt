@@ -75,9 +75,7 @@ impl Clone for MergerView {
 
     /// The same view. Refused if memory runs out.
     fn clone(&self) -> Result<MergerView, AllocError> {
-        Ok(MergerView {
-            readers: self.readers.clone()?,
-            ..*self
-        })
+        let readers = self.readers.clone()?;
+        Ok(MergerView { readers, ..*self })
     }
 }

@@ -90,10 +90,8 @@ impl Clone for Event {
 
     /// The same event. Refused if memory runs out.
     fn clone(&self) -> Result<Event, AllocError> {
-        Ok(Event {
-            step: self.step.clone()?,
-            ..*self
-        })
+        let step = self.step.clone()?;
+        Ok(Event { step, ..*self })
     }
 }
 

@@ -1,9 +1,10 @@
 -- What the merger notes of a seat while a component is retired.
 use Rattle.std.specs.Prelude.{◌≡◌, ℕ, ◌%◌, Option, Some, None, slice_set}
 use mathlib.Core.List.{IsPrefix}
+use Rattle.clsm_law.specs.declared.view.View.{View}
 use Rattle.clsm_law.specs.declared.merger.Reader.{Reader}
 use Rattle.clsm_law.specs.declared.merger.MergerView.{MergerView}
-use Rattle.clsm_law.specs.Law.{each, held_of}
+use Rattle.clsm_law.specs.Law.{each}
 use Rattle.clsm_law.specs.Machine.{IsLawful, WorldState}
 use Rattle.clsm_words.specs.declared.known.Known.{Known}
 
@@ -18,7 +19,7 @@ pub record LooksAtPin (old new : Known) (seat : ℕ) (seen : Reader) : Type 0 wh
 -- in each world that may be, with this view of the merger, the seat with this number holds no
 -- component but the newest
 abbrev pub HoldsNothingRetired : MergerView → ℕ → Type 0
-HoldsNothingRetired m seat = (w : WorldState) (component : ℕ) → IsLawful w → w.merger ≡ m → each w.layout held_of w.views seat ≡ Some component → component
+HoldsNothingRetired m seat = (w : WorldState) (component : ℕ) → IsLawful w → w.merger ≡ m → each w.layout View.held w.views seat ≡ Some component → component
     ≡ m.merged
 
 -- a word was noted, and it was odd, as a read ran

@@ -22,6 +22,8 @@ use Rattle.clsm_law.specs.Worlds.{view_at}
 use Rattle.clsm_law.specs.Machine.{IsLawful, opened}
 use Rattle.clsm_law.proofs.Rows.Memory.{is_layout}
 use Rattle.clsm_law.proofs.Opening.{opened_lawful, idle_at}
+use Rattle.clsm_words.specs.Seats.{MessageState}
+use Rattle.clsm_words.specs.Plays.{Learns}
 use Rattle.clsm_words.specs.declared.known.Known.{Known}
 use Rattle.clsm_words.specs.Knowing.{unplayed, new_merger, deals, known_of, told_of, messenger, learns}
 use Rattle.clsm_words.specs.Knowing.{IsKnownWord, Sound}
@@ -130,8 +132,8 @@ unfolding opens
 new_sound z = sound_merger (opening (opened z).words [] (new_merger z)) (new_merger z) (opens z (opened z).words refl)
     (new_merging z (opens z (opened z).words refl).lawful.orders) refl
 
-pub learns_sound : (k m : Known) → Sound k → Sound (learns k m)
-learns_sound k m s = record {
+pub learns_sound : (k k' : Known) (message : MessageState) → Learns k message k' → Sound k → Sound k'
+learns_sound k k' message learns s = subst Sound (sym learns) record {
   seated = s.seated;
   inside = s.inside;
   there = s.there;
@@ -158,8 +160,8 @@ learns_sound k m s = record {
       λ p key has. let h = s.spotted p key has in record { epoch = h.epoch; walked = h.walked; some = h.some; inside = h.inside; region = h.region };
 }
 
-pub learns_sound_merger : (k m : Known) → IsSoundMerger k → IsSoundMerger (learns k m)
-learns_sound_merger k m s = record {
+pub learns_sound_merger : (k k' : Known) (message : MessageState) → Learns k message k' → IsSoundMerger k → IsSoundMerger k'
+learns_sound_merger k k' message learns s = subst IsSoundMerger (sym learns) record {
   merges = s.merges;
   there = s.there;
   seats = s.seats;

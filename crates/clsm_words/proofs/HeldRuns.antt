@@ -1,6 +1,7 @@
 -- What a seat that holds a component may search, by what the law says of its runs.
 use Rattle.std.proofs.Common.{◌≡◌, ◌≢◌, ◌∙◌, unwrap_or, Option, None, ℕ, ◌+◌, ◌-◌, ◌*◌, ◌<◌, ◌≤◌, ⊎_elim, Bool, true, List, length, refl, sym, ap, subst}
 use Rattle.std.proofs.Common.{arith, Some}
+use Rattle.clsm_law.specs.declared.view.View.{View}
 use Rattle.clsm_model.specs.declared.slot.Slot.{Slot}
 use Rattle.clsm_model.specs.declared.slot.Slot.TheVariants.{Nothing, Wrote}
 use Rattle.clsm_model.specs.History.{plain}
@@ -18,7 +19,7 @@ use Rattle.clsm_levels.specs.Entry.{IsWriteOf}
 use Rattle.clsm_levels.specs.Run.{all_of}
 use Rattle.clsm_levels.proofs.Every.{every_weaker}
 use Rattle.clsm_law.specs.Worlds.{history_of, outcome_at, runs_of}
-use Rattle.clsm_law.specs.Law.{AreRuns, IsSnapshot, IsRetiredFor, each, first_live, held_of, pin_of, is_held_back}
+use Rattle.clsm_law.specs.Law.{AreRuns, IsSnapshot, IsRetiredFor, each, first_live, is_held_back}
 use Rattle.clsm_law.proofs.Runs.Kept.{SamePlace, runs_stay, settled_at}
 use Rattle.clsm_model.proofs.Histories.{value-same}
 use Rattle.clsm_law.proofs.Setting.{Ground, clock_live, live_below_shown, not_all_quiet, shown_below_merged}
@@ -33,10 +34,10 @@ snapshot_above floor clock past pinned (Open noted time) t h e = let same : time
 snapshot_above floor clock past pinned snapshot t h e = absurd cc
 
 -- who holds the component before the newest keeps it
-pub held_back : (g : Ground) (i c : ℕ) → i < length g.views → each g.z held_of g.views i ≡ Some c → c + 1 ≡ g.merger.merged → is_held_back g.merger ≡ true
+pub held_back : (g : Ground) (i c : ℕ) → i < length g.views → each g.z View.held g.views i ≡ Some c → c + 1 ≡ g.merger.merged → is_held_back g.merger ≡ true
 held_back g i c lt e before = ⊎_elim
     (λ (same : c ≡ g.merger.merged). absurd (omega arith))
-    (λ (r : IsRetiredFor g.merger i (each g.z pin_of g.views i) c).
+    (λ (r : IsRetiredFor g.merger i (each g.z View.pin g.views i) c).
     let loud = not_all_quiet g.merger.readers i (let a = g.law.merger.seats in let b = g.law.seated in omega arith) r.loud in rw (r.retired, loud) refl)
     (g.law.held i c e).1
 
@@ -47,12 +48,12 @@ end_within c n x live h until = omega arith
 start_within : (c n x : ℕ) → (c + 1) * n ≤ x → c * n ≤ x
 start_within c n x h = omega arith
 
-pub clock_near : (g : Ground) (i c : ℕ) → each g.z held_of g.views i ≡ Some c → (c * g.z.cells ≤ g.memory Clock) × (length g.slots ≤ (c + 2) * g.z.cells)
+pub clock_near : (g : Ground) (i c : ℕ) → each g.z View.held g.views i ≡ Some c → (c * g.z.cells ≤ g.memory Clock) × (length g.slots ≤ (c + 2) * g.z.cells)
 clock_near g i c held = ⊎_elim
     (λ (same : c ≡ g.merger.merged). let low = live_below_shown g in let high = shown_below_merged g in
     subst (λ (m : ℕ). (m * g.z.cells ≤ g.memory Clock) × (length g.slots ≤ (m + 2) * g.z.cells)) (sym same)
     (g.law.begun, end_within g.merger.merged g.z.cells (length g.slots) (first_live g.z g.merger) (omega arith) (clock_live g)))
-    (λ (retired : IsRetiredFor g.merger i (each g.z pin_of g.views i) c).
+    (λ (retired : IsRetiredFor g.merger i (each g.z View.pin g.views i) c).
     let end : g.merger.merged ≡ c + 1 = sym retired.before in
     let start : g.merger.merged - 1 ≡ c = omega arith in
     let live : first_live g.z g.merger ≡ c * g.z.cells = rw (retired.retired, start) refl in
@@ -66,7 +67,7 @@ written None slot some e = absurd (some (sym e))
 written (Some x) slot some e = ap (λ (s : Slot). Some s) e
 
 module _ (g : Ground) (i c floor : ℕ) (row : Memory) (past : List Slot) (b : Begins g.slots past) (lt : i < length g.views)
-    (held : each g.z held_of g.views i ≡ Some c) (has : HasFloor g.merger c floor)
+    (held : each g.z View.held g.views i ≡ Some c) (has : HasFloor g.merger c floor)
     (knows : (word : Word) → IsNamedWord c word → row word ≡ g.memory word) where
   pub floor_below : floor ≤ c * g.z.cells
   floor_below = ⊎_elim

@@ -37,7 +37,7 @@ use Rattle.clsm_law.specs.Machine.{WorldState}
 use Rattle.clsm_law.proofs.Records.Histories.{end_of-past}
 use Rattle.clsm_levels.proofs.Every.{every_weaker}
 use Rattle.clsm_law.proofs.Stepping.Small.{commit_small, step_small}
-use Rattle.clsm_law.proofs.Setting.{Setting, ground, past_below, clock_below, v}
+use Rattle.clsm_law.proofs.Setting.{Setting, past_below, clock_below, v}
 use Rattle.clsm_law.proofs.Stepping.Steps.{May, finds as found_by}
 use Rattle.clsm_law.proofs.Batches.Lifting.{lifted}
 use Rattle.clsm_law.specs.Raising.{IsRaise}
@@ -163,10 +163,10 @@ module _ (s : State ℕ Known) (k : Known) (r : Ruled k.layout s)
   }
 
   pub past_bound : k.view.past ≤ length r.slots
-  past_bound = subst (λ (u : View). u.past ≤ length r.slots) ok.view (past_below (ground setting) k.number)
+  past_bound = subst (λ (u : View). u.past ≤ length r.slots) ok.view (past_below setting.ground k.number)
 
   due_bound : k.view.due ≤ length r.slots
-  due_bound = let a = clock_below (ground setting) in let b = subst (λ (u : View). u.due ≤ memory k.layout s.words Clock) ok.view
+  due_bound = let a = clock_below setting.ground in let b = subst (λ (u : View). u.due ≤ memory k.layout s.words Clock) ok.view
       (r.lawful.law.dues k.number) in omega arith
 
   pub past_long : length k.past ≡ k.view.past
@@ -220,7 +220,7 @@ module _ (s : State ℕ Known) (k : Known) (r : Ruled k.layout s)
       let l = r.lawful.law.placed (R setting) p stands in
       record {
         inside = let at = l.place in let below = cell_below k.layout l.time (let a = k.layout.cells_in_range.0 in omega arith) in omega arith;
-        region = subst (λ (u : View). region_of k.layout (p - 1) ≡ own_region k.layout u) ok.view (place_region (ground setting) (R setting) p stands);
+        region = subst (λ (u : View). region_of k.layout (p - 1) ≡ own_region k.layout u) ok.view (place_region setting.ground (R setting) p stands);
       }
     where
       IsKnown : ℕ → Type 0
@@ -241,14 +241,14 @@ module _ (s : State ℕ Known) (k : Known) (r : Ruled k.layout s)
   ranked_of p has i =
       let now = (ok.order has).ranks p i in
       let most = rank_most p (r.lawful.orders (own_region k.layout k.view)) in
-      let few = order_short (ground setting) (own_region k.layout k.view) in
+      let few = order_short setting.ground (own_region k.layout k.view) in
       omega arith
 
   -- what it may search while it holds the component c
   reads_of : (c : ℕ) → k.view.held ≡ Some c → IsReading k c
   reads_of c held =
       let there : (view_at k.layout r.views k.number).held ≡ Some c = ap (λ (u : View). u.held) ok.view ∙ held in
-      let g = ground setting in
+      let g = setting.ground in
       record {
         near = let long = past_long in let bound = past_bound in let clock = (clock_near g k.number c there).1 in omega arith;
         below_merged = floor_below g k.number c k.floor (row_of k) k.past own_past number_inside there (ok.floor c held) (ok.row c held);
@@ -265,7 +265,7 @@ module _ (s : State ℕ Known) (k : Known) (r : Ruled k.layout s)
   cell_place : (p key : ℕ) → HasSpot k.spots p key → IsCellPlace k p
   cell_place p key has =
       let h = ok.spots p key has in
-      let g = ground setting in
+      let g = setting.ground in
       let l = r.lawful.law.placed (h.epoch % 2) p h.stands in
       record {
         epoch = h.epoch;

@@ -1,6 +1,7 @@
 pub mod Masks
 pub mod Beginnings
 pub mod Rows
+pub mod Sitting
 pub mod HeldRuns
 pub mod HeldCells
 pub mod Trails

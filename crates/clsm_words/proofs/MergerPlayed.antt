@@ -22,7 +22,7 @@ use Rattle.clsm_law.specs.Views.{or_zero, own_region}
 use Rattle.clsm_law.specs.Merging.{is_frozen, is_retired, epoch_end, word_of_merger, changed_by_merger, merger_after, slots_after_merger}
 use Rattle.clsm_law.specs.Merging.{chains_after_merger, orders_after_merger}
 use Rattle.clsm_law.specs.Worlds.{outcome_at, settled, facts_of}
-use Rattle.clsm_law.specs.Law.{LawOf, each, held_of}
+use Rattle.clsm_law.specs.Law.{LawOf, each}
 use Rattle.clsm_law.specs.Keeping.{KeepsComponent}
 use Rattle.clsm_law.specs.Machine.{IsLawful, memory_of}
 use Rattle.clsm_law.proofs.GrowthMerger.{slots_stay', longer'}
@@ -39,6 +39,7 @@ use Rattle.clsm_words.specs.declared.known.Known.{Known}
 use Rattle.clsm_words.specs.Knowing.{row_of, told_of, Extends, IsHeldEpoch, IsKnownIn, IsKnownWord, IsNamedWord, LeadsOn}
 use Rattle.clsm_words.specs.Merging.{facts_known, OpensToMerger, known_end}
 use Rattle.clsm_words.specs.Ruled.{world_of, HasFloor, IsSpot, IsSeated, Begins, IsMerging, AreSeats, Ruled, frozen_times}
+use Rattle.clsm_words.proofs.Sitting.{MergerSitting}
 use Rattle.clsm_words.proofs.Beginnings.{HaveGrown, begins_stay, begins_length, decided_stay}
 use Rattle.clsm_words.proofs.HeldCells.{known_word_stays, known_ways, leads_trans}
 use Rattle.clsm_words.proofs.Listed.{trail_merged}
@@ -58,7 +59,7 @@ end_decided g t = by g.merger.exclusive (is_frozen g.merger.phase) refl refl whe
   by false false e f lt = g.law.merged_decided t lt
 
 -- the floor of a component that is held stays
-floor_merged : (g : Ground) (step : Step) → OpensTo g step → (i c floor : ℕ) → each g.z held_of g.views i ≡ Some c → HasFloor g.merger c floor
+floor_merged : (g : Ground) (step : Step) → OpensTo g step → (i c floor : ℕ) → each g.z View.held g.views i ≡ Some c → HasFloor g.merger c floor
     → HasFloor (merger' g step) c floor
 floor_merged g (Look (Snap j)) o i c floor held h = h
 floor_merged g (Look (Pin j)) o i c floor held h = h
@@ -78,14 +79,16 @@ floor_merged g Publish o i c floor held h = ⊎_elim
 floor_merged g step o i c floor held h = h
 
 -- and the words of its runs
-named_stays : (g : Ground) (step : Step) (o : OpensTo g step) (i c : ℕ) → each g.z held_of g.views i ≡ Some c → (w : Word) → IsNamedWord c w
+named_stays : (g : Ground) (step : Step) (o : OpensTo g step) (i c : ℕ) → each g.z View.held g.views i ≡ Some c → (w : Word) → IsNamedWord c w
     → memory' g step w ≡ g.memory w
 named_stays g step o i c held (Count place) named = (places_stay g step o i c held place named.1).count
 named_stays g step o i c held (Entry place entry part) named = (places_stay g step o i c held place named.1).words entry part
 named_stays g step o i c held w named = absurd named.0
 
-module _ (s : State ℕ Known) (id : ℕ) (k : Known) (r : Ruled k.layout s) (at : get_elem? s.views id ≡ some k) (merges : k.merges ≡ true) (step : Step)
-    (o : OpensToMerger k step) where
+module _ (seat : MergerSitting) (step : Step) (o : OpensToMerger seat.k step) where
+  open seat use {merges}
+  open seat.place use {s, id, k, r, at}
+
   pub me_merging : IsMerging k.layout s.words r.merger r.slots r.lawful.orders k
   me_merging = r.seats.merging id k at merges
 
@@ -232,7 +235,7 @@ module _ (s : State ℕ Known) (id : ℕ) (k : Known) (r : Ruled k.layout s) (at
         λ t lt. r.lawful.law.past j.number t (subst (λ (u : View). t < u.past) (sym h.view) lt) in
         h.past ∙ decided_stay r.slots slots' j.view.past grown past_inside decided
 
-    held_there : (c : ℕ) → j.view.held ≡ Some c → each k.layout held_of r.views j.number ≡ Some c
+    held_there : (c : ℕ) → j.view.held ≡ Some c → each k.layout View.held r.views j.number ≡ Some c
     held_there c e = ap (λ (u : View). u.held) h.view ∙ e
 
     row_stays : (c : ℕ) → j.view.held ≡ Some c → (w : Word) → IsNamedWord c w → memory k.layout j.row w ≡ memory k.layout words' w
@@ -319,16 +322,8 @@ module _ (s : State ℕ Known) (id : ℕ) (k : Known) (r : Ruled k.layout s) (at
   was i j e = ⊎_elim
       (λ (t : (i ≡ id) × (next ≡ j)). subst (λ (y : ℕ × Known). Was y.0 y.1) (λ m. (sym t.0 m, t.1 m))
       (record { old = k; stood = at; number = refl; seated = refl; merger = refl; dealt = refl; told = refl; heard = refl }))
-      (λ (t : (i ≢ id) × (get_elem? s.views i ≡ some j)). record {
-        old = j;
-        stood = t.1;
-        number = refl;
-        seated = refl;
-        merger = refl;
-        dealt = refl;
-        told = refl;
-        heard = refl;
-      }) (back i j e)
+      (λ (t : (i ≢ id) × (get_elem? s.views i ≡ some j)).
+      record { old = j; stood = t.1; number = refl; seated = refl; merger = refl; dealt = refl; told = refl; heard = refl }) (back i j e)
 
   pub seats' : AreSeats k.layout words' view' slots' r.batches chains' orders' r.views after.views
   seats' = record {

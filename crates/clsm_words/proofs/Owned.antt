@@ -1,6 +1,7 @@
 -- No open step of a caller changes a word of the merger's own.
 use Rattle.std.proofs.Common.{◌≡◌, ◌≢◌, ℕ, ◌+◌, ◌%◌, ◌<◌, ◌≤◌, ⊎_elim, true, length, refl, ap, ◌∙◌, arith, Some, None}
 use prog.Atomic.{either}
+use Rattle.clsm_law.specs.declared.view.View.{View}
 use Rattle.clsm_law.specs.declared.word.Word.{Word}
 use Rattle.clsm_law.specs.declared.word.Word.TheVariants.{Clock, Head, Order, State, Count, Entry}
 use Rattle.clsm_law.specs.declared.step.Step.{Step}
@@ -10,12 +11,12 @@ use Rattle.clsm_law.specs.Memory.{cell_of, region_of, link_at, put}
 use Rattle.clsm_law.specs.Views.{or_zero}
 use Rattle.clsm_law.specs.Merging.{retired_region}
 use Rattle.clsm_law.specs.Worlds.{outcome_at}
-use Rattle.clsm_law.specs.Law.{first_shown, each, drawn_of}
+use Rattle.clsm_law.specs.Law.{first_shown, each}
 use Rattle.clsm_law.proofs.Cases.{by_test}
 use Rattle.clsm_law.proofs.Frames.{put_other, put_same}
 use Rattle.clsm_law.proofs.Batches.Opens.{opens_plain}
 use Rattle.clsm_law.proofs.Stepping.Steps.{May, memory_by}
-use Rattle.clsm_law.proofs.Setting.{Setting, v, M, x, own, own_drawn, Opens, ground, drawn_shown, none_drawn, undecided}
+use Rattle.clsm_law.proofs.Setting.{Setting, v, M, x, own, own_drawn, Opens, drawn_shown, none_drawn, undecided}
 use Rattle.clsm_law.proofs.Growth.{cancels_shown}
 use Rattle.clsm_law.proofs.Decided.Cells.{first_if_quiet, retired_end}
 use Rattle.clsm_law.proofs.Runs.Kept.{seat_same}
@@ -25,20 +26,20 @@ use Rattle.clsm_words.specs.Merging.{IsLetGo, IsOwn}
 
 -- while the merger holds the lock each drawn time is decided
 pub held_decided : (s : Setting) → s.merger.exclusive ≡ true → (t : ℕ) → t < length s.slots → outcome_at s.slots t ≢ None
-held_decided s e t lt none = let i = s.law.owned t lt none in none_drawn (ground s) e i.0 t i.1
+held_decided s e t lt none = let i = s.law.owned t lt none in none_drawn s.ground e i.0 t i.1
 
 -- once what is retired is let go, a shown time is of the other region
 module _ (s : Setting) (gone : IsLetGo s.merger) where
   shown_apart : (t : ℕ) → first_shown s.z s.merger ≤ t → t < length s.slots → region_of s.z (cell_of s.z t) ≢ retired_region s.merger
   shown_apart t from until same =
       let first = first_if_quiet s.z s.merger gone.1 in
-      let end = retired_end (ground s) gone.0 in
+      let end = retired_end s.ground gone.0 in
       let is : region_of s.z (cell_of s.z t) ≡ s.merger.merged % 2 = region_of_epoch s.z s.merger.merged t (omega arith) (omega arith) in
       absurd (omega arith)
 
   -- and so is a drawn one
-  drawn_apart : (i t : ℕ) → each s.z drawn_of s.views i ≡ Some t → region_of s.z (cell_of s.z t) ≢ retired_region s.merger
-  drawn_apart i t e = let d = drawn_shown (ground s) i t e in let first = first_if_quiet s.z s.merger gone.1 in let from = d.0 in
+  drawn_apart : (i t : ℕ) → each s.z View.drawn s.views i ≡ Some t → region_of s.z (cell_of s.z t) ≢ retired_region s.merger
+  drawn_apart i t e = let d = drawn_shown s.ground i t e in let first = first_if_quiet s.z s.merger gone.1 in let from = d.0 in
       shown_apart t (omega arith) d.1
 
 -- ---- the clock
@@ -62,12 +63,12 @@ other_state s t c y ne = put_other s.memory (State (cell_of s.z t)) (State c) y 
 cancel_held : (s : Setting) (t c : ℕ) → Opens s (Cancel t) → s.merger.exclusive ≡ true → M s (Cancel t) (State c) ≡ s.memory (State c)
 cancel_held s t c o e = let shown = cancels_shown s t o in
     by_test (λ b. put s.memory (State (cell_of s.z t)) (either b 1 (s.memory (State (cell_of s.z t)))) (State c) ≡ s.memory (State c)) (x s (Cancel t)) 0
-    (λ empty. absurd (held_decided s e t shown.1 (undecided (ground s) t shown.0 shown.1 empty)))
+    (λ empty. absurd (held_decided s e t shown.1 (undecided s.ground t shown.0 shown.1 empty)))
     (λ _ k. put_same s.memory (State (cell_of s.z t)) k (State c))
 
 own_state : (s : Setting) (step : Step) → Opens s step → (c : ℕ) → IsOwn s.z s.merger (State c) → M s step (State c) ≡ s.memory (State c)
 own_state s (Decide t deed) o c is = ⊎_elim
-    (λ (e : s.merger.exclusive ≡ true). absurd (none_drawn (ground s) e s.me t o.0))
+    (λ (e : s.merger.exclusive ≡ true). absurd (none_drawn s.ground e s.me t o.0))
     (λ (h : IsLetGo s.merger × (region_of s.z c ≡ retired_region s.merger)). other_state s t c _
     (λ q. drawn_apart s h.0 s.me t o.0 (ap (region_of s.z) q ∙ h.1)))
     is

@@ -19,14 +19,14 @@ use Rattle.clsm_law.specs.Relation.{Chains, Orders, word_of, changed, view_after
 use Rattle.clsm_law.specs.Worlds.{view_at, outcome_at, settled}
 use Rattle.clsm_law.specs.Keeping.{KeepsComponent}
 use Rattle.clsm_law.specs.Memory.{Memory, key_at, is_word, region_of}
-use Rattle.clsm_law.specs.Law.{LawOf, In, each, held_of}
+use Rattle.clsm_law.specs.Law.{LawOf, In, each}
 use Rattle.clsm_law.specs.Reading.{time_in}
 use Rattle.clsm_law.specs.Merging.{is_frozen, epoch_end, IsRunWord}
 use Rattle.clsm_law.specs.Machine.{WorldState, IsLawful, memory_of}
 use Rattle.clsm_law.proofs.Cases.{by_bool}
 use Rattle.clsm_law.proofs.Rows.Memory.{memory-at, memory-set}
 use Rattle.clsm_law.proofs.Stepping.Machine.{seat_word, seat_there, seat_writes}
-use Rattle.clsm_law.proofs.Setting.{Setting, Ground, v, ground, past_below, clock_merger}
+use Rattle.clsm_law.proofs.Setting.{Setting, Ground, v, past_below, clock_merger}
 use Rattle.clsm_law.proofs.Stepping.Steps.{May, finds as found_by, memory_by, views_by, slots_by, orders_by, kept_by}
 use Rattle.clsm_law.proofs.Stepping.StepsKeep.{longer_by, slots_kept_by, linked_kept_by, held_kept_by, ordered_by, keys_by, runs_by, batches_stay, clock_by}
 use Rattle.clsm_law.proofs.Stepping.Stepped.{lawful_ground}
@@ -34,6 +34,7 @@ use Rattle.clsm_words.specs.declared.known.Known.{Known}
 use Rattle.clsm_words.specs.Knowing.{Extends, IsKnownIn, IsKnownWord, LeadsOn, Opens, told_of}
 use Rattle.clsm_words.specs.Merging.{IsOwn, known_end}
 use Rattle.clsm_words.specs.Ruled.{world_of, IsSpot, IsSeated, Begins, IsMerging, AreSeats, Ruled, frozen_times}
+use Rattle.clsm_words.proofs.Sitting.{Sitting}
 use Rattle.clsm_words.proofs.Beginnings.{HaveGrown, begins_stay, decided_stay}
 use Rattle.clsm_words.proofs.HeldCells.{known_word_stays, known_ways, leads_trans}
 use Rattle.clsm_words.proofs.Listed.{list_kept}
@@ -44,8 +45,10 @@ use Rattle.clsm_words.proofs.Ranks.{extends_self, extends_trans, grows_by}
 use Rattle.clsm_words.proofs.Rows.{rows_stay}
 use Rattle.clsm_words.proofs.Knows.{world, number_inside, setting, open_there}
 
-module _ (s : State ℕ Known) (id : ℕ) (k : Known) (r : Ruled k.layout s) (at : get_elem? s.views id ≡ some k) (sits : k.seated ≡ true) (step : Step)
-    (o : Opens k step) where
+module _ (seat : Sitting) (step : Step) (o : Opens seat.k step) where
+  open seat use {sits}
+  open seat.place use {s, k, r, id, at}
+
   pub me_seated : IsSeated k.layout s.words r.merger r.slots r.batches r.lawful.chains r.lawful.orders r.views k
   me_seated = r.seats.seated id k at sits
 
@@ -174,7 +177,7 @@ module _ (s : State ℕ Known) (id : ℕ) (k : Known) (r : Ruled k.layout s) (at
   past_stays j h =
       let decided : (t : ℕ) → t < j.view.past → outcome_at r.slots t ≢ None =
       λ t lt. r.lawful.law.past j.number t (subst (λ (u : View). t < u.past) (sym h.view) lt) in
-      let bound : j.view.past ≤ length r.slots = subst (λ (u : View). u.past ≤ length r.slots) h.view (past_below (ground before) j.number) in
+      let bound : j.view.past ≤ length r.slots = subst (λ (u : View). u.past ≤ length r.slots) h.view (past_below before.ground j.number) in
       h.past ∙ decided_stay r.slots slots' j.view.past grown bound decided
 
   -- the batches that begin below a time up to the clock stay
@@ -232,7 +235,7 @@ module _ (s : State ℕ Known) (id : ℕ) (k : Known) (r : Ruled k.layout s) (at
   -- and, while a seat holds a component, the words of the cells that it knows, and their chains but
   -- for their heads
   module _ (j : Known) (h : IsSeated k.layout s.words r.merger r.slots r.batches r.lawful.chains r.lawful.orders r.views j) where
-    j_held : each k.layout held_of r.views j.number ≡ j.view.held
+    j_held : each k.layout View.held r.views j.number ≡ j.view.held
     j_held = ap (λ (u : View). u.held) h.view
 
     j_past : Begins r.slots j.past
@@ -242,23 +245,23 @@ module _ (s : State ℕ Known) (id : ℕ) (k : Known) (r : Ruled k.layout s) (at
     j_inside = let a = r.lawful.law.seated in let b = h.inside in omega arith
 
     -- another seat holds what it held
-    holds_on : (j.number ≡ k.number → ⊥) → (c : ℕ) → j.view.held ≡ Some c → each k.layout held_of (views_by before step) j.number ≡ Some c
+    holds_on : (j.number ≡ k.number → ⊥) → (c : ℕ) → j.view.held ≡ Some c → each k.layout View.held (views_by before step) j.number ≡ Some c
     holds_on other c held = ap (λ (u : View). u.held) (get_or-set_other r.views k.number j.number
         (view_after k.layout k.number (v before) step (found_by before step)) (idle k.layout) other ∙ h.view) ∙ held
 
-    module _ (still : (c : ℕ) → j.view.held ≡ Some c → each k.layout held_of (views_by before step) j.number ≡ Some c) where
+    module _ (still : (c : ℕ) → j.view.held ≡ Some c → each k.layout View.held (views_by before step) j.number ≡ Some c) where
       keeps : (c : ℕ) → j.view.held ≡ Some c → KeepsComponent k.layout (memory k.layout s.words) (memory_by before step) (length r.slots)
           (length (slots_by before step)) c
       keeps c e = held_kept_by before step opens j.number c (j_held ∙ e) (still c e)
 
       pub cell_word : (w : Word) → IsKnownWord j w → memory k.layout words' w ≡ memory k.layout s.words w
       cell_word w known = (λ i. same_memory i w)
-          ∙ known_word_stays (ground before) j.number j j_past j_inside j_held (memory_by before step) (length (slots_by before step))
+          ∙ known_word_stays before.ground j.number j j_past j_inside j_held (memory_by before step) (length (slots_by before step))
           (linked_kept_by before step opens) keeps w (subst (λ (z : Layout). IsKnownWord (record j { layout = z }) w) h.layout known)
 
       pub cell_ways : (cell t : ℕ) → IsKnownIn j cell t → LeadsOn k.layout (memory k.layout s.words) (memory k.layout words') (region_of k.layout cell)
       cell_ways cell t known = subst (λ (m : Memory). LeadsOn k.layout (memory k.layout s.words) m (region_of k.layout cell)) (sym same_memory)
-          (known_ways (ground before) j.number j j_past j_inside j_held (memory_by before step) (length (slots_by before step))
+          (known_ways before.ground j.number j j_past j_inside j_held (memory_by before step) (length (slots_by before step))
           (linked_kept_by before step opens) keeps cell t (subst (λ (z : Layout). IsKnownIn (record j { layout = z }) cell t) h.layout known))
 
   seated' : (i : ℕ) (j : Known) → get_elem? after.views i ≡ some j → j.seated ≡ true
@@ -299,7 +302,7 @@ module _ (s : State ℕ Known) (id : ℕ) (k : Known) (r : Ruled k.layout s) (at
 
   -- and the clock, while it holds the lock
   clock_stays : r.merger.exclusive ≡ true → length slots' ≡ length r.slots
-  clock_stays e = sym (clock_merger after_ground e) ∙ (λ i. same_memory i Clock) ∙ own_kept before step opens Clock e ∙ clock_merger (ground before) e
+  clock_stays e = sym (clock_merger after_ground e) ∙ (λ i. same_memory i Clock) ∙ own_kept before step opens Clock e ∙ clock_merger before.ground e
 
   known_stays : known_end k.layout r.merger (length slots') ≡ known_end k.layout r.merger (length r.slots)
   known_stays = by_bool (λ b. cond b (length slots') (cond (is_frozen r.merger.phase) (epoch_end k.layout r.merger)

@@ -1,6 +1,7 @@
 -- What an operation makes of a word, and what is told of it.
-use Rattle.std.specs.Prelude.{ℕ, ◌+◌, ◌-◌, ◌%◌, ◌^◌, ◌==◌, max}
+use Rattle.std.specs.Prelude.{ℕ, ◌==◌, max}
 use prog.Atomic.{either}
+use Rattle.clsm_law.specs.Codes.{less}
 use Rattle.clsm_words.specs.declared.operation.Operation.{Operation}
 use Rattle.clsm_words.specs.declared.operation.Operation.TheVariants.{Load, Store, Subtract, Raise, Exchange}
 
@@ -8,7 +9,7 @@ use Rattle.clsm_words.specs.declared.operation.Operation.TheVariants.{Load, Stor
 abbrev pub made_by : Operation → ℕ → ℕ
 made_by Load = λ x. x
 made_by (Store new) = λ x. new
-made_by (Subtract by) = λ x. (x + (2 ^ 64 - by)) % 2 ^ 64
+made_by (Subtract by) = less by
 made_by (Raise to) = λ x. max x to
 made_by (Exchange old new) = λ x. either (x == old) new x
 

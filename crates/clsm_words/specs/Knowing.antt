@@ -408,17 +408,22 @@ TellsAlong (Look (Order link)) k x k' = (p : ℕ) → k.view.drawn ≢ None → 
     → IsAlong k k' p x
 TellsAlong _ k x k' = Unit {0}
 
+-- it is the seat that it was, dealt no other, and was told nothing more
+pub record KeepsSelf (old new : Known) : Type 0 where
+  pub number : new.number ≡ old.number
+  pub dealt : new.dealt ≡ old.dealt
+  pub layout : new.layout ≡ old.layout
+  pub told : new.told ≡ old.told
+  pub told_batches : new.told_batches ≡ old.told_batches
+  pub heard : new.heard ≡ old.heard
+
 -- the seat after a step that found x: its view is the machine's, the step's word became what the
 -- step makes of it, and its past only grows, and stays where the view's past does. What it was told
 -- and its past are beginnings of one history, with which its records agree. While it has a drawn
 -- time that is neither decided nor given up, the clock is at most one epoch's length past that
 pub record Follows (step : Step) (k : Known) (x : ℕ) (k' : Known) : Type 0 where
-  pub number : k'.number ≡ k.number
-  pub dealt : k'.dealt ≡ k.dealt
-  pub layout : k'.layout ≡ k.layout
-  pub told : k'.told ≡ k.told
-  pub told_batches : k'.told_batches ≡ k.told_batches
-  pub heard : k'.heard ≡ k.heard
+  pub self : KeepsSelf k k'
+  pub open self use *
   pub view : k'.view ≡ view_after k.layout k.number k.view step x
   pub made : row_of k' (word_of k.layout k.number k.view step) ≡ changed k.layout k.view step x
   pub longer : IsBeginning (known_of k) (known_of k')

@@ -21,6 +21,9 @@ mod raw;
 mod steps;
 mod writes;
 
+/// The places of runs.
+const PLACES: usize = 5;
+
 /// The words on their table. Contracts see which table it is, and its layout.
 #[derive(Drop)]
 pub struct WordTable {
@@ -28,7 +31,7 @@ pub struct WordTable {
     pub layout: Layout,
     pub(crate) divisors: Divisors,
     /// Where each place begins.
-    pub(crate) starts: [u64; 5],
+    pub(crate) starts: [u64; PLACES],
     pub ghost sized: { (table.shared.table_id.words ≡ size_of layout) × (table.shared.key ≡ layout) },
     pub ghost divided: { (divisors.region ≡ layout.cells) × (divisors.ring ≡ 2 * layout.cells) × (divisors.chains ≡ layout.chains) },
     pub ghost started: { starts ≡ starts_of layout },
@@ -119,9 +122,6 @@ impl Guide {
         slope: 0,
     };
 }
-
-/// The places of runs.
-const PLACES: usize = 5;
 
 /// A caller's seat at the words. Contracts see which words they are, and what the seat knows.
 #[derive(Drop)]

@@ -1,5 +1,5 @@
 -- How the clauses on the list of batches are kept, and that no time that is read is inside one.
-use Rattle.std.proofs.Common.{◌≡◌, ◌≢◌, ℕ, suc, ◌+◌, ◌-◌, ◌*◌, ◌<◌, ◌≤◌, ◌==◌, ◌&&◌, not, Bool, true, cond, max, List, [], ◌∷◌, ◌++◌, length, sym, refl, ap}
+use Rattle.std.proofs.Common.{◌≡◌, ◌≢◌, ℕ, suc, ◌+◌, ◌-◌, ◌*◌, ◌<◌, ◌≤◌, ◌==◌, ◌&&◌, not, Bool, true, cond, max, List, [], ◌∷◌, length, sym, refl, ap}
 use Rattle.std.proofs.Common.{◌∙◌, subst, arith, inl, inr, Option, Some, None}
 use Rattle.std.specs.List.{AllByRecursion}
 use Rattle.std.proofs.lemmas.Bool.{cases_lt, and_parts, eqb-true, ltb-true}
@@ -8,7 +8,7 @@ use Rattle.clsm_model.specs.declared.batch.Batch.{Batch}
 use Rattle.clsm_model.specs.declared.slot.Slot.{Slot}
 use Rattle.clsm_model.specs.declared.slot.Slot.TheVariants.{Nothing}
 use Rattle.clsm_model.specs.declared.record.Deed.{Deed}
-use Rattle.clsm_model.specs.declared.record.Deed.TheVariants.{Put, Remove, Rmw, Snapshot, Close, Batch as Group}
+use Rattle.clsm_model.specs.declared.record.Deed.TheVariants.{Put, Remove, Rmw, Batch as Group}
 use Rattle.clsm_model.specs.declared.record.CallRecord.{CallRecord}
 use Rattle.clsm_model.specs.History.{History, IsUncut, IsListed, AreInTurn, end_of}
 use Rattle.clsm_model.specs.Right.{AreWrites, Member, IsRight, change_by, member_write, write_by}
@@ -17,30 +17,28 @@ use Rattle.clsm_law.specs.declared.word.Word.TheVariants.{Clock, Front, Merged, 
 use Rattle.clsm_law.specs.declared.word.Part.TheVariants.{Key}
 use Rattle.clsm_law.specs.declared.step.Step.{Step}
 use Rattle.clsm_law.specs.declared.step.Step.TheVariants.{Fill, Decide, Cancel, Commit, Pin, Unpin, Look, RaiseFront, Note, CloseSnapshot, WriteRun}
-use Rattle.clsm_law.specs.declared.step.End.{End}
-use Rattle.clsm_law.specs.declared.step.End.TheVariants.{Neither, Meeting, Recorded}
 use Rattle.clsm_law.specs.declared.view.View.{View}
 use Rattle.clsm_law.specs.declared.view.SnapshotState.{SnapshotState}
 use Rattle.clsm_law.specs.declared.view.SnapshotState.TheVariants.{Absent, Noted, Timed, Open}
 use Rattle.clsm_law.specs.Memory.{Memory}
-use Rattle.clsm_law.specs.Views.{SaysWrite, is_below, is_exclusive, or_zero}
-use Rattle.clsm_law.specs.OpenSteps.{IsReadBelow, IsRightAt, IsEndingWith, IsOpenSnapshot, time_of_read, timed, open_time}
-use Rattle.clsm_law.specs.Relation.{is_seen, is_seen_of, takes_hold, timed_by, ended_calls, ended_snapshot, reached_after, call_of}
+use Rattle.clsm_law.specs.Views.{SaysWrite, is_below, or_zero}
+use Rattle.clsm_law.specs.OpenSteps.{IsReadBelow, IsRightAt, IsOpenSnapshot, time_of_read, open_time}
+use Rattle.clsm_law.specs.Relation.{is_seen, is_seen_of, takes_hold, timed_by, ended_snapshot, reached_after}
 use Rattle.clsm_law.specs.Worlds.{outcome_at, past_of, open_past}
-use Rattle.clsm_law.specs.Law.{each, past_time_of, reached_of, pin_clock_of, snapshot_of, calls_of, IsSnapshot, AreAtMost}
+use Rattle.clsm_law.specs.Law.{each, IsSnapshot}
 use Rattle.clsm_law.specs.Batches.{AreFitting, IsWritten, AreUncutNotes, AreUncutSnapshots, AreUncutPasts, AreUncut, AreListed, snapshot_time}
-use Rattle.clsm_law.proofs.Cases.{by_test, by_bool}
-use Rattle.clsm_law.proofs.Setting.{Setting, Ground, v, x, w, M, V, S, B, Opens, Allows, OpensTo, memory', slots', looked_same, merger_looked_same, by_seat}
+use Rattle.clsm_law.proofs.Cases.{by_bool}
+use Rattle.clsm_law.proofs.Setting.{Setting, Ground, v, w, M, V, S, B, Opens, Allows, OpensTo, memory', slots', looked_same, merger_looked_same, by_seat}
 use Rattle.clsm_law.proofs.Growth.{slots_stay}
 use Rattle.clsm_law.proofs.GrowthMerger.{slots_stay'}
 use Rattle.clsm_law.proofs.Records.Histories.{end_of-past_min}
-use Rattle.clsm_law.proofs.Records.Facts.{member_writes}
+use Rattle.clsm_law.proofs.Records.Facts.{ended_each, member_writes}
 use Rattle.clsm_law.proofs.Frames.{slot_below}
 use Rattle.clsm_law.proofs.Batches.Facts.{in_turn_more, in_turn_next, in_turn_uncut, uncut_next, listed_before, listed_last}
 use Rattle.clsm_law.proofs.Batches.Opens.{opens_plain}
-use Rattle.clsm_law.proofs.Clock.Kept.{clock_grows, clock_grows', commits_at, below_clock}
+use Rattle.clsm_law.proofs.Clock.Kept.{clock_grows, clock_grows', commits_at}
 use Rattle.clsm_law.proofs.Decided.Kept.{run_other}
-use Rattle.clsm_law.proofs.Records.Kept.{commits_member}
+use Rattle.clsm_law.proofs.Records.Kept.{added, commits_member, each_record}
 use Rattle.clsm_levels.proofs.Every.{every-append, every_weaker}
 
 -- ---- FRONT, pasts and what is reached are not beyond the clock
@@ -61,7 +59,7 @@ reached_within s t = by_bool (λ b. (t == (v s).reached && is_seen s.z (v s) t) 
     seen None e = absurd cc
     seen (Some m) e = within (v s).clock refl (and_parts (nat_le (m * s.z.cells) t && nat_lt t ((m + 2) * s.z.cells)) (is_below t (v s).clock) e).1
 
-own_reached : (s : Setting) (step : Step) → Opens s step → (w s step).reached ≤ M s step Clock
+pub own_reached : (s : Setting) (step : Step) → Opens s step → (w s step).reached ≤ M s step Clock
 own_reached s (Look Front) o = let a = s.law.reached_clock s.me in let b = s.law.front_clock in omega arith
 own_reached s (Look Merged) o = let a = s.law.reached_clock s.me in let b = s.law.begun in let e : s.memory Merged * s.z.cells
     ≡ s.merger.merged * s.z.cells = ap (λ (n : ℕ). n * s.z.cells) s.law.merged in
@@ -75,25 +73,13 @@ own_reached s (Fill Key n) o = s.law.reached_clock s.me
 own_reached s (Fill part n) o = s.law.reached_clock s.me
 own_reached s step o = let a = clock_grows s step o in let b = s.law.reached_clock s.me in omega arith
 
-pub reached_clock_kept : (s : Setting) (step : Step) → Opens s step → AreAtMost (each s.z reached_of (V s step)) (M s step Clock)
-reached_clock_kept s step o = below_clock s step o reached_of s.law.reached_clock (own_reached s step o)
-
-pub reached_clock_merged : (g : Ground) (step : Step) → OpensTo g step → AreAtMost (each g.z reached_of g.views) (memory' g step Clock)
-reached_clock_merged g step o i = let a = clock_grows' g step o in let b = g.law.reached_clock i in omega arith
-
-own_past : (s : Setting) (step : Step) → Opens s step → (w s step).past ≤ M s step Clock
+pub own_past : (s : Setting) (step : Step) → Opens s step → (w s step).past ≤ M s step Clock
 own_past s (RaiseFront t) o = let a = s.law.past_clock s.me in let b = s.law.reached_clock s.me in let c = o.0 in omega arith
 own_past s (Look Clock) o = s.law.past_clock s.me
 own_past s (Look word) o = let a = clock_grows s (Look word) o in let b = s.law.past_clock s.me in omega arith
 own_past s (Fill Key n) o = s.law.past_clock s.me
 own_past s (Fill part n) o = s.law.past_clock s.me
 own_past s step o = let a = clock_grows s step o in let b = s.law.past_clock s.me in omega arith
-
-pub past_clock_kept : (s : Setting) (step : Step) → Opens s step → AreAtMost (each s.z past_time_of (V s step)) (M s step Clock)
-past_clock_kept s step o = below_clock s step o past_time_of s.law.past_clock (own_past s step o)
-
-pub past_clock_merged : (g : Ground) (step : Step) → OpensTo g step → AreAtMost (each g.z past_time_of g.views) (memory' g step Clock)
-past_clock_merged g step o i = let a = clock_grows' g step o in let b = g.law.past_clock i in omega arith
 
 pub front_clock_kept : (s : Setting) (step : Step) → Opens s step → M s step Front ≤ M s step Clock
 front_clock_kept s (RaiseFront t) o = let a = s.law.front_clock in let b = s.law.reached_clock s.me in let c = o.0 in omega arith
@@ -177,7 +163,7 @@ uncut_front_merged g (WriteRun word n) o = subst (IsUncut g.batches) (sym (run_o
 uncut_front_merged g step o = g.law.uncut_front
 
 -- a time noted under a pin
-pin_noted : (s : Setting) (step : Step) → Opens s step → (i t : ℕ) → each s.z pin_clock_of s.views i ≡ Some t → IsUncut (B s step) t
+pin_noted : (s : Setting) (step : Step) → Opens s step → (i t : ℕ) → each s.z View.pin_clock s.views i ≡ Some t → IsUncut (B s step) t
 pin_noted s step o i t e = commits_uncut s step o t (s.law.pin_clocks i t e) (s.law.uncut_pins i t e)
 
 own_pin : (s : Setting) (step : Step) → Opens s step → (t : ℕ) → (w s step).pin_clock ≡ Some t → IsUncut (B s step) t
@@ -188,7 +174,7 @@ own_pin s (Look Clock) o t e = by_bool (λ b. cond b (Some (s.memory Clock)) (v 
 own_pin s (Fill Key n) o t e = s.law.uncut_pins s.me t e
 own_pin s step o t e = pin_noted s step o s.me t e
 
-pub uncut_pins_kept : (s : Setting) (step : Step) → Opens s step → AreUncutNotes (B s step) (each s.z pin_clock_of (V s step))
+pub uncut_pins_kept : (s : Setting) (step : Step) → Opens s step → AreUncutNotes (B s step) (each s.z View.pin_clock (V s step))
 uncut_pins_kept s step o = by_seat s (w s step) (λ i u. (t : ℕ) → u.pin_clock ≡ Some t → IsUncut (B s step) t) (own_pin s step o)
     (λ i ne. pin_noted s step o i)
 
@@ -200,9 +186,9 @@ snapshot_within floor clock past s pinned (Noted b) le h e = absurd cc
 snapshot_within floor clock past s pinned (Timed b t) le h e = let same : t ≡ s = cc in let a = h.2 in omega arith
 snapshot_within floor clock past s pinned (Open b t) le h e = let same : t ≡ s = cc in let a = h.2 in omega arith
 
-snapshot_noted : (s : Setting) (step : Step) → Opens s step → (i t : ℕ) → snapshot_time (each s.z snapshot_of s.views i) ≡ Some t → IsUncut (B s step) t
+snapshot_noted : (s : Setting) (step : Step) → Opens s step → (i t : ℕ) → snapshot_time (each s.z View.snapshot s.views i) ≡ Some t → IsUncut (B s step) t
 snapshot_noted s step o i t e =
-    commits_uncut s step o t (snapshot_within s.merger.floor (s.memory Clock) (each s.z past_time_of s.views i) t _ (each s.z snapshot_of s.views i)
+    commits_uncut s step o t (snapshot_within s.merger.floor (s.memory Clock) (each s.z View.past s.views i) t _ (each s.z View.snapshot s.views i)
     (s.law.past_clock i) (s.law.snapshots i) e) (s.law.uncut_snapshots i t e)
 
 timed_uncut : (bs : List Batch) (n : SnapshotState) (c t : ℕ) → IsUncut bs c → (snapshot_time n ≡ Some t → IsUncut bs t) → snapshot_time (timed_by n c)
@@ -226,7 +212,7 @@ own_snapshot s CloseSnapshot o t e = absurd cc
 own_snapshot s (Fill Key n) o t e = s.law.uncut_snapshots s.me t e
 own_snapshot s step o t e = snapshot_noted s step o s.me t e
 
-pub uncut_snapshots_kept : (s : Setting) (step : Step) → Opens s step → AreUncutSnapshots (B s step) (each s.z snapshot_of (V s step))
+pub uncut_snapshots_kept : (s : Setting) (step : Step) → Opens s step → AreUncutSnapshots (B s step) (each s.z View.snapshot (V s step))
 uncut_snapshots_kept s step o = by_seat s (w s step) (λ i u. (t : ℕ) → snapshot_time u.snapshot ≡ Some t → IsUncut (B s step) t)
     (own_snapshot s step o) (λ i ne. snapshot_noted s step o i)
 
@@ -237,9 +223,9 @@ own_end s (Fill Key n) o = s.law.uncut_pasts s.me
 own_end s (Look Clock) o = s.law.uncut_pasts s.me
 own_end s step o = commits_uncut s step (opens_plain s step o) (v s).past (s.law.past_clock s.me) (s.law.uncut_pasts s.me)
 
-pub uncut_pasts_kept : (s : Setting) (step : Step) → Allows s step → AreUncutPasts (B s step) (each s.z past_time_of (V s step))
+pub uncut_pasts_kept : (s : Setting) (step : Step) → Allows s step → AreUncutPasts (B s step) (each s.z View.past (V s step))
 uncut_pasts_kept s step o = by_seat s (w s step) (λ i u. IsUncut (B s step) u.past) (own_end s step o)
-    (λ i ne. commits_uncut s step (opens_plain s step o) (each s.z past_time_of s.views i) (s.law.past_clock i) (s.law.uncut_pasts i))
+    (λ i ne. commits_uncut s step (opens_plain s step o) (each s.z View.past s.views i) (s.law.past_clock i) (s.law.uncut_pasts i))
 
 -- ---- records
 
@@ -256,8 +242,8 @@ all_uncut : (s : Setting) (step : Step) → Opens s step → (h : History) (call
 all_uncut s step o h [] le right uncut = tt
 all_uncut s step o h (r ∷ rs) le right uncut = (deed_uncut s step o h r.time r.deed le right.0 uncut.0, all_uncut s step o h rs le right.1 uncut.1)
 
-uncut_before : (s : Setting) (step : Step) → Opens s step → (i : ℕ) → AllByRecursion (IsUncutRecord (B s step)) (each s.z calls_of s.views i)
-uncut_before s step o i = let p = each s.z past_time_of s.views i in all_uncut s step o (past_of s.slots p) (each s.z calls_of s.views i)
+uncut_before : (s : Setting) (step : Step) → Opens s step → (i : ℕ) → AllByRecursion (IsUncutRecord (B s step)) (each s.z View.calls s.views i)
+uncut_before s step o i = let p = each s.z View.past s.views i in all_uncut s step o (past_of s.slots p) (each s.z View.calls s.views i)
     (let a = end_of-past_min s.slots p in let b = s.law.past_clock i in omega arith) (s.law.right i) (s.law.uncut i)
 
 -- what is right with the batches is not cut
@@ -277,18 +263,6 @@ write_uncut h u t (Remove key) says r = tt
 write_uncut h u t (Rmw key old change) says r = r.1.readable.uncut
 write_uncut h u t deed says r = absurd says
 
-module _ (h : History) (i : ℕ) (u : View) where
-  ended_uncut : (n : SnapshotState) (end : End) → u.snapshot ≡ n → IsEndingWith h u n end → AllByRecursion (IsUncutRecord h.batches) (ended_calls i u end)
-  ended_uncut (Noted b) end e p = absurd p
-  ended_uncut (Timed b s) Neither e p = absurd p
-  ended_uncut (Timed b s) Meeting e p = absurd p
-  ended_uncut (Timed b s) (Recorded Snapshot) e p = (subst (λ (n : SnapshotState). IsUncut h.batches (or_zero (timed n))) (sym e) p.1.readable.uncut, tt)
-  ended_uncut (Timed b s) (Recorded deed) e p = absurd p
-  ended_uncut n Neither e p = tt
-  ended_uncut n Meeting e p = tt
-  ended_uncut n (Recorded Snapshot) e p = absurd p
-  ended_uncut n (Recorded deed) e p = (read_uncut h u deed (time_of_read u deed) p, tt)
-
 -- the close of a snapshot is at its time
 close_uncut : (bs : List Batch) (n : SnapshotState) → IsOpenSnapshot n → ((t : ℕ) → snapshot_time n ≡ Some t → IsUncut bs t)
     → IsUncut bs (or_zero (open_time n))
@@ -296,25 +270,18 @@ close_uncut bs (Open b t) is h = h t refl
 close_uncut bs Absent is h = absurd is
 close_uncut bs n is h = absurd is
 
-own_uncut : (s : Setting) (step : Step) → Allows s step → AllByRecursion (IsUncutRecord (B s step)) (w s step).calls
-own_uncut s (Decide t deed) o =
-    by_bool (λ a. AllByRecursion (IsUncutRecord s.batches) (cond a (v s).calls
-    (cond (x s (Decide t deed) == 0) ((v s).calls ++ call_of s.me t deed ∷ []) (v s).calls))) (is_exclusive (v s).mode) (λ _. s.law.uncut s.me) (λ _.
-    by_test (λ b. AllByRecursion (IsUncutRecord s.batches) (cond b ((v s).calls ++ call_of s.me t deed ∷ []) (v s).calls)) (x s (Decide t deed)) 0
-    (λ _. every-append (IsUncutRecord s.batches) (v s).calls (call_of s.me t deed ∷ []) (s.law.uncut s.me)
-    (write_uncut (open_past s.slots s.batches (v s).past) (v s) t deed o.2 o.3, tt)) (λ _. s.law.uncut s.me))
-own_uncut s (Unpin end) o = every-append (IsUncutRecord s.batches) (v s).calls (ended_calls s.me (v s) end) (s.law.uncut s.me)
-    (ended_uncut (open_past s.slots s.batches (v s).past) s.me (v s) (v s).snapshot end refl o.1)
-own_uncut s CloseSnapshot o = every-append (IsUncutRecord s.batches) (v s).calls (call_of s.me (or_zero (open_time (v s).snapshot)) Close ∷ [])
-    (s.law.uncut s.me) (close_uncut s.batches (v s).snapshot o (s.law.uncut_snapshots s.me), tt)
-own_uncut s (Commit members) o = every-append (IsUncutRecord (B s (Commit members))) (v s).calls
-    (call_of s.me (or_zero (v s).hold_clock) (Group members) ∷ []) (uncut_before s (Commit members) o s.me) (tt, tt)
-own_uncut s (Fill Key n) o = s.law.uncut s.me
-own_uncut s (Look Clock) o = s.law.uncut s.me
-own_uncut s step o = s.law.uncut s.me
+added_uncut : (s : Setting) (step : Step) → Allows s step → AllByRecursion (IsUncutRecord (B s step)) (added s step)
+added_uncut s (Decide t deed) o = (write_uncut (open_past s.slots s.batches (v s).past) (v s) t deed o.2 o.3, tt)
+added_uncut s (Commit members) o = (tt, tt)
+added_uncut s (Unpin end) o = let h = open_past s.slots s.batches (v s).past in
+    ended_each h s.me (v s) (IsUncutRecord s.batches) (v s).snapshot end refl o.1 (λ r. r.readable.uncut)
+    (λ deed r. read_uncut h (v s) deed (time_of_read (v s) deed) r)
+added_uncut s CloseSnapshot o = (close_uncut s.batches (v s).snapshot o (s.law.uncut_snapshots s.me), tt)
+added_uncut s step o = tt
 
-pub uncut_kept : (s : Setting) (step : Step) → Allows s step → AreUncut (B s step) (each s.z calls_of (V s step))
-uncut_kept s step o = by_seat s (w s step) (λ i u. AllByRecursion (IsUncutRecord (B s step)) u.calls) (own_uncut s step o)
+pub uncut_kept : (s : Setting) (step : Step) → Allows s step → AreUncut (B s step) (each s.z View.calls (V s step))
+uncut_kept s step o = by_seat s (w s step) (λ i u. AllByRecursion (IsUncutRecord (B s step)) u.calls)
+    (each_record s step (IsUncutRecord (B s step)) (uncut_before s step (opens_plain s step o) s.me) (λ _. added_uncut s step o))
     (λ i ne. uncut_before s step (opens_plain s step o) i)
 
 -- a listed batch stays listed
@@ -326,9 +293,9 @@ deed_listed : (s : Setting) (step : Step) (t : ℕ) (deed : Deed) → IsListedDe
 deed_listed s step t (Group members) h = still_listed s step (record { first = t; size = length members }) h
 deed_listed s step t deed h = tt
 
-listed_stay : (s : Setting) (step : Step) (i : ℕ) → AllByRecursion (IsListedRecord (B s step)) (each s.z calls_of s.views i)
+listed_stay : (s : Setting) (step : Step) (i : ℕ) → AllByRecursion (IsListedRecord (B s step)) (each s.z View.calls s.views i)
 listed_stay s step i = every_weaker (IsListedRecord s.batches) (IsListedRecord (B s step)) (λ r h. deed_listed s step r.time r.deed h)
-    (each s.z calls_of s.views i) (s.law.listed i)
+    (each s.z View.calls s.views i) (s.law.listed i)
 
 -- a deed of one write, and one that reads, is no batch
 write_listed : (bs : List Batch) (u : View) (t : ℕ) (deed : Deed) → SaysWrite u (write_by 0 deed) → IsListedDeed bs t deed
@@ -341,39 +308,18 @@ read_listed : (bs : List Batch) (h : History) (u : View) (t : ℕ) (deed : Deed)
 read_listed bs h u t (Group members) r = absurd r
 read_listed bs h u t deed r = tt
 
-module _ (bs : List Batch) (h : History) (i : ℕ) (u : View) where
-  ended_listed : (n : SnapshotState) (end : End) → IsEndingWith h u n end → AllByRecursion (IsListedRecord bs) (ended_calls i u end)
-  ended_listed (Noted b) end p = absurd p
-  ended_listed (Timed b s) Neither p = absurd p
-  ended_listed (Timed b s) Meeting p = absurd p
-  ended_listed (Timed b s) (Recorded Snapshot) p = (tt, tt)
-  ended_listed (Timed b s) (Recorded deed) p = absurd p
-  ended_listed n Neither p = tt
-  ended_listed n Meeting p = tt
-  ended_listed n (Recorded Snapshot) p = absurd p
-  ended_listed n (Recorded deed) p = (read_listed bs h u (or_zero (time_of_read u deed)) deed p, tt)
+added_listed : (s : Setting) (step : Step) → Opens s step → AllByRecursion (IsListedRecord (B s step)) (added s step)
+added_listed s (Decide t deed) o = (write_listed s.batches (v s) t deed o.2, tt)
+added_listed s (Commit members) o = (listed_last s.batches (record { first = or_zero (v s).hold_clock; size = length members }), tt)
+added_listed s (Unpin end) o = let h = past_of s.slots (v s).past in
+    ended_each h s.me (v s) (IsListedRecord s.batches) (v s).snapshot end refl o.1 (λ r. tt)
+    (λ deed r. read_listed s.batches h (v s) (or_zero (time_of_read (v s) deed)) deed r)
+added_listed s CloseSnapshot o = (tt, tt)
+added_listed s step o = tt
 
-own_listed : (s : Setting) (step : Step) → Opens s step → AllByRecursion (IsListedRecord (B s step)) (w s step).calls
-own_listed s (Decide t deed) o =
-    by_bool (λ a. AllByRecursion (IsListedRecord s.batches) (cond a (v s).calls
-    (cond (x s (Decide t deed) == 0) ((v s).calls ++ call_of s.me t deed ∷ []) (v s).calls))) (is_exclusive (v s).mode) (λ _. s.law.listed s.me) (λ _.
-    by_test (λ b. AllByRecursion (IsListedRecord s.batches) (cond b ((v s).calls ++ call_of s.me t deed ∷ []) (v s).calls)) (x s (Decide t deed)) 0
-    (λ _. every-append (IsListedRecord s.batches) (v s).calls (call_of s.me t deed ∷ []) (s.law.listed s.me) (write_listed s.batches (v s) t deed o.2, tt))
-    (λ _. s.law.listed s.me))
-own_listed s (Unpin end) o = every-append (IsListedRecord s.batches) (v s).calls (ended_calls s.me (v s) end) (s.law.listed s.me)
-    (ended_listed s.batches (past_of s.slots (v s).past) s.me (v s) (v s).snapshot end o.1)
-own_listed s CloseSnapshot o = every-append (IsListedRecord s.batches) (v s).calls (call_of s.me (or_zero (open_time (v s).snapshot)) Close ∷ [])
-    (s.law.listed s.me) (tt, tt)
-own_listed s (Commit members) o = every-append (IsListedRecord (B s (Commit members))) (v s).calls
-    (call_of s.me (or_zero (v s).hold_clock) (Group members) ∷ []) (listed_stay s (Commit members) s.me)
-    (listed_last s.batches (record { first = or_zero (v s).hold_clock; size = length members }), tt)
-own_listed s (Fill Key n) o = s.law.listed s.me
-own_listed s (Look Clock) o = s.law.listed s.me
-own_listed s step o = s.law.listed s.me
-
-pub listed_kept : (s : Setting) (step : Step) → Opens s step → AreListed (B s step) (each s.z calls_of (V s step))
-listed_kept s step o = by_seat s (w s step) (λ i u. AllByRecursion (IsListedRecord (B s step)) u.calls) (own_listed s step o)
-    (λ i ne. listed_stay s step i)
+pub listed_kept : (s : Setting) (step : Step) → Opens s step → AreListed (B s step) (each s.z View.calls (V s step))
+listed_kept s step o = by_seat s (w s step) (λ i u. AllByRecursion (IsListedRecord (B s step)) u.calls)
+    (each_record s step (IsListedRecord (B s step)) (listed_stay s step s.me) (λ _. added_listed s step o)) (λ i ne. listed_stay s step i)
 
 -- ---- what is recorded fits
 
@@ -404,34 +350,14 @@ read_fits : (cells : ℕ) (h : History) (u : View) (deed : Deed) → IsRightAt h
 read_fits cells h u (Group members) r = absurd r
 read_fits cells h u deed r = tt
 
-module _ (cells : ℕ) (h : History) (i : ℕ) (u : View) where
-  ended_fits : (n : SnapshotState) (end : End) → IsEndingWith h u n end → AllByRecursion (FitsRecord cells) (ended_calls i u end)
-  ended_fits (Noted b) end p = absurd p
-  ended_fits (Timed b s) Neither p = absurd p
-  ended_fits (Timed b s) Meeting p = absurd p
-  ended_fits (Timed b s) (Recorded Snapshot) p = (tt, tt)
-  ended_fits (Timed b s) (Recorded deed) p = absurd p
-  ended_fits n Neither p = tt
-  ended_fits n Meeting p = tt
-  ended_fits n (Recorded Snapshot) p = absurd p
-  ended_fits n (Recorded deed) p = (read_fits cells h u deed p, tt)
+added_fits : (s : Setting) (step : Step) → Opens s step → AllByRecursion (FitsRecord s.z.cells) (added s step)
+added_fits s (Decide t deed) o = (write_fits s.z.cells (v s) deed o.2, tt)
+added_fits s (Commit members) o = (commits_fit s members o, tt)
+added_fits s (Unpin end) o = let h = past_of s.slots (v s).past in
+    ended_each h s.me (v s) (FitsRecord s.z.cells) (v s).snapshot end refl o.1 (λ r. tt) (λ deed r. read_fits s.z.cells h (v s) deed r)
+added_fits s CloseSnapshot o = (tt, tt)
+added_fits s step o = tt
 
-own_fits : (s : Setting) (step : Step) → Opens s step → AllByRecursion (FitsRecord s.z.cells) (w s step).calls
-own_fits s (Decide t deed) o = let fits = FitsRecord s.z.cells in by_bool
-    (λ a. AllByRecursion fits (cond a (v s).calls (cond (x s (Decide t deed) == 0) ((v s).calls ++ call_of s.me t deed ∷ []) (v s).calls)))
-    (is_exclusive (v s).mode) (λ _. s.law.fitting s.me) (λ _.
-    by_test (λ b. AllByRecursion fits (cond b ((v s).calls ++ call_of s.me t deed ∷ []) (v s).calls)) (x s (Decide t deed)) 0
-    (λ _. every-append fits (v s).calls (call_of s.me t deed ∷ []) (s.law.fitting s.me) (write_fits s.z.cells (v s) deed o.2, tt)) (λ _. s.law.fitting s.me))
-own_fits s (Unpin end) o = every-append (FitsRecord s.z.cells) (v s).calls (ended_calls s.me (v s) end) (s.law.fitting s.me)
-    (ended_fits s.z.cells (past_of s.slots (v s).past) s.me (v s) (v s).snapshot end o.1)
-own_fits s CloseSnapshot o = every-append (FitsRecord s.z.cells) (v s).calls (call_of s.me (or_zero (open_time (v s).snapshot)) Close ∷ [])
-    (s.law.fitting s.me) (tt, tt)
-own_fits s (Commit members) o = every-append (FitsRecord s.z.cells) (v s).calls (call_of s.me (or_zero (v s).hold_clock) (Group members) ∷ [])
-    (s.law.fitting s.me) (commits_fit s members o, tt)
-own_fits s (Fill Key n) o = s.law.fitting s.me
-own_fits s (Look Clock) o = s.law.fitting s.me
-own_fits s step o = s.law.fitting s.me
-
-pub fitting_kept : (s : Setting) (step : Step) → Opens s step → AreFitting s.z.cells (each s.z calls_of (V s step))
-fitting_kept s step o = by_seat s (w s step) (λ i u. AllByRecursion (FitsRecord s.z.cells) u.calls) (own_fits s step o)
-    (λ i ne. s.law.fitting i)
+pub fitting_kept : (s : Setting) (step : Step) → Opens s step → AreFitting s.z.cells (each s.z View.calls (V s step))
+fitting_kept s step o = by_seat s (w s step) (λ i u. AllByRecursion (FitsRecord s.z.cells) u.calls)
+    (each_record s step (FitsRecord s.z.cells) (s.law.fitting s.me) (λ _. added_fits s step o)) (λ i ne. s.law.fitting i)

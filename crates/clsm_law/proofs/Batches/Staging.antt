@@ -18,11 +18,11 @@ use Rattle.clsm_law.specs.Memory.{Memory}
 use Rattle.clsm_law.specs.Views.{IsBelow, is_exclusive}
 use Rattle.clsm_law.specs.Relation.{given_up, holds_lock, member_of}
 use Rattle.clsm_law.specs.Worlds.{outcome_at}
-use Rattle.clsm_law.specs.Law.{each, mode_of, drawn_of, staged_of, committed_of, hold_clock_of}
+use Rattle.clsm_law.specs.Law.{each}
 use Rattle.clsm_law.specs.Batches.{IsStaging, AreStaging}
 use Rattle.clsm_law.proofs.Cases.{by_test}
 use Rattle.clsm_law.proofs.Frames.{puts_slot}
-use Rattle.clsm_law.proofs.Setting.{Setting, Ground, ground, v, x, w, M, V, S, Opens, OpensTo, memory', slots', looked_same, merger_looked_same, drawn_shown}
+use Rattle.clsm_law.proofs.Setting.{Setting, Ground, v, x, w, M, V, S, Opens, OpensTo, memory', slots', looked_same, merger_looked_same, drawn_shown}
 use Rattle.clsm_law.proofs.Setting.{by_seat}
 use Rattle.clsm_law.proofs.Growth.{cancels_shown}
 use Rattle.clsm_law.proofs.Records.Facts.{member_before, member_last}
@@ -82,9 +82,9 @@ free_slots s (Decide t deed) o free u le = absurd (s.law.holding s.me t o.0 free
 free_slots s (Cancel t) o free u le = cancels_apart s t o (λ shared. absurd cc) u le
 free_slots s step o free u le = refl
 
-other_stages : (s : Setting) (step : Step) → Opens s step → (i : ℕ) → i ≢ s.me → (m : Mode) → each s.z mode_of s.views i ≡ m
-    → IsStaging (M s step Clock) i (outcome_at (S s step)) (each s.z mode_of s.views i) (each s.z drawn_of s.views i) (each s.z staged_of s.views i)
-    (each s.z committed_of s.views i) (each s.z hold_clock_of s.views i)
+other_stages : (s : Setting) (step : Step) → Opens s step → (i : ℕ) → i ≢ s.me → (m : Mode) → each s.z View.mode s.views i ≡ m
+    → IsStaging (M s step Clock) i (outcome_at (S s step)) (each s.z View.mode s.views i) (each s.z View.drawn s.views i) (each s.z View.staged s.views i)
+    (each s.z View.committed s.views i) (each s.z View.hold_clock s.views i)
 other_stages s step o i ne Exclusive e = let free = s.law.sole i s.me e (λ same. ne (sym same)) in
     stages_on (s.memory Clock) (M s step Clock) i (outcome_at s.slots) (outcome_at (S s step)) (each s.z (λ (u : View). u) s.views i)
     (free_clock s step o free) (free_slots s step o free) (s.law.staging i)
@@ -120,7 +120,7 @@ module _ (s : Setting) where
       → IsStaging (s.memory Clock) s.me (outcome_at (set s.slots t (write_by s.me deed))) (v s).mode None ((v s).staged ++ member_of deed) (v s).committed
       (v s).hold_clock
   decides t deed o alone = let h = s.law.staging s.me in let own = (h.own alone t o.0).0 in let p =
-      puts_slot s.slots t (write_by s.me deed) (drawn_shown (ground s) s.me t o.0).1 in
+      puts_slot s.slots t (write_by s.me deed) (drawn_shown s.ground s.me t o.0).1 in
       let len = length-append (v s).staged (member_of deed) in let one = one_member (v s) deed o.2 in record {
         shut = λ ne. absurd (ne alone);
         own = λ e u d. absurd cc;
@@ -199,13 +199,13 @@ module _ (s : Setting) where
   own_stages (Fill part n) o = s.law.staging s.me
   own_stages step o = s.law.staging s.me
 
-pub staging_kept : (s : Setting) (step : Step) → Opens s step → AreStaging (M s step Clock) (outcome_at (S s step)) (each s.z mode_of (V s step))
-    (each s.z drawn_of (V s step)) (each s.z staged_of (V s step)) (each s.z committed_of (V s step)) (each s.z hold_clock_of (V s step))
+pub staging_kept : (s : Setting) (step : Step) → Opens s step → AreStaging (M s step Clock) (outcome_at (S s step)) (each s.z View.mode (V s step))
+    (each s.z View.drawn (V s step)) (each s.z View.staged (V s step)) (each s.z View.committed (V s step)) (each s.z View.hold_clock (V s step))
 staging_kept s step o = by_seat s (w s step) (λ i u. Stages (M s step Clock) i (outcome_at (S s step)) u) (own_stages s step o)
-    (λ i ne. other_stages s step o i ne (each s.z mode_of s.views i) refl)
+    (λ i ne. other_stages s step o i ne (each s.z View.mode s.views i) refl)
 
-pub staging_merged : (g : Ground) (step : Step) → OpensTo g step → AreStaging (memory' g step Clock) (outcome_at (slots' g step)) (each g.z mode_of g.views)
-    (each g.z drawn_of g.views) (each g.z staged_of g.views) (each g.z committed_of g.views) (each g.z hold_clock_of g.views)
+pub staging_merged : (g : Ground) (step : Step) → OpensTo g step → AreStaging (memory' g step Clock) (outcome_at (slots' g step)) (each g.z View.mode g.views)
+    (each g.z View.drawn g.views) (each g.z View.staged g.views) (each g.z View.committed g.views) (each g.z View.hold_clock g.views)
 staging_merged g ExtendClock o i = let free = g.law.locked_out o.0 i in
     stages_none (memory' g ExtendClock Clock) i (outcome_at (slots' g ExtendClock)) (each g.z (λ (u : View). u) g.views i) (λ e. absurd cc)
     ((g.law.staging i).shut (λ e. absurd cc))

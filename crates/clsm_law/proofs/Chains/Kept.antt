@@ -19,11 +19,11 @@ use Rattle.clsm_law.specs.Memory.{Memory, cell_of, region_of, put}
 use Rattle.clsm_law.specs.Views.{or_zero, SaysWrite}
 use Rattle.clsm_law.specs.Relation.{Chains, pushed, looked, filled}
 use Rattle.clsm_law.specs.Worlds.{outcome_at}
-use Rattle.clsm_law.specs.Law.{each, drawn_of, key_of, linked_of, In, Distinct, IsChain, AreChained, AreIn, AreOnce, IsLinkedAt, AreStanding, AreLinked}
+use Rattle.clsm_law.specs.Law.{each, In, Distinct, IsChain, AreChained, AreIn, AreOnce, IsLinkedAt, AreStanding, AreLinked}
 use Rattle.clsm_law.specs.Law.{AreLoose, first_live, first_shown}
 use Rattle.clsm_law.proofs.Cases.{by_test}
 use Rattle.clsm_law.proofs.Frames.{keep1, put_same, put_other, not_given_up}
-use Rattle.clsm_law.proofs.Setting.{Setting, ground, v, x, w, M, V, S, C, Opens, own, own_drawn, looked_same, drawn_shown, drawn_live, clock_shared, by_seat}
+use Rattle.clsm_law.proofs.Setting.{Setting, v, x, w, M, V, S, C, Opens, own, own_drawn, looked_same, drawn_shown, drawn_live, clock_shared, by_seat}
 use Rattle.clsm_law.proofs.Growth.{longer, OfDecided, writes_kept}
 use Rattle.clsm_law.proofs.Chains.Facts.{by_line, chain_same, in_pushed, is_pushed, in_as, own_region, own_chain, is_there, nowhere, other_cell, stays_in}
 
@@ -62,7 +62,7 @@ lies_as s memory' len le same r k t i = let l = s.law.lies r k t i in in_as s.z 
 
 lies_links : (s : Setting) (h : ℕ) → Opens s (Link h) → AreIn s.z (M s (Link h)) (first_live s.z s.merger) (length s.slots)
     (pushed s.chains (own_region s) (own_chain s) (own s))
-lies_links s h o r k t i = let mine = own_drawn s o.0 in let l = drawn_live (ground s) s.me (own s) mine in let p = drawn_shown (ground s) s.me (own s) mine in
+lies_links s h o r k t i = let mine = own_drawn s o.0 in let l = drawn_live s.ground s.me (own s) mine in let p = drawn_shown s.ground s.me (own s) mine in
     ⊎_elim
     (λ (m : (own s ≡ t) × (r ≡ own_region s) × (k ≡ own_chain s)). record {
       live = let a = l.from in let e = m.0 in omega arith;
@@ -130,7 +130,7 @@ StandsLinked s chains drawn key linked = (t : ℕ) → drawn ≡ Some t → link
 
 pub linked_by : (s : Setting) (chains : Chains) (y : View) → ((r k t : ℕ) → In t (s.chains r k) → In t (chains r k))
     → StandsLinked s chains y.drawn y.key y.linked
-    → AreLinked s.z (each s.z drawn_of (set s.views s.me y)) (each s.z key_of (set s.views s.me y)) (each s.z linked_of (set s.views s.me y)) chains
+    → AreLinked s.z (each s.z View.drawn (set s.views s.me y)) (each s.z View.key (set s.views s.me y)) (each s.z View.linked (set s.views s.me y)) chains
 linked_by s chains y grow now = by_seat s y (λ i u. StandsLinked s chains u.drawn u.key u.linked) now
     (λ i ne t d l. let n = s.law.linked i t d l in (n.0, n.1, grow _ _ t n.2))
 
@@ -151,22 +151,22 @@ linked_after s (Cancel t) o = λ u d l. s.law.linked s.me u (not_given_up (v s).
 linked_after s (Look c) o = looked_as s.z (v s) c (x s (Look c)) (StandsLinked s s.chains) (s.law.linked s.me)
 linked_after s step o = s.law.linked s.me
 
-pub linked_kept : (s : Setting) (step : Step) → Opens s step → AreLinked s.z (each s.z drawn_of (V s step)) (each s.z key_of (V s step))
-    (each s.z linked_of (V s step)) (C s step)
+pub linked_kept : (s : Setting) (step : Step) → Opens s step → AreLinked s.z (each s.z View.drawn (V s step)) (each s.z View.key (V s step))
+    (each s.z View.linked (V s step)) (C s step)
 linked_kept s step o = linked_by s (C s step) (w s step) (stays_in s step) (linked_after s step o)
 
 -- a loose time stands in none
 abbrev StandsLoose : Chains → Option ℕ → Bool → Type 0
 StandsLoose chains drawn linked = (t : ℕ) → drawn ≡ Some t → linked ≡ false → (r k : ℕ) → ¬ In t (chains r k)
 
-pub loose_by : (s : Setting) (chains : Chains) (y : View) → ((i t r k : ℕ) → i ≢ s.me → each s.z drawn_of s.views i ≡ Some t → In t (chains r k)
+pub loose_by : (s : Setting) (chains : Chains) (y : View) → ((i t r k : ℕ) → i ≢ s.me → each s.z View.drawn s.views i ≡ Some t → In t (chains r k)
     → In t (s.chains r k)) → StandsLoose chains y.drawn y.linked
-    → AreLoose (each s.z drawn_of (set s.views s.me y)) (each s.z linked_of (set s.views s.me y)) chains
+    → AreLoose (each s.z View.drawn (set s.views s.me y)) (each s.z View.linked (set s.views s.me y)) chains
 loose_by s chains y back now = by_seat s y (λ i u. StandsLoose chains u.drawn u.linked) now
     (λ i ne t d l r k m. s.law.loose i t d l r k (back i t r k ne d m))
 
 -- the own time enters a chain, and no other's
-links_own : (s : Setting) (step : Step) → Opens s step → (i t r k : ℕ) → i ≢ s.me → each s.z drawn_of s.views i ≡ Some t → In t (C s step r k)
+links_own : (s : Setting) (step : Step) → Opens s step → (i t r k : ℕ) → i ≢ s.me → each s.z View.drawn s.views i ≡ Some t → In t (C s step r k)
     → In t (s.chains r k)
 links_own s (Link h) o i t r k ne d = by_test
     (λ b. In t (cond b (pushed s.chains (own_region s) (own_chain s) (own s)) s.chains r k) → In t (s.chains r k)) (x s (Link h)) h
@@ -179,7 +179,7 @@ links_own s step o i t r k ne d = λ m. m
 loose_after : (s : Setting) (step : Step) → Opens s step → StandsLoose (C s step) (w s step).drawn (w s step).linked
 loose_after s (Draw t) o = by_test (λ b. StandsLoose s.chains (cond b (Some t) (v s).drawn) (cond b false (v s).linked))
     (x s (Draw t)) t
-    (λ e u d l r k i. let same : t ≡ u = ap or_zero d in let b = (s.law.lies r k u i).drawn in let c = clock_shared (ground s) s.me o.0 in omega arith)
+    (λ e u d l r k i. let same : t ≡ u = ap or_zero d in let b = (s.law.lies r k u i).drawn in let c = clock_shared s.ground s.me o.0 in omega arith)
     (λ _. s.law.loose s.me)
 loose_after s (Fill part y) o = filled_as (v s) part y (StandsLoose s.chains) (s.law.loose s.me)
 loose_after s (Link h) o =
@@ -192,5 +192,5 @@ loose_after s (Look c) o = looked_as s.z (v s) c (x s (Look c)) (λ drawn _ link
     (s.law.loose s.me)
 loose_after s step o = s.law.loose s.me
 
-pub loose_kept : (s : Setting) (step : Step) → Opens s step → AreLoose (each s.z drawn_of (V s step)) (each s.z linked_of (V s step)) (C s step)
+pub loose_kept : (s : Setting) (step : Step) → Opens s step → AreLoose (each s.z View.drawn (V s step)) (each s.z View.linked (V s step)) (C s step)
 loose_kept s step o = loose_by s (C s step) (w s step) (links_own s step o) (loose_after s step o)

@@ -4,6 +4,7 @@ use Rattle.std.proofs.Common.{inr, Option, Some}
 use borrow.Author.Tests.{eqb-true}
 use Rattle.std.proofs.lemmas.Bool.{cases_lt}
 use Rattle.std.proofs.lemmas.Nat.{mod_below}
+use Rattle.clsm_law.specs.declared.view.View.{View}
 use Rattle.clsm_model.specs.declared.slot.Slot.TheVariants.{Wrote}
 use Rattle.clsm_law.specs.declared.word.Word.TheVariants.{Limit, Pin, Head, Cell, Count, Entry}
 use Rattle.clsm_law.specs.declared.word.Part.TheVariants.{Key}
@@ -14,7 +15,7 @@ use Rattle.clsm_law.specs.declared.merger.Phase.TheVariants.{Clean, Frozen, Reti
 use Rattle.clsm_law.specs.Memory.{Memory, cell_of, region_of}
 use Rattle.clsm_law.specs.Merging.{is_clean, is_frozen, is_retired, is_all_quiet, retired_region, epoch_end}
 use Rattle.clsm_law.specs.Worlds.{outcome_at}
-use Rattle.clsm_law.specs.Law.{each, drawn_of, key_of, linked_of, In, Distinct, IsChain, AreChained, AreIn, AreOnce, AreStanding, AreLinked, AreLoose}
+use Rattle.clsm_law.specs.Law.{each, In, Distinct, IsChain, AreChained, AreIn, AreOnce, AreStanding, AreLinked, AreLoose}
 use Rattle.clsm_law.specs.Law.{first_live, first_shown}
 use Rattle.clsm_law.proofs.Cases.{by_bool}
 use Rattle.clsm_law.proofs.Frames.{keep1, slot_below}
@@ -149,12 +150,12 @@ standing_merged g (ClearHead region chain) o = λ t i key written le e. let firs
 standing_merged g step o = λ t i key written le e. g.law.standing t i key written (let a = shown_rises g step o in omega arith) e
 
 -- ---- a drawn time stands in a chain, its own, just where it is linked
-pub linked_merged : (g : Ground) (step : Step) → OpensTo g step → AreLinked g.z (each g.z drawn_of g.views) (each g.z key_of g.views)
-    (each g.z linked_of g.views) (chains' g step)
+pub linked_merged : (g : Ground) (step : Step) → OpensTo g step → AreLinked g.z (each g.z View.drawn g.views) (each g.z View.key g.views)
+    (each g.z View.linked g.views) (chains' g step)
 linked_merged g (ClearHead region chain) o = λ i t d l. let n = g.law.linked i t d l in let p = drawn_shown g i t d in
     (n.0, n.1, stays_emptied g.chains region chain _ _ t (λ same. current_region g o.0 t p.0 p.1 (same ∙ o.2)) n.2)
 linked_merged g step o = g.law.linked
 
-pub loose_merged : (g : Ground) (step : Step) → OpensTo g step → AreLoose (each g.z drawn_of g.views) (each g.z linked_of g.views) (chains' g step)
+pub loose_merged : (g : Ground) (step : Step) → OpensTo g step → AreLoose (each g.z View.drawn g.views) (each g.z View.linked g.views) (chains' g step)
 loose_merged g (ClearHead region chain) o = λ i t d l r k m. g.law.loose i t d l r k (in_emptied g.chains region chain r k t m)
 loose_merged g step o = g.law.loose

@@ -27,7 +27,7 @@ use Rattle.clsm_law.specs.Merging.{is_frozen, is_retired, epoch_end, merger_look
 use Rattle.clsm_law.specs.Law.{first_free, taken_by, AreAtMost, each}
 use Rattle.clsm_law.specs.Worlds.{view_at}
 use Rattle.clsm_law.proofs.Cases.{by_test, by_bool}
-use Rattle.clsm_law.proofs.Setting.{Setting, ground, v, x, w, M, V, S, Opens, looked_same, Ground, facts, found, merger', memory', slots', OpensTo, by_seat}
+use Rattle.clsm_law.proofs.Setting.{Setting, v, x, w, M, V, S, Opens, looked_same, Ground, facts, found, merger', memory', slots', OpensTo, by_seat}
 use Rattle.clsm_law.proofs.Setting.{merger_looked_same, merged_below_limit, clock_below, clock_shared, clock_merger}
 use Rattle.clsm_law.proofs.Growth.{undecided_empty}
 use Rattle.clsm_law.proofs.GrowthMerger.{clock_held, length_passed}
@@ -213,6 +213,11 @@ clock_grows' g (Look word) o = let a = ap (λ (m : Memory). m Clock) (merger_loo
 clock_grows' g (WriteRun word n) o = let a = run_other g.memory word Clock n o.1 (λ r. r) in omega arith
 clock_grows' g step o = omega arith
 
+-- and under a step of the merger it stays so
+pub below_clock' : (g : Ground) (step : Step) → OpensTo g step → (f : View → ℕ) → AreAtMost (each g.z f g.views) (g.memory Clock)
+    → AreAtMost (each g.z f g.views) (memory' g step Clock)
+below_clock' g step o f was i = let a = clock_grows' g step o in let b : f (view_at g.z g.views i) ≤ g.memory Clock = was i in omega arith
+
 -- ---- the limit
 
 pub limit_kept : (s : Setting) (step : Step) → Opens s step → M s step Limit ≡ first_free s.z s.merger
@@ -299,7 +304,7 @@ below_limit s t holds = below (v s).hold_limit refl
 
 pub bounded_kept : (s : Setting) (step : Step) → Opens s step → length (S s step) ≤ M s step Limit
 bounded_kept s (Draw t) o = by_test (λ b. length (cond b (s.slots ++ None ∷ []) s.slots) ≤ s.memory Limit) (x s (Draw t)) t
-    (λ e. let same = clock_shared (ground s) s.me o.0 in let l : length (s.slots ++ None ∷ []) ≡ length s.slots + 1 = length-append s.slots (None ∷ []) in
+    (λ e. let same = clock_shared s.ground s.me o.0 in let l : length (s.slots ++ None ∷ []) ≡ length s.slots + 1 = length-append s.slots (None ∷ []) in
     let lt = below_limit s t (λ free. absurd (let shared = o.0 in cc)) o.3 in omega arith) (λ _. s.law.bounded)
 bounded_kept s (Decide t deed) o = let a = decide_length s t deed in let b = s.law.bounded in omega arith
 bounded_kept s (Cancel t) o = let a = cancel_length s t in let b = s.law.bounded in omega arith

@@ -30,7 +30,7 @@ use Rattle.clsm_law.specs.Law.{Shows, AreShown, AreEmpty, first_shown, first_liv
 use Rattle.clsm_law.proofs.Cases.{by_test, by_bool}
 use Rattle.clsm_law.proofs.Frames.{keep1, puts_slot, slots_grown, past_end, put_same, put_here, put_other}
 use Rattle.clsm_law.proofs.Clock.Times.{Live, at_live, apart, cell_below, region_of_epoch}
-use Rattle.clsm_law.proofs.Setting.{Setting, Ground, ground, v, x, M, S, Opens, OpensTo, memory', merger', slots', own, own_drawn, looked_same}
+use Rattle.clsm_law.proofs.Setting.{Setting, Ground, v, x, M, S, Opens, OpensTo, memory', merger', slots', own, own_drawn, looked_same}
 use Rattle.clsm_law.proofs.Setting.{merger_looked_same, drawn_live, shown_live, limit_live, live_below_shown, shown_below_merged, clock_below, clock_shared}
 use Rattle.clsm_law.proofs.Setting.{clock_merger}
 use Rattle.clsm_law.proofs.Growth.{cancels_shown, longer}
@@ -65,7 +65,7 @@ drawn_empty : (s : Setting) (t : ℕ) → Opens s (Draw t) → length s.slots �
 drawn_empty s t o is = ⊎_elim (λ (e : s.memory (State (cell_of s.z t)) ≡ 0). e)
     (λ (p : (s.merger.padded ≡ true) × (t < (s.merger.merged + 1) * s.z.cells) × (s.memory (State (cell_of s.z t)) ≡ 1)). let free = s.law.locked_out
     (s.law.merger.pads p.0) s.me in let held = o.0 in absurd cc)
-    (s.law.empty t (omega arith) (let a = below (v s).hold_limit refl o.3 in let b = limit_live (ground s) in omega arith))
+    (s.law.empty t (omega arith) (let a = below (v s).hold_limit refl o.3 in let b = limit_live s.ground in omega arith))
   where
     below : (l : Option ℕ) → (v s).hold_limit ≡ l → IsBelow t l → t < s.memory Limit
     below None e h = absurd h
@@ -87,12 +87,12 @@ fill_shown : (s : Setting) (part : Part) (y : ℕ) → (v s).drawn ≡ Some (own
     → AreShown s.z (M s (Fill part y)) (first_shown s.z s.merger) (length s.slots) (outcome_at s.slots)
 fill_shown s part y mine u from until =
     at_live s.z (first_live s.z s.merger) (λ u. first_shown s.z s.merger ≤ u → u < length s.slots
-    → Shows (M s (Fill part y)) (cell_of s.z u) (outcome_at s.slots u)) (own s) (drawn_live (ground s) s.me (own s) mine)
+    → Shows (M s (Fill part y)) (cell_of s.z u) (outcome_at s.slots u)) (own s) (drawn_live s.ground s.me (own s) mine)
     (λ from until. shows_state s.memory (M s (Fill part y)) (cell_of s.z (own s)) (outcome_at s.slots (own s)) (s.law.pending s.me (own s) mine).2 refl
     (s.law.shown (own s) from until))
     (λ u m ne other from until. shows_same s.memory (M s (Fill part y)) (cell_of s.z u) (outcome_at s.slots u) refl
     (λ p. put_other s.memory (Cell (cell_of s.z (own s)) part) (Cell (cell_of s.z u) p) y (λ q. other cc)) (s.law.shown u from until))
-    u (shown_live (ground s) u from until) from until
+    u (shown_live s.ground u from until) from until
 
 -- a slot is settled with the state of its cell
 settled_shown : (s : Setting) (t y : ℕ) (a : Option Slot) → Live s.z (first_live s.z s.merger) t → t < length s.slots
@@ -106,7 +106,7 @@ settled_shown s t y a l lt now u from until = let len = length-set s.slots t a i
     (λ u m ne other from until. subst (Shows (put s.memory (State (cell_of s.z t)) y) (cell_of s.z u)) (sym (p.other u ne))
     (shows_same s.memory (put s.memory (State (cell_of s.z t)) y) (cell_of s.z u) (outcome_at s.slots u)
     (put_other s.memory (State (cell_of s.z t)) (State (cell_of s.z u)) y (λ q. other cc)) (λ p. refl) (s.law.shown u from until)))
-    u (shown_live (ground s) u from until') from until'
+    u (shown_live s.ground u from until') from until'
 
 -- a value is held as so many words
 words_long : (written : Option (List ℕ)) → length (words_of written) ≡ length_of written
@@ -129,21 +129,21 @@ write_shown s t deed o = let wr = says_write (v s) deed s.me o.2 in let says : S
 pub shown_kept : (s : Setting) (step : Step) → Opens s step → AreShown s.z (M s step) (first_shown s.z s.merger) (length (S s step)) (outcome_at (S s step))
 shown_kept s (Draw t) o = by_test (λ b. AreShown s.z (M s (Draw t)) (first_shown s.z s.merger) (length (cond b (s.slots ++ None ∷ []) s.slots))
     (outcome_at (cond b (s.slots ++ None ∷ []) s.slots))) (x s (Draw t)) t
-    (λ e. drew_shown s t o (sym (clock_shared (ground s) s.me o.0) ∙ e))
+    (λ e. drew_shown s t o (sym (clock_shared s.ground s.me o.0) ∙ e))
     (λ _. same_shown s.z s.memory (M s (Draw t)) _ _ (length s.slots) (outcome_at s.slots) (omega arith) (λ c. refl) (λ c p. refl) s.law.shown)
 shown_kept s (Fill part y) o = fill_shown s part y (own_drawn s o.0)
 shown_kept s (Decide t deed) o =
     by_test (λ b. AreShown s.z (put s.memory (State (cell_of s.z t)) (either b (state_by (write_by 0 deed)) (x s (Decide t deed))))
     (first_shown s.z s.merger) (length (cond b (set s.slots t (write_by s.me deed)) s.slots))
     (outcome_at (cond b (set s.slots t (write_by s.me deed)) s.slots))) (x s (Decide t deed)) 0
-    (λ _. settled_shown s t (state_by (write_by 0 deed)) (write_by s.me deed) (drawn_live (ground s) s.me t o.0) (s.law.pending s.me t o.0).1
+    (λ _. settled_shown s t (state_by (write_by 0 deed)) (write_by s.me deed) (drawn_live s.ground s.me t o.0) (s.law.pending s.me t o.0).1
     (write_shown s t deed o))
     (λ _. keep1 (λ (m : Memory). AreShown s.z m (first_shown s.z s.merger) (length s.slots) (outcome_at s.slots))
     (put_same s.memory (State (cell_of s.z t))) s.law.shown)
 shown_kept s (Cancel t) o = let p = cancels_shown s t o in
     by_test (λ b. AreShown s.z (put s.memory (State (cell_of s.z t)) (either b 1 (x s (Cancel t)))) (first_shown s.z s.merger)
     (length (cond b (set s.slots t (Some Nothing)) s.slots)) (outcome_at (cond b (set s.slots t (Some Nothing)) s.slots))) (x s (Cancel t)) 0
-    (λ _. settled_shown s t 1 (Some Nothing) (shown_live (ground s) t p.0 p.1) p.1 (put_here s.memory (State (cell_of s.z t)) 1))
+    (λ _. settled_shown s t 1 (Some Nothing) (shown_live s.ground t p.0 p.1) p.1 (put_here s.memory (State (cell_of s.z t)) 1))
     (λ _. keep1 (λ (m : Memory). AreShown s.z m (first_shown s.z s.merger) (length s.slots) (outcome_at s.slots))
     (put_same s.memory (State (cell_of s.z t))) s.law.shown)
 shown_kept s (Look c) o = keep1 (λ (m : Memory). AreShown s.z m (first_shown s.z s.merger) (length s.slots) (outcome_at s.slots)) (looked_same s c) s.law.shown
@@ -305,16 +305,16 @@ settled_empty : (s : Setting) (t y clock : ℕ) → Live s.z (first_live s.z s.m
 settled_empty s t y clock l lt le u from until =
     let same : put s.memory (State (cell_of s.z t)) y (State (cell_of s.z u)) ≡ s.memory (State (cell_of s.z u)) =
     put_other s.memory (State (cell_of s.z t)) (State (cell_of s.z u)) y
-    (λ q. let at : u ≡ t = apart s.z (first_live s.z s.merger) u t (undrawn_live (ground s) u (omega arith) until) l cc in absurd (omega arith)) in
+    (λ q. let at : u ≡ t = apart s.z (first_live s.z s.merger) u t (undrawn_live s.ground u (omega arith) until) l cc in absurd (omega arith)) in
     ⊎_elim (λ (e : s.memory (State (cell_of s.z u)) ≡ 0). inl (same ∙ e))
     (λ (p : (s.merger.padded ≡ true) × (u < epoch_end s.z s.merger) × (s.memory (State (cell_of s.z u)) ≡ 1)). inr (p.0, p.1, same ∙ p.2))
     (s.law.empty u (omega arith) until)
 
 pub empty_kept : (s : Setting) (step : Step) → Opens s step → AreEmpty s.z (M s step) s.merger.padded (length (S s step)) (epoch_end s.z s.merger)
     (first_live s.z s.merger + 2 * s.z.cells)
-empty_kept s (Decide t deed) o = settled_empty s t _ (length (S s (Decide t deed))) (drawn_live (ground s) s.me t o.0) (s.law.pending s.me t o.0).1
+empty_kept s (Decide t deed) o = settled_empty s t _ (length (S s (Decide t deed))) (drawn_live s.ground s.me t o.0) (s.law.pending s.me t o.0).1
     (longer s (Decide t deed))
-empty_kept s (Cancel t) o = let p = cancels_shown s t o in settled_empty s t _ (length (S s (Cancel t))) (shown_live (ground s) t p.0 p.1) p.1
+empty_kept s (Cancel t) o = let p = cancels_shown s t o in settled_empty s t _ (length (S s (Cancel t))) (shown_live s.ground t p.0 p.1) p.1
     (longer s (Cancel t))
 empty_kept s (Look c) o = keep1 (λ (m : Memory). AreEmpty s.z m s.merger.padded (length s.slots) (epoch_end s.z s.merger) (last_live s.z s.merger))
     (looked_same s c) s.law.empty

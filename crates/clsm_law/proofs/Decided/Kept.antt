@@ -23,10 +23,10 @@ use Rattle.clsm_law.specs.Views.{SaysWrite, is_below}
 use Rattle.clsm_law.specs.Relation.{is_seen, is_seen_of, takes_hold, filled, reached_after, reached_by_state}
 use Rattle.clsm_law.specs.Merging.{is_frozen, IsRunWord, merger_looked}
 use Rattle.clsm_law.specs.Worlds.{outcome_at}
-use Rattle.clsm_law.specs.Law.{each, past_time_of, reached_of, IsDecidedBelow, AreDecidedBelow, first_shown}
+use Rattle.clsm_law.specs.Law.{each, IsDecidedBelow, AreDecidedBelow, first_shown}
 use Rattle.clsm_law.proofs.Cases.{by_test, by_bool}
 use Rattle.clsm_law.proofs.Frames.{keep1, puts_slot, put_other, some_of, looked_leaves, filled_leaves}
-use Rattle.clsm_law.proofs.Setting.{Setting, Ground, ground, v, x, w, M, V, S, Opens, OpensTo, found, memory', merger', slots', looked_same, by_seat}
+use Rattle.clsm_law.proofs.Setting.{Setting, Ground, v, x, w, M, V, S, Opens, OpensTo, found, memory', merger', slots', looked_same, by_seat}
 use Rattle.clsm_law.proofs.Setting.{merger_looked_same, decided, drawn_shown, held_shown, shown_below_merged, clock_below}
 use Rattle.clsm_law.proofs.Growth.{cancels_shown, slots_stay}
 use Rattle.clsm_law.proofs.GrowthMerger.{slots_stay'}
@@ -93,16 +93,16 @@ module _ (s : Setting) (step : Step) (o : Opens s step) (bound : View → ℕ) (
   same_own : bound (w s step) ≡ bound (v s) → AreDecidedBelow (outcome_at (S s step)) (each s.z bound (V s step))
   same_own e = by_own (λ t lt. decided_stay s step o t (h s.me t (omega arith)))
 
-pub past_kept : (s : Setting) (step : Step) → Opens s step → AreDecidedBelow (outcome_at (S s step)) (each s.z past_time_of (V s step))
-past_kept s (RaiseFront t) o = by_own s (RaiseFront t) o past_time_of s.law.past (λ u lt. elim (cases_lt u (v s).past) [
+pub past_kept : (s : Setting) (step : Step) → Opens s step → AreDecidedBelow (outcome_at (S s step)) (each s.z View.past (V s step))
+past_kept s (RaiseFront t) o = by_own s (RaiseFront t) o View.past s.law.past (λ u lt. elim (cases_lt u (v s).past) [
   | inl old ↦ s.law.past s.me u old
   | inr le ↦ s.law.reached s.me u (let a = o.0 in omega arith)
 ])
-past_kept s (Look c) o = same_own s (Look c) o past_time_of s.law.past (looked_leaves s.z (v s) c (x s (Look c))).2
-past_kept s (Fill part y) o = same_own s (Fill part y) o past_time_of s.law.past (filled_leaves (v s) part y).2
-past_kept s step o = same_own s step o past_time_of s.law.past refl
+past_kept s (Look c) o = same_own s (Look c) o View.past s.law.past (looked_leaves s.z (v s) c (x s (Look c))).2
+past_kept s (Fill part y) o = same_own s (Fill part y) o View.past s.law.past (filled_leaves (v s) part y).2
+past_kept s step o = same_own s step o View.past s.law.past refl
 
-pub past_merged : (g : Ground) (step : Step) → OpensTo g step → AreDecidedBelow (outcome_at (slots' g step)) (each g.z past_time_of g.views)
+pub past_merged : (g : Ground) (step : Step) → OpensTo g step → AreDecidedBelow (outcome_at (slots' g step)) (each g.z View.past g.views)
 past_merged g step o i u lt = decided_stay' g step o u (g.law.past i u lt)
 
 -- ---- how far a seat reached
@@ -115,14 +115,14 @@ filled_reached v part y = refl
 module _ (s : Setting) (t : ℕ) where
   below_clock : (c : Option ℕ) → (v s).clock ≡ c → is_below t c ≡ true → t < length s.slots
   below_clock None e below = absurd cc
-  below_clock (Some n) e below = let a = s.law.clocks s.me n e in let c = clock_below (ground s) in let b = ltb-true t n below in omega arith
+  below_clock (Some n) e below = let a = s.law.clocks s.me n e in let c = clock_below s.ground in let b = ltb-true t n below in omega arith
 
   of_held : (h : Option ℕ) → (v s).held ≡ h → is_seen_of s.z h (v s).clock t ≡ true → (first_shown s.z s.merger ≤ t) × (t < length s.slots)
   of_held None e seen = absurd cc
   of_held (Some m) e seen =
       let both = and_parts (nat_le (m * s.z.cells) t && nat_lt t ((m + 2) * s.z.cells)) (is_below t (v s).clock) seen in
       let a = leb-true (m * s.z.cells) t (and_parts (nat_le (m * s.z.cells) t) (nat_lt t ((m + 2) * s.z.cells)) both.0).0 in
-      let b = held_shown (ground s) s.me m s.inside e in
+      let b = held_shown s.ground s.me m s.inside e in
       (omega arith, below_clock (v s).clock refl both.1)
 
   pub seen_shown : is_seen s.z (v s) t ≡ true → (first_shown s.z s.merger ≤ t) × (t < length s.slots)
@@ -152,16 +152,16 @@ says_write y deed i says = absurd says
 
 -- after a Decide or a Cancel, won or lost, the time is decided
 pub decide_settles : (s : Setting) (t : ℕ) (deed : Deed) → Opens s (Decide t deed) → outcome_at (S s (Decide t deed)) t ≢ None
-decide_settles s t deed o = let p = drawn_shown (ground s) s.me t o.0 in
+decide_settles s t deed o = let p = drawn_shown s.ground s.me t o.0 in
     by_test (λ b. outcome_at (cond b (set s.slots t (write_by s.me deed)) s.slots) t ≢ None) (x s (Decide t deed)) 0
     (λ _ e. let write = says_write (v s) deed s.me o.2 in let here = (puts_slot s.slots t (write_by s.me deed) p.1).here in absurd (cc (write.3, here, e)))
-    (λ ne. decided (ground s) t (let a = shown_below_merged (ground s) in let b = p.0 in omega arith) p.1 ne)
+    (λ ne. decided s.ground t (let a = shown_below_merged s.ground in let b = p.0 in omega arith) p.1 ne)
 
 -- of a Cancel, whoever drew the time
 pub cancel_settles : (s : Setting) (t : ℕ) → Opens s (Cancel t) → outcome_at (S s (Cancel t)) t ≢ None
 cancel_settles s t o = let p = cancels_shown s t o in by_test (λ b. outcome_at (cond b (set s.slots t (Some Nothing)) s.slots) t ≢ None) (x s (Cancel t)) 0
     (λ _ e. let here = (puts_slot s.slots t (Some Nothing) p.1).here in absurd (cc (here, e)))
-    (λ ne. decided (ground s) t p.0 p.1 ne)
+    (λ ne. decided s.ground t p.0 p.1 ne)
 
 -- a look at a state that is not 0
 state_reached : (s : Setting) (cell u : ℕ) → u < reached_by_state s.z (v s) cell (s.memory (State cell)) → outcome_at s.slots u ≢ None
@@ -172,7 +172,7 @@ state_reached s cell u lt = by_bool (λ b. (not (s.memory (State cell) == 0) && 
     let own : cell ≡ cell_of s.z (v s).reached = eqb-true cell (cell_of s.z (v s).reached) both.1 in
     let some : s.memory (State cell) ≢ 0 = eqb-false (s.memory (State cell)) 0 (not-true (s.memory (State cell) == 0) both.0) in
     reached_past s (v s).reached s.slots (λ u ne. ne)
-    (λ seen. let p = seen_shown s (v s).reached seen in decided (ground s) (v s).reached p.0 p.1 (subst (λ (c : ℕ). s.memory (State c) ≢ 0) own some)) u)
+    (λ seen. let p = seen_shown s (v s).reached seen in decided s.ground (v s).reached p.0 p.1 (subst (λ (c : ℕ). s.memory (State c) ≢ 0) own some)) u)
     (λ _ _ lt. s.law.reached s.me u lt) refl lt
 
 -- the first look at MERGED under a pin
@@ -193,17 +193,17 @@ front_reached s u lt = elim (cases_lt u (v s).reached) [
   | inr le ↦ s.law.front u (omega arith)
 ]
 
-pub reached_kept : (s : Setting) (step : Step) → Opens s step → AreDecidedBelow (outcome_at (S s step)) (each s.z reached_of (V s step))
-reached_kept s (Look Front) o = by_own s (Look Front) o reached_of s.law.reached (front_reached s)
-reached_kept s (Look Merged) o = by_own s (Look Merged) o reached_of s.law.reached (merged_reached s)
-reached_kept s (Look (State cell)) o = by_own s (Look (State cell)) o reached_of s.law.reached (state_reached s cell)
-reached_kept s (Look c) o = same_own s (Look c) o reached_of s.law.reached refl
-reached_kept s (Decide t deed) o = by_own s (Decide t deed) o reached_of s.law.reached
+pub reached_kept : (s : Setting) (step : Step) → Opens s step → AreDecidedBelow (outcome_at (S s step)) (each s.z View.reached (V s step))
+reached_kept s (Look Front) o = by_own s (Look Front) o View.reached s.law.reached (front_reached s)
+reached_kept s (Look Merged) o = by_own s (Look Merged) o View.reached s.law.reached (merged_reached s)
+reached_kept s (Look (State cell)) o = by_own s (Look (State cell)) o View.reached s.law.reached (state_reached s cell)
+reached_kept s (Look c) o = same_own s (Look c) o View.reached s.law.reached refl
+reached_kept s (Decide t deed) o = by_own s (Decide t deed) o View.reached s.law.reached
     (reached_past s t (S s (Decide t deed)) (decided_stay s (Decide t deed) o) (λ _. decide_settles s t deed o))
-reached_kept s (Cancel t) o = by_own s (Cancel t) o reached_of s.law.reached
+reached_kept s (Cancel t) o = by_own s (Cancel t) o View.reached s.law.reached
     (reached_past s t (S s (Cancel t)) (decided_stay s (Cancel t) o) (λ _. cancel_settles s t o))
-reached_kept s (Fill part y) o = same_own s (Fill part y) o reached_of s.law.reached (filled_reached (v s) part y)
-reached_kept s step o = same_own s step o reached_of s.law.reached refl
+reached_kept s (Fill part y) o = same_own s (Fill part y) o View.reached s.law.reached (filled_reached (v s) part y)
+reached_kept s step o = same_own s step o View.reached s.law.reached refl
 
-pub reached_merged : (g : Ground) (step : Step) → OpensTo g step → AreDecidedBelow (outcome_at (slots' g step)) (each g.z reached_of g.views)
+pub reached_merged : (g : Ground) (step : Step) → OpensTo g step → AreDecidedBelow (outcome_at (slots' g step)) (each g.z View.reached g.views)
 reached_merged g step o i u lt = decided_stay' g step o u (g.law.reached i u lt)

@@ -24,11 +24,11 @@ use Rattle.clsm_law.specs.Views.{blank}
 use Rattle.clsm_law.specs.Relation.{after_draw, given_up, looked, filled, taken}
 use Rattle.clsm_law.specs.Merging.{epoch_end}
 use Rattle.clsm_law.specs.Worlds.{outcome_at}
-use Rattle.clsm_law.specs.Law.{each, mode_of, drawn_of, part_of, AreHolding, ArePending, AreOwned, AreAlone, AreFilled}
+use Rattle.clsm_law.specs.Law.{each, part_of, AreHolding, ArePending, AreOwned, AreAlone, AreFilled}
 use Rattle.clsm_law.proofs.Cases.{by_test, by_bool}
 use Rattle.clsm_law.proofs.Frames.{keep1, puts_each, puts_slot, slots_grown, past_end, put_here, put_other, looked_leaves, filled_leaves, not_given_up}
 use Rattle.clsm_law.proofs.Clock.Times.{apart}
-use Rattle.clsm_law.proofs.Setting.{Setting, Ground, ground, v, x, w, M, V, S, Opens, OpensTo, memory', slots', own, own_drawn, looked_same, by_seat}
+use Rattle.clsm_law.proofs.Setting.{Setting, Ground, v, x, w, M, V, S, Opens, OpensTo, memory', slots', own, own_drawn, looked_same, by_seat}
 use Rattle.clsm_law.proofs.Setting.{merger_looked_same, drawn_live, none_drawn, clock_below, clock_shared}
 use Rattle.clsm_law.proofs.Growth.{cancels_shown, slots_stay}
 use Rattle.clsm_law.proofs.GrowthMerger.{passed_before, passed_behind, length_passed}
@@ -39,7 +39,7 @@ pub by_draw : (s : Setting) (P : Bool → List View → Type 0) (t : ℕ) → (v
     → (length s.slots ≡ t → P true (set s.views s.me (taken (v s) t))) → P false (set s.views s.me (after_draw false (v s) t))
     → P (x s (Draw t) == t) (V s (Draw t))
 by_draw s P t shared hit miss = by_test (λ b. P b (set s.views s.me (after_draw b (v s) t))) (x s (Draw t)) t
-    (λ e. hit (sym (clock_shared (ground s) s.me shared) ∙ e)) (λ _. miss)
+    (λ e. hit (sym (clock_shared s.ground s.me shared) ∙ e)) (λ _. miss)
 
 -- all but a Draw that wins leave a seat no more than it had drawn
 abbrev pub Keeps : Step → Type 0
@@ -60,7 +60,7 @@ fewer_after s step no_draw = λ u e. e
 
 -- ---- who has drawn a time holds the lock
 pub holding_by : (s : Setting) (y : View) → ((t : ℕ) → y.drawn ≡ Some t → y.mode ≢ Free)
-    → AreHolding (each s.z drawn_of (set s.views s.me y)) (each s.z mode_of (set s.views s.me y))
+    → AreHolding (each s.z View.drawn (set s.views s.me y)) (each s.z View.mode (set s.views s.me y))
 holding_by s y here = by_seat s y (λ i u. (t : ℕ) → u.drawn ≡ Some t → u.mode ≢ Free) here (λ i ne t e. s.law.holding i t e)
 
 holding_after : (s : Setting) (step : Step) → Opens s step → (t : ℕ) → (w s step).drawn ≡ Some t → (w s step).mode ≢ Free
@@ -74,10 +74,10 @@ holding_after s (Look c) o = λ t e free. s.law.holding s.me t (fewer_after s (L
 holding_after s (Fill part y) o = λ t e free. s.law.holding s.me t (fewer_after s (Fill part y) tt t e) (sym (filled_leaves (v s) part y).0 ∙ free)
 holding_after s step o = λ t e. s.law.holding s.me t (fewer_after s step tt t e)
 
-pub holding_kept : (s : Setting) (step : Step) → Opens s step → AreHolding (each s.z drawn_of (V s step)) (each s.z mode_of (V s step))
+pub holding_kept : (s : Setting) (step : Step) → Opens s step → AreHolding (each s.z View.drawn (V s step)) (each s.z View.mode (V s step))
 holding_kept s step o = holding_by s (w s step) (holding_after s step o)
 
-pub holding_merged : (g : Ground) (step : Step) → OpensTo g step → AreHolding (each g.z drawn_of g.views) (each g.z mode_of g.views)
+pub holding_merged : (g : Ground) (step : Step) → OpensTo g step → AreHolding (each g.z View.drawn g.views) (each g.z View.mode g.views)
 holding_merged g step o = g.law.holding
 
 -- ---- a drawn time is of the current epoch, and undecided, or another seat cancelled it
@@ -85,17 +85,17 @@ abbrev Pends : Layout → ℕ → ℕ → (ℕ → Option Slot) → ℕ → Type
 Pends z limit clock slot t = (limit ≤ t + z.cells) × (t < clock) × ((slot t ≡ None) ⊎ (slot t ≡ Some Nothing))
 
 -- over the same slots, with no more drawn
-fewer_pending : (s : Setting) (y : View) → Fewer s y → ArePending s.z (s.memory Limit) (each s.z drawn_of (set s.views s.me y)) (length s.slots)
+fewer_pending : (s : Setting) (y : View) → Fewer s y → ArePending s.z (s.memory Limit) (each s.z View.drawn (set s.views s.me y)) (length s.slots)
     (outcome_at s.slots)
 fewer_pending s y less = by_seat s y (λ i a. (u : ℕ) → a.drawn ≡ Some u → Pends s.z (s.memory Limit) (length s.slots) (outcome_at s.slots) u)
     (λ u e. s.law.pending s.me u (less u e)) (λ i ne u e. s.law.pending i u e)
 
 -- the new time is the last, and undecided
-pub drew_pending : (s : Setting) (t : ℕ) → length s.slots ≡ t → ArePending s.z (s.memory Limit) (each s.z drawn_of (set s.views s.me (taken (v s) t)))
+pub drew_pending : (s : Setting) (t : ℕ) → length s.slots ≡ t → ArePending s.z (s.memory Limit) (each s.z View.drawn (set s.views s.me (taken (v s) t)))
     (length (s.slots ++ None ∷ [])) (outcome_at (s.slots ++ None ∷ []))
 drew_pending s t is = let len : length (s.slots ++ None ∷ []) ≡ length s.slots + 1 = length-append s.slots (None ∷ []) in let current = s.law.current in
-    let below = clock_below (ground s) in
-    keep1 (λ (f : ℕ → Option Slot). ArePending s.z (s.memory Limit) (each s.z drawn_of (set s.views s.me (taken (v s) t))) (length (s.slots ++ None ∷ [])) f)
+    let below = clock_below s.ground in
+    keep1 (λ (f : ℕ → Option Slot). ArePending s.z (s.memory Limit) (each s.z View.drawn (set s.views s.me (taken (v s) t))) (length (s.slots ++ None ∷ [])) f)
     (slots_grown s.slots)
     (by_seat s (taken (v s) t) (λ i a. (u : ℕ) → a.drawn ≡ Some u → Pends s.z (s.memory Limit) (length (s.slots ++ None ∷ [])) (outcome_at s.slots) u)
     (λ u e. let same : t ≡ u = cc in (omega arith, omega arith, inl (subst (λ (k : ℕ). outcome_at s.slots k ≡ None) (is ∙ same) (past_end s.slots))))
@@ -103,52 +103,52 @@ drew_pending s t is = let len : length (s.slots ++ None ∷ []) ≡ length s.slo
 
 -- a slot becomes Nothing, or one that nobody has drawn any longer is settled
 settled_pending : (s : Setting) (y : View) (t : ℕ) (a : Option Slot) → Fewer s y → t < length s.slots → (a ≡ Some Nothing)
-    ⊎ ((i : ℕ) → each s.z drawn_of (set s.views s.me y) i ≢ Some t)
-    → ArePending s.z (s.memory Limit) (each s.z drawn_of (set s.views s.me y)) (length (set s.slots t a)) (outcome_at (set s.slots t a))
+    ⊎ ((i : ℕ) → each s.z View.drawn (set s.views s.me y) i ≢ Some t)
+    → ArePending s.z (s.memory Limit) (each s.z View.drawn (set s.views s.me y)) (length (set s.slots t a)) (outcome_at (set s.slots t a))
 settled_pending s y t a less lt c i u e = let q = fewer_pending s y less i u e in let p = puts_slot s.slots t a lt in let len = length-set s.slots t a in (
   q.0,
   let k = q.1 in omega arith,
   dite (ℕ_discrete u t)
       (λ (same : u ≡ t). ⊎_elim (λ (n : a ≡ Some Nothing). inr (ap (outcome_at (set s.slots t a)) same ∙ p.here ∙ n))
-      (λ (no : (i : ℕ) → each s.z drawn_of (set s.views s.me y) i ≢ Some t). absurd (no i (e ∙ ap (λ (k : ℕ). Some k) same))) c)
+      (λ (no : (i : ℕ) → each s.z View.drawn (set s.views s.me y) i ≢ Some t). absurd (no i (e ∙ ap (λ (k : ℕ). Some k) same))) c)
       (λ ne. ⊎_elim (λ (f : outcome_at s.slots u ≡ None). inl (p.other u ne ∙ f)) (λ (f : outcome_at s.slots u ≡ Some Nothing). inr (p.other u ne ∙ f)) q.2),
 )
 
 -- who decides a time gives it up, and no other seat had drawn it
-decided_by_none : (s : Setting) (t : ℕ) (deed : Deed) → (v s).drawn ≡ Some t → (i : ℕ) → each s.z drawn_of (V s (Decide t deed)) i ≢ Some t
+decided_by_none : (s : Setting) (t : ℕ) (deed : Deed) → (v s).drawn ≡ Some t → (i : ℕ) → each s.z View.drawn (V s (Decide t deed)) i ≢ Some t
 decided_by_none s t deed mine = by_seat s (w s (Decide t deed)) (λ i a. a.drawn ≢ Some t) (λ e. absurd cc) (λ i ne e. ne (s.law.alone i s.me t e mine))
 
-pub pending_kept : (s : Setting) (step : Step) → Opens s step → ArePending s.z (M s step Limit) (each s.z drawn_of (V s step)) (length (S s step))
+pub pending_kept : (s : Setting) (step : Step) → Opens s step → ArePending s.z (M s step Limit) (each s.z View.drawn (V s step)) (length (S s step))
     (outcome_at (S s step))
-pending_kept s (Draw t) o = by_draw s (λ b vs. ArePending s.z (s.memory Limit) (each s.z drawn_of vs) (length (cond b (s.slots ++ None ∷ []) s.slots))
+pending_kept s (Draw t) o = by_draw s (λ b vs. ArePending s.z (s.memory Limit) (each s.z View.drawn vs) (length (cond b (s.slots ++ None ∷ []) s.slots))
     (outcome_at (cond b (s.slots ++ None ∷ []) s.slots))) t o.0 (drew_pending s t) (fewer_pending s (after_draw false (v s) t) (λ u e. e))
 pending_kept s (Decide t deed) o =
-    by_test (λ b. ArePending s.z (s.memory Limit) (each s.z drawn_of (V s (Decide t deed))) (length (cond b (set s.slots t (write_by s.me deed)) s.slots))
+    by_test (λ b. ArePending s.z (s.memory Limit) (each s.z View.drawn (V s (Decide t deed))) (length (cond b (set s.slots t (write_by s.me deed)) s.slots))
     (outcome_at (cond b (set s.slots t (write_by s.me deed)) s.slots))) (x s (Decide t deed)) 0
     (λ _. settled_pending s (w s (Decide t deed)) t (write_by s.me deed) (λ u e. absurd cc) (s.law.pending s.me t o.0).1 (inr (decided_by_none s t deed o.0)))
     (λ _. fewer_pending s (w s (Decide t deed)) (λ u e. absurd cc))
-pending_kept s (Cancel t) o = by_test (λ b. ArePending s.z (s.memory Limit) (each s.z drawn_of (V s (Cancel t)))
+pending_kept s (Cancel t) o = by_test (λ b. ArePending s.z (s.memory Limit) (each s.z View.drawn (V s (Cancel t)))
     (length (cond b (set s.slots t (Some Nothing)) s.slots)) (outcome_at (cond b (set s.slots t (Some Nothing)) s.slots))) (x s (Cancel t)) 0
     (λ _. settled_pending s (w s (Cancel t)) t (Some Nothing) (not_given_up (v s).drawn t) (cancels_shown s t o).1 (inl refl))
     (λ _. fewer_pending s (w s (Cancel t)) (not_given_up (v s).drawn t))
-pending_kept s (Look c) o = keep1 (λ (m : Memory). ArePending s.z (m Limit) (each s.z drawn_of (V s (Look c))) (length s.slots) (outcome_at s.slots))
+pending_kept s (Look c) o = keep1 (λ (m : Memory). ArePending s.z (m Limit) (each s.z View.drawn (V s (Look c))) (length s.slots) (outcome_at s.slots))
     (looked_same s c) (fewer_pending s (w s (Look c)) (fewer_after s (Look c) tt))
 pending_kept s step o = fewer_pending s (w s step) (fewer_after s step tt)
 
-pub pending_merged : (g : Ground) (step : Step) → OpensTo g step → ArePending g.z (memory' g step Limit) (each g.z drawn_of g.views)
+pub pending_merged : (g : Ground) (step : Step) → OpensTo g step → ArePending g.z (memory' g step Limit) (each g.z View.drawn g.views)
     (length (slots' g step)) (outcome_at (slots' g step))
 pending_merged g ExtendClock o = λ i t e. absurd (none_drawn g o.0 i t e)
 pending_merged g ExtendLimit o = λ i t e. absurd (none_drawn g o.0 i t e)
-pending_merged g (Look c) o = keep1 (λ (m : Memory). ArePending g.z (m Limit) (each g.z drawn_of g.views) (length g.slots) (outcome_at g.slots))
+pending_merged g (Look c) o = keep1 (λ (m : Memory). ArePending g.z (m Limit) (each g.z View.drawn g.views) (length g.slots) (outcome_at g.slots))
     (merger_looked_same g c) g.law.pending
-pending_merged g (WriteRun word y) o = keep1 (λ (limit : ℕ). ArePending g.z limit (each g.z drawn_of g.views) (length g.slots) (outcome_at g.slots))
+pending_merged g (WriteRun word y) o = keep1 (λ (limit : ℕ). ArePending g.z limit (each g.z View.drawn g.views) (length g.slots) (outcome_at g.slots))
     (run_other g.memory word Limit y o.1 (λ h. h)) g.law.pending
 pending_merged g step o = g.law.pending
 
 -- ---- an undecided time has an owner
-still_owned : (s : Setting) (y : View) (u : ℕ) → ((v s).drawn ≡ Some u → y.drawn ≡ Some u) → (i : ℕ) × (each s.z drawn_of s.views i ≡ Some u) → (i : ℕ)
-    × (each s.z drawn_of (set s.views s.me y) i ≡ Some u)
-still_owned s y u here h = (h.0, by_seat s y (λ i a. each s.z drawn_of s.views i ≡ Some u → a.drawn ≡ Some u) here (λ i ne e. e) h.0 h.1)
+still_owned : (s : Setting) (y : View) (u : ℕ) → ((v s).drawn ≡ Some u → y.drawn ≡ Some u) → (i : ℕ) × (each s.z View.drawn s.views i ≡ Some u) → (i : ℕ)
+    × (each s.z View.drawn (set s.views s.me y) i ≡ Some u)
+still_owned s y u here h = (h.0, by_seat s y (λ i a. each s.z View.drawn s.views i ≡ Some u → a.drawn ≡ Some u) here (λ i ne e. e) h.0 h.1)
 
 -- what is undecided after a step was undecided before
 undecided_before : (s : Setting) (step : Step) → Opens s step → (u : ℕ) → outcome_at (S s step) u ≡ None → outcome_at s.slots u ≡ None
@@ -159,11 +159,11 @@ undecided_before s step o u none = is (outcome_at s.slots u) refl where
 
 -- the new time is the own
 pub drew_owned : (s : Setting) (t : ℕ) → (v s).drawn ≡ None → length s.slots ≡ t
-    → AreOwned (each s.z drawn_of (set s.views s.me (taken (v s) t))) (length (s.slots ++ None ∷ [])) (outcome_at (s.slots ++ None ∷ []))
+    → AreOwned (each s.z View.drawn (set s.views s.me (taken (v s) t))) (length (s.slots ++ None ∷ [])) (outcome_at (s.slots ++ None ∷ []))
 drew_owned s t free is u lt none = let len : length (s.slots ++ None ∷ []) ≡ length s.slots + 1 = length-append s.slots (None ∷ []) in
     elim (cases_lt u (length s.slots)) [
       | inl old ↦ still_owned s (taken (v s) t) u (λ e. absurd cc) (s.law.owned u old (sym (λ k. slots_grown s.slots k u) ∙ none))
-      | inr new ↦ let same : t ≡ u = omega arith in (s.me, (puts_each s.z drawn_of s.views s.me (taken (v s) t) s.inside).here ∙ ap (λ (k : ℕ). Some k) same)
+      | inr new ↦ let same : t ≡ u = omega arith in (s.me, (puts_each s.z View.drawn s.views s.me (taken (v s) t) s.inside).here ∙ ap (λ (k : ℕ). Some k) same)
     ]
 
 -- another time than the one given up stays drawn
@@ -171,8 +171,8 @@ still_drawn : (d : Option ℕ) (t u : ℕ) → t ≢ u → d ≡ Some u → give
 still_drawn None t u ne e = e
 still_drawn (Some y) t u ne e = by_test (λ b. cond b None (Some y) ≡ Some u) y t (λ same. absurd (ne (sym same ∙ (let is : y ≡ u = cc in is)))) (λ _. e)
 
-pub owned_kept : (s : Setting) (step : Step) → Opens s step → AreOwned (each s.z drawn_of (V s step)) (length (S s step)) (outcome_at (S s step))
-owned_kept s (Draw t) o = by_draw s (λ b vs. AreOwned (each s.z drawn_of vs) (length (cond b (s.slots ++ None ∷ []) s.slots))
+pub owned_kept : (s : Setting) (step : Step) → Opens s step → AreOwned (each s.z View.drawn (V s step)) (length (S s step)) (outcome_at (S s step))
+owned_kept s (Draw t) o = by_draw s (λ b vs. AreOwned (each s.z View.drawn vs) (length (cond b (s.slots ++ None ∷ []) s.slots))
     (outcome_at (cond b (s.slots ++ None ∷ []) s.slots))) t o.0 (drew_owned s t o.1)
     (λ u lt none. still_owned s (after_draw false (v s) t) u (λ e. e) (s.law.owned u lt none))
 owned_kept s (Decide t deed) o = λ u lt none. still_owned s (w s (Decide t deed)) u
@@ -187,7 +187,7 @@ owned_kept s (Look c) o = λ u lt none. still_owned s (w s (Look c)) u (λ e. (l
 owned_kept s (Fill part y) o = λ u lt none. still_owned s (w s (Fill part y)) u (λ e. (filled_leaves (v s) part y).1 ∙ e) (s.law.owned u lt none)
 owned_kept s step o = λ u lt none. still_owned s (w s step) u (λ e. e) (s.law.owned u lt none)
 
-pub owned_merged : (g : Ground) (step : Step) → OpensTo g step → AreOwned (each g.z drawn_of g.views) (length (slots' g step)) (outcome_at (slots' g step))
+pub owned_merged : (g : Ground) (step : Step) → OpensTo g step → AreOwned (each g.z View.drawn g.views) (length (slots' g step)) (outcome_at (slots' g step))
 owned_merged g ExtendClock o = λ u lt none. elim (cases_lt u (length g.slots)) [
   | inl old ↦ g.law.owned u old (sym (passed_before g.slots (epoch_end g.z g.merger) u old) ∙ none)
   | inr new ↦ let len = length_passed g o in let some = passed_behind g.slots (epoch_end g.z g.merger) u new (omega arith) in absurd (cc (some, none))
@@ -195,25 +195,25 @@ owned_merged g ExtendClock o = λ u lt none. elim (cases_lt u (length g.slots)) 
 owned_merged g step o = g.law.owned
 
 -- ---- and no more than one
-fewer_alone : (s : Setting) (y : View) → Fewer s y → AreAlone (each s.z drawn_of (set s.views s.me y))
+fewer_alone : (s : Setting) (y : View) → Fewer s y → AreAlone (each s.z View.drawn (set s.views s.me y))
 fewer_alone s y less i j t e f = s.law.alone i j t (had i e) (had j f)
   where
-    had : (i : ℕ) → each s.z drawn_of (set s.views s.me y) i ≡ Some t → each s.z drawn_of s.views i ≡ Some t
-    had = by_seat s y (λ i a. a.drawn ≡ Some t → each s.z drawn_of s.views i ≡ Some t) (less t) (λ i ne e. e)
+    had : (i : ℕ) → each s.z View.drawn (set s.views s.me y) i ≡ Some t → each s.z View.drawn s.views i ≡ Some t
+    had = by_seat s y (λ i a. a.drawn ≡ Some t → each s.z View.drawn s.views i ≡ Some t) (less t) (λ i ne e. e)
 
 -- the new time is below no clock yet, so no other seat has drawn it
-pub drew_alone : (s : Setting) (t : ℕ) → length s.slots ≡ t → AreAlone (each s.z drawn_of (set s.views s.me (taken (v s) t)))
+pub drew_alone : (s : Setting) (t : ℕ) → length s.slots ≡ t → AreAlone (each s.z View.drawn (set s.views s.me (taken (v s) t)))
 drew_alone s t is i j u e f = by_seat s (taken (v s) t) (λ i a. a.drawn ≡ Some u → i ≡ j)
     (λ e. by_seat s (taken (v s) t) (λ j b. b.drawn ≡ Some u → s.me ≡ j) (λ _. refl)
     (λ j ne f. let same : t ≡ u = cc in let lt = (s.law.pending j u f).1 in absurd (omega arith)) j f)
     (λ i ne e. by_seat s (taken (v s) t) (λ j b. b.drawn ≡ Some u → i ≡ j) (λ f. let same : t ≡ u = cc in let lt = (s.law.pending i u e).1 in
     absurd (omega arith)) (λ j ne f. s.law.alone i j u e f) j f) i e
 
-pub alone_kept : (s : Setting) (step : Step) → Opens s step → AreAlone (each s.z drawn_of (V s step))
-alone_kept s (Draw t) o = by_draw s (λ _ vs. AreAlone (each s.z drawn_of vs)) t o.0 (drew_alone s t) (fewer_alone s (after_draw false (v s) t) (λ u e. e))
+pub alone_kept : (s : Setting) (step : Step) → Opens s step → AreAlone (each s.z View.drawn (V s step))
+alone_kept s (Draw t) o = by_draw s (λ _ vs. AreAlone (each s.z View.drawn vs)) t o.0 (drew_alone s t) (fewer_alone s (after_draw false (v s) t) (λ u e. e))
 alone_kept s step o = fewer_alone s (w s step) (fewer_after s step tt)
 
-pub alone_merged : (g : Ground) (step : Step) → OpensTo g step → AreAlone (each g.z drawn_of g.views)
+pub alone_merged : (g : Ground) (step : Step) → OpensTo g step → AreAlone (each g.z View.drawn g.views)
 alone_merged g step o = g.law.alone
 
 -- ---- a part that is filled equals the word
@@ -264,14 +264,14 @@ filled_parts v part y p a e = inr ((λ q. absurd cc), e)
 
 -- over the same words of cells and the same parts, with no more drawn
 fewer_filled : (s : Setting) (y : View) (m : Memory) → Fewer s y → ((p : Part) → part_of y p ≡ part_of (v s) p)
-    → ((c : ℕ) (p : Part) → m (Cell c p) ≡ s.memory (Cell c p)) → AreFilled s.z m (each s.z drawn_of (set s.views s.me y))
+    → ((c : ℕ) (p : Part) → m (Cell c p) ≡ s.memory (Cell c p)) → AreFilled s.z m (each s.z View.drawn (set s.views s.me y))
     (each s.z part_of (set s.views s.me y))
 fewer_filled s y m less same words = by_seat s y (λ i a. (t b : ℕ) (p : Part) → a.drawn ≡ Some t → part_of a p ≡ Some b → m (Cell (cell_of s.z t) p) ≡ b)
     (λ t b p e f. words (cell_of s.z t) p ∙ s.law.filled s.me t b p (less t e) (sym (same p) ∙ f))
     (λ i ne t b p e f. words (cell_of s.z t) p ∙ s.law.filled i t b p e f)
 
 -- after a Draw that won nothing is filled
-pub drew_filled : (s : Setting) (t : ℕ) → AreFilled s.z s.memory (each s.z drawn_of (set s.views s.me (taken (v s) t)))
+pub drew_filled : (s : Setting) (t : ℕ) → AreFilled s.z s.memory (each s.z View.drawn (set s.views s.me (taken (v s) t)))
     (each s.z part_of (set s.views s.me (taken (v s) t)))
 drew_filled s t = by_seat s (taken (v s) t) (λ i a. (u b : ℕ) (p : Part) → a.drawn ≡ Some u → part_of a p ≡ Some b → s.memory (Cell (cell_of s.z u) p) ≡ b)
     (λ u b p e f. absurd (cc (drew_parts s t p, f)))
@@ -279,7 +279,7 @@ drew_filled s t = by_seat s (taken (v s) t) (λ i a. (u b : ℕ) (p : Part) → 
 
 -- a Fill of a seat's own cell: the cells of the other seats' times are others
 fill_filled : (s : Setting) (part : Part) (y : ℕ) → (v s).drawn ≡ Some (own s)
-    → AreFilled s.z (M s (Fill part y)) (each s.z drawn_of (V s (Fill part y))) (each s.z part_of (V s (Fill part y)))
+    → AreFilled s.z (M s (Fill part y)) (each s.z View.drawn (V s (Fill part y))) (each s.z part_of (V s (Fill part y)))
 fill_filled s part y mine = by_seat s (w s (Fill part y)) (λ i a. (t b : ℕ) (p : Part) → a.drawn ≡ Some t → part_of a p ≡ Some b
     → M s (Fill part y) (Cell (cell_of s.z t) p) ≡ b)
     (λ t b p e f. let e' : (v s).drawn ≡ Some t = fewer_after s (Fill part y) tt t e in let at : own s ≡ t = cc in
@@ -289,20 +289,20 @@ fill_filled s part y mine = by_seat s (w s (Fill part y)) (λ i a. (t b : ℕ) (
     ∙ s.law.filled s.me t b p e' miss.1)
     (filled_parts (v s) part y p b f))
     (λ i ne t b p e f. put_other s.memory (Cell (cell_of s.z (own s)) part) (Cell (cell_of s.z t) p) y
-    (λ q. let cell : cell_of s.z t ≡ cell_of s.z (own s) = cc in let same : t ≡ own s = apart s.z _ t (own s) (drawn_live (ground s) i t e)
-    (drawn_live (ground s) s.me (own s) mine) cell in ne (s.law.alone i s.me t e (mine ∙ ap (λ (k : ℕ). Some k) (sym same))))
+    (λ q. let cell : cell_of s.z t ≡ cell_of s.z (own s) = cc in let same : t ≡ own s = apart s.z _ t (own s) (drawn_live s.ground i t e)
+    (drawn_live s.ground s.me (own s) mine) cell in ne (s.law.alone i s.me t e (mine ∙ ap (λ (k : ℕ). Some k) (sym same))))
     ∙ s.law.filled i t b p e f)
 
-pub filled_kept : (s : Setting) (step : Step) → Opens s step → AreFilled s.z (M s step) (each s.z drawn_of (V s step)) (each s.z part_of (V s step))
-filled_kept s (Draw t) o = by_draw s (λ _ vs. AreFilled s.z s.memory (each s.z drawn_of vs) (each s.z part_of vs)) t o.0 (λ _. drew_filled s t)
+pub filled_kept : (s : Setting) (step : Step) → Opens s step → AreFilled s.z (M s step) (each s.z View.drawn (V s step)) (each s.z part_of (V s step))
+filled_kept s (Draw t) o = by_draw s (λ _ vs. AreFilled s.z s.memory (each s.z View.drawn vs) (each s.z part_of vs)) t o.0 (λ _. drew_filled s t)
     (fewer_filled s (after_draw false (v s) t) s.memory (λ u e. e) (same_parts (after_draw false (v s) t) (v s) refl refl refl refl) (λ c p. refl))
 filled_kept s (Fill part y) o = fill_filled s part y (own_drawn s o.0)
 filled_kept s (Look c) o = fewer_filled s (w s (Look c)) (M s (Look c)) (fewer_after s (Look c) tt) (looked_parts s.z (v s) c (x s (Look c)))
     (λ d p. (λ k. looked_same s c k (Cell d p)))
 filled_kept s step o = fewer_filled s (w s step) (M s step) (fewer_after s step tt) (same_parts (w s step) (v s) refl refl refl refl) (λ c p. refl)
 
-pub filled_merged : (g : Ground) (step : Step) → OpensTo g step → AreFilled g.z (memory' g step) (each g.z drawn_of g.views) (each g.z part_of g.views)
-filled_merged g (Look c) o = keep1 (λ (m : Memory). AreFilled g.z m (each g.z drawn_of g.views) (each g.z part_of g.views))
+pub filled_merged : (g : Ground) (step : Step) → OpensTo g step → AreFilled g.z (memory' g step) (each g.z View.drawn g.views) (each g.z part_of g.views)
+filled_merged g (Look c) o = keep1 (λ (m : Memory). AreFilled g.z m (each g.z View.drawn g.views) (each g.z part_of g.views))
     (merger_looked_same g c) g.law.filled
 filled_merged g (WriteRun word y) o = λ i t a p e f. run_other g.memory word (Cell (cell_of g.z t) p) y o.1 (λ h. h) ∙ g.law.filled i t a p e f
 filled_merged g step o = g.law.filled

@@ -1,12 +1,12 @@
 -- What `==` says of the merger's views: whether they are the same but for their counts.
 use Rattle.std.proofs.Common.{◌≡◌, true, refl, sym, ap, subst}
 use Rattle.std.proofs.Math.Bool.{true≢false}
-use Rattle.std.proofs.lemmas.Bool.Decides.{Decides-and, Decides-like}
+use Rattle.std.proofs.lemmas.Bool.Decides.{Decides-like}
 use Rattle.std.specs.Bool.{Decides}
 use Rattle.std.specs.Cmp.{unsigned_Decides, booleans_Decides}
 use Rattle.clsm_model.proofs.Equals.{Decides-by_same, option_eq-Decides}
 use Rattle.clsm_law.specs.Same.{uncounted_merger, uncounted_reader}
-use Rattle.clsm_law.proofs.Equal.Views.{along-Decides}
+use Rattle.clsm_law.proofs.Equal.Views.{◌&◌, along-Decides}
 use Rattle.clsm_law.specs.declared.merger.Phase.{Phase}
 use Rattle.clsm_law.specs.declared.merger.Phase.TheVariants.{Clean, Frozen, Retired}
 use Rattle.clsm_law.specs.declared.merger.Round.{Round}
@@ -31,7 +31,7 @@ Phase-Decides = Decides-by_same phase_laws.laws-law phase-same
 
 round-same : (a b : Round) → of_rounds.ghosts.eq a b ≡ true → a ≡ b
 round-same a b h =
-    let fields = (Decides-and _ _ (unsigned_Decides a.next b.next) (option_eq-Decides unsigned_Decides a.least b.least)).0 h in
+    let fields = (unsigned_Decides a.next b.next & option_eq-Decides unsigned_Decides a.least b.least).0 h in
     λ i. record { next = fields.0 i; least = fields.1 i }
 
 pub Round-Decides : (a b : Round) → Decides (of_rounds.ghosts.eq a b) (a ≡ b)
@@ -40,7 +40,7 @@ Round-Decides = Decides-by_same round_laws.laws-law round-same
 -- equal readers agree in every field but their count
 reader-same : (a b : Reader) → of_readers.ghosts.eq a b ≡ true → uncounted_reader a ≡ uncounted_reader b
 reader-same a b h =
-    let fields = (Decides-and _ _ (option_eq-Decides unsigned_Decides a.first_pin b.first_pin) (booleans_Decides a.quiet b.quiet)).0 h in
+    let fields = (option_eq-Decides unsigned_Decides a.first_pin b.first_pin & booleans_Decides a.quiet b.quiet).0 h in
     λ i. record { first_pin = fields.0 i; quiet = fields.1 i; looks = 0 }
 
 pub Reader-Decides : (a b : Reader) → Decides (of_readers.ghosts.eq a b) (uncounted_reader a ≡ uncounted_reader b)
@@ -55,22 +55,22 @@ pub MergerView-Decides : (m n : MergerView) → Decides (of_mergers.ghosts.eq m 
 MergerView-Decides m n = Decides-like _
     (λ e. cc)
     (λ e. (
-      ap (λ (v : MergerView). v.phase) e,
+      ap MergerView.phase e,
       (
-        ap (λ (v : MergerView). v.merged) e,
+        ap MergerView.merged e,
         (
-          ap (λ (v : MergerView). v.exclusive) e,
+          ap MergerView.exclusive e,
           (
-            ap (λ (v : MergerView). v.padded) e,
+            ap MergerView.padded e,
             (
-              ap (λ (v : MergerView). v.clock_extended) e,
+              ap MergerView.clock_extended e,
               (
-                ap (λ (v : MergerView). v.limit_extended) e,
+                ap MergerView.limit_extended e,
                 (
-                  ap (λ (v : MergerView). v.floor) e,
+                  ap MergerView.floor e,
                   (
-                    ap (λ (v : MergerView). v.round) e,
-                    (ap (λ (v : MergerView). v.merged_floor) e, (ap (λ (v : MergerView). v.former_floor) e, (ap (λ (v : MergerView). v.readers) e))),
+                    ap MergerView.round e,
+                    (ap MergerView.merged_floor e, (ap MergerView.former_floor e, (ap MergerView.readers e))),
                   ),
                 ),
               ),
@@ -79,14 +79,8 @@ MergerView-Decides m n = Decides-like _
         ),
       ),
     )) (
-    Decides-and _ _ (Phase-Decides m.phase n.phase) (
-    Decides-and _ _ (unsigned_Decides m.merged n.merged) (
-    Decides-and _ _ (booleans_Decides m.exclusive n.exclusive) (
-    Decides-and _ _ (booleans_Decides m.padded n.padded) (
-    Decides-and _ _ (booleans_Decides m.clock_extended n.clock_extended) (
-    Decides-and _ _ (booleans_Decides m.limit_extended n.limit_extended) (
-    Decides-and _ _ (unsigned_Decides m.floor n.floor) (
-    Decides-and _ _ (option_eq-Decides Round-Decides m.round n.round) (
-    Decides-and _ _ (unsigned_Decides m.merged_floor n.merged_floor) (
-    Decides-and _ _ (unsigned_Decides m.former_floor n.former_floor) (
-    along-Decides uncounted_reader Reader-Decides m.readers n.readers)))))))))))
+    Phase-Decides m.phase n.phase & unsigned_Decides m.merged n.merged & booleans_Decides m.exclusive n.exclusive & booleans_Decides m.padded n.padded
+    & booleans_Decides m.clock_extended n.clock_extended & booleans_Decides m.limit_extended n.limit_extended
+    & unsigned_Decides m.floor n.floor & option_eq-Decides Round-Decides m.round n.round
+    & unsigned_Decides m.merged_floor n.merged_floor & unsigned_Decides m.former_floor n.former_floor
+    & along-Decides uncounted_reader Reader-Decides m.readers n.readers)

@@ -5,6 +5,7 @@ use Rattle.std.proofs.lemmas.Bool.{cases_lt, lt-ltb, le-ltb, and_parts}
 use Rattle.std.proofs.lemmas.Nat.{mod_below}
 use Rattle.std.proofs.lemmas.List.{get_or_past}
 use Rattle.std.proofs.Math.Nat.{mul-le-mul_right}
+use Rattle.clsm_law.specs.declared.view.View.{View}
 use Rattle.clsm_model.specs.declared.slot.Slot.{Slot}
 use Rattle.clsm_model.specs.declared.slot.Slot.TheVariants.{Nothing, Wrote}
 use Rattle.clsm_model.specs.History.{History, Write, write_of, or_else, newest, left_by, value, slot_at as slot_of}
@@ -19,7 +20,7 @@ use Rattle.clsm_law.specs.Views.{or_zero}
 use Rattle.clsm_law.specs.OpenSteps.{open_time}
 use Rattle.clsm_law.specs.Merging.{is_retired, is_all_quiet}
 use Rattle.clsm_law.specs.Worlds.{outcome_at, history_of, runs_of}
-use Rattle.clsm_law.specs.Law.{In, Leads, Rising, Shows, AreRuns, IsSnapshot, IsRetiredFor, each, pin_of, held_of, snapshot_of, past_time_of, place_of_time}
+use Rattle.clsm_law.specs.Law.{In, Leads, Rising, Shows, AreRuns, IsSnapshot, IsRetiredFor, each, place_of_time}
 use Rattle.clsm_law.specs.Law.{is_held_back, first_shown}
 use Rattle.clsm_law.specs.Reading.{write_at, newest_among, chain_of, newest_in, left_or, read, AnswersFrom, SnapshotsRead, HoldersRead, IsWalkOf, OrdersRead}
 use Rattle.clsm_law.specs.declared.word.Word.TheVariants.{Clock}
@@ -215,7 +216,7 @@ snapshots_read w l i s timed key =
     read_right g w.merger.merged w.merger.merged_floor key s (inl (refl, refl)) (omega arith) (omega arith)
 
 -- a held component answers from the floor of its runs on
-held_answers : (g : Ground) (i c : ℕ) → each g.z held_of g.views i ≡ Some c → (floor : ℕ) × AnswersFrom g.merger c floor × (floor ≤ g.merger.merged_floor)
+held_answers : (g : Ground) (i c : ℕ) → each g.z View.held g.views i ≡ Some c → (floor : ℕ) × AnswersFrom g.merger c floor × (floor ≤ g.merger.merged_floor)
     × (floor ≤ c * g.z.cells)
 held_answers g i c e = ⊎_elim
     (λ (newest : c ≡ g.merger.merged). (
@@ -225,7 +226,7 @@ held_answers g i c e = ⊎_elim
       let a = g.law.floors.below_merged in
           subst (λ (k : ℕ). g.merger.merged_floor ≤ k * g.z.cells) (sym newest) a,
     ))
-    (λ (r : IsRetiredFor g.merger i (each g.z pin_of g.views i) c).
+    (λ (r : IsRetiredFor g.merger i (each g.z View.pin g.views i) c).
     let loud : is_all_quiet g.merger.readers ≡ false = not_all_quiet g.merger.readers i
     (let a = g.law.merger.seats in let b = g.law.seated in let d = holder_below g i c e in omega arith) r.loud in
     let back : is_held_back g.merger ≡ true = rw (r.retired, loud) refl in
@@ -246,13 +247,13 @@ holders_read w l i component s holds at key =
     let begun = answers.3 in
     let past = past_below g i in
     ⊎_elim
-    (λ (timed : open_time (each w.layout snapshot_of w.views i) ≡ Some s).
+    (λ (timed : open_time (each w.layout View.snapshot w.views i) ≡ Some s).
     let within = open_within w.merger.floor (memory_of w Clock) _ s _ _ (l.law.snapshots i) timed in
     let low = within.0 in
     let high = within.1 in
     let floor = l.law.floors.merged in
     read_right g component answers.0 key s answers.1 (omega arith) (omega arith))
-    (λ (known : (component * w.layout.cells ≤ s) × (s ≤ each w.layout past_time_of w.views i)).
+    (λ (known : (component * w.layout.cells ≤ s) × (s ≤ each w.layout View.past w.views i)).
     let low = known.0 in
     let high = known.1 in
     read_right g component answers.0 key s answers.1 (omega arith) (omega arith))
@@ -309,7 +310,7 @@ orders_read w l i component epoch holds which =
     let past = past_below g i in
     ⊎_elim
     (λ (first : epoch ≡ component). subst (IsWalkOf w) (sym first) (epoch_walked w l component from live.1 live.2))
-    (λ (second : (epoch ≡ component + 1) × (epoch * w.layout.cells < each w.layout past_time_of w.views i)).
+    (λ (second : (epoch ≡ component + 1) × (epoch * w.layout.cells < each w.layout View.past w.views i)).
     let next = second.0 in
     let begun = second.1 in
     let shown = live.2 in

@@ -20,7 +20,7 @@ use Rattle.clsm_law.specs.declared.layout.Layout.{Layout}
 use Rattle.clsm_law.specs.Memory.{Memory, cell_of, region_of, link_at}
 use Rattle.clsm_law.specs.Views.{blank, line_of, own_line, or_zero}
 use Rattle.clsm_law.specs.Relation.{holds_lock, is_listed}
-use Rattle.clsm_law.specs.Law.{each, mode_of, drawn_of, inserted_of, fresh_heads_of, fresh_link_of, In, place_of_time, AreFoundHeads, AreFoundLinks}
+use Rattle.clsm_law.specs.Law.{each, In, place_of_time, AreFoundHeads, AreFoundLinks}
 use Rattle.clsm_law.specs.Law.{IsFoundLink}
 use Rattle.clsm_law.proofs.Cases.{by_test, by_bool}
 use Rattle.clsm_law.proofs.Frames.{put_other, not_given_up}
@@ -66,7 +66,7 @@ undrawn s free = is (v s).drawn refl where
   is (Some t) e = absurd (s.law.holding s.me t e free)
 
 -- nor does any seat beside an exclusive holder
-undrawn_beside : (s : Setting) (i : ℕ) → i ≢ s.me → each s.z mode_of s.views i ≡ Exclusive → (v s).drawn ≡ None
+undrawn_beside : (s : Setting) (i : ℕ) → i ≢ s.me → each s.z View.mode s.views i ≡ Exclusive → (v s).drawn ≡ None
 undrawn_beside s i ne e = undrawn s (s.law.sole i s.me e (λ same. ne (sym same)))
 
 -- ---- heads
@@ -125,14 +125,14 @@ heads_after s (Look word) o = λ t chain n mode from until look. (λ k. looked_s
 heads_after s step o = s.law.found_heads s.me
 
 pub found_heads_kept : (s : Setting) (step : Step) → Opens s step
-    → AreFoundHeads s.z (M s step) (M s step Limit) (each s.z mode_of (V s step)) (each s.z fresh_heads_of (V s step))
-found_heads_kept s step o = subst (λ (limit : ℕ). AreFoundHeads s.z (M s step) limit (each s.z mode_of (V s step)) (each s.z fresh_heads_of (V s step)))
+    → AreFoundHeads s.z (M s step) (M s step Limit) (each s.z View.mode (V s step)) (each s.z View.fresh_heads (V s step))
+found_heads_kept s step o = subst (λ (limit : ℕ). AreFoundHeads s.z (M s step) limit (each s.z View.mode (V s step)) (each s.z View.fresh_heads (V s step)))
     (sym (limit_same s step)) (by_seat s (w s step) (λ i u. FindsHeads s (M s step) u.mode u.fresh_heads) (heads_after s step o)
     (λ i ne t chain n mode from until look. heads_stay s step o (undrawn_beside s i ne mode) _ _ ∙ s.law.found_heads i t chain n mode from until look))
 
 pub found_heads_merged : (g : Ground) (step : Step) → OpensTo g step
-    → AreFoundHeads g.z (memory' g step) (memory' g step Limit) (each g.z mode_of g.views) (each g.z fresh_heads_of g.views)
-found_heads_merged g (Look c) o = subst (λ (m : Memory). AreFoundHeads g.z m (m Limit) (each g.z mode_of g.views) (each g.z fresh_heads_of g.views))
+    → AreFoundHeads g.z (memory' g step) (memory' g step Limit) (each g.z View.mode g.views) (each g.z View.fresh_heads g.views)
+found_heads_merged g (Look c) o = subst (λ (m : Memory). AreFoundHeads g.z m (m Limit) (each g.z View.mode g.views) (each g.z View.fresh_heads g.views))
     (sym (merger_looked_same g c)) g.law.found_heads
 found_heads_merged g (WriteRun (Count p) y) o = g.law.found_heads
 found_heads_merged g (WriteRun (Entry p e i) y) o = g.law.found_heads
@@ -226,25 +226,26 @@ links_after s (Look (Order k)) o = λ t found mode drawn out look. let l = link_
 links_after s (Look word) o = still_found s (Look word) (λ k j. looked_same s word j (Order k))
 links_after s step o = still_found s step (λ k. refl)
 
-pub found_links_by : (s : Setting) (memory : Memory) (y : View) → ((i : ℕ) → i ≢ s.me → each s.z mode_of s.views i ≡ Exclusive
+pub found_links_by : (s : Setting) (memory : Memory) (y : View) → ((i : ℕ) → i ≢ s.me → each s.z View.mode s.views i ≡ Exclusive
     → (k : ℕ) → memory (Order k) ≡ s.memory (Order k)) → FindsLink s memory y.mode y.drawn y.inserted y.fresh_link
-    → AreFoundLinks s.z memory (each s.z mode_of (set s.views s.me y)) (each s.z drawn_of (set s.views s.me y)) (each s.z inserted_of (set s.views s.me y))
-    (each s.z fresh_link_of (set s.views s.me y))
+    → AreFoundLinks s.z memory (each s.z View.mode (set s.views s.me y)) (each s.z View.drawn (set s.views s.me y))
+    (each s.z View.inserted (set s.views s.me y))
+    (each s.z View.fresh_link (set s.views s.me y))
 found_links_by s memory y same now = by_seat s y (λ i u. FindsLink s memory u.mode u.drawn u.inserted u.fresh_link) now
     (λ i ne t found mode drawn out look. found_as s.z s.memory memory t found (s.law.found_links i t found mode drawn out look) (same i ne mode _))
 
-pub found_links_kept : (s : Setting) (step : Step) → Opens s step → AreFoundLinks s.z (M s step) (each s.z mode_of (V s step)) (each s.z drawn_of (V s step))
-    (each s.z inserted_of (V s step)) (each s.z fresh_link_of (V s step))
+pub found_links_kept : (s : Setting) (step : Step) → Opens s step → AreFoundLinks s.z (M s step) (each s.z View.mode (V s step)) (each s.z View.drawn (V s step))
+    (each s.z View.inserted (V s step)) (each s.z View.fresh_link (V s step))
 found_links_kept s step o = found_links_by s (M s step) (w s step) (λ i ne mode. links_stay s step o (undrawn_beside s i ne mode)) (links_after s step o)
 
 -- a step of the merger that leaves the links
 still_merged : (g : Ground) (step : Step) → ((k : ℕ) → memory' g step (Order k) ≡ g.memory (Order k)) → AreFoundLinks g.z (memory' g step)
-    (each g.z mode_of g.views) (each g.z drawn_of g.views) (each g.z inserted_of g.views) (each g.z fresh_link_of g.views)
+    (each g.z View.mode g.views) (each g.z View.drawn g.views) (each g.z View.inserted g.views) (each g.z View.fresh_link g.views)
 still_merged g step same i t found mode drawn out look =
     found_as g.z g.memory (memory' g step) t found (g.law.found_links i t found mode drawn out look) (same _)
 
-pub found_links_merged : (g : Ground) (step : Step) → OpensTo g step → AreFoundLinks g.z (memory' g step) (each g.z mode_of g.views)
-    (each g.z drawn_of g.views) (each g.z inserted_of g.views) (each g.z fresh_link_of g.views)
+pub found_links_merged : (g : Ground) (step : Step) → OpensTo g step → AreFoundLinks g.z (memory' g step) (each g.z View.mode g.views)
+    (each g.z View.drawn g.views) (each g.z View.inserted g.views) (each g.z View.fresh_link g.views)
 found_links_merged g (Look c) o = still_merged g (Look c) (λ k j. merger_looked_same g c j (Order k))
 found_links_merged g (WriteRun (Count p) y) o = still_merged g (WriteRun (Count p) y) (λ k. refl)
 found_links_merged g (WriteRun (Entry p e i) y) o = still_merged g (WriteRun (Entry p e i) y) (λ k. refl)

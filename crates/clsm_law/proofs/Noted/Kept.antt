@@ -10,7 +10,7 @@ use Rattle.clsm_law.specs.declared.view.Mode.{Mode}
 use Rattle.clsm_law.specs.declared.view.Mode.TheVariants.{Free, Shared, Exclusive}
 use Rattle.clsm_law.specs.Memory.{Memory}
 use Rattle.clsm_law.specs.Relation.{holds_lock}
-use Rattle.clsm_law.specs.Law.{each, mode_of, hold_limit_of, fresh_clock_of, hold_clock_of, clock_of, pin_clock_of, AreLimits, AreNotedBelow}
+use Rattle.clsm_law.specs.Law.{each, AreLimits, AreNotedBelow}
 use Rattle.clsm_law.proofs.Frames.{keep1}
 use Rattle.clsm_law.proofs.Setting.{Setting, v, x, w, M, V, Opens, Ground, memory', OpensTo, merger_looked_same, by_seat}
 use Rattle.clsm_law.proofs.Lock.Kept.{not_both, held_free}
@@ -33,28 +33,28 @@ limit_after s (Fill Key n) = s.law.limits s.me
 limit_after s (Look Limit) = λ k m e. cc
 limit_after s step = s.law.limits s.me
 
-pub limits_kept : (s : Setting) (step : Step) → Opens s step → AreLimits (each s.z mode_of (V s step)) (each s.z hold_limit_of (V s step)) (M s step Limit)
-limits_kept s step o = keep1 (AreLimits (each s.z mode_of (V s step)) (each s.z hold_limit_of (V s step))) (limit_same s step)
+pub limits_kept : (s : Setting) (step : Step) → Opens s step → AreLimits (each s.z View.mode (V s step)) (each s.z View.hold_limit (V s step)) (M s step Limit)
+limits_kept s step o = keep1 (AreLimits (each s.z View.mode (V s step)) (each s.z View.hold_limit (V s step))) (limit_same s step)
     (by_seat s (w s step) (λ i u. (k : ℕ) → u.mode ≢ Free → u.hold_limit ≡ Some k → k ≡ s.memory Limit) (limit_after s step) (λ i ne. s.law.limits i))
 
-pub limits_merged : (g : Ground) (step : Step) → OpensTo g step → AreLimits (each g.z mode_of g.views) (each g.z hold_limit_of g.views) (memory' g step Limit)
+pub limits_merged : (g : Ground) (step : Step) → OpensTo g step → AreLimits (each g.z View.mode g.views) (each g.z View.hold_limit g.views) (memory' g step Limit)
 limits_merged g ExtendLimit o = λ i k m e. absurd (not_both o.0 (held_free g i m))
-limits_merged g (Look word) o = keep1 (λ (m : Memory). AreLimits (each g.z mode_of g.views) (each g.z hold_limit_of g.views) (m Limit))
+limits_merged g (Look word) o = keep1 (λ (m : Memory). AreLimits (each g.z View.mode g.views) (each g.z View.hold_limit g.views) (m Limit))
     (merger_looked_same g word) g.law.limits
-limits_merged g (WriteRun word n) o = keep1 (AreLimits (each g.z mode_of g.views) (each g.z hold_limit_of g.views)) (limit_same' g word n o) g.law.limits
+limits_merged g (WriteRun word n) o = keep1 (AreLimits (each g.z View.mode g.views) (each g.z View.hold_limit g.views)) (limit_same' g word n o) g.law.limits
 limits_merged g step o = g.law.limits
 
 -- ---- numbers of the clock
 
 -- what the seat noted after the step is at most the clock, and what others noted
-noted_by : (s : Setting) (step : Step) → Opens s step → (f : View → Option ℕ) → AreNotedBelow (each s.z f s.views) (s.memory Clock)
+pub noted_by : (s : Setting) (step : Step) → Opens s step → (f : View → Option ℕ) → AreNotedBelow (each s.z f s.views) (s.memory Clock)
     → ((k : ℕ) → f (w s step) ≡ Some k → k ≤ s.memory Clock) → AreNotedBelow (each s.z f (V s step)) (M s step Clock)
 noted_by s step o f h now = by_seat s (w s step) (λ i u. (k : ℕ) → f u ≡ Some k → k ≤ M s step Clock)
     (λ k e. let a = now k e in let b = clock_grows s step o in omega arith)
     (λ i ne k e. let a = h i k e in let b = clock_grows s step o in omega arith)
 
 -- a step of the merger leaves all notes
-noted_more : (g : Ground) (step : Step) → OpensTo g step → (f : View → Option ℕ) → AreNotedBelow (each g.z f g.views) (g.memory Clock)
+pub noted_more : (g : Ground) (step : Step) → OpensTo g step → (f : View → Option ℕ) → AreNotedBelow (each g.z f g.views) (g.memory Clock)
     → AreNotedBelow (each g.z f g.views) (memory' g step Clock)
 noted_more g step o f h i k e = let a = h i k e in let b = clock_grows' g step o in omega arith
 
@@ -69,7 +69,7 @@ seen s true n h k e = let same : s.memory Clock ≡ k = cc in omega arith
 seen s false n h k e = h k e
 
 -- each note of the seat after the step
-fresh_clock_after : (s : Setting) (step : Step) (k : ℕ) → (w s step).fresh_clock ≡ Some k → k ≤ s.memory Clock
+pub fresh_clock_after : (s : Setting) (step : Step) (k : ℕ) → (w s step).fresh_clock ≡ Some k → k ≤ s.memory Clock
 fresh_clock_after s (EnterShared l) = blotted (x s (EnterShared l) == l) (v s).fresh_clock (s.memory Clock) (s.law.fresh_clocks s.me)
 fresh_clock_after s EnterExclusive = blotted (x s EnterExclusive == 0) (v s).fresh_clock (s.memory Clock) (s.law.fresh_clocks s.me)
 fresh_clock_after s LeaveShared = λ k e. absurd cc
@@ -80,45 +80,21 @@ fresh_clock_after s (Fill Key n) = s.law.fresh_clocks s.me
 fresh_clock_after s (Look Clock) = seen s true None (λ k e. absurd cc)
 fresh_clock_after s step = s.law.fresh_clocks s.me
 
-hold_clock_after : (s : Setting) (step : Step) (k : ℕ) → (w s step).hold_clock ≡ Some k → k ≤ s.memory Clock
+pub hold_clock_after : (s : Setting) (step : Step) (k : ℕ) → (w s step).hold_clock ≡ Some k → k ≤ s.memory Clock
 hold_clock_after s (EnterShared l) = blotted (x s (EnterShared l) == l) (v s).hold_clock (s.memory Clock) (s.law.hold_clocks s.me)
 hold_clock_after s EnterExclusive = blotted (x s EnterExclusive == 0) (v s).hold_clock (s.memory Clock) (s.law.hold_clocks s.me)
 hold_clock_after s (Fill Key n) = s.law.hold_clocks s.me
 hold_clock_after s (Look Clock) = seen s (holds_lock (v s)) (v s).hold_clock (s.law.hold_clocks s.me)
 hold_clock_after s step = s.law.hold_clocks s.me
 
-clock_after : (s : Setting) (step : Step) (k : ℕ) → (w s step).clock ≡ Some k → k ≤ s.memory Clock
+pub clock_after : (s : Setting) (step : Step) (k : ℕ) → (w s step).clock ≡ Some k → k ≤ s.memory Clock
 clock_after s (Fill Key n) = s.law.clocks s.me
 clock_after s (Look Clock) = seen s true None (λ k e. absurd cc)
 clock_after s step = s.law.clocks s.me
 
-pin_clock_after : (s : Setting) (step : Step) (k : ℕ) → (w s step).pin_clock ≡ Some k → k ≤ s.memory Clock
+pub pin_clock_after : (s : Setting) (step : Step) (k : ℕ) → (w s step).pin_clock ≡ Some k → k ≤ s.memory Clock
 pin_clock_after s (Fill Key n) = s.law.pin_clocks s.me
 pin_clock_after s Pin = λ k e. absurd cc
 pin_clock_after s (Unpin end) = λ k e. absurd cc
 pin_clock_after s (Look Clock) = seen s (v s).pinned (v s).pin_clock (s.law.pin_clocks s.me)
 pin_clock_after s step = s.law.pin_clocks s.me
-
-pub fresh_clocks_kept : (s : Setting) (step : Step) → Opens s step → AreNotedBelow (each s.z fresh_clock_of (V s step)) (M s step Clock)
-fresh_clocks_kept s step o = noted_by s step o fresh_clock_of s.law.fresh_clocks (fresh_clock_after s step)
-
-pub fresh_clocks_merged : (g : Ground) (step : Step) → OpensTo g step → AreNotedBelow (each g.z fresh_clock_of g.views) (memory' g step Clock)
-fresh_clocks_merged g step o = noted_more g step o fresh_clock_of g.law.fresh_clocks
-
-pub hold_clocks_kept : (s : Setting) (step : Step) → Opens s step → AreNotedBelow (each s.z hold_clock_of (V s step)) (M s step Clock)
-hold_clocks_kept s step o = noted_by s step o hold_clock_of s.law.hold_clocks (hold_clock_after s step)
-
-pub hold_clocks_merged : (g : Ground) (step : Step) → OpensTo g step → AreNotedBelow (each g.z hold_clock_of g.views) (memory' g step Clock)
-hold_clocks_merged g step o = noted_more g step o hold_clock_of g.law.hold_clocks
-
-pub clocks_kept : (s : Setting) (step : Step) → Opens s step → AreNotedBelow (each s.z clock_of (V s step)) (M s step Clock)
-clocks_kept s step o = noted_by s step o clock_of s.law.clocks (clock_after s step)
-
-pub clocks_merged : (g : Ground) (step : Step) → OpensTo g step → AreNotedBelow (each g.z clock_of g.views) (memory' g step Clock)
-clocks_merged g step o = noted_more g step o clock_of g.law.clocks
-
-pub pin_clocks_kept : (s : Setting) (step : Step) → Opens s step → AreNotedBelow (each s.z pin_clock_of (V s step)) (M s step Clock)
-pin_clocks_kept s step o = noted_by s step o pin_clock_of s.law.pin_clocks (pin_clock_after s step)
-
-pub pin_clocks_merged : (g : Ground) (step : Step) → OpensTo g step → AreNotedBelow (each g.z pin_clock_of g.views) (memory' g step Clock)
-pin_clocks_merged g step o = noted_more g step o pin_clock_of g.law.pin_clocks

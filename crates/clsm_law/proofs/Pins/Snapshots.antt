@@ -25,10 +25,10 @@ use Rattle.clsm_law.specs.OpenSteps.{IsEndingWith}
 use Rattle.clsm_law.specs.Relation.{ended_snapshot, timed_by}
 use Rattle.clsm_law.specs.Merging.{is_frozen, is_retired, epoch_end, noted_time, least, round_on, round_by, is_whole, lesser, round_end, floor_by}
 use Rattle.clsm_law.specs.Worlds.{past_of}
-use Rattle.clsm_law.specs.Law.{each, past_time_of, pinned_of, snapshot_of, IsSnapshot, AreSnapshots, note_of, IsPassed, ArePassed, AreFloors}
+use Rattle.clsm_law.specs.Law.{each, IsSnapshot, AreSnapshots, note_of, IsPassed, ArePassed, AreFloors}
 use Rattle.clsm_law.proofs.Cases.{by_test, by_bool}
 use Rattle.clsm_law.proofs.Frames.{keep1, keep2}
-use Rattle.clsm_law.proofs.Setting.{Setting, ground, v, w, M, V, Opens, Ground, facts, merger', memory', OpensTo, past_below, by_seat}
+use Rattle.clsm_law.proofs.Setting.{Setting, v, w, M, V, Opens, Ground, facts, merger', memory', OpensTo, past_below, by_seat}
 use Rattle.clsm_law.proofs.Records.Histories.{end_of-past}
 use Rattle.clsm_law.proofs.Clock.Kept.{frozen_clock, clock_grows, clock_grows'}
 use Rattle.clsm_law.proofs.Phases.{clean_frozen, retired_frozen}
@@ -81,28 +81,28 @@ snapshot_ended h v end floor n past pinned (Open k s) o le i = i
 -- the seat's own snapshot after the step, and the others' as before
 snapshots_by : (s : Setting) (step : Step) → Opens s step → (v s).past ≤ (w s step).past
     → IsSnapshot s.merger.floor (M s step Clock) (w s step).past (w s step).pinned (w s step).snapshot
-    → AreSnapshots s.merger.floor (M s step Clock) (each s.z past_time_of (V s step)) (each s.z pinned_of (V s step)) (each s.z snapshot_of (V s step))
+    → AreSnapshots s.merger.floor (M s step Clock) (each s.z View.past (V s step)) (each s.z View.pinned (V s step)) (each s.z View.snapshot (V s step))
 snapshots_by s step o le now = by_seat s (w s step) (λ i u. IsSnapshot s.merger.floor (M s step Clock) u.past u.pinned u.snapshot) now
-    (λ i ne. snapshot_more s.merger.floor (s.memory Clock) (M s step Clock) (each s.z past_time_of s.views i) (each s.z past_time_of s.views i)
-    (each s.z pinned_of s.views i) (each s.z snapshot_of s.views i) (clock_grows s step o) (omega arith) (s.law.snapshots i))
+    (λ i ne. snapshot_more s.merger.floor (s.memory Clock) (M s step Clock) (each s.z View.past s.views i) (each s.z View.past s.views i)
+    (each s.z View.pinned s.views i) (each s.z View.snapshot s.views i) (clock_grows s step o) (omega arith) (s.law.snapshots i))
 
 -- a step that leaves the pin and the snapshot
 snapshots_same : (s : Setting) (step : Step) → Opens s step → (v s).past ≤ (w s step).past → (w s step).pinned ≡ (v s).pinned → (w s step).snapshot
     ≡ (v s).snapshot
-    → AreSnapshots s.merger.floor (M s step Clock) (each s.z past_time_of (V s step)) (each s.z pinned_of (V s step)) (each s.z snapshot_of (V s step))
+    → AreSnapshots s.merger.floor (M s step Clock) (each s.z View.past (V s step)) (each s.z View.pinned (V s step)) (each s.z View.snapshot (V s step))
 snapshots_same s step o le a b = snapshots_by s step o le (keep2 (IsSnapshot s.merger.floor (M s step Clock) (w s step).past) a b
     (snapshot_more s.merger.floor (s.memory Clock) (M s step Clock) (v s).past (w s step).past (v s).pinned (v s).snapshot (clock_grows s step o) le
     (s.law.snapshots s.me)))
 
-pub snapshots_kept : (s : Setting) (step : Step) → Opens s step → AreSnapshots s.merger.floor (M s step Clock) (each s.z past_time_of (V s step))
-    (each s.z pinned_of (V s step)) (each s.z snapshot_of (V s step))
+pub snapshots_kept : (s : Setting) (step : Step) → Opens s step → AreSnapshots s.merger.floor (M s step Clock) (each s.z View.past (V s step))
+    (each s.z View.pinned (V s step)) (each s.z View.snapshot (V s step))
 snapshots_kept s Pin o = snapshots_by s Pin o (omega arith) (snapshot_pinned s.merger.floor (s.memory Clock) (v s).past (v s).pinned (v s).snapshot
     (s.law.snapshots s.me))
 snapshots_kept s (Unpin end) o = snapshots_by s (Unpin end) o (omega arith)
     (snapshot_ended (past_of s.slots (v s).past) (v s) end s.merger.floor (s.memory Clock) (v s).past (v s).pinned (v s).snapshot o.1
-    (let a = end_of-past s.slots (v s).past (past_below (ground s) s.me) in omega arith) (s.law.snapshots s.me))
+    (let a = end_of-past s.slots (v s).past (past_below s.ground s.me) in omega arith) (s.law.snapshots s.me))
 snapshots_kept s (Look Clock) o = snapshots_by s (Look Clock) o (omega arith)
-    (snapshot_timed s.merger.floor (s.memory Clock) (v s).past (v s).pinned (v s).snapshot (floor_below (ground s)) (s.law.snapshots s.me))
+    (snapshot_timed s.merger.floor (s.memory Clock) (v s).past (v s).pinned (v s).snapshot (floor_below s.ground) (s.law.snapshots s.me))
 snapshots_kept s (Note b) o = snapshots_by s (Note b) o (omega arith) (s.law.pin_clocks s.me b o.2, o.1)
 snapshots_kept s CloseSnapshot o = snapshots_by s CloseSnapshot o (omega arith) tt
 snapshots_kept s (Fill Key n) o = snapshots_same s (Fill Key n) o (omega arith) refl refl
@@ -183,7 +183,7 @@ passed_absent end (Some m) = tt
 passed_after : (s : Setting) (step : Step) → Opens s step → is_frozen s.merger.phase ≡ true → (n : Option ℕ)
     → IsPassed (epoch_end s.z s.merger) n (v s).snapshot → IsPassed (epoch_end s.z s.merger) n (w s step).snapshot
 passed_after s (Unpin end) o e n = passed_ended (epoch_end s.z s.merger) n (v s).snapshot
-passed_after s (Look Clock) o e n = passed_timed (epoch_end s.z s.merger) (s.memory Clock) n (v s).snapshot (frozen_clock (ground s) e)
+passed_after s (Look Clock) o e n = passed_timed (epoch_end s.z s.merger) (s.memory Clock) n (v s).snapshot (frozen_clock s.ground e)
 passed_after s (Note b) o e n = λ h. passed_noted (epoch_end s.z s.merger) n b
 passed_after s CloseSnapshot o e n = λ h. passed_absent (epoch_end s.z s.merger) n
 passed_after s (Fill Key y) o e n = λ h. h
@@ -191,20 +191,20 @@ passed_after s step o e n = λ h. h
 
 -- and so are the others'
 passed_by : (s : Setting) (step : Step) → Opens s step → (round : Option Round)
-    → ArePassed (is_frozen s.merger.phase) round (epoch_end s.z s.merger) (each s.z snapshot_of s.views)
-    → ArePassed (is_frozen s.merger.phase) round (epoch_end s.z s.merger) (each s.z snapshot_of (V s step))
+    → ArePassed (is_frozen s.merger.phase) round (epoch_end s.z s.merger) (each s.z View.snapshot s.views)
+    → ArePassed (is_frozen s.merger.phase) round (epoch_end s.z s.merger) (each s.z View.snapshot (V s step))
 passed_by s step o None h = tt
 passed_by s step o (Some r) h = λ e. by_seat s (w s step) (λ i u. i < r.next → IsPassed (epoch_end s.z s.merger) r.least u.snapshot)
     (λ lt. passed_after s step o e r.least (h e s.me lt)) (λ i ne lt. h e i lt)
 
 pub passed_kept : (s : Setting) (step : Step) → Opens s step → ArePassed (is_frozen s.merger.phase) s.merger.round (epoch_end s.z s.merger)
-    (each s.z snapshot_of (V s step))
+    (each s.z View.snapshot (V s step))
 passed_kept s step o = passed_by s step o s.merger.round s.law.passed
 
 -- a look at the snapshot word of the seat i goes on with the round
 module _ (g : Ground) (i : ℕ) (inside : i < g.z.seats) (frozen : is_frozen g.merger.phase ≡ true) where
   abbrev snapshots : ℕ → SnapshotState
-  snapshots = each g.z snapshot_of g.views
+  snapshots = each g.z View.snapshot g.views
 
   abbrev end : ℕ
   end = epoch_end g.z g.merger
@@ -215,7 +215,7 @@ module _ (g : Ground) (i : ℕ) (inside : i < g.z.seats) (frozen : is_frozen g.m
   -- the seat looked at is passed by what its word notes
   passed_here : IsPassed end (noted_time snap_word) (snapshots i)
   passed_here = subst (λ (n : ℕ). IsPassed end (noted_time n) (snapshots i)) (sym (g.law.notes i inside))
-      (passed_looked g.merger.floor (g.memory Clock) (each g.z past_time_of g.views i) end (each g.z pinned_of g.views i) (snapshots i) (g.law.snapshots i))
+      (passed_looked g.merger.floor (g.memory Clock) (each g.z View.past g.views i) end (each g.z View.pinned g.views i) (snapshots i) (g.law.snapshots i))
 
   -- and the seats before it as they were
   passed_on : (round : Option Round) → ArePassed true round end snapshots → ArePassed true (round_on round i snap_word) end snapshots
@@ -242,7 +242,7 @@ passed_end seats round end snapshot h = elim (is_whole seats round) as (λ b. Ar
 
 -- a freeze begins with no round
 passed_leaves : (g : Ground) (b : Bool) → ArePassed (is_frozen (cond b Frozen g.merger.phase)) (cond b None g.merger.round) (epoch_end g.z g.merger)
-    (each g.z snapshot_of g.views)
+    (each g.z View.snapshot g.views)
 passed_leaves g true = tt
 passed_leaves g false = g.law.passed
 
@@ -254,16 +254,16 @@ retired_clears Frozen false e = absurd cc
 retired_clears Retired false e = refl
 
 pub passed_merged : (g : Ground) (step : Step) → OpensTo g step → ArePassed (is_frozen (merger' g step).phase) (merger' g step).round
-    (epoch_end g.z (merger' g step)) (each g.z snapshot_of g.views)
+    (epoch_end g.z (merger' g step)) (each g.z View.snapshot g.views)
 passed_merged g LeaveExclusive o = passed_leaves g g.merger.limit_extended
 passed_merged g (Look (Snap i)) o = let n = g.memory (Snap i) in by_bool
     (λ b. is_frozen g.merger.phase ≡ b → ArePassed b (cond b (round_end g.z.seats (cond b (round_by g.merger.round i n) g.merger.round)) g.merger.round)
-    (epoch_end g.z g.merger) (each g.z snapshot_of g.views)) (is_frozen g.merger.phase)
-    (λ _ e. passed_end g.z.seats (round_by g.merger.round i n) (epoch_end g.z g.merger) (each g.z snapshot_of g.views)
+    (epoch_end g.z g.merger) (each g.z View.snapshot g.views)) (is_frozen g.merger.phase)
+    (λ _ e. passed_end g.z.seats (round_by g.merger.round i n) (epoch_end g.z g.merger) (each g.z View.snapshot g.views)
     (round_passed g i (ltb-true i g.z.seats o) e))
-    (λ _ e. passed_unfrozen g.merger.round (epoch_end g.z g.merger) (each g.z snapshot_of g.views)) refl
-passed_merged g (ClearState cell) o = keep1 (λ b. ArePassed b g.merger.round (epoch_end g.z g.merger) (each g.z snapshot_of g.views))
-    (retired_clears g.merger.phase ((facts g).last cell) o.0) (passed_unfrozen g.merger.round (epoch_end g.z g.merger) (each g.z snapshot_of g.views))
+    (λ _ e. passed_unfrozen g.merger.round (epoch_end g.z g.merger) (each g.z View.snapshot g.views)) refl
+passed_merged g (ClearState cell) o = keep1 (λ b. ArePassed b g.merger.round (epoch_end g.z g.merger) (each g.z View.snapshot g.views))
+    (retired_clears g.merger.phase ((facts g).last cell) o.0) (passed_unfrozen g.merger.round (epoch_end g.z g.merger) (each g.z View.snapshot g.views))
 passed_merged g Publish o = tt
 passed_merged g step o = g.law.passed
 
@@ -293,46 +293,46 @@ raised_passed floor end (Some m) (Open k s) h le = ⊎_elim (λ (b : m ≤ s). o
 raised_passed floor end a y h le = tt
 
 -- beyond the seats there is no snapshot
-no_snapshot : (z : Layout) (views : List View) (i : ℕ) → length views ≤ i → each z snapshot_of views i ≡ Absent
+no_snapshot : (z : Layout) (views : List View) (i : ℕ) → length views ≤ i → each z View.snapshot views i ≡ Absent
 no_snapshot z [] i le = refl
 no_snapshot z (y ∷ ys) zero le = absurd (omega arith)
 no_snapshot z (y ∷ ys) (suc i) le = no_snapshot z ys i (omega arith)
 
 -- a whole round passed every seat
-raised_by : (g : Ground) (round : Option Round) → ArePassed true round (epoch_end g.z g.merger) (each g.z snapshot_of g.views) → (i : ℕ)
-    → IsAtLeast (floor_by g.z g.merger round) (each g.z snapshot_of g.views i)
-raised_by g None h i = floor_of g.merger.floor (g.memory Clock) (each g.z past_time_of g.views i) (each g.z pinned_of g.views i)
-    (each g.z snapshot_of g.views i) (g.law.snapshots i)
-raised_by g (Some r) h i = let now = floor_of g.merger.floor (g.memory Clock) (each g.z past_time_of g.views i) (each g.z pinned_of g.views i)
-    (each g.z snapshot_of g.views i) (g.law.snapshots i) in
-    by_test (λ b. IsAtLeast (cond b (max g.merger.floor (lesser (epoch_end g.z g.merger) r.least)) g.merger.floor) (each g.z snapshot_of g.views i)) r.next
+raised_by : (g : Ground) (round : Option Round) → ArePassed true round (epoch_end g.z g.merger) (each g.z View.snapshot g.views) → (i : ℕ)
+    → IsAtLeast (floor_by g.z g.merger round) (each g.z View.snapshot g.views i)
+raised_by g None h i = floor_of g.merger.floor (g.memory Clock) (each g.z View.past g.views i) (each g.z View.pinned g.views i)
+    (each g.z View.snapshot g.views i) (g.law.snapshots i)
+raised_by g (Some r) h i = let now = floor_of g.merger.floor (g.memory Clock) (each g.z View.past g.views i) (each g.z View.pinned g.views i)
+    (each g.z View.snapshot g.views i) (g.law.snapshots i) in
+    by_test (λ b. IsAtLeast (cond b (max g.merger.floor (lesser (epoch_end g.z g.merger) r.least)) g.merger.floor) (each g.z View.snapshot g.views i)) r.next
     g.z.seats
     (λ whole. elim (cases_lt i g.z.seats) [
-      | inl lt ↦ raised_passed g.merger.floor (epoch_end g.z g.merger) r.least (each g.z snapshot_of g.views i) (h refl i (omega arith)) now
+      | inl lt ↦ raised_passed g.merger.floor (epoch_end g.z g.merger) r.least (each g.z View.snapshot g.views i) (h refl i (omega arith)) now
       | inr le ↦ keep1 (IsAtLeast (max g.merger.floor (lesser (epoch_end g.z g.merger) r.least)))
           (no_snapshot g.z g.views i (let a = g.law.seated in omega arith)) tt
     ])
     (λ _. now)
 
 -- so the floor is raised above no snapshot
-snapshots_looked : (g : Ground) (i : ℕ) → OpensTo g (Look (Snap i)) → (j : ℕ) → IsAtLeast (merger' g (Look (Snap i))).floor (each g.z snapshot_of g.views j)
-snapshots_looked g i o j = let n = g.memory (Snap i) in let y = each g.z snapshot_of g.views j in
+snapshots_looked : (g : Ground) (i : ℕ) → OpensTo g (Look (Snap i)) → (j : ℕ) → IsAtLeast (merger' g (Look (Snap i))).floor (each g.z View.snapshot g.views j)
+snapshots_looked g i o j = let n = g.memory (Snap i) in let y = each g.z View.snapshot g.views j in
     by_bool (λ b. is_frozen g.merger.phase ≡ b
     → IsAtLeast (cond b (floor_by g.z g.merger (cond b (round_by g.merger.round i n) g.merger.round)) g.merger.floor) y) (is_frozen g.merger.phase)
     (λ _ e. raised_by g (round_by g.merger.round i n) (round_passed g i (ltb-true i g.z.seats o) e) j)
-    (λ _ e. floor_of g.merger.floor (g.memory Clock) (each g.z past_time_of g.views j) (each g.z pinned_of g.views j) y (g.law.snapshots j)) refl
+    (λ _ e. floor_of g.merger.floor (g.memory Clock) (each g.z View.past g.views j) (each g.z View.pinned g.views j) y (g.law.snapshots j)) refl
 
 -- a step that leaves the floor
-snapshots_stay : (g : Ground) (step : Step) → OpensTo g step → AreSnapshots g.merger.floor (memory' g step Clock) (each g.z past_time_of g.views)
-    (each g.z pinned_of g.views) (each g.z snapshot_of g.views)
-snapshots_stay g step o i = let past = each g.z past_time_of g.views i in
-    snapshot_more g.merger.floor (g.memory Clock) (memory' g step Clock) past past (each g.z pinned_of g.views i) (each g.z snapshot_of g.views i)
+snapshots_stay : (g : Ground) (step : Step) → OpensTo g step → AreSnapshots g.merger.floor (memory' g step Clock) (each g.z View.past g.views)
+    (each g.z View.pinned g.views) (each g.z View.snapshot g.views)
+snapshots_stay g step o i = let past = each g.z View.past g.views i in
+    snapshot_more g.merger.floor (g.memory Clock) (memory' g step Clock) past past (each g.z View.pinned g.views i) (each g.z View.snapshot g.views i)
     (clock_grows' g step o) (omega arith) (g.law.snapshots i)
 
 pub snapshots_merged : (g : Ground) (step : Step) → OpensTo g step → AreSnapshots (merger' g step).floor (memory' g step Clock)
-    (each g.z past_time_of g.views) (each g.z pinned_of g.views) (each g.z snapshot_of g.views)
+    (each g.z View.past g.views) (each g.z View.pinned g.views) (each g.z View.snapshot g.views)
 snapshots_merged g (Look (Snap i)) o = λ j. snapshot_raised g.merger.floor (merger' g (Look (Snap i))).floor (g.memory Clock)
-    (each g.z past_time_of g.views j) (each g.z pinned_of g.views j) (each g.z snapshot_of g.views j) (snapshots_looked g i o j) (g.law.snapshots j)
+    (each g.z View.past g.views j) (each g.z View.pinned g.views j) (each g.z View.snapshot g.views j) (snapshots_looked g i o j) (g.law.snapshots j)
 snapshots_merged g (Look word) o = snapshots_stay g (Look word) o
 snapshots_merged g (WriteRun word n) o = snapshots_stay g (WriteRun word n) o
 snapshots_merged g ExtendClock o = snapshots_stay g ExtendClock o

@@ -20,7 +20,7 @@ use Rattle.clsm_law.specs.declared.view.SnapshotState.{SnapshotState}
 use Rattle.clsm_law.specs.declared.view.SnapshotState.TheVariants.{Noted, Timed}
 use Rattle.clsm_law.specs.Views.{or_zero, SaysWrite}
 use Rattle.clsm_law.specs.OpenSteps.{IsReadBelow, timed, time_of_read, is_old, IsRightAt, IsMetAt, IsEndingWith}
-use Rattle.clsm_law.specs.Relation.{member_of, ended_calls, ended_due}
+use Rattle.clsm_law.specs.Relation.{call_of, member_of, ended_calls, ended_due}
 use Rattle.clsm_model.specs.Seats.{IsRightDeed, IsRightRecord, StandsAs, IsStandingRecord, HasWrite}
 use Rattle.clsm_law.proofs.Cases.{by_test}
 use Rattle.clsm_law.proofs.Records.Histories.{GoesOn, IsRightDeed-right, IsRight-goes_on}
@@ -176,30 +176,32 @@ read_stands h i u slot s t (Group members) r = absurd r
 read_stands h i u slot s t deed r = nothing_stands (s == t) slot
 
 module _ (h : History) (i : ℕ) (u : View) where
-  -- the records with which a read ends are right
-  pub ended_right : (n : SnapshotState) (end : End) → u.snapshot ≡ n → IsEndingWith h u n end → AllByRecursion (IsRightRecord h) (ended_calls i u end)
-  ended_right (Noted b) end e p = absurd p
-  ended_right (Timed b s) Neither e p = absurd p
-  ended_right (Timed b s) Meeting e p = absurd p
-  ended_right (Timed b s) (Recorded Snapshot) e p = (subst (λ (n : SnapshotState). IsRight h (or_zero (timed n)) Snapshot) (sym e) p.1, tt)
-  ended_right (Timed b s) (Recorded deed) e p = absurd p
-  ended_right n Neither e p = tt
-  ended_right n Meeting e p = tt
-  ended_right n (Recorded Snapshot) e p = absurd p
-  ended_right n (Recorded deed) e p = (read_right h u deed (time_of_read u deed) p, tt)
+  -- a fact of the records with which a read ends, from that of the snapshot that it makes and that
+  -- of the read that it was
+  pub ended_each : (P : CallRecord → Type 0) (n : SnapshotState) (end : End) → u.snapshot ≡ n → IsEndingWith h u n end
+      → (IsRight h (or_zero (timed u.snapshot)) Snapshot → P (call_of i (or_zero (timed u.snapshot)) Snapshot))
+      → ((deed : Deed) → IsRightAt h u deed (time_of_read u deed) → P (call_of i (or_zero (time_of_read u deed)) deed))
+      → AllByRecursion P (ended_calls i u end)
+  ended_each P (Noted b) end e p snapshot read = absurd p
+  ended_each P (Timed b s) Neither e p snapshot read = absurd p
+  ended_each P (Timed b s) Meeting e p snapshot read = absurd p
+  ended_each P (Timed b s) (Recorded Snapshot) e p snapshot read =
+      (snapshot (subst (λ (n : SnapshotState). IsRight h (or_zero (timed n)) Snapshot) (sym e) p.1), tt)
+  ended_each P (Timed b s) (Recorded deed) e p snapshot read = absurd p
+  ended_each P n Neither e p snapshot read = tt
+  ended_each P n Meeting e p snapshot read = tt
+  ended_each P n (Recorded Snapshot) e p snapshot read = absurd p
+  ended_each P n (Recorded deed) e p snapshot read = (read deed p, tt)
+
+  -- they are right
+  pub ended_right : (end : End) → IsEndingWith h u u.snapshot end → AllByRecursion (IsRightRecord h) (ended_calls i u end)
+  ended_right end p = ended_each (IsRightRecord h) u.snapshot end refl p (λ r. r) (λ deed r. read_right h u deed (time_of_read u deed) r)
 
   -- and write nothing
-  pub ended_stands : (slot : ℕ → Option Slot) (n : SnapshotState) (end : End) → IsEndingWith h u n end
-      → AllByRecursion (IsStandingRecord slot i) (ended_calls i u end)
-  ended_stands slot (Noted b) end p = absurd p
-  ended_stands slot (Timed b s) Neither p = absurd p
-  ended_stands slot (Timed b s) Meeting p = absurd p
-  ended_stands slot (Timed b s) (Recorded Snapshot) p = ((refl, λ t. nothing_stands (or_zero (timed u.snapshot) == t) (slot t)), tt)
-  ended_stands slot (Timed b s) (Recorded deed) p = absurd p
-  ended_stands slot n Neither p = tt
-  ended_stands slot n Meeting p = tt
-  ended_stands slot n (Recorded Snapshot) p = absurd p
-  ended_stands slot n (Recorded deed) p = ((refl, λ t. read_stands h i u (slot t) (or_zero (time_of_read u deed)) t deed p), tt)
+  pub ended_stands : (slot : ℕ → Option Slot) (end : End) → IsEndingWith h u u.snapshot end → AllByRecursion (IsStandingRecord slot i) (ended_calls i u end)
+  ended_stands slot end p = ended_each (IsStandingRecord slot i) u.snapshot end refl p
+      (λ r. (refl, λ t. nothing_stands (or_zero (timed u.snapshot) == t) (slot t)))
+      (λ deed r. (refl, λ t. read_stands h i u (slot t) (or_zero (time_of_read u deed)) t deed r))
 
   -- the due after a read moves no further than the past
   module _ (bound : ℕ) (due : u.due ≤ bound) (past : u.past ≤ bound) (reach : end_of h ≤ bound) where

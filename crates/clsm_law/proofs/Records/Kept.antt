@@ -5,9 +5,11 @@ use Rattle.std.proofs.Common.{ap, ◌∙◌, subst, arith, inl, inr, ⊎_elim, O
 use prog.Atomic.{either}
 use Rattle.std.specs.List.{AllByRecursion}
 use Rattle.std.proofs.lemmas.Bool.{cases_lt}
+use Rattle.clsm_law.specs.declared.view.View.{View}
 use Rattle.clsm_model.specs.declared.slot.Slot.{Slot}
 use Rattle.clsm_model.specs.declared.slot.Slot.TheVariants.{Nothing, Wrote}
 use Rattle.clsm_model.specs.declared.record.Deed.{Deed}
+use Rattle.clsm_model.specs.declared.record.CallRecord.{CallRecord}
 use Rattle.clsm_model.specs.declared.record.Deed.TheVariants.{Close, Batch as Group}
 use Rattle.clsm_model.specs.History.{History, end_of}
 use Rattle.clsm_model.specs.Right.{IsRight, Member, member_write, write_by}
@@ -26,13 +28,13 @@ use Rattle.clsm_law.specs.Relation.{ended_calls, call_of}
 use Rattle.clsm_law.specs.Merging.{epoch_end}
 use Rattle.clsm_law.specs.Worlds.{outcome_at, past_of}
 use Rattle.clsm_model.specs.Seats.{IsRightRecord, IsStandingRecord, HasWrite}
-use Rattle.clsm_law.specs.Law.{each, drawn_of, past_time_of, due_of, calls_of, IsSnapshot, AreRight, AreRecordsStanding, AreRecorded, AreAtMost}
+use Rattle.clsm_law.specs.Law.{each, IsSnapshot, AreRight, AreRecordsStanding, AreRecorded}
 use Rattle.clsm_law.specs.Law.{AreDuesBelowOwn}
 use Rattle.clsm_law.proofs.Cases.{by_test, by_bool}
 use Rattle.clsm_law.proofs.Frames.{at_each, puts_each, puts_slot, slots_grown, slot_below, not_given_up}
-use Rattle.clsm_law.proofs.Setting.{Setting, Ground, ground, v, x, w, M, V, S, Opens, looked_same, merger_looked_same, drawn_shown, past_below, by_seat}
+use Rattle.clsm_law.proofs.Setting.{Setting, Ground, v, x, w, M, V, S, Opens, looked_same, merger_looked_same, drawn_shown, past_below, by_seat}
 use Rattle.clsm_law.proofs.Setting.{clock_shared, clock_merger, memory', slots', OpensTo}
-use Rattle.clsm_law.proofs.Clock.Kept.{commits_at, clock_grows, clock_grows', below_clock}
+use Rattle.clsm_law.proofs.Clock.Kept.{commits_at, clock_grows}
 use Rattle.clsm_law.proofs.Decided.Kept.{run_other}
 use Rattle.clsm_law.proofs.Growth.{slots_stay, longer, cancels_shown}
 use Rattle.clsm_law.proofs.GrowthMerger.{slots_stay', longer', written_before}
@@ -54,13 +56,42 @@ only_shared Exclusive ne e = absurd cc
 
 -- a seat's past before the step
 abbrev past_in : Setting → ℕ → History
-past_in s i = past_of s.slots (each s.z past_time_of s.views i)
+past_in s i = past_of s.slots (each s.z View.past s.views i)
+
+-- ---- the records that a step adds to the seat's
+
+abbrev pub added : Setting → Step → List CallRecord
+added s (Decide t deed) = call_of s.me t deed ∷ []
+added s (Commit members) = call_of s.me (or_zero (v s).hold_clock) (Group members) ∷ []
+added s (Unpin end) = ended_calls s.me (v s) end
+added s CloseSnapshot = call_of s.me (or_zero (open_time (v s).snapshot)) Close ∷ []
+added s step = []
+
+-- it adds them: a decide does where it wins
+abbrev pub Adds : Setting → Step → Type 0
+Adds s (Decide t deed) = x s (Decide t deed) ≡ 0
+Adds s step = Unit {0}
+
+-- a fact of each record of the seat after the step, from that of those before and of those added
+pub each_record : (s : Setting) (step : Step) (P : CallRecord → Type 0) → AllByRecursion P (v s).calls → (Adds s step → AllByRecursion P (added s step))
+    → AllByRecursion P (w s step).calls
+each_record s (Decide t deed) P old new =
+    by_bool (λ a. AllByRecursion P (cond a (v s).calls (cond (x s (Decide t deed) == 0) ((v s).calls ++ call_of s.me t deed ∷ []) (v s).calls)))
+    (is_exclusive (v s).mode) (λ _. old) (λ _.
+    by_test (λ b. AllByRecursion P (cond b ((v s).calls ++ call_of s.me t deed ∷ []) (v s).calls)) (x s (Decide t deed)) 0
+    (λ e. every-append P (v s).calls (added s (Decide t deed)) old (new e)) (λ _. old))
+each_record s (Commit members) P old new = every-append P (v s).calls (added s (Commit members)) old (new tt)
+each_record s (Unpin end) P old new = every-append P (v s).calls (added s (Unpin end)) old (new tt)
+each_record s CloseSnapshot P old new = every-append P (v s).calls (added s CloseSnapshot) old (new tt)
+each_record s (Fill Key a) P old new = old
+each_record s (Look Clock) P old new = old
+each_record s step P old new = old
 
 -- ---- the records are right in the seats' pasts
 
 -- a past after the step goes on from the one before
-pub past_on : (s : Setting) (step : Step) → Opens s step → (i p : ℕ) → each s.z past_time_of s.views i ≤ p → GoesOn (past_in s i) (past_of (S s step) p)
-past_on s step o i p le = decided_past-goes_on s.slots (S s step) (each s.z past_time_of s.views i) p le (longer s step) (s.law.past i) (slots_stay s step o)
+pub past_on : (s : Setting) (step : Step) → Opens s step → (i p : ℕ) → each s.z View.past s.views i ≤ p → GoesOn (past_in s i) (past_of (S s step) p)
+past_on s step o i p le = decided_past-goes_on s.slots (S s step) (each s.z View.past s.views i) p le (longer s step) (s.law.past i) (slots_stay s step o)
 
 -- and the seat's past time only rises
 pub past_rises : (s : Setting) (step : Step) → (v s).past ≤ (w s step).past
@@ -81,49 +112,43 @@ close_right slots floor clock past pinned (Open b t) opened is le = let a = is.2
 close_right slots floor clock past pinned Absent opened is le = absurd opened
 close_right slots floor clock past pinned n opened is le = absurd opened
 
--- the records of the seat that made the step
-own_right : (s : Setting) (step : Step) → Opens s step → AllByRecursion (IsRightRecord (past_of (S s step) (w s step).past)) (w s step).calls
-own_right s (Decide t deed) o = let h' = past_of (S s (Decide t deed)) (v s).past in let before = right_before s (Decide t deed) o in
-    by_bool (λ a. AllByRecursion (IsRightRecord h') (cond a (v s).calls
-    (cond (x s (Decide t deed) == 0) ((v s).calls ++ call_of s.me t deed ∷ []) (v s).calls))) (is_exclusive (v s).mode) (λ _. before) (λ _.
-    by_test (λ b. AllByRecursion (IsRightRecord h') (cond b ((v s).calls ++ call_of s.me t deed ∷ []) (v s).calls)) (x s (Decide t deed)) 0
-    (λ _. every-append (IsRightRecord h') (v s).calls (call_of s.me t deed ∷ []) before
-    (decided_right (past_in s s.me) h' (v s) t deed (past_on s (Decide t deed) o s.me (v s).past (omega arith)) o.2 o.3, tt))
-    (λ _. before))
-own_right s (Commit members) o = every-append (IsRightRecord (past_in s s.me)) (v s).calls (call_of s.me (or_zero (v s).hold_clock) (Group members) ∷ [])
-    (s.law.right s.me) (tt, tt)
-own_right s (Unpin end) o = every-append (IsRightRecord (past_in s s.me)) (v s).calls (ended_calls s.me (v s) end) (s.law.right s.me)
-    (ended_right (past_in s s.me) s.me (v s) (v s).snapshot end refl o.1)
-own_right s CloseSnapshot o = every-append (IsRightRecord (past_in s s.me)) (v s).calls (call_of s.me (or_zero (open_time (v s).snapshot)) Close ∷ [])
-    (s.law.right s.me)
-    (close_right s.slots s.merger.floor (s.memory Clock) (v s).past (v s).pinned (v s).snapshot o (s.law.snapshots s.me) (past_below (ground s) s.me), tt)
-own_right s (Fill Key a) o = right_before s (Fill Key a) o
-own_right s (Look Clock) o = right_before s (Look Clock) o
-own_right s step o = right_before s step o
+-- and so are those that it adds
+added_right : (s : Setting) (step : Step) → Opens s step → AllByRecursion (IsRightRecord (past_of (S s step) (w s step).past)) (added s step)
+added_right s (Decide t deed) o = (
+  decided_right (past_in s s.me) (past_of (S s (Decide t deed)) (v s).past) (v s) t deed (past_on s (Decide t deed) o s.me (v s).past (omega arith)) o.2 o.3,
+  tt,
+)
+added_right s (Commit members) o = (tt, tt)
+added_right s (Unpin end) o = ended_right (past_in s s.me) s.me (v s) end o.1
+added_right s CloseSnapshot o = (
+  close_right s.slots s.merger.floor (s.memory Clock) (v s).past (v s).pinned (v s).snapshot o (s.law.snapshots s.me) (past_below s.ground s.me),
+  tt,
+)
+added_right s step o = tt
 
-pub right_kept : (s : Setting) (step : Step) → Opens s step → AreRight (λ i. past_of (S s step) (each s.z past_time_of (V s step) i))
-    (each s.z calls_of (V s step))
+pub right_kept : (s : Setting) (step : Step) → Opens s step → AreRight (λ i. past_of (S s step) (each s.z View.past (V s step) i))
+    (each s.z View.calls (V s step))
 right_kept s step o = by_seat s (w s step) (λ i u. AllByRecursion (IsRightRecord (past_of (S s step) u.past)) u.calls)
-    (own_right s step o)
-    (λ i ne. records_right-go_on (past_in s i) (past_of (S s step) (each s.z past_time_of s.views i)) (each s.z calls_of s.views i)
-    (past_on s step o i (each s.z past_time_of s.views i) (omega arith)) (s.law.right i))
+    (each_record s step (IsRightRecord (past_of (S s step) (w s step).past)) (right_before s step o) (λ _. added_right s step o))
+    (λ i ne. records_right-go_on (past_in s i) (past_of (S s step) (each s.z View.past s.views i)) (each s.z View.calls s.views i)
+    (past_on s step o i (each s.z View.past s.views i) (omega arith)) (s.law.right i))
 
-pub right_merged : (g : Ground) (step : Step) → OpensTo g step → AreRight (λ i. past_of (slots' g step) (each g.z past_time_of g.views i))
-    (each g.z calls_of g.views)
-right_merged g step o i = let p = each g.z past_time_of g.views i in
-    records_right-go_on (past_of g.slots p) (past_of (slots' g step) p) (each g.z calls_of g.views i)
+pub right_merged : (g : Ground) (step : Step) → OpensTo g step → AreRight (λ i. past_of (slots' g step) (each g.z View.past g.views i))
+    (each g.z View.calls g.views)
+right_merged g step o i = let p = each g.z View.past g.views i in
+    records_right-go_on (past_of g.slots p) (past_of (slots' g step) p) (each g.z View.calls g.views i)
     (decided_past-goes_on g.slots (slots' g step) p p (omega arith) (longer' g step) (g.law.past i) (slots_stay' g step o)) (g.law.right i)
 
 -- ---- their writes stand
 
 -- each seat's records before the step stand after it
-stand_before : (s : Setting) (step : Step) → Opens s step → (i : ℕ) → AllByRecursion (IsStandingRecord (outcome_at (S s step)) i) (each s.z calls_of s.views i)
-stand_before s step o i = all_stand_stay (outcome_at s.slots) (outcome_at (S s step)) i (each s.z calls_of s.views i) (slots_stay s step o) (s.law.stand i)
+stand_before : (s : Setting) (step : Step) → Opens s step → (i : ℕ) → AllByRecursion (IsStandingRecord (outcome_at (S s step)) i) (each s.z View.calls s.views i)
+stand_before s step o i = all_stand_stay (outcome_at s.slots) (outcome_at (S s step)) i (each s.z View.calls s.views i) (slots_stay s step o) (s.law.stand i)
 
 -- the slot of a Decide that wins
 decides_slot : (s : Setting) (t : ℕ) (deed : Deed) → Opens s (Decide t deed) → x s (Decide t deed) ≡ 0 → outcome_at (S s (Decide t deed)) t ≡ write_by s.me deed
 decides_slot s t deed o e = ap (λ (n : ℕ). outcome_at (cond (n == 0) (set s.slots t (write_by s.me deed)) s.slots) t) e
-    ∙ (puts_slot s.slots t (write_by s.me deed) (drawn_shown (ground s) s.me t o.0).1).here
+    ∙ (puts_slot s.slots t (write_by s.me deed) (drawn_shown s.ground s.me t o.0).1).here
 
 -- the members of a commit stand at their times
 pub commits_member : (s : Setting) (members : List Member) → Opens s (Commit members) → (n : ℕ) → n < length members → (member_write s.me members n ≢ None)
@@ -132,33 +157,21 @@ commits_member s members o n lt = subst (λ (y : ℕ × List Member). (member_wr
     × (outcome_at s.slots (y.0 + n) ≡ member_write s.me y.1 n)) (λ k. (sym (commits_at s members o) k, o.4 k))
     ((s.law.staging s.me).members n (subst (λ (l : List Member). n < length l) (sym o.4) lt))
 
--- those of the seat that made the step
-own_stand : (s : Setting) (step : Step) → Opens s step → AllByRecursion (IsStandingRecord (outcome_at (S s step)) s.me) (w s step).calls
-own_stand s (Decide t deed) o = let slot' = outcome_at (S s (Decide t deed)) in let before = stand_before s (Decide t deed) o s.me in
-    by_bool (λ a. AllByRecursion (IsStandingRecord slot' s.me) (cond a (v s).calls
-    (cond (x s (Decide t deed) == 0) ((v s).calls ++ call_of s.me t deed ∷ []) (v s).calls))) (is_exclusive (v s).mode) (λ _. before) (λ _.
-    by_test (λ b. AllByRecursion (IsStandingRecord slot' s.me) (cond b ((v s).calls ++ call_of s.me t deed ∷ []) (v s).calls)) (x s (Decide t deed)) 0
-    (λ e. every-append (IsStandingRecord slot' s.me) (v s).calls (call_of s.me t deed ∷ []) before
-    ((refl, once_stands (v s) s.me t deed slot' o.2 (decides_slot s t deed o e)), tt))
-    (λ _. before))
-own_stand s (Commit members) o = every-append (IsStandingRecord (outcome_at s.slots) s.me) (v s).calls
-    (call_of s.me (or_zero (v s).hold_clock) (Group members) ∷ []) (s.law.stand s.me)
+-- and so do those that it adds
+added_stand : (s : Setting) (step : Step) → Opens s step → Adds s step → AllByRecursion (IsStandingRecord (outcome_at (S s step)) s.me) (added s step)
+added_stand s (Decide t deed) o e = ((refl, once_stands (v s) s.me t deed (outcome_at (S s (Decide t deed))) o.2 (decides_slot s t deed o e)), tt)
+added_stand s (Commit members) o e =
     ((refl, batch_stands s.me (or_zero (v s).hold_clock) members (outcome_at s.slots) (λ n lt. (commits_member s members o n lt).1)), tt)
-own_stand s (Unpin end) o = every-append (IsStandingRecord (outcome_at s.slots) s.me) (v s).calls (ended_calls s.me (v s) end) (s.law.stand s.me)
-    (ended_stands (past_in s s.me) s.me (v s) (outcome_at s.slots) (v s).snapshot end o.1)
-own_stand s CloseSnapshot o = every-append (IsStandingRecord (outcome_at s.slots) s.me) (v s).calls
-    (call_of s.me (or_zero (open_time (v s).snapshot)) Close ∷ []) (s.law.stand s.me)
-    ((refl, λ t. nothing_stands (or_zero (open_time (v s).snapshot) == t) (outcome_at s.slots t)), tt)
-own_stand s (Fill Key a) o = stand_before s (Fill Key a) o s.me
-own_stand s (Look Clock) o = stand_before s (Look Clock) o s.me
-own_stand s step o = stand_before s step o s.me
+added_stand s (Unpin end) o e = ended_stands (past_in s s.me) s.me (v s) (outcome_at s.slots) end o.1
+added_stand s CloseSnapshot o e = ((refl, λ t. nothing_stands (or_zero (open_time (v s).snapshot) == t) (outcome_at s.slots t)), tt)
+added_stand s step o e = tt
 
-pub stand_kept : (s : Setting) (step : Step) → Opens s step → AreRecordsStanding (outcome_at (S s step)) (each s.z calls_of (V s step))
+pub stand_kept : (s : Setting) (step : Step) → Opens s step → AreRecordsStanding (outcome_at (S s step)) (each s.z View.calls (V s step))
 stand_kept s step o = by_seat s (w s step) (λ i u. AllByRecursion (IsStandingRecord (outcome_at (S s step)) i) u.calls)
-    (own_stand s step o) (λ i ne. stand_before s step o i)
+    (each_record s step (IsStandingRecord (outcome_at (S s step)) s.me) (stand_before s step o s.me) (added_stand s step o)) (λ i ne. stand_before s step o i)
 
-pub stand_merged : (g : Ground) (step : Step) → OpensTo g step → AreRecordsStanding (outcome_at (slots' g step)) (each g.z calls_of g.views)
-stand_merged g step o i = all_stand_stay (outcome_at g.slots) (outcome_at (slots' g step)) i (each g.z calls_of g.views i) (slots_stay' g step o)
+pub stand_merged : (g : Ground) (step : Step) → OpensTo g step → AreRecordsStanding (outcome_at (slots' g step)) (each g.z View.calls g.views)
+stand_merged g step o i = all_stand_stay (outcome_at g.slots) (outcome_at (slots' g step)) i (each g.z View.calls g.views i) (slots_stay' g step o)
     (g.law.stand i)
 
 -- ---- each write is recorded
@@ -178,10 +191,10 @@ more_calls s (Look Clock) u write h = h
 more_calls s step u write h = h
 
 -- and so does what was recorded
-still_recorded : (s : Setting) (step : Step) (i t : ℕ) (write : Slot) → HasWrite i t write (each s.z calls_of s.views i)
-    → HasWrite i t write (each s.z calls_of (V s step) i)
+still_recorded : (s : Setting) (step : Step) (i t : ℕ) (write : Slot) → HasWrite i t write (each s.z View.calls s.views i)
+    → HasWrite i t write (each s.z View.calls (V s step) i)
 still_recorded s step i t write = by_seat s (w s step)
-    (λ i u. HasWrite i t write (each s.z calls_of s.views i) → HasWrite i t write u.calls) (more_calls s step t write) (λ i ne h. h) i
+    (λ i u. HasWrite i t write (each s.z View.calls s.views i) → HasWrite i t write u.calls) (more_calls s step t write) (λ i ne h. h) i
 
 -- a write below the clock
 abbrev Stood : Setting → ℕ → Slot → Type 0
@@ -197,12 +210,12 @@ stood_or_new s (Decide t deed) o u i key written lt = let write = Wrote i key wr
     (is_exclusive (v s).mode)
     (λ _ alone. by_test (λ b. outcome_at (cond b (set s.slots t (write_by s.me deed)) s.slots) u ≡ Some write → Stood s u write
     ⊎ ((s.me ≡ i) × HasWrite s.me u write (v s).calls)) (x s (Decide t deed)) 0
-    (λ _. let p = puts_slot s.slots t (write_by s.me deed) (drawn_shown (ground s) s.me t o.0).1 in
+    (λ _. let p = puts_slot s.slots t (write_by s.me deed) (drawn_shown s.ground s.me t o.0).1 in
     let own = ((s.law.staging s.me).own (only_exclusive (v s).mode alone) t o.0).0 in λ e. inl (lt, sym (p.other u (λ same. absurd (omega arith))) ∙ e))
     (λ _ e. inl (lt, e)))
     (λ _ shared. by_test (λ b. outcome_at (cond b (set s.slots t (write_by s.me deed)) s.slots) u ≡ Some write → Stood s u write
     ⊎ ((s.me ≡ i) × HasWrite s.me u write (cond b ((v s).calls ++ call_of s.me t deed ∷ []) (v s).calls))) (x s (Decide t deed)) 0
-    (λ _. let p = puts_slot s.slots t (write_by s.me deed) (drawn_shown (ground s) s.me t o.0).1 in
+    (λ _. let p = puts_slot s.slots t (write_by s.me deed) (drawn_shown s.ground s.me t o.0).1 in
     at_each (λ u. u < s.memory Clock → outcome_at (set s.slots t (write_by s.me deed)) u ≡ Some write → Stood s u write
     ⊎ ((s.me ≡ i) × HasWrite s.me u write ((v s).calls ++ call_of s.me t deed ∷ []))) t
     (λ _ e. let is : write_by s.me deed ≡ Some write = sym p.here ∙ e in
@@ -222,7 +235,7 @@ stood_or_new s (Draw t) o u i key written lt = by_test (λ b. u < either b (t + 
     → outcome_at (cond b (s.slots ++ None ∷ []) s.slots) u ≡ Some (Wrote i key written) → Stood s u (Wrote i key written)
     ⊎ ((s.me ≡ i) × HasWrite s.me u (Wrote i key written) (v s).calls)) (x s (Draw t)) t
     (λ at lt e. let was : outcome_at s.slots u ≡ Some (Wrote i key written) = sym (λ k. slots_grown s.slots k u) ∙ e in
-    let inside = slot_below s.slots u (λ none. absurd (cc (none, was))) in let even = clock_shared (ground s) s.me o.0 in inl (omega arith, was))
+    let inside = slot_below s.slots u (λ none. absurd (cc (none, was))) in let even = clock_shared s.ground s.me o.0 in inl (omega arith, was))
     (λ _ lt e. inl (lt, e)) lt
 stood_or_new s (Commit members) o u i key written lt = λ e. let at = commits_at s members o in elim (cases_lt u (s.memory Clock)) [
   | inl old ↦ inl (old, e)
@@ -240,14 +253,14 @@ stood_or_new s (Commit members) o u i key written lt = λ e. let at = commits_at
 stood_or_new s (Look word) o u i key written lt = let same = ap (λ (m : Memory). m Clock) (looked_same s word) in λ e. inl (omega arith, e)
 stood_or_new s step o u i key written lt = λ e. inl (lt, e)
 
-pub recorded_kept : (s : Setting) (step : Step) → Opens s step → AreRecorded (M s step Clock) (outcome_at (S s step)) (each s.z calls_of (V s step))
+pub recorded_kept : (s : Setting) (step : Step) → Opens s step → AreRecorded (M s step Clock) (outcome_at (S s step)) (each s.z View.calls (V s step))
 recorded_kept s step o u i key written lt e = let write = Wrote i key written in ⊎_elim
     (λ (old : Stood s u write). still_recorded s step i u write (s.law.recorded u i key written old.0 old.1))
-    (λ (new : (s.me ≡ i) × HasWrite s.me u write (w s step).calls). subst (λ (j : ℕ). HasWrite j u write (each s.z calls_of (V s step) j)) new.0
-    (subst (HasWrite s.me u write) (sym (puts_each s.z calls_of s.views s.me (w s step) s.inside).here) new.1))
+    (λ (new : (s.me ≡ i) × HasWrite s.me u write (w s step).calls). subst (λ (j : ℕ). HasWrite j u write (each s.z View.calls (V s step) j)) new.0
+    (subst (HasWrite s.me u write) (sym (puts_each s.z View.calls s.views s.me (w s step) s.inside).here) new.1))
     (stood_or_new s step o u i key written lt e)
 
-pub recorded_merged : (g : Ground) (step : Step) → OpensTo g step → AreRecorded (memory' g step Clock) (outcome_at (slots' g step)) (each g.z calls_of g.views)
+pub recorded_merged : (g : Ground) (step : Step) → OpensTo g step → AreRecorded (memory' g step Clock) (outcome_at (slots' g step)) (each g.z View.calls g.views)
 recorded_merged g ExtendClock o u i key written lt e = let was = written_before g.slots (epoch_end g.z g.merger - length g.slots) u i key written e in
     let inside = slot_below g.slots u (λ none. absurd (cc (none, was))) in let even = clock_merger g o.0 in g.law.recorded u i key written (omega arith) was
 recorded_merged g (Look word) o u i key written lt e = let same = ap (λ (m : Memory). m Clock) (merger_looked_same g word) in
@@ -260,14 +273,14 @@ recorded_merged g step o u i key written lt e = g.law.recorded u i key written l
 
 -- the seat's past ends within the slots
 past_ends : (s : Setting) → end_of (past_in s s.me) ≤ (v s).past
-past_ends s = let e = end_of-past s.slots (v s).past (past_below (ground s) s.me) in omega arith
+past_ends s = let e = end_of-past s.slots (v s).past (past_below s.ground s.me) in omega arith
 
 -- the due of the seat that made the step
-own_due : (s : Setting) (step : Step) → Opens s step → (w s step).due ≤ M s step Clock
-own_due s (Decide t deed) o = let due = s.law.dues s.me in let lt = (drawn_shown (ground s) s.me t o.0).1 in
+pub own_due : (s : Setting) (step : Step) → Opens s step → (w s step).due ≤ M s step Clock
+own_due s (Decide t deed) o = let due = s.law.dues s.me in let lt = (drawn_shown s.ground s.me t o.0).1 in
     by_bool (λ a. is_exclusive (v s).mode ≡ a → cond a (v s).due (cond (x s (Decide t deed) == 0) (t + 1) (v s).due) ≤ s.memory Clock)
     (is_exclusive (v s).mode) (λ _ _. due)
-    (λ _ shared. let even = clock_shared (ground s) s.me (only_shared (v s).mode (s.law.holding s.me t o.0) shared) in
+    (λ _ shared. let even = clock_shared s.ground s.me (only_shared (v s).mode (s.law.holding s.me t o.0) shared) in
     by_test (λ b. cond b (t + 1) (v s).due ≤ s.memory Clock) (x s (Decide t deed)) 0 (λ _. omega arith) (λ _. due)) refl
 own_due s (Unpin end) o = let past = s.law.past_clock s.me in ended_within (past_in s s.me) s.me (v s) (s.memory Clock) (s.law.dues s.me) past
     (let reach = past_ends s in omega arith) (v s).snapshot end refl o.1
@@ -275,12 +288,6 @@ own_due s (Commit members) o = omega arith
 own_due s (Fill Key a) o = s.law.dues s.me
 own_due s (Look Clock) o = s.law.dues s.me
 own_due s step o = let le = clock_grows s step o in let due = s.law.dues s.me in omega arith
-
-pub dues_kept : (s : Setting) (step : Step) → Opens s step → AreAtMost (each s.z due_of (V s step)) (M s step Clock)
-dues_kept s step o = below_clock s step o due_of s.law.dues (own_due s step o)
-
-pub dues_merged : (g : Ground) (step : Step) → OpensTo g step → AreAtMost (each g.z due_of g.views) (memory' g step Clock)
-dues_merged g step o i = let le = clock_grows' g step o in let due = g.law.dues i in omega arith
 
 -- ---- no due is above an own undecided time
 
@@ -292,8 +299,8 @@ was_undecided slot slot' t stays none = is (slot t) refl where
   is (Some b) e = absurd (let kept = stays b e in cc (kept, none))
 
 -- each due before the step is not above an own time that is undecided after it
-own_dues_before : (s : Setting) (step : Step) → Opens s step → (i u : ℕ) → each s.z drawn_of s.views i ≡ Some u → outcome_at (S s step) u ≡ None
-    → each s.z due_of s.views i ≤ u
+own_dues_before : (s : Setting) (step : Step) → Opens s step → (i u : ℕ) → each s.z View.drawn s.views i ≡ Some u → outcome_at (S s step) u ≡ None
+    → each s.z View.due s.views i ≤ u
 own_dues_before s step o i u d none = s.law.own_dues i u d (was_undecided (outcome_at s.slots) (outcome_at (S s step)) u (slots_stay s step o u) none)
 
 -- and the due after it, of the seat that made the step
@@ -314,11 +321,11 @@ own_due_below s (Fill Key a) o u = own_dues_before s (Fill Key a) o s.me u
 own_due_below s (Look Clock) o u = own_dues_before s (Look Clock) o s.me u
 own_due_below s step o u = own_dues_before s step o s.me u
 
-pub own_dues_kept : (s : Setting) (step : Step) → Opens s step → AreDuesBelowOwn (each s.z drawn_of (V s step)) (outcome_at (S s step))
-    (each s.z due_of (V s step))
+pub own_dues_kept : (s : Setting) (step : Step) → Opens s step → AreDuesBelowOwn (each s.z View.drawn (V s step)) (outcome_at (S s step))
+    (each s.z View.due (V s step))
 own_dues_kept s step o = by_seat s (w s step) (λ i u. (t : ℕ) → u.drawn ≡ Some t → outcome_at (S s step) t ≡ None → u.due ≤ t)
     (own_due_below s step o) (λ i ne. own_dues_before s step o i)
 
-pub own_dues_merged : (g : Ground) (step : Step) → OpensTo g step → AreDuesBelowOwn (each g.z drawn_of g.views) (outcome_at (slots' g step))
-    (each g.z due_of g.views)
+pub own_dues_merged : (g : Ground) (step : Step) → OpensTo g step → AreDuesBelowOwn (each g.z View.drawn g.views) (outcome_at (slots' g step))
+    (each g.z View.due g.views)
 own_dues_merged g step o i u d none = g.law.own_dues i u d (was_undecided (outcome_at g.slots) (outcome_at (slots' g step)) u (slots_stay' g step o u) none)

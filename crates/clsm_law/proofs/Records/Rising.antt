@@ -22,7 +22,7 @@ use Rattle.clsm_law.specs.OpenSteps.{open_time, timed, time_of_read, is_old, IsR
 use Rattle.clsm_law.specs.Relation.{timed_by, ended_calls, ended_due, ended_snapshot, call_of}
 use Rattle.clsm_law.specs.Worlds.{past_of}
 use Rattle.clsm_model.specs.Seats.{IsNextRead, IsRising}
-use Rattle.clsm_law.specs.Law.{each, due_of, calls_of, snapshot_of, AreRising}
+use Rattle.clsm_law.specs.Law.{each, AreRising}
 use Rattle.clsm_model.proofs.Rising.{Follows, rising_later, rising_next}
 use Rattle.clsm_law.proofs.Cases.{by_test, by_bool}
 use Rattle.clsm_law.proofs.Setting.{Setting, Ground, v, x, w, V, Opens, OpensTo, by_seat}
@@ -170,10 +170,10 @@ own_rising s CloseSnapshot o = let n = (v s).snapshot in
 own_rising s (Fill Key a) o = s.law.rising s.me
 own_rising s step o = s.law.rising s.me
 
-pub rising_kept : (s : Setting) (step : Step) → Opens s step → AreRising (each s.z calls_of (V s step)) (each s.z due_of (V s step))
-    (each s.z snapshot_of (V s step))
+pub rising_kept : (s : Setting) (step : Step) → Opens s step → AreRising (each s.z View.calls (V s step)) (each s.z View.due (V s step))
+    (each s.z View.snapshot (V s step))
 rising_kept s step o = by_seat s (w s step) (λ i u. IsRising u.calls u.due (open_time u.snapshot)) (own_rising s step o)
     (λ i ne. s.law.rising i)
 
-pub rising_merged : (g : Ground) (step : Step) → OpensTo g step → AreRising (each g.z calls_of g.views) (each g.z due_of g.views) (each g.z snapshot_of g.views)
+pub rising_merged : (g : Ground) (step : Step) → OpensTo g step → AreRising (each g.z View.calls g.views) (each g.z View.due g.views) (each g.z View.snapshot g.views)
 rising_merged g step o = g.law.rising

@@ -12,13 +12,13 @@ use Rattle.clsm_law.specs.Law.{LawOf}
 use Rattle.clsm_law.specs.Machine.{WorldState, IsLawful, MayStep, stepped, after_seat, after_merger, memory_of}
 use Rattle.clsm_law.proofs.Rows.Memory.{memory-set}
 use Rattle.clsm_law.proofs.Stepping.Words.{word_there, word_there'}
-use Rattle.clsm_law.proofs.Setting.{Setting, Ground, v, found, merger', slots', chains', orders', ground}
+use Rattle.clsm_law.proofs.Setting.{Setting, Ground, v, found, merger', slots', chains', orders'}
 use Rattle.clsm_law.proofs.Kept.{kept'}
 use Rattle.clsm_law.proofs.Stepping.Steps.{finds, views_by, slots_by, batches_by, chains_by, orders_by, kept_by}
 
--- the world and its seat
-abbrev pub seat_setting : (w : WorldState) (l : IsLawful w) (seat : ℕ) → seat < length w.views → Setting
-seat_setting w l seat lt = record {
+-- the world by itself
+abbrev pub lawful_ground : (w : WorldState) → IsLawful w → Ground
+lawful_ground w l = record {
   z = w.layout;
   sound = l.sound;
   memory = memory_of w;
@@ -29,17 +29,11 @@ seat_setting w l seat lt = record {
   chains = l.chains;
   orders = l.orders;
   law = l.law;
-  me = seat;
-  inside = lt;
 }
 
--- a world has a seat
-pub has_seat : (w : WorldState) → IsLawful w → 0 < length w.views
-has_seat w l = let some = w.layout.seats_in_range.0 in let seated = l.law.seated in omega arith
-
--- the world by itself
-abbrev pub lawful_ground : (w : WorldState) → IsLawful w → Ground
-lawful_ground w l = ground (seat_setting w l 0 (has_seat w l))
+-- and with its seat
+abbrev pub seat_setting : (w : WorldState) (l : IsLawful w) (seat : ℕ) → seat < length w.views → Setting
+seat_setting w l seat lt = record { ground = lawful_ground w l; me = seat; inside = lt }
 
 pub lawful_after_seat : (w : WorldState) (l : IsLawful w) (seat : ℕ) (step : Step) (lt : seat < length w.views)
     → IsOpen w.layout (open_past w.slots w.batches (view_at w.layout w.views seat).past) (view_at w.layout w.views seat) step

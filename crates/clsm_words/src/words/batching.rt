@@ -5,11 +5,10 @@ ghost use Rattle.clsm_law.specs.declared.step.Step.TheVariants.{EnterExclusive, 
 ghost use Rattle.clsm_words.specs.Plays.{MayPlay, Plays, PlaysTo};
 
 use super::cells::won_if;
-use super::merging::HELD;
 use super::{RawSeat, Words};
 use crate::operation::Operation::{Exchange, Store, Subtract};
 use crate::pace::{Kind, Pace};
-use clsm_law::{Answer, Part, Step, Word};
+use clsm_law::{Answer, EXCLUSIVE_HOLD, Part, Step, Word};
 use clsm_model::{Change, Time};
 use std::marker::Brand;
 
@@ -21,7 +20,8 @@ impl<P: Pace> Words<P> {
         requires { MayPlay self.now seat.old EnterExclusive }
         ensures { PlaysTo self.now seat.old EnterExclusive result seat.new }
     {
-        let found = self.play(seat, &Step::EnterExclusive, Word::Lock, Exchange(0, HELD));
+        let hold = Exchange(0, EXCLUSIVE_HOLD);
+        let found = self.play(seat, &Step::EnterExclusive, Word::Lock, hold);
         won_if(found == 0)
     }
 
@@ -31,7 +31,8 @@ impl<P: Pace> Words<P> {
         requires { MayPlay self.now seat.old LeaveExclusive }
         ensures { Plays self.now seat.old LeaveExclusive seat.new }
     {
-        self.play(seat, &Step::LeaveExclusive, Word::Lock, Subtract(HELD));
+        let hold = Subtract(EXCLUSIVE_HOLD);
+        self.play(seat, &Step::LeaveExclusive, Word::Lock, hold);
     }
 
     /// Takes the time for the next member of the seat's batch, and fills this key in its cell. The

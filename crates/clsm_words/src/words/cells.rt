@@ -7,7 +7,7 @@ ghost use Rattle.clsm_law.specs.Relation.{state_by, won_if};
 
 use super::{WordTable, Words};
 use crate::pace::Pace;
-use clsm_law::{Answer, Word};
+use clsm_law::{Answer, REMOVAL_CELL, UNDECIDED_CELL, VALUE_CELL, Word};
 use clsm_model::{Change, Deed, Time};
 
 impl WordTable {
@@ -78,7 +78,7 @@ impl<P: Pace> Words<P> {
     }
 }
 
-/// The number of the state that the deed's write leaves in its cell; 0 where it writes nothing.
+/// The number of the state that the deed's write leaves in its cell.
 #[inline(always)]
 pub(super) fn state_by(deed: &Deed) -> u64
     ensures { result ≡ state_by (write_by 0 deed.now) }
@@ -88,13 +88,13 @@ pub(super) fn state_by(deed: &Deed) -> u64
         | Deed::Rmw {
             change: Change::Set(_),
             ..
-        } => 2,
+        } => VALUE_CELL,
         Deed::Remove { .. }
         | Deed::Rmw {
             change: Change::Remove,
             ..
-        } => 3,
-        _ => 0,
+        } => REMOVAL_CELL,
+        _ => UNDECIDED_CELL,
     }
 }
 

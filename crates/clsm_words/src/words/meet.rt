@@ -4,8 +4,10 @@ ghost use Rattle.clsm_words.specs.Seats.{MessageState};
 ghost use Rattle.clsm_words.specs.Plays.{IsSeatOf, IsMessageOf, Learns, TakesIn, TellsOf};
 
 use super::{Message, RawMerger, RawSeat, WordTable, Words};
+use crate::known::Known;
 use crate::pace::Pace;
 use crate::rule::Tells;
+use atomic_table::Seat;
 
 impl WordTable {
     /// Answers a message with the seat's past and its due.
@@ -28,6 +30,17 @@ impl WordTable {
         self.table.shared.join_seat::<Tells>(&mut to.seat, other);
     }
 
+    /// A seat of the table takes in what the message carries.
+    fn take_in(&self, seat: &mut Seat<u64, Known>, message: Message)
+        requires seat { seat.old.table_id ≡ self.now.table.shared.table_id }
+        requires message { IsMessageOf self.now message }
+        ensures table { seat.new.table_id ≡ seat.old.table_id }
+        ensures learns { Learns seat.old.me.0 message seat.new.me.0 }
+    {
+        let Message { seat: sent } = message;
+        self.table.shared.join_seat::<Tells>(seat, sent);
+    }
+
     /// The seat learns of the message. From its next step on its past begins with what it was told,
     /// or the other way round.
     pub(super) fn learn(&self, to: &mut RawSeat, message: Message)
@@ -35,8 +48,7 @@ impl WordTable {
         requires message { IsMessageOf self.now message }
         ensures { IsSeatOf self.now to.new × Learns to.old.knows message to.new.knows }
     {
-        let Message { seat } = message;
-        self.table.shared.join_seat::<Tells>(&mut to.seat, seat);
+        self.take_in(&mut to.seat, message);
     }
 
     /// The merger learns of the message. From its next step on its past begins with what it was
@@ -46,8 +58,7 @@ impl WordTable {
         requires message { IsMessageOf self.now message }
         ensures { IsSeatOf self.now to.new × Learns to.old.knows message to.new.knows }
     {
-        let Message { seat } = message;
-        self.table.shared.join_seat::<Tells>(&mut to.seat, seat);
+        self.take_in(&mut to.seat, message);
     }
 }
 

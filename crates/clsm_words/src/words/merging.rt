@@ -10,11 +10,8 @@ use super::cells::won_if;
 use super::{RawMerger, Words};
 use crate::operation::Operation::{Exchange, Load, Store, Subtract};
 use crate::pace::Pace;
-use clsm_law::{Answer, Step, Word};
+use clsm_law::{Answer, CANCELLED_CELL, EXCLUSIVE_HOLD, Step, UNDECIDED_CELL, Word};
 use clsm_model::Time;
-
-/// What LOCK is while one holds it alone.
-pub(super) const HELD: u64 = 1 << 32;
 
 impl<P: Pace> Words<P> {
     /// Enters the lock alone, if nobody holds it. Answers `Lost` where somebody does: the merger is
@@ -24,7 +21,8 @@ impl<P: Pace> Words<P> {
         requires { MayMerge self.now seat.old EnterExclusive }
         ensures { MergerAnswers self.now seat.old EnterExclusive result seat.new }
     {
-        let found = self.play_as_merger(seat, &Step::EnterExclusive, Word::Lock, Exchange(0, HELD));
+        let hold = Exchange(0, EXCLUSIVE_HOLD);
+        let found = self.play_as_merger(seat, &Step::EnterExclusive, Word::Lock, hold);
         won_if(found == 0)
     }
 
@@ -34,7 +32,8 @@ impl<P: Pace> Words<P> {
         requires { MayMerge self.now seat.old LeaveExclusive }
         ensures { PlaysAsMerger self.now seat.old LeaveExclusive seat.new }
     {
-        self.play_as_merger(seat, &Step::LeaveExclusive, Word::Lock, Subtract(HELD));
+        let hold = Subtract(EXCLUSIVE_HOLD);
+        self.play_as_merger(seat, &Step::LeaveExclusive, Word::Lock, hold);
     }
 
     /// Looks at the word.
@@ -53,7 +52,7 @@ impl<P: Pace> Words<P> {
         ensures { PlaysAsMerger self.now seat.old (Pad time) seat.new }
     {
         let word = Word::State(self.words.cell_of(time));
-        self.play_as_merger(seat, &Step::Pad(time), word, Store(1));
+        self.play_as_merger(seat, &Step::Pad(time), word, Store(CANCELLED_CELL));
     }
 
     /// Writes a word of a place that no reader searches.
@@ -104,7 +103,8 @@ impl<P: Pace> Words<P> {
         requires { MayMerge self.now seat.old (ClearState cell) }
         ensures { PlaysAsMerger self.now seat.old (ClearState cell) seat.new }
     {
-        self.play_as_merger(seat, &Step::ClearState(cell), Word::State(cell), Store(0));
+        let empty = Store(UNDECIDED_CELL);
+        self.play_as_merger(seat, &Step::ClearState(cell), Word::State(cell), empty);
     }
 
     /// Moves the clock to the end of the epoch. `merged` is the number of merges.

@@ -1,16 +1,5 @@
-use Rattle.std.proofs.Common.{ap, sym, subst, ◌∙◌}
-use Rattle.clsm_words.specs.declared.known.Known.{Known}
-use Rattle.clsm_words.specs.Merging.{IsSoundMerger}
 use Rattle.clsm_words.proofs.Dealing.{learns_sound_merger}
-use Rattle.clsm_words.proofs.MayMeet.{may_join}
 use Rattle.clsm_words.proofs.words.WordTable.learn_as_merger.Goals as goal
 
-pub join_seat-requires : goal.join_seat-requires
-join_seat-requires c = may_join c.args.self.now c.to.inside.seat.table_id c.message.inside.seat.table_id c.to.inside.seat.id c.message.inside.seat.id
-    c.to.inside.seat.me c.message.inside.seat.me (ap (λ v. v.table) c.to.view_is ∙ c.requires.merger.0)
-    (ap (λ v. v.table) c.message.view_is ∙ c.requires.message) c.message.invariant
-
 pub invariant_of-to : goal.invariant_of-to
-invariant_of-to c =
-    let made = sym (ap (λ m. m.0) c.join_seat.ensures.2) in
-    subst (λ (k : Known). IsSoundMerger k) made (learns_sound_merger c.to.inside.seat.me.0 c.message.inside.seat.me.0 c.to.invariant)
+invariant_of-to c = learns_sound_merger _ _ c.args.message c.take_in.ensures.learns c.to.invariant
