@@ -14,7 +14,7 @@ use Rattle.clsm_words.specs.declared.known.Known.{Known}
 use Rattle.clsm_words.specs.Knowing.{IsNearHeld, Sound, Follows}
 use Rattle.clsm_words.specs.Keeping.{KeepsPlace}
 use Rattle.clsm_words.proofs.Keeps.{place_by, place_trans}
-use Rattle.clsm_memtable.specs.Writing.{IsUnnoted, Draws, FindsLimit, FindsRoom, LosesDraw}
+use Rattle.clsm_memtable.specs.Writing.{IsUnnoted, Draws, FindsLimit, FindsRoom, LosesDraw, looked_in_hold, with_looks}
 
 -- ---- the looks
 
@@ -50,6 +50,10 @@ with_clock v time = record v {
   pin_clock = cond v.pinned (Some time) v.pin_clock;
 }
 
+-- both looks
+both_looked : (v w : View) (limit time : ℕ) → w ≡ with_clock (with_limit v limit) time → w ≡ looked_in_hold v w limit time
+both_looked v w limit time is = subst (λ (u : View). u ≡ looked_in_hold v u limit time) (sym is) refl
+
 clock_seen : (z : Layout) (v : View) (x : ℕ) → v.mode ≢ Free → IsUnnoted v.snapshot → looked z v Clock x ≡ with_clock v x
 clock_seen z v x holds unnoted =
     ap (λ (b : Bool). record (with_clock v x) {
@@ -78,16 +82,7 @@ module _ (k k1 k2 : Known) (limit time : ℕ) (sound : Sound k) (holds : k.view.
   pub finds_room : FindsRoom k k2 time limit
   finds_room = record {
     place = both_place;
-    view = subst (λ (v : View). v
-        ≡ record k.view {
-          fresh_clock = Some time;
-          hold_limit = Some limit;
-          hold_clock = Some time;
-          hold_first = first_of k.view.hold_first time;
-          clock = Some time;
-          pin_clock = v.pin_clock;
-        })
-        (sym both_seen) refl;
+    view = both_looked k.view k2.view limit time both_seen;
     within = within;
     due = let due = b.tells.0 in let e = ap (λ (v : View). v.due) both_seen in omega arith;
     passed = let past = b.tells.5 in let e = ap (λ (v : View). v.past) both_seen in omega arith;
@@ -100,15 +95,7 @@ module _ (k k1 k2 : Known) (limit time : ℕ) (sound : Sound k) (holds : k.view.
   finds_limit le = let is = both_seen ∙ ap (λ (n : ℕ). with_clock (with_limit k.view n) time) (at_limit le) in record {
     place = both_place;
     passed = let past = b.tells.5 in let e = ap (λ (v : View). v.past) both_seen in omega arith;
-    view = subst (λ (v : View). v
-        ≡ record k.view {
-          fresh_clock = Some time;
-          hold_limit = Some time;
-          hold_clock = Some time;
-          hold_first = first_of k.view.hold_first time;
-          clock = Some time;
-          pin_clock = v.pin_clock;
-        }) (sym is) refl;
+    view = both_looked k.view k2.view time time is;
   }
 
   -- ---- the exchange
@@ -127,13 +114,8 @@ module _ (k k1 k2 : Known) (limit time : ℕ) (sound : Sound k) (holds : k.view.
     draws lt won = record {
       place = place;
       view = subst (λ (v : View). v
-          ≡ record (taken k.view time) {
-            hold_limit = v.hold_limit;
-            hold_clock = Some time;
-            hold_first = first_of k.view.hold_first time;
-            clock = Some time;
-            pin_clock = v.pin_clock;
-          }) (sym (after true won)) refl;
+          ≡ record (with_looks (taken k.view time) v) { hold_clock = Some time; hold_first = first_of k.view.hold_first time; clock = Some time })
+          (sym (after true won)) refl;
       looked = there true won;
       below = subst (IsBelow time) (sym (ap (λ (v : View). v.hold_limit) (after true won))) lt;
       due = let due = b.tells.0 in let e = ap (λ (v : View). v.due) both_seen in omega arith;
@@ -147,15 +129,6 @@ module _ (k k1 k2 : Known) (limit time : ℕ) (sound : Sound k) (holds : k.view.
       place = place;
       first = let is = after false lost in ap (λ (v : View). v.hold_first) is
           ∙ ap (λ (v : View). first_of k.view.hold_first (or_zero v.clock)) (sym is);
-      view = subst (λ (v : View). v
-          ≡ record k.view {
-            fresh_clock = None;
-            hold_limit = v.hold_limit;
-            hold_clock = v.hold_clock;
-            hold_first = v.hold_first;
-            clock = v.clock;
-            pin_clock = v.pin_clock;
-            raced = next_word k.view.raced;
-          }) (sym (after false lost)) refl;
+      view = subst (λ (v : View). v ≡ record (with_looks k.view v) { fresh_clock = None; raced = next_word k.view.raced }) (sym (after false lost)) refl;
       looked = there false lost;
     }

@@ -36,6 +36,23 @@ aside v w = record v {
 
 -- ---- draws
 
+-- the view v, but that what looks at the limit and at the clock in a hold of the lock change is as
+-- in w
+abbrev pub with_looks : View → View → View
+with_looks v w = record v { hold_limit = w.hold_limit; hold_clock = w.hold_clock; hold_first = w.hold_first; clock = w.clock; pin_clock = w.pin_clock }
+
+-- the view v after the looks that found this limit and this clock; as a read sees the clock, it is
+-- as in w
+abbrev pub looked_in_hold : View → View → ℕ → ℕ → View
+looked_in_hold v w limit clock = record v {
+  fresh_clock = Some clock;
+  hold_limit = Some limit;
+  hold_clock = Some clock;
+  hold_first = first_of v.hold_first clock;
+  clock = Some clock;
+  pin_clock = w.pin_clock;
+}
+
 -- in this hold of the lock it looked at the limit, and then at words of the epoch
 pub record LooksAhead (old new : Known) : Type 0 where
   pub seat : KeepsSeat old new
@@ -47,12 +64,10 @@ pub record LooksAhead (old new : Known) : Type 0 where
 -- of the ordered list is known before or behind it
 pub record Draws (old new : Known) (t : ℕ) : Type 0 where
   pub place : KeepsPlace old new
-  pub view : new.view ≡ record (taken old.view t) {
-    hold_limit = new.view.hold_limit;
+  pub view : new.view ≡ record (with_looks (taken old.view t) new.view) {
     hold_clock = Some t;
     hold_first = first_of old.view.hold_first t;
     clock = Some t;
-    pin_clock = new.view.pin_clock;
   }
   pub looked : new.view.hold_limit ≢ None
   pub below : IsBelow t new.view.hold_limit
@@ -64,14 +79,7 @@ pub record Draws (old new : Known) (t : ℕ) : Type 0 where
 -- taken, and each below the limit may be
 pub record FindsRoom (old new : Known) (clock limit : ℕ) : Type 0 where
   pub place : KeepsPlace old new
-  pub view : new.view ≡ record old.view {
-    fresh_clock = Some clock;
-    hold_limit = Some limit;
-    hold_clock = Some clock;
-    hold_first = first_of old.view.hold_first clock;
-    clock = Some clock;
-    pin_clock = new.view.pin_clock;
-  }
+  pub view : new.view ≡ looked_in_hold old.view new.view limit clock
   pub within : clock ≤ limit
   pub due : old.view.due ≤ clock
   pub passed : old.view.past ≤ clock
@@ -80,28 +88,13 @@ pub record FindsRoom (old new : Known) (clock limit : ℕ) : Type 0 where
 pub record FindsLimit (old new : Known) (t : ℕ) : Type 0 where
   pub place : KeepsPlace old new
   pub passed : old.view.past ≤ t
-  pub view : new.view ≡ record old.view {
-    fresh_clock = Some t;
-    hold_limit = Some t;
-    hold_clock = Some t;
-    hold_first = first_of old.view.hold_first t;
-    clock = Some t;
-    pin_clock = new.view.pin_clock;
-  }
+  pub view : new.view ≡ looked_in_hold old.view new.view t t
 
 -- another seat drew the time that it looked at
 pub record LosesDraw (old new : Known) : Type 0 where
   pub place : KeepsPlace old new
   pub first : new.view.hold_first ≡ first_of old.view.hold_first (or_zero new.view.clock)
-  pub view : new.view ≡ record old.view {
-    fresh_clock = None;
-    hold_limit = new.view.hold_limit;
-    hold_clock = new.view.hold_clock;
-    hold_first = new.view.hold_first;
-    clock = new.view.clock;
-    pin_clock = new.view.pin_clock;
-    raced = next_word old.view.raced;
-  }
+  pub view : new.view ≡ record (with_looks old.view new.view) { fresh_clock = None; raced = next_word old.view.raced }
   pub looked : new.view.hold_limit ≢ None
 
 -- why no time was drawn: the clock was at the limit, or another seat drew the time first

@@ -15,7 +15,7 @@ mod staging;
 pub use cell_state::{Decided, decide, give_up};
 pub use chain::Raced;
 pub use clock::{DrawError, Room, draw, look_room};
-pub use entering::{enter, enter_again, enter_alone, look_ahead, prefetch, try_enter};
+pub use entering::{look_ahead, prefetch};
 pub use filling::fill;
 pub use foreseeing::Lookahead;
 pub use inserting::{DrawnCell, Start};

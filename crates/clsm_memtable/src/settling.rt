@@ -86,25 +86,19 @@ fn raise<P: Pace>(words: &Words<P>, seat: &mut RawSeat, front: Time, time: Time)
     }
 }
 
-/// Settles each time from `front` and the component's first one on up to `time`.
+/// Settles each time from `front` and the component's first one on up to `to`.
 #[inline(never)]
-fn settle_from<P: Pace>(
-    words: &Words<P>,
-    seat: &mut RawSeat,
-    component: u64,
-    front: Time,
-    time: Time,
-)
+fn settle_from<P: Pace>(words: &Words<P>, seat: &mut RawSeat, component: u64, front: Time, to: Time)
     requires of { IsSeatOf words.now seat.old }
-    requires may { MaySettleBelow seat.old.knows component time }
+    requires may { MaySettleBelow seat.old.knows component to }
     requires front { front ≤ seat.old.knows.view.reached }
     ensures of { IsSeatOf words.now seat.new }
     ensures keeps { OnlyReads seat.old.knows seat.new.knows }
-    ensures reached { time ≤ seat.new.knows.view.reached }
+    ensures reached { to ≤ seat.new.knows.view.reached }
 {
     let merged = component.saturating_mul(words.cells());
     let first = front.max(merged);
-    for next in first..time {
+    for next in first..to {
         settle(words, seat, component, next);
     }
 }

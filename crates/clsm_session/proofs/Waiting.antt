@@ -12,7 +12,7 @@ use Rattle.clsm_model.specs.Seats.{FitsDeed, IsNext, due_after, open_after}
 use Rattle.clsm_model.proofs.Batches.{begins_self, begins_trans, prefix_length}
 use Rattle.clsm_law.specs.Relation.{call_of}
 use Rattle.clsm_law.specs.Views.{next_word}
-use Rattle.clsm_store_calls.specs.Batching.{IsNoBatch, IsNoRoom}
+use Rattle.clsm_store_calls.specs.Batching.{CountsAlone, CountsBatch, IsNoBatch, IsNoRoom, IsRefusedBatch}
 use Rattle.clsm_store_calls.specs.Seats.{Answers, GivesUpForWrites, IsFull, IsSameSeat, Refuses, SeatState, StoreId, known_by, writes_beside}
 use Rattle.clsm_store_calls.specs.Tally.{CancelsNone, Tally}
 use Rattle.clsm_store_calls.proofs.Beside.{beside_apart}
@@ -125,6 +125,22 @@ cancels_self a = record { own = refl; others = refl; hasty = refl }
 
 pub cancels_trans : (a b c : Tally) → CancelsNone a b → CancelsNone b c → CancelsNone a c
 cancels_trans a b c h k = record { own = k.own ∙ h.own; others = k.others ∙ h.others; hasty = k.hasty ∙ h.hasty }
+
+-- behind a batch that entered the lock, too
+pub batch_cancels : (a b c : Tally) → CancelsNone a b → CountsAlone (record b { busy = c.busy }) c → CancelsNone a c
+batch_cancels a b c h counts = cancels_trans a b c h (record {
+  own = ap (λ (t : Tally). t.gave_up) counts;
+  others = ap (λ (t : Tally). t.cancelled) counts;
+  hasty = ap (λ (t : Tally). t.hasty) counts;
+})
+
+-- and behind one for which there was no room
+pub full_cancels : (a b c : Tally) (e : BatchError) (t : ℕ) → e ≡ errors.Full t → CancelsNone a b → CountsBatch b c (Err e) → CancelsNone a c
+full_cancels a b c e t is h counts = batch_cancels a b c h (subst (λ (e : BatchError). CountsBatch b c (Err e)) is counts)
+
+-- why it was refused, where that is this error
+pub refused_as : (a b : SeatState) (members : List Member) (e e' : BatchError) → e ≡ e' → IsRefusedBatch a b members e → IsRefusedBatch a b members e'
+refused_as a b members e e' is refused = subst (λ (e : BatchError). IsRefusedBatch a b members e) is refused
 
 -- times that are given up in the tries so far: none, or so many as these times allow
 abbrev pub GaveUp : SeatState → SeatState → ℕ → Type 0

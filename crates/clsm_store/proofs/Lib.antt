@@ -1,5 +1,5 @@
 pub mod Starts
-mod InOrder
+pub mod InOrder
 mod SeatPlaces
 mod Chained
 mod Joint

@@ -1,5 +1,5 @@
 -- A sweep goes on from a part of it that was done.
-use Rattle.std.proofs.Common.{◌∙◌, ◌+◌, ap, refl, ℕ, ◌≤◌, Ok, Err, Result}
+use Rattle.std.proofs.Common.{◌≡◌, ◌∙◌, ◌+◌, ap, refl, ℕ, ◌≤◌, Ok, Err, Result}
 use Rattle.std.specs.Prelude.{⊤}
 use Rattle.clsm_store_calls.specs.Looking.{LooksAtClock, drawn_of}
 use Rattle.clsm_store_calls.specs.Seats.{CleanState, FrozenState, RetiredState}
@@ -7,10 +7,12 @@ use Rattle.clsm_store.specs.declared.phase.Phase.{Phase}
 use Rattle.clsm_store.specs.declared.phase.Phase.TheVariants.{Clean, Frozen, Retired}
 use Rattle.clsm_store.specs.declared.sweeping.Stopped.{Stopped}
 use Rattle.clsm_store.specs.declared.sweeping.Stopped.TheVariants.{Worn, RunFull, Pinned}
-use Rattle.clsm_store.specs.declared.phase.TryFreezeError.{TryFreezeError}
-use Rattle.clsm_store.specs.declared.phase.TryFreezeError.TheVariants.{Busy as TryBusy, Worn as TryWorn}
+use Rattle.clsm_store_calls.specs.declared.refusal.Worn.{Worn as WornToo}
+use Rattle.clsm_store.specs.declared.freezing.TryFroze.{TryFroze}
+use Rattle.clsm_store.specs.declared.freezing.TryFroze.TheVariants.{Busy as FreezeBusy, Done as FreezeDone, Waited as FreezeWaited}
+use Rattle.clsm_store.specs.Freezing.{TryFreezesClean}
 use Rattle.clsm_store.specs.Phase.{Freezes, Merges}
-use Rattle.clsm_store.specs.Promises.{RefusesFreeze, TriesToFreezeEpoch}
+use Rattle.clsm_store.specs.Promises.{TriesToFreezeEpoch}
 use Rattle.clsm_store.specs.Sweeping.{SweepsClean, SweepsCleanIf, SweepsFrozen, SweepsRetired, TrySweepsClean, done_of, enough, tried_of, unfrozen_of}
 
 -- the epoch is merged
@@ -47,8 +49,27 @@ pub frozen_by_try : (old : CleanState) (frozen : FrozenState) → TriesToFreezeE
 frozen_by_try old frozen tried =
     (record { frozen = tried.frozen; floor = tried.floor; noted = tried.noted; worn = tt }, refl)
 
--- and nothing was frozen
-pub unfrozen_on : (used : ℕ) (old looked new : CleanState) (error : TryFreezeError) → LooksAtClock old looked → enough used looked ≤ drawn_of looked
-    → RefusesFreeze looked new error → TrySweepsClean used old (Clean new) (unfrozen_of error)
-unfrozen_on used old looked new TryBusy looks many refuses = refuses ∙ ap (λ (s : CleanState). record s { clock = new.clock }) looks
-unfrozen_on used old looked new (TryWorn worn) looks many refuses = (looked, looks, many, record { frozen = tt; floor = tt; noted = tt; worn = refuses })
+-- ---- a sweep behind a freeze that tries the lock once
+
+-- an epoch was frozen
+pub swept_behind : (used : ℕ) (old : CleanState) (frozen : FrozenState) (froze : Result TryFroze WornToo) (new : Phase) (answer : Result ⊤ Stopped)
+    → TryFreezesClean used old (Frozen frozen) froze → SweepsFrozen frozen new answer → TrySweepsClean used old new (tried_of answer)
+swept_behind used old frozen (Ok FreezeDone) new answer (looked, looks, many, freezes) swept =
+    tried_on used old looked new answer looks many (frozen_on looked frozen new answer freezes swept)
+swept_behind used old frozen (Ok FreezeWaited) new answer none swept = absurd none
+swept_behind used old frozen (Ok FreezeBusy) new answer (looked, looks, many, none) swept = absurd none
+swept_behind used old frozen (Err worn) new answer (looked, looks, many, none) swept = absurd none
+
+-- none was
+pub unfrozen_behind : (used : ℕ) (old : CleanState) (new : Phase) (froze : Result TryFroze WornToo) → ((frozen : FrozenState) → new ≡ Frozen frozen → ⊥)
+    → TryFreezesClean used old new froze → TrySweepsClean used old new (unfrozen_of froze)
+unfrozen_behind used old (Clean new) (Ok FreezeDone) other (looked, looks, many, none) = absurd none
+unfrozen_behind used old (Clean new) (Ok FreezeWaited) other waits = waits
+unfrozen_behind used old (Clean new) (Ok FreezeBusy) other (looked, looks, many, out) =
+    out ∙ ap (λ (s : CleanState). record s { clock = new.clock }) looks
+unfrozen_behind used old (Clean new) (Err worn) other refused = refused
+unfrozen_behind used old (Frozen new) froze other freezes = absurd (other new refl)
+unfrozen_behind used old (Retired new) (Ok FreezeDone) other (looked, looks, many, none) = absurd none
+unfrozen_behind used old (Retired new) (Ok FreezeWaited) other none = absurd none
+unfrozen_behind used old (Retired new) (Ok FreezeBusy) other (looked, looks, many, none) = absurd none
+unfrozen_behind used old (Retired new) (Err worn) other (looked, looks, many, none) = absurd none

@@ -7,8 +7,9 @@ use Rattle.clsm_store_calls.specs.Seats.{CleanState, FrozenState, RetiredState}
 use Rattle.clsm_store.specs.declared.phase.Phase.{Phase}
 use Rattle.clsm_store.specs.declared.phase.Phase.TheVariants.{Clean, Frozen, Retired}
 use Rattle.clsm_store.specs.declared.phase.FreezeError.TheVariants.{Worn as FreezeWorn}
-use Rattle.clsm_store.specs.declared.phase.TryFreezeError.{TryFreezeError}
-use Rattle.clsm_store.specs.declared.phase.TryFreezeError.TheVariants.{Busy as TryBusy, Worn as TryWorn}
+use Rattle.clsm_store_calls.specs.declared.refusal.Worn.{Worn as WornToo}
+use Rattle.clsm_store.specs.declared.freezing.TryFroze.{TryFroze}
+use Rattle.clsm_store.specs.declared.freezing.TryFroze.TheVariants.{Busy as FreezeBusy, Done as FreezeDone, Waited as FreezeWaited}
 use Rattle.clsm_store.specs.declared.phase.MergeError.TheVariants.{RunFull as MergeFull}
 use Rattle.clsm_store.specs.declared.phase.ReclaimError.TheVariants.{Pinned as ReclaimPinned}
 use Rattle.clsm_store.specs.declared.sweeping.Stopped.{Stopped}
@@ -91,10 +92,12 @@ abbrev pub tried_of : Result ⊤ Stopped → Result TrySwept Stopped
 tried_of (Ok _) = Ok TryDone
 tried_of (Err stopped) = Err stopped
 
--- and where nothing was frozen
-abbrev pub unfrozen_of : TryFreezeError → Result TrySwept Stopped
-unfrozen_of TryBusy = Ok Busy
-unfrozen_of (TryWorn worn) = Err (Worn worn)
+-- and where a freeze that tried it once froze nothing
+abbrev pub unfrozen_of : Result TryFroze WornToo → Result TrySwept Stopped
+unfrozen_of (Ok FreezeDone) = Ok TryDone
+unfrozen_of (Ok FreezeWaited) = Ok TryWaited
+unfrozen_of (Ok FreezeBusy) = Ok Busy
+unfrozen_of (Err worn) = Err (Worn worn)
 
 -- a caller held the lock: but for its one look at the clock the merger is as it was
 abbrev pub IsBusy : CleanState → Phase → Type 0

@@ -5,7 +5,7 @@ ghost use Rattle.clsm_store_calls.specs.Looking.{FindsRoom};
 ghost use Rattle.clsm_store.specs.Promises.{ChangesBy, ClosesSnapshot, Gets, GetsAt, OpensSnapshot, TriesToChangeBy, TriesToWrite, TriesToWriteBatch, Writes};
 ghost use Rattle.clsm_store.specs.Promises.{WritesBatch};
 
-use crate::seat::Seat;
+use crate::seat::{Seat, pass_read};
 use crate::store::Store;
 use clsm_model::{Change, Time, Value};
 use clsm_pins::close_snapshot;
@@ -117,7 +117,7 @@ impl<P: Pace> Store<P> {
             value: None,
         };
         read(&self.words, &mut seat.raw, seat.pin, key, &mut got);
-        seat.pin = seat.pin.wrapping_add(2);
+        pass_read(&mut seat.pin);
         got
     }
 
@@ -140,7 +140,7 @@ impl<P: Pace> Store<P> {
     {
         let modification = Modification { key, f };
         let answer = change(rt, &self.words, &mut seat.raw, seat.pin, &modification);
-        seat.pin = seat.pin.wrapping_add(2);
+        pass_read(&mut seat.pin);
         answer
     }
 
@@ -178,7 +178,7 @@ impl<P: Pace> Store<P> {
             return Err(Open { time });
         }
         let time = open_at(&self.words, &mut seat.raw, seat.pin);
-        seat.pin = seat.pin.wrapping_add(2);
+        pass_read(&mut seat.pin);
         seat.snapshot = Some(time);
         Ok(time)
     }
@@ -210,7 +210,7 @@ impl<P: Pace> Store<P> {
             time,
         };
         let got = read_under(&self.words, &mut seat.raw, snapshot, key);
-        seat.pin = seat.pin.wrapping_add(2);
+        pass_read(&mut seat.pin);
         got
     }
     /// How many timestamps are left in the epoch, as one look at its limit and then one at the

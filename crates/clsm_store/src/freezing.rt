@@ -23,7 +23,7 @@ pub enum TryFroze {
 }
 
 /// Whether so many timestamps of the epoch are drawn, or all, as one look at the clock finds it.
-fn is_used<P: Pace>(store: &Store<P>, clean: &mut Clean, used: u64) -> bool
+pub(crate) fn is_used<P: Pace>(store: &Store<P>, clean: &mut Clean, used: u64) -> bool
     requires { clean.old.merger.store ≡ store.now }
     ensures looks { LooksAtClock clean.old clean.new }
     ensures used { MatchBool result (enough used clean.new ≤ drawn_of clean.new) (drawn_of clean.new < enough used clean.new) }
@@ -33,7 +33,7 @@ fn is_used<P: Pace>(store: &Store<P>, clean: &mut Clean, used: u64) -> bool
 }
 
 /// Freezes the epoch, if so many of its timestamps are drawn, or all.
-fn try_freeze_clean<P: Pace + Drop>(
+pub(crate) fn try_freeze_clean<P: Pace + Drop>(
     store: &Store<P>,
     mut clean: Clean,
     used: u64,

@@ -5,13 +5,13 @@ ghost use Rattle.clsm_store_calls.specs.Seats.{Answers, Refuses, known_by};
 ghost use Rattle.clsm_store_calls.specs.Tally.{TakesNoLock};
 ghost use Rattle.clsm_store.specs.Promises.{CountsRange, GivesPage, Scans, ScansAnew, VisitsRange};
 
-use crate::seat::Seat;
+use crate::seat::{Seat, pass_read, under};
 use crate::store::Store;
 use clsm_model::{Deed, Memory, Time, Value};
 use clsm_scan::{Bounds, Calling, Passing, Visitor};
 use clsm_store_calls::{
-    Asked, Counted, OpenSnapshot, Page, Request, Scan, Visit, scan_at, scan_now, scan_under,
-    visit_at, visit_under,
+    Asked, Counted, Page, Request, Scan, Visit, scan_at, scan_now, scan_under, visit_at,
+    visit_under,
 };
 use clsm_words::Pace;
 use std::alloc::Global;
@@ -32,17 +32,11 @@ impl<P: Pace> Store<P> {
         ensures refused { IfErr result (λ refusal. Refuses seat.old seat.new) }
     {
         let wanted = Request { alloc, asked };
-        let read = match seat.snapshot {
+        let read = match under(seat.pin, seat.snapshot) {
             None => scan_at(&self.words, &mut seat.raw, seat.pin, wanted),
-            Some(time) => {
-                let snapshot = OpenSnapshot {
-                    pin_word: seat.pin,
-                    time,
-                };
-                scan_under(&self.words, &mut seat.raw, snapshot, wanted)
-            }
+            Some(open) => scan_under(&self.words, &mut seat.raw, open, wanted),
         };
-        seat.pin = seat.pin.wrapping_add(2);
+        pass_read(&mut seat.pin);
         read
     }
 
@@ -98,7 +92,7 @@ impl<P: Pace> Store<P> {
             asked: bounds,
         };
         let scan = scan_now(&self.words, &mut seat.raw, seat.pin, wanted);
-        seat.pin = seat.pin.wrapping_add(2);
+        pass_read(&mut seat.pin);
         scan
     }
 
@@ -111,17 +105,11 @@ impl<P: Pace> Store<P> {
             visit.old.visitor visit.new.visitor }
         ensures lock { TakesNoLock seat.old.tally seat.new.tally }
     {
-        let counted = match seat.snapshot {
+        let counted = match under(seat.pin, seat.snapshot) {
             None => visit_at(&self.words, &mut seat.raw, seat.pin, visit),
-            Some(time) => {
-                let snapshot = OpenSnapshot {
-                    pin_word: seat.pin,
-                    time,
-                };
-                visit_under(&self.words, &mut seat.raw, snapshot, visit)
-            }
+            Some(open) => visit_under(&self.words, &mut seat.raw, open, visit),
         };
-        seat.pin = seat.pin.wrapping_add(2);
+        pass_read(&mut seat.pin);
         counted
     }
 

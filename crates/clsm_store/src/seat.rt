@@ -1,5 +1,9 @@
 //! A caller's seat at a store.
+ghost use Rattle.std.specs.Prelude.{◌≡◌, MatchOption, None, Some};
+ghost use Rattle.clsm_law.specs.Views.{next_word};
+
 use clsm_model::{CallRecord, Deed, Time};
+use clsm_store_calls::OpenSnapshot;
 use clsm_words::RawSeat;
 use std::marker::Model;
 
@@ -13,6 +17,23 @@ pub struct Seat {
     pub(crate) pin: u64,
     /// The time of its open snapshot.
     pub(crate) snapshot: Option<Time>,
+}
+
+/// Moves a pin word past a whole read, which moved it as it began and as it ended.
+#[inline(always)]
+pub(crate) fn pass_read(pin: &mut u64)
+    ensures { pin.new ≡ next_word (next_word pin.old) }
+{
+    *pin = pin.wrapping_add(2);
+}
+
+/// The open snapshot as reads under it take it, if one is open: its time, with the pin word.
+#[inline(always)]
+pub(crate) fn under(pin_word: u64, snapshot: Option<Time>) -> Option<OpenSnapshot>
+    ensures { MatchOption result (snapshot ≡ None) (λ held. (held.pin_word ≡ pin_word) × (snapshot ≡ Some held.time)) }
+{
+    let time = snapshot?;
+    Some(OpenSnapshot { pin_word, time })
 }
 
 impl Model for Seat {

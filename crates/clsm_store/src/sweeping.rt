@@ -4,8 +4,9 @@ ghost use Rattle.clsm_store.specs.Phase.{merger_in};
 ghost use Rattle.clsm_store.specs.Sweeping.{Sweeps, SweepsClean, SweepsCleanIf, SweepsFrozen, SweepsIf, SweepsRetired, TrySweeps, TrySweepsClean, done_of};
 ghost use Rattle.clsm_store.specs.Sweeping.{tried_of, unfrozen_of};
 
+use crate::freezing::{TryFroze, is_used, try_freeze_clean};
 use crate::merger::{Clean, Frozen, Retired};
-use crate::phase::{Phase, TryFreezeError};
+use crate::phase::Phase;
 use crate::store::Store;
 use clsm_runs::RunFull;
 use clsm_store_calls::{Pinned, Worn};
@@ -115,22 +116,25 @@ fn done(answer: Result<(), Stopped>) -> Result<Swept, Stopped>
     }
 }
 
+/// What is left of a sweep that may have waited: the phase in which the merger is, and the answer.
+type UsedSweep = (Phase, Result<Swept, Stopped>);
+
 /// Freezes, merges and reclaims, if so many timestamps of the epoch are drawn, or all.
 fn sweep_clean_if<P: Pace + Drop, R: Wait>(
     rt: &R,
     store: &Store<P>,
     mut clean: Clean,
     used: u64,
-) -> (Phase, Result<Swept, Stopped>)
+) -> UsedSweep
     requires { clean.merger.store ≡ store.now }
     ensures sweeps { SweepsCleanIf used clean result.0 result.1 }
     ensures store { (merger_in result.0).store ≡ store.now }
 {
-    if clean.drawn(store) < used.min(store.words.cells()) {
-        return (Phase::Clean(clean), Ok(Swept::Waited));
+    if is_used(store, &mut clean, used) {
+        let (phase, answer) = sweep_clean(rt, store, clean);
+        return (phase, done(answer));
     }
-    let (phase, answer) = sweep_clean(rt, store, clean);
-    (phase, done(answer))
+    (Phase::Clean(clean), Ok(Swept::Waited))
 }
 
 /// As `sweep`, but freezes an epoch only if so many of its timestamps are drawn, or all.
@@ -139,19 +143,15 @@ pub(crate) fn sweep_if_used<P: Pace + Drop, R: Wait>(
     store: &Store<P>,
     phase: Phase,
     used: u64,
-) -> (Phase, Result<Swept, Stopped>)
+) -> UsedSweep
     requires { (merger_in phase).store ≡ store.now }
     ensures sweeps { SweepsIf used phase result.0 result.1 }
     ensures store { (merger_in result.0).store ≡ store.now }
 {
     match phase {
         Phase::Clean(clean) => sweep_clean_if(rt, store, clean, used),
-        Phase::Frozen(frozen) => {
-            let (phase, answer) = sweep_frozen(store, frozen);
-            (phase, done(answer))
-        }
-        Phase::Retired(retired) => {
-            let (phase, answer) = sweep_retired(store, retired);
+        other => {
+            let (phase, answer) = sweep(rt, store, other);
             (phase, done(answer))
         }
     }
@@ -168,46 +168,41 @@ fn tried(answer: Result<(), Stopped>) -> Result<TrySwept, Stopped>
 }
 
 /// The answer of a sweep that froze nothing.
-fn unfrozen(error: TryFreezeError) -> Result<TrySwept, Stopped>
-    ensures { result ≡ unfrozen_of error }
+fn unfrozen(froze: Result<TryFroze, Worn>) -> Result<TrySwept, Stopped>
+    ensures { result ≡ unfrozen_of froze }
 {
-    match error {
-        TryFreezeError::Busy => Ok(TrySwept::Busy),
-        TryFreezeError::Worn(worn) => Err(Stopped::Worn(worn)),
+    match froze {
+        Ok(TryFroze::Done) => Ok(TrySwept::Done),
+        Ok(TryFroze::Waited) => Ok(TrySwept::Waited),
+        Ok(TryFroze::Busy) => Ok(TrySwept::Busy),
+        Err(worn) => Err(Stopped::Worn(worn)),
     }
 }
 
+/// What is left of a sweep that tried the lock once: the phase in which the merger is, and the
+/// answer.
+type TriedSweep = (Phase, Result<TrySwept, Stopped>);
+
 /// As `sweep_clean_if`, but tries the lock once.
-fn try_sweep_clean<P: Pace + Drop>(
-    store: &Store<P>,
-    mut clean: Clean,
-    used: u64,
-) -> (Phase, Result<TrySwept, Stopped>)
+fn try_sweep_clean<P: Pace + Drop>(store: &Store<P>, clean: Clean, used: u64) -> TriedSweep
     requires { clean.merger.store ≡ store.now }
     ensures sweeps { TrySweepsClean used clean result.0 result.1 }
     ensures store { (merger_in result.0).store ≡ store.now }
 {
-    let enough = used.min(store.words.cells());
-    if clean.drawn(store) < enough {
-        return (Phase::Clean(clean), Ok(TrySwept::Waited));
-    }
-    match clean.try_freeze(store) {
-        Ok(frozen) => {
+    let (phase, froze) = try_freeze_clean(store, clean, used);
+    match phase {
+        Phase::Frozen(frozen) => {
             let (phase, answer) = sweep_frozen(store, frozen);
             (phase, tried(answer))
         }
-        Err((clean, error)) => (Phase::Clean(clean), unfrozen(error)),
+        other => (other, unfrozen(froze)),
     }
 }
 
 impl Phase {
     /// As `Merger::sweep_if_used`, but it tries the lock once and never waits: it answers `Busy` if
     /// a caller held the lock. No epoch was frozen then.
-    pub fn try_sweep_if_used<P: Pace + Drop>(
-        self,
-        store: &Store<P>,
-        used: u64,
-    ) -> (Phase, Result<TrySwept, Stopped>)
+    pub fn try_sweep_if_used<P: Pace + Drop>(self, store: &Store<P>, used: u64) -> TriedSweep
         requires { (merger_in self).store ≡ store.now }
         ensures sweeps { TrySweeps used self result.0 result.1 }
         ensures store { (merger_in result.0).store ≡ store.now }

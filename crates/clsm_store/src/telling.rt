@@ -3,7 +3,7 @@ ghost use Rattle.std.specs.Prelude.{◌≡◌, ◌≤◌};
 ghost use Rattle.clsm_store_calls.specs.Seats.{known_by};
 ghost use Rattle.clsm_store.specs.Meetings.{Follows, IsConfirmedBy, told_by};
 
-use crate::seat::Seat;
+use crate::seat::{Seat, pass_read};
 use crate::store::Store;
 use clsm_model::Time;
 use clsm_store_calls::{confirm_at, meet_at};
@@ -40,7 +40,7 @@ pub(crate) fn follow<P: Pace>(store: &Store<P>, seat: &mut Seat, message: Messag
 {
     store.words.learn(&mut seat.raw, message);
     let time = meet_at(&store.words, &mut seat.raw, seat.pin);
-    seat.pin = seat.pin.wrapping_add(2);
+    pass_read(&mut seat.pin);
     time
 }
 

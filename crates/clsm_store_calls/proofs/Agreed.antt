@@ -116,7 +116,7 @@ module _ (m : MergerSeat) (message : MessageState) (table : TableId) (told new :
   }
 
   epoch : epoch_known new ≡ epoch_known old
-  epoch = epoch_stays told new sound' told_frozen.frozen told_frozen.out.free looks.layout (ap (λ (v : MergerView). v.merged) looks.view) looks.longer
+  epoch = epoch_stays told new sound' told_frozen.frozen told_frozen.out.exclusive looks.layout (ap (λ (v : MergerView). v.merged) looks.view) looks.longer
       ∙ ap (λ (k : Known). epoch_known k) learns
 
   runs : runs_known new ≡ runs_known old

@@ -1,5 +1,5 @@
 -- A write behind the looks ahead, with which it begins in its hold of the lock.
-use Rattle.std.proofs.Common.{◌≡◌, ◌∙◌, ◌⊎◌, ℕ, ap, sym, subst, inl, inr, Result, Ok, Err, IfOk, IfErr}
+use Rattle.std.proofs.Common.{◌≡◌, ◌∙◌, ◌⊎◌, ℕ, ap, sym, subst, inl, inr, Result, Ok, Err}
 use Rattle.clsm_model.specs.declared.record.Deed.{Deed}
 use Rattle.clsm_law.specs.declared.view.View.{View}
 use Rattle.clsm_law.specs.Views.{next_word}
@@ -9,9 +9,10 @@ use Rattle.clsm_store_calls.specs.declared.refusal.TryPutError.{TryPutError}
 use Rattle.clsm_store_calls.specs.declared.refusal.TryPutError.TheVariants.{Full, Busy, Raced, Overtaken}
 use Rattle.clsm_store_calls.specs.Resting.{IsInHold, IsSettled, Still}
 use Rattle.clsm_store_calls.specs.Tally.{CountsInHold, Tally, counted, looked, tally_of}
-use Rattle.clsm_store_calls.specs.Trying.{Fails, FailsInHold, WritesInHold}
+use Rattle.clsm_store_calls.specs.Trying.{TriesInHold}
 use Rattle.clsm_store_calls.specs.Writing.{StaysInHold}
-use Rattle.clsm_store_calls.proofs.Rest.{full_later, left, records_later, still_seat, still_trans}
+use Rattle.clsm_store_calls.proofs.Attempts.{fails_later}
+use Rattle.clsm_store_calls.proofs.Rest.{left, records_later, still_seat}
 
 module _ (a b : Known) (h : LooksAhead a b) where
   pub still_ahead : Still a b
@@ -63,16 +64,7 @@ module _ (a b : Known) (h : LooksAhead a b) where
     counts_ahead (Err Overtaken) k =
         k ∙ ap (λ (t : Tally). record (looked t (tally_of c)) { overtaken = next_word t.overtaken }) tally_ahead
 
-    fails_by : (error : TryPutError) → Fails b c error → Fails a c error
-    fails_by (Full t) k = full_later a b c t still_ahead k
-    fails_by Busy k = still_trans a b c still_ahead k
-    fails_by Raced k = still_trans a b c still_ahead k
-    fails_by Overtaken k = still_trans a b c still_ahead k
-
-    pub fails_ahead : (answer : Result ℕ TryPutError) → IfErr answer (FailsInHold b c) → IfErr answer (FailsInHold a c)
-    fails_ahead (Ok t) k = tt
-    fails_ahead (Err error) k = record { holds = k.holds; fails = fails_by error k.fails; counts = counts_ahead (Err error) k.counts }
-
-    pub writes_ahead : (deed : Deed) (answer : Result ℕ TryPutError) → IfOk answer (λ t. WritesInHold b c t deed) → IfOk answer (λ t. WritesInHold a c t deed)
-    writes_ahead deed (Ok t) k = record { holds = k.holds; records = records_later a b c t deed still_ahead k.records; counts = counts_ahead (Ok t) k.counts }
-    writes_ahead deed (Err error) k = tt
+    pub tries_ahead : (deed : Deed) (answer : Result ℕ TryPutError) → TriesInHold b c deed answer → TriesInHold a c deed answer
+    tries_ahead deed (Ok t) k = record { holds = k.holds; records = records_later a b c t deed still_ahead k.records; counts = counts_ahead (Ok t) k.counts }
+    tries_ahead deed (Err error) k =
+        record { holds = k.holds; fails = fails_later a b c still_ahead error k.fails; counts = counts_ahead (Err error) k.counts }

@@ -1,15 +1,29 @@
--- Tries to change a key, one after another.
-use Rattle.std.proofs.Common.{◌≡◌, ◌∙◌, ◌⊎◌, inl, inr, ℕ, List, ap, sym, subst, false, Option}
+-- Tries to write or to change a key, one after another.
+use Rattle.std.proofs.Common.{◌≡◌, ◌≤◌, ◌∙◌, ◌⊎◌, inl, inr, ℕ, List, ap, arith, sym, subst, false, Option}
 use Rattle.clsm_model.specs.declared.slot.Change.{Change}
 use Rattle.clsm_model.specs.declared.slot.Change.TheVariants.{Keep, Set, Remove}
 use Rattle.clsm_model.specs.declared.record.Deed.TheVariants.{Rmw}
 use Rattle.clsm_law.specs.Views.{next_word}
 use Rattle.clsm_words.specs.declared.known.Known.{Known}
+use Rattle.clsm_words.specs.Keeping.{OnlyReads}
+use Rattle.clsm_store_calls.specs.declared.got.Rmw.{Rmw as Answered}
+use Rattle.clsm_store_calls.specs.declared.changing.Modified.{Modified}
 use Rattle.clsm_store_calls.specs.declared.changing.ChangeAttempt.{ChangeAttempt}
 use Rattle.clsm_store_calls.specs.declared.changing.ChangeAttempt.TheVariants.{Done as Finished, Full, Lost}
-use Rattle.clsm_store_calls.specs.Changing.{Does, TriesChange, WritesLater, is_keep}
+use Rattle.clsm_store_calls.specs.declared.refusal.TryPutError.{TryPutError}
+use Rattle.clsm_store_calls.specs.declared.refusal.TryPutError.TheVariants.{Full as TryFull, Busy, Raced, Overtaken}
+use Rattle.clsm_store_calls.specs.Changing.{Does, TriesChange, WritesLater, deed_by, is_keep}
 use Rattle.clsm_store_calls.specs.Resting.{Records, Still}
-use Rattle.clsm_store_calls.proofs.Rest.{full_later, records_later, still_trans}
+use Rattle.clsm_store_calls.specs.Trying.{Fails}
+use Rattle.clsm_store_calls.specs.TryingChange.{WritesChange}
+use Rattle.clsm_store_calls.proofs.Rest.{full_later, records_later, still_reads, still_trans}
+
+-- a try that fails behind calls that changed nothing
+pub fails_later : (a b c : Known) → Still a b → (error : TryPutError) → Fails b c error → Fails a c error
+fails_later a b c h (TryFull t) fails = full_later a b c t h fails
+fails_later a b c h Busy fails = still_trans a b c h fails
+fails_later a b c h Raced fails = still_trans a b c h fails
+fails_later a b c h Overtaken fails = still_trans a b c h fails
 
 -- a change behind calls that changed nothing
 pub does_later : (a b c : Known) (component key t : ℕ) (o : Option (List ℕ)) (change : Change) → Still a b → Does change b c component key t o
@@ -39,3 +53,15 @@ tries_later a b c component key o change Lost ne h gave over writes = record { s
       ⊎ (c.view.overtaken ≡ next_word a.view.overtaken)
   lost (inl e) = inl (e ∙ ap next_word gave)
   lost (inr e) = inr (e ∙ ap next_word over)
+
+-- a change whose time was drawn, and behind which only reads were made, stands at that time
+pub wrote_later : {k k' k'' end : Known} {rmw : Answered} (t : ℕ) (m : Modified) → rmw ≡ record { time = t; old = m.read.old; change = m.read.change }
+    → Still k k' → OnlyReads k' k'' → k.view.due ≤ t → (k''.view.due ≤ t → Records k'' end t (deed_by m)) → WritesChange k end m rmw
+wrote_later {k} {k'} {k''} {end} t m is drawn reads above records =
+    let still : Still k k'' = still_trans k k' k'' drawn (still_reads k' k'' reads) in
+    let recorded = records_later k k'' end t (deed_by m) still (records (let due = still.due in omega arith)) in
+    record {
+      same = ap (λ (r : Answered). r.old) is;
+      change = ap (λ (r : Answered). r.change) is;
+      records = subst (λ (n : ℕ). Records k end n (deed_by m)) (sym (ap (λ (r : Answered). r.time) is)) recorded;
+    }

@@ -8,7 +8,7 @@ use Rattle.clsm_words.specs.declared.known.Known.{Known}
 use Rattle.clsm_words.specs.Knowing.{IsNearHeld}
 use Rattle.clsm_words.specs.Keeping.{KeepsPlace}
 use Rattle.clsm_words.proofs.Keeps.{place_stays, place_trans}
-use Rattle.clsm_memtable.specs.Writing.{Draws, FindsLimit, LosesDraw}
+use Rattle.clsm_memtable.specs.Writing.{Draws, FindsLimit, LosesDraw, looked_in_hold}
 use Rattle.clsm_store_calls.specs.Changing.{DrawsAtLast, EndsDraw, FindsLimitAtLast, GivesLater, KeepsFirst, LosesDraws, with_draws}
 use Rattle.clsm_store_calls.specs.declared.changing.ChangeAttempt.{ChangeAttempt}
 use Rattle.clsm_store_calls.specs.declared.changing.ChangeAttempt.TheVariants.{Done as Finished, Full as Ended, Lost}
@@ -45,14 +45,7 @@ lost_again a b c h k = lost_trans a b c h (lost_by b c (record c.view { fresh_cl
 pub full_at_last : (a b c : Known) (t : ℕ) → LosesDraws a b → FindsLimit b c t → FindsLimitAtLast a c t
 full_at_last a b c t h k = record {
   draws = lost_trans a b c h
-      (lost_by b c (record c.view {
-        fresh_clock = Some t;
-        hold_limit = Some t;
-        hold_clock = Some t;
-        hold_first = first_of b.view.hold_first t;
-        clock = Some t;
-        raced = b.view.raced;
-      }) k.place (looked_first b c t (ap (λ (v : View). v.hold_first) k.view)) k.view);
+      (lost_by b c (looked_in_hold b.view c.view t t) k.place (looked_first b c t (ap (λ (v : View). v.hold_first) k.view)) k.view);
   passed = let x = ap (λ (v : View). v.past) h.view in let y = k.passed in omega arith;
   limit = ap (λ (v : View). v.hold_limit) k.view;
   clock = ap (λ (v : View). v.hold_clock) k.view;
@@ -60,14 +53,8 @@ full_at_last a b c t h k = record {
 
 -- the view with the time drawn
 abbrev with_drawn : View → ℕ → Option ℕ → Option ℕ → Option ℕ → Option ℕ → Option ℕ → ℕ → View
-with_drawn v t limit noted first clock pin raced = record (taken v t) {
-  hold_limit = limit;
-  hold_clock = noted;
-  hold_first = first;
-  clock = clock;
-  pin_clock = pin;
-  raced = raced;
-}
+with_drawn v t limit noted first clock pin raced =
+    record (taken v t) { hold_limit = limit; hold_clock = noted; hold_first = first; clock = clock; pin_clock = pin; raced = raced }
 
 pub draws_at_last : (a b c : Known) (t : ℕ) → LosesDraws a b → Draws b c t → DrawsAtLast a c t
 draws_at_last a b c t h k = record {

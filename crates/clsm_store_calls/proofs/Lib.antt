@@ -9,7 +9,6 @@ pub mod DrawsAgain
 pub mod Attempts
 pub mod Changed
 pub mod TriedChange
-pub mod LastTimes
 pub mod Quiet
 pub mod Cleaning
 pub mod Rounds

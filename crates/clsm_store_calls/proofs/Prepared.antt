@@ -22,6 +22,7 @@ use Rattle.clsm_words.proofs.MergerFacts.{entries_below as entries_agree, settle
 use Rattle.clsm_search.specs.Frozen.{epoch_row}
 use Rattle.clsm_search.proofs.FrozenTimes.{frozen_known}
 use Rattle.clsm_store_calls.specs.declared.merger_seat.MergerSeat.{MergerSeat}
+use Rattle.clsm_store_calls.specs.Flooring.{with_floor}
 use Rattle.clsm_store_calls.specs.Freezing.{IsFrozen}
 use Rattle.clsm_store_calls.specs.Merging.{IsOfHistory, IsReady, epoch_known, frozen_of, merger_of, runs_known}
 
@@ -59,7 +60,7 @@ module _ (m : MergerSeat) (sound : IsSoundMerger m.raw.knows) (frozen : IsFrozen
   reached : epoch_end k.layout k.merger ≤ length k.past
   reached = elim (dec_le (epoch_end k.layout k.merger) (length k.past)) [
     | yes le ↦ le
-    | no nle ↦ absurd (let lt = lt_of_not-le nle in let below = frozen_known k (length k.past) sound frozen.out.free frozen.frozen lt in omega arith)
+    | no nle ↦ absurd (let lt = lt_of_not-le nle in let below = frozen_known k (length k.past) sound frozen.out.exclusive frozen.frozen lt in omega arith)
   ]
 
   of_known : IsOfHistory k.past (record (frozen_of m) { merger = record (merger_of m) { merges = k.merger.merged } })
@@ -98,17 +99,11 @@ same_frozen old new table layout merges holds epoch runs =
     }
 
 -- and so does the phase
-pub still_frozen : (k k' : Known) (merges : ℕ) → k'.merger ≡ record k.merger {
-  floor = k'.merger.floor;
-  round = k'.merger.round;
-  rounds = k'.merger.rounds;
-  noted = k'.merger.noted;
-  clock_looks = k'.merger.clock_looks;
-} → IsFrozen k merges → IsFrozen k' merges
+pub still_frozen : (k k' : Known) (merges : ℕ) → k'.merger ≡ with_floor k.merger k'.merger → IsFrozen k merges → IsFrozen k' merges
 still_frozen k k' merges view is = record {
   out = record {
     merged = ap (λ (m : MergerView). m.merged) view ∙ is.out.merged;
-    free = ap (λ (m : MergerView). m.exclusive) view ∙ is.out.free;
+    exclusive = ap (λ (m : MergerView). m.exclusive) view ∙ is.out.exclusive;
     unpadded = ap (λ (m : MergerView). m.padded) view ∙ is.out.unpadded;
     clock = ap (λ (m : MergerView). m.clock_extended) view ∙ is.out.clock;
     limit = ap (λ (m : MergerView). m.limit_extended) view ∙ is.out.limit;

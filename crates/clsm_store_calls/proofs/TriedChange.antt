@@ -16,21 +16,15 @@ use Rattle.clsm_store_calls.specs.Resting.{Records, Still}
 use Rattle.clsm_store_calls.specs.Tally.{HasRead, Tally, counted, looked, tally_of}
 use Rattle.clsm_store_calls.specs.Trying.{Fails}
 use Rattle.clsm_store_calls.specs.TryingChange.{CountsChange, CountsChangeInHold, LosesDrawn, LosesNoTime, LosesTime, WritesChange, pin_after}
-use Rattle.clsm_store_calls.proofs.Attempts.{does_by}
-use Rattle.clsm_store_calls.proofs.Rest.{full_later, records_later, still_trans}
+use Rattle.clsm_store_calls.proofs.Attempts.{does_by, fails_later}
+use Rattle.clsm_store_calls.proofs.Rest.{records_later, still_trans}
 
 -- ---- behind a read, which made no call
 
 module _ (a b c : Known) (still : Still a b) where
-  pub fails_later : (error : TryPutError) → Fails b c error → Fails a c error
-  fails_later (Full t) fails = full_later a b c t still fails
-  fails_later Busy fails = still_trans a b c still fails
-  fails_later Raced fails = still_trans a b c still fails
-  fails_later Overtaken fails = still_trans a b c still fails
-
   pub fails_if : (answer : Result Answered TryPutError) → IfErr answer (Fails b c) → IfErr answer (Fails a c)
   fails_if (Ok rmw) fails = tt
-  fails_if (Err error) fails = fails_later error fails
+  fails_if (Err error) fails = fails_later a b c still error fails
 
   pub changed_later : (component : ℕ) (modified : Modified) (answer : Result Answered TryPutError) → is_keep modified.read.change ≡ false
       → IfOk answer (WritesChange b c modified) → IfOk answer (λ rmw. Does rmw.change a c component modified.key rmw.time rmw.old)
@@ -88,19 +82,24 @@ drawn_read a b c t draws reads =
     read ∙ ap (λ (t : Tally). record t { cancelled = c.view.cancelled }) drawn
     ∙ ap (λ (t : Tally). record (looked (tally_of a) t) { cancelled = c.view.cancelled }) (sym read)
 
+-- another seat was faster, behind looks
+outrun : (P : Type 0) (a b c : Known) (raced : ℕ) → HasRead (tally_of a) (tally_of b)
+    → tally_of c ≡ record (tally_of b) { raced = raced; overtaken = c.view.overtaken; gave_up = c.view.gave_up }
+    → ((c.view.raced ≡ next_word b.view.raced) × (LosesNoTime (tally_of b) (tally_of c) ⊎ LosesTime (tally_of b) (tally_of c)))
+    ⊎ ((c.view.raced ≡ b.view.raced) × LosesTime (tally_of b) (tally_of c) × P)
+    → CountsChangeInHold P (tally_of a) (tally_of c) (Err Raced)
+outrun P a b c raced read same why = counts_later P P (tally_of a) (tally_of b) (tally_of c) read (λ is. is) (Err Raced) (record {
+  counts = same
+      ∙ ap (λ (t : Tally). record (looked (tally_of b) t) { raced = t.raced; overtaken = c.view.overtaken; gave_up = c.view.gave_up; cancelled = t.cancelled })
+      (sym same);
+  why = why;
+})
+
 -- the key was written meanwhile
 pub outdated : (P : Type 0) (a b c : Known) (t : ℕ) → HasRead (tally_of a) (tally_of b) → GivesUp b c t → P
     → CountsChangeInHold P (tally_of a) (tally_of c) (Err Raced)
 outdated P a b c t read gives is = let same = ap counted gives.view in
-    counts_later P P (tally_of a) (tally_of b) (tally_of c) read (λ is. is) (Err Raced) (record {
-      counts = same ∙ ap (λ (t : Tally). record (looked (tally_of b) t) {
-        raced = t.raced;
-        overtaken = c.view.overtaken;
-        gave_up = c.view.gave_up;
-        cancelled = t.cancelled;
-      }) (sym same);
-      why = inr (ap (λ (t : Tally). t.raced) same, gives.counted, is);
-    })
+    outrun P a b c b.view.raced read same (inr (ap (λ (t : Tally). t.raced) same, gives.counted, is))
 
 -- the drawn time was decided
 pub decided_counts : (a b c : Known) → HasRead (tally_of a) (tally_of b) → tally_of c ≡ tally_of b → HasRead (tally_of a) (tally_of c)
@@ -112,15 +111,7 @@ pub lost_counts : (P : Type 0) (a b c : Known) (error : TryPutError) → HasRead
 lost_counts P a b c (Full t) read lost = absurd lost
 lost_counts P a b c Busy read lost = absurd lost
 lost_counts P a b c Raced read lost = let same = lost.1 in
-    counts_later P P (tally_of a) (tally_of b) (tally_of c) read (λ is. is) (Err Raced) (record {
-      counts = same ∙ ap (λ (t : Tally). record (looked (tally_of b) t) {
-        raced = t.raced;
-        overtaken = c.view.overtaken;
-        gave_up = c.view.gave_up;
-        cancelled = t.cancelled;
-      }) (sym same);
-      why = inl (ap (λ (t : Tally). t.raced) same, inr lost.2);
-    })
+    outrun P a b c (next_word b.view.raced) read same (inl (ap (λ (t : Tally). t.raced) same, inr lost.2))
 lost_counts P a b c Overtaken read lost = let same = lost.1 in
     counts_later P P (tally_of a) (tally_of b) (tally_of c) read (λ is. is) (Err Overtaken)
     (same ∙ ap (λ (t : Tally). record (looked (tally_of b) t) { overtaken = next_word b.view.overtaken; cancelled = t.cancelled }) (sym same))

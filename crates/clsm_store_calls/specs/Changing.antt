@@ -20,6 +20,7 @@ use Rattle.clsm_law.specs.declared.view.View.{View}
 use Rattle.clsm_words.specs.declared.known.Known.{Known}
 use Rattle.clsm_words.specs.Knowing.{IsNearHeld, known_of}
 use Rattle.clsm_words.specs.Keeping.{KeepsPlace}
+use Rattle.clsm_memtable.specs.Writing.{with_looks}
 use Rattle.clsm_memtable.specs.declared.cell_state.Decided.{Decided}
 use Rattle.clsm_memtable.specs.declared.cell_state.Decided.TheVariants.{Done, Overtaken}
 use Rattle.clsm_store_calls.specs.declared.got.Rmw.{Rmw as Answered}
@@ -122,15 +123,7 @@ pub record GivesInTry (old new : Known) (key : ℕ) (attempt : ChangeAttempt) : 
 
 -- the view v, but what draws that are lost change of it is as in w
 abbrev pub with_draws : View → View → View
-with_draws = λ v w. record v {
-  fresh_clock = w.fresh_clock;
-  hold_limit = w.hold_limit;
-  hold_clock = w.hold_clock;
-  hold_first = w.hold_first;
-  clock = w.clock;
-  pin_clock = w.pin_clock;
-  raced = w.raced;
-}
+with_draws = λ v w. record (with_looks v w) { fresh_clock = w.fresh_clock; raced = w.raced }
 
 -- a first look of the hold stays
 abbrev pub KeepsFirst : Known → Known → Type 0
@@ -167,6 +160,14 @@ EndsDraw old new (Full t) = FindsLimitAtLast old new t
 EndsDraw old new _ = ⊥
 
 -- ---- the drawn time
+
+-- in its hold of the lock it drew the time, and its cell is neither linked nor inserted
+pub record HasDrawnNow (k : Known) (t : ℕ) : Type 0 where
+  pub holds : k.view.mode ≡ Shared
+  pub limit : k.view.hold_limit ≢ None
+  pub drawn : k.view.drawn ≡ Some t
+  pub unlinked : k.view.linked ≡ false
+  pub out : k.view.inserted ≡ false
 
 -- the read-modify-write that a write of the change records
 abbrev pub deed_by : Modified → Deed

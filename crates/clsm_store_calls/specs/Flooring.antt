@@ -1,6 +1,7 @@
 -- The merger's seat while it takes its floor.
 use Rattle.std.specs.Prelude.{◌≡◌, ℕ, ◌==◌, cond, max, Option, Some, None}
 use mathlib.Core.List.{IsPrefix}
+use Rattle.clsm_law.specs.declared.merger.MergerView.{MergerView}
 use Rattle.clsm_law.specs.declared.merger.Round.{Round}
 use Rattle.clsm_law.specs.declared.word.Word.{Word}
 use Rattle.clsm_law.specs.Merging.{IsRunWord, least_or}
@@ -8,17 +9,15 @@ use Rattle.clsm_law.specs.Views.{next_word}
 use Rattle.clsm_words.specs.declared.known.Known.{Known}
 use Rattle.clsm_words.specs.Knowing.{row_of}
 
+-- the merger's view m, but with the floor of n, its rounds of looks, and what these found
+abbrev pub with_floor : MergerView → MergerView → MergerView
+with_floor m n = record m { floor = n.floor; round = n.round; rounds = n.rounds; noted = n.noted; clock_looks = n.clock_looks }
+
 -- its view is as it was, but for its floor and its rounds of looks, its past goes on, and the words
 -- of runs stay
 pub record KeepsFrozen (old new : Known) : Type 0 where
   pub layout : new.layout ≡ old.layout
-  pub view : new.merger ≡ record old.merger {
-    floor = new.merger.floor;
-    round = new.merger.round;
-    rounds = new.merger.rounds;
-    noted = new.merger.noted;
-    clock_looks = new.merger.clock_looks;
-  }
+  pub view : new.merger ≡ with_floor old.merger new.merger
   pub past : IsPrefix old.past new.past
   pub runs : (word : Word) → IsRunWord word → row_of new word ≡ row_of old word
 

@@ -1,5 +1,5 @@
 -- Why a write that tries each exchange once fails.
-use Rattle.std.specs.Prelude.{ℕ, Ok, Err}
+use Rattle.std.specs.Prelude.{ℕ, Result, Ok, Err}
 use Rattle.clsm_model.specs.declared.record.Deed.{Deed}
 use Rattle.clsm_words.specs.declared.known.Known.{Known}
 use Rattle.clsm_store_calls.specs.Seats.{SeatState, IsFull, Refuses}
@@ -24,6 +24,11 @@ pub record WritesInHold (old new : Known) (t : ℕ) (deed : Deed) : Type 0 where
   pub holds : IsInHold new
   pub records : Records old new t deed
   pub counts : CountsInHold (tally_of old) (tally_of new) (Ok t)
+
+-- what came of a try in a hold of the lock
+abbrev pub TriesInHold : Known → Known → Deed → Result ℕ TryPutError → Type 0
+TriesInHold old new deed (Ok t) = WritesInHold old new t deed
+TriesInHold old new deed (Err error) = FailsInHold old new error
 
 -- The call was refused, for this reason: the clock at its limit; an exclusive holder of the lock,
 -- or another seat that entered or left between the look and the exchange; another seat that drew

@@ -1,6 +1,6 @@
 //! Read-modify-writes at the words: a read in a hold of the lock, and a write at a later time if no
 //! write of the key came between.
-ghost use Rattle.std.specs.Prelude.{◌≡◌, ◌≢◌, ◌*◌, ◌≤◌, false, true, None, Some, length, IfOk, IfErr};
+ghost use Rattle.std.specs.Prelude.{◌≡◌, ◌*◌, ◌≤◌, false, true, None, Some, length, IfOk, IfErr};
 ghost use Rattle.clsm_model.specs.declared.record.Deed.TheVariants.{Rmw as ChangeOf};
 ghost use Rattle.clsm_model.specs.declared.slot.Slot.TheVariants.{Wrote};
 ghost use Rattle.clsm_model.specs.History.{plain, value};
@@ -11,13 +11,13 @@ ghost use Rattle.clsm_law.specs.Relation.{first_of};
 ghost use Rattle.clsm_law.specs.declared.view.Mode.TheVariants.{Shared};
 ghost use Rattle.clsm_words.specs.Keeping.{OnlyReads};
 ghost use Rattle.clsm_words.specs.Plays.{IsSeatOf};
-ghost use Rattle.clsm_store_calls.specs.Resting.{FindsFull, IsAtRest, Still, seat_of};
+ghost use Rattle.clsm_store_calls.specs.Resting.{FindsFull, RestsAt, Still, seat_of};
 ghost use Rattle.clsm_store_calls.specs.Seats.{GivesUpForWrites};
 ghost use Rattle.clsm_store_calls.specs.Tally.{HasRead, tally_of};
 ghost use Rattle.clsm_memtable.specs.Settled.{MaySettleBelow};
 ghost use Rattle.clsm_memtable.specs.Writing.{IsUnnoted};
 ghost use Rattle.clsm_store_calls.specs.Changing.{TriesChange, ChangesAt, Does, DrawsAtLast, EndsDraw, EndsFull, GivesInTry, GivesLater, GivesUpFor};
-ghost use Rattle.clsm_store_calls.specs.Changing.{IsAnsweredBy};
+ghost use Rattle.clsm_store_calls.specs.Changing.{HasDrawnNow, IsAnsweredBy};
 ghost use Rattle.clsm_store_calls.specs.Changing.{IsPinnedInHold, IsWrittenFrom, KeepsFirst, ReadsNow, DecidesDrawn, StaysPinned, WritesLater, changed_at};
 ghost use Rattle.clsm_store_calls.specs.Changing.{deed_by, read_end, is_keep, value_set};
 
@@ -28,7 +28,7 @@ use crate::site::Site;
 use clsm_law::{End, Word};
 use clsm_lock::{lock_shared, unlock_shared};
 use clsm_memtable::{
-    Decided, DrawError, DrawnCell, decide, draw, enter, fill, give_up, prefetch, settle_below,
+    Decided, DrawError, DrawnCell, decide, draw, fill, give_up, prefetch, settle_below,
 };
 use clsm_model::{Change, Deed, Time, Value};
 use clsm_pins::{pin, unpin};
@@ -48,10 +48,11 @@ pub struct Modification<'a, F> {
     pub f: &'a F,
 }
 
-/// A change whose write is to come: the key, what was read of it and is made of that, and the value
-/// that it sets, or none for a removal.
+/// A change whose write is to come: the component that is held, the key, what was read of it and is
+/// made of that, and the value that it sets, or none for a removal.
 #[derive(Clone, Copy)]
 pub(crate) struct Modified {
+    pub(crate) component: u64,
     pub(crate) key: u64,
     pub(crate) read: Rmw,
     pub(crate) value: Option<Value>,
@@ -101,12 +102,7 @@ pub(crate) fn value_set(change: &Change) -> Option<Value>
 }
 
 /// The value of the key at the clock, below which all is settled.
-pub(crate) fn value_now<P: Pace>(
-    words: &Words<P>,
-    seat: &mut RawSeat,
-    component: u64,
-    key: u64,
-) -> Got
+pub(crate) fn latest<P: Pace>(words: &Words<P>, seat: &mut RawSeat, component: u64, key: u64) -> Got
     requires of { IsSeatOf words.now seat.old }
     requires pinned { IsPinnedInHold seat.old.knows component }
     ensures of { IsSeatOf words.now seat.new }
@@ -124,33 +120,39 @@ pub(crate) fn value_now<P: Pace>(
     Got { time, value }
 }
 
-/// Settles all below the span's end, and answers whether no write of its key is in it: by a look at
-/// each of its times where they are few, and else by a search. So a change that nobody disturbs
-/// makes no look for writes, and one among others a look or two at each time between.
-pub(crate) fn is_unchanged<P: Pace>(
-    words: &Words<P>,
-    seat: &mut RawSeat,
-    component: u64,
-    span: Span,
-) -> bool
-    requires of { IsSeatOf words.now seat.old }
-    requires may { MaySettleBelow seat.old.knows component span.until }
-    requires merged { component * seat.old.knows.layout.cells ≤ span.from }
-    requires later { span.from ≤ span.until }
-    ensures of { IsSeatOf words.now seat.new }
-    ensures reads { OnlyReads seat.old.knows seat.new.knows }
-    ensures settled { span.until ≤ length seat.new.knows.past }
-    ensures written { result ≡ false → IsWrittenFrom seat.new.knows.past span.key span.from }
-    ensures unchanged { result ≡ true → value (plain seat.new.knows.past) span.key span.until ≡ value (plain seat.new.knows.past) span.key span.from }
-{
-    settle_below(words, seat, component, span.until);
-    let times = span.until - span.from;
-    if times <= FEW_TIMES {
-        return !is_written_in(words, seat, component, &span);
-    }
-    match newest(words, seat, component, span.key, span.until) {
-        Some(time) => time < span.from,
-        None => true,
+impl Modified {
+    /// Settles all below the time, and answers whether no write of its key stands between what was
+    /// read and that: by a look at each of these times where they are few, and else by a search. So
+    /// a change that nobody disturbs makes no look for writes, and one among others a look or two
+    /// at each time between.
+    pub(crate) fn is_unchanged<P: Pace>(
+        &self,
+        words: &Words<P>,
+        seat: &mut RawSeat,
+        until: Time,
+    ) -> bool
+        requires of { IsSeatOf words.now seat.old }
+        requires may { MaySettleBelow seat.old.knows self.now.component until }
+        requires merged { self.now.component * seat.old.knows.layout.cells ≤ self.now.read.time }
+        requires later { self.now.read.time ≤ until }
+        ensures of { IsSeatOf words.now seat.new }
+        ensures reads { OnlyReads seat.old.knows seat.new.knows }
+        ensures settled { until ≤ length seat.new.knows.past }
+        ensures written { result ≡ false → IsWrittenFrom seat.new.knows.past self.now.key self.now.read.time }
+        ensures unchanged { result ≡ true → value (plain seat.new.knows.past) self.now.key until
+            ≡ value (plain seat.new.knows.past) self.now.key self.now.read.time }
+    {
+        let key = self.key;
+        let from = self.read.time;
+        settle_below(words, seat, self.component, until);
+        let times = until - from;
+        if times <= FEW_TIMES {
+            return !is_written_in(words, seat, self.component, &Span { key, from, until });
+        }
+        match newest(words, seat, self.component, key, until) {
+            Some(time) => time < from,
+            None => true,
+        }
     }
 }
 
@@ -158,11 +160,7 @@ impl<'a, P: Pace, R: Wait> Site<'a, P, R> {
     /// Fills the drawn cell, enters it and decides it.
     fn write_drawn(&self, seat: &mut RawSeat, time: Time, modified: &Modified) -> Decided
         requires of { IsSeatOf self.now.words.now seat.old }
-        requires holds { seat.old.knows.view.mode ≡ Shared }
-        requires limit { seat.old.knows.view.hold_limit ≢ None }
-        requires drawn { seat.old.knows.view.drawn ≡ Some time }
-        requires unlinked { seat.old.knows.view.linked ≡ false }
-        requires out { seat.old.knows.view.inserted ≡ false }
+        requires drawn { HasDrawnNow seat.old.knows time }
         requires writes { write_by 0 (deed_by modified.now) ≡ Some (Wrote 0 modified.now.key modified.now.value) }
         requires read { IsReadBelow (plain seat.old.knows.past) seat.old.knows.view time (deed_by modified.now) }
         ensures of { IsSeatOf self.now.words.now seat.new }
@@ -171,12 +169,11 @@ impl<'a, P: Pace, R: Wait> Site<'a, P, R> {
         let words = self.words;
         seat.show_invariant();
         let key = modified.key;
-        let deed = deed_of(key, &modified.read);
         let guess = prefetch(words, seat, time, key);
         seat.show_invariant();
         fill(words, seat, time, key, modified.value.as_ref());
-        let trace = enter(self.rt, words, seat, DrawnCell { time, key }, &guess);
-        decide(words, seat, time, &deed, &trace)
+        let trace = DrawnCell { time, key }.enter(self.rt, words, seat, &guess);
+        decide(words, seat, time, &deed_of(key, &modified.read), &trace)
     }
 
     /// Draws a time, and tries until it has one or the clock stands at the limit. A draw that
@@ -202,13 +199,13 @@ impl<'a, P: Pace, R: Wait> Site<'a, P, R> {
 
     /// Writes the change at a later time, if the key is unchanged until then.
     #[tactic(auto, using(crate::proofs::Rest::still_trans))]
-    fn write_later(&self, seat: &mut RawSeat, component: u64, modified: &Modified) -> ChangeAttempt
+    fn write_later(&self, seat: &mut RawSeat, modified: &Modified) -> ChangeAttempt
         requires of { IsSeatOf self.now.words.now seat.old }
-        requires pinned { IsPinnedInHold seat.old.knows component }
-        requires reads { ReadsNow seat.old.knows component modified.now.key modified.now.read.time modified.now.read.old }
+        requires pinned { IsPinnedInHold seat.old.knows modified.now.component }
+        requires reads { ReadsNow seat.old.knows modified.now.component modified.now.key modified.now.read.time modified.now.read.old }
         requires writes { write_by 0 (deed_by modified.now) ≡ Some (Wrote 0 modified.now.key modified.now.value) }
         ensures of { IsSeatOf self.now.words.now seat.new }
-        ensures stays { StaysPinned seat.old.knows seat.new.knows component }
+        ensures stays { StaysPinned seat.old.knows seat.new.knows modified.now.component }
         ensures first { KeepsFirst seat.old.knows seat.new.knows }
         ensures spared { GivesLater seat.old.knows seat.new.knows modified.now.key modified.now.read.time result }
         ensures writes { WritesLater seat.old.knows seat.new.knows modified.now.key modified.now.read.old modified.now.read.change result }
@@ -218,12 +215,7 @@ impl<'a, P: Pace, R: Wait> Site<'a, P, R> {
             Ok(time) => time,
             Err(attempt) => return attempt,
         };
-        let span = Span {
-            key: modified.key,
-            from: modified.read.time,
-            until: time,
-        };
-        if !is_unchanged(self.words, seat, component, span) {
+        if !modified.is_unchanged(self.words, seat, time) {
             give_up(self.words, seat, time);
             return ChangeAttempt::Lost;
         }
@@ -251,13 +243,18 @@ impl<'a, P: Pace, R: Wait> Site<'a, P, R> {
         ensures answered { IsAnsweredBy (F.post modification.now.f.now) result }
     {
         let key = modification.key;
-        let got = value_now(self.words, seat, component, key);
+        let got = latest(self.words, seat, component, key);
         let read = got.with(ask(modification.f, &got.value));
         if is_keep(&read.change) {
             return ChangeAttempt::Done(read);
         }
-        let value = value_set(&read.change);
-        self.write_later(seat, component, &Modified { key, read, value })
+        let modified = Modified {
+            component,
+            key,
+            read,
+            value: value_set(&read.change),
+        };
+        self.write_later(seat, &modified)
     }
 
     /// Changes the key, and tries until that is done or the clock is at the limit.
@@ -308,13 +305,9 @@ pub fn change<P: Pace, R: Wait, F: Fn(Option<Value>) -> Change>(
     pin_word: u64,
     modification: &Modification<'_, F>,
 ) -> Result<Rmw, Full>
-    requires of { IsSeatOf words.now seat.old }
-    requires rests { IsAtRest seat.old.knows }
-    requires pin { pin_word ≡ seat.old.knows.view.pin }
+    requires rests { RestsAt words.now seat.old pin_word }
     requires callable { F.IsAlwaysCallable modification.now.f.now }
-    ensures of { IsSeatOf words.now seat.new }
-    ensures rests { IsAtRest seat.new.knows }
-    ensures pin { seat.new.knows.view.pin ≡ next_word (next_word pin_word) }
+    ensures rests { RestsAt words.now seat.new (next_word (next_word pin_word)) }
     ensures entered { seat.new.knows.view.entries ≡ next_word seat.old.knows.view.entries }
     ensures patient { seat.new.knows.view.hasty ≡ seat.old.knows.view.hasty }
     ensures spared { GivesUpForWrites (seat_of seat.old) (seat_of seat.new) modification.now.key (changed_at result) }
@@ -326,12 +319,8 @@ pub fn change<P: Pace, R: Wait, F: Fn(Option<Value>) -> Change>(
     lock_shared(rt, words, seat);
     let component = pin(words, seat, pin_word);
     let answer = Site { rt, words }.change_pinned(seat, component, modification);
-    unpin(
-        words,
-        seat,
-        pin_word.wrapping_add(1),
-        &read_end(modification.key, &answer),
-    );
+    let end = read_end(modification.key, &answer);
+    unpin(words, seat, pin_word.wrapping_add(1), &end);
     unlock_shared(words, seat);
     seat.show_invariant();
     answer

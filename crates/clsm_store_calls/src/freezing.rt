@@ -1,11 +1,9 @@
 //! The freeze of an epoch.
-ghost use Rattle.std.specs.Prelude.{◌≡◌, ◌+◌, ◌*◌, ◌^◌, ◌≤◌, None, OnErr, OnOk, true};
-ghost use Rattle.clsm_law.specs.Merging.{epoch_end};
-ghost use Rattle.clsm_law.specs.Views.{next_word};
-ghost use Rattle.clsm_words.specs.Merging.{facts_known};
-ghost use Rattle.clsm_words.specs.Plays.{IsSeatOf};
+ghost use Rattle.std.specs.Prelude.{◌≡◌, ◌+◌, ◌*◌, ◌^◌, ◌≤◌, OnErr, OnOk, true};
+ghost use Rattle.clsm_law.specs.{Merging.epoch_end, Views.next_word};
+ghost use Rattle.clsm_words.specs.{Merging.facts_known, Plays.IsSeatOf};
 ghost use Rattle.clsm_lock.specs.Keeping.{StaysOutMerger};
-ghost use Rattle.clsm_store_calls.specs.Freezing.{HoldsClean, HoldsOn, IsClean, IsFrozen};
+ghost use Rattle.clsm_store_calls.specs.Freezing.{Freezes, HoldsClean, HoldsOn, IsClean};
 
 use clsm_law::Word;
 use clsm_lock::{Busy, lock_as_merger, try_lock_as_merger, unlock_as_merger};
@@ -34,11 +32,7 @@ fn freeze_held<P: Pace>(words: &Words<P>, merger: &mut RawMerger, merges: u64)
     requires clean { HoldsClean merger.old.knows merges }
     requires room { (merges + 2) * merger.old.knows.layout.cells ≤ 2 ^ 62 }
     ensures of { IsSeatOf words.now merger.new }
-    ensures frozen { IsFrozen merger.new.knows merges }
-    ensures floor { merger.new.knows.merger.floor ≡ merger.old.knows.merger.floor }
-    ensures rounds { merger.new.knows.merger.rounds ≡ merger.old.knows.merger.rounds }
-    ensures noted { merger.new.knows.merger.noted ≡ None }
-    ensures held { merger.new.knows.merger.holds ≡ merger.old.knows.merger.holds }
+    ensures freezes { Freezes merger.old.knows merger.new.knows merges merger.old.knows.merger.holds }
 {
     let end = (merges + 1) * words.cells();
     pad(words, merger, merges, end);
@@ -53,11 +47,7 @@ pub fn freeze<P: Pace, R: Wait>(rt: &R, words: &Words<P>, merger: &mut RawMerger
     requires clean { IsClean merger.old.knows merges }
     requires room { (merges + 2) * merger.old.knows.layout.cells ≤ 2 ^ 62 }
     ensures of { IsSeatOf words.now merger.new }
-    ensures frozen { IsFrozen merger.new.knows merges }
-    ensures floor { merger.new.knows.merger.floor ≡ merger.old.knows.merger.floor }
-    ensures rounds { merger.new.knows.merger.rounds ≡ merger.old.knows.merger.rounds }
-    ensures noted { merger.new.knows.merger.noted ≡ None }
-    ensures held { merger.new.knows.merger.holds ≡ next_word merger.old.knows.merger.holds }
+    ensures freezes { Freezes merger.old.knows merger.new.knows merges (next_word merger.old.knows.merger.holds) }
 {
     lock_as_merger(rt, words, merger);
     freeze_held(words, merger, merges);
@@ -73,11 +63,7 @@ pub fn try_freeze<P: Pace>(
     requires clean { IsClean merger.old.knows merges }
     requires room { (merges + 2) * merger.old.knows.layout.cells ≤ 2 ^ 62 }
     ensures of { IsSeatOf words.now merger.new }
-    ensures frozen { OnOk result (IsFrozen merger.new.knows merges) }
-    ensures floor { merger.new.knows.merger.floor ≡ merger.old.knows.merger.floor }
-    ensures rounds { merger.new.knows.merger.rounds ≡ merger.old.knows.merger.rounds }
-    ensures noted { OnOk result (merger.new.knows.merger.noted ≡ None) }
-    ensures held { OnOk result (merger.new.knows.merger.holds ≡ next_word merger.old.knows.merger.holds) }
+    ensures freezes { OnOk result (Freezes merger.old.knows merger.new.knows merges (next_word merger.old.knows.merger.holds)) }
     ensures busy { OnErr result (StaysOutMerger merger.old.knows merger.new.knows) }
 {
     try_lock_as_merger(words, merger)?;

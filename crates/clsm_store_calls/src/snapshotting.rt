@@ -1,14 +1,10 @@
 //! Snapshots at the words: their opening, their close, and reads under them.
 ghost use Rattle.std.specs.Prelude.{◌≡◌, None, Some};
 ghost use Rattle.clsm_model.specs.declared.record.Deed.TheVariants.{GetAt};
-ghost use Rattle.clsm_law.specs.declared.step.End.TheVariants.{Recorded};
-ghost use Rattle.clsm_law.specs.Views.{next_word};
-ghost use Rattle.clsm_law.specs.OpenSteps.{open_time};
+ghost use Rattle.clsm_law.specs.{declared.step.End.TheVariants.Recorded, OpenSteps.open_time, Views.next_word};
 ghost use Rattle.clsm_words.specs.Plays.{IsSeatOf};
-ghost use Rattle.clsm_store_calls.specs.Resting.{RestsAt};
 ghost use Rattle.clsm_pins.specs.Pinning.{Pins};
-ghost use Rattle.clsm_store_calls.specs.Reading.{MayReadBelow};
-ghost use Rattle.clsm_store_calls.specs.Snapshots.{OpensAt, ReadsUnder};
+ghost use Rattle.clsm_store_calls.specs.{Reading.MayReadBelow, Resting.RestsAt, Snapshots.OpensAt, Snapshots.ReadsUnder};
 
 use crate::got::Got;
 use crate::reading::value_below;

@@ -4,14 +4,12 @@ ghost use Rattle.clsm_words.specs.Plays.{IsSeatOf};
 ghost use Rattle.clsm_memtable.specs.Writing.{Draws};
 ghost use Rattle.clsm_store_calls.specs.Resting.{IsAtRest, IsInHold, Records, deed_of};
 ghost use Rattle.clsm_store_calls.specs.Tally.{CountsTry, tally_of};
-ghost use Rattle.clsm_store_calls.specs.Trying.{Fails, FailsInHold, WritesInHold};
+ghost use Rattle.clsm_store_calls.specs.Trying.{Fails, FailsInHold, TriesInHold};
 
 use crate::refusal::TryPutError;
 use crate::writing::deed_of;
 use clsm_lock::{try_lock_shared, unlock_shared};
-use clsm_memtable::{
-    Decided, DrawError, DrawnCell, decide, draw, fill, give_up, look_ahead, try_enter,
-};
+use clsm_memtable::{Decided, DrawError, DrawnCell, decide, draw, fill, give_up, look_ahead};
 use clsm_model::{Time, Value};
 use clsm_search::Guess;
 use clsm_words::{Pace, RawSeat, Words};
@@ -46,12 +44,12 @@ fn try_near<P: Pace>(
     requires of { IsSeatOf words.now seat.old }
     requires holds { IsInHold seat.old.knows }
     ensures of { IsSeatOf words.now seat.new }
-    ensures written { IfOk result (λ time. WritesInHold seat.old.knows seat.new.knows time (deed_of key value.now)) }
-    ensures fails { IfErr result (FailsInHold seat.old.knows seat.new.knows) }
+    ensures tries { TriesInHold seat.old.knows seat.new.knows (deed_of key value.now) result }
 {
     let time = try_draw(words, seat)?;
     fill(words, seat, time, key, value.as_ref());
-    let Ok(trace) = try_enter(words, seat, DrawnCell { time, key }, guess) else {
+    let cell = DrawnCell { time, key };
+    let Ok(trace) = cell.try_enter(words, seat, guess) else {
         give_up(words, seat, time);
         return Err(TryPutError::Raced);
     };
@@ -63,17 +61,11 @@ fn try_near<P: Pace>(
 
 /// Looks ahead and tries once to write the value at the key, or with `None` to remove it, in a hold
 /// of the lock.
-fn try_in_hold<P: Pace>(
-    words: &Words<P>,
-    seat: &mut RawSeat,
-    key: u64,
-    value: &Option<Value>,
-) -> Tried
+fn try_held<P: Pace>(words: &Words<P>, seat: &mut RawSeat, key: u64, value: &Option<Value>) -> Tried
     requires of { IsSeatOf words.now seat.old }
     requires holds { IsInHold seat.old.knows }
     ensures of { IsSeatOf words.now seat.new }
-    ensures written { IfOk result (λ time. WritesInHold seat.old.knows seat.new.knows time (deed_of key value.now)) }
-    ensures fails { IfErr result (FailsInHold seat.old.knows seat.new.knows) }
+    ensures tries { TriesInHold seat.old.knows seat.new.knows (deed_of key value.now) result }
 {
     let guess = look_ahead(words, seat, key);
     try_near(words, seat, key, value, &guess)
@@ -97,7 +89,7 @@ pub fn try_write<P: Pace>(
     if try_lock_shared(words, seat).is_err() {
         return Err(TryPutError::Busy);
     }
-    let answer = try_in_hold(words, seat, key, value);
+    let answer = try_held(words, seat, key, value);
     unlock_shared(words, seat);
     answer
 }

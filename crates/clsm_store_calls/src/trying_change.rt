@@ -1,30 +1,24 @@
 //! Read-modify-writes that try each exchange once.
-ghost use Rattle.std.specs.Prelude.{◌≡◌, ◌≢◌, ◌≤◌, false, None, Some, IfOk, IfErr, OnOk};
+ghost use Rattle.std.specs.Prelude.{◌≡◌, ◌≤◌, Some, IfOk, IfErr, OnOk};
 ghost use Rattle.clsm_model.specs.declared.slot.Slot.TheVariants.{Wrote};
 ghost use Rattle.clsm_model.specs.History.{plain};
 ghost use Rattle.clsm_model.specs.Right.{write_by};
 ghost use Rattle.clsm_law.specs.OpenSteps.{IsReadBelow};
-ghost use Rattle.clsm_law.specs.declared.view.Mode.TheVariants.{Shared};
 ghost use Rattle.clsm_words.specs.Plays.{IsSeatOf};
-ghost use Rattle.clsm_store_calls.specs.Changing.{ChangesAt, Does, IsPinnedInHold, IsWrittenFrom, ReadsNow, StaysPinned, deed_by};
-ghost use Rattle.clsm_store_calls.specs.Resting.{IsAtRest, Records};
+ghost use Rattle.clsm_store_calls.specs.Changing.{ChangesAt, Does, HasDrawnNow, IsPinnedInHold, IsWrittenFrom, ReadsNow, StaysPinned, deed_by};
+ghost use Rattle.clsm_store_calls.specs.Resting.{Records, RestsAt};
 ghost use Rattle.clsm_store_calls.specs.Tally.{tally_of};
 ghost use Rattle.clsm_store_calls.specs.Trying.{Fails};
 ghost use Rattle.clsm_store_calls.specs.TryingChange.{CountsChange, CountsChangeInHold, EndsRefused, EndsTime, IsWrittenSince, LosesDrawn, WritesChange};
 ghost use Rattle.clsm_store_calls.specs.TryingChange.{pin_after};
 
-use crate::changing::{
-    Modification, Modified, ask, deed_of, is_keep, is_unchanged, read_end, value_now, value_set,
-};
+use crate::changing::{Modification, Modified, ask, deed_of, is_keep, latest, read_end, value_set};
 use crate::got::Rmw;
 use crate::refusal::TryPutError;
 use clsm_lock::{try_lock_shared, unlock_shared};
-use clsm_memtable::{
-    Decided, DrawError, DrawnCell, decide, draw, fill, give_up, prefetch, try_enter,
-};
+use clsm_memtable::{Decided, DrawError, DrawnCell, decide, draw, fill, give_up, prefetch};
 use clsm_model::{Change, Time, Value};
 use clsm_pins::{pin, unpin};
-use clsm_search::Span;
 use clsm_words::{Pace, RawSeat, Words};
 
 /// What was read of the key and is made of it, or why it was not changed.
@@ -38,11 +32,7 @@ fn try_write_drawn<P: Pace>(
     modified: &Modified,
 ) -> Result<(), TryPutError>
     requires of { IsSeatOf words.now seat.old }
-    requires holds { seat.old.knows.view.mode ≡ Shared }
-    requires limit { seat.old.knows.view.hold_limit ≢ None }
-    requires drawn { seat.old.knows.view.drawn ≡ Some time }
-    requires unlinked { seat.old.knows.view.linked ≡ false }
-    requires out { seat.old.knows.view.inserted ≡ false }
+    requires drawn { HasDrawnNow seat.old.knows time }
     requires writes { write_by 0 (deed_by modified.now) ≡ Some (Wrote 0 modified.now.key modified.now.value) }
     requires read { IsReadBelow (plain seat.old.knows.past) seat.old.knows.view time (deed_by modified.now) }
     ensures of { IsSeatOf words.now seat.new }
@@ -53,33 +43,28 @@ fn try_write_drawn<P: Pace>(
 {
     seat.show_invariant();
     let key = modified.key;
-    let deed = deed_of(key, &modified.read);
     let guess = prefetch(words, seat, time, key);
     seat.show_invariant();
     fill(words, seat, time, key, modified.value.as_ref());
-    let Ok(trace) = try_enter(words, seat, DrawnCell { time, key }, &guess) else {
+    let cell = DrawnCell { time, key };
+    let Ok(trace) = cell.try_enter(words, seat, &guess) else {
         give_up(words, seat, time);
         return Err(TryPutError::Raced);
     };
-    match decide(words, seat, time, &deed, &trace) {
+    match decide(words, seat, time, &deed_of(key, &modified.read), &trace) {
         Decided::Done => Ok(()),
         Decided::Overtaken => Err(TryPutError::Overtaken),
     }
 }
 
 /// Draws a time and writes the change there, if the key is unchanged until then.
-fn try_write_later<P: Pace>(
-    words: &Words<P>,
-    seat: &mut RawSeat,
-    component: u64,
-    modified: &Modified,
-) -> Tried
+fn try_write_later<P: Pace>(words: &Words<P>, seat: &mut RawSeat, modified: &Modified) -> Tried
     requires of { IsSeatOf words.now seat.old }
-    requires pinned { IsPinnedInHold seat.old.knows component }
-    requires reads { ReadsNow seat.old.knows component modified.now.key modified.now.read.time modified.now.read.old }
+    requires pinned { IsPinnedInHold seat.old.knows modified.now.component }
+    requires reads { ReadsNow seat.old.knows modified.now.component modified.now.key modified.now.read.time modified.now.read.old }
     requires writes { write_by 0 (deed_by modified.now) ≡ Some (Wrote 0 modified.now.key modified.now.value) }
     ensures of { IsSeatOf words.now seat.new }
-    ensures stays { StaysPinned seat.old.knows seat.new.knows component }
+    ensures stays { StaysPinned seat.old.knows seat.new.knows modified.now.component }
     ensures written { IfOk result (WritesChange seat.old.knows seat.new.knows modified.now) }
     ensures fails { IfErr result (Fails seat.old.knows seat.new.knows) }
     ensures counts { CountsChangeInHold (IsWrittenFrom seat.new.knows.past modified.now.key modified.now.read.time) (tally_of seat.old.knows)
@@ -91,12 +76,7 @@ fn try_write_later<P: Pace>(
         Err(DrawError::Full(time)) => return Err(TryPutError::Full { time }),
         Err(DrawError::Raced) => return Err(TryPutError::Raced),
     };
-    let span = Span {
-        key: modified.key,
-        from: modified.read.time,
-        until: time,
-    };
-    if !is_unchanged(words, seat, component, span) {
+    if !modified.is_unchanged(words, seat, time) {
         give_up(words, seat, time);
         return Err(TryPutError::Raced);
     }
@@ -124,13 +104,18 @@ fn try_change_pinned<P: Pace, F: Fn(Option<Value>) -> Change>(
         (tally_of seat.new.knows) result }
 {
     let key = modification.key;
-    let got = value_now(words, seat, component, key);
+    let got = latest(words, seat, component, key);
     let read = got.with(ask(modification.f, &got.value));
     if is_keep(&read.change) {
         return Ok(read);
     }
-    let value = value_set(&read.change);
-    try_write_later(words, seat, component, &Modified { key, read, value })
+    let modified = Modified {
+        component,
+        key,
+        read,
+        value: value_set(&read.change),
+    };
+    try_write_later(words, seat, &modified)
 }
 
 /// The pin word after a try that found this one and answered so.
@@ -150,13 +135,9 @@ pub fn try_change<P: Pace, F: Fn(Option<Value>) -> Change>(
     pin_word: u64,
     modification: &Modification<'_, F>,
 ) -> Tried
-    requires of { IsSeatOf words.now seat.old }
-    requires rests { IsAtRest seat.old.knows }
-    requires pin { pin_word ≡ seat.old.knows.view.pin }
+    requires rests { RestsAt words.now seat.old pin_word }
     requires callable { F.IsAlwaysCallable modification.now.f.now }
-    ensures of { IsSeatOf words.now seat.new }
-    ensures rests { IsAtRest seat.new.knows }
-    ensures pin { seat.new.knows.view.pin ≡ pin_after pin_word result }
+    ensures rests { RestsAt words.now seat.new (pin_after pin_word result) }
     ensures changed { IfOk result (λ rmw. ChangesAt seat.old.knows seat.new.knows rmw.time modification.now.key rmw.old rmw.change) }
     ensures answered { IfOk result (λ rmw. F.post modification.now.f.now rmw.old rmw.change) }
     ensures refused { IfErr result (EndsRefused seat.old.knows seat.new.knows) }
@@ -168,12 +149,8 @@ pub fn try_change<P: Pace, F: Fn(Option<Value>) -> Change>(
     }
     let component = pin(words, seat, pin_word);
     let answer = try_change_pinned(words, seat, component, modification);
-    unpin(
-        words,
-        seat,
-        pin_word.wrapping_add(1),
-        &read_end(modification.key, &answer),
-    );
+    let end = read_end(modification.key, &answer);
+    unpin(words, seat, pin_word.wrapping_add(1), &end);
     unlock_shared(words, seat);
     answer
 }

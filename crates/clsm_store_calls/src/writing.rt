@@ -10,9 +10,7 @@ ghost use Rattle.clsm_store_calls.specs.Writing.{StartsAgain, StaysInHold};
 use crate::refusal::Full;
 use crate::site::Site;
 use clsm_lock::{lock_shared, unlock_shared};
-use clsm_memtable::{
-    Decided, DrawError, DrawnCell, Start, decide, draw, enter_again, fill, look_ahead,
-};
+use clsm_memtable::{Decided, DrawError, DrawnCell, Start, decide, draw, fill, look_ahead};
 use clsm_model::{Deed, Time, Value};
 use clsm_search::Guess;
 use clsm_words::{Pace, RawSeat, Words};
@@ -64,7 +62,8 @@ impl<'a, P: Pace, R: Wait> Site<'a, P, R> {
             Err(DrawError::Raced) => return Attempt::Lost,
         };
         fill(words, seat, time, key, value.as_ref());
-        let trace = enter_again(self.rt, words, seat, DrawnCell { time, key }, start);
+        let cell = DrawnCell { time, key };
+        let trace = cell.enter_again(self.rt, words, seat, start);
         match decide(words, seat, time, &deed_of(key, value), &trace) {
             Decided::Done => Attempt::Written(time),
             Decided::Overtaken => Attempt::Lost,
@@ -89,30 +88,9 @@ impl<'a, P: Pace, R: Wait> Site<'a, P, R> {
         start.guess = look_ahead(self.words, seat, key);
     }
 
-    /// Tries once to write, in a hold of the lock, from the lost cell of the last try on. Where
-    /// there is none, it looks ahead first.
-    #[inline(always)]
-    fn try_write(
-        &self,
-        seat: &mut RawSeat,
-        key: u64,
-        value: &Option<Value>,
-        start: &mut Start,
-    ) -> Attempt
-        requires of { IsSeatOf self.now.words.now seat.old }
-        requires holds { IsInHold seat.old.knows }
-        requires start { IsStart seat.old.knows start.old.lost }
-        ensures of { IsSeatOf self.now.words.now seat.new }
-        ensures stays { StaysInHold seat.old.knows seat.new.knows }
-        ensures tries { Tries seat.old.knows seat.new.knows (deed_of key value.now) result }
-        ensures start { StartsAgain seat.new.knows result start.new.lost }
-    {
-        self.look_first(seat, key, start);
-        self.try_write_from(seat, key, value, start)
-    }
-
     /// Writes, in a hold of the lock, and tries until the write stands or the clock is at the
-    /// limit.
+    /// limit: each try goes on from the lost cell of the last one. Where there is none, it looks
+    /// ahead first.
     #[tactic(auto, using(crate::proofs::Rest::records_later, crate::proofs::Rest::full_later, crate::proofs::Rest::still_trans, crate::proofs::Rest::still_none, crate::proofs::Retries::stays_none, crate::proofs::Retries::stays_trans,))]
     #[inline(always)]
     fn write_held(&self, seat: &mut RawSeat, key: u64, value: &Option<Value>) -> Result<Time, Full>
@@ -125,7 +103,8 @@ impl<'a, P: Pace, R: Wait> Site<'a, P, R> {
     {
         let mut start = Start::hinted(Guess::NONE);
         for _ in self.rt.forever() {
-            match self.try_write(seat, key, value, &mut start) {
+            self.look_first(seat, key, &mut start);
+            match self.try_write_from(seat, key, value, &mut start) {
                 Attempt::Written(time) => return Ok(time),
                 Attempt::Full(time) => return Err(Full { time }),
                 Attempt::Lost => {}

@@ -1,5 +1,5 @@
 //! The merger's tokens, one for each phase, and what it does in each.
-ghost use Rattle.std.specs.Prelude.{◌≡◌};
+ghost use Rattle.std.specs.Prelude.{◌≡◌, ◌+◌, ◌*◌, ◌^◌, ◌<◌, ◌≤◌, MatchBool};
 ghost use Rattle.clsm_store_calls.specs.Freezing.{IsClean, IsFrozen};
 ghost use Rattle.clsm_store_calls.specs.Looking.{LooksAtClock, drawn_of};
 ghost use Rattle.clsm_store_calls.specs.Merging.{IsReady, IsRetiring, clean_of, frozen_of, retired_of};
@@ -90,6 +90,15 @@ impl Clean {
         drawn_at(&store.words, &mut self.merger)
     }
 
+    /// Whether no epoch can be frozen any more: the limit after the next freeze would pass 2^62.
+    fn is_worn<P: Pace>(&self, store: &Store<P>) -> bool
+        requires { self.now.merger.store ≡ store.now }
+        ensures { MatchBool result (2 ^ 62 < (self.now.merger.merges + 2) * self.now.merger.store.layout.cells)
+            ((self.now.merger.merges + 2) * self.now.merger.store.layout.cells ≤ 2 ^ 62) }
+    {
+        self.merger.merges > LAST_LIMIT / store.words.cells() - 2
+    }
+
     /// Freezes the current epoch: waits until no caller holds the lock, cancels the epoch's cells
     /// that were never drawn, and moves the clock to its end and the limit to that of the next.
     /// Writers go on in the next epoch, and readers go on (the cLSM paper's switch of the memory
@@ -103,10 +112,10 @@ impl Clean {
         requires { self.merger.store ≡ store.now }
         ensures { FreezesEpoch self result }
     {
-        let merges = self.merger.merges;
-        if merges > LAST_LIMIT / store.words.cells() - 2 {
+        if self.is_worn(store) {
             return Err((self, Worn));
         }
+        let merges = self.merger.merges;
         freeze(rt, &store.words, &mut self.merger.raw, merges);
         self.merger.noted = None;
         Ok(Frozen {
@@ -126,11 +135,10 @@ impl Clean {
         requires { self.merger.store ≡ store.now }
         ensures { TriesToFreezeEpoch self result }
     {
-        let merges = self.merger.merges;
-        let last = LAST_LIMIT / store.words.cells() - 2;
-        if merges > last {
+        if self.is_worn(store) {
             return Err((self, TryFreezeError::Worn(Worn)));
         }
+        let merges = self.merger.merges;
         if try_freeze(&store.words, &mut self.merger.raw, merges).is_err() {
             return Err((self, TryFreezeError::Busy));
         }

@@ -8,4 +8,4 @@ returns-clause-looks g c =
     let old = c.args.merger.now in
     let looked : MergerSeat = record old { raw = c.look_as_merger-clock.new.seat } in
     looks_at_clock old looked c.look_as_merger-clock.result (c.look_as_merger-clock.ensures.0.0 ∙ sym c.requires.of.0) refl refl
-    c.requires.clean.out.free c.look_as_merger-clock.ensures.1
+    c.requires.clean.out.exclusive c.look_as_merger-clock.ensures.1

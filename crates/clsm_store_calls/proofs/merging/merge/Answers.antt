@@ -55,8 +55,8 @@ returns-in_err-merge-clause-stays g c =
       };
       same = same_frozen ready left (c.in_err-merge.ensures.of.0 ∙ sym c.renew_floor.ensures.of.0) changes.layout refl
           (ap (λ (m : MergerView). m.holds) changes.view)
-          (epoch_same k k' c.show_invariant.ensures stays.frozen.frozen stays.frozen.out.free changes)
-          (runs_same k k' c.show_invariant.ensures stays.frozen.frozen stays.frozen.out.free changes)
+          (epoch_same k k' c.show_invariant.ensures stays.frozen.frozen stays.frozen.out.exclusive changes)
+          (runs_same k k' c.show_invariant.ensures stays.frozen.frozen stays.frozen.out.exclusive changes)
           ∙ ap (λ (s : FrozenState). record s { floor = ready.floor; rounds = k'.merger.rounds; noted = k'.merger.noted }) stays.same;
     })
 
@@ -77,7 +77,7 @@ publish-requires-clause-opens g c =
     let k = ready.raw.knows in
     let stays = c.renew_floor.ensures.stays in (
       c.in_ok-merge.ensures.of,
-      may_publish k c.merge.new.merger.knows c.show_invariant.ensures stays.frozen.frozen stays.frozen.out.free
+      may_publish k c.merge.new.merger.knows c.show_invariant.ensures stays.frozen.frozen stays.frozen.out.exclusive
           c.in_ok-merge.ensures.changes ready.floor stays.ready.floor c.in_ok-merge.ensures.written,
     )
 

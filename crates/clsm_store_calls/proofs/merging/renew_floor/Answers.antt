@@ -33,7 +33,7 @@ returns-clause-stays g c =
         seen = c.args.merger.now.seen;
       })
           (c.take_floor-floor.ensures.of.0 ∙ sym c.requires.of.0) keeps.layout refl (ap (λ (m : MergerView). m.holds) keeps.view)
-          (epoch_stays k floored c.show_invariant.ensures c.requires.frozen.frozen c.requires.frozen.out.free keeps.layout
+          (epoch_stays k floored c.show_invariant.ensures c.requires.frozen.frozen c.requires.frozen.out.exclusive keeps.layout
           (ap (λ (m : MergerView). m.merged) keeps.view) keeps.past)
           (runs_stay k floored (ap (λ (m : MergerView). m.merged) keeps.view) keeps.runs);
     }

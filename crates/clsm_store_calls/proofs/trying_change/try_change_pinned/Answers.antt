@@ -9,20 +9,20 @@ use Rattle.clsm_store_calls.proofs.trying_change.try_change_pinned.Goals as goal
 
 pub returns-clause-changed : goal.returns-clause-changed
 returns-clause-changed g c =
-    let got = c.value_now-got in
+    let got = c.latest-got in
     changed_later c.args.seat.now.knows got.new.seat.knows c.try_write_later.new.seat.knows got.ensures.still c.args.component
-    (record { key = c.args.modification.now.key; read = c.with-read.result; value = c.value_set-value.result }) c.try_write_later.result
+    (record { component = c.args.component; key = c.args.modification.now.key; read = c.with-read.result; value = c.value_set.result }) c.try_write_later.result
     (sym c.is_keep.ensures ∙ c.if-is_keep.false) c.try_write_later.ensures.written
 
 pub returns-clause-fails : goal.returns-clause-fails
 returns-clause-fails g c =
-    fails_if c.args.seat.now.knows c.value_now-got.new.seat.knows c.try_write_later.new.seat.knows c.value_now-got.ensures.still c.try_write_later.result
+    fails_if c.args.seat.now.knows c.latest-got.new.seat.knows c.try_write_later.new.seat.knows c.latest-got.ensures.still c.try_write_later.result
     c.try_write_later.ensures.fails
 
 pub returns-clause-counts : goal.returns-clause-counts
 returns-clause-counts g c =
     let a = c.args.seat.now.knows in
-    let got = c.value_now-got in
+    let got = c.latest-got in
     let b = got.new.seat.knows in
     let d = c.try_write_later.new.seat.knows in
     let key = c.args.modification.now.key in

@@ -8,7 +8,7 @@ use Rattle.clsm_store_calls.proofs.site.Site.try_change.Goals as goal
 
 pub returns-clause-changes : goal.returns-clause-changes
 returns-clause-changes g c =
-    let got = c.value_now-got in
+    let got = c.latest-got in
     let read = c.with-read.result in
     tries_later c.args.seat.now.knows got.new.seat.knows c.write_later.new.seat.knows c.args.component c.args.modification.now.key
     read.old read.change c.write_later.result
@@ -17,7 +17,7 @@ returns-clause-changes g c =
 
 pub returns-clause-spared : goal.returns-clause-spared
 returns-clause-spared g c =
-    let got = c.value_now-got in
+    let got = c.latest-got in
     let reads = got.ensures.reads in
     let still = got.ensures.still in
     let time = ap (λ (r : Rmw). r.time) c.with-read.ensures in
@@ -32,7 +32,7 @@ returns-clause-spared g c =
 
 pub returns-then-is_keep-clause-spared : goal.returns-then-is_keep-clause-spared
 returns-then-is_keep-clause-spared g c =
-    let got = c.value_now-got in
+    let got = c.latest-got in
     let reads = got.ensures.reads in
     let still = got.ensures.still in
     let time = ap (λ (r : Rmw). r.time) c.with-read.ensures in

@@ -4,7 +4,7 @@ use Rattle.clsm_law.specs.declared.view.View.{View}
 use Rattle.clsm_law.specs.Views.{is_free}
 use Rattle.clsm_law.specs.Relation.{first_of}
 use Rattle.clsm_model.proofs.Batches.{prefix_length}
-use Rattle.clsm_store_calls.proofs.changing.value_now.Goals as goal
+use Rattle.clsm_store_calls.proofs.changing.latest.Goals as goal
 
 pub returns-clause-beyond : goal.returns-clause-beyond
 returns-clause-beyond g c =
