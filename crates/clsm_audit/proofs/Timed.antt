@@ -64,6 +64,21 @@ is_one_of n call e among =
 abbrev IsEventOf : Event → TimedCall → Type 0
 IsEventOf e call = (begin_of e.index call ≡ e) ⊎ (end_of e.index call ≡ e)
 
+-- which is its begin, or where it is an end, its end
+is_begin : (e : Event) → e.is_end ≡ false → (o : Option TimedCall) → IsSomeAnd o (IsEventOf e) → IsSomeAnd o (λ call. begin_of e.index call ≡ e)
+is_begin e begins None is = absurd is
+is_begin e begins (Some call) is = ⊎_elim
+    (λ (begin : begin_of e.index call ≡ e). begin)
+    (λ (finish : end_of e.index call ≡ e). let clash : true ≡ false = ap (λ (x : Event). x.is_end) finish ∙ begins in absurd (cc clash))
+    is
+
+is_finish : (e : Event) → e.is_end ≡ true → (o : Option TimedCall) → IsSomeAnd o (IsEventOf e) → IsSomeAnd o (λ call. end_of e.index call ≡ e)
+is_finish e ends None is = absurd is
+is_finish e ends (Some call) is = ⊎_elim
+    (λ (begin : begin_of e.index call ≡ e). let clash : false ≡ true = ap (λ (x : Event). x.is_end) begin ∙ ends in absurd (cc clash))
+    (λ (finish : end_of e.index call ≡ e). finish)
+    is
+
 event_of : (n : ℕ) (call : Option TimedCall) (e : Event) → Contains (events_of n call) e → (e.index ≡ n) × IsSomeAnd call (IsEventOf e)
 event_of n None e among = absurd (let lt = among.1 in omega arith)
 event_of n (Some call) e among =
@@ -160,34 +175,16 @@ module _ (records : List CallRecord) (moments : List Moments) where
           (λ (le : earlier.place.past ≤ call.place.from). le)
           (cases_lt call.place.from earlier.place.past)
 
-    -- an event that is a begin is that of its call, and one that is an end
-    begin_is : (e : Event) → Contains events e → e.is_end ≡ false → IsSomeAnd (call_at records moments e.index) (λ call. begin_of e.index call ≡ e)
-    begin_is e among begins = by (call_at records moments e.index)
-        (event_is (length records) e (Contains-permutation events (events_below records moments (length records)) e (IsPermutation-sym _ _ order.same)
-        among)) where
-          by : (o : Option TimedCall) → IsSomeAnd o (IsEventOf e) → IsSomeAnd o (λ call. begin_of e.index call ≡ e)
-          by None is = absurd is
-          by (Some call) is = ⊎_elim
-              (λ (begin : begin_of e.index call ≡ e). begin)
-              (λ (finish : end_of e.index call ≡ e). let clash : true ≡ false = ap (λ (x : Event). x.is_end) finish ∙ begins in absurd (cc clash))
-              is
-
-    finish_is : (e : Event) → Contains events e → e.is_end ≡ true → IsSomeAnd (call_at records moments e.index) (λ call. end_of e.index call ≡ e)
-    finish_is e among ends = by (call_at records moments e.index)
-        (event_is (length records) e (Contains-permutation events (events_below records moments (length records)) e (IsPermutation-sym _ _ order.same)
-        among)) where
-          by : (o : Option TimedCall) → IsSomeAnd o (IsEventOf e) → IsSomeAnd o (λ call. end_of e.index call ≡ e)
-          by None is = absurd is
-          by (Some call) is = ⊎_elim
-              (λ (begin : begin_of e.index call ≡ e). let clash : false ≡ true = ap (λ (x : Event). x.is_end) begin ∙ ends in absurd (cc clash))
-              (λ (finish : end_of e.index call ≡ e). finish)
-              is
+    -- each event is one of its call
+    own_event : (e : Event) → Contains events e → IsSomeAnd (call_at records moments e.index) (IsEventOf e)
+    own_event e among =
+        event_is (length records) e (Contains-permutation events (events_below records moments (length records)) e (IsPermutation-sym _ _ order.same) among)
 
     -- the first begin that is too early is that of the first call that is
     pub first_early : (found : Overtaken) → HasFirst events (Some found) → IsFirstTooEarly records moments found.begin.index found.finish.index
     first_early found is = record {
-      here = by (call_at records moments found.finish.index) (finish_is found.finish is.finish_among is.early.ends)
-          (call_at records moments found.begin.index) (begin_is found.begin is.begin_among is.early.begins);
+      here = by (call_at records moments found.finish.index) (is_finish found.finish is.early.ends _ (own_event found.finish is.finish_among))
+          (call_at records moments found.begin.index) (is_begin found.begin is.early.begins _ (own_event found.begin is.begin_among));
       least = λ k n lt early. early_pair k n early
           (λ b f at begins ends one. let least = is.least b f begins ends one in omega arith);
     } where

@@ -2,7 +2,7 @@
 ghost use Rattle.std.specs.Prelude.{◌≡◌, ◌++◌, IfOk, OnOk, Some, length};
 ghost use Rattle.std.specs.Ordering.{is_lt};
 ghost use Rattle.clsm_audit.specs.Faults.{HasNone, IsUnknownAt};
-ghost use Rattle.clsm_audit.specs.Moments.{IsInMomentOrder, comes_before, events_below, events_of};
+ghost use Rattle.clsm_audit.specs.Moments.{IsInMomentOrder, comes_before, events_of};
 ghost use Rattle.clsm_audit.specs.RealTime.{call_by};
 
 use crate::place::{Moments, Place, place_of};
@@ -59,8 +59,9 @@ fn push_events(
     Ok(())
 }
 
-/// The begins and ends of all calls that have a place. Refused if memory runs out.
-fn list_events(
+/// The begins and ends of all calls that have a place, in the order of moments. Refused if memory
+/// runs out.
+pub fn in_moment_order(
     alloc: Global,
     config: &Config,
     records: &[CallRecord],
@@ -68,7 +69,7 @@ fn list_events(
 ) -> Result<Vec<Event>, Memory>
     requires known { HasNone (IsUnknownAt config.now records.now) }
     requires count { length moments.now ≡ length records.now }
-    ensures { IfOk result (λ events. events.items ≡ events_below records.now moments.now (length records.now)) }
+    ensures { IfOk result (λ events. IsInMomentOrder records.now moments.now events.items) }
 {
     let mut states = new_states(alloc, config.seats)?;
     let mut events = Vec::new(alloc);
@@ -82,22 +83,6 @@ fn list_events(
         )?;
         advance(&mut states, record);
     }
-    Ok(events)
-}
-
-/// The begins and ends of all calls that have a place, in the order of moments. Refused if memory
-/// runs out.
-pub fn in_moment_order(
-    alloc: Global,
-    config: &Config,
-    records: &[CallRecord],
-    moments: &[Moments],
-) -> Result<Vec<Event>, Memory>
-    requires known { HasNone (IsUnknownAt config.now records.now) }
-    requires count { length moments.now ≡ length records.now }
-    ensures { IfOk result (λ events. IsInMomentOrder records.now moments.now events.items) }
-{
-    let mut events = list_events(alloc, config, records, moments)?;
     events.sort_unstable_by(compare);
     Ok(events)
 }

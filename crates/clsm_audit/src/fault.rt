@@ -1,7 +1,6 @@
 ghost use Rattle.std.specs.Prelude.{◌≡◌};
 ghost use Rattle.clsm_audit.specs.Numbers.{number_of};
 
-use clsm_model::Memory;
 use std::{error, fmt};
 use thiserror::Error;
 
@@ -60,14 +59,4 @@ pub enum AuditError {
     /// There was no memory for the audit. Nothing is said of the records.
     #[error("memory")]
     Memory,
-}
-
-impl From<Memory> for AuditError {
-    ghost use Rattle.clsm_audit.specs.declared.fault.AuditError.TheVariants.{Memory};
-
-    ghost from_gives = { λ _ error. error ≡ Memory };
-
-    fn from(_: Memory) -> AuditError {
-        AuditError::Memory
-    }
 }

@@ -6,7 +6,7 @@ ghost use Rattle.clsm_audit.specs.RealTime.{IsOrderError, KeepsRealTime};
 use crate::event::in_moment_order;
 use crate::place::Moments;
 use crate::sweep::sweep_over;
-use clsm_model::{CallRecord, Config, Memory};
+use clsm_model::{CallRecord, Config};
 use std::alloc::Global;
 use thiserror::Error;
 
@@ -20,16 +20,6 @@ pub enum OrderError {
     /// There was no memory for the audit. Nothing is said of the calls.
     #[error("memory")]
     Memory,
-}
-
-impl From<Memory> for OrderError {
-    ghost use Rattle.clsm_audit.specs.declared.order.OrderError.TheVariants.{Memory};
-
-    ghost from_gives = { λ _ error. error ≡ Memory };
-
-    fn from(_: Memory) -> OrderError {
-        OrderError::Memory
-    }
 }
 
 /// Audits the order of answered calls in real time, with the moments of each at its record's index:
@@ -54,7 +44,9 @@ pub fn audit_order(
     ensures stale { IfErr result (IsOrderError records.now moments.now) }
     ensures whole { KeepsRealTime records.now moments.now → IfErr result (λ error. error ≡ OrderError.Memory) }
 {
-    let events = in_moment_order(alloc, config, records, moments)?;
+    let Ok(events) = in_moment_order(alloc, config, records, moments) else {
+        return Err(OrderError::Memory);
+    };
     match sweep_over(&events).found {
         Some(found) => Err(OrderError::Stale {
             index: found.begin.index,

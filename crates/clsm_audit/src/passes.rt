@@ -151,9 +151,10 @@ pub fn audit(alloc: Global, config: &Config, records: &[CallRecord]) -> Result<(
     ensures fault { IfErr result (IsRefusal config.now records.now) }
     ensures whole { HasHistory config.now records.now → IfErr result (λ error. error ≡ AuditError.Memory) }
 {
-    match first_fault(alloc, config, records)? {
-        Some((kind, index)) => Err(AuditError::Fault { kind, index }),
-        None => Ok(()),
+    match first_fault(alloc, config, records) {
+        Ok(Some((kind, index))) => Err(AuditError::Fault { kind, index }),
+        Ok(None) => Ok(()),
+        Err(_) => Err(AuditError::Memory),
     }
 }
 

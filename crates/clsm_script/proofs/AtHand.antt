@@ -1,22 +1,22 @@
 -- The next line of an input is at hand, says a call, and is taken and played.
-use Rattle.std.proofs.Common.{◌≡◌, ℕ, ◌+◌, ◌++◌, List, length, Option, Some, None, IfSome, true, refl, sym, subst}
+use Rattle.std.proofs.Common.{◌≡◌, ℕ, ◌+◌, ◌++◌, List, length, Option, Some, None, Ok, IfSome, Bool, true, refl, sym, subst}
 use Rattle.clsm_store.specs.declared.phase.Phase.{Phase}
 use Rattle.clsm_store.specs.declared.play.call.Call.{Call}
 use Rattle.std.proofs.KnownBytes.{Appends-trans}
 use Rattle.std.specs.Io.{StartsWith}
 use Rattle.std.specs.Io.BufRead.{DropsConsumable}
 use Rattle.clsm_text.proofs.AtHand.{some_at_hand, taken_at_hand}
-use Rattle.clsm_text.proofs.Inputs.{LeadsTo}
-use Rattle.clsm_text.specs.Input.{BeginsWithLine}
+use Rattle.clsm_text.proofs.Inputs.{LeadsTo, Tells}
+use Rattle.clsm_text.specs.Input.{BeginsWithLine, TakesLine}
 use Rattle.clsm_text.specs.Line.{IsText, words_of}
 use Rattle.clsm_script.specs.Command.{IsCommand, Says}
-use Rattle.clsm_script.specs.Line.{TakesCommand}
-use Rattle.clsm_script.specs.Lines.{Stage, outputs_of}
+use Rattle.clsm_script.specs.Line.{Reads, TakesCommand}
+use Rattle.clsm_script.specs.Lines.{Outputs, Stage, outputs_of}
 use Rattle.clsm_script.specs.Play.{PrintsCall}
 use Rattle.clsm_script.specs.declared.command.Command.{Command}
 use Rattle.clsm_script.specs.declared.command.Command.TheVariants as commands
 use Rattle.clsm_script.specs.declared.session.Session.{Session}
-use Rattle.clsm_script.proofs.Chains.{PrintTo, prints_call, prints_on}
+use Rattle.clsm_script.proofs.Chains.{PrintTo, PrintsSaid, prints_call, prints_on}
 use Rattle.clsm_script.proofs.Readings.{leads_past}
 
 -- it leads on to the next line
@@ -65,6 +65,21 @@ takes_command (Some bytes) new shown buffer line command is starts begins drops 
       text = text;
       says = says;
     }
+
+-- one line more was read: it leads on to the next one, and what it prints stands behind what was
+-- printed
+pub record LeadsOn (old new : Option (List ℕ)) (count : ℕ) (start : Stage) (session : Session) (phase : Phase) (outputs : Outputs) : Type 0 where
+  pub leads : LeadsTo IsCommand old new count
+  pub prints : PrintTo old count start session phase outputs
+
+pub line_on : (old now new : Option (List ℕ)) (line text : List ℕ) (said : Option Command) (found : Bool) (count : ℕ) (start : Stage) (a b : Session)
+    (p q : Phase) (held given given_now : Option (List ℕ)) → LeadsTo IsCommand old now count → Tells now found → found ≡ true
+    → IfSome now (λ bytes. TakesLine bytes line new) → text ≡ line → Reads text (Ok said) → PrintTo old count start a p (outputs_of held given)
+    → PrintsSaid said a b p q given given_now → (after : ℕ) → after ≡ count + 1 → LeadsOn old new after start b q (outputs_of held given_now)
+line_on old now new line text said found count start a b p q held given given_now leads tells some takes is reads to prints after same = record {
+  leads = subst (LeadsTo IsCommand old new) (sym same) (leads_past old now new line text said found count leads tells some takes is reads);
+  prints = prints_on old now new line text said found count start a b p q held given given_now leads tells some takes is reads to prints after same;
+}
 
 -- where nothing is taken, the lines that were read lead to where they led
 pub leads_kept : {X : Type 0} (remaining : X → Option (List ℕ)) (old : Option (List ℕ)) (before now : X)

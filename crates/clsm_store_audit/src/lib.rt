@@ -17,13 +17,14 @@ use clsm_words::Pace;
 use std::alloc::Global;
 
 mod lawful;
+mod pair;
 mod race;
 mod told;
 mod visited;
 
 pub use lawful::{are_lawful_alone, settle_lawful};
 pub use race::race_agrees;
-pub use told::news_is_found;
+pub use told::{Home, news_is_found};
 pub use visited::count_calls;
 
 /// What holds of seats: none has a due past the end of time. It does nothing when it runs.

@@ -5,26 +5,12 @@ ghost use Rattle.clsm_model.specs.declared.record.Deed.TheVariants.{Get, Put};
 ghost use Rattle.clsm_store_calls.specs.Seats.{Answers, AreNew, newcomer};
 ghost use Rattle.clsm_store_audit.specs.Race.{left_by_put};
 
+use crate::pair::{SIZES, Write};
 use clsm_model::{Memory, PlainMap, Slot};
-use clsm_store::{Config, Free, Full, Got, Opened, Seat, Store, Time, Value, open};
+use clsm_store::{Free, Full, Got, Opened, Seat, Store, Time, Value, open};
 use std::alloc::Global;
 use std::sync::Wait;
 use std::thread::{Threads, join};
-
-const SIZES: Config = Config {
-    cells: 64,
-    seats: 2,
-    shards: 1,
-    run: 64,
-    patience: 2,
-};
-
-/// What is put: the value, and its key.
-#[derive(Clone, Copy)]
-struct Write {
-    key: u64,
-    value: Value,
-}
 
 /// Puts the value at the key, and answers the seat and the put's time.
 fn write_once<R: Wait>(

@@ -9,25 +9,18 @@ ghost use Rattle.clsm_store_calls.specs.Seats.{AreNew, known_by, newcomer};
 ghost use Rattle.clsm_store.specs.Meetings.{told_by};
 ghost use Rattle.clsm_store_audit.specs.Told.{HasFound, HasMade, HasPut};
 
+use crate::pair::{SIZES, Write};
 use clsm_model::Memory;
-use clsm_store::{Config, Free, Full, Got, Message, Opened, Seat, Store, Time, Value, open};
+use clsm_store::{Free, Full, Got, Message, Opened, Seat, Store, Time, Value, open};
 use crossbeam_channel::{Receiver, Sender, bounded};
 use std::alloc::Global;
 use std::marker::{Brand, PhantomData};
 use std::sync::Wait;
 use std::thread::{Threads, join};
 
-const SIZES: Config = Config {
-    cells: 64,
-    seats: 2,
-    shards: 1,
-    run: 64,
-    patience: 2,
-};
-
 /// The table of a store, for proofs alone: by it a message that comes through a channel is known to
 /// be one of that store.
-trait Home {
+pub trait Home {
     ghost table: { Option TableId };
 }
 
@@ -55,13 +48,6 @@ struct Found {
     key: u64,
     time: Time,
     got: Got,
-}
-
-/// What is put: the value, and its key.
-#[derive(Clone, Copy)]
-struct Write {
-    key: u64,
-    value: Value,
 }
 
 /// News of the put of the key at the time, which the seat knows.

@@ -35,6 +35,10 @@ pub no_row : (word : List ℕ) → position_or_len is_equals word ≡ length wor
     (row : ℕ × List ℕ) → ¬ WritesRow word row
 no_row word far row writes = nil_no_value (subst IsValue (no_equals word far) writes.1.0)
 
+-- what stands for a word where there is none
+abbrev pub no_word : Bor (List ℕ)
+no_word = record { ref_ptr = (0, 0); now = [] }
+
 -- ---- the end of a page
 
 -- the last two of a list

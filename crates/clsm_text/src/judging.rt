@@ -4,6 +4,7 @@ ghost use Rattle.clsm_audit.specs.Faults.{IsLawful};
 ghost use Rattle.clsm_text.specs.Audit.{IsListOf, IsVerdict};
 ghost use Rattle.clsm_text.specs.Line.{lines_of};
 ghost use Rattle.clsm_text.specs.declared.failure.Failure.TheVariants.{Memory};
+ghost use Rattle.clsm_text.specs.declared.verdict.Verdict.TheVariants.{Lawful};
 
 use crate::failure::Failure;
 use crate::listing::TimedList;
@@ -24,6 +25,20 @@ pub struct Judged {
     pub earlier: Option<usize>,
 }
 
+impl Judged {
+    /// Nothing is wrong.
+    fn lawful() -> Judged
+        ensures { result.verdict ≡ Lawful }
+    {
+        Judged {
+            verdict: Verdict::Lawful,
+            index: 0,
+            explanation: None,
+            earlier: None,
+        }
+    }
+}
+
 /// The verdict of the audit of these records, and of their order in real time if that is asked for.
 pub fn judge(
     alloc: Global,
@@ -41,12 +56,7 @@ pub fn judge(
     let records = list.listed.records.as_slice();
     match audit(alloc, config, records) {
         Ok(()) if order => judge_order(alloc, config, list),
-        Ok(()) => Ok(Judged {
-            verdict: Verdict::Lawful,
-            index: 0,
-            explanation: None,
-            earlier: None,
-        }),
+        Ok(()) => Ok(Judged::lawful()),
         Err(AuditError::Fault { kind, index }) => {
             let line = list.listed.lines[index];
             let explanation = explain(alloc, config, records, kind, index).ok();
@@ -72,12 +82,7 @@ fn judge_order(alloc: Global, config: &Config, list: &TimedList) -> Result<Judge
     ensures memory { IfErr result (λ failure. failure ≡ Memory) }
 {
     match audit_order(alloc, config, &list.listed.records, &list.moments) {
-        Ok(()) => Ok(Judged {
-            verdict: Verdict::Lawful,
-            index: 0,
-            explanation: None,
-            earlier: None,
-        }),
+        Ok(()) => Ok(Judged::lawful()),
         Err(OrderError::Stale { index, earlier }) => {
             let line = list.listed.lines[index];
             Ok(Judged {

@@ -3,16 +3,16 @@ use Rattle.clsm_audit.proofs.OneHistory.{batches_apart, calls_in, has_history}
 use Rattle.clsm_audit.proofs.WholeHistory.{is_lawful}
 use Rattle.clsm_audit.proofs.passes.audit.Goals as goal
 
-pub returns-in-Some-clause-whole : goal.returns-in-Some-clause-whole
-returns-in-Some-clause-whole c = λ has.
-    absurd (no_fault c.args.config.now c.args.records.now (is_lawful c.args.config.now c.args.records.now has) c.in-Some.kind c.in-Some.index
-    (rw c.in-Some.is at c.in_ok-kind.ensures))
+pub returns-in-Ok-Some-clause-whole : goal.returns-in-Ok-Some-clause-whole
+returns-in-Ok-Some-clause-whole c = λ has.
+    absurd (no_fault c.args.config.now c.args.records.now (is_lawful c.args.config.now c.args.records.now has) c.in-Ok-Some.kind c.in-Ok-Some.index
+    (rw c.in-Ok-Some.field-0-is at c.in-Ok-Some.ensures))
 
-pub returns-in-None-clause-history : goal.returns-in-None-clause-history
-returns-in-None-clause-history c = calls_in c.args.config.now c.args.records.now (rw c.in-None.is at c.in_ok-kind.ensures)
+pub returns-in-Ok-None-clause-history : goal.returns-in-Ok-None-clause-history
+returns-in-Ok-None-clause-history c = calls_in c.args.config.now c.args.records.now (rw c.in-Ok-None.field-0-is at c.in-Ok-None.ensures)
 
-pub returns-in-None-clause-apart : goal.returns-in-None-clause-apart
-returns-in-None-clause-apart c = batches_apart c.args.config.now c.args.records.now (rw c.in-None.is at c.in_ok-kind.ensures)
+pub returns-in-Ok-None-clause-apart : goal.returns-in-Ok-None-clause-apart
+returns-in-Ok-None-clause-apart c = batches_apart c.args.config.now c.args.records.now (rw c.in-Ok-None.field-0-is at c.in-Ok-None.ensures)
 
-pub returns-in-None-clause-has : goal.returns-in-None-clause-has
-returns-in-None-clause-has c = has_history c.args.config.now c.args.records.now (rw c.in-None.is at c.in_ok-kind.ensures)
+pub returns-in-Ok-None-clause-has : goal.returns-in-Ok-None-clause-has
+returns-in-Ok-None-clause-has c = has_history c.args.config.now c.args.records.now (rw c.in-Ok-None.field-0-is at c.in-Ok-None.ensures)

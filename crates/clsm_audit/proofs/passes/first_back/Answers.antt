@@ -28,9 +28,8 @@ loop-index-preserved c =
     c.index-records-index.is (c.requires c.loop-index.index) in
     record {
       count = before.count;
-      states = AreStates-next c.args.records.now c.loop-index.index _ c.index-records-index.result states.items c.deref_mut.result.now c.advance.new.states
-          c.loop-index-test.true
-          c.index-records-index.is c.deref_mut.ensures.value (search rules) (omega arith) before.states c.advance.ensures;
+      states = AreStates-next c.args.records.now c.loop-index.index _ _ _ _ _ c.loop-index-test.true c.index-records-index.is c.deref_mut.ensures.value
+          (search rules) (omega arith) before.states c.advance.ensures;
       from_due = below_more _ _ before.from_due
           (from_due_here c.args.records.now c.loop-index.index c.index-records-index.result states.items c.index.result.now c.loop-index-test.true
           c.index-records-index.is before.states

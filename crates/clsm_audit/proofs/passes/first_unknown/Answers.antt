@@ -10,9 +10,8 @@ loop-index-preserved c =
     let before = c.loop-index.invariant in
     record {
       count = before.count;
-      states = AreStates-next c.args.records.now c.loop-index.index _ c.index-records-index.result states.items c.deref_mut.result.now c.advance.new.states
-          c.loop-index-test.true
-          c.index-records-index.is c.deref_mut.ensures.value (search rules) (omega arith) before.states c.advance.ensures;
+      states = AreStates-next c.args.records.now c.loop-index.index _ _ _ _ _ c.loop-index-test.true c.index-records-index.is c.deref_mut.ensures.value
+          (search rules) (omega arith) before.states c.advance.ensures;
       known = below_more _ _ before.known
           (known_here c.args.config.now c.args.records.now c.loop-index.index c.index-records-index.result states.items c.index.result.now
           c.loop-index-test.true c.index-records-index.is

@@ -1,6 +1,6 @@
 use Rattle.std.proofs.Common.{rules, ◌≡◌, ◌<◌, slice_index_or, arith}
 use Rattle.std.proofs.lemmas.List.{get_or_default}
-use Rattle.clsm_workload.specs.Work.{AreWorked}
+use Rattle.clsm_workload.specs.Calls.{AreWorked}
 use Rattle.clsm_workload.proofs.Brought.{seats_of}
 use Rattle.clsm_workload.proofs.Seated.{all_seated, are_seats, told}
 use Rattle.clsm_tests.proofs.tests.program.run.settling.settle.Goals as goal

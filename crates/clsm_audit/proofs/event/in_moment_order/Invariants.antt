@@ -1,7 +1,7 @@
 use Rattle.std.proofs.Common.{◌≡◌, take, vec_len}
 use Rattle.clsm_audit.specs.Moments.{events_below}
 use Rattle.clsm_audit.specs.States.{AreStates}
-use Rattle.clsm_audit.proofs.event.list_events.Given as goal
+use Rattle.clsm_audit.proofs.event.in_moment_order.Given as goal
 
 abbrev pub invariant-loop-index : goal.invariant-loop-index
 invariant-loop-index l = record {

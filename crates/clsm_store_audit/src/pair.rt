@@ -1,0 +1,18 @@
+//! What the checks of two threads share: the sizes of their store, and what the one puts.
+use clsm_store::{Config, Value};
+
+/// There is a seat for each thread.
+pub(crate) const SIZES: Config = Config {
+    cells: 64,
+    seats: 2,
+    shards: 1,
+    run: 64,
+    patience: 2,
+};
+
+/// What is put: the value, and its key.
+#[derive(Clone, Copy)]
+pub(crate) struct Write {
+    pub(crate) key: u64,
+    pub(crate) value: Value,
+}
