@@ -157,11 +157,15 @@ GivesRange s = (words : List Text) → level_fault s [] nothing_held words false
 pub apart : (x y : ℕ) (xs ys : Text) → (x ≡ y → ⊥) → x ∷ xs ≡ y ∷ ys → ⊥
 apart x y xs ys differ e = differ (ap (λ (t : Text). slice_index_or t 0 x) e)
 
-script_range : (rows : List Row) → AreRanged (codes "script") rows
-script_range rows = record {
-  run = λ name. absurd (apart 115 114 _ _ (λ f. absurd (omega arith)) name);
-  explore = λ name. absurd (apart 115 101 _ _ (λ f. absurd (omega arith)) name);
+-- a name with another first letter than these two has no ranges
+none_ranged : (x : ℕ) (xs : Text) (rows : List Row) → (x ≡ 114 → ⊥) → (x ≡ 101 → ⊥) → AreRanged (x ∷ xs) rows
+none_ranged x xs rows not_run not_explore = record {
+  run = λ name. absurd (apart x 114 _ _ not_run name);
+  explore = λ name. absurd (apart x 101 _ _ not_explore name);
 }
+
+script_range : (rows : List Row) → AreRanged (codes "script") rows
+script_range rows = none_ranged 115 _ rows (λ f. absurd (omega arith)) (λ f. absurd (omega arith))
 
 run_range : (rows : List Row) → AreInRange rows → AreRanged (codes "run") rows
 run_range rows ranges = record {
@@ -170,10 +174,7 @@ run_range rows ranges = record {
 }
 
 audit_range : (rows : List Row) → AreRanged (codes "audit") rows
-audit_range rows = record {
-  run = λ name. absurd (apart 97 114 _ _ (λ f. absurd (omega arith)) name);
-  explore = λ name. absurd (apart 97 101 _ _ (λ f. absurd (omega arith)) name);
-}
+audit_range rows = none_ranged 97 _ rows (λ f. absurd (omega arith)) (λ f. absurd (omega arith))
 
 explore_range : (rows : List Row) → IsLimitInRange rows → AreRanged (codes "explore") rows
 explore_range rows range = record {

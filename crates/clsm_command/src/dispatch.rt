@@ -1,7 +1,7 @@
 //! What the command line asks for is done.
 ghost use Rattle.std.specs.Prelude.{◌≡◌, ◌⊎◌, ◌≤◌, IsSomeAnd, map};
 ghost use Rattle.clsm_command.specs.Answers.{IsInRange};
-ghost use Rattle.clsm_command.specs.Doing.{HasSoundSizes, IsAskedFor, IsDone, IsFaulty, IsHelp, audit_sizes};
+ghost use Rattle.clsm_command.specs.Doing.{AsksRun, HasSoundSizes, IsAskedFor, IsDone, IsFaulty, IsHelp, audit_sizes};
 ghost use Rattle.clsm_command.specs.declared.options.Options.TheVariants.{Audit, Explore, Run, Script};
 ghost use Rattle.clsm_command.specs.declared.refusal.Refusal.TheVariants.{Help, Memory};
 ghost use Rattle.clsm_text.specs.Failure.{status_of};
@@ -157,24 +157,7 @@ where
         faults,
         ..
     } = streams;
-    let load = Load {
-        ops: options.ops as u32,
-        keys: options.keys,
-        seed: options.seed,
-        batch: options.batch,
-    };
-    let shows = Shows {
-        stats: options.stats,
-        progress: options.progress,
-        records: options.records,
-        clock: options.clock,
-    };
-    let asked = AskedRun {
-        config: options.config,
-        load,
-        waits: options.wait,
-        shows,
-    };
+    let asked = asked_run(options);
     let status = run_printed(rt, alloc, &asked, &mut output, faults);
     let output = Some(output);
     Ended { status, output }
@@ -249,6 +232,31 @@ where
     let status = explore_scripts(alloc, &asked, &mut output, faults);
     let output = Some(output);
     Ended { status, output }
+}
+
+/// The run that options ask for.
+fn asked_run(options: &RunOptions) -> AskedRun
+    requires { IsInRange (Run options.now) }
+    ensures { AsksRun options.now result }
+{
+    let load = Load {
+        ops: options.ops as u32,
+        keys: options.keys,
+        seed: options.seed,
+        batch: options.batch,
+    };
+    let shows = Shows {
+        stats: options.stats,
+        progress: options.progress,
+        records: options.records,
+        clock: options.clock,
+    };
+    AskedRun {
+        config: options.config,
+        load,
+        waits: options.wait,
+        shows,
+    }
 }
 
 /// What an audit is asked for. Of the sizes of the store it takes only the first two.

@@ -3,7 +3,7 @@ use Rattle.std.proofs.Common.{◌≡◌, List, [], ◌∷◌, ◌++◌, map, sym
 use Rattle.std.proofs.lemmas.List.{flat_map_more}
 use Rattle.clsm_model.specs.declared.record.CallRecord.{CallRecord}
 use Rattle.clsm_store_calls.specs.Seats.{SeatState}
-use Rattle.clsm_workload.specs.Audit.{all_calls}
+use Rattle.clsm_workload.specs.Calls.{all_calls}
 use Rattle.clsm_workload.specs.declared.worker.Worked.{Worked}
 
 abbrev pub seats_of : List Worked → List SeatState

@@ -1,5 +1,5 @@
 -- What the callers of a session made, and the seats that it hands back.
-use Rattle.std.proofs.Common.{◌≡◌, ℕ, suc, ◌<◌, List, [], ◌∷◌, ◌++◌, length, get_or, map, Result, Ok, Err, IfErr, IfOk, IsOk, refl, sym, subst, ap, ◌∙◌, arith}
+use Rattle.std.proofs.Common.{◌≡◌, ℕ, suc, ◌<◌, List, [], ◌∷◌, length, get_or, map, Result, Ok, Err, IfErr, IfOk, IsOk, refl, sym, subst, ap, ◌∙◌, arith}
 use Rattle.std.proofs.lemmas.List.Elements.{All-cons, All-nil}
 use Rattle.std.specs.Prelude.{All, vec_len}
 use Rattle.clsm_model.specs.declared.config.Config.{Config}
@@ -8,10 +8,8 @@ use Rattle.clsm_store_calls.specs.Seats.{HasSizes, SeatState, StoreId}
 use Rattle.clsm_session.specs.Ended.{AreAllSeats, AreDone, IsDone, StopsSession}
 use Rattle.clsm_session.specs.declared.session.Ended.{Ended}
 use Rattle.clsm_session.specs.declared.refusal.SessionError.{SessionError}
-use Rattle.clsm_workload.specs.Audit.{AreSeatsOf}
-use Rattle.clsm_workload.specs.Calls.{HasSettled}
-use Rattle.clsm_workload.specs.Waiting.{AreMade, EndsSession, IsMade}
-use Rattle.clsm_workload.specs.Work.{Works}
+use Rattle.clsm_workload.specs.Calls.{AreSeatsOf, HasSettled, Works}
+use Rattle.clsm_workload.specs.Run.{AreMade, EndsSession, IsMade}
 use Rattle.clsm_workload.specs.declared.load.Load.{Load}
 use Rattle.clsm_workload.specs.declared.worker.Made.{Made}
 use Rattle.clsm_workload.specs.declared.worker.Worked.{Worked}
@@ -83,13 +81,3 @@ are_seats_of store count seats all = record {
   counted = all.counted;
   each = λ i s lt is. all.each i s (let n = all.counted in omega (arith, lt, n), is);
 }
-
--- what so far and what to come make all stays the same with one more
-pub one_more : {A : Type 0} (part : Worked → A) (worked worked' : List Worked) (w : Worked) (rest rest' all : List A) → worked' ≡ worked ++ w ∷ [] →
-    rest ≡ part w ∷ rest' → map part worked ++ rest ≡ all → map part worked' ++ rest' ≡ all
-one_more {A} part worked worked' w rest rest' all more is e =
-    ap (λ (l : List Worked). map part l ++ rest') more ∙ (moved worked ∙ (ap (λ (l : List A). map part worked ++ l) (sym is) ∙ e))
-  where
-    moved : (ws : List Worked) → map part (ws ++ w ∷ []) ++ rest' ≡ map part ws ++ part w ∷ rest'
-    moved [] = refl
-    moved (u ∷ us) = ap (λ (l : List A). part u ∷ l) (moved us)

@@ -1,5 +1,6 @@
 pub mod Brought
 pub mod Calls
 pub mod Ended
+pub mod Lines
 pub mod Seated
 pub mod Verdicts

@@ -4,9 +4,7 @@ use Rattle.std.proofs.Common.{◌≡◌, ℕ, zero, suc, ◌<◌, List, [], ◌�
 use Rattle.std.proofs.lemmas.List.{get_or_default, length-map}
 use Rattle.std.specs.Prelude.{All}
 use Rattle.clsm_store_calls.specs.Seats.{StoreId, SeatState, AreNew, newcomer}
-use Rattle.clsm_workload.specs.Audit.{AreSeatsOf}
-use Rattle.clsm_workload.specs.Work.{AreWorked, IsWorked}
-use Rattle.clsm_workload.specs.Calls.{HasMadeAll}
+use Rattle.clsm_workload.specs.Calls.{AreSeatsOf, AreWorked, HasMadeAll, IsWorked}
 use Rattle.clsm_workload.specs.declared.load.Load.{Load}
 use Rattle.clsm_workload.specs.declared.worker.Worked.{Worked}
 use Rattle.clsm_workload.proofs.Brought.{seats_of}

@@ -10,7 +10,7 @@ use Rattle.clsm_model.specs.declared.config.Config.{Config}
 use Rattle.clsm_model.specs.declared.record.CallRecord.{CallRecord}
 use Rattle.clsm_text.specs.declared.failure.Failure.{Failure}
 use Rattle.clsm_store.specs.Headline.{IsWholeHistory, longest_past}
-use Rattle.clsm_workload.specs.Calls.{HasMadeAll, HasSettled}
+use Rattle.clsm_workload.specs.Calls.{AreSeatsOf, HasMadeAll, HasSettled, IsAudited, IsAuditedWhole, IsVerdict, all_calls}
 use Rattle.clsm_audit.specs.declared.fault.AuditError.TheVariants as audits
 use Rattle.clsm_model.specs.Config.{IsSound}
 use Rattle.clsm_text.specs.declared.failure.Failure.TheVariants.{BadLine, Device, Fault, Refused, Memory}
@@ -18,7 +18,6 @@ use Rattle.clsm_text.specs.Failure.{status_of}
 use Rattle.clsm_workload.specs.Printed.{PrintsRun}
 use Rattle.clsm_workload.specs.Run.{EndsWell, FindsFault, IsRunOf, StopsCalls, StopsRun, StopsWork, ending_of}
 use Rattle.clsm_workload.specs.declared.load.AskedRun.{AskedRun}
-use Rattle.clsm_workload.specs.Audit.{AreSeatsOf, IsAudited, IsAuditedWhole, IsVerdict, all_calls}
 use Rattle.clsm_workload.specs.declared.ran.Ran.{Ran}
 
 pub verdict_is : (config : Config) (records : List CallRecord) (answer : Result ⊤ AuditError) →

@@ -1,15 +1,16 @@
 //! What a run prints.
-ghost use Rattle.std.specs.Prelude.{IfErr, OnOk};
-ghost use Rattle.std.specs.Io.KnownBytes.{Appends};
-ghost use Rattle.clsm_workload.specs.Printed.{run_text};
+ghost use Rattle.std.specs.Prelude.{◌≡◌, ◌++◌, IfErr, OnOk};
+ghost use Rattle.std.specs.Io.KnownBytes.{Appends, Keeps, append_known};
+ghost use Rattle.clsm_workload.specs.Printed.{PrintsTimed, record_text, records_text, run_text, timed_text};
 ghost use Rattle.clsm_workload.specs.Run.{StopsWork};
 
 use crate::ran::Ran;
+use crate::watch::Note;
 use clsm_audit::{AuditError, Moments};
 use clsm_model::CallRecord;
 use clsm_text::{Failure, write_record, write_timed_record};
 use std::alloc::Global;
-use std::io::{self, BufWriter, Write};
+use std::io::{self, Write};
 
 /// Writes how many calls were made, refused ones too, and what the audit says of them. Where there
 /// was no memory for it, nothing is written.
@@ -38,21 +39,72 @@ fn write_lines<W: Write>(
     }
 }
 
-/// Writes each record as a line. Refused with `Memory` where none was written, and with `Device`
-/// where a write failed.
+/// How many bytes of lines are held back before they are written.
+const HELD: usize = 8192;
+
+/// Holds a record back as a line behind the others. Refused if memory runs out.
+fn hold(held: &mut Vec<u8>, call: &CallRecord) -> Result<(), Failure>
+    ensures stopped { IfErr result StopsWork }
+    ensures held { OnOk result (held.new.items ≡ held.old.items ++ record_text call.now) }
+{
+    if write_record(held, call).is_err() {
+        return Err(Failure::Memory);
+    }
+    held.push(b'\n')?;
+    Ok(())
+}
+
+/// The same, with the moments of its call.
+fn hold_timed(held: &mut Vec<u8>, call: &CallRecord, moments: &Moments) -> Result<(), Failure>
+    ensures stopped { IfErr result StopsWork }
+    ensures held { OnOk result (held.new.items ≡ held.old.items ++ timed_text (call.now, moments.now)) }
+{
+    if write_timed_record(held, call, moments).is_err() {
+        return Err(Failure::Memory);
+    }
+    held.push(b'\n')?;
+    Ok(())
+}
+
+/// Writes what is held back once it is enough.
+fn pass_enough<W: Write>(output: &mut W, held: &mut Vec<u8>) -> io::Result<()>
+    ensures { OnOk result (Keeps (append_known (W.contents output.old) held.old.items)
+        (append_known (W.contents output.new) held.new.items)) }
+{
+    if held.len() < HELD {
+        return Ok(());
+    }
+    output.write_all(held.as_slice())?;
+    held.clear();
+    Ok(())
+}
+
+/// Writes what is held back.
+fn pass<W: Write>(output: &mut W, held: &[u8]) -> io::Result<()>
+    ensures { OnOk result (Appends (W.contents output.old) (W.contents output.new) held.now) }
+{
+    output.write_all(held)?;
+    output.flush()
+}
+
+/// Writes each record as a line. Refused with `Memory` if that runs out, and with `Device` where a
+/// write failed.
 pub fn write_records<W: Write>(
     alloc: Global,
     output: &mut W,
     records: &[CallRecord],
 ) -> Result<(), Failure>
-    ensures { IfErr result StopsWork }
+    ensures stopped { IfErr result StopsWork }
+    ensures prints { OnOk result
+        (Appends (W.contents output.old) (W.contents output.new) (records_text records.now)) }
 {
-    let mut lines = BufWriter::new(alloc, output)?;
+    let mut held = Vec::new(alloc);
     for record in records {
-        write_record(&mut lines, record)?;
-        writeln!(lines)?;
+        hold(&mut held, record)?;
+        pass_enough(output, &mut held)?;
     }
-    Ok(lines.flush()?)
+    pass(output, held.as_slice())?;
+    Ok(())
 }
 
 /// The moments of a call of which the clock told none: it may have been made at any.
@@ -61,17 +113,38 @@ const ANY: Moments = Moments {
     end: u64::MAX,
 };
 
+/// The moments of the first answered call among these notes from this place on, and the place
+/// behind it.
+fn next_moments(notes: &[Note], from: usize) -> (Moments, usize) {
+    for place in from..notes.len() {
+        let note = notes[place];
+        if note.is_answered {
+            return (note.moments.unwrap_or(ANY), place + 1);
+        }
+    }
+    (ANY, notes.len())
+}
+
 /// Writes each record as a line that ends in the moments of its call. Refused as `write_records`
 /// is.
-pub fn write_clocked<W: Write>(alloc: Global, output: &mut W, ran: &Ran) -> Result<(), Failure>
-    ensures { IfErr result StopsWork }
+pub fn write_clocked<W: Write>(
+    alloc: Global,
+    output: &mut W,
+    records: &[CallRecord],
+    notes: &[Note],
+) -> Result<(), Failure>
+    ensures stopped { IfErr result StopsWork }
+    ensures prints { OnOk result
+        (PrintsTimed records.now (W.contents output.old) (W.contents output.new)) }
 {
-    let mut lines = BufWriter::new(alloc, output)?;
-    let mut notes = ran.notes.iter().filter(|note| note.is_answered);
-    for record in &ran.records {
-        let moments = notes.next().and_then(|note| note.moments).unwrap_or(ANY);
-        write_timed_record(&mut lines, record, &moments)?;
-        writeln!(lines)?;
+    let mut held = Vec::new(alloc);
+    let mut place = 0;
+    for record in records {
+        let (moments, behind) = next_moments(notes, place);
+        place = behind;
+        hold_timed(&mut held, record, &moments)?;
+        pass_enough(output, &mut held)?;
     }
-    Ok(lines.flush()?)
+    pass(output, held.as_slice())?;
+    Ok(())
 }

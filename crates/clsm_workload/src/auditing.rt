@@ -1,7 +1,7 @@
 //! The audit of a run.
 ghost use Rattle.std.specs.Prelude.{◌≡◌, IfErr, IfOk, IsOk, OnOk, Ok, Err};
 ghost use Rattle.clsm_store_audit.specs.Settled.{AreLawfulAlone};
-ghost use Rattle.clsm_workload.specs.Audit.{IsVerdict};
+ghost use Rattle.clsm_workload.specs.Calls.{IsVerdict};
 ghost use Rattle.clsm_workload.specs.Run.{StopsWork, ending_of};
 
 use crate::gathering::Gathered;

@@ -3,10 +3,8 @@ ghost use Rattle.std.specs.Prelude.{◌≡◌, All, IfErr, IfOk};
 ghost use Rattle.clsm_store_calls.specs.Seats.{AreNew, IsNewMerger};
 ghost use Rattle.clsm_store.specs.Phase.{merger_in};
 ghost use Rattle.clsm_store_audit.specs.Settled.{AreLawfulAlone};
-ghost use Rattle.clsm_workload.specs.Audit.{IsAudited};
-ghost use Rattle.clsm_workload.specs.Calls.{HasMadeAll};
+ghost use Rattle.clsm_workload.specs.Calls.{AreWorked, HasMadeAll, IsAudited, IsWorked};
 ghost use Rattle.clsm_workload.specs.Run.{StopsWork};
-ghost use Rattle.clsm_workload.specs.Work.{AreWorked, IsWorked};
 
 use crate::auditing::audited;
 use crate::gathering::gather;

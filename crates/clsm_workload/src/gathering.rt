@@ -1,6 +1,6 @@
 //! The records of all workers as one list.
 ghost use Rattle.std.specs.Prelude.{◌≡◌, ◌∷◌, [], ◌++◌, All, IfOk, IsOk, OnOk, map};
-ghost use Rattle.clsm_workload.specs.Audit.{all_calls};
+ghost use Rattle.clsm_workload.specs.Calls.{all_calls};
 
 use crate::watch::Note;
 use crate::worker::{Made, Worked};

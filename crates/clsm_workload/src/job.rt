@@ -42,7 +42,7 @@ pub struct Waiting<'a, R, L: Loaded> {
 }
 
 impl<R: Clock + Wait + Sync, L: Loaded + Sync> Job for Waiting<'_, R, L> {
-    ghost use Rattle.clsm_workload.specs.Work.{Works};
+    ghost use Rattle.clsm_workload.specs.Calls.{Works};
 
     type Answer = Made;
 

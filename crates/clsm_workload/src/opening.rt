@@ -108,7 +108,7 @@ fn print_run<W: Write>(
     ensures failed { IfErr result StopsWork }
 {
     if asked.shows.records && asked.shows.clock {
-        return write_clocked(alloc, output, ran);
+        return write_clocked(alloc, output, &ran.records, &ran.notes);
     }
     if asked.shows.records {
         return write_records(alloc, output, &ran.records);

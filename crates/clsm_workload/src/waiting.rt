@@ -4,10 +4,8 @@ ghost use Rattle.clsm_model.specs.declared.config.Config.{Config};
 ghost use Rattle.clsm_model.specs.Config.{IsSound};
 ghost use Rattle.clsm_session.specs.Ended.{StopsSession};
 ghost use Rattle.clsm_store_audit.specs.Settled.{AreLawfulAlone};
-ghost use Rattle.clsm_workload.specs.Audit.{IsAuditedWhole};
-ghost use Rattle.clsm_workload.specs.Calls.{HasSettled};
-ghost use Rattle.clsm_workload.specs.Run.{StopsCalls, StopsWork};
-ghost use Rattle.clsm_workload.specs.Waiting.{EndsSession, IsEnded};
+ghost use Rattle.clsm_workload.specs.Calls.{HasSettled, IsAuditedWhole};
+ghost use Rattle.clsm_workload.specs.Run.{EndsSession, IsEnded, StopsCalls, StopsWork};
 
 use crate::auditing::audited;
 use crate::gathering::gather;

@@ -1,8 +1,7 @@
 //! A worker: a thread that makes the calls of its workload by its seat, and keeps their records.
 ghost use Rattle.std.specs.Prelude.{◌≡◌, ◌<◌, [], ◌++◌, OnOk, option_to_list, vec_len};
 ghost use Rattle.std.specs.Vec.{vec_capacity};
-ghost use Rattle.clsm_workload.specs.Calls.{MakesCalls, MakesNext, after_call, workload_of};
-ghost use Rattle.clsm_workload.specs.Work.{KeepsRecords, Works};
+ghost use Rattle.clsm_workload.specs.Calls.{KeepsRecords, MakesCalls, MakesNext, Works, after_call, workload_of};
 
 use crate::kind::Kind;
 use crate::player::Player;

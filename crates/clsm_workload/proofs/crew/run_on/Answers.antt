@@ -1,7 +1,6 @@
 use Rattle.std.proofs.Common.{rules, subst, sym}
 use Rattle.std.specs.Prelude.{All}
-use Rattle.clsm_workload.specs.Calls.{HasMadeAll}
-use Rattle.clsm_workload.specs.Work.{AreWorked}
+use Rattle.clsm_workload.specs.Calls.{AreWorked, HasMadeAll}
 use Rattle.clsm_workload.proofs.Seated.{all_made, all_seated, are_seats, told}
 use Rattle.clsm_workload.proofs.Verdicts.{all_of_ran, audited_is}
 use Rattle.clsm_workload.proofs.crew.run_on.Goals as goal

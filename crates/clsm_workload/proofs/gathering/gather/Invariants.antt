@@ -1,6 +1,6 @@
 use Rattle.std.proofs.Common.{◌≡◌, ◌++◌, IsOk, map}
 use Rattle.std.specs.Prelude.{All}
-use Rattle.clsm_workload.specs.Audit.{all_calls}
+use Rattle.clsm_workload.specs.Calls.{all_calls}
 use Rattle.clsm_workload.specs.declared.worker.Worked.{Worked}
 use Rattle.clsm_workload.proofs.gathering.gather.Given as goal
 

@@ -1,5 +1,5 @@
 use Rattle.std.proofs.Common.{rules, subst}
-use Rattle.clsm_workload.specs.Waiting.{EndsSession}
+use Rattle.clsm_workload.specs.Run.{EndsSession}
 use Rattle.clsm_workload.proofs.waiting.run_waiting.Goals as goal
 
 pub returns-in-Err-ended-clause-stopped : goal.returns-in-Err-ended-clause-stopped

@@ -1,5 +1,5 @@
 use Rattle.clsm_workload.proofs.Calls.{HasMade}
-use Rattle.clsm_workload.specs.Work.{KeepsRecords}
+use Rattle.clsm_workload.specs.Calls.{KeepsRecords}
 use Rattle.clsm_workload.proofs.worker.Worker.make_all.Given as goal
 
 -- so many calls of the workload were made, and their records are kept
