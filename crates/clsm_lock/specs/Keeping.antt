@@ -1,5 +1,5 @@
 -- What the calls on the lock leave of a seat as it was, and what they change.
-use Rattle.std.specs.Prelude.{◌≡◌, true, false, length}
+use Rattle.std.specs.Prelude.{◌≡◌, ℕ, None, true, false, length}
 use mathlib.Core.List.{IsPrefix}
 use Rattle.clsm_law.specs.declared.word.Word.{Word}
 use Rattle.clsm_law.specs.declared.word.Word.TheVariants.{Lock, Clock}
@@ -12,16 +12,22 @@ use Rattle.clsm_words.specs.Knowing.{row_of}
 use Rattle.clsm_words.specs.Keeping.{KeepsPlace}
 use Rattle.clsm_words.specs.Merging.{IsOwn}
 
--- it entered: it holds the lock shared, in a hold in which it has looked at nothing; how often it
--- was refused before is open
-pub record Enters (old new : Known) : Type 0 where
+-- it entered: it holds the lock shared, in a hold in which it has looked at nothing; its count of
+-- refusals is this
+pub record Enters (old new : Known) (busy : ℕ) : Type 0 where
   pub place : KeepsPlace old new
-  pub view : new.view ≡ record (after_entry old.layout Shared true old.view) { busy = new.view.busy }
+  pub view : new.view ≡ record (after_entry old.layout Shared true old.view) { busy = busy }
 
 -- it tried the lock, so many times, and did not enter
 pub record StaysOut (old new : Known) : Type 0 where
   pub place : KeepsPlace old new
   pub view : new.view ≡ record old.view { fresh_lock = new.view.fresh_lock; busy = new.view.busy }
+
+-- it tried the lock once, and was refused, which is counted
+pub record IsRefused (old new : Known) : Type 0 where
+  pub out : StaysOut old new
+  pub counted : new.view.busy ≡ next_word old.view.busy
+  pub unlooked : new.view.fresh_lock ≡ None
 
 -- it left: it does not hold the lock, what it looked at is no longer fresh, and it knows no place
 -- of the ordered list
@@ -32,10 +38,10 @@ pub record Leaves (old new : Known) : Type 0 where
 -- ---- a caller's hold alone
 
 -- it entered: it holds the lock alone, in a hold in which it has looked at nothing and committed
--- nothing; how often it was refused before is open
-pub record EntersExclusively (old new : Known) : Type 0 where
+-- nothing; its count of refusals is this
+pub record EntersExclusively (old new : Known) (busy : ℕ) : Type 0 where
   pub place : KeepsPlace old new
-  pub view : new.view ≡ record (after_entry old.layout Exclusive true old.view) { committed = false; busy = new.view.busy }
+  pub view : new.view ≡ record (after_entry old.layout Exclusive true old.view) { committed = false; busy = busy }
 
 -- ---- the merger's hold
 
@@ -53,14 +59,14 @@ pub record StaysOutMerger (old new : Known) : Type 0 where
   pub keeps : KeepsMerge old new
   pub merger : new.merger ≡ old.merger
 
--- it holds the lock alone: its past ends at the clock, so that each drawn time is decided
-pub record EntersAlone (old new : Known) : Type 0 where
-  pub keeps : KeepsMerge old new
-  pub merger : new.merger ≡ record old.merger { exclusive = true; holds = next_word old.merger.holds }
-  pub clock : length new.past ≡ row_of new Clock
-
 -- nobody else holds the lock: its word is that of one exclusive hold; and the merger's past ends at
 -- the clock, so that each drawn time is decided
 pub record HoldsAloneAsMerger (k : Known) : Type 0 where
   pub lock : row_of k Lock ≡ exclusive_hold
   pub clock : length k.past ≡ row_of k Clock
+
+-- it entered: it holds the lock alone
+pub record EntersAlone (old new : Known) : Type 0 where
+  pub keeps : KeepsMerge old new
+  pub merger : new.merger ≡ record old.merger { exclusive = true; holds = next_word old.merger.holds }
+  pub alone : HoldsAloneAsMerger new

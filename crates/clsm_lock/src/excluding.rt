@@ -6,7 +6,7 @@ ghost use Rattle.clsm_law.specs.Views.{next_word};
 ghost use Rattle.clsm_law.specs.Merging.{is_clean, is_freeze_whole};
 ghost use Rattle.clsm_words.specs.Knowing.{HoldsAlone};
 ghost use Rattle.clsm_words.specs.Plays.{IsSeatOf, PlaysAsMerger};
-ghost use Rattle.clsm_lock.specs.Keeping.{EntersAlone, EntersExclusively, HoldsAloneAsMerger, Leaves, StaysOut, StaysOutMerger};
+ghost use Rattle.clsm_lock.specs.Keeping.{EntersAlone, EntersExclusively, IsRefused, Leaves, StaysOutMerger};
 
 use crate::sharing::Busy;
 use clsm_law::Answer;
@@ -22,12 +22,9 @@ pub fn try_lock_exclusive<P: Pace>(words: &Words<P>, seat: &mut RawSeat) -> Resu
     requires of { IsSeatOf words.now seat.old }
     requires free { seat.old.knows.view.mode ≡ Free }
     ensures of { IsSeatOf words.now seat.new }
-    ensures entered { OnOk result (EntersExclusively seat.old.knows seat.new.knows) }
-    ensures uncounted { OnOk result (seat.new.knows.view.busy ≡ seat.old.knows.view.busy) }
+    ensures entered { OnOk result (EntersExclusively seat.old.knows seat.new.knows seat.old.knows.view.busy) }
     ensures alone { OnOk result (HoldsAlone seat.new.knows) }
-    ensures out { OnErr result (StaysOut seat.old.knows seat.new.knows) }
-    ensures counted { OnErr result (seat.new.knows.view.busy ≡ next_word seat.old.knows.view.busy) }
-    ensures unlooked { OnErr result (seat.new.knows.view.fresh_lock ≡ None) }
+    ensures refused { OnErr result (IsRefused seat.old.knows seat.new.knows) }
 {
     match words.enter_exclusive(seat) {
         Answer::Done => Ok(()),
@@ -42,7 +39,7 @@ pub fn lock_exclusive<P: Pace, R: Wait>(rt: &R, words: &Words<P>, seat: &mut Raw
     requires of { IsSeatOf words.now seat.old }
     requires free { seat.old.knows.view.mode ≡ Free }
     ensures of { IsSeatOf words.now seat.new }
-    ensures entered { EntersExclusively seat.old.knows seat.new.knows }
+    ensures entered { EntersExclusively seat.old.knows seat.new.knows seat.new.knows.view.busy }
     ensures alone { HoldsAlone seat.new.knows }
 {
     for _ in rt.forever() {
@@ -78,7 +75,6 @@ pub fn try_lock_as_merger<P: Pace>(words: &Words<P>, merger: &mut RawMerger) -> 
     requires free { merger.old.knows.merger.exclusive ≡ false }
     ensures of { IsSeatOf words.now merger.new }
     ensures entered { OnOk result (EntersAlone merger.old.knows merger.new.knows) }
-    ensures alone { OnOk result (HoldsAloneAsMerger merger.new.knows) }
     ensures out { OnErr result (StaysOutMerger merger.old.knows merger.new.knows) }
 {
     match words.enter_as_merger(merger) {
@@ -99,7 +95,6 @@ pub fn lock_as_merger<P: Pace, R: Wait>(rt: &R, words: &Words<P>, merger: &mut R
     requires free { merger.old.knows.merger.exclusive ≡ false }
     ensures of { IsSeatOf words.now merger.new }
     ensures entered { EntersAlone merger.old.knows merger.new.knows }
-    ensures alone { HoldsAloneAsMerger merger.new.knows }
 {
     for _ in rt.forever() {
         if try_lock_as_merger(words, merger).is_ok() {

@@ -3,7 +3,7 @@ ghost use Rattle.std.specs.Prelude.{◌≡◌, None, OnOk, OnErr};
 ghost use Rattle.clsm_law.specs.declared.view.Mode.TheVariants.{Free, Shared};
 ghost use Rattle.clsm_law.specs.Views.{next_word};
 ghost use Rattle.clsm_words.specs.Plays.{IsSeatOf};
-ghost use Rattle.clsm_lock.specs.Keeping.{Enters, StaysOut, Leaves};
+ghost use Rattle.clsm_lock.specs.Keeping.{Enters, IsRefused, Leaves};
 
 use clsm_law::{Answer, EXCLUSIVE_HOLD, Word};
 use clsm_words::{Pace, RawSeat, Words};
@@ -27,11 +27,8 @@ pub fn try_lock_shared<P: Pace>(words: &Words<P>, seat: &mut RawSeat) -> Result<
     requires of { IsSeatOf words.now seat.old }
     requires free { seat.old.knows.view.mode ≡ Free }
     ensures of { IsSeatOf words.now seat.new }
-    ensures entered { OnOk result (Enters seat.old.knows seat.new.knows) }
-    ensures uncounted { OnOk result (seat.new.knows.view.busy ≡ seat.old.knows.view.busy) }
-    ensures out { OnErr result (StaysOut seat.old.knows seat.new.knows) }
-    ensures counted { OnErr result (seat.new.knows.view.busy ≡ next_word seat.old.knows.view.busy) }
-    ensures unlooked { OnErr result (seat.new.knows.view.fresh_lock ≡ None) }
+    ensures entered { OnOk result (Enters seat.old.knows seat.new.knows seat.old.knows.view.busy) }
+    ensures refused { OnErr result (IsRefused seat.old.knows seat.new.knows) }
 {
     seat.show_invariant();
     let holders = words.look(seat, Word::Lock);
@@ -51,7 +48,7 @@ pub fn lock_shared<P: Pace, R: Wait>(rt: &R, words: &Words<P>, seat: &mut RawSea
     requires of { IsSeatOf words.now seat.old }
     requires free { seat.old.knows.view.mode ≡ Free }
     ensures of { IsSeatOf words.now seat.new }
-    ensures entered { Enters seat.old.knows seat.new.knows }
+    ensures entered { Enters seat.old.knows seat.new.knows seat.new.knows.view.busy }
 {
     for _ in rt.forever() {
         if try_lock_shared(words, seat).is_ok() {

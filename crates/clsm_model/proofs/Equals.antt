@@ -2,10 +2,10 @@
 use Rattle.std.proofs.Common.{◌≡◌, ℕ, ◌&&◌, Bool, true, List, length, take, Option, Some, None, refl, sym, ◌∙◌, ap, subst}
 use Rattle.std.proofs.Math.Bool.{true≢false}
 use Rattle.std.proofs.Math.Seq.{take-append_seam}
-use Rattle.std.proofs.lemmas.Bool.Decides.{Decides-and, Decides-like}
+use Rattle.std.proofs.lemmas.Bool.Decides.{Decides-and, Decides-like, same_from_decides}
 use Rattle.std.specs.Bool.{Decides}
 use Rattle.std.specs.Cmp.{IsEquivalence, unsigned_Decides}
-use Rattle.std.specs.Cmp.Lexicographic.{pointwise_decides, bytes_decides}
+use Rattle.std.specs.Cmp.Lexicographic.{pointwise, pointwise_decides, bytes_decides}
 use Rattle.std.specs.Option.{option_eq}
 use Rattle.clsm_model.specs.Map.{Pair}
 use Rattle.clsm_model.specs.Value.{padded}
@@ -30,6 +30,11 @@ pub pair-Decides : {A B : Type 0} {E : A → A → Bool} {F : B → B → Bool} 
     → (p q : A × B) → Decides (E p.0 q.0 && F p.1 q.1) (p ≡ q)
 pair-Decides first second p q =
     Decides-like _ (λ e i. (e.0 i, e.1 i)) (λ e. (ap (λ pair. pair.0) e, ap (λ pair. pair.1) e)) (Decides-and _ _ (first p.0 q.0) (second p.1 q.1))
+
+-- two tests of lists that decide the same, the one item by item, answer the same
+pub same_test : {A : Type 0} {E : A → A → Bool} {F : List A → List A → Bool} → ((x y : A) → Decides (E x y) (x ≡ y))
+    → ((xs ys : List A) → Decides (F xs ys) (xs ≡ ys)) → (xs ys : List A) → pointwise E xs ys ≡ F xs ys
+same_test each whole xs ys = same_from_decides _ _ (pointwise_decides each xs ys) (whole xs ys)
 
 -- ---- values and rows
 

@@ -36,7 +36,7 @@ abbrev entered : Known → Tally
 entered a = record (tally_of a) { entries = next_word a.view.entries }
 
 -- it entered the lock, pinned the component, changed the key, ended its read and left the lock
-module _ {a b c e f : Known} {component : ℕ} (rests : IsAtRest a) (enters : Enters a b) (pins : Pins b c component) (leaves : Leaves e f) where
+module _ {a b c e f : Known} {component busy : ℕ} (rests : IsAtRest a) (enters : Enters a b busy) (pins : Pins b c component) (leaves : Leaves e f) where
   number : c.number ≡ a.number
   number = pins.keeps.number ∙ enters.place.seat.number
 
@@ -52,12 +52,12 @@ module _ {a b c e f : Known} {component : ℕ} (rests : IsAtRest a) (enters : En
   due : c.view.due ≡ a.view.due
   due = ap (λ (v : View). v.due) pins.view ∙ ap (λ (v : View). v.due) enters.view
 
-  entered_by : b.view.busy ≡ a.view.busy → tally_of c ≡ record (entered a) { limit = None; first = None; clock = None }
-  entered_by busy =
-      ap counted pins.view ∙ ap counted enters.view ∙ ap (λ (n : ℕ). record (entered a) { busy = n; limit = None; first = None; clock = None }) busy
+  entered_by : busy ≡ a.view.busy → tally_of c ≡ record (entered a) { limit = None; first = None; clock = None }
+  entered_by uncounted =
+      ap counted pins.view ∙ ap counted enters.view ∙ ap (λ (n : ℕ). record (entered a) { busy = n; limit = None; first = None; clock = None }) uncounted
 
-  has_read : b.view.busy ≡ a.view.busy → HasRead (entered a) (tally_of c)
-  has_read busy = let same = entered_by busy in
+  has_read : busy ≡ a.view.busy → HasRead (entered a) (tally_of c)
+  has_read uncounted = let same = entered_by uncounted in
       same ∙ ap (λ (t : Tally). record (looked (entered a) t) { cancelled = t.cancelled }) (sym same)
 
   module _ {d : Known} (key : ℕ) where
@@ -158,9 +158,9 @@ module _ {a b c e f : Known} {component : ℕ} (rests : IsAtRest a) (enters : En
     refused_if (Err error) end is unpins entries fails = refused error entries fails (ended_by (Err error) end is unpins)
 
     -- what a try counts
-    pub counts_if : (answer : Result Answered TryPutError) → (end : End) → Unpins d e end → b.view.busy ≡ a.view.busy
+    pub counts_if : (answer : Result Answered TryPutError) → (end : End) → Unpins d e end → busy ≡ a.view.busy
         → CountsChangeInHold (IsWrittenSince c d key) (tally_of c) (tally_of d) answer → CountsChange (IsWrittenSince a f key) (tally_of a) (tally_of f) answer
-    counts_if answer end unpins busy counts =
+    counts_if answer end unpins uncounted counts =
         let same : tally_of f ≡ tally_of d = ap counted leaves.view ∙ ap counted unpins.view in
         let told : c.past ≡ a.past = pins.keeps.past ∙ enters.place.past in
         let behind : f.past ≡ d.past = leaves.place.past ∙ unpins.keeps.past in
@@ -168,4 +168,4 @@ module _ {a b c e f : Known} {component : ℕ} (rests : IsAtRest a) (enters : En
         subst (λ (y : List Slot × List Slot × ℕ). IsWrittenFrom y.0 key (max y.2 (length y.1))) (λ i. (sym behind i, told i, due i)) in
         counts_whole (IsWrittenSince a f key) (tally_of a) (tally_of f) answer
         (subst (λ (t : Tally). CountsChangeInHold (IsWrittenSince a f key) (entered a) t answer) (sym same)
-        (counts_later (IsWrittenSince c d key) (IsWrittenSince a f key) (entered a) (tally_of c) (tally_of d) (has_read busy) more answer counts))
+        (counts_later (IsWrittenSince c d key) (IsWrittenSince a f key) (entered a) (tally_of c) (tally_of d) (has_read uncounted) more answer counts))

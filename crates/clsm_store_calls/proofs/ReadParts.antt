@@ -5,6 +5,7 @@ use Rattle.clsm_model.specs.History.{History, IsBeginning, or_else}
 use Rattle.clsm_model.specs.declared.record.Deed.{Deed}
 use Rattle.clsm_model.specs.declared.record.Deed.TheVariants.{Get, Scan, Page}
 use Rattle.clsm_model.specs.declared.record.CallRecord.{CallRecord}
+use Rattle.clsm_model.specs.declared.slot.Slot.{Slot}
 use Rattle.clsm_law.specs.declared.step.End.{End}
 use Rattle.clsm_law.specs.declared.step.End.TheVariants.{Meeting, Neither, Recorded}
 use Rattle.clsm_law.specs.declared.layout.Layout.{Layout}
@@ -83,9 +84,9 @@ begun a b c component t begins reads =
           ∙ ap (λ (y : Tally). record y { cancelled = c.view.cancelled }) begins.unlocked;
     }
 
--- a read that began at the time t, looked, and ended
-module _ {a c d e : Known} {component t : ℕ} {end : End} (rests : IsAtRest a) (begins : BeginsRead a c component t) (looks : Looks c d)
-    (unpins : Unpins d e end) where
+-- a read that began at the time t, up to which it settled all, looked, and ended
+module _ {a c d e : Known} {component t : ℕ} {end : End} (rests : IsAtRest a) (begins : BeginsRead a c component t) (settled : t ≤ length c.past)
+    (looks : Looks c d) (unpins : Unpins d e end) where
   number : d.number ≡ a.number
   number = looks.reads.seat.number ∙ begins.goes_on.number
 
@@ -101,6 +102,9 @@ module _ {a c d e : Known} {component t : ℕ} {end : End} (rests : IsAtRest a) 
 
   calls_before : d.view.calls ≡ a.view.calls
   calls_before = ap (λ (v : View). v.calls) looks.reads.view ∙ begins.calls
+
+  reached : t ≤ length e.past
+  reached = let same = ap (λ (l : List Slot). length l) (unpins.keeps.past ∙ looks.past) in omega arith
 
   pub due_before : d.view.due ≡ a.view.due
   due_before = ap (λ (v : View). v.due) looks.reads.view ∙ begins.due
@@ -122,14 +126,14 @@ module _ {a c d e : Known} {component t : ℕ} {end : End} (rests : IsAtRest a) 
       ∙ ap with_cancelled begins.unlocked
 
   -- what it was told is a beginning of what it knows
-  told_known : t ≤ length e.past → IsBeginning (told_of a) (known_of e)
-  told_known reached = subst (λ (h : History). IsBeginning h (known_of e))
+  told_known : IsBeginning (told_of a) (known_of e)
+  told_known = subst (λ (h : History). IsBeginning h (known_of e))
       (λ i. record {
         slots = (looks.reads.seat.told ∙ begins.told) i;
         batches = (looks.reads.seat.told_batches ∙ begins.told_batches) i;
       })
       (unpins.has_told (let same = ap (λ (l : List _). length l) (looks.reads.seat.told ∙ begins.told) in let below = begins.told_below in
-      omega arith))
+      let within = reached in omega arith))
 
   -- with no record
   pub given_up : end ≡ Neither → GivesUpRead a e
@@ -149,6 +153,7 @@ module _ {a c d e : Known} {component t : ℕ} {end : End} (rests : IsAtRest a) 
         ∙ ap (λ (l : List CallRecord). l ++ call_of d.number t deed ∷ []) calls_before ∙ ap (λ (n : ℕ). a.view.calls ++ call_of n t deed ∷ []) number;
     due = ap (λ (v : View). v.due) unpins.view ∙ due;
     above = begins.above;
+    reached = reached;
     clock = clock_seen;
     unlocked = unlocked;
   }
@@ -167,8 +172,8 @@ module _ {a c d e : Known} {component t : ℕ} {end : End} (rests : IsAtRest a) 
       (ap (ended_due d.view) is ∙ many_due t d.view asked deed answers closed clock_noted)
 
   -- as a meeting
-  pub met : end ≡ Meeting → t ≤ length e.past → MeetsAt a e t
-  met is reached = record {
+  pub met : end ≡ Meeting → MeetsAt a e t
+  met is = record {
     goes_on = goes_on;
     calls = ap (λ (v : View). v.calls) unpins.view ∙ ap (λ (f : End). d.view.calls ++ ended_calls d.number d.view f) is ∙ append-nil d.view.calls
         ∙ calls_before;
@@ -176,7 +181,7 @@ module _ {a c d e : Known} {component t : ℕ} {end : End} (rests : IsAtRest a) 
     read = clock_seen;
     above = begins.above;
     reaches = reached;
-    has_told = told_known reached;
+    has_told = told_known;
     heard = begins.heard_below;
     unlocked = unlocked;
   }

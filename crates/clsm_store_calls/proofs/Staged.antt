@@ -118,7 +118,7 @@ staged_one a b c d e f t key written deed m stages looks unraced enters won deci
 -- ---- the hold
 
 -- it begins alone
-pub alone_in_hold : (a b : Known) → IsAtRest a → Sound a → EntersExclusively a b → IsAlone b
+pub alone_in_hold : {busy : ℕ} (a b : Known) → IsAtRest a → Sound a → EntersExclusively a b busy → IsAlone b
 alone_in_hold a b rests sound enters = record {
   exclusive = ap (λ (v : View). v.mode) enters.view;
   undrawn = ap (λ (v : View). v.drawn) enters.view ∙ rests.undrawn;
@@ -158,8 +158,8 @@ may_stage a b clock limit members alone uncommitted h room small = record {
 }
 
 -- the whole call, refused in its hold
-pub no_room_alone : (a b c d : Known) (members : List Member) (error : BatchError) → FitsDeed a.layout.cells (Group members) → EntersExclusively a b
-    → Leaves c d → FindsNoRoomFor b c members error → RefusesBatch a d members error
+pub no_room_alone : {busy : ℕ} (a b c d : Known) (members : List Member) (error : BatchError) → FitsDeed a.layout.cells (Group members)
+    → EntersExclusively a b busy → Leaves c d → FindsNoRoomFor b c members error → RefusesBatch a d members error
 no_room_alone a b c d members (Full t) fits enters leaves h = (
   fits,
   record {
@@ -172,37 +172,37 @@ no_room_alone a b c d members (Full t) fits enters leaves h = (
 )
 no_room_alone a b c d members error fits enters leaves h = absurd h
 
-pub refused_alone : (a b c d : Known) (members : List Member) (r : Result ℕ BatchError) → FitsDeed a.layout.cells (Group members) → EntersExclusively a b
-    → Leaves c d → IfErr r (FindsNoRoomFor b c members) → IfErr r (RefusesBatch a d members)
+pub refused_alone : {busy : ℕ} (a b c d : Known) (members : List Member) (r : Result ℕ BatchError) → FitsDeed a.layout.cells (Group members)
+    → EntersExclusively a b busy → Leaves c d → IfErr r (FindsNoRoomFor b c members) → IfErr r (RefusesBatch a d members)
 refused_alone a b c d members (Ok t) fits enters leaves h = tt
 refused_alone a b c d members (Err error) fits enters leaves h = no_room_alone a b c d members error fits enters leaves h
 
 -- ---- what it counts
 
-module _ (a b c d : Known) (enters : EntersExclusively a b) (counts : tally_of c ≡ looked (tally_of b) (tally_of c)) (leaves : Leaves c d) where
+module _ {busy : ℕ} (a b c d : Known) (enters : EntersExclusively a b busy) (counts : tally_of c ≡ looked (tally_of b) (tally_of c))
+    (leaves : Leaves c d) where
   same : tally_of d ≡ tally_of c
   same = ap counted leaves.view
 
-  busy_is : d.view.busy ≡ b.view.busy
-  busy_is = ap (λ (t : Tally). t.busy) same ∙ ap (λ (t : Tally). t.busy) counts
-
   -- the one entry, and what it looked at in its hold
-  counts_entry : CountsAlone (record (tally_of a) { busy = d.view.busy }) (tally_of d)
-  counts_entry =
+  pub counts_alone : CountsAlone (record (tally_of a) { busy = busy }) (tally_of d)
+  counts_alone =
       same ∙ counts ∙ ap (λ (t : Tally). looked t (tally_of c)) (ap counted enters.view)
-      ∙ (λ i. record (looked (entered_once (tally_of a)) (sym same i)) { busy = sym busy_is i })
+      ∙ (λ i. looked (entered_once (record (tally_of a) { busy = busy })) (sym same i))
+
+  busy_is : busy ≡ d.view.busy
+  busy_is = sym (ap (λ (t : Tally). t.busy) counts_alone)
+
+  counts_waited : CountsAlone (record (tally_of a) { busy = d.view.busy }) (tally_of d)
+  counts_waited = counts_alone ∙ ap (λ (n : ℕ). looked (entered_once (record (tally_of a) { busy = n })) (tally_of d)) busy_is
 
   pub counts_batch : (members : List Member) (r : Result ℕ BatchError) → IfErr r (FindsNoRoomFor b c members) → CountsBatch (tally_of a) (tally_of d) r
-  counts_batch members (Ok t) h = counts_entry
-  counts_batch members (Err (Full t)) h = counts_entry
+  counts_batch members (Ok t) h = counts_waited
+  counts_batch members (Err (Full t)) h = counts_waited
   counts_batch members (Err error) h = absurd h
 
-  -- where it was not refused before it
-  module _ (uncounted : b.view.busy ≡ a.view.busy) where
-    pub counts_alone : CountsAlone (tally_of a) (tally_of d)
-    counts_alone = counts_entry ∙ ap (λ (n : ℕ). looked (entered_once (record (tally_of a) { busy = n })) (tally_of d)) (busy_is ∙ uncounted)
-
-    pub counts_refused : (members : List Member) (error : BatchError) → FindsNoRoomFor b c members error
-        → CountsTryBatch (tally_of a) (tally_of d) (Err (Refused error))
-    counts_refused members (Full t) h = counts_alone
-    counts_refused members error h = absurd h
+-- where it was not refused before it
+pub counts_refused : (a b c d : Known) → EntersExclusively a b a.view.busy → tally_of c ≡ looked (tally_of b) (tally_of c) → Leaves c d
+    → (members : List Member) (error : BatchError) → FindsNoRoomFor b c members error → CountsTryBatch (tally_of a) (tally_of d) (Err (Refused error))
+counts_refused a b c d enters counts leaves members (Full t) h = counts_alone a b c d enters counts leaves
+counts_refused a b c d enters counts leaves members error h = absurd h

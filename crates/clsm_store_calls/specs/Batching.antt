@@ -17,7 +17,7 @@ use Rattle.clsm_store_calls.specs.declared.refusal.TryBatchError.{TryBatchError}
 use Rattle.clsm_store_calls.specs.declared.refusal.TryBatchError.TheVariants.{Busy, Refused}
 use Rattle.clsm_store_calls.specs.Seats.{Refuses, SeatState}
 use Rattle.clsm_store_calls.specs.Resting.{IsSettled, Keeps, Still}
-use Rattle.clsm_store_calls.specs.Tally.{Tally, looked}
+use Rattle.clsm_store_calls.specs.Tally.{Tally, looked, tally_of}
 
 -- ---- the hold
 
@@ -87,6 +87,13 @@ pub record HasRoom (tally : Tally) (t members : ℕ) : Type 0 where
   pub limit : ℕ
   pub looked : tally.limit ≡ Some limit
   pub room : t + members ≤ limit
+
+-- the members fit an epoch, and are recorded as one batch at the time, from which on there was room
+-- for them
+pub record WritesAll (old new : Known) (members : List Member) (t : ℕ) : Type 0 where
+  pub fits : FitsDeed old.layout.cells (Group members)
+  pub records : RecordsBatch old new t members
+  pub room : HasRoom (tally_of new) t (length members)
 
 -- in its hold of the lock the seat looked at the limit and at the clock, which stood at the time,
 -- and so many members do not fit between them

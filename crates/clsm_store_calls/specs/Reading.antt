@@ -45,11 +45,13 @@ pub record BeginsRead (old new : Known) (component t : ℕ) : Type 0 where
   pub within : t ≤ (component + 2) * new.layout.cells
   pub unlocked : TakesNoLock (tally_of old) (tally_of new)
 
--- it read at the time, which is the clock as it looked at it last, and the read is recorded
+-- it read at the time, which is the clock as it looked at it last and up to which it knows all, and
+-- the read is recorded
 pub record ReadsAt (old new : Known) (t : ℕ) (deed : Deed) : Type 0 where
   pub goes_on : GoesOn old new
   pub calls : new.view.calls ≡ old.view.calls ++ call_of old.number t deed ∷ []
   pub due : new.view.due ≡ t
   pub above : old.view.due ≤ t
+  pub reached : t ≤ length new.past
   pub clock : new.view.clock ≡ Some t
   pub unlocked : TakesNoLock (tally_of old) (tally_of new)

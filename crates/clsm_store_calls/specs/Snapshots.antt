@@ -1,5 +1,5 @@
 -- Snapshots at the words.
-use Rattle.std.specs.Prelude.{◌≡◌, ℕ, ◌≤◌, ◌++◌, ◌∷◌, [], Some}
+use Rattle.std.specs.Prelude.{◌≡◌, ℕ, ◌≤◌, ◌++◌, ◌∷◌, [], length, Some}
 use Rattle.clsm_model.specs.History.{IsBeginning}
 use Rattle.clsm_model.specs.declared.record.Deed.{Deed}
 use Rattle.clsm_model.specs.declared.record.Deed.TheVariants.{Snapshot}
@@ -21,9 +21,10 @@ pub record OpensAt (old new : Known) (t : ℕ) : Type 0 where
   pub above : old.view.due ≤ t
   pub unlocked : TakesNoLock (tally_of old) (tally_of new)
 
--- it read under the snapshot of this time, and the read is recorded there
+-- it read under the snapshot of this time, up to which it knows all, and the read is recorded there
 pub record ReadsUnder (old new : Known) (t : ℕ) (deed : Deed) : Type 0 where
   pub goes_on : GoesOn old new
   pub calls : new.view.calls ≡ old.view.calls ++ call_of old.number t deed ∷ []
   pub due : new.view.due ≡ old.view.due
+  pub reached : t ≤ length new.past
   pub tally : tally_of new ≡ tally_of old

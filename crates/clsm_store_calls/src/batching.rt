@@ -6,8 +6,8 @@ ghost use Rattle.clsm_model.specs.declared.record.Deed.TheVariants.{Batch as Gro
 ghost use Rattle.clsm_model.specs.Right.{AreWrites};
 ghost use Rattle.clsm_model.specs.Seats.{FitsDeed};
 ghost use Rattle.clsm_words.specs.Plays.{IsSeatOf};
-ghost use Rattle.clsm_store_calls.specs.Batching.{CountsBatch, CountsTryBatch, FindsNoRoomFor, HasRoom, IsAlone, IsNoBatch, MayStage, RecordsBatch};
-ghost use Rattle.clsm_store_calls.specs.Batching.{RefusesBatch, RefusesTryBatch, StagesAll};
+ghost use Rattle.clsm_store_calls.specs.Batching.{CountsBatch, CountsTryBatch, FindsNoRoomFor, IsAlone, IsNoBatch, MayStage};
+ghost use Rattle.clsm_store_calls.specs.Batching.{RefusesBatch, RefusesTryBatch, StagesAll, WritesAll};
 ghost use Rattle.clsm_store_calls.specs.Resting.{IsAtRest};
 ghost use Rattle.clsm_store_calls.specs.Tally.{looked, tally_of};
 
@@ -107,8 +107,7 @@ fn batch_in_hold<P: Pace>(
     ensures of { IsSeatOf words.now seat.new }
     ensures alone { IsAlone seat.new.knows }
     ensures counts { tally_of seat.new.knows ≡ looked (tally_of seat.old.knows) (tally_of seat.new.knows) }
-    ensures written { IfOk result (λ time. RecordsBatch seat.old.knows seat.new.knows time members.now) }
-    ensures room { IfOk result (λ time. HasRoom (tally_of seat.new.knows) time (length members.now)) }
+    ensures written { IfOk result (WritesAll seat.old.knows seat.new.knows members.now) }
     ensures refused { IfErr result (FindsNoRoomFor seat.old.knows seat.new.knows members.now) }
 {
     let room = look_room(words, seat);
@@ -131,9 +130,7 @@ pub fn batch<P: Pace, R: Wait>(
     requires rests { IsAtRest seat.old.knows }
     ensures of { IsSeatOf words.now seat.new }
     ensures rests { IsAtRest seat.new.knows }
-    ensures written { IfOk result (λ time. RecordsBatch seat.old.knows seat.new.knows time members.now) }
-    ensures fits { IfOk result (λ time. FitsDeed seat.old.knows.layout.cells (Group members.now)) }
-    ensures room { IfOk result (λ time. HasRoom (tally_of seat.new.knows) time (length members.now)) }
+    ensures written { IfOk result (WritesAll seat.old.knows seat.new.knows members.now) }
     ensures refused { IfErr result (RefusesBatch seat.old.knows seat.new.knows members.now) }
     ensures counts { CountsBatch (tally_of seat.old.knows) (tally_of seat.new.knows) result }
 {
@@ -143,34 +140,6 @@ pub fn batch<P: Pace, R: Wait>(
     let answer = batch_in_hold(words, seat, members);
     unlock_exclusive(words, seat);
     answer
-}
-
-/// Tries once to write members that are a batch.
-fn try_members<P: Pace>(
-    words: &Words<P>,
-    seat: &mut RawSeat,
-    members: &[(u64, Change)],
-) -> Result<Time, TryBatchError>
-    requires of { IsSeatOf words.now seat.old }
-    requires rests { IsAtRest seat.old.knows }
-    requires fits { FitsDeed seat.old.knows.layout.cells (Group members.now) }
-    ensures of { IsSeatOf words.now seat.new }
-    ensures rests { IsAtRest seat.new.knows }
-    ensures written { IfOk result (λ time. RecordsBatch seat.old.knows seat.new.knows time members.now) }
-    ensures room { IfOk result (λ time. HasRoom (tally_of seat.new.knows) time (length members.now)) }
-    ensures refused { IfErr result (RefusesTryBatch seat.old.knows seat.new.knows members.now) }
-    ensures counts { CountsTryBatch (tally_of seat.old.knows) (tally_of seat.new.knows) result }
-{
-    seat.show_invariant();
-    if try_lock_exclusive(words, seat).is_err() {
-        return Err(TryBatchError::Busy);
-    }
-    let answer = batch_in_hold(words, seat, members);
-    unlock_exclusive(words, seat);
-    match answer {
-        Ok(time) => Ok(time),
-        Err(error) => Err(TryBatchError::Refused(error)),
-    }
 }
 
 /// Tries once to write the members as one batch, at consecutive times in their order.
@@ -183,14 +152,21 @@ pub fn try_batch<P: Pace>(
     requires rests { IsAtRest seat.old.knows }
     ensures of { IsSeatOf words.now seat.new }
     ensures rests { IsAtRest seat.new.knows }
-    ensures written { IfOk result (λ time. RecordsBatch seat.old.knows seat.new.knows time members.now) }
-    ensures fits { IfOk result (λ time. FitsDeed seat.old.knows.layout.cells (Group members.now)) }
-    ensures room { IfOk result (λ time. HasRoom (tally_of seat.new.knows) time (length members.now)) }
+    ensures written { IfOk result (WritesAll seat.old.knows seat.new.knows members.now) }
     ensures refused { IfErr result (RefusesTryBatch seat.old.knows seat.new.knows members.now) }
     ensures counts { CountsTryBatch (tally_of seat.old.knows) (tally_of seat.new.knows) result }
 {
-    match check_members(members, words.cells()) {
-        Ok(()) => try_members(words, seat, members),
+    if let Err(error) = check_members(members, words.cells()) {
+        return Err(TryBatchError::Refused(error));
+    }
+    seat.show_invariant();
+    if try_lock_exclusive(words, seat).is_err() {
+        return Err(TryBatchError::Busy);
+    }
+    let answer = batch_in_hold(words, seat, members);
+    unlock_exclusive(words, seat);
+    match answer {
+        Ok(time) => Ok(time),
         Err(error) => Err(TryBatchError::Refused(error)),
     }
 }

@@ -1,19 +1,14 @@
 //! Scans and pages at the words: one read of many keys, at one time.
-ghost use Rattle.std.specs.Prelude.{◌≡◌, ℕ, ◌≤◌, List, Option, IfErr, IfOk, None, Some, length};
-ghost use Rattle.clsm_model.specs.History.{History, plain};
-ghost use Rattle.clsm_model.specs.Map.{IsRange};
-ghost use Rattle.clsm_model.specs.Right.{Reads};
-ghost use Rattle.clsm_model.specs.declared.record.Deed.TheVariants.{Get};
+ghost use Rattle.std.specs.Prelude.{◌≡◌, ℕ, List, Option, IfErr, IfOk, None, Some};
+ghost use Rattle.clsm_model.specs.{History.History, History.plain, Map.IsRange, Right.Reads};
+ghost use Rattle.clsm_model.specs.declared.record.Deed.TheVariants.{Get, Scan as ScanOf};
 ghost use Rattle.clsm_law.specs.declared.step.End.TheVariants.{Neither, Recorded};
 ghost use Rattle.clsm_law.specs.declared.step.Step.TheVariants.{Unpin};
-ghost use Rattle.clsm_law.specs.Views.{next_word};
-ghost use Rattle.clsm_law.specs.OpenSteps.{open_time};
-ghost use Rattle.clsm_words.specs.Keeping.{Looks};
+ghost use Rattle.clsm_law.specs.{OpenSteps.open_time, Views.next_word};
+ghost use Rattle.clsm_words.specs.{Keeping.Looks, Plays.IsSeatOf, Plays.MayPlay};
 ghost use Rattle.clsm_pins.specs.Pinning.{Unpins};
-ghost use Rattle.clsm_words.specs.Plays.{IsSeatOf, MayPlay};
-ghost use Rattle.clsm_store_calls.specs.Resting.{RestsAt};
-ghost use Rattle.clsm_store_calls.specs.Reading.{MayReadBelow, ReadsAt};
-ghost use Rattle.clsm_store_calls.specs.Snapshots.{ReadsUnder};
+ghost use Rattle.clsm_store_calls.specs.declared.scanning.Asked.TheVariants.{All};
+ghost use Rattle.clsm_store_calls.specs.{Reading.MayReadBelow, Reading.ReadsAt, Resting.RestsAt, Snapshots.ReadsUnder};
 ghost use Rattle.clsm_store_calls.specs.Scanning.{GivesAsked, GivesUpRead, IsAnswerTo, IsRecord, range_of};
 
 use crate::got::{Got, Scan};
@@ -174,23 +169,13 @@ pub fn scan_under<P: Pace>(
     Ok((snapshot.time, deed))
 }
 
-/// All pairs within the bounds at the point, which is as `deed_below` wants it.
-fn rows_below<P: Pace>(
-    words: &Words<P>,
-    seat: &mut RawSeat,
-    point: ReadPoint,
-    wanted: Request<Bounds>,
-) -> Result<Rows, Memory>
-    requires of { IsSeatOf words.now seat.old }
-    requires may { MayReadBelow seat.old.knows point.component point.until }
-    ensures of { IsSeatOf words.now seat.new }
-    ensures looks { Looks seat.old.knows seat.new.knows }
-    ensures rows { IfOk result (IsRange (plain seat.old.knows.past) point.until wanted.asked.lo wanted.asked.hi) }
+/// The rows of the deed that answers a scan of these bounds.
+fn rows_in(bounds: Bounds, deed: Deed) -> Rows
+    requires { IsAnswerTo (All bounds.lo bounds.hi) deed }
+    ensures { deed ≡ ScanOf bounds.lo bounds.hi result }
 {
-    let Request { alloc, asked } = wanted;
-    let asked = Asked::All(asked.lo, asked.hi);
-    match deed_below(words, seat, point, Request { alloc, asked })? {
-        Deed::Scan { rows, .. } => Ok(rows),
+    match deed {
+        Deed::Scan { rows, .. } => rows,
         _ => unreachable!(),
     }
 }
@@ -206,18 +191,20 @@ pub fn scan_now<P: Pace>(
     requires rests { RestsAt words.now seat.old pin_word }
     ensures rests { RestsAt words.now seat.new (next_word (next_word pin_word)) }
     ensures reads { IfOk result (λ scan. (reply : Option (List ℕ)) × ReadsAt seat.old.knows seat.new.knows scan.time (Get wanted.asked.lo reply)) }
-    ensures reached { IfOk result (λ scan. scan.time ≤ length seat.new.knows.past) }
     ensures rows { IfOk result (λ scan. IsRange (plain seat.new.knows.past) scan.time wanted.asked.lo wanted.asked.hi scan.rows) }
     ensures given_up { IfErr result (λ refusal. GivesUpRead seat.old.knows seat.new.knows) }
 {
     let point = begin(words, seat, pin_word);
-    let key = wanted.asked.lo;
-    let value = value_below(words, seat, point, key);
+    let Bounds { lo, hi } = wanted.asked;
+    let value = value_below(words, seat, point, lo);
+    let (alloc, asked) = (wanted.alloc, Asked::All(lo, hi));
+    let read = deed_below(words, seat, point, Request { alloc, asked });
     let pin_word = pin_word.wrapping_add(1);
-    match rows_below(words, seat, point, wanted) {
-        Ok(rows) => {
+    match read {
+        Ok(deed) => {
             let time = point.until;
-            unpin(words, seat, pin_word, &end_of(key, &Got { time, value }));
+            unpin(words, seat, pin_word, &end_of(lo, &Got { time, value }));
+            let rows = rows_in(wanted.asked, deed);
             Ok(Scan { time, rows })
         }
         Err(refusal) => {

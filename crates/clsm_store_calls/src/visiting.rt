@@ -1,17 +1,11 @@
 //! Visits of keys at the words: reads of many keys, at one time. Each is recorded as a page of no
 //! rows.
-ghost use Rattle.std.specs.Prelude.{◌≡◌, ◌≤◌, [], None, Option, Some, length};
-ghost use Rattle.clsm_model.specs.History.{plain};
-ghost use Rattle.clsm_model.specs.Right.{Reads, page_deed};
-ghost use Rattle.clsm_law.specs.declared.step.End.TheVariants.{Recorded};
-ghost use Rattle.clsm_law.specs.Views.{next_word};
-ghost use Rattle.clsm_law.specs.OpenSteps.{open_time};
-ghost use Rattle.clsm_words.specs.Keeping.{Looks};
-ghost use Rattle.clsm_words.specs.Plays.{IsSeatOf};
-ghost use Rattle.clsm_store_calls.specs.Resting.{RestsAt};
-ghost use Rattle.clsm_store_calls.specs.Reading.{MayReadBelow, ReadsAt};
-ghost use Rattle.clsm_store_calls.specs.Scanning.{IsKeyVisit};
-ghost use Rattle.clsm_store_calls.specs.Snapshots.{ReadsUnder};
+ghost use Rattle.std.specs.Prelude.{◌≡◌, [], None, Option, Some};
+ghost use Rattle.clsm_model.specs.{History.plain, Right.Reads, Right.page_deed};
+ghost use Rattle.clsm_law.specs.{declared.step.End.TheVariants.Recorded, OpenSteps.open_time, Views.next_word};
+ghost use Rattle.clsm_words.specs.{Keeping.Looks, Plays.IsSeatOf};
+ghost use Rattle.clsm_store_calls.specs.{Reading.MayReadBelow, Reading.ReadsAt, Resting.RestsAt};
+ghost use Rattle.clsm_store_calls.specs.{Scanning.IsKeyVisit, Snapshots.ReadsUnder};
 
 use crate::got::Counted;
 use crate::reading::begin;
@@ -83,7 +77,6 @@ pub fn visit_at<P: Pace, V: Visitor>(
     requires ready { V.is_ready visit.old.visitor }
     ensures rests { RestsAt words.now seat.new (next_word (next_word pin_word)) }
     ensures reads { ReadsAt seat.old.knows seat.new.knows result.time (page_deed visit.old.bounds.lo visit.old.bounds.hi 0 [] result.first) }
-    ensures reached { result.time ≤ length seat.new.knows.past }
     ensures visits { IsKeyVisit V.takes (plain seat.new.knows.past) result.time visit.old.bounds.lo visit.old.bounds.hi result.keys
         visit.old.visitor visit.new.visitor }
 {
@@ -106,7 +99,6 @@ pub fn visit_under<P: Pace, V: Visitor>(
     ensures rests { RestsAt words.now seat.new (next_word (next_word snapshot.pin_word)) }
     ensures time { result.time ≡ snapshot.time }
     ensures reads { ReadsUnder seat.old.knows seat.new.knows snapshot.time (page_deed visit.old.bounds.lo visit.old.bounds.hi 0 [] result.first) }
-    ensures reached { result.time ≤ length seat.new.knows.past }
     ensures visits { IsKeyVisit V.takes (plain seat.new.knows.past) result.time visit.old.bounds.lo visit.old.bounds.hi result.keys
         visit.old.visitor visit.new.visitor }
 {

@@ -1,4 +1,4 @@
-use Rattle.std.proofs.Common.{◌≡◌, ap, rules, sym, ◌∙◌}
+use Rattle.std.proofs.Common.{◌≡◌, ap, refl, rules, sym, ◌∙◌}
 use Rattle.clsm_law.specs.Views.{next_word}
 use Rattle.clsm_law.specs.declared.view.View.{View}
 use Rattle.clsm_words.specs.Plays.{IsSeatOf}
@@ -25,9 +25,8 @@ returns-clause-refused g c =
 pub returns-clause-counts : goal.returns-clause-counts
 returns-clause-counts g c =
     let entered = when_ok c.try_lock_shared.result c.if-is_err.ensures.negation c.try_lock_shared.ensures.entered in
-    let uncounted = when_ok c.try_lock_shared.result c.if-is_err.ensures.negation c.try_lock_shared.ensures.uncounted in
     counts_if c.requires.rests.rests entered c.pin-component.ensures.pinned c.unlock_shared.ensures.left c.args.modification.now.key
-    c.try_change_pinned-answer.result c.read_end-end.result c.unpin.ensures.unpinned uncounted c.try_change_pinned-answer.ensures.counts
+    c.try_change_pinned-answer.result c.read_end-end.result c.unpin.ensures.unpinned refl c.try_change_pinned-answer.ensures.counts
 
 pub returns-clause-rests : goal.returns-clause-rests
 returns-clause-rests g c =

@@ -10,5 +10,5 @@ returns-clause-reads g c =
     let bounds = c.args.visit.now.bounds in
     let deed = page_deed bounds.lo bounds.hi 0 [] c.visit_below-end.result.0.first in
     subst (λ (t : ℕ). ReadsAt c.args.seat.now.knows c.unpin.new.seat.knows t deed) (sym c.visit_below-end.ensures.time)
-    (many c.requires.rests.rests c.begin-point.ensures.begins c.visit_below-end.ensures.looks c.unpin.ensures.unpinned (First bounds.lo bounds.hi 0) deed
-    c.visit_below-end.ensures.end refl c.requires.none)
+    (many c.requires.rests.rests c.begin-point.ensures.begins c.begin-point.ensures.settled c.visit_below-end.ensures.looks c.unpin.ensures.unpinned
+    (First bounds.lo bounds.hi 0) deed c.visit_below-end.ensures.end refl c.requires.none)
