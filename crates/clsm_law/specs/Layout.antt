@@ -72,10 +72,26 @@ blocks z =
     ∷ (cell_words * (2 + 2 * z.cells)) ∷ (far_words * (2 * z.cells)) ∷ (3 * (2 * z.cells)) ∷ (2 * z.chains)
     ∷ (place_size z 0) ∷ (place_size z 1) ∷ (place_size z 2) ∷ (place_size z 3) ∷ (place_size z 4) ∷ []
 
+-- the numbers of the blocks behind the five words
+abbrev pub pins_block : ℕ
+pins_block = 5
+abbrev pub snaps_block : ℕ
+snaps_block = 6
+abbrev pub cells_block : ℕ
+cells_block = 7
+abbrev pub far_block : ℕ
+far_block = 8
+abbrev pub hints_block : ℕ
+hints_block = 9
+abbrev pub heads_block : ℕ
+heads_block = 10
+abbrev pub block_of_place : ℕ → ℕ
+block_of_place p = 11 + p
+
 -- the block that a part of a cell stands in
 abbrev pub part_block : Part → ℕ
-part_block (Value (suc (suc (suc j)))) = 8
-part_block _ = 7
+part_block (Value (suc (suc (suc j)))) = far_block
+part_block _ = cells_block
 
 -- the block that a word stands in
 abbrev pub block_of : Word → ℕ
@@ -84,15 +100,15 @@ block_of Clock = 1
 block_of Limit = 2
 block_of Front = 3
 block_of Merged = 4
-block_of (Pin i) = 5
-block_of (Snap i) = 6
+block_of (Pin i) = pins_block
+block_of (Snap i) = snaps_block
 block_of (Cell c part) = part_block part
-block_of (Order k) = 7
-block_of (Hint c i) = 9
-block_of (State c) = 7
-block_of (Head region chain) = 10
-block_of (Count p) = 11 + p
-block_of (Entry p e i) = 11 + p
+block_of (Order k) = cells_block
+block_of (Hint c i) = hints_block
+block_of (State c) = cells_block
+block_of (Head region chain) = heads_block
+block_of (Count p) = block_of_place p
+block_of (Entry p e i) = block_of_place p
 
 -- where a part that is no far word stands in its cell's line
 abbrev pub part_offset : Part → ℕ

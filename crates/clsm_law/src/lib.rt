@@ -21,3 +21,7 @@ pub use places::{LEVEL_ONE, is_named, level_one_place, target_place};
 pub use step::{Answer, End, Event, Step, StepError};
 pub use view::{FreshLink, Mode, SnapshotState, View, Waiting};
 pub use word::{Part, Word};
+
+/// A cell of the component in memory: the words of one write. A time has the cell of its remainder
+/// by the number of cells.
+pub type Cell = u64;

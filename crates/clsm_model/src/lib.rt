@@ -26,3 +26,6 @@ pub use value::{Length, Value};
 
 /// A timestamp. Each write has one of its own; a read at a time sees the writes below it.
 pub type Time = u64;
+
+/// A key of the map: any 64-bit number.
+pub type Key = u64;
