@@ -16,4 +16,4 @@ mod writing;
 pub use entry::HeldRun;
 pub use finding::Wanted;
 pub use merging::{RunFull, merge};
-pub use passing::{Passage, Passed, Sought, has_value, next, seek, value, word_alone};
+pub use passing::{Passage, Passed, Sought};

@@ -13,7 +13,6 @@ ghost use Rattle.clsm_runs.specs.Placing.{rows_of};
 ghost use Rattle.clsm_runs.specs.Searching.{run_at};
 
 use crate::entry::PlacedEntry;
-use crate::sources::{value as entry_value, version};
 use clsm_law::{Word, level_one_place};
 use clsm_levels::{Cursor, Version, is_to_level_one, least};
 use clsm_model::Value;
@@ -52,7 +51,7 @@ fn version_at<P: Pace>(words: &Words<P>, merger: &mut RawMerger, at: PlacedEntry
     merger.show_invariant();
     let count = words.look_as_merger(merger, Word::Count(at.place));
     if at.entry < count {
-        Some(version(words, merger, at))
+        Some(at.version(words, merger))
     } else {
         None
     }
@@ -235,5 +234,5 @@ pub(crate) fn value<P: Pace>(
     let place = place_of_row(merges, winner.row)?;
     let removes = winner.version.is_removal;
     let entry = winner.position;
-    entry_value(words, merger, PlacedEntry { place, entry }, removes)
+    PlacedEntry { place, entry }.value(words, merger, removes)
 }

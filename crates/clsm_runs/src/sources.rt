@@ -19,18 +19,57 @@ use clsm_levels::Version;
 use clsm_model::Value;
 use clsm_words::{Load, Pace, RawMerger, Words, load_value};
 
-/// One of the words of the entry.
-fn part<P: Pace>(words: &Words<P>, merger: &mut RawMerger, at: PlacedEntry, part: u64) -> u64
-    requires of { IsSeatOf words.now merger.old }
-    requires has { IsMergedEntry merger.old.knows at.place at.entry }
-    requires inside { part < 11 }
-    ensures of { IsSeatOf words.now merger.new }
-    ensures looks { Changes NoWord merger.old.knows merger.new.knows }
-    ensures told { result ≡ entry_word merger.old.knows at.place at.entry part }
-{
-    merger.show_invariant();
-    let PlacedEntry { place, entry } = at;
-    words.look_as_merger(merger, Word::Entry { place, entry, part })
+impl PlacedEntry {
+    /// One of the words of the entry.
+    fn part<P: Pace>(self, words: &Words<P>, merger: &mut RawMerger, part: u64) -> u64
+        requires of { IsSeatOf words.now merger.old }
+        requires has { IsMergedEntry merger.old.knows self.place self.entry }
+        requires inside { part < 11 }
+        ensures of { IsSeatOf words.now merger.new }
+        ensures looks { Changes NoWord merger.old.knows merger.new.knows }
+        ensures told { result ≡ entry_word merger.old.knows self.place self.entry part }
+    {
+        merger.show_invariant();
+        let PlacedEntry { place, entry } = self;
+        words.look_as_merger(merger, Word::Entry { place, entry, part })
+    }
+
+    /// The entry there, without its value.
+    pub(crate) fn version<P: Pace>(self, words: &Words<P>, merger: &mut RawMerger) -> Version
+        requires of { IsSeatOf words.now merger.old }
+        requires has { IsMergedEntry merger.old.knows self.place self.entry }
+        ensures of { IsSeatOf words.now merger.new }
+        ensures looks { Changes NoWord merger.old.knows merger.new.knows }
+        ensures told { result ≡ version_of (entry_in (row_of merger.old.knows) self.place self.entry) }
+    {
+        let key = self.part(words, merger, KEY);
+        let spelled = self.part(words, merger, TIME);
+        Version {
+            key,
+            time: spelled / 2,
+            is_removal: spelled % 2 == 1,
+        }
+    }
+
+    /// Its value: none where it is a removal.
+    pub(crate) fn value<P: Pace>(
+        self,
+        words: &Words<P>,
+        merger: &mut RawMerger,
+        removes: bool,
+    ) -> Option<Value>
+        requires of { IsSeatOf words.now merger.old }
+        requires has { IsMergedEntry merger.old.knows self.place self.entry }
+        requires removes { is_removal (entry_in (row_of merger.old.knows) self.place self.entry) ≡ removes }
+        ensures of { IsSeatOf words.now merger.new }
+        ensures looks { Changes NoWord merger.old.knows merger.new.knows }
+        ensures told { result ≡ (entry_in (row_of merger.old.knows) self.place self.entry).value }
+    {
+        if removes {
+            return None;
+        }
+        Some(load_value(words, merger, &self))
+    }
 }
 
 /// The value of an entry that is no removal, of a merged run.
@@ -45,12 +84,12 @@ impl Load<RawMerger> for PlacedEntry {
     #[inline]
     fn length<P: Pace>(&self, words: &Words<P>, merger: &mut RawMerger) -> usize {
         merger.show_invariant();
-        part(words, merger, *self, LENGTH) as usize
+        self.part(words, merger, LENGTH) as usize
     }
 
     #[inline]
     fn word<P: Pace>(&self, words: &Words<P>, merger: &mut RawMerger, index: usize) -> u64 {
-        part(words, merger, *self, VALUE + index as u64)
+        self.part(words, merger, VALUE + index as u64)
     }
 
     ghost stands_on = { λ words a b at is looks. (
@@ -62,41 +101,4 @@ impl Load<RawMerger> for PlacedEntry {
     ghost value_stays = { λ words a b at is looks. ap (λ (e : Entry). e.value) (merged_entry_stays a.knows b.knows at.place at.entry looks.1) };
 
     ghost looks_on = { λ words a b c first then. (then.0, changes_trans NoWord a.knows b.knows c.knows first.1 then.1) };
-}
-
-/// The entry there, without its value.
-pub(crate) fn version<P: Pace>(words: &Words<P>, merger: &mut RawMerger, at: PlacedEntry) -> Version
-    requires of { IsSeatOf words.now merger.old }
-    requires has { IsMergedEntry merger.old.knows at.place at.entry }
-    ensures of { IsSeatOf words.now merger.new }
-    ensures looks { Changes NoWord merger.old.knows merger.new.knows }
-    ensures told { result ≡ version_of (entry_in (row_of merger.old.knows) at.place at.entry) }
-{
-    let key = part(words, merger, at, KEY);
-    let spelled = part(words, merger, at, TIME);
-    Version {
-        key,
-        time: spelled / 2,
-        is_removal: spelled % 2 == 1,
-    }
-}
-
-/// Its value: none where it is a removal.
-pub(crate) fn value<P: Pace>(
-    words: &Words<P>,
-    merger: &mut RawMerger,
-    at: PlacedEntry,
-    removes: bool,
-) -> Option<Value>
-    requires of { IsSeatOf words.now merger.old }
-    requires has { IsMergedEntry merger.old.knows at.place at.entry }
-    requires removes { is_removal (entry_in (row_of merger.old.knows) at.place at.entry) ≡ removes }
-    ensures of { IsSeatOf words.now merger.new }
-    ensures looks { Changes NoWord merger.old.knows merger.new.knows }
-    ensures told { result ≡ (entry_in (row_of merger.old.knows) at.place at.entry).value }
-{
-    if removes {
-        return None;
-    }
-    Some(load_value(words, merger, &at))
 }

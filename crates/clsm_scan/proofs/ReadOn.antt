@@ -6,27 +6,18 @@ use Rattle.clsm_words.specs.declared.words.WordTable.{WordTable}
 use Rattle.clsm_words.specs.Keeping.{LooksAside}
 use Rattle.clsm_words.specs.Plays.{IsSeatOf}
 use Rattle.clsm_words.specs.Seats.{RawState}
+use Rattle.clsm_scan.specs.Reading.{HasReadTo, MayReadFrom}
 use Rattle.clsm_words.proofs.Keeps.{aside_trans, looks_none}
 
--- by looks it came to stand at this key: it is over what it was over, and finds what it found from
--- there on
-pub record HasReadTo {C : Type 0} (IsOver : Known → C → Type 0) (found : Known → C → ℕ → Option Entry) (StandsAt : Known → C → ℕ → Type 0)
-    (words : WordTable) (first seat : RawState) (begun cursor : C) (from : ℕ) : Type 0 where
-  pub of : IsSeatOf words seat
-  pub looks : LooksAside first.knows seat.knows
-  pub over : IsOver seat.knows cursor
-  pub same : (key : ℕ) → from ≤ key → found seat.knows cursor key ≡ found first.knows begun key
-  pub stands : StandsAt seat.knows cursor from
-
 module _ {C : Type 0} (IsOver : Known → C → Type 0) (found : Known → C → ℕ → Option Entry) (StandsAt : Known → C → ℕ → Type 0) (words : WordTable) where
-  pub read_none : (seat : RawState) (cursor : C) (from : ℕ) → IsSeatOf words seat → IsOver seat.knows cursor → StandsAt seat.knows cursor from
+  pub read_none : (seat : RawState) (cursor : C) (from : ℕ) → MayReadFrom IsOver StandsAt words seat cursor from
       → HasReadTo IsOver found StandsAt words seat seat cursor cursor from
-  read_none seat cursor from of over here = record {
-    of = of;
+  read_none seat cursor from may = record {
+    of = may.of;
     looks = record { looks = looks_none seat.knows; trail = refl };
-    over = over;
+    over = may.over;
     same = λ key le. refl;
-    stands = here;
+    stands = may.stands;
   }
 
   -- From there it read on to another key, and then looked aside. The laws are those of a source.
@@ -34,12 +25,17 @@ module _ {C : Type 0} (IsOver : Known → C → Type 0) (found : Known → C →
       → ((k k' : Known) (s : C) → LooksAside k k' → IsOver k s → (key : ℕ) → found k' s key ≡ found k s key)
       → ((k k' : Known) (s : C) (from : ℕ) → LooksAside k k' → IsOver k s → StandsAt k s from → StandsAt k' s from)
       → (first a b c : RawState) (x y z : C) (from to : ℕ) → from ≤ to → HasReadTo IsOver found StandsAt words first a x y from
-      → LooksAside a.knows b.knows → IsOver b.knows z → ((key : ℕ) → to ≤ key → found b.knows z key ≡ found a.knows y key) → StandsAt b.knows z to
-      → IsSeatOf words c → LooksAside b.knows c.knows → HasReadTo IsOver found StandsAt words first c x z to
-  read_on over_stays found_stays stands_stays first a b c x y z from to le before looks over same stands of aside = record {
+      → HasReadTo IsOver found StandsAt words a b y z to → IsSeatOf words c → LooksAside b.knows c.knows
+      → HasReadTo IsOver found StandsAt words first c x z to
+  read_on over_stays found_stays stands_stays first a b c x y z from to le before read of aside = record {
     of = of;
-    looks = aside_trans first.knows b.knows c.knows (aside_trans first.knows a.knows b.knows before.looks looks) aside;
-    over = over_stays b.knows c.knows z aside over;
-    same = λ key le'. found_stays b.knows c.knows z aside over key ∙ same key le' ∙ before.same key (omega arith);
-    stands = stands_stays b.knows c.knows z to aside over stands;
+    looks = aside_trans first.knows b.knows c.knows (aside_trans first.knows a.knows b.knows before.looks read.looks) aside;
+    over = over_stays b.knows c.knows z aside read.over;
+    same = λ key le'. found_stays b.knows c.knows z aside read.over key ∙ read.same key le' ∙ before.same key (omega arith);
+    stands = stands_stays b.knows c.knows z to aside read.over read.stands;
   }
+
+  -- a cursor that read to a key may read on from there
+  pub may_read : (first seat : RawState) (begun cursor : C) (from : ℕ) → HasReadTo IsOver found StandsAt words first seat begun cursor from
+      → MayReadFrom IsOver StandsAt words seat cursor from
+  may_read first seat begun cursor from read = record { of = read.of; over = read.over; stands = read.stands }

@@ -5,3 +5,4 @@ pub mod Walking
 pub mod Walks
 pub mod Streams
 pub mod Sources
+pub mod Reading

@@ -6,10 +6,13 @@ use Rattle.clsm_model.specs.History.{or_else}
 use Rattle.clsm_levels.specs.declared.entry.Entry.{Entry}
 use Rattle.clsm_levels.specs.Yields.{IsNextFrom}
 use Rattle.clsm_words.specs.declared.known.Known.{Known}
+use Rattle.clsm_words.specs.declared.words.WordTable.{WordTable}
 use Rattle.clsm_words.specs.Keeping.{LooksAside}
+use Rattle.clsm_words.specs.Seats.{RawState}
 use Rattle.clsm_scan.specs.declared.merged.Merged.{Merged}
 use Rattle.clsm_scan.specs.declared.merged.Stream.{Stream}
 use Rattle.clsm_scan.specs.Heads.{key_of}
+use Rattle.clsm_scan.specs.Reading.{MayReadFrom}
 use Rattle.clsm_scan.specs.Optional.{last_in}
 use Rattle.clsm_scan.specs.Walks.{any_found, any_found_stays, any_last, any_last_stays, any_over, any_over_stays, any_stands, any_stands_stays}
 
@@ -40,6 +43,10 @@ pub record IsAhead (k : Known) (from hi : ℕ) (s : Stream) : Type 0 where
 
 abbrev pub AreAhead : Known → ℕ → ℕ → List Stream → Type 0
 AreAhead k from hi = AllByRecursion (IsAhead k from hi)
+
+-- the walks are over what the seat holds, and stand as those of a scan that goes on from this key
+abbrev pub IsMerging : WordTable → RawState → ℕ → Merged → Type 0
+IsMerging words seat from m = MayReadFrom (λ k m. AreOver k m.streams.items) (λ k m from. AreAhead k from m.hi m.streams.items) words seat m from
 
 -- the write that the walk at the place came by last
 abbrev pub last_at : Known → List Stream → ℕ → Option Entry

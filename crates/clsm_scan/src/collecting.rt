@@ -1,8 +1,9 @@
 //! The rows of a range of keys, by a cursor.
-ghost use Rattle.std.specs.Prelude.{◌≡◌, ℕ, ◌+◌, ◌≤◌, IfOk, IfSome};
+ghost use Rattle.std.specs.Prelude.{◌≡◌, ◌+◌, IfOk, IfSome};
 ghost use Rattle.clsm_words.specs.Keeping.{LooksAside};
 ghost use Rattle.clsm_words.specs.Plays.{IsSeatOf};
 ghost use Rattle.clsm_scan.specs.Collected.{IsCollected, IsNextKey, is_full, left_at};
+ghost use Rattle.clsm_scan.specs.Reading.{HasReadTo, MayReadFrom};
 
 use crate::cursor::Cursor;
 use clsm_model::{Memory, Value};
@@ -36,15 +37,12 @@ pub(crate) fn next_key<C: Cursor, P: Pace>(
     from: u64,
     hi: u64,
 ) -> Option<u64>
-    requires of { IsSeatOf words.now seat.old }
-    requires over { C.is_over seat.old.knows cursor.old }
-    requires stands { C.stands seat.old.knows cursor.old from }
+    requires stands { MayReadFrom C.is_over C.stands words.now seat.old cursor.old from }
     ensures of { IsSeatOf words.now seat.new }
     ensures looks { LooksAside seat.old.knows seat.new.knows }
     ensures over { C.is_over seat.new.knows cursor.new }
     ensures next { IsNextKey (left_at (C.found seat.old.knows cursor.old)) from hi (C.last seat.new.knows cursor.new) result }
-    ensures same { IfSome result (λ key. (k : ℕ) → key + 1 ≤ k → C.found seat.new.knows cursor.new k ≡ C.found seat.old.knows cursor.old k) }
-    ensures stands { IfSome result (λ key. C.stands seat.new.knows cursor.new (key + 1)) }
+    ensures read { IfSome result (λ key. HasReadTo C.is_over C.found C.stands words.now seat.old seat.new cursor.old cursor.new (key + 1)) }
 {
     let mut sought = from;
     while sought <= hi {
@@ -89,9 +87,7 @@ pub fn collect<C: Cursor, P: Pace>(
     cursor: &mut C,
     range: KeyRange,
 ) -> Result<Collected, Memory>
-    requires of { IsSeatOf words.now seat.old }
-    requires over { C.is_over seat.old.knows cursor.old }
-    requires stands { C.stands seat.old.knows cursor.old range.lo }
+    requires stands { MayReadFrom C.is_over C.stands words.now seat.old cursor.old range.lo }
     ensures of { IsSeatOf words.now seat.new }
     ensures looks { LooksAside seat.old.knows seat.new.knows }
     ensures rows { IfOk result (λ all. IsCollected (left_at (C.found seat.old.knows cursor.old)) range.lo range.hi range.max all.rows.items all.more) }

@@ -13,7 +13,7 @@ use crate::sink::Sink;
 use crate::source::Source;
 use crate::walk::Walk;
 use clsm_model::Value;
-use clsm_search::{Epoch, has_value, newest_from, seek, value, word_alone};
+use clsm_search::Epoch;
 use clsm_words::{Pace, RawSeat, Spot, Words};
 
 /// A walk along an epoch of the held component.
@@ -59,7 +59,7 @@ impl EpochCursor {
         ensures takes { (row : Pair) → rows_of (spot_entry seat.old.knows self.now.epoch self.now.last) ≡ row ∷ [] → S.takes to.old row result to.new }
     {
         match self.last {
-            Some(spot) => to.take(spot.key, value(words, seat, &self.epoch, spot)),
+            Some(spot) => to.take(spot.key, self.epoch.value(words, seat, spot)),
             None => unreachable!(),
         }
     }
@@ -77,7 +77,7 @@ impl Source for EpochCursor {
     #[inline(always)]
     fn has_value<P: Pace>(&self, words: &Words<P>, seat: &mut RawSeat) -> bool {
         match self.last {
-            Some(spot) => has_value(words, seat, &self.epoch, spot),
+            Some(spot) => self.epoch.has_value(words, seat, spot),
             None => false,
         }
     }
@@ -85,7 +85,7 @@ impl Source for EpochCursor {
     #[inline(always)]
     fn give<P: Pace, S: Sink>(&self, words: &Words<P>, seat: &mut RawSeat, to: &mut S) -> S::Reply {
         match self.last {
-            Some(spot) => match word_alone(words, seat, &self.epoch, spot) {
+            Some(spot) => match self.epoch.word_alone(words, seat, spot) {
                 Some(word) => to.take(spot.key, Value::from(word)),
                 None => self.give_long(words, seat, to),
             },
@@ -109,14 +109,14 @@ impl Source for EpochCursor {
 
 impl Walk for EpochCursor {
     fn seek<P: Pace>(&mut self, words: &Words<P>, seat: &mut RawSeat, key: u64) {
-        self.ahead = seek(words, seat, &self.epoch, key);
+        self.ahead = self.epoch.seek(words, seat, key);
         self.last = None;
     }
 
     #[inline(always)]
     fn next<P: Pace>(&mut self, words: &Words<P>, seat: &mut RawSeat, from: u64) -> Option<u64> {
         // (place and key are written word by word: a copy of both would wait for them)
-        match newest_from(words, seat, &self.epoch, &mut self.ahead, from) {
+        match self.epoch.newest_from(words, seat, &mut self.ahead, from) {
             Some(Spot { place, key }) => {
                 self.last = Some(Spot { place, key });
                 Some(key)

@@ -3,7 +3,7 @@ ghost use Rattle.std.specs.Prelude.{◌≡◌, ℕ, ◌+◌, ◌<◌, ◌≤◌,
 ghost use Rattle.clsm_words.specs.Keeping.{LooksAside};
 ghost use Rattle.clsm_words.specs.Plays.{IsSeatOf};
 ghost use Rattle.clsm_scan.specs.Optional.{If, found_in};
-ghost use Rattle.clsm_scan.specs.Streams.{AreAhead, AreFrom, AreOver, ArePast, HasAdded, IsAhead, IsLeast, all_ahead_later, all_ahead_stays, all_over_stays};
+ghost use Rattle.clsm_scan.specs.Streams.{AreAhead, AreFrom, AreOver, ArePast, HasAdded, IsAhead, IsLeast, IsMerging, all_ahead_later, all_ahead_stays, all_over_stays};
 ghost use Rattle.clsm_scan.specs.Streams.{first_of, key_at, last_at, last_at_stays, up_to, up_to_stays};
 ghost use Rattle.clsm_scan.specs.Walks.{any_found, any_over, any_stands};
 
@@ -121,10 +121,8 @@ impl Merged {
         walk: Option<AnyWalk>,
         lo: u64,
     )
-        requires of { IsSeatOf words.now seat.old }
+        requires merges { IsMerging words.now seat.old lo self.old }
         requires room { length self.old.streams.items < 6 }
-        requires over { AreOver seat.old.knows self.old.streams.items }
-        requires ahead { AreAhead seat.old.knows lo self.old.hi self.old.streams.items }
         requires walk { If (any_over seat.old.knows) walk }
         ensures of { IsSeatOf words.now seat.new }
         ensures room { length self.new.streams.items ≤ length self.old.streams.items + 1 }
@@ -150,10 +148,8 @@ impl Merged {
         at: usize,
         from: u64,
     ) -> usize
-        requires of { IsSeatOf words.now seat.old }
+        requires merges { IsMerging words.now seat.old from self.old }
         requires inside { at < length self.old.streams.items }
-        requires over { AreOver seat.old.knows self.old.streams.items }
-        requires ahead { AreAhead seat.old.knows from self.old.hi self.old.streams.items }
         requires past { ArePast from at self.old.streams.items }
         ensures of { IsSeatOf words.now seat.new }
         ensures looks { LooksAside seat.old.knows seat.new.knows }
@@ -191,9 +187,7 @@ impl Merged {
     /// if there is none.
     #[inline(always)]
     fn pass<P: Pace>(&mut self, words: &Words<P>, seat: &mut RawSeat, from: u64)
-        requires of { IsSeatOf words.now seat.old }
-        requires over { AreOver seat.old.knows self.old.streams.items }
-        requires ahead { AreAhead seat.old.knows from self.old.hi self.old.streams.items }
+        requires merges { IsMerging words.now seat.old from self.old }
         ensures of { IsSeatOf words.now seat.new }
         ensures looks { LooksAside seat.old.knows seat.new.knows }
         ensures hi { self.new.hi ≡ self.old.hi }

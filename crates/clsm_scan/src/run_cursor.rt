@@ -16,7 +16,7 @@ use crate::sink::Sink;
 use crate::source::Source;
 use crate::walk::Walk;
 use clsm_model::{Time, Value};
-use clsm_runs::{HeldRun, Passage, Passed, Sought, has_value, next, seek, value, word_alone};
+use clsm_runs::{HeldRun, Passage, Passed, Sought};
 use clsm_words::{Pace, RawSeat, Words};
 
 /// A walk along the run at a place that the held component names.
@@ -76,7 +76,7 @@ impl RunCursor {
         ensures takes { (row : Pair) → rows_of (passed_entry seat.old.knows self.now.run.place self.now.last) ≡ row ∷ [] → S.takes to.old row result to.new }
     {
         match self.last {
-            Some(passed) => to.take(passed.key, value(words, seat, self.run, &passed)),
+            Some(passed) => to.take(passed.key, self.run.value(words, seat, &passed)),
             None => unreachable!(),
         }
     }
@@ -94,7 +94,7 @@ impl Source for RunCursor {
     #[inline(always)]
     fn has_value<P: Pace>(&self, words: &Words<P>, seat: &mut RawSeat) -> bool {
         match self.last {
-            Some(passed) => has_value(words, seat, self.run, &passed),
+            Some(passed) => self.run.has_value(words, seat, &passed),
             None => false,
         }
     }
@@ -102,7 +102,7 @@ impl Source for RunCursor {
     #[inline(always)]
     fn give<P: Pace, S: Sink>(&self, words: &Words<P>, seat: &mut RawSeat, to: &mut S) -> S::Reply {
         match self.last {
-            Some(passed) => match word_alone(words, seat, self.run, &passed) {
+            Some(passed) => match self.run.word_alone(words, seat, &passed) {
                 Some(word) => to.take(passed.key, Value::from(word)),
                 None => self.give_long(words, seat, to),
             },
@@ -127,7 +127,9 @@ impl Source for RunCursor {
 
 impl Walk for RunCursor {
     fn seek<P: Pace>(&mut self, words: &Words<P>, seat: &mut RawSeat, key: u64) {
-        self.passage = seek(words, seat, self.run, key, self.until);
+        let until = self.until;
+        let sought = Sought { from: key, until };
+        self.passage = self.run.seek(words, seat, sought);
         self.last = None;
     }
 
@@ -135,7 +137,7 @@ impl Walk for RunCursor {
     fn next<P: Pace>(&mut self, words: &Words<P>, seat: &mut RawSeat, from: u64) -> Option<u64> {
         let until = self.until;
         let sought = Sought { from, until };
-        self.last = next(words, seat, self.run, &mut self.passage, sought);
+        self.last = self.run.next(words, seat, &mut self.passage, sought);
         key_of(self.last)
     }
 }

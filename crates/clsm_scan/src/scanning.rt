@@ -4,7 +4,7 @@ ghost use Rattle.clsm_words.specs.Keeping.{LooksAside};
 ghost use Rattle.clsm_words.specs.Plays.{IsSeatOf};
 ghost use Rattle.clsm_scan.specs.Collected.{IsCollected, IsVisit, left_at};
 ghost use Rattle.clsm_scan.specs.Sources.{MayScan, epoch_walk, found_in_component, found_in_epochs, found_in_runs, level_one_walk, level_zero_walk};
-ghost use Rattle.clsm_scan.specs.Streams.{AreAhead, AreOver, HasAdded};
+ghost use Rattle.clsm_scan.specs.Streams.{HasAdded, IsMerging};
 
 use crate::any_walk::AnyWalk;
 use crate::collecting::{Collected, KeyRange, collect};
@@ -66,74 +66,56 @@ pub struct ReadPoint {
     pub until: Time,
 }
 
-/// Adds the walks along the component's epochs from the key on, the later one first.
-#[inline(always)]
-fn add_epochs<P: Pace>(
-    words: &Words<P>,
-    seat: &mut RawSeat,
-    point: ReadPoint,
-    key: u64,
-    merged: &mut Merged,
-)
-    requires of { IsSeatOf words.now seat.old }
-    requires may { MayScan seat.old.knows point.component point.until }
-    requires none { merged.old.streams.items ≡ [] }
-    ensures of { IsSeatOf words.now seat.new }
-    ensures room { length merged.new.streams.items ≤ 2 }
-    ensures added { HasAdded key seat.old.knows merged.old seat.new.knows merged.new (found_in_epochs seat.old.knows point.component point.until) }
-{
-    let ReadPoint { component, until } = point;
-    let cells = words.cells();
-    let first = component.saturating_mul(cells);
-    let second = first.saturating_add(cells);
-    let number = component.saturating_add(1);
-    let later = epoch_below(component, number, second, cells, until);
-    merged.add(words, seat, later, key);
-    let earlier = epoch_below(component, component, first, cells, until);
-    merged.add(words, seat, earlier, key);
-}
+impl Merged {
+    /// Adds the walks along the component's epochs from the key on, the later one first.
+    #[inline(always)]
+    fn add_epochs<P: Pace>(&mut self, words: &Words<P>, seat: &mut RawSeat, at: ReadPoint, key: u64)
+        requires of { IsSeatOf words.now seat.old }
+        requires may { MayScan seat.old.knows at.component at.until }
+        requires none { self.old.streams.items ≡ [] }
+        ensures of { IsSeatOf words.now seat.new }
+        ensures room { length self.new.streams.items ≤ 2 }
+        ensures added { HasAdded key seat.old.knows self.old seat.new.knows self.new (found_in_epochs seat.old.knows at.component at.until) }
+    {
+        let ReadPoint { component, until } = at;
+        let cells = words.cells();
+        let first = component.saturating_mul(cells);
+        let second = first.saturating_add(cells);
+        let number = component.saturating_add(1);
+        let later = epoch_below(component, number, second, cells, until);
+        self.add(words, seat, later, key);
+        let earlier = epoch_below(component, component, first, cells, until);
+        self.add(words, seat, earlier, key);
+    }
 
-/// Adds the walks along the component's runs from the key on, the newest first.
-#[inline(always)]
-fn add_runs<P: Pace>(
-    words: &Words<P>,
-    seat: &mut RawSeat,
-    point: ReadPoint,
-    key: u64,
-    merged: &mut Merged,
-)
-    requires of { IsSeatOf words.now seat.old }
-    requires held { seat.old.knows.view.held ≡ Some point.component }
-    requires room { length merged.old.streams.items ≤ 2 }
-    requires over { AreOver seat.old.knows merged.old.streams.items }
-    requires ahead { AreAhead seat.old.knows key merged.old.hi merged.old.streams.items }
-    ensures of { IsSeatOf words.now seat.new }
-    ensures added { HasAdded key seat.old.knows merged.old seat.new.knows merged.new (found_in_runs seat.old.knows point.component point.until) }
-{
-    let ReadPoint { component, until } = point;
-    merged.add(words, seat, level_zero(component, 2, until), key);
-    merged.add(words, seat, level_zero(component, 1, until), key);
-    merged.add(words, seat, level_zero(component, 0, until), key);
-    merged.add(words, seat, Some(level_one(component, until)), key);
-}
+    /// Adds the walks along the component's runs from the key on, the newest first.
+    #[inline(always)]
+    fn add_runs<P: Pace>(&mut self, words: &Words<P>, seat: &mut RawSeat, at: ReadPoint, key: u64)
+        requires merges { IsMerging words.now seat.old key self.old }
+        requires held { seat.old.knows.view.held ≡ Some at.component }
+        requires room { length self.old.streams.items ≤ 2 }
+        ensures of { IsSeatOf words.now seat.new }
+        ensures added { HasAdded key seat.old.knows self.old seat.new.knows self.new (found_in_runs seat.old.knows at.component at.until) }
+    {
+        let ReadPoint { component, until } = at;
+        self.add(words, seat, level_zero(component, 2, until), key);
+        self.add(words, seat, level_zero(component, 1, until), key);
+        self.add(words, seat, level_zero(component, 0, until), key);
+        self.add(words, seat, Some(level_one(component, until)), key);
+    }
 
-/// Adds the walks along all that the point reads, from the key on.
-#[inline]
-fn add_all<P: Pace>(
-    words: &Words<P>,
-    seat: &mut RawSeat,
-    point: ReadPoint,
-    key: u64,
-    merged: &mut Merged,
-)
-    requires of { IsSeatOf words.now seat.old }
-    requires may { MayScan seat.old.knows point.component point.until }
-    requires none { merged.old.streams.items ≡ [] }
-    ensures of { IsSeatOf words.now seat.new }
-    ensures added { HasAdded key seat.old.knows merged.old seat.new.knows merged.new (found_in_component seat.old.knows point.component point.until) }
-{
-    add_epochs(words, seat, point, key, merged);
-    add_runs(words, seat, point, key, merged);
+    /// Adds the walks along all that the point reads, from the key on.
+    #[inline]
+    fn add_all<P: Pace>(&mut self, words: &Words<P>, seat: &mut RawSeat, at: ReadPoint, key: u64)
+        requires of { IsSeatOf words.now seat.old }
+        requires may { MayScan seat.old.knows at.component at.until }
+        requires none { self.old.streams.items ≡ [] }
+        ensures of { IsSeatOf words.now seat.new }
+        ensures added { HasAdded key seat.old.knows self.old seat.new.knows self.new (found_in_component seat.old.knows at.component at.until) }
+    {
+        self.add_epochs(words, seat, at, key);
+        self.add_runs(words, seat, at, key);
+    }
 }
 
 /// The rows of all keys of the range at the point, by rising key: no more than the range gives. It
@@ -154,7 +136,7 @@ pub fn scan<P: Pace>(
         range.lo range.hi range.max all.rows.items all.more) }
 {
     let mut merged = Merged::new(range.hi);
-    add_all(words, seat, point, range.lo, &mut merged);
+    merged.add_all(words, seat, point, range.lo);
     collect(words, seat, alloc, &mut merged, range)
 }
 
@@ -178,6 +160,6 @@ pub fn visit<P: Pace, V: Visitor>(
         bounds.lo bounds.hi result.keys result.first visitor.old visitor.new }
 {
     let mut merged = Merged::new(bounds.hi);
-    add_all(words, seat, point, bounds.lo, &mut merged);
+    merged.add_all(words, seat, point, bounds.lo);
     visit_keys(words, seat, &mut merged, bounds, visitor)
 }

@@ -1,10 +1,11 @@
 //! Visits of the keys of a range that have a value, by a cursor.
-ghost use Rattle.std.specs.Prelude.{◌≡◌, ℕ, ◌∷◌, [], true};
+ghost use Rattle.std.specs.Prelude.{◌≡◌, ◌∷◌, [], true};
 ghost use Rattle.clsm_model.specs.Map.{Pair};
 ghost use Rattle.clsm_words.specs.Keeping.{LooksAside};
 ghost use Rattle.clsm_words.specs.Plays.{IsSeatOf};
 ghost use Rattle.clsm_scan.specs.Collected.{IsVisit, StepsBehind, left_at};
 ghost use Rattle.clsm_scan.specs.Heads.{has_value, rows_of};
+ghost use Rattle.clsm_scan.specs.Reading.{MayReadFrom};
 
 use crate::collecting::next_key;
 use crate::cursor::Cursor;
@@ -99,9 +100,7 @@ pub fn visit_keys<C: Cursor, P: Pace, V: Visitor>(
     bounds: Bounds,
     visitor: &mut V,
 ) -> KeyCount
-    requires of { IsSeatOf words.now seat.old }
-    requires over { C.is_over seat.old.knows cursor.old }
-    requires stands { C.stands seat.old.knows cursor.old bounds.lo }
+    requires stands { MayReadFrom C.is_over C.stands words.now seat.old cursor.old bounds.lo }
     requires ready { V.is_ready visitor.old }
     ensures of { IsSeatOf words.now seat.new }
     ensures looks { LooksAside seat.old.knows seat.new.knows }

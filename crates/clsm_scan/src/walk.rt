@@ -4,6 +4,7 @@ ghost use Rattle.clsm_levels.specs.Yields.{IsNextFrom, behind};
 ghost use Rattle.clsm_words.specs.Keeping.{LooksAside};
 ghost use Rattle.clsm_words.specs.Plays.{IsSeatOf};
 ghost use Rattle.clsm_scan.specs.Heads.{key_of};
+ghost use Rattle.clsm_scan.specs.Reading.{MayReadFrom};
 
 use crate::source::Source;
 use clsm_words::{Pace, RawSeat, Words};
@@ -23,9 +24,7 @@ pub trait Walk: Source {
     /// The key of the newest write below its time of the least key from `from` on that has one. It
     /// goes on behind that key. It takes no memory, and reads no value.
     fn next<P: Pace>(&mut self, words: &Words<P>, seat: &mut RawSeat, from: u64) -> Option<u64>
-        requires of { IsSeatOf words.now seat.old }
-        requires over { Self.is_over seat.old.knows self.old }
-        requires stands { Self.stands seat.old.knows self.old from }
+        requires stands { MayReadFrom Self.is_over Self.stands words.now seat.old self.old from }
         ensures of { IsSeatOf words.now seat.new }
         ensures looks { LooksAside seat.old.knows seat.new.knows }
         ensures over { Self.is_over seat.new.knows self.new }

@@ -14,3 +14,4 @@ pub mod NextVersions
 pub mod Leaps
 pub mod FrozenLists
 pub mod FrozenWalks
+pub mod ChainWalks

@@ -5,3 +5,4 @@ pub mod Ordering
 pub mod Seeking
 pub mod Versions
 pub mod Spans
+pub mod ChainWalks

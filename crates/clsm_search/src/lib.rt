@@ -23,7 +23,7 @@ pub use hints::{
     BEGINNING, Descent, Hop, Target, Trace, descend, has_place, is_before, later_of, leave_hints,
     link_behind, region_of, visit,
 };
-pub use list::{Epoch, has_value, newest_from, seek, value, word_alone};
+pub use list::Epoch;
 pub use scale::Scale;
 pub use searching::newest;
 pub use spans::{Span, is_written_in};

@@ -1,18 +1,23 @@
 //! The newest write of a key below a time, in the two epochs of a held component.
-ghost use Rattle.std.specs.Prelude.{◌≡◌, ◌+◌, ◌*◌, ◌%◌, ◌<◌, ◌≤◌, ◌≢◌, Some, [], length, IfOk, IfSome};
+ghost use Rattle.std.specs.Prelude.{◌≡◌, ◌+◌, ◌*◌, ◌%◌, ◌<◌, ◌≤◌, ◌≢◌, Some, length, IfOk, IfSome};
 ghost use Rattle.clsm_law.specs.Memory.{cell_of};
-ghost use Rattle.clsm_words.specs.Keeping.{Looks, LooksAside};
+ghost use Rattle.clsm_words.specs.Keeping.{Looks};
 ghost use Rattle.clsm_words.specs.Plays.{IsSeatOf};
-ghost use Rattle.clsm_search.specs.Ordering.{MayWalk};
-ghost use Rattle.clsm_search.specs.Searching.{GoesOn, IsFoundTime, IsHit, IsOnChain, IsWalked, MayLookInto, IsNewest, IsNewestIn};
-ghost use Rattle.clsm_search.specs.Searching.{IsNewestTime, better, is_later, is_write, slot_in};
+ghost use Rattle.clsm_search.specs.Ordering.{LooksOn, MayWalk};
+ghost use Rattle.clsm_search.specs.ChainWalks.{FindsNewest, IsNewestOf, IsWalking, WalksOn};
+ghost use Rattle.clsm_search.specs.Searching.{GoesOn, IsFoundTime, IsNewest, IsNewestIn, IsNewestTime, MayLookInto};
+ghost use Rattle.clsm_search.specs.Searching.{better, is_later, is_write, slot_in};
+ghost use Rattle.clsm_search.specs.Versions.{IsNewestVersion};
 
 use crate::cells::KnownCell;
-use crate::list::{Epoch, spot_of, time_at};
-use crate::versions::{FEW, PILE, Unsure, newest_along, newest_version};
+use crate::list::Epoch;
+use crate::versions::{FEW, Listed, PILE, Unsure};
 use clsm_law::{Part, Word};
 use clsm_model::Time;
 use clsm_words::{Pace, RawSeat, Words};
+
+/// What a list tells of the newest write of a key: its time, where there is one.
+type Newest = Result<Option<Time>, Unsure>;
 
 #[inline(always)]
 fn is_later(best: Option<Time>, time: Time) -> bool
@@ -24,54 +29,15 @@ fn is_later(best: Option<Time>, time: Time) -> bool
     }
 }
 
-/// How far the chain of a key was walked.
+/// How far the chain of a key in an epoch was walked, which is begun.
 #[derive(Clone, Copy)]
 struct ChainWalk {
+    epoch: Epoch,
     key: u64,
     /// The place of the next cell, or 0 at the chain's end.
     next: u64,
     /// The newest write of the key among the cells that were passed.
     best: Option<Time>,
-}
-
-/// The best so far, or the time of this cell in the epoch, where that is below the epoch's bound,
-/// later, and a write of the key.
-#[inline(always)]
-fn better<P: Pace>(
-    words: &Words<P>,
-    seat: &mut RawSeat,
-    epoch: &Epoch,
-    walk: &ChainWalk,
-    cell: u64,
-) -> Option<Time>
-    requires of { IsSeatOf words.now seat.old }
-    requires may { MayWalk seat.old.knows epoch.now }
-    requires begun { epoch.now.first < epoch.now.until }
-    requires place { cell_of seat.old.knows.layout (epoch.now.first + cell % seat.old.knows.layout.cells) ≡ cell }
-    ensures of { IsSeatOf words.now seat.new }
-    ensures looks { LooksAside seat.old.knows seat.new.knows }
-    ensures better { result ≡ better walk.now.best (epoch.now.first + cell % seat.old.knows.layout.cells) epoch.now.until
-        (is_write walk.now.key (slot_in seat.old.knows (epoch.now.first + cell % seat.old.knows.layout.cells))) }
-{
-    let offset = words.number_in_region(cell);
-    if offset >= epoch.until - epoch.first {
-        return walk.best;
-    }
-    let time = epoch.first + offset;
-    if !is_later(walk.best, time) {
-        return walk.best;
-    }
-    let component = epoch.component;
-    let at = KnownCell {
-        component,
-        time,
-        cell,
-    };
-    if at.is_write(words, seat, walk.key) {
-        Some(time)
-    } else {
-        walk.best
-    }
 }
 
 /// What the next of the cell is, on whose time the seat's walk stands.
@@ -89,194 +55,199 @@ fn next_of<P: Pace>(words: &Words<P>, seat: &mut RawSeat, cell: u64) -> u64
     words.look(seat, Word::Cell { cell, part })
 }
 
-/// The walk behind the next cell of the key's chain.
-#[inline(always)]
-fn pass_cell<P: Pace>(
-    words: &Words<P>,
-    seat: &mut RawSeat,
-    epoch: &Epoch,
-    walk: ChainWalk,
-) -> ChainWalk
-    requires of { IsSeatOf words.now seat.old }
-    requires may { MayWalk seat.old.knows epoch.now }
-    requires begun { epoch.now.first < epoch.now.until }
-    requires some { walk.next ≢ 0 }
-    requires chain { IsOnChain seat.old.knows epoch.now.first walk.next }
-    requires walked { IsWalked seat.old.knows.past seat.old.knows.layout.cells epoch.now.first walk.key epoch.now.until walk.best seat.old.knows.trail }
-    ensures of { IsSeatOf words.now seat.new }
-    ensures looks { Looks seat.old.knows seat.new.knows }
-    ensures key { result.key ≡ walk.key }
-    ensures chain { IsOnChain seat.new.knows epoch.now.first result.next }
-    ensures walked { IsWalked seat.new.knows.past seat.new.knows.layout.cells epoch.now.first result.key epoch.now.until result.best seat.new.knows.trail }
-    ensures passed { length seat.old.knows.trail ≡ length seat.new.knows.trail + 1 }
-{
-    let cell = walk.next - 1;
-    let best = better(words, seat, epoch, &walk, cell);
-    let next = next_of(words, seat, cell);
-    let key = walk.key;
-    ChainWalk { key, next, best }
-}
-
-/// Walks along the key's chain of the epoch to its first cell that is a write of the key, past so
-/// many cells at most, or to its end.
-#[inline(always)]
-fn walk_to_write<P: Pace>(
-    words: &Words<P>,
-    seat: &mut RawSeat,
-    epoch: &Epoch,
-    mut walk: ChainWalk,
-    most: u64,
-) -> ChainWalk
-    requires of { IsSeatOf words.now seat.old }
-    requires may { MayWalk seat.old.knows epoch.now }
-    requires begun { epoch.now.first < epoch.now.until }
-    requires chain { IsOnChain seat.old.knows epoch.now.first walk.next }
-    requires walked { IsWalked seat.old.knows.past seat.old.knows.layout.cells epoch.now.first walk.key epoch.now.until walk.best seat.old.knows.trail }
-    ensures of { IsSeatOf words.now seat.new }
-    ensures looks { Looks seat.old.knows seat.new.knows }
-    ensures key { result.key ≡ walk.key }
-    ensures chain { IsOnChain seat.new.knows epoch.now.first result.next }
-    ensures walked { IsWalked seat.new.knows.past seat.new.knows.layout.cells epoch.now.first result.key epoch.now.until result.best seat.new.knows.trail }
-{
-    for _ in 0..most {
-        if walk.next == 0 || walk.best.is_some() {
-            return walk;
+impl ChainWalk {
+    /// The best so far, or the time of this cell in the epoch, where that is below the epoch's
+    /// bound, later, and a write of the key.
+    #[inline(always)]
+    fn better<P: Pace>(&self, words: &Words<P>, seat: &mut RawSeat, cell: u64) -> Option<Time>
+        requires walks { IsWalking words.now seat.old self.now }
+        requires place { cell_of seat.old.knows.layout (self.now.epoch.first + cell % seat.old.knows.layout.cells) ≡ cell }
+        ensures looks { LooksOn words.now seat.old seat.new }
+        ensures better { result ≡ better self.now.best (self.now.epoch.first + cell % seat.old.knows.layout.cells) self.now.epoch.until
+            (is_write self.now.key (slot_in seat.old.knows (self.now.epoch.first + cell % seat.old.knows.layout.cells))) }
+    {
+        let offset = words.number_in_region(cell);
+        if offset >= self.epoch.until - self.epoch.first {
+            return self.best;
         }
-        walk = pass_cell(words, seat, epoch, walk);
+        let time = self.epoch.first + offset;
+        if !is_later(self.best, time) {
+            return self.best;
+        }
+        let component = self.epoch.component;
+        let at = KnownCell {
+            component,
+            time,
+            cell,
+        };
+        if at.is_write(words, seat, self.key) {
+            Some(time)
+        } else {
+            self.best
+        }
     }
-    walk
-}
 
-/// Walks on along the key's chain of the epoch to its end.
-fn walk_chain<P: Pace>(
-    words: &Words<P>,
-    seat: &mut RawSeat,
-    epoch: &Epoch,
-    mut walk: ChainWalk,
-) -> Option<Time>
-    requires of { IsSeatOf words.now seat.old }
-    requires may { MayWalk seat.old.knows epoch.now }
-    requires begun { epoch.now.first < epoch.now.until }
-    requires chain { IsOnChain seat.old.knows epoch.now.first walk.next }
-    requires walked { IsWalked seat.old.knows.past seat.old.knows.layout.cells epoch.now.first walk.key epoch.now.until walk.best seat.old.knows.trail }
-    ensures of { IsSeatOf words.now seat.new }
-    ensures looks { Looks seat.old.knows seat.new.knows }
-    ensures newest { IsNewestTime seat.new.knows epoch.now.first walk.key epoch.now.until result }
-{
-    for _ in 0..words.cells() {
+    /// The walk behind the next cell of the key's chain.
+    #[inline(always)]
+    fn pass_cell<P: Pace>(self, words: &Words<P>, seat: &mut RawSeat) -> ChainWalk
+        requires walks { IsWalking words.now seat.old self }
+        requires some { self.next ≢ 0 }
+        ensures on { WalksOn words.now seat.old seat.new self result }
+        ensures passed { length seat.old.knows.trail ≡ length seat.new.knows.trail + 1 }
+    {
+        let cell = self.next - 1;
+        let best = self.better(words, seat, cell);
+        let next = next_of(words, seat, cell);
+        ChainWalk { next, best, ..self }
+    }
+
+    /// Walks along the key's chain of the epoch to its first cell that is a write of the key, past
+    /// so many cells at most, or to its end.
+    #[inline(always)]
+    fn to_write<P: Pace>(self, words: &Words<P>, seat: &mut RawSeat, most: u64) -> ChainWalk
+        requires { IsWalking words.now seat.old self }
+        ensures { WalksOn words.now seat.old seat.new self result }
+    {
+        let mut walk = self;
+        for _ in 0..most {
+            if walk.next == 0 || walk.best.is_some() {
+                return walk;
+            }
+            walk = walk.pass_cell(words, seat);
+        }
+        walk
+    }
+
+    /// The time of the newest write of the key in the epoch: walks on along its chain to the end.
+    fn to_end<P: Pace>(self, words: &Words<P>, seat: &mut RawSeat) -> Option<Time>
+        requires { IsWalking words.now seat.old self }
+        ensures { FindsNewest words.now seat.old seat.new self result }
+    {
+        let mut walk = self;
+        for _ in 0..words.cells() {
+            if walk.next == 0 {
+                return walk.best;
+            }
+            walk = walk.pass_cell(words, seat);
+        }
+        walk.best
+    }
+
+    /// The time of the newest write of the key, of which the epoch's list tells.
+    #[inline(always)]
+    fn time_of<P: Pace>(&self, words: &Words<P>, seat: &RawSeat, listed: Listed) -> Newest
+        requires of { IsSeatOf words.now seat.now }
+        requires newest { IfOk listed (IsNewestVersion seat.now.knows self.now.epoch self.now.key) }
+        ensures { IfOk result (IsNewestOf seat.now.knows self.now) }
+    {
+        match listed {
+            Ok(Some(spot)) => Ok(Some(self.epoch.time_at(words, spot))),
+            Ok(None) => Ok(None),
+            Err(unsure) => Err(unsure),
+        }
+    }
+
+    /// The time of the newest write of the key in the epoch, by its ordered list.
+    fn newest_listed<P: Pace>(&self, words: &Words<P>, seat: &mut RawSeat) -> Newest
+        requires { IsWalking words.now seat.old self.now }
+        ensures looks { LooksOn words.now seat.old seat.new }
+        ensures newest { IfOk result (IsNewestOf seat.old.knows self.now) }
+    {
+        let listed = self.epoch.newest(words, seat, self.key);
+        self.time_of(words, seat, listed)
+    }
+
+    /// The time of the newest write of the key in the epoch, by its ordered list from the write on
+    /// that the walk came to.
+    #[inline(always)]
+    fn newest_near<P: Pace>(&self, words: &Words<P>, seat: &mut RawSeat) -> Newest
+        requires { IsWalking words.now seat.old self.now }
+        ensures looks { LooksOn words.now seat.old seat.new }
+        ensures newest { IfOk result (IsNewestOf seat.old.knows self.now) }
+    {
+        let Some(time) = self.best else {
+            return Err(Unsure);
+        };
+        let from = self.epoch.spot_of(words, seat, time);
+        let listed = self.epoch.newer(words, seat, from);
+        self.time_of(words, seat, listed)
+    }
+
+    /// The time of the newest write of the key in the epoch, where its chain has more cells than a
+    /// walk has passed: by the ordered list or else by the rest of the walk.
+    #[inline(never)]
+    fn newest_behind<P: Pace>(self, words: &Words<P>, seat: &mut RawSeat) -> Option<Time>
+        requires { IsWalking words.now seat.old self }
+        ensures { FindsNewest words.now seat.old seat.new self result }
+    {
+        match self.newest_listed(words, seat) {
+            Ok(newest) => newest,
+            Err(_) => self.to_end(words, seat),
+        }
+    }
+
+    /// The time of the newest write of the key in the epoch, where its chain has more cells than a
+    /// short walk has passed. If the next one is below the epoch's bound, those that were passed
+    /// have cancelled times, or other keys: the walk goes on past many.
+    #[inline(never)]
+    fn newest_further<P: Pace>(self, words: &Words<P>, seat: &mut RawSeat) -> Option<Time>
+        requires { IsWalking words.now seat.old self }
+        ensures { FindsNewest words.now seat.old seat.new self result }
+    {
+        let offset = words.number_in_region(self.next.saturating_sub(1));
+        if self.best.is_some() || offset >= self.epoch.until - self.epoch.first {
+            return self.newest_behind(words, seat);
+        }
+        let further = self.to_write(words, seat, PILE);
+        if let Ok(newest) = further.newest_near(words, seat) {
+            return newest;
+        }
+        further.newest_behind(words, seat)
+    }
+
+    /// The time of the newest write of the key in the epoch, from the head of its chain: the first
+    /// write of the key in the chain or, where that goes on, the last from there on in the ordered
+    /// list, since links do not stand in a chain by time.
+    #[inline(always)]
+    fn newest<P: Pace>(self, words: &Words<P>, seat: &mut RawSeat) -> Option<Time>
+        requires { IsWalking words.now seat.old self }
+        ensures { FindsNewest words.now seat.old seat.new self result }
+    {
+        let walk = self.to_write(words, seat, FEW);
         if walk.next == 0 {
             return walk.best;
         }
-        walk = pass_cell(words, seat, epoch, walk);
+        if let Ok(newest) = walk.newest_near(words, seat) {
+            return newest;
+        }
+        walk.newest_further(words, seat)
     }
-    walk.best
-}
-
-/// The time of the newest write of the key in the epoch, by its ordered list.
-fn newest_listed<P: Pace>(
-    words: &Words<P>,
-    seat: &mut RawSeat,
-    epoch: &Epoch,
-    key: u64,
-) -> Result<Option<Time>, Unsure>
-    requires of { IsSeatOf words.now seat.old }
-    requires may { MayWalk seat.old.knows epoch.now }
-    ensures of { IsSeatOf words.now seat.new }
-    ensures looks { LooksAside seat.old.knows seat.new.knows }
-    ensures newest { IfOk result (IsNewestTime seat.old.knows epoch.now.first key epoch.now.until) }
-{
-    match newest_version(words, seat, epoch, key) {
-        Ok(Some(spot)) => Ok(Some(time_at(words, epoch, spot))),
-        Ok(None) => Ok(None),
-        Err(unsure) => Err(unsure),
-    }
-}
-
-/// The time of the newest write of the key in the epoch, by its ordered list from the write on that
-/// a walk along the chain came to.
-#[inline(always)]
-fn newest_near<P: Pace>(
-    words: &Words<P>,
-    seat: &mut RawSeat,
-    epoch: &Epoch,
-    walk: &ChainWalk,
-) -> Result<Option<Time>, Unsure>
-    requires of { IsSeatOf words.now seat.old }
-    requires may { MayWalk seat.old.knows epoch.now }
-    requires walked { IsHit seat.old.knows.past seat.old.knows.layout.cells epoch.now.first walk.now.key epoch.now.until walk.now.best }
-    ensures of { IsSeatOf words.now seat.new }
-    ensures looks { LooksAside seat.old.knows seat.new.knows }
-    ensures newest { IfOk result (IsNewestTime seat.old.knows epoch.now.first walk.now.key epoch.now.until) }
-{
-    let Some(time) = walk.best else {
-        return Err(Unsure);
-    };
-    let from = spot_of(words, seat, epoch, time, walk.key);
-    match newest_along(words, seat, epoch, walk.key, from) {
-        Ok(Some(spot)) => Ok(Some(time_at(words, epoch, spot))),
-        Ok(None) => Ok(None),
-        Err(unsure) => Err(unsure),
-    }
-}
-
-/// The time of the newest write of the key in the epoch, where its chain has more cells than a walk
-/// has passed: by the ordered list or else by the rest of the walk.
-#[inline(never)]
-fn newest_behind<P: Pace>(
-    words: &Words<P>,
-    seat: &mut RawSeat,
-    epoch: Epoch,
-    walk: ChainWalk,
-) -> Option<Time>
-    requires of { IsSeatOf words.now seat.old }
-    requires may { MayWalk seat.old.knows epoch }
-    requires begun { epoch.first < epoch.until }
-    requires chain { IsOnChain seat.old.knows epoch.first walk.next }
-    requires walked { IsWalked seat.old.knows.past seat.old.knows.layout.cells epoch.first walk.key epoch.until walk.best seat.old.knows.trail }
-    ensures of { IsSeatOf words.now seat.new }
-    ensures looks { Looks seat.old.knows seat.new.knows }
-    ensures newest { IsNewestTime seat.old.knows epoch.first walk.key epoch.until result }
-{
-    if let Ok(newest) = newest_listed(words, seat, &epoch, walk.key) {
-        return newest;
-    }
-    walk_chain(words, seat, &epoch, walk)
-}
-
-/// The time of the newest write of the key in the epoch, where its chain has more cells than a
-/// short walk has passed. If the next one is below the epoch's bound, those that were passed have
-/// cancelled times, or other keys: the walk goes on past many.
-#[inline(never)]
-fn newest_further<P: Pace>(
-    words: &Words<P>,
-    seat: &mut RawSeat,
-    epoch: Epoch,
-    walk: ChainWalk,
-) -> Option<Time>
-    requires of { IsSeatOf words.now seat.old }
-    requires may { MayWalk seat.old.knows epoch }
-    requires begun { epoch.first < epoch.until }
-    requires chain { IsOnChain seat.old.knows epoch.first walk.next }
-    requires walked { IsWalked seat.old.knows.past seat.old.knows.layout.cells epoch.first walk.key epoch.until walk.best seat.old.knows.trail }
-    ensures of { IsSeatOf words.now seat.new }
-    ensures looks { Looks seat.old.knows seat.new.knows }
-    ensures newest { IsNewestTime seat.old.knows epoch.first walk.key epoch.until result }
-{
-    let offset = words.number_in_region(walk.next.saturating_sub(1));
-    if walk.best.is_some() || offset >= epoch.until - epoch.first {
-        return newest_behind(words, seat, epoch, walk);
-    }
-    let further = walk_to_write(words, seat, &epoch, walk, PILE);
-    if let Ok(newest) = newest_near(words, seat, &epoch, &further) {
-        return newest;
-    }
-    newest_behind(words, seat, epoch, further)
 }
 
 impl Epoch {
-    /// The time of the newest write of the key in the epoch, which is begun: the first write of the
-    /// key in its chain or, where the chain goes on, the last from there on in the ordered list,
-    /// since links do not stand in a chain by time.
+    /// The walk that begins at the head of the key's chain in the epoch, which is begun.
+    #[inline(always)]
+    fn walk_of<P: Pace>(&self, words: &Words<P>, seat: &mut RawSeat, key: u64) -> ChainWalk
+        requires of { IsSeatOf words.now seat.old }
+        requires may { MayWalk seat.old.knows self.now }
+        requires begun { self.now.first < self.now.until }
+        ensures looks { Looks seat.old.knows seat.new.knows }
+        ensures walks { IsWalking words.now seat.new result }
+        ensures epoch { result.epoch ≡ self.now }
+        ensures key { result.key ≡ key }
+    {
+        seat.show_invariant();
+        let chain = words.chain_of(key);
+        let region = self.number % 2;
+        ChainWalk {
+            epoch: *self,
+            key,
+            next: words.look(seat, Word::Head { region, chain }),
+            best: None,
+        }
+    }
+
+    /// The time of the newest write of the key in the epoch, which is begun.
     #[inline(always)]
     fn newest_time<P: Pace>(&self, words: &Words<P>, seat: &mut RawSeat, key: u64) -> Option<Time>
         requires of { IsSeatOf words.now seat.old }
@@ -286,19 +257,8 @@ impl Epoch {
         ensures looks { Looks seat.old.knows seat.new.knows }
         ensures newest { IsNewestTime seat.old.knows self.now.first key self.now.until result }
     {
-        seat.show_invariant();
-        let chain = words.chain_of(key);
-        let region = self.number % 2;
-        let next = words.look(seat, Word::Head { region, chain });
-        let best = None;
-        let walk = walk_to_write(words, seat, self, ChainWalk { key, next, best }, FEW);
-        if walk.next == 0 {
-            return walk.best;
-        }
-        if let Ok(newest) = newest_near(words, seat, self, &walk) {
-            return newest;
-        }
-        newest_further(words, seat, *self, walk)
+        let head = self.walk_of(words, seat, key);
+        head.newest(words, seat)
     }
 
     /// The time of the newest write of the key in the epoch, which may begin behind its bound.

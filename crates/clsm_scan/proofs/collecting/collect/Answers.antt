@@ -3,7 +3,8 @@ use Rattle.std.proofs.lemmas.Bool.{cases_lt}
 use Rattle.clsm_model.specs.Map.{Pair, value_at}
 use Rattle.clsm_levels.specs.Entry.{value_of}
 use Rattle.clsm_scan.specs.Collected.{AreAll, AreRowsTo, IsAtMost, IsNextRow, is_full, left_at}
-use Rattle.clsm_scan.proofs.ReadOn.{HasReadTo, read_none, read_on}
+use Rattle.clsm_scan.specs.Reading.{HasReadTo}
+use Rattle.clsm_scan.proofs.ReadOn.{read_none, read_on}
 use Rattle.clsm_scan.proofs.Rows.{beyond_pushed, just_full, next_row_same, none_at_most, most_pushed, rows_ended, rows_none, rows_stopped, rows_taken}
 use Rattle.clsm_scan.proofs.collecting.collect.Given.{Over}
 use Rattle.clsm_scan.proofs.collecting.collect.Goals as goal
@@ -15,7 +16,7 @@ loop-key-init g c =
     let empty = sym c.in_ok-rows.ensures.items in
     record {
       read = read_none g.C.Source.is_over g.C.Source.found g.C.Source.stands c.args.words.now c.args.seat.now c.args.cursor.now c.args.range.lo
-          c.requires.of c.requires.over c.requires.stands;
+          c.requires.stands;
       later = omega arith;
       rows = subst (AreRowsTo value c.args.range.lo c.args.range.lo) empty (rows_none value c.args.range.lo);
       beyond = λ k lt. ap (λ (rows : List Pair). value_at rows k) c.in_ok-rows.ensures.items;
@@ -79,15 +80,14 @@ loop-key-preserved g c =
     let before = c.loop-key.invariant in
     let old = c.loop-key.rows.items in
     let behind = sym c.in-Some-checked_add.ensures.1 in
-    let read = c.next_key.ensures in
     let row_next = next g turn in
     record {
       read = subst (HasReadTo g.C.Source.is_over g.C.Source.found g.C.Source.stands c.args.words.now c.args.seat.now c.give.new.seat c.args.cursor.now
           c.next_key.new.cursor) behind
           (read_on g.C.Source.is_over g.C.Source.found g.C.Source.stands c.args.words.now g.met.C.Source.over_stays g.met.C.Source.found_stays
           g.met.C.Source.stands_stays c.args.seat.now c.loop-key.seat c.next_key.new.seat c.give.new.seat c.args.cursor.now c.loop-key.cursor
-          c.next_key.new.cursor c.loop-key.from (c.in-Some.key + 1) (let later = row_next.0 in omega arith) before.read read.looks read.over
-          c.in-Some.ensures.same c.in-Some.ensures.stands c.in_ok-give.ensures.of c.give.ensures.looks);
+          c.next_key.new.cursor c.loop-key.from (c.in-Some.key + 1) (let later = row_next.0 in omega arith) before.read c.in-Some.ensures.read
+          c.in_ok-give.ensures.of c.give.ensures.looks);
       later = let later = row_next.0 in omega arith;
       rows = subst (AreRowsTo (value g turn) c.args.range.lo c.in-Some-checked_add.behind) (sym (put g turn))
           (subst (λ (end : ℕ). AreRowsTo (value g turn) c.args.range.lo end (old ++ row g turn ∷ [])) behind

@@ -1,7 +1,7 @@
 use Rattle.std.proofs.Common.{◌-◌, ◌≡◌, ℕ, ◌≤◌, ◌<◌, ◌^◌, length, None}
 use Rattle.clsm_model.specs.Map.{value_at}
 use Rattle.clsm_scan.specs.Collected.{AreRowsTo, IsAtMost, left_at}
-use Rattle.clsm_scan.proofs.ReadOn.{HasReadTo}
+use Rattle.clsm_scan.specs.Reading.{HasReadTo}
 use Rattle.clsm_scan.proofs.collecting.collect.Given as goal
 
 abbrev pub invariant-loop-key : goal.invariant-loop-key

@@ -1,7 +1,8 @@
 use Rattle.std.proofs.Common.{◌+◌, ◌≤◌, Option, sym, ◌∙◌, subst, arith}
 use Rattle.clsm_levels.specs.declared.entry.Entry.{Entry}
 use Rattle.clsm_scan.specs.Collected.{IsHeadRow, left_at}
-use Rattle.clsm_scan.proofs.ReadOn.{HasReadTo, read_on}
+use Rattle.clsm_scan.specs.Reading.{HasReadTo}
+use Rattle.clsm_scan.proofs.ReadOn.{read_on}
 use Rattle.clsm_scan.proofs.Rows.{ArePassed, head_later, key_found, key_passed}
 use Rattle.clsm_scan.proofs.collecting.next_key.Given.{Over}
 use Rattle.clsm_scan.proofs.collecting.next_key.Goals as goal
@@ -23,15 +24,18 @@ turn g c =
     let le = later g c in
     read_on g.C.Source.is_over g.C.Source.found g.C.Source.stands c.args.words.now g.met.C.Source.over_stays g.met.C.Source.found_stays
     g.met.C.Source.stands_stays c.args.seat.now c.loop-sought.seat c.read.new.seat c.has_value.new.seat c.args.cursor.now c.loop-sought.cursor c.read.new.self
-    c.loop-sought.sought (c.in-Some.key + 1) (omega arith) c.loop-sought.invariant.read read.looks read.over (λ k above. read.same k (omega arith))
-    (g.met.C.Source.stands_later c.read.new.seat.knows c.read.new.self c.loop-sought.sought (c.in-Some.key + 1) (omega arith) read.stands)
+    c.loop-sought.sought (c.in-Some.key + 1) (omega arith) c.loop-sought.invariant.read
+    (record {
+      of = read.of;
+      looks = read.looks;
+      over = read.over;
+      same = λ k above. read.same k (omega arith);
+      stands = g.met.C.Source.stands_later c.read.new.seat.knows c.read.new.self c.loop-sought.sought (c.in-Some.key + 1) (omega arith) read.stands;
+    })
     c.has_value.ensures.of c.has_value.ensures.looks
 
 pub returns-then-has_value-clause-over : goal.returns-then-has_value-clause-over
 returns-then-has_value-clause-over g c = (turn g (goal.at.returns-then-has_value-clause-over g c).After-has_value).over
-
-pub returns-then-has_value-clause-same : goal.returns-then-has_value-clause-same
-returns-then-has_value-clause-same g c = (turn g (goal.at.returns-then-has_value-clause-same g c).After-has_value).same
 
 pub returns-then-has_value-clause-next : goal.returns-then-has_value-clause-next
 returns-then-has_value-clause-next g c =
@@ -43,8 +47,8 @@ returns-then-has_value-clause-next g c =
     (key_found found (g.C.Source.found c.loop-sought.seat.knows c.loop-sought.cursor) c.args.from c.loop-sought.sought before.read.same before.passed
     c.args.hi c.in-Some.key head (sym c.in-Some.ensures.key) (sym c.has_value.ensures.has ∙ c.if-has_value.true) before.later (omega arith) c.read.ensures.next)
 
-pub returns-then-has_value-clause-stands : goal.returns-then-has_value-clause-stands
-returns-then-has_value-clause-stands g c = (turn g (goal.at.returns-then-has_value-clause-stands g c).After-has_value).stands
+pub returns-then-has_value-clause-read : goal.returns-then-has_value-clause-read
+returns-then-has_value-clause-read g c = turn g (goal.at.returns-then-has_value-clause-read g c).After-has_value
 
 pub returns-in_default-checked_add-clause-over : goal.returns-in_default-checked_add-clause-over
 returns-in_default-checked_add-clause-over g c = (turn g (goal.at.returns-in_default-checked_add-clause-over g c).After-has_value).over

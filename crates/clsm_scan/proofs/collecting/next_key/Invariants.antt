@@ -1,6 +1,6 @@
 use Rattle.std.proofs.Common.{◌+◌, ◌-◌, ◌≤◌}
 use Rattle.clsm_scan.specs.Collected.{left_at}
-use Rattle.clsm_scan.proofs.ReadOn.{HasReadTo}
+use Rattle.clsm_scan.specs.Reading.{HasReadTo}
 use Rattle.clsm_scan.proofs.Rows.{ArePassed}
 use Rattle.clsm_scan.proofs.collecting.next_key.Given as goal
 

@@ -12,7 +12,7 @@ returns-clause-rows g c =
     let lo = c.args.range.lo in
     let hi = c.args.range.hi in
     let max = c.args.range.max in
-    let found = added_all lo hi c.args.seat.now.knows c.new-merged.result c.add_all.new.seat.knows c.add_all.new.merged
+    let found = added_all lo hi c.args.seat.now.knows c.new-merged.result c.add_all.new.seat.knows c.add_all.new.self
     (found_in_component c.args.seat.now.knows c.args.point.component c.args.point.until) c.add_all.ensures.added c.new-merged.ensures.none
     c.new-merged.ensures.hi in
     let same = λ (key : ℕ) (above : lo ≤ key) (below : key ≤ hi). ap value_of (sym (found key above below)) in

@@ -4,7 +4,8 @@ use Rattle.clsm_model.specs.Map.{Pair}
 use Rattle.clsm_levels.specs.Entry.{value_of}
 use Rattle.clsm_scan.specs.Collected.{IsNextRow, left_at}
 use Rattle.clsm_scan.proofs.Counts.{IsVisitTo, visit_all, visit_ended, visit_next, visit_none}
-use Rattle.clsm_scan.proofs.ReadOn.{HasReadTo, read_none, read_on}
+use Rattle.clsm_scan.specs.Reading.{HasReadTo}
+use Rattle.clsm_scan.proofs.ReadOn.{read_none, read_on}
 use Rattle.clsm_scan.proofs.Rows.{next_row_same}
 use Rattle.clsm_scan.proofs.visiting.visit_keys.Given.{Over}
 use Rattle.clsm_scan.proofs.visiting.visit_keys.Goals as goal
@@ -15,7 +16,7 @@ loop-key-init g c =
     let value = left_at (g.C.Source.found c.args.seat.now.knows c.args.cursor.now) in
     record {
       read = read_none g.C.Source.is_over g.C.Source.found g.C.Source.stands c.args.words.now c.args.seat.now c.args.cursor.now c.args.bounds.lo
-          c.requires.of c.requires.over c.requires.stands;
+          c.requires.stands;
       later = omega arith;
       visits = visit_none g.V.Visitor.takes value c.args.bounds.lo c.args.bounds.hi c.args.visitor.now;
       ready = c.requires.ready;
@@ -68,15 +69,14 @@ pub loop-key-preserved : goal.loop-key-preserved
 loop-key-preserved g c =
     let turn = (goal.at.loop-key-preserved g c).After-checked_add in
     let behind = sym c.in-Some-checked_add.ensures.1 in
-    let read = c.next_key.ensures in
     let row_next = next g turn in
     record {
       read = subst (HasReadTo g.C.Source.is_over g.C.Source.found g.C.Source.stands c.args.words.now c.args.seat.now c.visit.new.seat c.args.cursor.now
           c.next_key.new.cursor) behind
           (read_on g.C.Source.is_over g.C.Source.found g.C.Source.stands c.args.words.now g.met.C.Source.over_stays g.met.C.Source.found_stays
           g.met.C.Source.stands_stays c.args.seat.now c.loop-key.seat c.next_key.new.seat c.visit.new.seat c.args.cursor.now c.loop-key.cursor
-          c.next_key.new.cursor c.loop-key.from (c.in-Some.key + 1) (let later = row_next.0 in omega arith) c.loop-key.invariant.read read.looks
-          read.over c.in-Some.ensures.same c.in-Some.ensures.stands c.visit.ensures.of c.visit.ensures.looks);
+          c.next_key.new.cursor c.loop-key.from (c.in-Some.key + 1) (let later = row_next.0 in omega arith) c.loop-key.invariant.read c.in-Some.ensures.read
+          c.visit.ensures.of c.visit.ensures.looks);
       later = let later = row_next.0 in omega arith;
       visits = subst (λ (end : ℕ). IsVisitTo g.V.Visitor.takes (value g turn) c.args.bounds.lo end c.args.bounds.hi c.saturating_add-keys.result
           (Some c.unwrap_or.result) c.args.visitor.now c.visit.new.self) behind (visited g turn);

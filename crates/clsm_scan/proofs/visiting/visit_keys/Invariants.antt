@@ -1,7 +1,7 @@
 use Rattle.std.proofs.Common.{◌-◌, ◌≤◌, ◌^◌}
 use Rattle.clsm_scan.specs.Collected.{left_at}
 use Rattle.clsm_scan.proofs.Counts.{IsVisitTo}
-use Rattle.clsm_scan.proofs.ReadOn.{HasReadTo}
+use Rattle.clsm_scan.specs.Reading.{HasReadTo}
 use Rattle.clsm_scan.proofs.visiting.visit_keys.Given as goal
 
 abbrev pub invariant-loop-key : goal.invariant-loop-key

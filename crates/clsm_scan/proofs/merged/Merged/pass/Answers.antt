@@ -5,11 +5,11 @@ use Rattle.clsm_scan.proofs.merged.Merged.pass.Goals as goal
 
 pub loop-at-init : goal.loop-at-init
 loop-at-init g c = record {
-  of = c.requires.of;
+  of = c.requires.merges.of;
   looks = record { looks = looks_none c.args.seat.now.knows; trail = refl };
   hi = refl;
-  over = c.requires.over;
-  ahead = c.requires.ahead;
+  over = c.requires.merges.over;
+  ahead = c.requires.merges.stands;
   past = tt;
   same = λ key from until. refl;
 }

@@ -29,14 +29,14 @@ module _ (g : Over) (c : After-go_on g) where
   inside = subst (λ (l : List Stream). c.args.at < length l) (sym lent) c.requires.inside
 
   over : AreOver c.args.seat.now.knows ss
-  over = subst (AreOver c.args.seat.now.knows) (sym lent) c.requires.over
+  over = subst (AreOver c.args.seat.now.knows) (sym lent) c.requires.merges.over
 
   over' : AreOver c.go_on.new.seat.knows ss
   over' = all_over_stays c.args.seat.now.knows c.go_on.new.seat.knows c.go_on.ensures.looks ss over
 
   ahead' : AreAhead c.go_on.new.seat.knows c.args.from c.args.self.now.hi ss
   ahead' = all_ahead_stays c.args.seat.now.knows c.go_on.new.seat.knows c.go_on.ensures.looks c.args.from c.args.self.now.hi ss over
-      (subst (AreAhead c.args.seat.now.knows c.args.from c.args.self.now.hi) (sym lent) c.requires.ahead)
+      (subst (AreAhead c.args.seat.now.knows c.args.from c.args.self.now.hi) (sym lent) c.requires.merges.stands)
 
   past : ArePast c.args.from c.args.at ss
   past = subst (ArePast c.args.from c.args.at) (sym lent) c.requires.past
