@@ -19,7 +19,7 @@ use Rattle.clsm_text.specs.Input.{TakesLine}
 use Rattle.clsm_text.specs.Line.{lines_of, words_of, IsComment}
 use Rattle.clsm_text.proofs.Inputs.{IsEmpty, LeadsTo, Tells, inside, leads_over, line_at, reads_next}
 use Rattle.clsm_script.specs.Answer.{IsFault}
-use Rattle.clsm_script.specs.Command.{IsCommand, Says}
+use Rattle.clsm_script.specs.Command.{IsCommand}
 use Rattle.clsm_script.specs.Line.{Reads}
 use Rattle.clsm_script.specs.Lines.{EndsPlay, IsNewStage, IsPlayedOn, Outputs, PlayLines, PlaysCommand, PlaysLine, Stage}
 use Rattle.clsm_script.specs.Lines.{outputs_of, stage_of}

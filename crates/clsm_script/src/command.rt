@@ -1,9 +1,10 @@
-ghost use Rattle.std.specs.Prelude.{◌≡◌, ◌≢◌, ◌∷◌, [], codes, IfNone, IfOk, IfSome, OnOk};
+ghost use Rattle.std.specs.Prelude.{◌≡◌, ◌∷◌, [], IfOk, OnOk};
 
 use crate::answer::Answer;
+use crate::call::parse_call;
 use crate::session::Session;
 use clsm_store::{Call, Pace, Phase, Store};
-use clsm_text::{parse_members, parse_number, parse_value};
+use clsm_text::parse_number;
 use std::alloc::{AllocError, Global};
 use std::sync::Wait;
 
@@ -28,7 +29,7 @@ pub enum Command {
 }
 
 impl Command {
-    ghost use Rattle.clsm_script.specs.Command.{Says, IsCommand};
+    ghost use Rattle.clsm_script.specs.Command.{IsCall, Says};
     ghost use Rattle.clsm_text.specs.Found.{Finds};
     ghost use Rattle.clsm_text.specs.Line.{texts_of};
     ghost use Rattle.clsm_script.specs.Session.{IsSession};
@@ -40,50 +41,21 @@ impl Command {
     pub fn parse(alloc: Global, words: &[&str]) -> Result<Option<Command>, AllocError>
         ensures { IfOk result (Finds (λ command. Says command (texts_of words.now))) }
     {
-        let Some((name, said)) = words.split_first() else {
-            return Ok(None);
-        };
-        match *name {
-            "batch" => Command::of_batch(alloc, said),
-            name => Ok(Command::of_words(name, said)),
+        if let Some(call) = parse_call(alloc, words)? {
+            return Ok(Some(Command::Call(call)));
         }
-    }
-
-    /// The batch of the members that the words write. Refused if memory runs out.
-    fn of_batch(alloc: Global, words: &[&str]) -> Result<Option<Command>, AllocError>
-        ensures { IfOk result
-            (Finds (λ command. Says command (codes "batch" ∷ texts_of words.now))) }
-    {
-        let Some(members) = parse_members(alloc, words)? else {
-            return Ok(None);
-        };
-        Ok(Some(Command::Call(Call::Batch { members })))
-    }
-
-    /// The command with this name, which is not that of a batch, and the words behind it.
-    fn of_words(name: &str, words: &[&str]) -> Option<Command>
-        requires { name.now ≢ codes "batch" }
-        ensures read { IfSome result (λ command. Says command (name.now ∷ texts_of words.now)) }
-        ensures refused { IfNone result (¬ IsCommand (name.now ∷ texts_of words.now)) }
-    {
-        match *words {
-            [] => Command::of_name(name),
-            [key] => Command::of_key(name, key),
-            [key, value] => Command::of_value(name, key, value),
-            [from, hi, max] => Command::of_page(name, from, hi, max),
+        Ok(match *words {
+            [name] => Command::of_name(name),
+            [name, number] => Command::of_number(name, number),
             _ => None,
-        }
+        })
     }
 
-    /// The command with this name alone. Here and below the name is not that of a batch.
+    /// The command with this name alone, which is no call.
     fn of_name(name: &str) -> Option<Command>
-        requires { name.now ≢ codes "batch" }
-        ensures read { IfSome result (λ command. Says command (name.now ∷ [])) }
-        ensures refused { IfNone result (¬ IsCommand (name.now ∷ [])) }
+        ensures { Finds (λ command. (¬ IsCall command) × Says command (name.now ∷ [])) result }
     {
         match name {
-            "snap" => Some(Command::Call(Call::Snap)),
-            "close" => Some(Command::Call(Call::Close)),
             "audit" => Some(Command::Audit),
             "freeze" => Some(Command::Freeze),
             "merge" => Some(Command::Merge),
@@ -92,63 +64,17 @@ impl Command {
         }
     }
 
-    /// The command with this name and a key, or the number of a seat.
-    fn of_key(name: &str, key: &str) -> Option<Command>
-        requires { name.now ≢ codes "batch" }
-        ensures read { IfSome result (λ command. Says command (name.now ∷ key.now ∷ [])) }
-        ensures refused { IfNone result (¬ IsCommand (name.now ∷ key.now ∷ [])) }
+    /// The command with this name and a number, which is no call.
+    fn of_number(name: &str, number: &str) -> Option<Command>
+        ensures { Finds (λ command. (¬ IsCall command) × Says command (name.now ∷ number.now ∷ []))
+            result }
     {
-        let key = parse_number(key)?;
+        let number = parse_number(number)?;
         match name {
-            "remove" => Some(Command::Call(Call::Remove { key })),
-            "get" => Some(Command::Call(Call::Get { key })),
-            "getat" => Some(Command::Call(Call::GetAt { key })),
-            "seat" => Some(Command::Seat { number: key }),
-            "meet" => Some(Command::Meet { number: key }),
+            "seat" => Some(Command::Seat { number }),
+            "meet" => Some(Command::Meet { number }),
             _ => None,
         }
-    }
-
-    /// The command with this name and two numbers, or a key and a value.
-    fn of_value(name: &str, key: &str, value: &str) -> Option<Command>
-        requires { name.now ≢ codes "batch" }
-        ensures read { IfSome result
-            (λ command. Says command (name.now ∷ key.now ∷ value.now ∷ [])) }
-        ensures refused { IfNone result (¬ IsCommand (name.now ∷ key.now ∷ value.now ∷ [])) }
-    {
-        let key = parse_number(key)?;
-        if name == "add" {
-            let by = parse_number(value)?;
-            return Some(Command::Call(Call::Add { key, by }));
-        }
-        if name == "scan" {
-            let hi = parse_number(value)?;
-            return Some(Command::Call(Call::Scan { lo: key, hi }));
-        }
-        let value = parse_value(value)?;
-        match name {
-            "put" => Some(Command::Call(Call::Put { key, value })),
-            "try" => Some(Command::Call(Call::Try { key, value })),
-            "claim" => Some(Command::Call(Call::Claim { key, value })),
-            _ => None,
-        }
-    }
-
-    /// The command with this name and three numbers.
-    fn of_page(name: &str, from: &str, hi: &str, max: &str) -> Option<Command>
-        requires { name.now ≢ codes "batch" }
-        ensures read { IfSome result
-            (λ command. Says command (name.now ∷ from.now ∷ hi.now ∷ max.now ∷ [])) }
-        ensures refused { IfNone result
-            (¬ IsCommand (name.now ∷ from.now ∷ hi.now ∷ max.now ∷ [])) }
-    {
-        if name != "page" {
-            return None;
-        }
-        let from = parse_number(from)?;
-        let hi = parse_number(hi)?;
-        let max = parse_number(max)?;
-        Some(Command::Call(Call::Page { from, hi, max }))
     }
 
     /// Plays the command on a store, by its seats or by its merger, and answers what the store

@@ -2,6 +2,7 @@
 #![tactic(auto)]
 
 mod answer;
+mod call;
 mod command;
 mod line;
 mod plain;

@@ -1,3 +1,4 @@
+pub mod Deal
 pub mod Failure
 pub mod Found
 pub mod Input

@@ -56,16 +56,21 @@ name_of (Scan lo hi rows) = codes "scan"
 name_of (Page range rows more) = codes "page"
 name_of (Batch members) = codes "batch"
 
+-- the words write the key of a reading, and what it answered
+abbrev pub WriteReading : List (List ℕ) → (ℕ × Option (List ℕ)) → Type 0
+WriteReading (k ∷ r ∷ []) reading = WritesNumber k reading.0 × WritesReply r reading.1
+WriteReading _ reading = ⊥
+
 -- the words after its name write the deed
 abbrev pub WriteDeed : Deed → List (List ℕ) → Type 0
 WriteDeed (Put key value) (k ∷ v ∷ []) = WritesNumber k key × WritesValue v value
 WriteDeed (Remove key) (k ∷ []) = WritesNumber k key
 WriteDeed (Rmw key old change) (k ∷ o ∷ c ∷ []) =
     WritesNumber k key × WritesReply o old × WritesChange c change
-WriteDeed (Get key reply) (k ∷ r ∷ []) = WritesNumber k key × WritesReply r reply
+WriteDeed (Get key reply) words = WriteReading words (key, reply)
 WriteDeed Snapshot [] = ⊤
 WriteDeed Close [] = ⊤
-WriteDeed (GetAt key reply) (k ∷ r ∷ []) = WritesNumber k key × WritesReply r reply
+WriteDeed (GetAt key reply) words = WriteReading words (key, reply)
 WriteDeed (Scan lo hi rows) (l ∷ h ∷ words) =
     WritesNumber l lo × WritesNumber h hi × WriteRows words rows
 WriteDeed (Page range rows more) (f ∷ h ∷ m ∷ words) =

@@ -1,12 +1,12 @@
 ghost use Rattle.std.specs.Prelude.{◌∷◌, codes, IfOk};
 ghost use Rattle.clsm_text.specs.Line.{texts_of};
 ghost use Rattle.clsm_text.specs.Found.{Finds};
-ghost use Rattle.clsm_text.specs.Record.{SayDeed};
+ghost use Rattle.clsm_text.specs.Record.{SayDeed, WriteReading};
 
 use crate::member::{parse_change, parse_members};
 use crate::number::{parse_number, parse_value};
 use crate::words::{parse_page_rows, parse_reply, parse_rows};
-use clsm_model::{Deed, PageRange};
+use clsm_model::{Deed, PageRange, Value};
 use std::alloc::{AllocError, Global};
 
 /// The deed that words say: its name, and what follows it. Refused if memory runs out.
@@ -67,12 +67,20 @@ fn parse_rmw(words: &[&str]) -> Option<Deed>
 fn parse_get(words: &[&str]) -> Option<Deed>
     ensures { Finds (SayDeed (codes "get" ∷ texts_of words.now)) result }
 {
+    let (key, reply) = parse_reading(words)?;
+    Some(Deed::Get { key, reply })
+}
+
+/// The key and the answer that the words of a reading say behind its name.
+fn parse_reading(words: &[&str]) -> Option<(u64, Option<Value>)>
+    ensures { Finds (WriteReading (texts_of words.now)) result }
+{
     let [key, reply] = *words else {
         return None;
     };
     let key = parse_number(key)?;
     let reply = parse_reply(reply)?;
-    Some(Deed::Get { key, reply })
+    Some((key, reply))
 }
 
 fn parse_snap(words: &[&str]) -> Option<Deed>
@@ -96,11 +104,7 @@ fn parse_close(words: &[&str]) -> Option<Deed>
 fn parse_get_at(words: &[&str]) -> Option<Deed>
     ensures { Finds (SayDeed (codes "getat" ∷ texts_of words.now)) result }
 {
-    let [key, reply] = *words else {
-        return None;
-    };
-    let key = parse_number(key)?;
-    let reply = parse_reply(reply)?;
+    let (key, reply) = parse_reading(words)?;
     Some(Deed::GetAt { key, reply })
 }
 

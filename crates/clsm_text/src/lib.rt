@@ -1,9 +1,10 @@
 //! What the programs read and print as lines: lines and their words, numbers, values, rows and the
-//! members of batches; records of calls, and the audit of such lines; the streams of a program, and
-//! how a program ends that fails.
+//! members of batches; calls, and records of them, and the audit of such lines; the streams of a
+//! program, and how a program ends that fails.
 #![tactic(auto)]
 
 mod audit;
+mod deal;
 mod deed;
 mod failure;
 mod history;
@@ -23,6 +24,7 @@ mod words;
 mod written;
 
 pub use audit::{AskedAudit, audit_lines};
+pub use deal::parse_deal;
 pub use failure::Failure;
 pub use input::{line_at_hand, read_line};
 pub use line::{LONGEST_LINE, LineError, Words, line_words, plain_words, split_words};

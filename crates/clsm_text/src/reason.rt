@@ -15,7 +15,7 @@ pub fn write_reason<W: Write>(
     index: usize,
     explanation: &Explanation,
 ) -> io::Result<()> {
-    let line = Placed { listed, index };
+    let line = listed.place(index);
     let reason = Reason {
         listed,
         explanation,
@@ -47,36 +47,13 @@ fn write_stale<W: Write>(
     index: usize,
     earlier: usize,
 ) -> io::Result<()> {
-    let line = TimedPlace { list, index };
-    let other = TimedPlace {
-        list,
-        index: earlier,
-    };
+    let line = list.place(index);
+    let other = list.place(earlier);
     writeln!(
         output,
         "{line}\na call with a later place had ended before it began: {other}"
     )?;
     output.flush()
-}
-
-/// A record with its place and its moments.
-#[derive(Drop)]
-struct TimedPlace<'a> {
-    list: &'a TimedList,
-    index: usize,
-}
-
-impl fmt::Display for TimedPlace<'_> {
-    fn fmt<W: fmt::Write>(&self, f: &mut fmt::Formatter<W>) -> fmt::Result {
-        let index = self.index;
-        let listed = &self.list.listed;
-        let place = Placed { listed, index };
-        write!(f, "{place}")?;
-        match self.list.moments.get(index) {
-            Some(Moments { begin, end }) => write!(f, " | {begin} {end}"),
-            None => Ok(()),
-        }
-    }
 }
 
 /// What an explanation says, a fact a line.
@@ -92,24 +69,15 @@ impl fmt::Display for Reason<'_> {
         match self.explanation {
             Explanation::Unknown { rule } => write_rule(f, rule),
             Explanation::TwoAtOneTime { other, time } => {
-                let line = Placed {
-                    listed,
-                    index: *other,
-                };
+                let line = listed.place(*other);
                 writeln!(f, "time {time} is written by {line}")
             }
             Explanation::TimeRanBack { earlier, due } => {
-                let line = Placed {
-                    listed,
-                    index: *earlier,
-                };
+                let line = listed.place(*earlier);
                 writeln!(f, "the times of its seat are from {due} on, after {line}")
             }
             Explanation::InsideBatch { batch } => {
-                let line = Placed {
-                    listed,
-                    index: *batch,
-                };
+                let line = listed.place(*batch);
                 writeln!(f, "its time is inside the batch of {line}")
             }
             reading => write_reading(f, listed, reading),
@@ -221,31 +189,53 @@ impl fmt::Display for Source<'_> {
             return write!(f, "none");
         };
         let time = found.time;
-        let line = Placed {
-            listed: self.listed,
-            index: found.index,
-        };
+        let line = self.listed.place(found.index);
         write!(f, "time {time}, {line}")
     }
 }
 
-/// A record with its place.
+/// A record with its place, and with its moments where they are given.
 #[derive(Drop)]
-struct Placed<'a> {
+struct Place<'a> {
     listed: &'a Listed,
     index: usize,
+    moments: Option<&'a Moments>,
 }
 
-impl fmt::Display for Placed<'_> {
+impl Listed {
+    /// The record with this index and its place.
+    fn place(&self, index: usize) -> Place<'_> {
+        Place {
+            listed: self,
+            index,
+            moments: None,
+        }
+    }
+}
+
+impl TimedList {
+    /// The same, and its moments.
+    fn place(&self, index: usize) -> Place<'_> {
+        Place {
+            moments: self.moments.get(index),
+            ..self.listed.place(index)
+        }
+    }
+}
+
+impl fmt::Display for Place<'_> {
     fn fmt<W: fmt::Write>(&self, f: &mut fmt::Formatter<W>) -> fmt::Result {
         let index = self.index;
         match self.listed.lines.get(index) {
             Some(number) => write!(f, "line {number}")?,
             None => write!(f, "record {index}")?,
         }
-        if let Some(record) = self.listed.records.get(self.index) {
+        if let Some(record) = self.listed.records.get(index) {
             let record = Line(record);
             write!(f, ": {record}")?;
+        }
+        if let Some(Moments { begin, end }) = self.moments {
+            write!(f, " | {begin} {end}")?;
         }
         Ok(())
     }
