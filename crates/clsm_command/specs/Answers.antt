@@ -14,6 +14,7 @@ use Rattle.clap.specs.declared.error.kind.ErrorKind.TheVariants as kind
 use Rattle.clap.specs.declared.parser.matches.ArgMatches.{ArgMatches}
 use Rattle.clsm_model.specs.declared.config.Config.{Config}
 use Rattle.clsm_model.specs.Config.{IsBetween}
+use Rattle.clsm_workload.specs.declared.load.Shows.{Shows}
 use Rattle.clsm_command.specs.Program.{clsm, u64_max}
 use Rattle.clsm_command.specs.declared.options.AuditOptions.{AuditOptions}
 use Rattle.clsm_command.specs.declared.options.ExploreOptions.{ExploreOptions}
@@ -55,6 +56,14 @@ sizes seats rows = record {
   patience = number_of (codes "patience") rows;
 }
 
+abbrev pub shows : List Row → Shows
+shows rows = record {
+  stats = flag_of (codes "stats") rows;
+  progress = flag_of (codes "progress") rows;
+  records = flag_of (codes "records") rows;
+  clock = flag_of (codes "clock") rows;
+}
+
 abbrev pub run : List Row → RunOptions
 run rows = record {
   config = sizes (codes "threads") rows;
@@ -63,10 +72,7 @@ run rows = record {
   seed = number_of (codes "seed") rows;
   batch = flag_of (codes "batch") rows;
   wait = flag_of (codes "wait") rows;
-  stats = flag_of (codes "stats") rows;
-  progress = flag_of (codes "progress") rows;
-  records = flag_of (codes "records") rows;
-  clock = flag_of (codes "clock") rows;
+  shows = shows rows;
 }
 
 abbrev pub audit : List Row → AuditOptions

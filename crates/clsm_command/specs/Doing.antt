@@ -28,8 +28,7 @@ pub record AsksRun (options : RunOptions) (asked : AskedRun) : Type 0 where
   pub seed : asked.load.seed ≡ options.seed
   pub batch : asked.load.batch ≡ options.batch
   pub waits : asked.waits ≡ options.wait
-  pub records : asked.shows.records ≡ options.records
-  pub clock : asked.shows.clock ≡ options.clock
+  pub shows : asked.shows ≡ options.shows
 
 -- the options ask for this exploration, whose runs of level 1 have room for four entries
 pub record AsksExploration (options : ExploreOptions) (asked : Exploration) : Type 0 where

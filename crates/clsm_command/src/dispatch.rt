@@ -1,8 +1,8 @@
 //! What the command line asks for is done.
 ghost use Rattle.std.specs.Prelude.{◌≡◌, ◌⊎◌, ◌≤◌, IsSomeAnd, map};
 ghost use Rattle.clsm_command.specs.Answers.{IsInRange};
-ghost use Rattle.clsm_command.specs.Doing.{AsksRun, HasSoundSizes, IsAskedFor, IsDone, IsFaulty, IsHelp, audit_sizes};
-ghost use Rattle.clsm_command.specs.declared.options.Options.TheVariants.{Audit, Explore, Run, Script};
+ghost use Rattle.clsm_command.specs.Doing.{AsksExploration, AsksRun, HasSoundSizes, IsAskedFor, IsDone, IsFaulty, IsHelp, audit_sizes};
+ghost use Rattle.clsm_command.specs.declared.options.Options.TheVariants.{Run, Script};
 ghost use Rattle.clsm_command.specs.declared.refusal.Refusal.TheVariants.{Help, Memory};
 ghost use Rattle.clsm_text.specs.Failure.{status_of};
 ghost use Rattle.clap.specs.declared.error.Error.{Error};
@@ -10,11 +10,11 @@ ghost use Rattle.clap.specs.declared.error.Error.{Error};
 use crate::command_line::parse;
 use crate::options::{AuditOptions, ExploreOptions, Options, RunOptions};
 use crate::refusal::Refusal;
-use clsm_explore::{Exploration, Shows as ShowsOf, explore_scripts};
+use clsm_explore::{Exploration, Shows, explore_scripts};
 use clsm_model::Config;
 use clsm_script::{Setting, script};
 use clsm_text::{AskedAudit, Failure, Streams, audit_lines};
-use clsm_workload::{AskedRun, Load, Shows, run_printed};
+use clsm_workload::{AskedRun, Load, run_printed};
 use std::alloc::Global;
 use std::convert::AsStr;
 use std::io::{self, BufWriter, Read, Write};
@@ -77,7 +77,7 @@ where
 }
 
 /// Does what the options ask for.
-#[tactic(auto, using(crate::proofs::Sizes::audit_refused))]
+#[tactic(auto, using(crate::proofs::Statuses::at_most, crate::proofs::Sizes::audit_refused, crate::proofs::Sizes::explored_refused))]
 fn obey<T, R, W, E>(rt: &T, alloc: Global, options: Options, streams: Streams<R, W, E>) -> Ended<W>
 where
     T: Threads + Sync + Clock + Wait,
@@ -92,144 +92,50 @@ where
         IsFaulty options (R.remaining streams.input) (W.contents streams.output) (W.contents output)) }
     ensures refused { ¬ HasSoundSizes options → result.status ≡ 3 }
 {
-    match options {
-        Options::Script(config) => play(rt, alloc, config, streams),
-        Options::Run(options) => call(rt, alloc, &options, streams),
-        Options::Audit(options) => audit(alloc, &options, streams),
-        Options::Explore(options) => try_orders(alloc, &options, streams),
-    }
+    let Streams {
+        input,
+        mut output,
+        faults,
+    } = streams;
+    let status = match options {
+        Options::Script(config) => {
+            let setting = Setting { rt, alloc, config };
+            return play(&setting, input, output, faults);
+        }
+        Options::Run(options) => run_printed(rt, alloc, &asked_run(&options), &mut output, faults),
+        Options::Audit(options) => {
+            audit_lines(alloc, asked_audit(&options), input, &mut output, faults)
+        }
+        Options::Explore(options) => {
+            explore_scripts(alloc, &asked_exploration(&options), &mut output, faults)
+        }
+    };
+    let output = Some(output);
+    Ended { status, output }
 }
 
 /// Plays the script.
 #[tactic(auto, using(crate::proofs::Statuses::no_fault, crate::proofs::Statuses::script_most))]
-fn play<T, R, W, E>(rt: &T, alloc: Global, config: Config, streams: Streams<R, W, E>) -> Ended<W>
+fn play<T, R, W, E>(setting: &Setting<'_, T>, input: R, output: W, mut faults: E) -> Ended<W>
 where
     T: Wait,
     R: Read + Drop,
     W: Write + Drop,
     E: Write + Drop,
     ensures status { result.status ≤ 3 }
-    ensures done { result.status ≡ 0 → IsSomeAnd result.output (λ output.
-        IsDone (Script config) (R.remaining streams.input) (W.contents streams.output) (W.contents output)) }
+    ensures done { result.status ≡ 0 → IsSomeAnd result.output (λ after.
+        IsDone (Script setting.now.config) (R.remaining input) (W.contents output) (W.contents after)) }
     ensures faultless { ¬ (result.status ≡ 2) }
-    ensures refused { ¬ HasSoundSizes (Script config) → result.status ≡ 3 }
+    ensures refused { ¬ HasSoundSizes (Script setting.now.config) → result.status ≡ 3 }
 {
-    let Streams {
-        input,
-        output,
-        mut faults,
-    } = streams;
-    let Ok(mut answers) = BufWriter::new(alloc, output) else {
+    let Ok(mut answers) = BufWriter::new(setting.alloc, output) else {
         let status = fail(Failure::Memory, &mut faults);
         let output = None;
         return Ended { status, output };
     };
-    let setting = Setting { rt, alloc, config };
-    let status = script(&setting, input, &mut answers, faults);
+    let status = script(setting, input, &mut answers, faults);
     // A writer that is dropped would write once more.
     let (output, _) = answers.into_parts();
-    let output = Some(output);
-    Ended { status, output }
-}
-
-/// Runs the workload.
-fn call<T, R, W, E>(
-    rt: &T,
-    alloc: Global,
-    options: &RunOptions,
-    streams: Streams<R, W, E>,
-) -> Ended<W>
-where
-    T: Threads + Sync + Clock + Wait,
-    R: Read + Drop,
-    W: Write + Drop,
-    E: Write + Send + Drop,
-    requires range { IsInRange (Run options.now) }
-    ensures status { result.status ≤ 3 }
-    ensures done { result.status ≡ 0 → IsSomeAnd result.output (λ output.
-        IsDone (Run options.now) (R.remaining streams.input) (W.contents streams.output) (W.contents output)) }
-    ensures fault { result.status ≡ 2 → IsSomeAnd result.output (λ output.
-        IsFaulty (Run options.now) (R.remaining streams.input) (W.contents streams.output) (W.contents output)) }
-    ensures refused { ¬ HasSoundSizes (Run options.now) → result.status ≡ 3 }
-{
-    let Streams {
-        mut output,
-        faults,
-        ..
-    } = streams;
-    let asked = asked_run(options);
-    let status = run_printed(rt, alloc, &asked, &mut output, faults);
-    let output = Some(output);
-    Ended { status, output }
-}
-
-/// Audits the records.
-#[tactic(auto, using(crate::proofs::Statuses::at_most))]
-fn audit<R, W, E>(alloc: Global, options: &AuditOptions, streams: Streams<R, W, E>) -> Ended<W>
-where
-    R: Read + Drop,
-    W: Write + Drop,
-    E: Write + Drop,
-    ensures status { result.status ≤ 3 }
-    ensures done { result.status ≡ 0 → IsSomeAnd result.output (λ output.
-        IsDone (Audit options.now) (R.remaining streams.input) (W.contents streams.output) (W.contents output)) }
-    ensures fault { result.status ≡ 2 → IsSomeAnd result.output (λ output.
-        IsFaulty (Audit options.now) (R.remaining streams.input) (W.contents streams.output) (W.contents output)) }
-{
-    let Streams {
-        input,
-        mut output,
-        faults,
-    } = streams;
-    let status = audit_lines(alloc, asked(options), input, &mut output, faults);
-    let output = Some(output);
-    Ended { status, output }
-}
-
-/// Explores the scripts.
-#[tactic(auto, using(crate::proofs::Statuses::at_most, crate::proofs::Sizes::explored_refused))]
-fn try_orders<R, W, E>(
-    alloc: Global,
-    options: &ExploreOptions,
-    streams: Streams<R, W, E>,
-) -> Ended<W>
-where
-    R: Read + Drop,
-    W: Write + Drop,
-    E: Write + Drop,
-    ensures status { result.status ≤ 3 }
-    ensures done { result.status ≡ 0 → IsSomeAnd result.output (λ output.
-        IsDone (Explore options.now) (R.remaining streams.input) (W.contents streams.output) (W.contents output)) }
-    ensures fault { result.status ≡ 2 → IsSomeAnd result.output (λ output.
-        IsFaulty (Explore options.now) (R.remaining streams.input) (W.contents streams.output) (W.contents output)) }
-    ensures refused { ¬ HasSoundSizes (Explore options.now) → result.status ≡ 3 }
-{
-    let Streams {
-        mut output,
-        faults,
-        ..
-    } = streams;
-    let config = Config {
-        cells: options.cells,
-        seats: options.scripts.len(),
-        shards: options.shards,
-        run: EXPLORED_RUN,
-        patience: options.patience,
-    };
-    let shows = ShowsOf {
-        answers: options.answers,
-        schedule: options.schedule,
-        count: options.count,
-        progress: options.progress,
-    };
-    let asked = Exploration {
-        config,
-        scripts: &options.scripts,
-        merge: options.merge,
-        limit: options.limit,
-        shows,
-    };
-    let status = explore_scripts(alloc, &asked, &mut output, faults);
     let output = Some(output);
     Ended { status, output }
 }
@@ -245,22 +151,16 @@ fn asked_run(options: &RunOptions) -> AskedRun
         seed: options.seed,
         batch: options.batch,
     };
-    let shows = Shows {
-        stats: options.stats,
-        progress: options.progress,
-        records: options.records,
-        clock: options.clock,
-    };
     AskedRun {
         config: options.config,
         load,
         waits: options.wait,
-        shows,
+        shows: options.shows,
     }
 }
 
 /// What an audit is asked for. Of the sizes of the store it takes only the first two.
-fn asked(options: &AuditOptions) -> AskedAudit
+fn asked_audit(options: &AuditOptions) -> AskedAudit
     ensures config { result.config ≡ audit_sizes options.now }
     ensures order { result.order ≡ options.now.order }
     ensures history { result.history ≡ options.now.history }
@@ -276,6 +176,32 @@ fn asked(options: &AuditOptions) -> AskedAudit
         config,
         order: options.order,
         history: options.history,
+    }
+}
+
+/// The exploration that options ask for.
+fn asked_exploration<'a>(options: &'a ExploreOptions) -> Exploration<'a>
+    ensures { AsksExploration options.now result }
+{
+    let config = Config {
+        cells: options.cells,
+        seats: options.scripts.len(),
+        shards: options.shards,
+        run: EXPLORED_RUN,
+        patience: options.patience,
+    };
+    let shows = Shows {
+        answers: options.answers,
+        schedule: options.schedule,
+        count: options.count,
+        progress: options.progress,
+    };
+    Exploration {
+        config,
+        scripts: &options.scripts,
+        merge: options.merge,
+        limit: options.limit,
+        shows,
     }
 }
 

@@ -6,6 +6,7 @@ ghost use Rattle.clsm_command.specs.Answers.{IsAnswer, IsCommand, rows_in};
 use crate::options::{AuditOptions, ExploreOptions, Options, RunOptions};
 use clap::ArgMatches;
 use clsm_model::Config;
+use clsm_workload::Shows;
 use std::alloc::{AllocError, Global};
 
 /// The number of an option, which has a default; 0 where there is none.
@@ -53,6 +54,18 @@ fn sizes(matches: &ArgMatches<'_>, seats: &str) -> Config
     }
 }
 
+/// What is shown of a run.
+fn shows(matches: &ArgMatches<'_>) -> Shows
+    ensures { result ≡ spec.shows (rows_in matches.now) }
+{
+    Shows {
+        stats: flag(matches, "stats"),
+        progress: flag(matches, "progress"),
+        records: flag(matches, "records"),
+        clock: flag(matches, "clock"),
+    }
+}
+
 fn run(matches: &ArgMatches<'_>) -> RunOptions
     ensures { result ≡ spec.run (rows_in matches.now) }
 {
@@ -63,10 +76,7 @@ fn run(matches: &ArgMatches<'_>) -> RunOptions
         seed: number(matches, "seed"),
         batch: flag(matches, "batch"),
         wait: flag(matches, "wait"),
-        stats: flag(matches, "stats"),
-        progress: flag(matches, "progress"),
-        records: flag(matches, "records"),
-        clock: flag(matches, "clock"),
+        shows: shows(matches),
     }
 }
 

@@ -1,4 +1,5 @@
 use clsm_model::Config;
+use clsm_workload::Shows;
 
 /// What the program is asked to do.
 #[derive(PartialEq, Eq, Debug, Drop)]
@@ -28,14 +29,8 @@ pub struct RunOptions {
     pub batch: bool,
     /// `--wait`: a write waits for room.
     pub wait: bool,
-    /// `--stats`
-    pub stats: bool,
-    /// `--progress`
-    pub progress: bool,
-    /// `--records`
-    pub records: bool,
-    /// `--clock`
-    pub clock: bool,
+    /// `--stats`, `--progress`, `--records` and `--clock`.
+    pub shows: Shows,
 }
 
 /// The options of `clsm audit`.

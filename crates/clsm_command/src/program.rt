@@ -72,58 +72,62 @@ fn named<'a>(alloc: Global, name: &'a str, about: &'a str, after_help: &'a str) 
 fn script<'a>(alloc: Global) -> Result<Command<'a>, AllocError>
     ensures { IfOk result (Is spec.script) }
 {
-    named(alloc, "script", help::SCRIPT, help::AFTER_SCRIPT)
-        .arg(size(alloc, "cells", "4", help::CELLS))?
-        .arg(size(alloc, "seats", "1", help::SEATS))?
-        .arg(size(alloc, "shards", "2", help::SHARDS))?
-        .arg(size(alloc, "run", "64", help::RUN_ROOM))?
-        .arg(size(alloc, "patience", "8", help::PATIENCE))
+    named(alloc, "script", help::SCRIPT, help::AFTER_SCRIPT).args(vec![in alloc;
+        size(alloc, "cells", "4", help::CELLS),
+        size(alloc, "seats", "1", help::SEATS),
+        size(alloc, "shards", "2", help::SHARDS),
+        size(alloc, "run", "64", help::RUN_ROOM),
+        size(alloc, "patience", "8", help::PATIENCE),
+    ]?)
 }
 
 fn run<'a>(alloc: Global) -> Result<Command<'a>, AllocError>
     ensures { IfOk result (Is spec.run) }
 {
-    named(alloc, "run", help::RUN, help::AFTER_RUN)
-        .arg(number(alloc, "threads", "4", (1, 64), help::THREADS))?
-        .arg(number(alloc, "ops", "1000", (0, 1_000_000), help::OPS))?
-        .arg(number(alloc, "keys", "64", (1, 1_000_000), help::KEYS))?
-        .arg(size(alloc, "seed", "1", help::SEED))?
-        .arg(size(alloc, "cells", "1024", help::CELLS))?
-        .arg(size(alloc, "shards", "64", help::SHARDS))?
-        .arg(size(alloc, "run", "65536", help::RUN_ROOM))?
-        .arg(size(alloc, "patience", "16", help::PATIENCE))?
-        .arg(flag(alloc, "batch", help::BATCH))?
-        .arg(flag(alloc, "wait", help::WAIT))?
-        .arg(flag(alloc, "stats", help::STATS))?
-        .arg(flag(alloc, "progress", help::RUN_PROGRESS))?
-        .arg(flag(alloc, "records", help::RECORDS))?
-        .arg(flag(alloc, "clock", help::CLOCK))
+    named(alloc, "run", help::RUN, help::AFTER_RUN).args(vec![in alloc;
+        number(alloc, "threads", "4", (1, 64), help::THREADS),
+        number(alloc, "ops", "1000", (0, 1_000_000), help::OPS),
+        number(alloc, "keys", "64", (1, 1_000_000), help::KEYS),
+        size(alloc, "seed", "1", help::SEED),
+        size(alloc, "cells", "1024", help::CELLS),
+        size(alloc, "shards", "64", help::SHARDS),
+        size(alloc, "run", "65536", help::RUN_ROOM),
+        size(alloc, "patience", "16", help::PATIENCE),
+        flag(alloc, "batch", help::BATCH),
+        flag(alloc, "wait", help::WAIT),
+        flag(alloc, "stats", help::STATS),
+        flag(alloc, "progress", help::RUN_PROGRESS),
+        flag(alloc, "records", help::RECORDS),
+        flag(alloc, "clock", help::CLOCK),
+    ]?)
 }
 
 fn audit<'a>(alloc: Global) -> Result<Command<'a>, AllocError>
     ensures { IfOk result (Is spec.audit) }
 {
-    named(alloc, "audit", help::AUDIT, help::AFTER_AUDIT)
-        .arg(size(alloc, "seats", "1", help::AUDIT_SEATS))?
-        .arg(size(alloc, "cells", "65536", help::AUDIT_CELLS))?
-        .arg(flag(alloc, "order", help::ORDER))?
-        .arg(flag(alloc, "history", help::HISTORY))
+    named(alloc, "audit", help::AUDIT, help::AFTER_AUDIT).args(vec![in alloc;
+        size(alloc, "seats", "1", help::AUDIT_SEATS),
+        size(alloc, "cells", "65536", help::AUDIT_CELLS),
+        flag(alloc, "order", help::ORDER),
+        flag(alloc, "history", help::HISTORY),
+    ]?)
 }
 
 fn explore<'a>(alloc: Global) -> Result<Command<'a>, AllocError>
     ensures { IfOk result (Is spec.explore) }
 {
-    named(alloc, "explore", help::EXPLORE, help::AFTER_EXPLORE)
-        .arg(size(alloc, "cells", "4", help::CELLS))?
-        .arg(size(alloc, "shards", "2", help::SHARDS))?
-        .arg(size(alloc, "patience", "0", help::PATIENCE))?
-        .arg(flag(alloc, "merge", help::MERGE))?
-        .arg(number(alloc, "limit", "1000000", (1, 4_000_000), help::LIMIT))?
-        .arg(flag(alloc, "answers", help::ANSWERS))?
-        .arg(flag(alloc, "schedule", help::SCHEDULE))?
-        .arg(flag(alloc, "count", help::COUNT))?
-        .arg(flag(alloc, "progress", help::EXPLORE_PROGRESS))?
-        .arg(scripts(alloc))
+    named(alloc, "explore", help::EXPLORE, help::AFTER_EXPLORE).args(vec![in alloc;
+        size(alloc, "cells", "4", help::CELLS),
+        size(alloc, "shards", "2", help::SHARDS),
+        size(alloc, "patience", "0", help::PATIENCE),
+        flag(alloc, "merge", help::MERGE),
+        number(alloc, "limit", "1000000", (1, 4_000_000), help::LIMIT),
+        flag(alloc, "answers", help::ANSWERS),
+        flag(alloc, "schedule", help::SCHEDULE),
+        flag(alloc, "count", help::COUNT),
+        flag(alloc, "progress", help::EXPLORE_PROGRESS),
+        scripts(alloc),
+    ]?)
 }
 
 /// The whole program, with its commands.

@@ -1,5 +1,5 @@
 -- What the audit of records answers.
-use Rattle.std.proofs.Common.{◌≡◌, arith, false, ℕ, List, Result, Ok, Err, IfErr, IfOk, IsTrue, inl, inr, refl, sym, ap, ◌∙◌, subst}
+use Rattle.std.proofs.Common.{◌≡◌, arith, false, ℕ, List, Result, Ok, Err, IfErr, IfOk, IsOk, IsTrue, inl, inr, refl, sym, ap, ◌∙◌, subst}
 use Rattle.std.proofs.Math.Bool.{true≢false}
 use Rattle.std.specs.Prelude.{All, ⊤, OnOk, Option}
 use Rattle.clsm_store_calls.specs.Seats.{HasSizes, SeatState, StoreId}
@@ -10,15 +10,17 @@ use Rattle.clsm_model.specs.declared.config.Config.{Config}
 use Rattle.clsm_model.specs.declared.record.CallRecord.{CallRecord}
 use Rattle.clsm_text.specs.declared.failure.Failure.{Failure}
 use Rattle.clsm_store.specs.Headline.{IsWholeHistory, longest_past}
-use Rattle.clsm_workload.specs.Calls.{AreSeatsOf, HasMadeAll, HasSettled, IsAudited, IsAuditedWhole, IsVerdict, all_calls}
+use Rattle.clsm_workload.specs.Calls.{AreSeatsOf, HasMadeAll, HasSettled, IsAudited, IsAuditedWhole, IsVerdict}
 use Rattle.clsm_audit.specs.declared.fault.AuditError.TheVariants as audits
 use Rattle.clsm_model.specs.Config.{IsSound}
 use Rattle.clsm_text.specs.declared.failure.Failure.TheVariants.{BadLine, Device, Fault, Refused, Memory}
 use Rattle.clsm_text.specs.Failure.{status_of}
 use Rattle.clsm_workload.specs.Printed.{PrintsRun}
-use Rattle.clsm_workload.specs.Run.{EndsWell, FindsFault, IsRunOf, StopsCalls, StopsRun, StopsWork, ending_of}
+use Rattle.clsm_workload.specs.Run.{EndsWell, FindsFault, IsAuditOf, IsRunOf, StopsCalls, StopsRun, StopsWork, ending_of}
 use Rattle.clsm_workload.specs.declared.load.AskedRun.{AskedRun}
 use Rattle.clsm_workload.specs.declared.ran.Ran.{Ran}
+use Rattle.clsm_workload.specs.declared.worker.Worked.{Worked}
+use Rattle.clsm_workload.proofs.Brought.{seats_of}
 
 pub verdict_is : (config : Config) (records : List CallRecord) (answer : Result ⊤ AuditError) →
     OnOk answer (IsLawful config records) → OnOk answer (IsOneHistory records) →
@@ -26,36 +28,33 @@ pub verdict_is : (config : Config) (records : List CallRecord) (answer : Result 
 verdict_is config records (Ok _) lawful history fault = (lawful, history)
 verdict_is config records (Err error) lawful history fault = fault
 
--- a run whose gathered seats are all those of the store, and whose records are their calls
-pub audited_is : (config : Config) (store : StoreId) (seats : List SeatState) (records : List CallRecord) (ran : Result Ran Failure) →
-    AreSeatsOf store config.seats seats → records ≡ all_calls seats → IfOk ran (λ r. r.seats.items ≡ seats) → IfOk ran (λ r. r.records.items ≡ records) →
-    IfOk ran (λ r. IsVerdict config records r.verdict) → IfOk ran (λ r. IsAudited config store r.seats.items r.records.items r.verdict)
-audited_is config store seats records (Ok r) are calls same kept verdict = record {
-  seats_are = subst (AreSeatsOf store config.seats) (sym same) are;
-  records_are = kept ∙ (calls ∙ ap all_calls (sym same));
-  verdict_is = subst (λ (rs : List CallRecord). IsVerdict config rs r.verdict) (sym kept) verdict;
+-- what was audited, where the seats of the workers are all those of the store
+pub audited_is : (config : Config) (store : StoreId) (worked : List Worked) (ran : Result Ran Failure) → AreSeatsOf store config.seats (seats_of worked) →
+    IfOk ran (IsAuditOf config worked) → IfOk ran (λ r. IsAudited config store r.seats.items r.records.items r.verdict)
+audited_is config store worked (Ok r) are audit = record {
+  seats_are = subst (AreSeatsOf store config.seats) (sym audit.seats) are;
+  records_are = audit.records;
+  verdict_is = audit.verdict;
 }
-audited_is config store seats records (Err _) are calls same kept verdict = tt
+audited_is config store worked (Err _) are audit = tt
 
 -- and where these seats are those that a session handed back
-pub audited_whole : (config : Config) (store : StoreId) → HasSizes store config
-    → (ended seats : List SeatState) (records : List CallRecord) (ran : Result Ran Failure) →
-    AreSeatsOf store config.seats ended → IsWholeHistory ended (longest_past ended) → seats ≡ ended → records ≡ all_calls seats →
-    IfOk ran (λ r. r.seats.items ≡ seats) → IfOk ran (λ r. r.records.items ≡ records) → IfOk ran (λ r. IsVerdict config records r.verdict) →
+pub audited_whole : (config : Config) (store : StoreId) → HasSizes store config → (seats : List SeatState) (worked : List Worked) (ran : Result Ran Failure) →
+    AreSeatsOf store config.seats seats → IsWholeHistory seats (longest_past seats) → seats_of worked ≡ seats → IfOk ran (IsAuditOf config worked) →
     IfOk ran (λ r. IsAuditedWhole config r.seats.items r.records.items r.verdict)
-audited_whole config store sizes ended seats records (Ok r) are whole is calls same kept verdict = record {
+audited_whole config store sizes seats worked (Ok r) are whole is audit = record {
   store = store;
   sizes = sizes;
-  audited = audited_is config store seats records (Ok r) (subst (AreSeatsOf store config.seats) (sym is) are) calls same kept verdict;
-  whole = subst (λ (ss : List SeatState). IsWholeHistory ss (longest_past ss)) (sym (same ∙ is)) whole;
+  audited = audited_is config store worked (Ok r) (subst (AreSeatsOf store config.seats) (sym is) are) audit;
+  whole = subst (λ (ss : List SeatState). IsWholeHistory ss (longest_past ss)) (sym (audit.seats ∙ is)) whole;
 }
-audited_whole config store sizes ended seats records (Err _) are whole is calls same kept verdict = tt
+audited_whole config store sizes seats worked (Err _) are whole is audit = tt
 
--- and what holds of each of these seats
-pub all_of_ran : (P : SeatState → Type 0) (seats : List SeatState) (ran : Result Ran Failure) → All P seats → IfOk ran (λ r. r.seats.items ≡ seats) →
-    IfOk ran (λ r. All P r.seats.items)
-all_of_ran P seats (Ok r) all same = subst (All P) (sym same) all
-all_of_ran P seats (Err _) all same = tt
+-- and what holds of each of these seats, where all workers came to their end
+pub all_of_ran : (P : SeatState → Type 0) (config : Config) (worked : List Worked) (ran : Result Ran Failure) →
+    (All (λ (w : Worked). IsOk w.made.ended) worked → All P (seats_of worked)) → IfOk ran (IsAuditOf config worked) → IfOk ran (λ r. All P r.seats.items)
+all_of_ran P config worked (Ok r) all audit = subst (All P) (sym audit.seats) (all audit.ended)
+all_of_ran P config worked (Err _) all audit = tt
 
 -- a whole run, by the crew or by a session
 pub of_crew : (asked : AskedRun) (store : StoreId) (ran : Result Ran Failure) → HasSizes store asked.config → asked.waits ≡ false →

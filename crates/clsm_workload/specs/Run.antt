@@ -1,5 +1,5 @@
 -- How a run ends, and its session where writes wait.
-use Rattle.std.specs.Prelude.{◌≡◌, ℕ, ◌⊎◌, ⊤, All, IsTrue, List, Option, Result, Ok, Err, [], ◌∷◌, OnOk}
+use Rattle.std.specs.Prelude.{◌≡◌, ℕ, ◌⊎◌, ⊤, All, IsTrue, List, Option, Result, Ok, Err, [], ◌∷◌, IsOk, OnOk, map}
 use Rattle.clsm_model.specs.declared.config.Config.{Config}
 use Rattle.clsm_model.specs.Config.{IsSound}
 use Rattle.clsm_audit.specs.declared.fault.AuditError.{AuditError}
@@ -11,7 +11,7 @@ use Rattle.clsm_store_calls.specs.Seats.{HasSizes, StoreId, SeatState}
 use Rattle.clsm_store_audit.specs.Settled.{AreLawfulAlone}
 use Rattle.clsm_text.specs.declared.failure.Failure.{Failure}
 use Rattle.clsm_text.specs.declared.failure.Failure.TheVariants.{Device, Fault, Refused, Memory}
-use Rattle.clsm_workload.specs.Calls.{HasMadeAll, HasSettled, IsAudited}
+use Rattle.clsm_workload.specs.Calls.{HasMadeAll, HasSettled, IsAudited, IsVerdict, all_calls}
 use Rattle.clsm_workload.specs.Printed.{PrintsRun}
 use Rattle.clsm_workload.specs.declared.load.AskedRun.{AskedRun}
 use Rattle.clsm_workload.specs.declared.load.Load.{Load}
@@ -20,6 +20,7 @@ use Rattle.clsm_session.specs.Ended.{AreAllSeats, StopsSession}
 use Rattle.clsm_session.specs.declared.session.Ended.{Ended}
 use Rattle.clsm_session.specs.declared.refusal.SessionError.{SessionError}
 use Rattle.clsm_workload.specs.declared.worker.Made.{Made}
+use Rattle.clsm_workload.specs.declared.worker.Worked.{Worked}
 
 -- all seats of a store of these sizes made all calls that they were asked for, each of them is
 -- lawful, and all their records were audited
@@ -29,6 +30,14 @@ pub record IsWholeRun (config : Config) (load : Load) (ran : Ran) : Type 0 where
   pub audited : IsAudited config store ran.seats.items ran.records.items ran.verdict
   pub made : All (λ seat. HasMadeAll load seat ⊎ HasSettled load seat) ran.seats.items
   pub lawful : AreLawfulAlone ran.seats.items
+
+-- the run has the seats of these workers, each of which came to its end, and the verdict on all
+-- calls of these seats
+pub record IsAuditOf (config : Config) (worked : List Worked) (ran : Ran) : Type 0 where
+  pub seats : ran.seats.items ≡ map (λ w. w.seat) worked
+  pub ended : All (λ w. IsOk w.made.ended) worked
+  pub records : ran.records.items ≡ all_calls ran.seats.items
+  pub verdict : IsVerdict config ran.records.items ran.verdict
 
 -- how a run with this verdict ends
 abbrev pub ending_of : Result ⊤ AuditError → Result ⊤ Failure

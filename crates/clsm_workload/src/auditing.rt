@@ -1,11 +1,12 @@
 //! The audit of a run.
-ghost use Rattle.std.specs.Prelude.{◌≡◌, IfErr, IfOk, IsOk, OnOk, Ok, Err};
+ghost use Rattle.std.specs.Prelude.{◌≡◌, All, IfErr, IfOk, IsOk, OnOk, Ok, Err};
 ghost use Rattle.clsm_store_audit.specs.Settled.{AreLawfulAlone};
 ghost use Rattle.clsm_workload.specs.Calls.{IsVerdict};
-ghost use Rattle.clsm_workload.specs.Run.{StopsWork, ending_of};
+ghost use Rattle.clsm_workload.specs.Run.{IsAuditOf, StopsWork, ending_of};
 
-use crate::gathering::Gathered;
+use crate::gathering::{Gathered, gather};
 use crate::ran::{Calling, Ran};
+use crate::worker::Worked;
 use clsm_audit::{AuditError, audit};
 use clsm_model::{CallRecord, Config};
 use clsm_store_audit::are_lawful_alone;
@@ -14,20 +15,23 @@ use std::alloc::Global;
 use std::rt::Clock;
 use std::time::Instant;
 
-/// Audits what the workers made. Refused with `Device` where the clock fails.
+/// Gathers what the workers made, and audits it. Refused with `Memory` where one of them was
+/// refused memory, and with `Device` where the clock fails.
 pub fn audited<R: Clock>(
     rt: &R,
     alloc: Global,
     config: &Config,
-    gathered: Gathered,
+    worked: Vec<Worked>,
     calling: Calling,
 ) -> Result<Ran, Failure>
-    ensures seats { IfOk result (λ ran. ran.seats.items ≡ gathered.seats.items) }
-    ensures records { IfOk result (λ ran. ran.records.items ≡ gathered.records.items) }
-    ensures verdict { IfOk result (λ ran. IsVerdict config.now gathered.records.items ran.verdict) }
+    requires { All (λ w. w.seat.calls ≡ w.made.records.items) worked.items }
+    ensures audit { IfOk result (IsAuditOf config.now worked.items) }
     ensures lawful { IfOk result (λ ran. AreLawfulAlone ran.seats.items) }
     ensures stopped { IfErr result StopsWork }
 {
+    let Ok(gathered) = gather(alloc, worked) else {
+        return Err(Failure::Memory);
+    };
     let Gathered {
         seats,
         records,

@@ -7,10 +7,9 @@ ghost use Rattle.clsm_workload.specs.Calls.{AreWorked, HasMadeAll, IsAudited, Is
 ghost use Rattle.clsm_workload.specs.Run.{StopsWork};
 
 use crate::auditing::audited;
-use crate::gathering::gather;
 use crate::load::AskedRun;
 use crate::merger::{merge_beside, merges_of};
-use crate::progress::show_progress;
+use crate::progress::work_showing;
 use crate::ran::{Calling, Ran};
 use crate::task::Task;
 use crate::worker::{Worked, work};
@@ -67,16 +66,12 @@ where
     };
     let start = Instant::now(rt)?;
     let (worked, merges) = work_merging(rt, alloc, crew, &task, faults);
-    let time = start.elapsed(rt)?;
-    let worked = worked?;
-    let Ok(gathered) = gather(alloc, worked) else {
-        return Err(Failure::Memory);
-    };
     let calling = Calling {
-        time,
+        time: start.elapsed(rt)?,
         merges: Some(merges),
     };
-    audited(rt, alloc, &asked.config, gathered, calling)
+    let worked = worked?;
+    audited(rt, alloc, &asked.config, worked, calling)
 }
 
 /// Lets the workers work while the merger merges and the line moves. Answers what they gave back,
@@ -96,6 +91,31 @@ where
     requires merger { crew.merger.merger.store ≡ crew.store.now }
     ensures { IfOk result.0 (λ worked. AreWorked task.now.load crew.entry.seats.items worked.items) }
 {
+    work_showing(
+        rt,
+        task,
+        faults,
+        || -> (Result<Vec<Worked>, AllocError>, u64)
+            requires { (All (λ seat. seat.store ≡ crew.store.now) crew.seats.items) × (crew.merger.merger.store ≡ crew.store.now) }
+            ensures { IfOk result.0 (λ worked. AreWorked task.entry.now.load crew.entry.seats.items worked.items) }
+        { work_beside(rt, alloc, crew, task) },
+    )
+}
+
+/// Lets the workers work while the merger merges.
+fn work_beside<P, R>(
+    rt: &R,
+    alloc: Global,
+    crew: Crew<'_, P>,
+    task: &Task,
+) -> (Result<Vec<Worked>, AllocError>, u64)
+where
+    P: Pace + Drop + Sync,
+    R: Threads + Sync + Clock + Wait,
+    requires seats { All (λ seat. seat.store ≡ crew.store.now) crew.seats.items }
+    requires merger { crew.merger.merger.store ≡ crew.store.now }
+    ensures { IfOk result.0 (λ worked. AreWorked task.now.load crew.entry.seats.items worked.items) }
+{
     let Crew {
         store,
         seats,
@@ -105,7 +125,7 @@ where
     // Where no thread can be made, the first of the two comes last, and finds that all is over.
     let (merges, worked) = join(
         rt,
-        || merge_showing(rt, merger, task, faults),
+        || merges_of(&merge_beside(rt, merger, &task.board).phase),
         || -> Result<Vec<Worked>, AllocError>
             requires { All (λ seat. seat.store ≡ store.now) seats.items }
             ensures { IfOk result (λ worked. AreWorked task.entry.now.load seats.items worked.items) }
@@ -154,24 +174,4 @@ where
         seat: caller.seat,
         made,
     }
-}
-
-/// Merges until all workers have ended, while the line moves if it is asked for. Answers the number
-/// of merges.
-fn merge_showing<P, R, E>(rt: &R, merger: Merger<'_, P>, task: &Task, faults: &mut E) -> u64
-where
-    P: Pace + Drop + Sync,
-    R: Threads + Sync + Clock + Wait,
-    E: Write + Send,
-{
-    let board = &task.board;
-    if !task.shows.progress {
-        return merges_of(&merge_beside(rt, merger, board).phase);
-    }
-    let (merges, ()) = join(
-        rt,
-        || merges_of(&merge_beside(rt, merger, board).phase),
-        || show_progress(rt, board, faults),
-    );
-    merges
 }

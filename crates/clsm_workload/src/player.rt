@@ -1,11 +1,12 @@
 //! Who plays the deals of a worker: a caller at a store, or a caller of a session.
 ghost use Rattle.std.specs.Prelude.{◌≡◌, IfErr, IfOk, is_some};
-ghost use Rattle.clsm_store_calls.specs.Seats.{Refuses};
-ghost use Rattle.clsm_store.specs.Play.{PlaysCall, WantsMemory, call_for};
+ghost use Rattle.clsm_session.specs.Waiting.{RefusesCall};
+ghost use Rattle.clsm_store_calls.specs.Seats.{IsSameSeat, Refuses};
+ghost use Rattle.clsm_store.specs.Play.{PlaysCall, WantsMemory};
 ghost use Rattle.clsm_workload.specs.Play.{Plays};
 
 use clsm_model::{CallRecord, Deal, Memory};
-use clsm_session::{Place, SessionCaller};
+use clsm_session::{BatchRefused, Place, SessionCaller};
 use clsm_store::{Answer, Call, Caller, Pace};
 use std::alloc::Global;
 use std::sync::Wait;
@@ -25,16 +26,39 @@ pub trait Player {
     fn has_snapshot(&self) -> bool
         ensures { result ≡ is_some (seat self.now).snapshot };
 
-    /// Plays the deal, and answers the record of it; none where it was refused. A scan and a batch
-    /// may be refused if memory runs out: the seat is as before then.
-    fn play<R: Wait>(
+    /// Makes the call, and answers what the method of its name does. Refused where it waited for
+    /// room, and the merger can make none.
+    fn play_call<R: Wait>(
         &mut self,
         rt: &R,
         alloc: Global,
-        deal: Deal,
-    ) -> Result<Option<CallRecord>, Memory>
-        ensures played { IfOk result (Plays deal (seat self.old) (seat self.new)) }
-        ensures refused { IfErr result (λ _. Refuses (seat self.old) (seat self.new)) };
+        call: &Call,
+    ) -> Result<Answer, BatchRefused>
+        ensures plays { IfOk result (PlaysCall call.now (seat self.old) (seat self.new)) }
+        ensures memory { IfOk result (λ answer. WantsMemory answer → Refuses (seat self.old) (seat self.new)) }
+        ensures refused { IfErr result (RefusesCall call.now (seat self.old) (seat self.new)) }
+        ensures same { IsSameSeat (seat self.old) (seat self.new) };
+}
+
+/// Plays the deal, and answers the record of it; none where it was refused. A scan and a batch may
+/// be refused if memory runs out: the seat is as before then.
+pub fn play_deal<S: Player, R: Wait>(
+    rt: &R,
+    alloc: Global,
+    player: &mut S,
+    deal: Deal,
+) -> Result<Option<CallRecord>, Memory>
+    ensures played { IfOk result (Plays deal (S.seat player.old) (S.seat player.new)) }
+    ensures refused { IfErr result (λ _. Refuses (S.seat player.old) (S.seat player.new)) }
+{
+    let call = Call::of_deal(alloc, deal)?;
+    let Ok(answer) = player.play_call(rt, alloc, &call) else {
+        return Ok(None);
+    };
+    if answer.wants_memory() {
+        return Err(Memory);
+    }
+    Ok(call.into_record(player.number(), answer))
 }
 
 /// A write with no room is refused at once.
@@ -49,18 +73,13 @@ impl<P: Pace + Drop> Player for Caller<'_, P> {
         self.seat.snapshot_time().is_some()
     }
 
-    fn play<R: Wait>(
+    fn play_call<R: Wait>(
         &mut self,
         rt: &R,
         alloc: Global,
-        deal: Deal,
-    ) -> Result<Option<CallRecord>, Memory> {
-        let call = Call::of_deal(alloc, deal)?;
-        let answer = self.store.play(rt, alloc, &mut self.seat, &call);
-        if answer.wants_memory() {
-            return Err(Memory);
-        }
-        Ok(call.into_record(self.seat.number(), answer))
+        call: &Call,
+    ) -> Result<Answer, BatchRefused> {
+        Ok(Caller::play(self, rt, alloc, call))
     }
 }
 
@@ -76,19 +95,12 @@ impl<W: Wait, P: Place> Player for SessionCaller<'_, W, P> {
         self.snapshot_time().is_some()
     }
 
-    fn play<R: Wait>(
+    fn play_call<R: Wait>(
         &mut self,
         _rt: &R,
-        alloc: Global,
-        deal: Deal,
-    ) -> Result<Option<CallRecord>, Memory> {
-        let call = Call::of_deal(alloc, deal)?;
-        let Ok(answer) = SessionCaller::play(self, &call) else {
-            return Ok(None);
-        };
-        if answer.wants_memory() {
-            return Err(Memory);
-        }
-        Ok(call.into_record(SessionCaller::number(self), answer))
+        _alloc: Global,
+        call: &Call,
+    ) -> Result<Answer, BatchRefused> {
+        self.play(call)
     }
 }

@@ -1,16 +1,34 @@
 //! The line that moves while a run runs.
 use crate::board::Board;
+use crate::task::Task;
 use std::io::{self, Write};
 use std::rt::Clock;
 use std::sync::Wait;
-use std::thread;
+use std::thread::{self, Threads, join};
 use std::time::{Duration, Instant};
 
 /// How many milliseconds the line stands still.
 const STILL: u64 = 100;
 
+/// Works while the line moves, if it is asked for. Where no thread can be made, the line comes
+/// last, and finds that all is over.
+pub fn work_showing<R, E, F, T>(rt: &R, task: &Task, faults: &mut E, work: F) -> T
+where
+    R: Threads + Sync + Clock + Wait,
+    E: Write + Send,
+    F: FnOnce() -> T,
+    requires { F.pre work }
+    ensures { F.post work result }
+{
+    if !task.shows.progress {
+        return work();
+    }
+    let ((), done) = join(rt, || show_progress(rt, &task.board, faults), work);
+    done
+}
+
 /// Writes how far the workers are, again and again on one line, until all have ended.
-pub fn show_progress<R: Clock + Wait, E: Write>(rt: &R, board: &Board, faults: &mut E) {
+fn show_progress<R: Clock + Wait, E: Write>(rt: &R, board: &Board, faults: &mut E) {
     let Ok(start) = Instant::now(rt) else {
         return;
     };

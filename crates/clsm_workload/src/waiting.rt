@@ -8,10 +8,9 @@ ghost use Rattle.clsm_workload.specs.Calls.{HasSettled, IsAuditedWhole};
 ghost use Rattle.clsm_workload.specs.Run.{EndsSession, IsEnded, StopsCalls, StopsWork};
 
 use crate::auditing::audited;
-use crate::gathering::gather;
 use crate::job::{Loaded, Waiting};
 use crate::load::AskedRun;
-use crate::progress::show_progress;
+use crate::progress::work_showing;
 use crate::ran::{Calling, Ran};
 use crate::task::Task;
 use crate::worker::{Made, Worked};
@@ -20,12 +19,12 @@ use clsm_session::{Ended, SessionError, with_store};
 use clsm_store::Seat;
 use clsm_text::Failure;
 use std::alloc::{AllocError, Global};
-use std::io::{self, Write};
+use std::io::Write;
 use std::marker::{Brand, PhantomData};
 use std::rt::Clock;
 use std::sync::Wait;
-use std::thread::{Threads, join};
-use std::time::{Duration, Instant};
+use std::thread::Threads;
+use std::time::Instant;
 
 /// Lets a caller for each seat of a store of the sizes that are asked for make the calls of its
 /// workload, in a session, and audits all that they answered. A write waits for room, and is
@@ -51,22 +50,34 @@ where
         return Err(Failure::Refused(error));
     }
     let task = Task::new(asked.load, asked.shows);
-    let (ended, time) = work_timed(rt, alloc, asked.config, &task, faults);
+    let start = Instant::now(rt)?;
+    let ended = work_showing(
+        rt,
+        &task,
+        faults,
+        || -> Result<Ended<Made>, SessionError>
+            ensures { EndsSession asked.entry.now.config task.load result }
+        { work_waiting(rt, alloc, asked.config, &task) },
+    );
+    let calling = Calling {
+        time: start.elapsed(rt)?,
+        merges: None,
+    };
     let ended = match ended {
         Ok(ended) => ended,
         Err(error) => return Err(failure_of(error)),
     };
-    audit_ended(rt, alloc, asked, ended, time)
+    audit_ended(rt, alloc, asked, ended, calling)
 }
 
-/// Audits what the callers of a session made in this time. Refused with `Memory`, and with `Device`
-/// where the clock fails.
+/// Audits what the callers of a session made. Refused with `Memory`, and with `Device` where the
+/// clock fails.
 fn audit_ended<R: Clock>(
     rt: &R,
     alloc: Global,
     asked: &AskedRun,
     ended: Ended<Made>,
-    time: io::Result<Duration>,
+    calling: Calling,
 ) -> Result<Ran, Failure>
     requires { IsEnded asked.now.config asked.now.load ended }
     ensures audited { IfOk result (λ ran. IsAuditedWhole asked.now.config ran.seats.items ran.records.items ran.verdict) }
@@ -74,14 +85,9 @@ fn audit_ended<R: Clock>(
     ensures lawful { IfOk result (λ ran. AreLawfulAlone ran.seats.items) }
     ensures stopped { IfErr result StopsWork }
 {
-    let time = time?;
     let Ended { seats, answers, .. } = ended;
     let worked = rejoin(alloc, seats, answers)?;
-    let Ok(gathered) = gather(alloc, worked) else {
-        return Err(Failure::Memory);
-    };
-    let calling = Calling { time, merges: None };
-    audited(rt, alloc, &asked.config, gathered, calling)
+    audited(rt, alloc, &asked.config, worked, calling)
 }
 
 /// Why the run stops where its session hands nothing back.
@@ -92,55 +98,6 @@ fn failure_of(error: SessionError) -> Failure
         SessionError::Open(error) => Failure::Refused(error),
         SessionError::NoThread | SessionError::Memory => Failure::Memory,
     }
-}
-
-/// Lets the callers work, and says how long that took, unless the clock fails.
-fn work_timed<R, E>(
-    rt: &R,
-    alloc: Global,
-    config: Config,
-    task: &Task,
-    faults: &mut E,
-) -> (Result<Ended<Made>, SessionError>, io::Result<Duration>)
-where
-    R: Threads + Sync + Clock + Wait,
-    E: Write + Send,
-    ensures { EndsSession config task.now.load result.0 }
-{
-    let start = Instant::now(rt);
-    let ended = work_showing(rt, alloc, config, task, faults);
-    let time = match start {
-        Ok(start) => start.elapsed(rt),
-        Err(error) => Err(error),
-    };
-    (ended, time)
-}
-
-/// Lets the callers work while the line moves, if it is asked for.
-fn work_showing<R, E>(
-    rt: &R,
-    alloc: Global,
-    config: Config,
-    task: &Task,
-    faults: &mut E,
-) -> Result<Ended<Made>, SessionError>
-where
-    R: Threads + Sync + Clock + Wait,
-    E: Write + Send,
-    ensures { EndsSession config task.now.load result }
-{
-    if !task.shows.progress {
-        return work_waiting(rt, alloc, config, task);
-    }
-    // Where no thread can be made, the first of the two comes last, and finds that all is over.
-    let ((), ended) = join(
-        rt,
-        || show_progress(rt, &task.board, faults),
-        || -> Result<Ended<Made>, SessionError>
-            ensures { EndsSession config task.entry.now.load result }
-        { work_waiting(rt, alloc, config, task) },
-    );
-    ended
 }
 
 /// Lets the callers work, and says on the board when all have ended.

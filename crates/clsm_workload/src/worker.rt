@@ -4,7 +4,7 @@ ghost use Rattle.std.specs.Vec.{vec_capacity};
 ghost use Rattle.clsm_workload.specs.Calls.{KeepsRecords, MakesCalls, MakesNext, Works, after_call, workload_of};
 
 use crate::kind::Kind;
-use crate::player::Player;
+use crate::player::{Player, play_deal};
 use crate::task::Task;
 use crate::watch::{Note, Watch};
 use crate::workload::Workload;
@@ -111,7 +111,7 @@ impl Worker {
         let deal = self.workload.next(player.has_snapshot());
         let kind = Kind::of(&deal);
         let begun = self.watch.begin(rt);
-        let record = player.play(rt, alloc, deal)?;
+        let record = play_deal(rt, alloc, player, deal)?;
         let is_answered = record.is_some();
         keep(&mut self.records, record);
         self.watch.note(rt, begun, kind, is_answered)

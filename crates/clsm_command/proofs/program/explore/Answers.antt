@@ -1,17 +1,6 @@
--- Each call of `arg` adds its argument at the end.
-use Rattle.std.proofs.lemmas.Result.{IfOk-weaker}
-use Rattle.clsm_command.proofs.Added.{arg_added}
+use Rattle.std.proofs.Common.{rules}
+use Rattle.clsm_command.proofs.Added.{args_added}
 use Rattle.clsm_command.proofs.program.explore.Goals as goal
 
 pub returns : goal.returns
-returns c =
-    let with_1 = arg_added _ _ _ c.named.ensures c.in_ok-arg.ensures c.size.ensures.rule c.size.ensures.local in
-    let with_2 = arg_added _ _ _ with_1 c.in_ok-arg-2.ensures c.size-2.ensures.rule c.size-2.ensures.local in
-    let with_3 = arg_added _ _ _ with_2 c.in_ok-arg-3.ensures c.size-3.ensures.rule c.size-3.ensures.local in
-    let with_4 = arg_added _ _ _ with_3 c.in_ok-arg-4.ensures c.flag.ensures.rule c.flag.ensures.local in
-    let with_5 = arg_added _ _ _ with_4 c.in_ok-arg-5.ensures c.number.ensures.rule c.number.ensures.local in
-    let with_6 = arg_added _ _ _ with_5 c.in_ok-arg-6.ensures c.flag-2.ensures.rule c.flag-2.ensures.local in
-    let with_7 = arg_added _ _ _ with_6 c.in_ok-arg-7.ensures c.flag-3.ensures.rule c.flag-3.ensures.local in
-    let with_8 = arg_added _ _ _ with_7 c.in_ok-arg-8.ensures c.flag-4.ensures.rule c.flag-4.ensures.local in
-    let with_9 = arg_added _ _ _ with_8 c.in_ok-arg-9.ensures c.flag-5.ensures.rule c.flag-5.ensures.local in
-    IfOk-weaker c.arg-10.result _ _ (λ m adds. arg_added _ m _ with_9 adds c.scripts.ensures.rule c.scripts.ensures.local) c.arg-10.ensures
+returns c = args_added _ _ c.named.result _ _ c.args-2.result c.named.ensures c.in_ok-vec.ensures.items c.args-2.ensures (search rules)

@@ -1,5 +1,4 @@
-use Rattle.std.proofs.Common.{rules, subst, sym}
-use Rattle.std.specs.Prelude.{All}
+use Rattle.std.proofs.Common.{rules, refl}
 use Rattle.clsm_workload.specs.Calls.{AreWorked, HasMadeAll}
 use Rattle.clsm_workload.proofs.Seated.{all_made, all_seated, are_seats, told}
 use Rattle.clsm_workload.proofs.Verdicts.{all_of_ran, audited_is}
@@ -9,8 +8,8 @@ pub work_merging-worked-requires-clause-seats : goal.work_merging-worked-require
 work_merging-worked-requires-clause-seats g c κs within =
     all_seated c.args.opened.store c.args.asked.now.config.seats c.args.opened.seats.items c.requires.seats
 
-pub gather-requires : goal.gather-requires
-gather-requires g c =
+pub audited-requires : goal.audited-requires
+audited-requires g c =
     let load = c.args.asked.now.load in
     let done : AreWorked load c.args.opened.seats.items c.in_ok-worked.worked.items = search rules in
     told c.args.opened.store c.args.asked.now.config.seats c.args.opened.seats.items c.requires.seats load c.in_ok-worked.worked.items done
@@ -19,16 +18,15 @@ pub returns-clause-audited : goal.returns-clause-audited
 returns-clause-audited g c =
     let load = c.args.asked.now.load in
     let done : AreWorked load c.args.opened.seats.items c.in_ok-worked.worked.items = search rules in
-    audited_is c.args.asked.now.config c.args.opened.store c.in-Ok.gathered.seats.items c.in-Ok.gathered.records.items c.audited.result
+    audited_is c.args.asked.now.config c.args.opened.store c.in_ok-worked.worked.items c.audited.result
     (are_seats c.args.opened.store c.args.asked.now.config.seats c.args.opened.seats.items c.requires.seats load c.in_ok-worked.worked.items done
-    c.in-Ok.gathered.seats.items c.in-Ok.ensures.seats)
-    c.in-Ok.ensures.records c.audited.ensures.seats c.audited.ensures.records c.audited.ensures.verdict
+    _ refl)
+    c.audited.ensures.audit
 
 pub returns-clause-made : goal.returns-clause-made
 returns-clause-made g c =
     let load = c.args.asked.now.load in
     let done : AreWorked load c.args.opened.seats.items c.in_ok-worked.worked.items = search rules in
-    let made = all_made c.args.opened.store c.args.asked.now.config.seats c.args.opened.seats.items c.requires.seats load c.in_ok-worked.worked.items done
-    c.in-Ok.ensures.ended in
-    all_of_ran (HasMadeAll load) c.in-Ok.gathered.seats.items c.audited.result
-    (subst (All (HasMadeAll load)) (sym c.in-Ok.ensures.seats) made) c.audited.ensures.seats
+    all_of_ran (HasMadeAll load) c.args.asked.now.config c.in_ok-worked.worked.items c.audited.result
+    (all_made c.args.opened.store c.args.asked.now.config.seats c.args.opened.seats.items c.requires.seats load c.in_ok-worked.worked.items done)
+    c.audited.ensures.audit
