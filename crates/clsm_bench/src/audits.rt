@@ -3,7 +3,7 @@ use crate::calls::Lap;
 use crate::failure::Failure;
 use clsm_audit::audit;
 use clsm_model::{CallRecord, Config, Deed, Value};
-use std::alloc::Global;
+use std::alloc::{AllocError, Global};
 use std::rt::Clock;
 use std::time::Instant;
 
@@ -21,9 +21,8 @@ const SIZES: Config = Config {
     patience: 16,
 };
 
-/// Audits so many records once: of puts, each with a get behind it that found what was put. Refused
-/// where they are.
-pub fn audit_lap<R: Clock>(rt: &R, alloc: Global, calls: u32) -> Result<Lap, Failure> {
+/// So many records: of puts, each with a get behind it that found what was put.
+fn records_of(alloc: Global, calls: u32) -> Result<Vec<CallRecord>, AllocError> {
     let mut records = Vec::with_capacity(alloc, calls as usize)?;
     for index in 0..calls {
         let (put, is_get) = (index / 2, index % 2);
@@ -40,6 +39,12 @@ pub fn audit_lap<R: Clock>(rt: &R, alloc: Global, calls: u32) -> Result<Lap, Fai
             deed,
         })?;
     }
+    Ok(records)
+}
+
+/// Audits so many records once. Refused where they are.
+pub fn audit_lap<R: Clock>(rt: &R, alloc: Global, calls: u32) -> Result<Lap, Failure> {
+    let records = records_of(alloc, calls)?;
     let start = Instant::now(rt)?;
     let audited = audit(alloc, &SIZES, &records);
     let end = Instant::now(rt)?;

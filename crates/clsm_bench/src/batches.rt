@@ -1,7 +1,7 @@
 //! Writes of threads by batches, beside the same writes by puts.
 ghost use Rattle.std.specs.Prelude.{◌≡◌, IfOk};
 
-use crate::calls::{Lap, Round, work_all};
+use crate::calls::Lap;
 use crate::draws::{Call, Draws, FILLER, Series, key_of};
 use crate::failure::Failure;
 use crate::lines::Way;
@@ -9,8 +9,6 @@ use crate::sizes::Work;
 use crate::stores::{StoreJob, work_on};
 use crate::target::Target;
 use clsm_model::{Change, Value};
-use clsm_store::Caller;
-use clsm_words::Free;
 use std::alloc::{AllocError, Global};
 use std::rt::Clock;
 use std::sync::Wait;
@@ -81,17 +79,6 @@ pub fn work_batches<T: Target, R: Wait + Clock>(
     })
 }
 
-/// The writes of the callers but the last one.
-pub fn write_batches<R: Threads + Sync + Clock + Wait>(
-    rt: &R,
-    alloc: Global,
-    mut callers: Vec<Caller<'_, Free>>,
-    round: &Round,
-) -> Result<Lap, Failure> {
-    let _ = callers.pop();
-    work_all(rt, alloc, callers, round)
-}
-
 /// The writes of each of so many threads on a store that is opened for them: by batches, or in the
 /// second way by puts.
 pub fn batch_lap<R: Threads + Sync + Clock + Wait>(
@@ -100,17 +87,10 @@ pub fn batch_lap<R: Threads + Sync + Clock + Wait>(
     work: &Work,
     way: Way,
 ) -> Result<Lap, Failure> {
-    let Work {
-        line,
-        options,
-        threads,
-    } = *work;
-    let mut series = Series::new(alloc, line, options)?;
+    let mut series = Series::new(alloc, work)?;
     if way == Way::First {
-        series.members = Some(line.members(options, threads));
+        series.members = Some(work.members());
     }
-    let writes = line.calls(false, options, threads);
-    let round = &Round::new(&series, writes, threads);
-    let sizes = line.sizes(false, options, threads);
-    work_on(rt, alloc, sizes, StoreJob::Writes(round))
+    let round = &work.round(&series, false);
+    work_on(rt, alloc, work.sizes(false), StoreJob::Writes(round))
 }

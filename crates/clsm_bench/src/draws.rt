@@ -1,7 +1,7 @@
 //! Which keys are called.
 use crate::lines::{Filling, Line, Role};
 use crate::mixes::{Draw, Kind, Mix, Ranks, below};
-use crate::options::Options;
+use crate::sizes::Work;
 use rand_core::utils::NextWord;
 use rand_pcg::Pcg32;
 use std::alloc::{AllocError, Global};
@@ -84,9 +84,9 @@ fn sorted_keys(alloc: Global, keys: u32) -> Result<Vec<u64>, AllocError> {
 }
 
 impl<'a> Series<'a> {
-    pub fn new(alloc: Global, line: &'a Line, options: &Options) -> Result<Series<'a>, AllocError> {
-        let Line { role, filling, .. } = line;
-        let keys = line.filled(options);
+    pub fn new(alloc: Global, work: &Work<'a>) -> Result<Series<'a>, AllocError> {
+        let Line { role, filling, .. } = work.line;
+        let keys = work.line.filled(work.options);
         let sorted = match role {
             Role::Scans(_) | Role::Pages(_) | Role::Several(..) => sorted_keys(alloc, keys)?,
             _ => Vec::new(alloc),
@@ -99,7 +99,7 @@ impl<'a> Series<'a> {
             role,
             filling,
             keys,
-            cells: options.cells,
+            cells: work.options.cells,
             sorted,
             ranks: Ranks::new(alloc, draw, keys)?,
             members: None,

@@ -4,7 +4,7 @@ use crate::calls::put_filled;
 use crate::draws::{Call, Puts, Series};
 use crate::failure::Failure;
 use crate::lines::Beside;
-use crate::sweeper::Sweeper;
+use crate::sweeper::{Command, Sweeper};
 use crate::target::Target;
 use clsm_model::Change;
 use clsm_store::Caller;
@@ -34,7 +34,7 @@ impl Extra<'_> {
         }
         if frozen > 0 {
             put_filled(rt, alloc, &mut self.caller, 0..frozen, series.keys)?;
-            self.sweeper.freeze(rt);
+            self.sweeper.run(rt, Command::Freeze);
         }
         put_filled(rt, alloc, &mut self.caller, 0..last, series.keys)
     }
@@ -50,7 +50,7 @@ impl Extra<'_> {
         let first = epoch.saturating_mul(series.cells).min(series.keys);
         let end = first.saturating_add(series.cells).min(series.keys);
         put_filled(rt, alloc, &mut self.caller, first..end, series.keys)?;
-        if self.sweeper.sweep(rt) {
+        if self.sweeper.run(rt, Command::Sweep) {
             Ok(())
         } else {
             Err(Failure::Unanswered)
@@ -74,7 +74,7 @@ impl Extra<'_> {
             match beside {
                 Beside::Nothing | Beside::Session => return Ok(()),
                 Beside::Merger => {
-                    self.sweeper.sweep(rt);
+                    self.sweeper.run(rt, Command::Sweep);
                 }
                 Beside::Batcher => self.write(rt, &members),
                 Beside::Scanner => self.scan(rt, alloc, keys),
@@ -86,7 +86,7 @@ impl Extra<'_> {
     /// Writes the batch, or makes room for one.
     fn write<R: Wait>(&mut self, rt: &R, members: &[(u64, Change)]) {
         if !self.caller.write_all(rt, members) {
-            self.sweeper.sweep(rt);
+            self.sweeper.run(rt, Command::Sweep);
         }
     }
 

@@ -1,6 +1,6 @@
 //! Why a measurement does not end well.
 use clsm_session::SessionError;
-use std::alloc::{AllocError, AllocFailed};
+use std::alloc::AllocError;
 use std::io;
 use thiserror::Error;
 
@@ -54,12 +54,6 @@ impl From<io::Error> for Failure {
 
 impl From<AllocError> for Failure {
     fn from(_error: AllocError) -> Failure {
-        Failure::Memory
-    }
-}
-
-impl<T: Drop> From<AllocFailed<T>> for Failure {
-    fn from(_error: AllocFailed<T>) -> Failure {
         Failure::Memory
     }
 }

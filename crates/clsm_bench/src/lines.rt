@@ -112,13 +112,8 @@ macro_rules! line {
     };
 }
 
-pub const LINES: [Line; 64] = [
-    line!("calls", "gets present epoch"; 1, 4; Gets, Epoch, Nothing),
-    line!("calls", "gets hot epoch"; 1, 4; HotGets, Epoch, Nothing),
-    line!("calls", "gets absent epoch"; 1, 4; AbsentGets, Epoch, Nothing),
-    line!("calls", "gets present runs"; 1, 4; Gets, Runs, Nothing),
-    line!("calls", "gets hot runs"; 1, 4; HotGets, Runs, Nothing),
-    line!("calls", "gets absent runs"; 1, 4; AbsentGets, Runs, Nothing),
+/// The lines of writes and merges, of mixes, and of what goes on beside others.
+const LINES: [Line; 37] = [
     line!("calls", "puts scattered"; 1, 4; Puts, Epoch, Nothing),
     line!("calls", "puts rising"; 1, 4; RisingPuts, Epoch, Nothing),
     line!("calls", "one puts epoch"; 2, 4; OnePuts, Epoch, Nothing),
@@ -156,25 +151,41 @@ pub const LINES: [Line; 64] = [
     line!("merges", "merge into level 0, under a snapshot"; 1, 1; Merges(1), Epoch, Nothing),
     line!("merges", "merge into level 1, under a snapshot"; 1, 1; Merges(4), Epoch, Nothing),
     line!("merges", "freeze, reclaim"; 1, 1; Freeze, Epoch, Nothing),
-    line!("scans", "page of 1, epoch"; 1, 4; Pages(1), Epoch, Nothing),
-    line!("scans", "scan of 16, epoch"; 1, 4; Scans(16), Epoch, Nothing),
-    line!("scans", "page of 16, epoch"; 1, 4; Pages(16), Epoch, Nothing),
-    line!("scans", "scan of 1,000, epoch"; 1, 1; Scans(1_000), Epoch, Nothing),
-    line!("scans", "scan of all, epoch"; 1, 1; Scans(ALL), Epoch, Nothing),
-    line!("scans", "page of 1, runs"; 1, 1; Pages(1), Runs, Nothing),
-    line!("scans", "scan of 16, runs"; 1, 1; Scans(16), Runs, Nothing),
-    line!("scans", "page of 16, runs"; 1, 1; Pages(16), Runs, Nothing),
-    line!("scans", "scan of 1,000, runs"; 1, 1; Scans(1_000), Runs, Nothing),
-    line!("scans", "scan of all, runs"; 1, 1; Scans(ALL), Runs, Nothing),
-    line!("scans", "page of 1, half an epoch"; 1, 1; Pages(1), HalfEpoch, Nothing),
-    line!("scans", "scan of 16, half an epoch"; 1, 1; Scans(16), HalfEpoch, Nothing),
-    line!("scans", "page of 16, half an epoch"; 1, 1; Pages(16), HalfEpoch, Nothing),
-    line!("scans", "scan of 1,000, half an epoch"; 1, 1; Scans(1_000), HalfEpoch, Nothing),
-    line!("scans", "scan of all, half an epoch"; 1, 1; Scans(ALL), HalfEpoch, Nothing),
-    line!("scans", "page of 1, both epochs"; 1, 1; Pages(1), BothEpochs, Nothing),
-    line!("scans", "scan of 16, both epochs"; 1, 1; Scans(16), BothEpochs, Nothing),
-    line!("scans", "page of 16, both epochs"; 1, 1; Pages(16), BothEpochs, Nothing),
-    line!("scans", "scan of 1,000, both epochs"; 1, 1; Scans(1_000), BothEpochs, Nothing),
-    line!("scans", "scan of all, both epochs"; 1, 1; Scans(ALL), BothEpochs, Nothing),
-    line!("audit", "audit of all and of a tenth"; 1, 1; Audit, Epoch, Nothing),
+];
+
+/// Gets of keys of each kind, where the filled keys are there.
+macro_rules! gets {
+    ($place:literal, $filling:expr) => {
+        &[
+            line!("calls", concat!("gets present ", $place); 1, 4; Gets, $filling, Nothing),
+            line!("calls", concat!("gets hot ", $place); 1, 4; HotGets, $filling, Nothing),
+            line!("calls", concat!("gets absent ", $place); 1, 4; AbsentGets, $filling, Nothing),
+        ]
+    };
+}
+
+/// Reads of one row, of 16, of 1,000 and of all, where the filled keys are there: by so many threads
+/// at most, and by one thread where they are of more than 16.
+macro_rules! scans {
+    ($most:expr, $place:literal, $filling:expr) => {
+        &[
+            line!("scans", concat!("page of 1, ", $place); 1, $most; Pages(1), $filling, Nothing),
+            line!("scans", concat!("scan of 16, ", $place); 1, $most; Scans(16), $filling, Nothing),
+            line!("scans", concat!("page of 16, ", $place); 1, $most; Pages(16), $filling, Nothing),
+            line!("scans", concat!("scan of 1,000, ", $place); 1, 1; Scans(1_000), $filling, Nothing),
+            line!("scans", concat!("scan of all, ", $place); 1, 1; Scans(ALL), $filling, Nothing),
+        ]
+    };
+}
+
+/// All lines, in the order in which they are printed.
+pub const TABLES: [&[Line]; 8] = [
+    gets!("epoch", Epoch),
+    gets!("runs", Runs),
+    &LINES,
+    scans!(4, "epoch", Epoch),
+    scans!(1, "runs", Runs),
+    scans!(1, "half an epoch", HalfEpoch),
+    scans!(1, "both epochs", BothEpochs),
+    &[line!("audit", "audit of all and of a tenth"; 1, 1; Audit, Epoch, Nothing)],
 ];

@@ -24,7 +24,7 @@ mod times;
 
 use crate::compared::{COLUMNS, compare};
 use crate::failure::{Failure, Stop};
-use crate::lines::LINES;
+use crate::lines::{Line, TABLES};
 use crate::options::{Asked, Options};
 use clap::error::ErrorKind;
 use std::process::ExitCode;
@@ -32,21 +32,32 @@ use std::rt::{Clock, Env};
 use std::sync::Wait;
 use std::thread::Threads;
 
-/// Prints the lines of the series, or all: each for its numbers of threads, or for the last alone
-/// where little is measured.
+/// Prints the line for each of its numbers of threads, or for the last alone where little is
+/// measured.
+fn measure_line<R: Threads + Sync + Clock + Wait + Print + AllocGlobal>(
+    rt: &R,
+    line: &Line,
+    options: &Options,
+) -> Result<(), Failure> {
+    let (fewest, most) = (line.fewest, line.most);
+    for threads in [1, 2, 4] {
+        if threads == most || (options.repeat > 0 && fewest <= threads && threads < most) {
+            compare(rt, line, options, threads)?;
+        }
+    }
+    Ok(())
+}
+
+/// Prints the lines of the series, or all.
 fn measure<R: Threads + Sync + Clock + Wait + Print + AllocGlobal>(
     rt: &R,
     series: Option<&str>,
     options: &Options,
 ) -> Result<(), Failure> {
-    for line in &LINES {
-        if series.unwrap_or(line.series) != line.series {
-            continue;
-        }
-        let (fewest, most) = (line.fewest, line.most);
-        for threads in [1, 2, 4] {
-            if threads == most || (options.repeat > 0 && fewest <= threads && threads < most) {
-                compare(rt, line, options, threads)?;
+    for lines in TABLES {
+        for line in lines {
+            if series.unwrap_or(line.series) == line.series {
+                measure_line(rt, line, options)?;
             }
         }
     }

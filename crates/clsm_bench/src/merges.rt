@@ -4,7 +4,7 @@ use crate::failure::Failure;
 use crate::lines::{Role, Way};
 use crate::options::Options;
 use crate::stores::{StoreJob, work_on};
-use crate::sweeper::Sweeper;
+use crate::sweeper::{Command, Sweeper};
 use clsm_store::{Caller, Config, Merger};
 use clsm_words::Free;
 use std::alloc::Global;
@@ -59,11 +59,11 @@ impl Seats<'_> {
     /// or of the freeze, or, in the second way, of the reclaim. Refused where one is.
     fn turn<R: Clock + Wait>(&mut self, rt: &R, turns: Turns) -> Result<Lap, Failure> {
         let begun = Instant::now(rt)?;
-        let is_frozen = self.sweeper.freeze(rt);
+        let is_frozen = self.sweeper.run(rt, Command::Freeze);
         let cut = Instant::now(rt)?;
-        let is_merged = self.sweeper.merge();
+        let is_merged = self.sweeper.run(rt, Command::Merge);
         let retired = Instant::now(rt)?;
-        let is_reclaimed = self.sweeper.reclaim();
+        let is_reclaimed = self.sweeper.run(rt, Command::Reclaim);
         let ended = Instant::now(rt)?;
         if !(is_frozen && is_merged && is_reclaimed) {
             return Err(Failure::Unanswered);

@@ -61,7 +61,7 @@ fn number(matches: &ArgMatches<'_>, name: &str) -> Option<u32> {
     u32::try_from(matches.get_one::<u64>(name)?).ok()
 }
 
-/// The options that have a number: the name, the least number, the greatest, and the help.
+/// The options `--NAME N`: the name, the least number, the greatest, and the help.
 const SIZES: [(&str, u64, u64, &str); 4] = [
     (
         "calls",
@@ -84,42 +84,20 @@ const SIZES: [(&str, u64, u64, &str); 4] = [
     ),
 ];
 
-/// `--NAME N`, a number from the first of these to the last.
-fn size<'a>(alloc: Global, name: &'a str, range: (u64, u64), help: &'a str) -> Arg<'a> {
-    let (low, high) = range;
-    Arg::new(alloc, name)
-        .long(name)
-        .value_name("N")
-        .value_parser(ValueParser::Unsigned(low, high))
-        .help(help)
-}
-
-/// `SERIES`, one of their names.
-fn series<'a>(alloc: Global) -> Arg<'a> {
-    Arg::new(alloc, "series")
-        .value_name("SERIES")
-        .required(true)
-        .value_parser(ValueParser::Names(&SERIES))
-        .help("What is measured")
-}
-
-/// `--csv`.
-fn csv<'a>(alloc: Global) -> Arg<'a> {
-    Arg::new(alloc, "csv")
-        .long("csv")
-        .action(ArgAction::SetTrue)
-        .help("Prints rows for tools/plot")
-}
-
-/// All arguments.
+/// All arguments: the series, the numbers and `--csv`.
 fn args<'a>(alloc: Global) -> Result<Vec<Arg<'a>>, AllocError> {
     let mut args = Vec::new(alloc);
-    args.push(series(alloc))?;
+    let series = Arg::new(alloc, "series").value_name("SERIES");
+    let series = series.required(true).help("What is measured");
+    args.push(series.value_parser(ValueParser::Names(&SERIES)))?;
     for row in 0..SIZES.len() {
         let (name, low, high, help) = SIZES[row];
-        args.push(size(alloc, name, (low, high), help))?;
+        let size = Arg::new(alloc, name).long(name).value_name("N");
+        let numbers = ValueParser::Unsigned(low, high);
+        args.push(size.value_parser(numbers).help(help))?;
     }
-    args.push(csv(alloc))?;
+    let csv = Arg::new(alloc, "csv").action(ArgAction::SetTrue);
+    args.push(csv.long("csv").help("Prints rows for tools/plot"))?;
     Ok(args)
 }
 

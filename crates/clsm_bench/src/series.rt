@@ -8,9 +8,10 @@ use crate::sizes::Work;
 use crate::stores::{StoreJob, work_on};
 use crate::sweeper::Sweeper;
 use crate::target::MapCaller;
+use clsm_model::Value;
 use clsm_store::{Caller, Merger};
 use clsm_words::Free;
-use std::alloc::Global;
+use std::alloc::{AllocError, Global};
 use std::collections::BTreeMap;
 use std::rt::Clock;
 use std::sync::atomic::AtomicBool;
@@ -76,18 +77,24 @@ pub fn store_lap<R: Threads + Sync + Clock + Wait>(
     work: &Work,
     beside: &Beside,
 ) -> Result<Lap, Failure> {
-    let Work {
-        line,
-        options,
-        threads,
-    } = *work;
-    let series = Series::new(alloc, line, options)?;
     let is_merged = matches!(beside, Beside::Merger | Beside::Batcher);
-    let calls = line.calls(is_merged, options, threads);
-    let sizes = line.sizes(is_merged, options, threads);
-    let round = &Round::new(&series, calls, threads);
+    let series = Series::new(alloc, work)?;
+    let round = &work.round(&series, is_merged);
     let scene = &Scene { beside, round };
-    work_on(rt, alloc, sizes, StoreJob::Beside(scene))
+    work_on(rt, alloc, work.sizes(is_merged), StoreJob::Beside(scene))
+}
+
+/// So many callers of the map.
+fn callers_of<'a>(
+    alloc: Global,
+    map: &'a RwLock<BTreeMap<u64, Value>>,
+    threads: u32,
+) -> Result<Vec<MapCaller<'a>>, AllocError> {
+    let mut callers = Vec::new(alloc);
+    for number in 0..threads {
+        callers.push(MapCaller { number, map })?;
+    }
+    Ok(callers)
 }
 
 /// The same calls of a map that is made and filled for them.
@@ -96,20 +103,11 @@ pub fn map_lap<R: Threads + Sync + Clock + Wait>(
     alloc: Global,
     work: &Work,
 ) -> Result<Lap, Failure> {
-    let Work {
-        line,
-        options,
-        threads,
-    } = *work;
-    let series = Series::new(alloc, line, options)?;
-    let calls = line.calls(false, options, threads);
     let map = RwLock::new(BTreeMap::new(alloc));
-    let mut callers = Vec::new(alloc);
-    for number in 0..threads {
-        callers.push(MapCaller { number, map: &map })?;
-    }
+    let mut callers = callers_of(alloc, &map, work.threads)?;
+    let series = Series::new(alloc, work)?;
     if let Some(caller) = callers.first_mut() {
         put_filled(rt, alloc, caller, 0..series.keys, series.keys)?;
     }
-    work_all(rt, alloc, callers, &Round::new(&series, calls, threads))
+    work_all(rt, alloc, callers, &work.round(&series, false))
 }

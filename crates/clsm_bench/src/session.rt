@@ -69,19 +69,14 @@ pub fn session_lap<R: Threads + Sync + Clock + Wait>(
     alloc: Global,
     work: &Work,
 ) -> Result<Lap, Failure> {
-    let Work {
-        line,
-        options,
-        threads,
-    } = *work;
-    let series = Series::new(alloc, line, options)?;
-    let round = Round::new(&series, line.calls(true, options, threads), threads);
+    let series = Series::new(alloc, work)?;
+    let round = work.round(&series, true);
     let job = FilledRound {
         rt,
         alloc,
         round: &round,
         is_filled: OnceLock::new(),
     };
-    let ended = with_store(rt, alloc, line.sizes(true, options, threads), &job)?;
+    let ended = with_store(rt, alloc, work.sizes(true), &job)?;
     whole(ended.answers.into_iter().flatten().collect(alloc)?)
 }

@@ -1,5 +1,6 @@
 //! How much is measured for a line, and how large its store is.
-use crate::draws::NEW_KEYS;
+use crate::calls::Round;
+use crate::draws::{NEW_KEYS, Series};
 use crate::lines::Beside::Scanner;
 use crate::lines::Filling::Epoch;
 use crate::lines::Line;
@@ -49,52 +50,68 @@ impl Line {
             _ => options.keys,
         }
     }
+}
 
-    /// How many members a batch of each of so many threads has: as many as the line says, where the
-    /// thread's part of an epoch has room for them.
-    pub fn members(&self, options: &Options, threads: u32) -> u32 {
-        let room = options.cells / threads.max(1);
-        match &self.role {
-            Batches(size) | HotBatches(size) => room.min(*size).max(1),
+impl Work<'_> {
+    /// The cells of an epoch that each thread may use.
+    fn room(&self) -> u32 {
+        self.options.cells / self.threads.max(1)
+    }
+
+    /// How many members a batch has: as many as the line says, where the thread's part of an epoch
+    /// has room for them.
+    pub fn members(&self) -> u32 {
+        match &self.line.role {
+            Batches(size) | HotBatches(size) => self.room().min(*size).max(1),
             _ => 1,
         }
     }
 
-    /// The writes of the batches of each of so many threads: as many as the options say at most,
-    /// but for those of a single batch.
-    fn writes(&self, options: &Options, threads: u32) -> u32 {
-        let room = options.cells / threads.max(1);
-        let members = self.members(options, threads).max(1);
-        let batches = options.calls.min(room) / members;
+    /// The writes of the batches of each thread: as many as the options say at most, but for those
+    /// of a single batch.
+    fn writes(&self) -> u32 {
+        let members = self.members().max(1);
+        let batches = self.options.calls.min(self.room()) / members;
         batches.max(1).saturating_mul(members)
     }
 
-    /// The calls for which each of so many threads has room, as many as the options say at most:
-    /// in one epoch, but for reads and beside a merger. Where others get or scan, or what is put
-    /// has a value, half of the times that are left are for puts: a reader may cancel one, and the
-    /// put then takes another.
-    pub fn calls(&self, is_merged: bool, options: &Options, threads: u32) -> u32 {
-        let room = match &self.role {
-            Several(mix, _) => return mix.calls(options, threads),
+    /// The calls for which each thread has room, as many as the options say at most: in one epoch,
+    /// but for reads and beside a merger. Where others get or scan, or what is put has a value,
+    /// half of the times that are left are for puts: a reader may cancel one, and the put then
+    /// takes another.
+    fn calls(&self, is_merged: bool) -> u32 {
+        let options = self.options;
+        let room = match &self.line.role {
+            Several(mix, _) => return mix.calls(options, self.threads),
             _ if is_merged => options.calls,
-            Batches(_) | HotBatches(_) => return self.writes(options, threads),
+            Batches(_) | HotBatches(_) => return self.writes(),
             Scans(rows) | Pages(rows) => {
                 let rows = options.keys.min(*rows);
                 (MOST_ROWS / rows.max(1)).max(1)
             }
             OnePuts => options.cells / 4,
-            Puts if matches!(self.beside, Scanner) => options.cells / 4 / threads.max(1),
-            Puts | RisingPuts => options.cells / threads.max(1),
-            Mixed | HotMixed => options.cells / 4 / threads.max(1),
+            Puts if matches!(self.line.beside, Scanner) => self.room() / 4,
+            Puts | RisingPuts => self.room(),
+            Mixed | HotMixed => self.room() / 4,
             _ => options.calls,
         };
         options.calls.min(room)
     }
 
-    /// The sizes of a store for so many threads, with one more seat. A run has room for the filled
-    /// keys, and beside a merger also for the new keys of the threads, and four epochs.
-    pub fn sizes(&self, is_merged: bool, options: &Options, threads: u32) -> Config {
-        let mut run = self.filled(options);
+    /// What all threads share: of the series each makes the calls for which it has room.
+    pub fn round<'a>(&self, series: &'a Series<'a>, is_merged: bool) -> Round<'a> {
+        Round::new(series, self.calls(is_merged), self.threads)
+    }
+
+    /// The sizes of a store, with one more seat than there are threads. A run has room for the
+    /// filled keys, and beside a merger also for the new keys of the threads, and four epochs.
+    pub fn sizes(&self, is_merged: bool) -> Config {
+        let Work {
+            line,
+            options,
+            threads,
+        } = *self;
+        let mut run = line.filled(options);
         if is_merged {
             let new = threads.saturating_mul(options.calls.min(NEW_KEYS));
             let epochs = options.cells.saturating_mul(4);

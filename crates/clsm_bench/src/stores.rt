@@ -1,14 +1,13 @@
 //! Work on a store that is opened for it.
 ghost use Rattle.std.specs.Prelude.{◌≡◌, All};
 
-use crate::batches::write_batches;
-use crate::calls::{Lap, Round};
+use crate::calls::{Lap, Round, work_all};
 use crate::failure::Failure;
 use crate::merges::{Turns, take_turns};
 use crate::series::{Scene, work_beside};
 use clsm_store::{Caller, Config, Merger, Opened, Seat, Store, open};
 use clsm_words::Free;
-use std::alloc::Global;
+use std::alloc::{AllocError, Global};
 use std::rt::Clock;
 use std::sync::Wait;
 use std::thread::Threads;
@@ -16,7 +15,7 @@ use std::thread::Threads;
 /// Work on a store.
 #[derive(Clone, Copy)]
 pub enum StoreJob<'a> {
-    /// The writes of a round, with nothing beside them.
+    /// The writes of a round by the callers but the last one, with nothing beside them.
     Writes(&'a Round<'a>),
     /// The calls of a round, and what goes on beside them.
     Beside(&'a Scene<'a>),
@@ -30,11 +29,14 @@ impl StoreJob<'_> {
         self,
         rt: &R,
         alloc: Global,
-        callers: Vec<Caller<'_, Free>>,
+        mut callers: Vec<Caller<'_, Free>>,
         merger: Merger<'_, Free>,
     ) -> Result<Lap, Failure> {
         match self {
-            StoreJob::Writes(round) => write_batches(rt, alloc, callers, round),
+            StoreJob::Writes(round) => {
+                let _ = callers.pop();
+                work_all(rt, alloc, callers, round)
+            }
             StoreJob::Beside(scene) => work_beside(rt, alloc, callers, merger, scene),
             StoreJob::Turns(turns) => take_turns(rt, alloc, callers, merger, turns),
         }
@@ -46,7 +48,7 @@ fn callers<'a>(
     alloc: Global,
     store: &'a Store<Free>,
     seats: Vec<Seat>,
-) -> Result<Vec<Caller<'a, Free>>, Failure>
+) -> Result<Vec<Caller<'a, Free>>, AllocError>
     requires { All (λ seat. seat.store ≡ store.now) seats.items }
 {
     let mut callers = Vec::with_capacity(alloc, seats.len())?;

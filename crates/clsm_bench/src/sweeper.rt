@@ -3,6 +3,18 @@ use clsm_store::Merger;
 use clsm_words::Free;
 use std::sync::Wait;
 
+/// A command of the merger.
+#[derive(Clone, Copy)]
+pub enum Command {
+    /// Freezes the epoch, merges it and gives up what that retired.
+    Sweep,
+    Freeze,
+    /// Merges what is frozen.
+    Merge,
+    /// Gives up what a merge retired.
+    Reclaim,
+}
+
 /// A merger that is moved out for a turn, and put back behind it.
 #[derive(Drop)]
 pub struct Sweeper<'a> {
@@ -16,43 +28,26 @@ impl<'a> Sweeper<'a> {
         }
     }
 
-    /// Freezes the epoch, merges it and gives up what that retired. Answers whether all was done.
-    pub fn sweep<R: Wait>(&mut self, rt: &R) -> bool {
+    /// Does the command. Answers whether all of it was done.
+    pub fn run<R: Wait>(&mut self, rt: &R, command: Command) -> bool {
         let Some(merger) = self.merger.take() else {
             return false;
         };
-        let (merger, swept) = merger.sweep(rt);
+        let (merger, is_done) = match command {
+            Command::Sweep => ended(merger.sweep(rt)),
+            Command::Freeze => ended(merger.freeze(rt)),
+            Command::Merge => ended(merger.merge()),
+            Command::Reclaim => ended(merger.reclaim()),
+        };
         self.merger = Some(merger);
-        swept.is_ok()
+        is_done
     }
+}
 
-    /// Freezes the epoch. Answers whether it was done.
-    pub fn freeze<R: Wait>(&mut self, rt: &R) -> bool {
-        let Some(merger) = self.merger.take() else {
-            return false;
-        };
-        let (merger, frozen) = merger.freeze(rt);
-        self.merger = Some(merger);
-        frozen.is_ok()
-    }
-
-    /// Merges what is frozen. Answers whether it was done.
-    pub fn merge(&mut self) -> bool {
-        let Some(merger) = self.merger.take() else {
-            return false;
-        };
-        let (merger, merged) = merger.merge();
-        self.merger = Some(merger);
-        merged.is_ok()
-    }
-
-    /// Gives up what a merge retired. Answers whether it was done.
-    pub fn reclaim(&mut self) -> bool {
-        let Some(merger) = self.merger.take() else {
-            return false;
-        };
-        let (merger, reclaimed) = merger.reclaim();
-        self.merger = Some(merger);
-        reclaimed.is_ok()
-    }
+/// The merger behind a command, and whether it was done.
+fn ended<'a, T: Drop, E: Drop>(
+    answer: (Merger<'a, Free>, Result<T, E>),
+) -> (Merger<'a, Free>, bool) {
+    let (merger, done) = answer;
+    (merger, done.is_ok())
 }

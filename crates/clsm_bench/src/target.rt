@@ -10,6 +10,29 @@ use std::collections::BTreeMap;
 use std::sync::{RwLock, Wait};
 use std::thread;
 
+/// The rows of the keys from `lo` to `hi`: all of them, or the first so many.
+#[derive(Clone, Copy)]
+pub struct Span {
+    lo: u64,
+    hi: u64,
+    most: Option<usize>,
+}
+
+impl Span {
+    fn all(lo: u64, hi: u64) -> Span {
+        Span { lo, hi, most: None }
+    }
+
+    /// So many rows from this key on.
+    fn first(lo: u64, rows: usize) -> Span {
+        Span {
+            lo,
+            hi: u64::MAX,
+            most: Some(rows),
+        }
+    }
+}
+
 /// What a thread makes its calls on.
 pub trait Target {
     /// How often a write is tried while there is no room for it, before the thread gives up.
@@ -30,15 +53,8 @@ pub trait Target {
     /// Makes the writes of a batch, once. Answers whether they were made.
     fn write_all<R: Wait>(&mut self, rt: &R, members: &[(u64, Change)]) -> bool;
 
-    /// How many rows it reads of the range, or of its first so many.
-    fn rows<R: Wait>(
-        &mut self,
-        rt: &R,
-        alloc: Global,
-        lo: u64,
-        hi: u64,
-        most: Option<usize>,
-    ) -> Option<usize>;
+    /// How many rows it reads of the span.
+    fn rows<R: Wait>(&mut self, rt: &R, alloc: Global, span: Span) -> Option<usize>;
 
     /// Makes the call, a write again while there is no room for it. Answers whether it was answered
     /// as it should be.
@@ -48,9 +64,11 @@ pub trait Target {
             Call::Put { key, word } => self.write(rt, *key, Some(*word)),
             Call::Change { key } => self.write(rt, *key, None),
             Call::Get { key, word } => self.first_word(rt, *key) == *word,
-            Call::Scan { lo, hi, rows } => self.rows(rt, alloc, *lo, *hi, None) == Some(*rows),
+            Call::Scan { lo, hi, rows } => {
+                self.rows(rt, alloc, Span::all(*lo, *hi)) == Some(*rows)
+            }
             Call::Page { from, rows } => {
-                self.rows(rt, alloc, *from, u64::MAX, Some(*rows)) == Some(*rows)
+                self.rows(rt, alloc, Span::first(*from, *rows)) == Some(*rows)
             }
         }
     }
@@ -115,14 +133,8 @@ impl Target for Caller<'_, Free> {
         self.batch(rt, members).is_ok()
     }
 
-    fn rows<R: Wait>(
-        &mut self,
-        _rt: &R,
-        alloc: Global,
-        lo: u64,
-        hi: u64,
-        most: Option<usize>,
-    ) -> Option<usize> {
+    fn rows<R: Wait>(&mut self, _rt: &R, alloc: Global, span: Span) -> Option<usize> {
+        let Span { lo, hi, most } = span;
         let rows = match most {
             Some(most) => self.page(alloc, lo, hi, most).ok()?.rows,
             None => self.scan(alloc, lo, hi).ok()?.rows,
@@ -159,14 +171,8 @@ impl<W: Wait, P: Place> Target for SessionCaller<'_, W, P> {
         self.batch(members).is_ok()
     }
 
-    fn rows<R: Wait>(
-        &mut self,
-        _rt: &R,
-        _alloc: Global,
-        lo: u64,
-        hi: u64,
-        most: Option<usize>,
-    ) -> Option<usize> {
+    fn rows<R: Wait>(&mut self, _rt: &R, _alloc: Global, span: Span) -> Option<usize> {
+        let Span { lo, hi, most } = span;
         let rows = match most {
             Some(most) => self.page(lo, hi, most).ok()?.rows,
             None => self.scan(lo, hi).ok()?.rows,
@@ -219,14 +225,8 @@ impl Target for MapCaller<'_> {
         false
     }
 
-    fn rows<R: Wait>(
-        &mut self,
-        rt: &R,
-        alloc: Global,
-        lo: u64,
-        hi: u64,
-        most: Option<usize>,
-    ) -> Option<usize> {
+    fn rows<R: Wait>(&mut self, rt: &R, alloc: Global, span: Span) -> Option<usize> {
+        let Span { lo, hi, most } = span;
         let map = self.map.read(rt);
         let mut rows = Vec::new(alloc);
         if lo <= hi {

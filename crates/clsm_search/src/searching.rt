@@ -220,7 +220,20 @@ impl ChainWalk {
         if let Ok(newest) = walk.newest_near(words, seat) {
             return newest;
         }
-        walk.newest_further(words, seat)
+        // A walk of its own for the call: this one stays in registers where it ends here.
+        let ChainWalk {
+            epoch,
+            key,
+            next,
+            best,
+        } = walk;
+        let further = ChainWalk {
+            epoch,
+            key,
+            next,
+            best,
+        };
+        further.newest_further(words, seat)
     }
 }
 

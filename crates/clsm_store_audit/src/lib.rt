@@ -23,6 +23,7 @@ mod told;
 mod visited;
 
 pub use lawful::{are_lawful_alone, settle_lawful};
+pub use pair::Write;
 pub use race::race_agrees;
 pub use told::{Home, news_is_found};
 pub use visited::count_calls;

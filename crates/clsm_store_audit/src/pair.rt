@@ -12,7 +12,7 @@ pub(crate) const SIZES: Config = Config {
 
 /// What is put: the value, and its key.
 #[derive(Clone, Copy)]
-pub(crate) struct Write {
-    pub(crate) key: u64,
-    pub(crate) value: Value,
+pub struct Write {
+    pub key: u64,
+    pub value: Value,
 }

@@ -7,7 +7,7 @@ ghost use Rattle.clsm_store_audit.specs.Race.{left_by_put};
 
 use crate::pair::{SIZES, Write};
 use clsm_model::{Memory, PlainMap, Slot};
-use clsm_store::{Free, Full, Got, Opened, Seat, Store, Time, Value, open};
+use clsm_store::{Free, Full, Got, Opened, Seat, Store, Time, open};
 use std::alloc::Global;
 use std::sync::Wait;
 use std::thread::{Threads, join};
@@ -109,17 +109,14 @@ fn confirm(
     Ok(())
 }
 
-/// Lets a put and a get of the key race on a new store, settles both seats, and confirms that the
+/// Lets a put of the value and a get of its key race on a new store, settles both seats, and confirms that the
 /// get's answer is that of a plain map of the writes below its time: that it is not cannot come.
 /// Answers nothing where the store, the put or memory is refused.
-pub fn race_agrees<R: Threads + Sync + Wait>(
-    rt: &R,
-    alloc: Global,
-    key: u64,
-    value: Value,
-) -> Option<()> {
+pub fn race_agrees<R: Threads + Sync + Wait>(rt: &R, alloc: Global, write: &Write) -> Option<()> {
     let Opened { store, seats, .. } = open(alloc, SIZES).ok()?;
-    let write = Write { key, value };
-    let (put, read) = race(rt, &store, seats, &write);
-    confirm(alloc, &store, put.ok()?, read, &write).ok()
+    let (put, read) = race(rt, &store, seats, write);
+    let Ok(put) = put else {
+        return None;
+    };
+    confirm(alloc, &store, put, read, write).ok()
 }

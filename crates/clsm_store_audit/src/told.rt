@@ -11,7 +11,7 @@ ghost use Rattle.clsm_store_audit.specs.Told.{HasFound, HasMade, HasPut};
 
 use crate::pair::{SIZES, Write};
 use clsm_model::Memory;
-use clsm_store::{Free, Full, Got, Message, Opened, Seat, Store, Time, Value, open};
+use clsm_store::{Free, Full, Got, Message, Opened, Seat, Store, Time, open};
 use crossbeam_channel::{Receiver, Sender, bounded};
 use std::alloc::Global;
 use std::marker::{Brand, PhantomData};
@@ -232,12 +232,7 @@ fn pass_and_confirm<R: Threads + Sync + Wait>(
 /// through a channel to another, which hears it and gets the key. Settles both seats, and confirms
 /// that the get's answer is the value: that it is not cannot come. Answers nothing where the store,
 /// the put or memory is refused.
-pub fn news_is_found<R: Threads + Sync + Wait>(
-    rt: &R,
-    alloc: Global,
-    key: u64,
-    value: Value,
-) -> Option<()> {
+pub fn news_is_found<R: Threads + Sync + Wait>(rt: &R, alloc: Global, write: &Write) -> Option<()> {
     let Opened { store, seats, .. } = open(alloc, SIZES).ok()?;
-    pass_and_confirm(rt, alloc, &store, seats, &Write { key, value })
+    pass_and_confirm(rt, alloc, &store, seats, write)
 }

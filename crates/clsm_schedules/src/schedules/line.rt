@@ -29,10 +29,7 @@ impl<'a> Line<'a> {
     }
 
     pub(crate) fn number(&mut self) -> Result<u64, Wrong> {
-        match parse_number(self.word()) {
-            Some(number) => Ok(number),
-            None => Err(Wrong::Unread),
-        }
+        parse_number(self.word()).ok_or(Wrong::Unread)
     }
 
     pub(crate) fn seat(&mut self) -> Result<u32, Wrong> {
@@ -63,7 +60,7 @@ impl<'a> Line<'a> {
         }
     }
 
-    /// A word of the machine.
+    /// A word of the machine: its name, and its numbers.
     pub(crate) fn place(&mut self) -> Result<Word, Wrong> {
         match self.word() {
             "lock" => Ok(Word::Lock),
@@ -71,42 +68,26 @@ impl<'a> Line<'a> {
             "limit" => Ok(Word::Limit),
             "front" => Ok(Word::Front),
             "merged" => Ok(Word::Merged),
-            name => self.numbered_place(name),
-        }
-    }
-
-    /// A word with this name, and a number.
-    fn numbered_place(&mut self, name: &str) -> Result<Word, Wrong> {
-        let number = self.number()?;
-        match name {
-            "pin" => Ok(Word::Pin(number)),
-            "snap" => Ok(Word::Snap(number)),
-            "order" => Ok(Word::Order(number)),
-            "state" => Ok(Word::State(number)),
-            "count" => Ok(Word::Count(number)),
-            name => self.place_in(name, number),
-        }
-    }
-
-    /// A word with this name, in the region, the cell or the place of this number.
-    fn place_in(&mut self, name: &str, number: u64) -> Result<Word, Wrong> {
-        if name == "cell" {
-            let part = self.part()?;
-            return Ok(Word::Cell { cell: number, part });
-        }
-        let second = self.number()?;
-        match name {
+            "pin" => Ok(Word::Pin(self.number()?)),
+            "snap" => Ok(Word::Snap(self.number()?)),
             "head" => Ok(Word::Head {
-                region: number,
-                chain: second,
+                region: self.number()?,
+                chain: self.number()?,
             }),
+            "cell" => Ok(Word::Cell {
+                cell: self.number()?,
+                part: self.part()?,
+            }),
+            "order" => Ok(Word::Order(self.number()?)),
             "hint" => Ok(Word::Hint {
-                cell: number,
-                hint: second,
+                cell: self.number()?,
+                hint: self.number()?,
             }),
+            "state" => Ok(Word::State(self.number()?)),
+            "count" => Ok(Word::Count(self.number()?)),
             "entry" => Ok(Word::Entry {
-                place: number,
-                entry: second,
+                place: self.number()?,
+                entry: self.number()?,
                 part: self.number()?,
             }),
             _ => Err(Wrong::Unread),
@@ -115,15 +96,34 @@ impl<'a> Line<'a> {
 
     /// A step: its name, and what belongs to it.
     pub(crate) fn step(&mut self, alloc: Global) -> Result<Step, Wrong> {
-        let name = self.word();
-        match plain_step(name).or(plain_step_of_merger(name)) {
-            Some(step) => Ok(step),
-            None => self.step_of(alloc, name),
+        match self.word() {
+            "enter-shared" => Ok(Step::EnterShared(self.number()?)),
+            "leave-shared" => Ok(Step::LeaveShared),
+            "draw" => Ok(Step::Draw(self.number()?)),
+            "fill" => Ok(Step::Fill(self.part()?, self.number()?)),
+            "link" => Ok(Step::Link(self.number()?)),
+            "fill-order" => Ok(Step::FillOrder(self.number()?)),
+            "insert" => Ok(Step::Insert(self.number()?, self.number()?)),
+            "store-hint" => Ok(Step::StoreHint {
+                cell: self.number()?,
+                hint: self.number()?,
+                word: self.number()?,
+            }),
+            "cancel" => Ok(Step::Cancel(self.number()?)),
+            "stage" => Ok(Step::Stage(self.number()?, self.number()?)),
+            "pin" => Ok(Step::Pin),
+            "unpin" => Ok(Step::Unpin(End::Neither)),
+            "meet" => Ok(Step::Unpin(End::Meeting)),
+            "look" => Ok(Step::Look(self.place()?)),
+            "raise-front" => Ok(Step::RaiseFront(self.number()?)),
+            "note" => Ok(Step::Note(self.number()?)),
+            "close-snapshot" => Ok(Step::CloseSnapshot),
+            name => self.step_with_deed(alloc, name),
         }
     }
 
-    /// A step with this name, and what belongs to it.
-    fn step_of(&mut self, alloc: Global, name: &str) -> Result<Step, Wrong> {
+    /// A step with this name, and the deed that it ends.
+    fn step_with_deed(&mut self, alloc: Global, name: &str) -> Result<Step, Wrong> {
         match name {
             "decide" => {
                 let decided = self.said(alloc, "0")?;
@@ -137,7 +137,7 @@ impl<'a> Line<'a> {
                 Deed::Batch { members } => Ok(Step::Commit(members)),
                 _ => Err(Wrong::Unread),
             },
-            name => self.step_at(name),
+            name => self.step_of_merger(name),
         }
     }
 
@@ -149,88 +149,23 @@ impl<'a> Line<'a> {
         }
     }
 
-    /// A step with this name at a word or a part.
-    fn step_at(&mut self, name: &str) -> Result<Step, Wrong> {
+    /// A step with this name at the lock that is held alone, or of the merger.
+    fn step_of_merger(&mut self, name: &str) -> Result<Step, Wrong> {
         match name {
-            "look" => Ok(Step::Look(self.place()?)),
-            "fill" => Ok(Step::Fill(self.part()?, self.number()?)),
+            "enter-exclusive" => Ok(Step::EnterExclusive),
+            "leave-exclusive" => Ok(Step::LeaveExclusive),
+            "pad" => Ok(Step::Pad(self.number()?)),
             "write-run" => Ok(Step::WriteRun(self.place()?, self.number()?)),
-            name => self.numbered_step(name),
-        }
-    }
-
-    /// A step with this name, and one number, two or three.
-    fn numbered_step(&mut self, name: &str) -> Result<Step, Wrong> {
-        let number = self.number()?;
-        match step_with(name, number).or(step_of_merger_with(name, number)) {
-            Some(step) => Ok(step),
-            None => self.step_with_both(name, number),
-        }
-    }
-
-    fn step_with_both(&mut self, name: &str, first: u64) -> Result<Step, Wrong> {
-        let second = self.number()?;
-        match name {
-            "insert" => Ok(Step::Insert(first, second)),
-            "stage" => Ok(Step::Stage(first, second)),
             "clear-head" => Ok(Step::ClearHead {
-                region: first,
-                chain: second,
+                region: self.number()?,
+                chain: self.number()?,
             }),
-            "store-hint" => Ok(Step::StoreHint {
-                cell: first,
-                hint: second,
-                word: self.number()?,
-            }),
+            "clear-state" => Ok(Step::ClearState(self.number()?)),
+            "clear-order" => Ok(Step::ClearOrder(self.number()?)),
+            "publish" => Ok(Step::Publish),
+            "extend-clock" => Ok(Step::ExtendClock),
+            "extend-limit" => Ok(Step::ExtendLimit),
             _ => Err(Wrong::Unread),
         }
-    }
-}
-
-/// A caller's step that is its name alone.
-fn plain_step(name: &str) -> Option<Step> {
-    match name {
-        "leave-shared" => Some(Step::LeaveShared),
-        "pin" => Some(Step::Pin),
-        "unpin" => Some(Step::Unpin(End::Neither)),
-        "meet" => Some(Step::Unpin(End::Meeting)),
-        "close-snapshot" => Some(Step::CloseSnapshot),
-        _ => None,
-    }
-}
-
-/// And one of the merger.
-fn plain_step_of_merger(name: &str) -> Option<Step> {
-    match name {
-        "enter-exclusive" => Some(Step::EnterExclusive),
-        "leave-exclusive" => Some(Step::LeaveExclusive),
-        "publish" => Some(Step::Publish),
-        "extend-clock" => Some(Step::ExtendClock),
-        "extend-limit" => Some(Step::ExtendLimit),
-        _ => None,
-    }
-}
-
-/// A caller's step with one number.
-fn step_with(name: &str, number: u64) -> Option<Step> {
-    match name {
-        "enter-shared" => Some(Step::EnterShared(number)),
-        "draw" => Some(Step::Draw(number)),
-        "link" => Some(Step::Link(number)),
-        "fill-order" => Some(Step::FillOrder(number)),
-        "cancel" => Some(Step::Cancel(number)),
-        "raise-front" => Some(Step::RaiseFront(number)),
-        "note" => Some(Step::Note(number)),
-        _ => None,
-    }
-}
-
-/// And one of the merger.
-fn step_of_merger_with(name: &str, number: u64) -> Option<Step> {
-    match name {
-        "pad" => Some(Step::Pad(number)),
-        "clear-state" => Some(Step::ClearState(number)),
-        "clear-order" => Some(Step::ClearOrder(number)),
-        _ => None,
     }
 }

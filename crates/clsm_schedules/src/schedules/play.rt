@@ -1,7 +1,7 @@
 //! The player of schedules: a world that is played row by row, with the list of its events.
 use crate::schedules::line::Line;
 use clsm_machine::{Answer, Event, Layout, Step, StepError, Word, World};
-use clsm_model::Config;
+use clsm_model::{Config, Memory};
 use std::alloc::Global;
 
 /// What a row found that it does not ask for.
@@ -24,6 +24,12 @@ pub(crate) enum Wrong {
     NotFound,
     /// An ordered list or a chain goes on behind an epoch's cells.
     Endless,
+}
+
+impl From<Memory> for Wrong {
+    fn from(_: Memory) -> Wrong {
+        Wrong::Memory
+    }
 }
 
 fn wrong_answer(answer: Result<Answer, StepError>) -> Wrong {
@@ -88,17 +94,11 @@ impl Play {
         let Ok(layout) = Layout::new(config_of(&mut line)?) else {
             return Err(Wrong::Unread);
         };
-        let Ok(world) = World::new(alloc, &layout) else {
-            return Err(Wrong::Memory);
-        };
-        let Ok(other) = World::new(alloc, &layout) else {
-            return Err(Wrong::Memory);
-        };
         Ok(Play {
             alloc,
             layout,
-            world,
-            other,
+            world: World::new(alloc, &layout)?,
+            other: World::new(alloc, &layout)?,
             events: Vec::new(alloc),
         })
     }
@@ -126,9 +126,7 @@ impl Play {
 
     /// How the world answers the event. Where it refuses it, the world stays as it was.
     fn tries(&mut self, event: Event) -> Result<Result<Answer, StepError>, Wrong> {
-        let Ok(before) = self.world.copy() else {
-            return Err(Wrong::Memory);
-        };
+        let before = self.world.copy()?;
         let answer = self.world.step(event);
         if answer.is_err() && self.world != before {
             return Err(Wrong::Other);

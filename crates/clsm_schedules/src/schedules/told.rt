@@ -67,10 +67,7 @@ impl Play {
     fn compared(&mut self, name: &str, mut line: Line) -> Result<(), Wrong> {
         match name {
             "copies" => {
-                let Ok(copy) = self.world.copy() else {
-                    return Err(Wrong::Memory);
-                };
-                self.other = copy;
+                self.other = self.world.copy()?;
                 right(self.other == self.world)
             }
             "swaps" => {

@@ -65,25 +65,6 @@ fn compare_held<R: Threads + Wait + Sync>(
     Ok(Some(found.unwrap_or(Compared::Steps(machine.first.len()))))
 }
 
-/// Plays the script on both sides, held before each step that both sides make.
-fn compare_each<R: Threads + Wait + Sync>(
-    rt: &R,
-    alloc: Global,
-    script: &Script,
-    alone: &Alone,
-) -> Result<Compared, Wrong> {
-    let (mut alike, mut waits) = (0_usize, 0_usize);
-    for (number, place) in alone.places.iter().enumerate() {
-        let steps = steps_to(alloc, &alone.kinds, number)?;
-        match compare_held(rt, alloc, script, Some(*place), steps)? {
-            Some(Compared::Steps(_)) => alike = alike.saturating_add(1),
-            Some(found) => return Ok(found),
-            None => waits = waits.saturating_add(1),
-        }
-    }
-    Ok(Compared::Holds { alike, waits })
-}
-
 /// Plays the script on both sides: once, or held before each step that both sides make.
 pub(crate) fn compare<R: Threads + Wait + Sync>(
     rt: &R,
@@ -95,5 +76,14 @@ pub(crate) fn compare<R: Threads + Wait + Sync>(
         return Ok(compared.unwrap_or(Compared::Records));
     }
     let alone = Alone::new(alloc, script)?;
-    compare_each(rt, alloc, script, &alone)
+    let (mut alike, mut waits) = (0_usize, 0_usize);
+    for (number, place) in alone.places.iter().enumerate() {
+        let steps = steps_to(alloc, &alone.kinds, number)?;
+        match compare_held(rt, alloc, script, Some(*place), steps)? {
+            Some(Compared::Steps(_)) => alike = alike.saturating_add(1),
+            Some(found) => return Ok(found),
+            None => waits = waits.saturating_add(1),
+        }
+    }
+    Ok(Compared::Holds { alike, waits })
 }

@@ -1,5 +1,5 @@
 //! The pure machine, played by its planner.
-use crate::steps::command::{Command, FIRST, MERGER, OTHER, Script, Turn};
+use crate::steps::command::{Command, FIRST, MERGER, OTHER, Script, SweepPart, Turn};
 use crate::steps::noted::Made;
 use crate::steps::sizes::SIZES;
 use crate::steps::wrong::Wrong;
@@ -121,9 +121,9 @@ impl Machine {
             Command::Call(_) | Command::Page { .. } => {
                 self.played(begun.turn.player) != begun.number
             }
-            Command::Freeze => self.merged == Some(Kind::LeaveExclusive),
-            Command::Merge => self.merged == Some(Kind::Publish),
-            Command::Reclaim => self.next(MERGER)?.is_none(),
+            Command::Merger(SweepPart::Freeze) => self.merged == Some(Kind::LeaveExclusive),
+            Command::Merger(SweepPart::Merge) => self.merged == Some(Kind::Publish),
+            Command::Merger(SweepPart::Reclaim) => self.next(MERGER)?.is_none(),
         })
     }
 

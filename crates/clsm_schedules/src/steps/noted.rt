@@ -1,5 +1,5 @@
 //! Steps as both sides tell them, and which of them are compared.
-use crate::steps::command::Command;
+use crate::steps::command::{Command, SweepPart};
 use clsm_law::{Part, Word};
 use clsm_model::Deal;
 use clsm_words::Kind;
@@ -36,7 +36,7 @@ impl Search {
                 Deal::Put { .. } | Deal::Remove { .. } | Deal::Add { .. } | Deal::Claim { .. },
             ) => Search::Place,
             Command::Call(Deal::Batch { .. }) => Search::Members,
-            Command::Merge => Search::Epoch,
+            Command::Merger(SweepPart::Merge) => Search::Epoch,
             _ => Search::Nothing,
         }
     }

@@ -1,7 +1,7 @@
 //! Who plays on the store: its seats, and its merger.
 ghost use Rattle.std.specs.Prelude.{◌≡◌, All};
 
-use crate::steps::command::{Command, MERGER};
+use crate::steps::command::{Command, MERGER, SweepPart};
 use crate::steps::watch::Watch;
 use clsm_model::{CallRecord, Memory};
 use clsm_store::{Caller, Clean, Merger, Seat, Store};
@@ -53,9 +53,9 @@ impl<'a> Player<'a> {
 /// Plays the command of the merger.
 fn merge<'a, R: Wait>(rt: &R, merger: Merger<'a, Watch>, command: &Command) -> Merger<'a, Watch> {
     match command {
-        Command::Freeze => merger.freeze(rt).0,
-        Command::Merge => merger.merge().0,
-        Command::Reclaim => merger.reclaim().0,
+        Command::Merger(SweepPart::Freeze) => merger.freeze(rt).0,
+        Command::Merger(SweepPart::Merge) => merger.merge().0,
+        Command::Merger(SweepPart::Reclaim) => merger.reclaim().0,
         Command::Call(_) | Command::Page { .. } => merger,
     }
 }

@@ -3,7 +3,7 @@ use super::act::{
     Act, Answer, BUSY, END, LET_END, LET_GO, LET_GO_TOO, Step, WAIT, WAIT_TOO, Write,
 };
 use super::case::{Case, FOUR_CELLS, NONE, PLAIN, Phase, alone, check};
-use super::gate::{Hold, NOBODY, NOWHERE};
+use super::gate::{AT_DECIDE, Hold, NOWHERE};
 use clsm_store::{BatchError, Config, Kind};
 use std::test::*;
 
@@ -32,10 +32,8 @@ const TWO: &[Write] = &[Write::Word(7, 71), Write::Remove(9)];
 
 /// Seat 1 is held before the commit of its batch.
 const AT_COMMIT: Hold = Hold {
-    seat: 1,
     kind: Some(Kind::Commit),
-    passed: 0,
-    turn: NOBODY,
+    ..AT_DECIDE
 };
 
 /// The merger is held before its second try to hold the lock alone.
@@ -43,7 +41,7 @@ const MERGER_WAITS: Hold = Hold {
     seat: MERGER,
     kind: Some(Kind::EnterExclusive),
     passed: 1,
-    turn: NOBODY,
+    ..AT_DECIDE
 };
 
 /// And so is seat 2.

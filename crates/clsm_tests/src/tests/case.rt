@@ -1,7 +1,7 @@
 //! Cases: what actors play on a store of their own.
 use super::act::Step;
 use super::actor::Actor;
-use super::gate::{Gate, Gates, Hold, NOWHERE};
+use super::gate::{Gates, Hold, NOWHERE};
 use clsm_audit::audit;
 use clsm_store::{Bound, Config, Opened, open_paced};
 use std::alloc::Global;
@@ -36,6 +36,13 @@ pub(super) const FOUR_CELLS: Config = Config {
     shards: 2,
     run: 64,
     patience: 8,
+};
+
+/// Many cells, and a reader waits for no writer.
+pub(super) const MANY_CELLS: Config = Config {
+    cells: 64,
+    patience: 0,
+    ..FOUR_CELLS
 };
 
 /// A case in which nobody is held and nothing is played.
@@ -103,10 +110,7 @@ fn play_all<R: Abort + Threads + Wait + Sync>(
 /// Plays the case.
 pub(super) fn check<R: Abort + Threads + Wait + Sync>(rt: &R, alloc: Global, case: &Case) {
     let [first, second] = &case.gates;
-    let gates = Gates {
-        first: Gate::new(first),
-        second: Gate::new(second),
-    };
+    let gates = Gates::new(first, second);
     let Opened {
         store,
         seats,

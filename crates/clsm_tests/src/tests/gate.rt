@@ -70,7 +70,7 @@ const ANSWERED: u64 = 4;
 const TOO_LONG: u64 = 5;
 
 impl Gate {
-    pub(super) fn new(hold: &Hold) -> Gate {
+    fn new(hold: &Hold) -> Gate {
         Gate {
             seat: hold.seat,
             kind: hold.kind,
@@ -143,6 +143,15 @@ impl Gate {
 pub(super) struct Gates {
     pub(super) first: Gate,
     pub(super) second: Gate,
+}
+
+impl Gates {
+    pub(super) fn new(first: &Hold, second: &Hold) -> Gates {
+        Gates {
+            first: Gate::new(first),
+            second: Gate::new(second),
+        }
+    }
 }
 
 impl Pace for Gates {

@@ -1,17 +1,9 @@
 //! Few keys that are written often: each has many versions in one epoch.
 use super::act::{Act, Answer, OVERTAKEN, Step, Turn, WAIT};
-use super::case::{Case, NONE, PLAIN};
+use super::case::{Case, MANY_CELLS, NONE, PLAIN};
 use super::drawn::Mix;
 use super::gate::{ALL, ALL_STEPS, AT_DECIDE, NOWHERE};
 use clsm_store::Config;
-
-const CONFIG: Config = Config {
-    cells: 64,
-    seats: 3,
-    shards: 2,
-    run: 64,
-    patience: 0,
-};
 
 /// Four keys take 64 words in turn, so a key's newest word below a time that is a multiple of four
 /// is this time less four, and the key.
@@ -86,7 +78,7 @@ const ONE: Step = (Act::Calls(Mix::Puts, 8, 1), Answer::Done);
 pub(super) const CASES: &[Case] = &[
     Case {
         name: "few keys have many versions",
-        config: CONFIG,
+        config: MANY_CELLS,
         phases: &[
             &[&[(Act::PutInTurn(4, 0, 2), Answer::Done)]],
             &[NONE, &[(Act::Snapshot, Answer::At(2))]],
@@ -101,7 +93,7 @@ pub(super) const CASES: &[Case] = &[
     // That is key 5 in five of the first 13 rounds, and never after them.
     Case {
         name: "many versions of a key have cancelled times",
-        config: CONFIG,
+        config: MANY_CELLS,
         gates: [AT_DECIDE, NOWHERE],
         phases: &[&[&[(Act::Put(5, 50), Answer::At(0))]]],
         rounds: 30,
@@ -122,7 +114,7 @@ pub(super) const CASES: &[Case] = &[
         name: "a get and a scan of keys with many versions make few steps",
         config: Config {
             cells: 4_096,
-            ..CONFIG
+            ..MANY_CELLS
         },
         gates: [ALL_STEPS, NOWHERE],
         phases: &[&[COUNTED]],

@@ -1,14 +1,13 @@
 //! Messages: of a writer that was held to a reader that is held, through merges beside an open
 //! snapshot, and to the seat that told them.
-ghost use Rattle.std.specs.Prelude.{◌≡◌, All, None, Option, Some};
-ghost use Rattle.atomic_table.specs.Seated.{TableId};
+ghost use Rattle.std.specs.Prelude.{◌≡◌, All, Some};
 
 use super::act::{Answer, Turn, read_as};
 use super::case::FOUR_CELLS;
-use super::gate::{ALL_STEPS, Gate, Gates, Hold, NOBODY, NOWHERE};
+use super::gate::{ALL_STEPS, AT_DECIDE, Gates, Hold, NOWHERE};
 use clsm_model::Value;
-use clsm_store::{Got, Merger, Message, Opened, Seat, Store, open, open_paced};
-use clsm_store_audit::news_is_found;
+use clsm_store::{Merger, Message, Opened, Seat, Store, open, open_paced};
+use clsm_store_audit::{Home, Write, news_is_found};
 use clsm_words::{Kind, Pace};
 use crossbeam_channel::{Receiver, Sender, bounded};
 use std::alloc::Global;
@@ -22,10 +21,8 @@ const KEY: u64 = 7;
 
 /// Seat 1 is held behind its decide, and seat 2 at the end of its read.
 const WRITER: Hold = Hold {
-    seat: 1,
     kind: Some(Kind::LeaveShared),
-    passed: 0,
-    turn: NOBODY,
+    ..AT_DECIDE
 };
 
 const READER: Hold = Hold {
@@ -34,32 +31,12 @@ const READER: Hold = Hold {
     ..WRITER
 };
 
-/// The table of a store, for proofs alone.
-trait Home {
-    ghost table: { Option TableId };
-}
-
-impl Home for Brand {
-    ghost table = { None };
-}
-
-/// A message of that store.
+/// A message of the store whose table `H` has, for proofs alone.
 #[derive(Drop)]
 struct Letter<H: Home> {
     message: Message,
     home: PhantomData<H>,
     ghost of: { H.table ≡ Some message.table },
-}
-
-fn gates(first: &Hold, second: &Hold) -> Gates {
-    Gates {
-        first: Gate::new(first),
-        second: Gate::new(second),
-    }
-}
-
-fn one_word(rt: &impl Abort, word: u64) -> Value {
-    Value::new(&[word]).expect(rt, "one word")
 }
 
 /// The last of the seats.
@@ -71,25 +48,22 @@ fn take_seat<P: Pace>(rt: &impl Abort, store: &Store<P>, seats: &mut Vec<Seat>) 
     seats.pop().expect(rt, "a seat")
 }
 
-/// The put is answered this time.
-fn check_put<P: Pace, R: Abort + Wait>(
+/// The seat's put of the word has this time. Answers what the seat tells then.
+fn put_and_tell<P: Pace, R: Abort + Wait>(
     rt: &R,
     store: &Store<P>,
     seat: &mut Seat,
     word: u64,
     time: u64,
-)
+) -> Message
     requires { seat.old.store ≡ store.now }
-    ensures { seat.new.store ≡ store.now }
+    ensures seat { seat.new.store ≡ store.now }
+    ensures message { result.table ≡ store.now.table }
 {
-    let value = one_word(rt, word);
+    let value = Value::new(&[word]).expect(rt, "one word");
     let put = store.put(rt, seat, KEY, value).expect(rt, "a cell is left");
     assert_eq!(rt; put, time);
-}
-
-/// It is answered so.
-fn check_got(rt: &impl Abort, got: &Got, expected: &Answer) {
-    assert!(rt; read_as(got.time, &got.value) == *expected);
+    store.tell(seat)
 }
 
 /// A get of the seat is answered so.
@@ -98,64 +72,59 @@ fn check_get<P: Pace>(rt: &impl Abort, store: &Store<P>, seat: &mut Seat, expect
     ensures { seat.new.store ≡ store.now }
 {
     let got = store.get(seat, KEY);
-    check_got(rt, &got, expected);
+    assert!(rt; read_as(got.time, &got.value) == *expected);
 }
 
-/// The seat hears the message, at this time.
-fn check_heard<P: Pace>(
+/// The seat hears the message, and a get at the time at which it did is answered so.
+fn check_news<P: Pace>(
     rt: &impl Abort,
     store: &Store<P>,
     seat: &mut Seat,
     message: Message,
-    time: u64,
+    expected: &Answer,
 )
     requires seat { seat.old.store ≡ store.now }
     requires message { message.table ≡ store.now.table }
     ensures { seat.new.store ≡ store.now }
 {
     let heard = store.hear(seat, message);
-    assert_eq!(rt; heard, time);
+    let got = store.get(seat, KEY);
+    assert_eq!(rt; heard, got.time);
+    assert!(rt; read_as(heard, &got.value) == *expected);
 }
 
-/// The writer waits until the reader is held, puts and sends a message.
-fn write_and_send<R: Abort + Wait, H: Home>(
-    rt: &R,
-    store: &Store<Gates>,
-    mut seat: Seat,
-    letters: Sender<Letter<H>>,
-)
+/// A thread's end of the channel, and so its part.
+#[derive(Drop)]
+enum End<H: Home> {
+    /// The writer waits until the reader is held, puts and sends a message.
+    Sends(Sender<Letter<H>>),
+    /// The reader gets, in which it is held, hears a message and gets again.
+    Receives(Receiver<Letter<H>>),
+}
+
+/// Plays the part of the thread that has this end.
+fn play_part<R: Abort + Wait, H: Home>(rt: &R, store: &Store<Gates>, mut seat: Seat, end: End<H>)
     requires seat { seat.store ≡ store.now }
     requires home { H.table ≡ Some store.now.table }
 {
-    store.pace().second.take_turn(&Turn::Wait);
-    check_put(rt, store, &mut seat, 1, 0);
-    let message = store.tell(&mut seat);
-    let letter = Letter {
-        message,
-        home: PhantomData,
-    };
-    assert!(rt; letters.send(rt, letter).is_ok());
-}
-
-/// The reader gets, in which it is held, hears a message and gets again.
-fn read_and_hear<R: Abort + Wait, H: Home>(
-    rt: &R,
-    store: &Store<Gates>,
-    mut seat: Seat,
-    letters: Receiver<Letter<H>>,
-)
-    requires seat { seat.store ≡ store.now }
-    requires home { H.table ≡ Some store.now.table }
-{
-    let early = store.get(&mut seat, KEY);
-    check_got(rt, &early, &Answer::None(0));
-    let Ok(letter) = letters.recv(rt) else {
-        panic!(rt; "no letter came");
-    };
-    let heard = store.hear(&mut seat, letter.message);
-    assert_eq!(rt; heard, 1);
-    let got = store.get(&mut seat, KEY);
-    check_got(rt, &got, &Answer::Got(1, 1));
+    match end {
+        End::Sends(letters) => {
+            store.pace().second.take_turn(&Turn::Wait);
+            let message = put_and_tell(rt, store, &mut seat, 1, 0);
+            let letter = Letter {
+                message,
+                home: PhantomData,
+            };
+            assert!(rt; letters.send(rt, letter).is_ok());
+        }
+        End::Receives(letters) => {
+            check_get(rt, store, &mut seat, &Answer::None(0));
+            let Ok(letter) = letters.recv(rt) else {
+                panic!(rt; "no letter came");
+            };
+            check_news(rt, store, &mut seat, letter.message, &Answer::Got(1, 1));
+        }
+    }
 }
 
 /// Lets both go, the writer once it is held.
@@ -181,7 +150,7 @@ fn pass_letter<R: Abort + Threads + Wait + Sync, H: Home + Send>(
         rt,
         || -> ()
             requires { (writer.store ≡ store.now) × (H.table ≡ Some store.now.table) }
-        { write_and_send::<R, H>(rt, store, writer, sender) },
+        { play_part::<R, H>(rt, store, writer, End::Sends(sender)) },
         || -> ()
             requires { (reader.store ≡ store.now) × (H.table ≡ Some store.now.table) }
         {
@@ -189,7 +158,7 @@ fn pass_letter<R: Abort + Threads + Wait + Sync, H: Home + Send>(
                 rt,
                 || -> ()
                     requires { (reader.store ≡ store.now) × (H.table ≡ Some store.now.table) }
-                { read_and_hear::<R, H>(rt, store, reader, receiver) },
+                { play_part::<R, H>(rt, store, reader, End::Receives(receiver)) },
                 || let_both_go(rt, store.pace()),
             );
         },
@@ -212,7 +181,7 @@ fn pass_letter_held<R: Abort + Threads + Wait + Sync>(
 
 #[test]
 fn a_held_reader_hears_a_writer_that_was_held(rt: HostRuntime) {
-    let opened = open_paced(rt.alloc(), FOUR_CELLS, gates(&WRITER, &READER));
+    let opened = open_paced(rt.alloc(), FOUR_CELLS, Gates::new(&WRITER, &READER));
     let Opened { store, seats, .. } = opened.expect(&rt, "memory");
     pass_letter_held(&rt, rt.alloc(), &store, seats);
 }
@@ -229,26 +198,22 @@ fn messages_pass_merges_and_a_snapshot(rt: HostRuntime) {
     let mut reader = take_seat(&rt, &store, &mut seats);
     let mut writer = take_seat(&rt, &store, &mut seats);
     let merger = Merger::new(&store, merger);
-    check_put(&rt, &store, &mut writer, 1, 0);
+    put_and_tell(&rt, &store, &mut writer, 1, 0);
     assert_eq!(rt; store.snapshot(&mut reader), Ok(1));
-    check_put(&rt, &store, &mut writer, 2, 1);
-    let message = store.tell(&mut writer);
+    let message = put_and_tell(&rt, &store, &mut writer, 2, 1);
     let (merger, swept) = merger.sweep(&rt);
     assert_eq!(rt; swept, Ok(()));
-    check_heard(&rt, &store, &mut reader, message, 4);
-    check_get(&rt, &store, &mut reader, &Answer::Got(4, 2));
-    check_put(&rt, &store, &mut writer, 3, 4);
-    let message = store.tell(&mut writer);
+    check_news(&rt, &store, &mut reader, message, &Answer::Got(4, 2));
+    let message = put_and_tell(&rt, &store, &mut writer, 3, 4);
     let (_merger, swept) = merger.sweep(&rt);
     assert_eq!(rt; swept, Ok(()));
-    check_heard(&rt, &store, &mut reader, message, 8);
-    check_get(&rt, &store, &mut reader, &Answer::Got(8, 3));
+    check_news(&rt, &store, &mut reader, message, &Answer::Got(8, 3));
 }
 
 /// In six steps.
 #[test]
 fn a_seat_hears_itself(rt: HostRuntime) {
-    let opened = open_paced(rt.alloc(), FOUR_CELLS, gates(&ALL_STEPS, &NOWHERE));
+    let opened = open_paced(rt.alloc(), FOUR_CELLS, Gates::new(&ALL_STEPS, &NOWHERE));
     let Opened {
         store,
         mut seats,
@@ -257,24 +222,23 @@ fn a_seat_hears_itself(rt: HostRuntime) {
     take_seat(&rt, &store, &mut seats);
     take_seat(&rt, &store, &mut seats);
     let mut seat = take_seat(&rt, &store, &mut seats);
-    check_put(&rt, &store, &mut seat, 1, 0);
-    let early = store.tell(&mut seat);
-    check_put(&rt, &store, &mut seat, 2, 1);
-    let late = store.tell(&mut seat);
+    let early = put_and_tell(&rt, &store, &mut seat, 1, 0);
+    let late = put_and_tell(&rt, &store, &mut seat, 2, 1);
     assert_eq!(rt; store.hear(&mut seat, late), 2);
     store.pace().first.take_turn(&Turn::Steps);
     assert_eq!(rt; store.hear(&mut seat, early), 2);
     assert!(rt; store.pace().first.take_turn(&Turn::Steps) == Answer::Count(6));
-    check_got(&rt, &store.get(&mut seat, KEY), &Answer::Got(2, 2));
+    check_get(&rt, &store, &mut seat, &Answer::Got(2, 2));
 }
 
 /// At most one allocation of a run is made to fail: the message is then sent once more.
 #[test]
 fn news_of_a_put_reach_the_consumer(rt: HostRuntime) {
     let value = Value::new(&[1, 2]).expect(&rt, "two words");
-    let mut found = news_is_found(&rt, rt.alloc(), KEY, value);
+    let write = Write { key: KEY, value };
+    let mut found = news_is_found(&rt, rt.alloc(), &write);
     if found.is_none() {
-        found = news_is_found(&rt, rt.alloc(), KEY, value);
+        found = news_is_found(&rt, rt.alloc(), &write);
     }
     assert_eq!(rt; found, Some(()));
 }

@@ -1,17 +1,8 @@
 //! A put whose times a reader cancels, one after the other: its cells pile up in the list.
 use super::act::{Act, Answer, LET_GO, Step, Turn, WAIT};
-use super::case::{Case, NONE, PLAIN, check};
+use super::case::{Case, MANY_CELLS, NONE, PLAIN, check};
 use super::gate::{ALL, AT_DECIDE, Hold, NOBODY};
-use clsm_store::Config;
 use std::test::*;
-
-const CONFIG: Config = Config {
-    cells: 64,
-    seats: 3,
-    shards: 2,
-    run: 64,
-    patience: 0,
-};
 
 /// Counts all steps of seat 1.
 const ITS_STEPS: Hold = Hold {
@@ -56,7 +47,7 @@ const CANCEL: &[Step] = repeated!(
 
 const CASES: &[Case] = &[Case {
     name: "a put goes on from its lost cell",
-    config: CONFIG,
+    config: MANY_CELLS,
     gates: [AT_DECIDE, ITS_STEPS],
     phases: &[
         &[&[(Act::Put(KEY, 50), Answer::At(0))]],

@@ -5,7 +5,7 @@ ghost use Rattle.clsm_store_calls.specs.Seats.{AreNew, HasSizes, IsNewMerger};
 
 use clsm_model::{CallRecord, Config, Deed, Memory, OpenError, Value};
 use clsm_store::{Free, Merger, NotFrozen, Opened, Seat, Store, open};
-use clsm_store_audit::{joined_are_records, race_agrees, settle_audited};
+use clsm_store_audit::{Write, joined_are_records, race_agrees, settle_audited};
 use std::alloc::Global;
 use std::process::Abort;
 use std::sync::Wait;
@@ -119,9 +119,10 @@ fn a_frozen_epoch_meets_a_seat(rt: HostRuntime) {
 #[test]
 fn a_race_answers_as_the_history(rt: HostRuntime) {
     let value = Value::new(&[1, 2]).expect(&rt, "two words");
-    let mut raced = race_agrees(&rt, rt.alloc(), 7, value);
+    let write = Write { key: 7, value };
+    let mut raced = race_agrees(&rt, rt.alloc(), &write);
     if raced.is_none() {
-        raced = race_agrees(&rt, rt.alloc(), 7, value);
+        raced = race_agrees(&rt, rt.alloc(), &write);
     }
     assert_eq!(rt; raced, Some(()));
 }

@@ -1,7 +1,7 @@
 //! Readers and writers that fail once, and what a command line prints on the latter.
 use clsm_command::{Ended, command};
 use clsm_text::Streams;
-use std::alloc::Global;
+use std::alloc::{AllocError, Global};
 use std::io::{self, ErrorKind, Read, Write};
 use std::process::Abort;
 use std::rt::Clock;
@@ -23,9 +23,30 @@ pub(super) struct Keyboard<'a> {
 /// A writer that takes so many bytes a call, and fails once after so many calls.
 #[derive(Drop)]
 pub(super) struct Screen {
-    pub(super) shown: Vec<u8>,
-    pub(super) step: usize,
-    pub(super) fails_after: u32,
+    shown: Vec<u8>,
+    step: usize,
+    fails_after: u32,
+}
+
+impl Screen {
+    /// An empty screen that never fails.
+    pub(super) fn sound(alloc: Global) -> Screen {
+        Screen {
+            shown: Vec::new(alloc),
+            step: SOUND.step,
+            fails_after: NEVER,
+        }
+    }
+
+    /// An empty screen with room for 256 bytes, which takes so many of them a call, and fails after
+    /// so many calls.
+    fn failing(alloc: Global, step: usize, fails_after: u32) -> Result<Screen, AllocError> {
+        Ok(Screen {
+            shown: Vec::with_capacity(alloc, 256)?,
+            step,
+            fails_after,
+        })
+    }
 }
 
 /// Counts a call, and fails if it is the last of those that are counted.
@@ -84,21 +105,6 @@ pub(super) struct Played {
     pub(super) status: u8,
 }
 
-/// The screens of the output and of the faults.
-fn screens(alloc: Global, failing: &Failing) -> Result<(Screen, Screen), Fail> {
-    let output = Screen {
-        shown: Vec::with_capacity(alloc, 256)?,
-        step: failing.step,
-        fails_after: failing.output,
-    };
-    let faults = Screen {
-        shown: Vec::with_capacity(alloc, 256)?,
-        step: failing.step,
-        fails_after: failing.faults,
-    };
-    Ok((output, faults))
-}
-
 /// Plays a command line.
 pub(super) fn play<T: Threads + Sync + Clock + Wait, R: Read + Drop>(
     rt: &T,
@@ -107,7 +113,8 @@ pub(super) fn play<T: Threads + Sync + Clock + Wait, R: Read + Drop>(
     input: R,
     failing: &Failing,
 ) -> Result<Played, Fail> {
-    let (output, mut faults) = screens(alloc, failing)?;
+    let output = Screen::failing(alloc, failing.step, failing.output)?;
+    let mut faults = Screen::failing(alloc, failing.step, failing.faults)?;
     let streams = Streams {
         input,
         output,

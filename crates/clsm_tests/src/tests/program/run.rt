@@ -1,6 +1,6 @@
 //! Runs of several workers beside a merger: what differs from one to the next, their records, and
 //! their workloads.
-use super::device::{NEVER, Screen};
+use super::device::Screen;
 use clsm_audit::{AuditError, FaultKind, audit};
 use clsm_model::{CallRecord, Change, Config, Deal, Deed, Value};
 use clsm_workload::{AskedRun, Load, Ran, Shows, Workload, run_on};

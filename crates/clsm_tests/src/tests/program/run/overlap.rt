@@ -81,11 +81,7 @@ fn workers_overlap(rt: HostRuntime) -> Result<(), Fail> {
     };
     let config = TWO_SEATS;
     let opened = open_paced(alloc, config, Turns(&steps)).expect(&rt, "memory");
-    let mut faults = Screen {
-        shown: Vec::new(alloc),
-        step: 256,
-        fails_after: NEVER,
-    };
+    let mut faults = Screen::sound(alloc);
     let asked = AskedRun {
         config,
         waits: false,

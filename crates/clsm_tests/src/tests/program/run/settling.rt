@@ -28,11 +28,7 @@ fn settle<R: Abort + Threads + Sync + Clock + Wait>(
         seats,
         merger,
     };
-    let mut faults = Screen {
-        shown: Vec::new(alloc),
-        step: 256,
-        fails_after: NEVER,
-    };
+    let mut faults = Screen::sound(alloc);
     let (worked, _) = work_merging(rt, alloc, crew, &task, &mut faults);
     let Gathered { seats, records, .. } = gather(alloc, worked.expect(rt, "memory")).expect(
         rt, "memory",
