@@ -1,5 +1,5 @@
 -- What the audit of records answers.
-use Rattle.std.proofs.Common.{◌≡◌, arith, false, ℕ, List, Result, Ok, Err, IfErr, IfOk, IsOk, IsTrue, inl, inr, refl, sym, ap, ◌∙◌, subst}
+use Rattle.std.proofs.Common.{◌≡◌, arith, false, ℕ, List, Result, Ok, Err, IfErr, IfOk, IsOk, IsTrue, inl, inr, refl, sym, ◌∙◌, subst}
 use Rattle.std.proofs.Math.Bool.{true≢false}
 use Rattle.std.specs.Prelude.{All, ⊤, OnOk, Option}
 use Rattle.clsm_store_calls.specs.Seats.{HasSizes, SeatState, StoreId}
