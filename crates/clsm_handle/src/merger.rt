@@ -5,7 +5,7 @@ ghost use Rattle.clsm_store.specs.Freezing.{TryFreezes};
 ghost use Rattle.clsm_store.specs.Phase.{merger_in};
 ghost use Rattle.clsm_store.specs.Sweeping.{TrySweeps};
 
-use clsm_store::{Free, Phase, Stopped, Store, TryFroze, TrySwept, Worn};
+use clsm_store::{Free, Merger, Phase, Stopped, Store, TryFroze, TrySwept, Worn};
 use std::alloc::Global;
 use std::sync::Arc;
 
@@ -19,21 +19,29 @@ pub struct OwnMerger {
 }
 
 impl OwnMerger {
-    /// As `Phase::try_freeze_if_used`.
+    /// As `Merger::try_freeze_if_used`.
     pub fn try_freeze_if_used(self, used: u64) -> (OwnMerger, Result<TryFroze, Worn>)
         ensures { TryFreezes used self.phase result.0.phase result.1 }
     {
         let OwnMerger { store, phase } = self;
-        let (phase, answer) = phase.try_freeze_if_used(&store, used);
+        let merger = Merger {
+            store: &store,
+            phase,
+        };
+        let (Merger { phase, .. }, answer) = merger.try_freeze_if_used(used);
         (OwnMerger { store, phase }, answer)
     }
 
-    /// As `Phase::try_sweep_if_used`.
+    /// As `Merger::try_sweep_if_used`.
     pub fn try_sweep_if_used(self, used: u64) -> (OwnMerger, Result<TrySwept, Stopped>)
         ensures { TrySweeps used self.phase result.0.phase result.1 }
     {
         let OwnMerger { store, phase } = self;
-        let (phase, answer) = phase.try_sweep_if_used(&store, used);
+        let merger = Merger {
+            store: &store,
+            phase,
+        };
+        let (Merger { phase, .. }, answer) = merger.try_sweep_if_used(used);
         (OwnMerger { store, phase }, answer)
     }
 }

@@ -3,7 +3,7 @@ ghost use Rattle.std.specs.Prelude.{◌≡◌, ◌∷◌, [], IfOk, OnOk};
 use crate::answer::Answer;
 use crate::call::parse_call;
 use crate::session::Session;
-use clsm_store::{Call, Pace, Phase, Store};
+use clsm_store::{Call, Merger, Pace, Phase, Store};
 use clsm_text::parse_number;
 use std::alloc::{AllocError, Global};
 use std::sync::Wait;
@@ -101,16 +101,16 @@ impl Command {
             Command::Meet { number } => Answer::Meet(session.meet(store, number)),
             Command::Audit => Answer::Audit(session.audit(alloc)),
             Command::Freeze => {
-                let (phase, answer) = phase.freeze(rt, store);
-                return Ok((phase, Answer::Freeze(answer)));
+                let (merger, answer) = Merger { store, phase }.freeze(rt);
+                return Ok((merger.phase, Answer::Freeze(answer)));
             }
             Command::Merge => {
-                let (phase, answer) = phase.merge(store);
-                return Ok((phase, Answer::Merge(answer)));
+                let (merger, answer) = Merger { store, phase }.merge();
+                return Ok((merger.phase, Answer::Merge(answer)));
             }
             Command::Reclaim => {
-                let (phase, answer) = phase.reclaim(store);
-                return Ok((phase, Answer::Reclaim(answer)));
+                let (merger, answer) = Merger { store, phase }.reclaim();
+                return Ok((merger.phase, Answer::Reclaim(answer)));
             }
         };
         Ok((phase, answer))

@@ -11,10 +11,10 @@ use Rattle.clsm_model.specs.Seats.{FitsDeed}
 use Rattle.clsm_store_calls.specs.declared.got.Rmw.{Rmw}
 use Rattle.clsm_store_calls.specs.Seats.{Answers, IsSameSeat, Refuses, SeatState}
 use Rattle.clsm_store_calls.specs.Tally.{CancelsNone}
-use Rattle.clsm_store.specs.Changes.{added, put_if_absent}
 use Rattle.clsm_store.specs.declared.play.answer.Answer.{Answer}
 use Rattle.clsm_store.specs.declared.play.call.Call.{Call}
 use Rattle.clsm_store.specs.Play.{PlaysCall, ReadsAtClock, WantsMemory}
+use Rattle.clsm_store.specs.Promises.{MakesChange}
 use Rattle.clsm_session.specs.declared.refusal.BatchRefused.{BatchRefused}
 use Rattle.clsm_session.specs.declared.refusal.Refused.{Refused}
 use Rattle.clsm_session.specs.Waiting.{CountsTries, FindsFull, GivesUpByAnswer, IsFullAtLast, IsPatient, IsRefusedAtLast, RefusesCall}
@@ -56,26 +56,9 @@ pub record WaitsToChange (old new : SeatState) (key : ℕ) (result : Result Rmw 
   -- refused: as put
   pub refused : IfErr result (IsFullAtLast old new)
 
--- rmw; `Makes value change`: the function may answer the change to the value
-pub record WaitsToChangeBy (old new : SeatState) (key : ℕ) (Makes : Option (List ℕ) → Change → Type 0) (result : Result Rmw Refused) : Type 0 where
-  -- as above
-  pub change : WaitsToChange old new key result
-  -- the function answered the change to the old value
-  pub answered : IfOk result (λ rmw. Makes rmw.old rmw.change)
-
--- add
-pub record WaitsToAdd (old new : SeatState) (key by : ℕ) (result : Result Rmw Refused) : Type 0 where
-  -- as above
-  pub change : WaitsToChange old new key result
-  -- the change sets the sum, or keeps the old value if there is none
-  pub added : IfOk result (λ rmw. rmw.change ≡ added rmw.old by)
-
--- put_if_absent
-pub record WaitsToPutIfAbsent (old new : SeatState) (key : ℕ) (value : List ℕ) (result : Result Rmw Refused) : Type 0 where
-  -- as above
-  pub change : WaitsToChange old new key result
-  -- the change sets the value if there was none, and else keeps the old one
-  pub claimed : IfOk result (λ rmw. rmw.change ≡ put_if_absent rmw.old value)
+-- rmw, add and put_if_absent, as the store's: `Makes value change` says what may be made of a value
+abbrev pub WaitsToChangeBy : SeatState → SeatState → ℕ → (Option (List ℕ) → Change → Type 0) → Result Rmw Refused → Type 0
+WaitsToChangeBy old new key Makes result = MakesChange (WaitsToChange old new key) Makes result
 
 -- ---- calls as values
 

@@ -1,10 +1,11 @@
 //! A caller of a session: the calls of the store, of which writes wait for room.
 ghost use Rattle.std.specs.Prelude.{◌≡◌};
 ghost use Rattle.clsm_model.specs.declared.record.Deed.TheVariants.{Put, Remove};
+ghost use Rattle.clsm_store.specs.Changes.{Adds, PutsIfAbsent};
 ghost use Rattle.clsm_store.specs.Promises.{ClosesSnapshot, CountsRange, Gets, GetsAtIfOpen, GivesNextPage, GivesPage, Hears, OpensSnapshot, Scans, ScansAnew};
 ghost use Rattle.clsm_store.specs.Promises.{Tells, VisitsRange};
 ghost use Rattle.clsm_session.specs.Places.{HasPlace};
-ghost use Rattle.clsm_session.specs.Promises.{WaitsToAdd, WaitsToChangeBy, WaitsToPlay, WaitsToPutIfAbsent, WaitsToWrite, WaitsToWriteBatch};
+ghost use Rattle.clsm_session.specs.Promises.{WaitsToChangeBy, WaitsToPlay, WaitsToWrite, WaitsToWriteBatch};
 
 use crate::board::Board;
 use crate::job::Place;
@@ -113,7 +114,7 @@ impl<'a, R: Wait, P: Place> SessionCaller<'a, R, P> {
     /// the value where the sum passes 2^64 - 1 or the value has several words: the answer's
     /// `change` tells. It waits and is refused as `put`.
     pub fn add(&mut self, key: u64, by: u64) -> Result<Rmw, Refused>
-        ensures { WaitsToAdd self.old self.new key by result }
+        ensures { WaitsToChangeBy self.old self.new key (Adds by) result }
     {
         self.rmw(key, &|old| added(old, by))
     }
@@ -121,7 +122,7 @@ impl<'a, R: Wait, P: Place> SessionCaller<'a, R, P> {
     /// Writes the value at the key where the key has none, and else keeps what it has: the answer's
     /// `old` tells. It waits and is refused as `put`.
     pub fn put_if_absent(&mut self, key: u64, value: Value) -> Result<Rmw, Refused>
-        ensures { WaitsToPutIfAbsent self.old self.new key value result }
+        ensures { WaitsToChangeBy self.old self.new key (PutsIfAbsent value) result }
     {
         self.rmw(key, &|old| put_if_absent(old, value))
     }

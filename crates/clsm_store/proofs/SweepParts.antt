@@ -1,75 +1,138 @@
 -- A sweep goes on from a part of it that was done.
-use Rattle.std.proofs.Common.{◌≡◌, ◌∙◌, ◌+◌, ap, refl, ℕ, ◌≤◌, Ok, Err, Result}
+use Rattle.std.proofs.Common.{◌≡◌, ap, refl, subst, ℕ, Ok, Err, Result, true}
 use Rattle.std.specs.Prelude.{⊤}
-use Rattle.clsm_store_calls.specs.Looking.{LooksAtClock, drawn_of}
 use Rattle.clsm_store_calls.specs.Seats.{CleanState, FrozenState, RetiredState}
-use Rattle.clsm_store.specs.declared.phase.Phase.{Phase}
-use Rattle.clsm_store.specs.declared.phase.Phase.TheVariants.{Clean, Frozen, Retired}
-use Rattle.clsm_store.specs.declared.sweeping.Stopped.{Stopped}
-use Rattle.clsm_store.specs.declared.sweeping.Stopped.TheVariants.{Worn, RunFull, Pinned}
 use Rattle.clsm_store_calls.specs.declared.refusal.Worn.{Worn as WornToo}
 use Rattle.clsm_store.specs.declared.freezing.TryFroze.{TryFroze}
-use Rattle.clsm_store.specs.declared.freezing.TryFroze.TheVariants.{Busy as FreezeBusy, Done as FreezeDone, Waited as FreezeWaited}
-use Rattle.clsm_store.specs.Freezing.{TryFreezesClean}
-use Rattle.clsm_store.specs.Phase.{Freezes, Merges}
-use Rattle.clsm_store.specs.Promises.{TriesToFreezeEpoch}
-use Rattle.clsm_store.specs.Sweeping.{SweepsClean, SweepsCleanIf, SweepsFrozen, SweepsRetired, TrySweepsClean, done_of, enough, tried_of, unfrozen_of}
+use Rattle.clsm_store.specs.declared.freezing.TryFroze.TheVariants.{Busy as FreezeBusy, Done as FreezeDone}
+use Rattle.clsm_store.specs.declared.phase.MergeError.TheVariants.{NotFrozen}
+use Rattle.clsm_store.specs.declared.phase.Phase.{Phase}
+use Rattle.clsm_store.specs.declared.phase.Phase.TheVariants.{Clean, Frozen, Retired}
+use Rattle.clsm_store.specs.declared.phase.ReclaimError.{ReclaimError}
+use Rattle.clsm_store.specs.declared.phase.ReclaimError.TheVariants.{Pinned as ReclaimPinned}
+use Rattle.clsm_store.specs.declared.phase.TryFreezeError.{TryFreezeError}
+use Rattle.clsm_store.specs.declared.phase.TryFreezeError.TheVariants.{Busy as Taken, Worn as TryWorn}
+use Rattle.clsm_store.specs.declared.sweeping.Stopped.{Stopped}
+use Rattle.clsm_store.specs.declared.sweeping.Stopped.TheVariants.{Worn, Pinned}
+use Rattle.clsm_store.specs.declared.sweeping.Swept.{Swept}
+use Rattle.clsm_store.specs.declared.sweeping.Swept.TheVariants.{Done}
+use Rattle.clsm_store.specs.declared.sweeping.TrySwept.{TrySwept}
+use Rattle.clsm_store.specs.declared.sweeping.TrySwept.TheVariants.{Done as TryDone}
+use Rattle.clsm_store.specs.Freezing.{IsUsed, TryFreezes}
+use Rattle.clsm_store.specs.Phase.{Freezes, Merges, Reclaims}
+use Rattle.clsm_store.specs.Promises.{FreezesEpoch, MergesEpoch, RefusesFreeze, TriesToFreezeEpoch}
+use Rattle.clsm_store.specs.Sweeping.{Finishes, Sweeps, SweepsClean, SweepsFrozen, SweepsIf, SweepsRetired, TrySweeps}
 
--- the epoch is merged
-pub merged_on : (old : FrozenState) (retired : RetiredState) (new : Phase) (answer : Result ⊤ Stopped)
-    → Merges (Frozen old) (Retired retired) (Ok (old.merger.merges + 1)) → SweepsRetired retired new answer → SweepsFrozen old new answer
-merged_on old retired new (Ok done) merged swept = (retired, merged, swept)
-merged_on old retired new (Err (Pinned pinned)) merged swept = (retired, merged, swept)
-merged_on old retired new (Err (RunFull full)) merged swept = absurd swept
-merged_on old retired new (Err (Worn worn)) merged swept = absurd swept
+-- ---- behind the freeze
+
+-- what a reclaim comes to, as the end of a sweep
+abbrev pub stopped_by : Result ⊤ ReclaimError → Result ⊤ Stopped
+stopped_by (Err (ReclaimPinned pinned)) = Err (Pinned pinned)
+stopped_by reclaimed = Ok tt
+
+reclaimed_on : (retired : RetiredState) (new : Phase) (reclaimed : Result ⊤ ReclaimError)
+    → Reclaims (Retired retired) new reclaimed → SweepsRetired retired new (stopped_by reclaimed)
+reclaimed_on retired (Clean new) (Ok done) reclaims = reclaims
+reclaimed_on retired (Retired new) (Err (ReclaimPinned pinned)) reclaims = reclaims
+reclaimed_on retired new reclaimed none = absurd none
+
+merged_on : (old : FrozenState) (retired : RetiredState) (new : Phase) (answer : Result ⊤ Stopped)
+    → MergesEpoch old (Ok retired) → SweepsRetired retired new answer → SweepsFrozen old new answer
+merged_on old retired new (Ok done) merges swept = (retired, (merges, refl), swept)
+merged_on old retired new (Err (Pinned pinned)) merges swept = (retired, (merges, refl), swept)
+merged_on old retired new answer merges none = absurd none
+
+-- a merge, and a reclaim behind it
+pub merged_behind : (old mid new : Phase) (count : ℕ) (reclaimed : Result ⊤ ReclaimError) → Merges old mid (Ok count) → Reclaims mid new reclaimed
+    → Finishes old new (stopped_by reclaimed)
+merged_behind (Frozen old) (Retired mid) new count reclaimed merges reclaims =
+    merged_on old mid new (stopped_by reclaimed) merges.0 (reclaimed_on mid new reclaimed reclaims)
+merged_behind (Frozen old) mid new count reclaimed none reclaims = absurd none
+merged_behind old mid new count reclaimed (stays, is) reclaims = absurd (cc is)
+
+-- nothing to merge, and a reclaim behind it
+pub unmerged_behind : (old mid new : Phase) (reclaimed : Result ⊤ ReclaimError) → Merges old mid (Err NotFrozen) → Reclaims mid new reclaimed
+    → Finishes old new (stopped_by reclaimed)
+unmerged_behind (Clean old) mid new reclaimed (stays, _) reclaims =
+    let none = subst (λ (p : Phase). Reclaims p new reclaimed) stays reclaims in
+    (none.0, ap stopped_by none.1)
+unmerged_behind (Frozen old) (Clean mid) new reclaimed none reclaims = absurd none
+unmerged_behind (Frozen old) mid new reclaimed none reclaims = absurd none
+unmerged_behind (Retired old) mid new reclaimed (stays, _) reclaims =
+    reclaimed_on old new reclaimed (subst (λ (p : Phase). Reclaims p new reclaimed) stays reclaims)
+
+-- ---- behind a freeze
 
 -- an epoch is frozen
-pub frozen_on : (old : CleanState) (frozen : FrozenState) (new : Phase) (answer : Result ⊤ Stopped)
-    → Freezes (Clean old) (Frozen frozen) (Ok old.merger.merges) → SweepsFrozen frozen new answer → SweepsClean old new answer
-frozen_on old frozen new (Ok done) freezes swept = (frozen, freezes, swept)
-frozen_on old frozen new (Err (Pinned pinned)) freezes swept = (frozen, freezes, swept)
-frozen_on old frozen new (Err (RunFull full)) freezes swept = (frozen, freezes, swept)
+frozen_on : (old : CleanState) (frozen : FrozenState) (new : Phase) (answer : Result ⊤ Stopped)
+    → FreezesEpoch old (Ok frozen) → SweepsFrozen frozen new answer → SweepsClean old new answer
 frozen_on old frozen new (Err (Worn worn)) freezes swept = absurd swept.2
+frozen_on old frozen new answer freezes swept = (frozen, (freezes, refl), swept)
 
--- enough of an epoch is used
-pub used_on : (used : ℕ) (old looked : CleanState) (new : Phase) (answer : Result ⊤ Stopped) → LooksAtClock old looked
-    → enough used looked ≤ drawn_of looked → SweepsClean looked new answer → SweepsCleanIf used old new (done_of answer)
-used_on used old looked new (Ok done) looks many swept = (looked, looks, many, swept)
-used_on used old looked new (Err stopped) looks many swept = (looked, looks, many, swept)
+-- a freeze, and what comes behind it
+pub froze_behind : (old mid new : Phase) (epoch : ℕ) (answer : Result ⊤ Stopped) → Freezes old mid (Ok epoch) → Finishes mid new answer
+    → Sweeps old new answer
+froze_behind (Clean old) (Frozen mid) new epoch answer freezes finishes = frozen_on old mid new answer freezes.0 finishes
+froze_behind (Clean old) mid new epoch answer none finishes = absurd none
+froze_behind old mid new epoch answer (stays, is) finishes = absurd (cc is)
 
--- the same where the lock is tried once
-pub tried_on : (used : ℕ) (old looked : CleanState) (new : Phase) (answer : Result ⊤ Stopped) → LooksAtClock old looked
-    → enough used looked ≤ drawn_of looked → SweepsClean looked new answer → TrySweepsClean used old new (tried_of answer)
-tried_on used old looked new (Ok done) looks many swept = (looked, looks, many, swept)
-tried_on used old looked new (Err stopped) looks many swept = (looked, looks, many, swept)
+-- ---- a sweep that freezes an epoch only once enough of it is used
 
--- the lock was tried once, and the epoch is frozen as by a freeze that waits
-pub frozen_by_try : (old : CleanState) (frozen : FrozenState) → TriesToFreezeEpoch old (Ok frozen)
-    → Freezes (Clean old) (Frozen frozen) (Ok old.merger.merges)
-frozen_by_try old frozen tried =
-    (record { frozen = tried.frozen; floor = tried.floor; noted = tried.noted; worn = tt }, refl)
+-- the answer where it did not wait
+abbrev pub done_of : Result ⊤ Stopped → Result Swept Stopped
+done_of (Ok _) = Ok Done
+done_of (Err stopped) = Err stopped
 
--- ---- a sweep behind a freeze that tries the lock once
+-- enough was used
+pub swept_if : (used : ℕ) (old mid new : Phase) (answer : Result ⊤ Stopped) → IsUsed used old mid true → Sweeps mid new answer
+    → SweepsIf used old new (done_of answer)
+swept_if used (Clean old) (Clean mid) new (Ok done) (looks, many) swept = (mid, looks, many, swept)
+swept_if used (Clean old) (Clean mid) new (Err stopped) (looks, many) swept = (mid, looks, many, swept)
+swept_if used (Clean old) mid new answer none swept = absurd none
+swept_if used old mid new (Ok done) (stays, _) swept = subst (λ (p : Phase). Sweeps p new (Ok tt)) stays swept
+swept_if used old mid new (Err stopped) (stays, _) swept = subst (λ (p : Phase). Sweeps p new (Err stopped)) stays swept
 
--- an epoch was frozen
-pub swept_behind : (used : ℕ) (old : CleanState) (frozen : FrozenState) (froze : Result TryFroze WornToo) (new : Phase) (answer : Result ⊤ Stopped)
-    → TryFreezesClean used old (Frozen frozen) froze → SweepsFrozen frozen new answer → TrySweepsClean used old new (tried_of answer)
-swept_behind used old frozen (Ok FreezeDone) new answer (looked, looks, many, freezes) swept =
-    tried_on used old looked new answer looks many (frozen_on looked frozen new answer freezes swept)
-swept_behind used old frozen (Ok FreezeWaited) new answer none swept = absurd none
-swept_behind used old frozen (Ok FreezeBusy) new answer (looked, looks, many, none) swept = absurd none
-swept_behind used old frozen (Err worn) new answer (looked, looks, many, none) swept = absurd none
+-- ---- the same sweep, which tries the lock once
 
--- none was
-pub unfrozen_behind : (used : ℕ) (old : CleanState) (new : Phase) (froze : Result TryFroze WornToo) → ((frozen : FrozenState) → new ≡ Frozen frozen → ⊥)
-    → TryFreezesClean used old new froze → TrySweepsClean used old new (unfrozen_of froze)
-unfrozen_behind used old (Clean new) (Ok FreezeDone) other (looked, looks, many, none) = absurd none
-unfrozen_behind used old (Clean new) (Ok FreezeWaited) other waits = waits
-unfrozen_behind used old (Clean new) (Ok FreezeBusy) other (looked, looks, many, out) =
-    out ∙ ap (λ (s : CleanState). record s { clock = new.clock }) looks
-unfrozen_behind used old (Clean new) (Err worn) other refused = refused
-unfrozen_behind used old (Frozen new) froze other freezes = absurd (other new refl)
-unfrozen_behind used old (Retired new) (Ok FreezeDone) other (looked, looks, many, none) = absurd none
-unfrozen_behind used old (Retired new) (Ok FreezeWaited) other none = absurd none
-unfrozen_behind used old (Retired new) (Ok FreezeBusy) other (looked, looks, many, none) = absurd none
-unfrozen_behind used old (Retired new) (Err worn) other (looked, looks, many, none) = absurd none
+-- the lock was free, and the epoch is frozen as by a freeze that waits
+pub froze_if : (used : ℕ) (old : Phase) (looked : CleanState) (frozen : FrozenState) → IsUsed used old (Clean looked) true
+    → TriesToFreezeEpoch looked (Ok frozen) → TryFreezes used old (Frozen frozen) (Ok FreezeDone)
+froze_if used (Clean old) looked frozen (looks, many) tried =
+    (looked, looks, many, (record { frozen = tried.frozen; floor = tried.floor; noted = tried.noted; worn = tt }, refl))
+froze_if used old looked frozen (stays, _) tried = absurd (cc stays)
+
+-- the answer where none was frozen
+abbrev pub refused_by : TryFreezeError → Result TryFroze WornToo
+refused_by Taken = Ok FreezeBusy
+refused_by (TryWorn worn) = Err worn
+
+-- it was not, or no epoch can be frozen any more
+pub refused_if : (used : ℕ) (old : Phase) (looked new : CleanState) (error : TryFreezeError) → IsUsed used old (Clean looked) true
+    → RefusesFreeze looked new error → TryFreezes used old (Clean new) (refused_by error)
+refused_if used (Clean old) looked new Taken (looks, many) refused = (looked, looks, many, refused)
+refused_if used (Clean old) looked new (TryWorn worn) (looks, many) refused =
+    (looked, looks, many, record { frozen = tt; floor = tt; noted = tt; worn = refused })
+refused_if used old looked new error (stays, _) refused = absurd (cc stays)
+
+-- nothing was to be frozen
+pub kept_if : (used : ℕ) (old new : Phase) → IsUsed used old new true → ((clean : CleanState) → new ≡ Clean clean → ⊥)
+    → TryFreezes used old new (Ok FreezeDone)
+kept_if used (Clean old) (Clean new) _ other = absurd (other new refl)
+kept_if used (Clean old) new none other = absurd none
+kept_if used old new (stays, _) other = stays
+
+-- the answer where it did not wait and the lock was free
+abbrev pub tried_of : Result ⊤ Stopped → Result TrySwept Stopped
+tried_of (Ok _) = Ok TryDone
+tried_of (Err stopped) = Err stopped
+
+-- the lock was free
+pub swept_by_try : (used : ℕ) (old mid new : Phase) (answer : Result ⊤ Stopped) → TryFreezes used old mid (Ok FreezeDone) → Finishes mid new answer
+    → TrySweeps used old new (tried_of answer)
+swept_by_try used (Clean old) (Frozen mid) new (Ok done) (looked, looks, many, freezes) finishes =
+    (looked, looks, many, frozen_on looked mid new (Ok done) freezes.0 finishes)
+swept_by_try used (Clean old) (Frozen mid) new (Err stopped) (looked, looks, many, freezes) finishes =
+    (looked, looks, many, frozen_on looked mid new (Err stopped) freezes.0 finishes)
+swept_by_try used (Clean old) mid new answer (looked, looks, many, none) finishes = absurd none
+swept_by_try used old mid new (Ok done) stays finishes = subst (λ (p : Phase). Finishes p new (Ok tt)) stays finishes
+swept_by_try used old mid new (Err stopped) stays finishes = subst (λ (p : Phase). Finishes p new (Err stopped)) stays finishes

@@ -20,10 +20,18 @@ set_or_keep (Some word) = Set (word ∷ [])
 abbrev pub added : Option (List ℕ) → ℕ → Change
 added old by = set_or_keep (word_sum old by)
 
+-- `add` sets the sum, or keeps the old value if there is none
+abbrev pub Adds : ℕ → Option (List ℕ) → Change → Type 0
+Adds by old change = change ≡ added old by
+
 -- the value, where there is no old one
 abbrev pub put_if_absent : Option (List ℕ) → List ℕ → Change
 put_if_absent None value = Set value
 put_if_absent (Some old) value = Keep
+
+-- `put_if_absent` sets the value if there was none, and else keeps the old one
+abbrev pub PutsIfAbsent : List ℕ → Option (List ℕ) → Change → Type 0
+PutsIfAbsent value old change = change ≡ put_if_absent old value
 
 -- the value is set, or the key is removed where there is none
 abbrev pub set_or_remove : Option (List ℕ) → Change

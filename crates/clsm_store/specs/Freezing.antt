@@ -1,5 +1,5 @@
 -- A freeze alone, which freezes an epoch only once enough of it is used, and tries the lock once.
-use Rattle.std.specs.Prelude.{◌≡◌, ℕ, ◌≤◌, Result, Ok, Err}
+use Rattle.std.specs.Prelude.{◌≡◌, Bool, ℕ, ◌≤◌, Result, Ok, Err, false, true}
 use Rattle.clsm_store_calls.specs.Looking.{LooksAtClock, StaysClean, drawn_of}
 use Rattle.clsm_store_calls.specs.Seats.{CleanState}
 use Rattle.clsm_store_calls.specs.declared.refusal.Worn.{Worn}
@@ -10,6 +10,13 @@ use Rattle.clsm_store.specs.declared.phase.Phase.{Phase}
 use Rattle.clsm_store.specs.declared.phase.Phase.TheVariants.{Clean}
 use Rattle.clsm_store.specs.Phase.{Freezes}
 use Rattle.clsm_store.specs.Sweeping.{Waits, enough}
+
+-- whether the merger goes on: enough were drawn at the look at the clock, or nothing is to be frozen
+abbrev pub IsUsed : ℕ → Phase → Phase → Bool → Type 0
+IsUsed used (Clean old) new false = Waits used old new
+IsUsed used (Clean old) (Clean new) true = LooksAtClock old new × (enough used new ≤ drawn_of new)
+IsUsed used (Clean old) _ true = ⊥
+IsUsed used old new answer = (new ≡ old) × (answer ≡ true)
 
 -- enough were drawn at the look at the clock, and from there on this was done
 abbrev pub WhereUsed : ℕ → CleanState → (CleanState → Type 0) → Type 0

@@ -41,7 +41,6 @@ use Rattle.clsm_store_calls.specs.Seats.{CleanState, FrozenState, RetiredState}
 use Rattle.clsm_store_calls.specs.Tally.{CancelsNone, CountsTry, TakesLockOnce, TakesNoLock}
 use Rattle.clsm_store_calls.specs.Trying.{RefusesTry}
 use Rattle.clsm_store_calls.specs.TryingChange.{CountsTryChange}
-use Rattle.clsm_store.specs.Changes.{Replaces, added, put_if_absent}
 use Rattle.clsm_store.specs.declared.pages.Pages.{Pages}
 use Rattle.clsm_store.specs.declared.phase.TryFreezeError.{TryFreezeError}
 use Rattle.clsm_store.specs.declared.phase.TryFreezeError.TheVariants.{Busy, Worn as WornToo}
@@ -108,26 +107,18 @@ pub record Changes (old new : SeatState) (key : ℕ) (result : Result Rmw Full) 
   -- refused: as put
   pub full : IfErr result (λ full. IsFull old new full.time)
 
--- rmw; `Makes value change`: the function may answer the change to the value
-pub record ChangesBy (old new : SeatState) (key : ℕ) (Makes : Option (List ℕ) → Change → Type 0) (result : Result Rmw Full) : Type 0 where
+-- the same where `Does` is promised of all but the change; `Makes value change`: it may be made of
+-- the value
+pub record MakesChange {E : Type 0} (Does : Result Rmw E → Type 0) (Makes : Option (List ℕ) → Change → Type 0) (result : Result Rmw E) : Type 0 where
   -- as above
-  pub change : Changes old new key result
-  -- the function answered the change to the old value
+  pub change : Does result
+  -- the change was made of the old value
   pub answered : IfOk result (λ rmw. Makes rmw.old rmw.change)
 
--- add
-pub record Adds (old new : SeatState) (key by : ℕ) (result : Result Rmw Full) : Type 0 where
-  -- as above
-  pub change : Changes old new key result
-  -- the change sets the sum, or keeps the old value if there is none
-  pub added : IfOk result (λ rmw. rmw.change ≡ added rmw.old by)
-
--- put_if_absent
-pub record PutsIfAbsent (old new : SeatState) (key : ℕ) (value : List ℕ) (result : Result Rmw Full) : Type 0 where
-  -- as above
-  pub change : Changes old new key result
-  -- the change sets the value if there was none, and else keeps the old one
-  pub claimed : IfOk result (λ rmw. rmw.change ≡ put_if_absent rmw.old value)
+-- rmw, where the function may answer the change to the value; add, by `Adds`, and put_if_absent, by
+-- `PutsIfAbsent`, of `Changes.antt`
+abbrev pub ChangesBy : SeatState → SeatState → ℕ → (Option (List ℕ) → Change → Type 0) → Result Rmw Full → Type 0
+ChangesBy old new key Makes result = MakesChange (Changes old new key) Makes result
 
 -- try_rmw and its kind, whatever they make of the key's value
 pub record TriesToChange (old new : SeatState) (key : ℕ) (result : Result Rmw TryPutError) : Type 0 where
@@ -138,33 +129,9 @@ pub record TriesToChange (old new : SeatState) (key : ℕ) (result : Result Rmw 
   -- refused: as try_put
   pub refused : IfErr result (RefusesTry old new)
 
--- try_rmw
-pub record TriesToChangeBy (old new : SeatState) (key : ℕ) (Makes : Option (List ℕ) → Change → Type 0) (result : Result Rmw TryPutError) : Type 0 where
-  -- as above
-  pub change : TriesToChange old new key result
-  -- as rmw
-  pub answered : IfOk result (λ rmw. Makes rmw.old rmw.change)
-
--- try_add
-pub record TriesToAdd (old new : SeatState) (key by : ℕ) (result : Result Rmw TryPutError) : Type 0 where
-  -- as above
-  pub change : TriesToChange old new key result
-  -- as add
-  pub added : IfOk result (λ rmw. rmw.change ≡ added rmw.old by)
-
--- try_put_if_absent
-pub record TriesToPutIfAbsent (old new : SeatState) (key : ℕ) (value : List ℕ) (result : Result Rmw TryPutError) : Type 0 where
-  -- as above
-  pub change : TriesToChange old new key result
-  -- as put_if_absent
-  pub claimed : IfOk result (λ rmw. rmw.change ≡ put_if_absent rmw.old value)
-
--- try_replace
-pub record TriesToReplace (old new : SeatState) (key : ℕ) (expected desired : Option (List ℕ)) (result : Result Rmw TryPutError) : Type 0 where
-  -- as above
-  pub change : TriesToChange old new key result
-  -- the change makes the desired value of the old one if that was the expected one, else keeps it
-  pub replaced : IfOk result (λ rmw. Replaces rmw.old expected desired rmw.change)
+-- try_rmw; try_add and try_put_if_absent, as add and put_if_absent; try_replace, by `Replaces`
+abbrev pub TriesToChangeBy : SeatState → SeatState → ℕ → (Option (List ℕ) → Change → Type 0) → Result Rmw TryPutError → Type 0
+TriesToChangeBy old new key Makes result = MakesChange (TriesToChange old new key) Makes result
 
 -- ---- reads of one key, and snapshots
 
@@ -406,5 +373,5 @@ pub record ReclaimsRetired (old : RetiredState) (result : Result CleanState (Ret
 -- ---- elsewhere
 
 -- `room`: `FindsRoom` in `Looking.antt` of clsm_store_calls. `settle`: `AreMet` in `Meetings.antt`,
--- and `IsWholeHistory` in `Headline.antt`. The merger's calls of a `Phase`, which may be any, and
+-- and `IsWholeHistory` in `Headline.antt`. The calls of a `Merger`, which may be in any phase, and
 -- its sweeps: `Phase.antt`, `Freezing.antt` and `Sweeping.antt`.

@@ -1,15 +1,12 @@
 -- A sweep: a freeze, a merge and a reclaim, as far as these go. What it comes to is said by what
 -- these come to: where one is done the next goes on from it, and where one is refused the sweep
 -- stops there, for the same reason.
-use Rattle.std.specs.Prelude.{ℕ, ◌+◌, ◌<◌, ◌≤◌, ⊤, min, Result, Ok, Err}
+use Rattle.std.specs.Prelude.{◌≡◌, ℕ, ◌+◌, ◌<◌, ◌≤◌, ⊤, min, Result, Ok, Err}
 use Rattle.clsm_store_calls.specs.Looking.{LooksAtClock, drawn_of}
 use Rattle.clsm_store_calls.specs.Seats.{CleanState, FrozenState, RetiredState}
 use Rattle.clsm_store.specs.declared.phase.Phase.{Phase}
 use Rattle.clsm_store.specs.declared.phase.Phase.TheVariants.{Clean, Frozen, Retired}
 use Rattle.clsm_store.specs.declared.phase.FreezeError.TheVariants.{Worn as FreezeWorn}
-use Rattle.clsm_store_calls.specs.declared.refusal.Worn.{Worn as WornToo}
-use Rattle.clsm_store.specs.declared.freezing.TryFroze.{TryFroze}
-use Rattle.clsm_store.specs.declared.freezing.TryFroze.TheVariants.{Busy as FreezeBusy, Done as FreezeDone, Waited as FreezeWaited}
 use Rattle.clsm_store.specs.declared.phase.MergeError.TheVariants.{RunFull as MergeFull}
 use Rattle.clsm_store.specs.declared.phase.ReclaimError.TheVariants.{Pinned as ReclaimPinned}
 use Rattle.clsm_store.specs.declared.sweeping.Stopped.{Stopped}
@@ -48,6 +45,11 @@ Sweeps (Clean old) new answer = SweepsClean old new answer
 Sweeps (Frozen old) new answer = SweepsFrozen old new answer
 Sweeps (Retired old) new answer = SweepsRetired old new answer
 
+-- the same behind the freeze: where nothing is frozen it is at its end
+abbrev pub Finishes : Phase → Phase → Result ⊤ Stopped → Type 0
+Finishes (Clean old) new answer = (new ≡ Clean old) × (answer ≡ Ok tt)
+Finishes old new answer = Sweeps old new answer
+
 -- ---- a sweep that freezes an epoch only once enough of it is used
 
 -- so many times of the epoch are enough: as many as are asked for, or all that it has
@@ -73,11 +75,6 @@ SweepsCleanIf used old new (Ok Waited) = Waits used old new
 SweepsCleanIf used old new (Ok Done) = SweepsUsed used old new (Ok tt)
 SweepsCleanIf used old new (Err stopped) = SweepsUsed used old new (Err stopped)
 
--- the answer where it did not wait
-abbrev pub done_of : Result ⊤ Stopped → Result Swept Stopped
-done_of (Ok _) = Ok Done
-done_of (Err stopped) = Err stopped
-
 -- what such a sweep comes to: in the other phases it never waits
 abbrev pub SweepsIf : ℕ → Phase → Phase → Result Swept Stopped → Type 0
 SweepsIf used (Clean old) new answer = SweepsCleanIf used old new answer
@@ -86,18 +83,6 @@ SweepsIf used old new (Ok Done) = Sweeps old new (Ok tt)
 SweepsIf used old new (Err stopped) = Sweeps old new (Err stopped)
 
 -- ---- the same sweep, which tries the lock once
-
--- the answer where it did not wait and the lock was free
-abbrev pub tried_of : Result ⊤ Stopped → Result TrySwept Stopped
-tried_of (Ok _) = Ok TryDone
-tried_of (Err stopped) = Err stopped
-
--- and where a freeze that tried it once froze nothing
-abbrev pub unfrozen_of : Result TryFroze WornToo → Result TrySwept Stopped
-unfrozen_of (Ok FreezeDone) = Ok TryDone
-unfrozen_of (Ok FreezeWaited) = Ok TryWaited
-unfrozen_of (Ok FreezeBusy) = Ok Busy
-unfrozen_of (Err worn) = Err (Worn worn)
 
 -- a caller held the lock: but for its one look at the clock the merger is as it was
 abbrev pub IsBusy : CleanState → Phase → Type 0

@@ -1,8 +1,8 @@
 //! Read-modify-writes that most programs make: an addition to a counter, a first write, and the
 //! replacement of an expected value.
 ghost use Rattle.std.specs.Prelude.{◌≡◌};
-ghost use Rattle.clsm_store.specs.Changes.{Replaces, added, put_if_absent, word_sum};
-ghost use Rattle.clsm_store.specs.Promises.{Adds, PutsIfAbsent, TriesToAdd, TriesToPutIfAbsent, TriesToReplace};
+ghost use Rattle.clsm_store.specs.Changes.{Adds, PutsIfAbsent, Replaces, added, put_if_absent, word_sum};
+ghost use Rattle.clsm_store.specs.Promises.{ChangesBy, TriesToChangeBy};
 
 use crate::caller::Caller;
 use crate::seat::Seat;
@@ -67,7 +67,7 @@ impl<P: Pace> Store<P> {
     /// words: the answer's `change` tells. It waits and is refused as `put`.
     pub fn add<R: Wait>(&self, rt: &R, seat: &mut Seat, key: u64, by: u64) -> Result<Rmw, Full>
         requires { seat.old.store ≡ self.now }
-        ensures { Adds seat.old seat.new key by result }
+        ensures { ChangesBy seat.old seat.new key (Adds by) result }
     {
         self.rmw(rt, seat, key, &|old| added(old, by))
     }
@@ -82,7 +82,7 @@ impl<P: Pace> Store<P> {
         value: Value,
     ) -> Result<Rmw, Full>
         requires { seat.old.store ≡ self.now }
-        ensures { PutsIfAbsent seat.old seat.new key value result }
+        ensures { ChangesBy seat.old seat.new key (PutsIfAbsent value) result }
     {
         self.rmw(rt, seat, key, &|old| put_if_absent(old, value))
     }
@@ -91,7 +91,7 @@ impl<P: Pace> Store<P> {
     /// Refused as `try_rmw`.
     pub fn try_add(&self, seat: &mut Seat, key: u64, by: u64) -> Result<Rmw, TryPutError>
         requires { seat.old.store ≡ self.now }
-        ensures { TriesToAdd seat.old seat.new key by result }
+        ensures { TriesToChangeBy seat.old seat.new key (Adds by) result }
     {
         self.try_rmw(seat, key, &|old| added(old, by))
     }
@@ -105,7 +105,7 @@ impl<P: Pace> Store<P> {
         value: Value,
     ) -> Result<Rmw, TryPutError>
         requires { seat.old.store ≡ self.now }
-        ensures { TriesToPutIfAbsent seat.old seat.new key value result }
+        ensures { TriesToChangeBy seat.old seat.new key (PutsIfAbsent value) result }
     {
         self.try_rmw(seat, key, &|old| put_if_absent(old, value))
     }
@@ -122,7 +122,7 @@ impl<P: Pace> Store<P> {
         desired: Option<Value>,
     ) -> Result<Rmw, TryPutError>
         requires { seat.old.store ≡ self.now }
-        ensures { TriesToReplace seat.old seat.new key expected desired result }
+        ensures { TriesToChangeBy seat.old seat.new key (λ value change. Replaces value expected desired change) result }
     {
         self.try_rmw(seat, key, &|old| replaced(old, expected, desired))
     }
@@ -131,27 +131,27 @@ impl<P: Pace> Store<P> {
 impl<'a, P: Pace> Caller<'a, P> {
     /// As `Store::add`.
     pub fn add<R: Wait>(&mut self, rt: &R, key: u64, by: u64) -> Result<Rmw, Full>
-        ensures { Adds self.old.seat self.new.seat key by result }
+        ensures { ChangesBy self.old.seat self.new.seat key (Adds by) result }
     {
         self.store.add(rt, &mut self.seat, key, by)
     }
 
     /// As `Store::put_if_absent`.
     pub fn put_if_absent<R: Wait>(&mut self, rt: &R, key: u64, value: Value) -> Result<Rmw, Full>
-        ensures { PutsIfAbsent self.old.seat self.new.seat key value result }
+        ensures { ChangesBy self.old.seat self.new.seat key (PutsIfAbsent value) result }
     {
         self.store.put_if_absent(rt, &mut self.seat, key, value)
     }
     /// As `Store::try_add`.
     pub fn try_add(&mut self, key: u64, by: u64) -> Result<Rmw, TryPutError>
-        ensures { TriesToAdd self.old.seat self.new.seat key by result }
+        ensures { TriesToChangeBy self.old.seat self.new.seat key (Adds by) result }
     {
         self.store.try_add(&mut self.seat, key, by)
     }
 
     /// As `Store::try_put_if_absent`.
     pub fn try_put_if_absent(&mut self, key: u64, value: Value) -> Result<Rmw, TryPutError>
-        ensures { TriesToPutIfAbsent self.old.seat self.new.seat key value result }
+        ensures { TriesToChangeBy self.old.seat self.new.seat key (PutsIfAbsent value) result }
     {
         self.store.try_put_if_absent(&mut self.seat, key, value)
     }
@@ -163,7 +163,7 @@ impl<'a, P: Pace> Caller<'a, P> {
         expected: Option<Value>,
         desired: Option<Value>,
     ) -> Result<Rmw, TryPutError>
-        ensures { TriesToReplace self.old.seat self.new.seat key expected desired result }
+        ensures { TriesToChangeBy self.old.seat self.new.seat key (λ value change. Replaces value expected desired change) result }
     {
         self.store
             .try_replace(&mut self.seat, key, expected, desired)

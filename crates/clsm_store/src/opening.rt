@@ -1,12 +1,11 @@
 //! How a store opens.
-ghost use Rattle.std.specs.Prelude.{◌≡◌, ◌<◌, ◌+◌, replicate, vec_len, All, IfOk, IfErr, OnOk};
+ghost use Rattle.std.specs.Prelude.{◌≡◌, ◌<◌, ◌+◌, replicate, vec_len, All, IfOk};
 ghost use Rattle.clsm_law.specs.Merging.{unseen};
-ghost use Rattle.clsm_model.specs.Config.{IsSound};
 ghost use Rattle.clsm_words.specs.Plays.{AreFreshFrom, IsFreshMerger};
 ghost use Rattle.clsm_store_calls.specs.Freezing.{IsClean};
 ghost use Rattle.clsm_store_calls.specs.Merging.{IsReady, clean_of};
-ghost use Rattle.clsm_store_calls.specs.Seats.{AreNew, HasSizes, IsNewMerger};
-ghost use Rattle.clsm_store.specs.Opening.{IsRefusal};
+ghost use Rattle.clsm_store_calls.specs.Seats.{AreNew};
+ghost use Rattle.clsm_store.specs.Opening.{Opens};
 ghost use Rattle.clsm_store_calls.specs.Resting.{store_of};
 
 use crate::merger::Clean;
@@ -31,24 +30,14 @@ pub struct Opened<P: Pace> {
 /// its range, in the order cells, seats, shards, run, patience, and with `Memory` only if all
 /// are in their ranges. Nothing is kept after a refusal.
 pub fn open(alloc: Global, config: Config) -> Result<Opened<Free>, OpenError>
-    ensures sizes { OnOk result (IsSound config) }
-    ensures store { IfOk result (λ opened. HasSizes opened.store config) }
-    ensures seats { IfOk result (λ opened. AreNew opened.store config.seats opened.seats.items) }
-    ensures at { IfOk result (λ opened. All (λ seat. seat.store ≡ opened.store) opened.seats.items) }
-    ensures merger { IfOk result (λ opened. IsNewMerger opened.store opened.merger) }
-    ensures refusal { IfErr result (IsRefusal config) }
+    ensures { Opens config result }
 {
     open_paced(alloc, config, Free)
 }
 
 /// As `open`, with a pace: it is called before each atomic step on the store.
 pub fn open_paced<P: Pace>(alloc: Global, config: Config, pace: P) -> Result<Opened<P>, OpenError>
-    ensures sizes { OnOk result (IsSound config) }
-    ensures store { IfOk result (λ opened. HasSizes opened.store config) }
-    ensures seats { IfOk result (λ opened. AreNew opened.store config.seats opened.seats.items) }
-    ensures at { IfOk result (λ opened. All (λ seat. seat.store ≡ opened.store) opened.seats.items) }
-    ensures merger { IfOk result (λ opened. IsNewMerger opened.store opened.merger) }
-    ensures refusal { IfErr result (IsRefusal config) }
+    ensures { Opens config result }
 {
     let layout = Layout::new(config)?;
     let Ok((words, raw, merger)) = Words::new(alloc, &layout, pace) else {
