@@ -3,8 +3,8 @@ ghost use Rattle.std.specs.Prelude.{◌≡◌, ℕ, ◌+◌, ◌<◌, ◌≤◌,
 ghost use Rattle.clsm_words.specs.Keeping.{LooksAside};
 ghost use Rattle.clsm_words.specs.Plays.{IsSeatOf};
 ghost use Rattle.clsm_scan.specs.Optional.{If, found_in};
-ghost use Rattle.clsm_scan.specs.Streams.{AreAhead, AreFrom, AreOver, ArePast, HasAdded, IsAhead, IsLeast, IsMerging, all_ahead_later, all_ahead_stays, all_over_stays};
-ghost use Rattle.clsm_scan.specs.Streams.{first_of, key_at, last_at, last_at_stays, up_to, up_to_stays};
+ghost use Rattle.clsm_scan.specs.Streams.{AreAhead, AreFrom, AreOver, ArePast, HasAdded, IsAhead, IsLeast, IsMerging, all_ahead_later, all_ahead_stays};
+ghost use Rattle.clsm_scan.specs.Streams.{all_over_stays, first_of, key_at, last_at, last_at_stays, up_to, up_to_stays};
 ghost use Rattle.clsm_scan.specs.Walks.{any_found, any_over, any_stands};
 
 use crate::any_walk::AnyWalk;

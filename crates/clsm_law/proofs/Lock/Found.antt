@@ -234,7 +234,8 @@ pub found_links_by : (s : Setting) (memory : Memory) (y : View) → ((i : ℕ) �
 found_links_by s memory y same now = by_seat s y (λ i u. FindsLink s memory u.mode u.drawn u.inserted u.fresh_link) now
     (λ i ne t found mode drawn out look. found_as s.z s.memory memory t found (s.law.found_links i t found mode drawn out look) (same i ne mode _))
 
-pub found_links_kept : (s : Setting) (step : Step) → Opens s step → AreFoundLinks s.z (M s step) (each s.z View.mode (V s step)) (each s.z View.drawn (V s step))
+pub found_links_kept : (s : Setting) (step : Step) → Opens s step
+    → AreFoundLinks s.z (M s step) (each s.z View.mode (V s step)) (each s.z View.drawn (V s step))
     (each s.z View.inserted (V s step)) (each s.z View.fresh_link (V s step))
 found_links_kept s step o = found_links_by s (M s step) (w s step) (λ i ne mode. links_stay s step o (undrawn_beside s i ne mode)) (links_after s step o)
 

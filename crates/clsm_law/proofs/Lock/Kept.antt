@@ -109,7 +109,8 @@ holders_few z (y ∷ ys) none = let a = sum_by-cons holders y ys in let b = hold
     one_most Exclusive ne = absurd (ne refl)
 
 -- and where one is, it is the only one
-holders_most : (z : Layout) (views : List View) → AreSole (each z View.mode views) → (sum_by holders views ≤ exclusive_hold) ⊎ (sum_by holders views ≤ length views)
+holders_most : (z : Layout) (views : List View) → AreSole (each z View.mode views)
+    → (sum_by holders views ≤ exclusive_hold) ⊎ (sum_by holders views ≤ length views)
 holders_most z [] sole = inl (omega arith)
 holders_most z (y ∷ ys) sole = head y.mode refl (holders_most z ys (λ i j f ne. sole (suc i) (suc j) f (λ same. ne (omega arith))))
   where

@@ -37,7 +37,8 @@ pub limits_kept : (s : Setting) (step : Step) → Opens s step → AreLimits (ea
 limits_kept s step o = keep1 (AreLimits (each s.z View.mode (V s step)) (each s.z View.hold_limit (V s step))) (limit_same s step)
     (by_seat s (w s step) (λ i u. (k : ℕ) → u.mode ≢ Free → u.hold_limit ≡ Some k → k ≡ s.memory Limit) (limit_after s step) (λ i ne. s.law.limits i))
 
-pub limits_merged : (g : Ground) (step : Step) → OpensTo g step → AreLimits (each g.z View.mode g.views) (each g.z View.hold_limit g.views) (memory' g step Limit)
+pub limits_merged : (g : Ground) (step : Step) → OpensTo g step
+    → AreLimits (each g.z View.mode g.views) (each g.z View.hold_limit g.views) (memory' g step Limit)
 limits_merged g ExtendLimit o = λ i k m e. absurd (not_both o.0 (held_free g i m))
 limits_merged g (Look word) o = keep1 (λ (m : Memory). AreLimits (each g.z View.mode g.views) (each g.z View.hold_limit g.views) (m Limit))
     (merger_looked_same g word) g.law.limits

@@ -142,7 +142,8 @@ right_merged g step o i = let p = each g.z View.past g.views i in
 -- ---- their writes stand
 
 -- each seat's records before the step stand after it
-stand_before : (s : Setting) (step : Step) → Opens s step → (i : ℕ) → AllByRecursion (IsStandingRecord (outcome_at (S s step)) i) (each s.z View.calls s.views i)
+stand_before : (s : Setting) (step : Step) → Opens s step → (i : ℕ)
+    → AllByRecursion (IsStandingRecord (outcome_at (S s step)) i) (each s.z View.calls s.views i)
 stand_before s step o i = all_stand_stay (outcome_at s.slots) (outcome_at (S s step)) i (each s.z View.calls s.views i) (slots_stay s step o) (s.law.stand i)
 
 -- the slot of a Decide that wins
@@ -260,7 +261,8 @@ recorded_kept s step o u i key written lt e = let write = Wrote i key written in
     (subst (HasWrite s.me u write) (sym (puts_each s.z View.calls s.views s.me (w s step) s.inside).here) new.1))
     (stood_or_new s step o u i key written lt e)
 
-pub recorded_merged : (g : Ground) (step : Step) → OpensTo g step → AreRecorded (memory' g step Clock) (outcome_at (slots' g step)) (each g.z View.calls g.views)
+pub recorded_merged : (g : Ground) (step : Step) → OpensTo g step
+    → AreRecorded (memory' g step Clock) (outcome_at (slots' g step)) (each g.z View.calls g.views)
 recorded_merged g ExtendClock o u i key written lt e = let was = written_before g.slots (epoch_end g.z g.merger - length g.slots) u i key written e in
     let inside = slot_below g.slots u (λ none. absurd (cc (none, was))) in let even = clock_merger g o.0 in g.law.recorded u i key written (omega arith) was
 recorded_merged g (Look word) o u i key written lt e = let same = ap (λ (m : Memory). m Clock) (merger_looked_same g word) in

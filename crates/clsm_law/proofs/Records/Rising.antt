@@ -175,5 +175,6 @@ pub rising_kept : (s : Setting) (step : Step) → Opens s step → AreRising (ea
 rising_kept s step o = by_seat s (w s step) (λ i u. IsRising u.calls u.due (open_time u.snapshot)) (own_rising s step o)
     (λ i ne. s.law.rising i)
 
-pub rising_merged : (g : Ground) (step : Step) → OpensTo g step → AreRising (each g.z View.calls g.views) (each g.z View.due g.views) (each g.z View.snapshot g.views)
+pub rising_merged : (g : Ground) (step : Step) → OpensTo g step
+    → AreRising (each g.z View.calls g.views) (each g.z View.due g.views) (each g.z View.snapshot g.views)
 rising_merged g step o = g.law.rising

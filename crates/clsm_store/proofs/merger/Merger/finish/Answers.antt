@@ -28,7 +28,8 @@ returns-in-Err-Pinned-clause-finishes g c =
     let is : c.reclaim-merger.result.1 ≡ Err (Pinned c.in-Err-Pinned.pinned) = search rules in
     let reclaims = subst (Reclaims mid new) is c.reclaim-merger.ensures.reclaims in
     elim c.match-merged.branch [
-      | in-Ok w ↦ merged_behind old mid new w.in-Ok.field-0 (Err (Pinned c.in-Err-Pinned.pinned)) (subst (Merges old mid) w.in-Ok.is c.merge-merger.ensures.merges) reclaims
+      | in-Ok w ↦ merged_behind old mid new w.in-Ok.field-0 (Err (Pinned c.in-Err-Pinned.pinned)) (subst (Merges old mid) w.in-Ok.is
+          c.merge-merger.ensures.merges) reclaims
       | in-Err-NotFrozen w ↦
           let none : c.merge-merger.result.1 ≡ Err NotFrozen = search rules in
           unmerged_behind old mid new (Err (Pinned c.in-Err-Pinned.pinned)) (subst (Merges old mid) none c.merge-merger.ensures.merges) reclaims
