@@ -1,5 +1,5 @@
 use crate::wanted::FoundWrite;
-use clsm_model::{Time, Value};
+use clsm_model::{Key, Time, Value};
 
 /// What makes a record `Unknown`.
 #[derive(Clone, Copy)]
@@ -42,7 +42,7 @@ pub enum Explanation {
     /// It read `answered` at the key, where the map has `right`. The newest write of the key below
     /// its time is `newest`, and `seen` is a write that left what it read.
     WrongValue {
-        key: u64,
+        key: Key,
         answered: Option<Value>,
         right: Option<Value>,
         newest: Option<FoundWrite>,
@@ -54,7 +54,7 @@ pub enum Explanation {
         number: usize,
         answered: Option<(u64, Value)>,
         right: Option<(u64, Value)>,
-        key: u64,
+        key: Key,
         newest: Option<FoundWrite>,
         seen: Option<FoundWrite>,
     },

@@ -15,7 +15,7 @@ use crate::replay::Replay;
 use crate::replies::key_of_first;
 use crate::stamp::{Stamp, in_time_order};
 use crate::wrong_reply::{newest_write, seen_write};
-use clsm_model::{CallRecord, Deed, Memory, PlainMap, Time, Value};
+use clsm_model::{CallRecord, Deed, Key, Memory, PlainMap, Time, Value};
 use std::alloc::Global;
 
 /// Explains why the rows of a scan or a page, inside no batch, are wrong. Refused if memory
@@ -151,7 +151,7 @@ fn lower_key(first: &Option<(u64, Value)>, second: &Option<(u64, Value)>) -> u64
 }
 
 /// What the row says of the key.
-fn value_in(row: &Option<(u64, Value)>, key: u64) -> Option<Value>
+fn value_in(row: &Option<(u64, Value)>, key: Key) -> Option<Value>
     ensures { result ≡ value_in row.now key }
 {
     match row {

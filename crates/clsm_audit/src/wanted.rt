@@ -5,15 +5,15 @@ ghost use Rattle.clsm_audit.specs.Sought.{Fits, HasNoneIn, IsLastIn, IsLastWrite
 ghost use Rattle.clsm_audit.specs.Written.{time_past, write_of};
 
 use crate::write::{change_by, span_of, write_by};
-use clsm_model::{CallRecord, Change, Deed, Slot, Time, Value};
+use clsm_model::{CallRecord, Change, Deed, Key, Slot, Time, Value};
 
 /// Which writes are looked for.
 #[derive(Clone, Copy)]
 pub enum Wanted {
     /// Each write of the key.
-    OfKey { key: u64 },
+    OfKey { key: Key },
     /// Each write that leaves this at the key.
-    Leaves { key: u64, value: Option<Value> },
+    Leaves { key: Key, value: Option<Value> },
 }
 
 /// A write of a record: the index of the record, the time of the write, and what it wrote.

@@ -2,10 +2,10 @@ ghost use Rattle.std.specs.Prelude.{◌≡◌};
 ghost use Rattle.clsm_model.specs.Right.{change_by, write_by};
 ghost use Rattle.clsm_audit.specs.Written.{is_write, span_of};
 
-use clsm_model::{CallRecord, Change, Deed, Slot};
+use clsm_model::{CallRecord, Change, Deed, Key, Slot};
 
 /// The write that a change of the key is, where the seat makes it.
-pub fn change_by(seat: u32, key: u64, change: &Change) -> Option<Slot>
+pub fn change_by(seat: u32, key: Key, change: &Change) -> Option<Slot>
     ensures { result ≡ change_by seat key change.now }
 {
     let value = match change {

@@ -10,7 +10,7 @@ ghost use Rattle.clsm_audit.specs.Written.{batches_of};
 use crate::explanation::Explanation;
 use crate::rows::explain_rows;
 use crate::wanted::{FoundWrite, Wanted, last_write};
-use clsm_model::{CallRecord, Deed, Memory, Slot, Time, Value};
+use clsm_model::{CallRecord, Deed, Key, Memory, Slot, Time, Value};
 use std::alloc::Global;
 
 /// The end of time: no write stands there or above.
@@ -70,7 +70,7 @@ fn is_around(call: &CallRecord, time: Time) -> bool
 fn explain_value(
     records: &[CallRecord],
     time: Time,
-    key: u64,
+    key: Key,
     answered: Option<Value>,
 ) -> Explanation
     requires times { HaveTimes records.now }
@@ -90,7 +90,7 @@ fn explain_value(
 }
 
 /// The newest write of the key below the time, if there is one.
-pub fn newest_write(records: &[CallRecord], key: u64, time: Time) -> Option<FoundWrite>
+pub fn newest_write(records: &[CallRecord], key: Key, time: Time) -> Option<FoundWrite>
     requires times { HaveTimes records.now }
     requires alone { HasNone (IsSecondAt records.now) }
     ensures { IsNewest records.now key time result }
@@ -116,7 +116,7 @@ fn value_left(found: &Option<FoundWrite>) -> Option<Value>
 /// The last write that leaves this at the key: below the time, or above it if none is there.
 pub fn seen_write(
     records: &[CallRecord],
-    key: u64,
+    key: Key,
     value: &Option<Value>,
     time: Time,
 ) -> Option<FoundWrite>

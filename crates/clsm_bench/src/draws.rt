@@ -2,6 +2,7 @@
 use crate::lines::{Filling, Line, Role};
 use crate::mixes::{Draw, Kind, Mix, Ranks, below};
 use crate::sizes::Work;
+use clsm_model::Key;
 use rand_core::utils::NextWord;
 use rand_pcg::Pcg32;
 use std::alloc::{AllocError, Global};
@@ -24,11 +25,11 @@ const ROWS: u32 = 16;
 /// A call, and what is to be answered.
 #[derive(Clone, Copy)]
 pub enum Call {
-    Put { key: u64, word: u64 },
+    Put { key: Key, word: u64 },
     /// Adds one to the second word of the value, which counts as 0 where there is none.
-    Change { key: u64 },
-    Get { key: u64, word: Option<u64> },
-    Scan { lo: u64, hi: u64, rows: usize },
+    Change { key: Key },
+    Get { key: Key, word: Option<u64> },
+    Scan { lo: Key, hi: Key, rows: usize },
     Page { from: u64, rows: usize },
 }
 

@@ -1,7 +1,7 @@
 //! What a thread makes its calls on: a seat of a store, a caller of a session, or a map under a
 //! lock.
 use crate::draws::Call;
-use clsm_model::{Change, Value};
+use clsm_model::{Change, Key, Value};
 use clsm_session::{Place, SessionCaller};
 use clsm_store::Caller;
 use clsm_words::Free;
@@ -13,18 +13,18 @@ use std::thread;
 /// The rows of the keys from `lo` to `hi`: all of them, or the first so many.
 #[derive(Clone, Copy)]
 pub struct Span {
-    lo: u64,
-    hi: u64,
+    lo: Key,
+    hi: Key,
     most: Option<usize>,
 }
 
 impl Span {
-    fn all(lo: u64, hi: u64) -> Span {
+    fn all(lo: Key, hi: Key) -> Span {
         Span { lo, hi, most: None }
     }
 
     /// So many rows from this key on.
-    fn first(lo: u64, rows: usize) -> Span {
+    fn first(lo: Key, rows: usize) -> Span {
         Span {
             lo,
             hi: u64::MAX,
@@ -42,13 +42,13 @@ pub trait Target {
     fn number(&self) -> u32;
 
     /// The first word that the key has.
-    fn first_word<R: Wait>(&mut self, rt: &R, key: u64) -> Option<u64>;
+    fn first_word<R: Wait>(&mut self, rt: &R, key: Key) -> Option<u64>;
 
     /// Puts the word at the key. Answers whether there was room for it.
-    fn put_word<R: Wait>(&mut self, rt: &R, key: u64, word: u64) -> bool;
+    fn put_word<R: Wait>(&mut self, rt: &R, key: Key, word: u64) -> bool;
 
     /// Adds one to the second word that the key has. Answers whether there was room for it.
-    fn increase<R: Wait>(&mut self, rt: &R, key: u64) -> bool;
+    fn increase<R: Wait>(&mut self, rt: &R, key: Key) -> bool;
 
     /// Makes the writes of a batch, once. Answers whether they were made.
     fn write_all<R: Wait>(&mut self, rt: &R, members: &[(u64, Change)]) -> bool;
@@ -75,7 +75,7 @@ pub trait Target {
 
     /// Puts the word, or changes the value that is there, as often as it is tried.
     #[inline]
-    fn write<R: Wait>(&mut self, rt: &R, key: u64, word: Option<u64>) -> bool {
+    fn write<R: Wait>(&mut self, rt: &R, key: Key, word: Option<u64>) -> bool {
         for _ in 0..Self::TRIES {
             let is_made = match word {
                 Some(word) => self.put_word(rt, key, word),
@@ -114,17 +114,17 @@ impl Target for Caller<'_, Free> {
     }
 
     #[inline]
-    fn first_word<R: Wait>(&mut self, _rt: &R, key: u64) -> Option<u64> {
+    fn first_word<R: Wait>(&mut self, _rt: &R, key: Key) -> Option<u64> {
         Some(self.get(key).value?.first())
     }
 
     #[inline]
-    fn put_word<R: Wait>(&mut self, rt: &R, key: u64, word: u64) -> bool {
+    fn put_word<R: Wait>(&mut self, rt: &R, key: Key, word: u64) -> bool {
         self.put(rt, key, Value::from(word)).is_ok()
     }
 
     #[inline]
-    fn increase<R: Wait>(&mut self, rt: &R, key: u64) -> bool {
+    fn increase<R: Wait>(&mut self, rt: &R, key: Key) -> bool {
         self.rmw(rt, key, &|old| increase_of(old)).is_ok()
     }
 
@@ -152,17 +152,17 @@ impl<W: Wait, P: Place> Target for SessionCaller<'_, W, P> {
     }
 
     #[inline]
-    fn first_word<R: Wait>(&mut self, _rt: &R, key: u64) -> Option<u64> {
+    fn first_word<R: Wait>(&mut self, _rt: &R, key: Key) -> Option<u64> {
         Some(self.get(key).value?.first())
     }
 
     #[inline]
-    fn put_word<R: Wait>(&mut self, _rt: &R, key: u64, word: u64) -> bool {
+    fn put_word<R: Wait>(&mut self, _rt: &R, key: Key, word: u64) -> bool {
         self.put(key, Value::from(word)).is_ok()
     }
 
     #[inline]
-    fn increase<R: Wait>(&mut self, _rt: &R, key: u64) -> bool {
+    fn increase<R: Wait>(&mut self, _rt: &R, key: Key) -> bool {
         self.rmw(key, &|old| increase_of(old)).is_ok()
     }
 
@@ -197,7 +197,7 @@ impl Target for MapCaller<'_> {
     }
 
     #[inline]
-    fn first_word<R: Wait>(&mut self, rt: &R, key: u64) -> Option<u64> {
+    fn first_word<R: Wait>(&mut self, rt: &R, key: Key) -> Option<u64> {
         match self.map.read(rt).get(&key) {
             Some(value) => Some(value.first()),
             None => None,
@@ -205,13 +205,13 @@ impl Target for MapCaller<'_> {
     }
 
     #[inline]
-    fn put_word<R: Wait>(&mut self, rt: &R, key: u64, word: u64) -> bool {
+    fn put_word<R: Wait>(&mut self, rt: &R, key: Key, word: u64) -> bool {
         let value = Value::from(word);
         self.map.write(rt).insert(key, value).is_ok()
     }
 
     #[inline]
-    fn increase<R: Wait>(&mut self, rt: &R, key: u64) -> bool {
+    fn increase<R: Wait>(&mut self, rt: &R, key: Key) -> bool {
         match self.map.write(rt).get_mut(&key) {
             Some(value) => {
                 *value = increased(value);

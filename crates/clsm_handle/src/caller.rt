@@ -12,6 +12,7 @@ ghost use Rattle.clsm_store_calls.specs.Trying.{RefusesTry};
 ghost use Rattle.clsm_store_calls.specs.TryingChange.{CountsTryChange};
 ghost use Rattle.clsm_store.specs.Changes.{Replaces, added};
 
+use clsm_model::Key;
 use clsm_store::{
     Change, Counted, Free, Got, Memory, Open, Page, Rmw, Seat, Store, Time, TryBatchError,
     TryPutError, Value,
@@ -31,7 +32,7 @@ pub struct OwnCaller {
 
 impl OwnCaller {
     /// As `Store::try_put`.
-    pub fn try_put(&mut self, key: u64, value: Value) -> Result<Time, TryPutError>
+    pub fn try_put(&mut self, key: Key, value: Value) -> Result<Time, TryPutError>
         ensures written { IfOk result (λ time. Answers self.old.seat self.new.seat time (Put key value)) }
         ensures counts { CountsTry self.old.seat.tally self.new.seat.tally result }
         ensures refused { IfErr result (RefusesTry self.old.seat self.new.seat) }
@@ -40,7 +41,7 @@ impl OwnCaller {
     }
 
     /// As `Store::try_remove`.
-    pub fn try_remove(&mut self, key: u64) -> Result<Time, TryPutError>
+    pub fn try_remove(&mut self, key: Key) -> Result<Time, TryPutError>
         ensures written { IfOk result (λ time. Answers self.old.seat self.new.seat time (Remove key)) }
         ensures counts { CountsTry self.old.seat.tally self.new.seat.tally result }
         ensures refused { IfErr result (RefusesTry self.old.seat self.new.seat) }
@@ -49,7 +50,7 @@ impl OwnCaller {
     }
 
     /// As `Store::try_add`.
-    pub fn try_add(&mut self, key: u64, by: u64) -> Result<Rmw, TryPutError>
+    pub fn try_add(&mut self, key: Key, by: u64) -> Result<Rmw, TryPutError>
         ensures changed { IfOk result (λ rmw. Answers self.old.seat self.new.seat rmw.time (ChangeOf key rmw.old rmw.change)) }
         ensures added { IfOk result (λ rmw. rmw.change ≡ added rmw.old by) }
         ensures counts { CountsTryChange self.old.seat self.new.seat key result }
@@ -61,7 +62,7 @@ impl OwnCaller {
     /// As `Store::try_replace`.
     pub fn try_replace(
         &mut self,
-        key: u64,
+        key: Key,
         expected: Option<Value>,
         desired: Option<Value>,
     ) -> Result<Rmw, TryPutError>
@@ -91,7 +92,7 @@ impl OwnCaller {
 
     /// As `Store::get`.
     #[inline(always)]
-    pub fn get(&mut self, key: u64) -> Got
+    pub fn get(&mut self, key: Key) -> Got
         ensures answers { Answers self.old.seat self.new.seat result.time (Get key result.value) }
         ensures clock { self.new.seat.clock ≡ Some result.time }
         ensures lock { TakesNoLock self.old.seat.tally self.new.seat.tally }
@@ -118,7 +119,7 @@ impl OwnCaller {
     }
 
     /// As `Store::get_at`, or `None` if no snapshot is open.
-    pub fn get_at(&mut self, key: u64) -> Option<Got>
+    pub fn get_at(&mut self, key: Key) -> Option<Got>
         ensures answers { IfSome result (λ got. Answers self.old.seat self.new.seat got.time (GetAt key got.value)) }
         ensures none { IfNone result ((self.new.seat ≡ self.old.seat) × (self.old.seat.snapshot ≡ None)) }
         ensures lock { self.new.seat.tally ≡ self.old.seat.tally }
@@ -128,7 +129,7 @@ impl OwnCaller {
     }
 
     /// As `Store::page`.
-    pub fn page(&mut self, from: u64, hi: u64, max: usize) -> Result<Page, Memory>
+    pub fn page(&mut self, from: u64, hi: Key, max: usize) -> Result<Page, Memory>
         ensures answers { IfOk result (λ page. Answers self.old.seat self.new.seat page.time (page_deed from hi max page.rows page.more)) }
         ensures clock { IfOk result (λ page. IsAtClock self.old.seat self.new.seat page.time) }
         ensures lock { TakesNoLock self.old.seat.tally self.new.seat.tally }
@@ -138,7 +139,7 @@ impl OwnCaller {
     }
 
     /// As `Store::count`.
-    pub fn count(&mut self, lo: u64, hi: u64) -> Counted
+    pub fn count(&mut self, lo: Key, hi: Key) -> Counted
         ensures counts { CountsKeys self.old.seat self.new.seat result.time lo hi result.keys result.first }
         ensures lock { TakesNoLock self.old.seat.tally self.new.seat.tally }
     {

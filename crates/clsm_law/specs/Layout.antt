@@ -75,16 +75,22 @@ blocks z =
 -- the numbers of the blocks behind the five words
 abbrev pub pins_block : ℕ
 pins_block = 5
+
 abbrev pub snaps_block : ℕ
 snaps_block = 6
+
 abbrev pub cells_block : ℕ
 cells_block = 7
+
 abbrev pub far_block : ℕ
 far_block = 8
+
 abbrev pub hints_block : ℕ
 hints_block = 9
+
 abbrev pub heads_block : ℕ
 heads_block = 10
+
 abbrev pub block_of_place : ℕ → ℕ
 block_of_place p = 11 + p
 

@@ -1,5 +1,6 @@
 ghost use Rattle.std.specs.Prelude.{◌≡◌};
 
+use crate::Cell;
 use crate::word::{Part, Word};
 use clsm_model::{Deed, Members, Time};
 use std::alloc::AllocError;
@@ -29,7 +30,7 @@ pub enum Step {
     /// to the drawn cell.
     Insert(u64, u64),
     /// Store a hint.
-    StoreHint { cell: u64, hint: u64, word: u64 },
+    StoreHint { cell: Cell, hint: u64, word: u64 },
     /// compare_exchange the state of the drawn cell from empty to set or removed, as the deed
     /// writes. In an exclusive hold it records nothing.
     Decide(Time, Deed),

@@ -1,5 +1,6 @@
 ghost use Rattle.std.specs.Prelude.{◌≡◌};
 
+use crate::Cell;
 use crate::items::Items;
 use clsm_model::{CallRecord, Members, Time};
 use std::alloc::AllocError;
@@ -35,7 +36,7 @@ pub struct FreshLink {
 /// A pin reaches fewer times than there are cells, so there the cell names one time.
 #[derive(Clone, Copy, Debug)]
 pub struct Waiting {
-    pub cell: u64,
+    pub cell: Cell,
     /// How often the seat looked again after the first of them, counted up to the patience.
     pub again: u64,
 }

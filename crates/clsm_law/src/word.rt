@@ -1,3 +1,5 @@
+use crate::Cell;
+
 /// One word that the threads share.
 #[derive(Clone, Copy, PartialEq, Eq, Hash, Debug)]
 pub enum Word {
@@ -18,12 +20,12 @@ pub enum Word {
     /// The first cell of a chain, plus 1; 0 for an empty chain.
     Head { region: u64, chain: u64 },
     /// A part of a cell.
-    Cell { cell: u64, part: Part },
+    Cell { cell: Cell, part: Part },
     /// A link of the ordered lists, by its place: at 0 and 1 the first cell of each region's list,
     /// and from 2 on the cell behind the cell `place - 2`, each plus 1; 0 where none follows.
     Order(u64),
     /// One of three free words of a cell, of which nothing is said.
-    Hint { cell: u64, hint: u64 },
+    Hint { cell: Cell, hint: u64 },
     /// 0 empty, 1 cancelled, 2 set, 3 removed.
     State(u64),
     /// The number of entries in a place.

@@ -1,11 +1,11 @@
 ghost use Rattle.std.specs.Prelude.{◌≡◌};
 
-use clsm_model::{Time, Value};
+use clsm_model::{Key, Time, Value};
 
 /// A write as a run holds it.
 #[derive(Clone, Copy, PartialEq, Eq, Hash, Debug)]
 pub struct Entry {
-    pub key: u64,
+    pub key: Key,
     pub time: Time,
     /// None is a removal.
     pub value: Option<Value>,
@@ -15,7 +15,7 @@ pub struct Entry {
 /// keeps.
 #[derive(Clone, Copy, PartialEq, Eq, Debug)]
 pub struct Version {
-    pub key: u64,
+    pub key: Key,
     pub time: Time,
     pub is_removal: bool,
 }

@@ -7,8 +7,8 @@ ghost use Rattle.clsm_law.specs.SeatBounds.{IsSmallLook};
 use crate::reaches::reached_by_state;
 use crate::words::{or_zero, own_place, own_region};
 use clsm_law::{
-    EXCLUSIVE_HOLD, FreshLink, Layout, Mode, Part, REMOVAL_CELL, SnapshotState, UNDECIDED_CELL,
-    VALUE_CELL, View, Waiting, Word,
+    Cell, EXCLUSIVE_HOLD, FreshLink, Layout, Mode, Part, REMOVAL_CELL, SnapshotState,
+    UNDECIDED_CELL, VALUE_CELL, View, Waiting, Word,
 };
 use clsm_model::Time;
 
@@ -138,7 +138,7 @@ fn once_more(layout: &Layout, again: u64) -> u64
 
 /// How often the seat looked again at the cell's state, after one more look that found it
 /// undecided.
-fn again_after(layout: &Layout, waited: Option<Waiting>, cell: u64) -> u64
+fn again_after(layout: &Layout, waited: Option<Waiting>, cell: Cell) -> u64
     ensures { result ≡ again_after layout.now waited cell }
 {
     match waited {
@@ -148,7 +148,7 @@ fn again_after(layout: &Layout, waited: Option<Waiting>, cell: u64) -> u64
 }
 
 /// For which state the seat waits after a look at the cell's.
-fn waited_after(layout: &Layout, waited: Option<Waiting>, cell: u64, found: u64) -> Option<Waiting>
+fn waited_after(layout: &Layout, waited: Option<Waiting>, cell: Cell, found: u64) -> Option<Waiting>
     ensures { result ≡ waited_after layout.now waited cell found }
 {
     if found == UNDECIDED_CELL {
@@ -160,7 +160,7 @@ fn waited_after(layout: &Layout, waited: Option<Waiting>, cell: u64, found: u64)
 }
 
 /// Notes a state; a written cell of the drawn one's region stands in its list.
-fn note_state(layout: &Layout, view: &mut View, cell: u64, found: u64)
+fn note_state(layout: &Layout, view: &mut View, cell: Cell, found: u64)
     requires { cell + 1 < 2 ^ 64 }
     ensures { view.new ≡ looked layout.now view.old (Word.State cell) found }
 {
@@ -174,7 +174,7 @@ fn note_state(layout: &Layout, view: &mut View, cell: u64, found: u64)
 }
 
 /// Notes a key: the cell met last is before the drawn one, or behind it.
-fn note_key(layout: &Layout, view: &mut View, cell: u64, found: u64)
+fn note_key(layout: &Layout, view: &mut View, cell: Cell, found: u64)
     requires { cell + 1 < 2 ^ 64 }
     ensures { view.new ≡ looked layout.now view.old (Word.Cell cell Part.Key) found }
 {

@@ -3,11 +3,11 @@ ghost use Rattle.clsm_law.specs.SeatReads.{IsNextKey, IsPageOf, IsRangeBelow};
 ghost use Rattle.clsm_law.specs.Worlds.{history_of};
 
 use crate::ranges::{is_range, value_of};
-use clsm_model::{PageRange, Slot, Value};
+use clsm_model::{Key, PageRange, Slot, Value};
 
 /// Whether the rows are all keys from `lo` on, below `hi`, that have a value after the slots, by
 /// rising key.
-fn is_range_below(seen: &[Option<Slot>], lo: u64, hi: u64, rows: &[(u64, Value)]) -> bool
+fn is_range_below(seen: &[Option<Slot>], lo: Key, hi: Key, rows: &[(u64, Value)]) -> bool
     ensures { IsTrue result ↔ IsRangeBelow (history_of seen.now) (length seen.now) lo hi rows.now }
 {
     if hi == 0 {
@@ -24,7 +24,7 @@ fn is_last_page(seen: &[Option<Slot>], asked: PageRange, rows: &[(u64, Value)]) 
     rows.len() as u64 <= asked.max && is_range(seen, asked.from, asked.hi, rows)
 }
 
-fn is_next_key(seen: &[Option<Slot>], from: u64, hi: u64, key: u64) -> bool
+fn is_next_key(seen: &[Option<Slot>], from: u64, hi: Key, key: Key) -> bool
     ensures { IsTrue result ↔ IsNextKey (history_of seen.now) (length seen.now) from hi key }
 {
     from <= key && key <= hi && value_of(seen, key).is_some()

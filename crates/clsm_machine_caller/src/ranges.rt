@@ -4,10 +4,10 @@ ghost use Rattle.clsm_model.specs.Map.{IsRange, KeysRise, value_at};
 ghost use Rattle.clsm_law.specs.SeatReads.{Gives, IsGivenRow, IsGivenWrite};
 ghost use Rattle.clsm_law.specs.Worlds.{history_of};
 
-use clsm_model::{Slot, Value};
+use clsm_model::{Key, Slot, Value};
 
 /// The value of the key after all these slots.
-pub(crate) fn value_of(seen: &[Option<Slot>], key: u64) -> Option<Value>
+pub(crate) fn value_of(seen: &[Option<Slot>], key: Key) -> Option<Value>
     ensures { result ≡ value (history_of seen.now) key (length seen.now) }
 {
     let mut value = None;
@@ -20,14 +20,14 @@ pub(crate) fn value_of(seen: &[Option<Slot>], key: u64) -> Option<Value>
 }
 
 /// Whether this is the value of the key after the slots.
-pub(crate) fn is_value(seen: &[Option<Slot>], key: u64, reply: Option<Value>) -> bool
+pub(crate) fn is_value(seen: &[Option<Slot>], key: Key, reply: Option<Value>) -> bool
     ensures { IsTrue result ↔ (reply ≡ value (history_of seen.now) key (length seen.now)) }
 {
     reply == value_of(seen, key)
 }
 
 /// What the rows give for the key.
-fn value_at(rows: &[(u64, Value)], key: u64) -> Option<Value>
+fn value_at(rows: &[(u64, Value)], key: Key) -> Option<Value>
     ensures { result ≡ value_at rows.now key }
 {
     let row = rows.iter().find(|row| key == row.0)?;
@@ -35,7 +35,7 @@ fn value_at(rows: &[(u64, Value)], key: u64) -> Option<Value>
 }
 
 /// Whether the rows give the key its value after the slots.
-fn gives(seen: &[Option<Slot>], rows: &[(u64, Value)], key: u64) -> bool
+fn gives(seen: &[Option<Slot>], rows: &[(u64, Value)], key: Key) -> bool
     ensures { IsTrue result ↔ Gives (history_of seen.now) (length seen.now) rows.now key }
 {
     is_value(seen, key, value_at(rows, key))
@@ -48,7 +48,7 @@ fn keys_rise(rows: &[(u64, Value)]) -> bool
 }
 
 /// Whether each row's key is from `lo` to `hi`, and has the row's value after the slots.
-fn is_each_row_given(seen: &[Option<Slot>], lo: u64, hi: u64, rows: &[(u64, Value)]) -> bool
+fn is_each_row_given(seen: &[Option<Slot>], lo: Key, hi: Key, rows: &[(u64, Value)]) -> bool
     ensures { IsTrue result ↔ All (IsGivenRow (history_of seen.now) (length seen.now) lo hi rows.now) rows.now }
 {
     rows.iter().all(|row| lo <= row.0 && row.0 <= hi && gives(seen, rows, row.0))
@@ -58,8 +58,8 @@ fn is_each_row_given(seen: &[Option<Slot>], lo: u64, hi: u64, rows: &[(u64, Valu
 /// to `hi`.
 fn is_given_write(
     seen: &[Option<Slot>],
-    lo: u64,
-    hi: u64,
+    lo: Key,
+    hi: Key,
     rows: &[(u64, Value)],
     slot: Option<Slot>,
 ) -> bool
@@ -71,7 +71,7 @@ fn is_given_write(
     }
 }
 
-fn is_each_write_given(seen: &[Option<Slot>], lo: u64, hi: u64, rows: &[(u64, Value)]) -> bool
+fn is_each_write_given(seen: &[Option<Slot>], lo: Key, hi: Key, rows: &[(u64, Value)]) -> bool
     ensures { IsTrue result ↔ All (IsGivenWrite (history_of seen.now) (length seen.now) lo hi rows.now) seen.now }
 {
     seen.iter()
@@ -80,7 +80,7 @@ fn is_each_write_given(seen: &[Option<Slot>], lo: u64, hi: u64, rows: &[(u64, Va
 
 /// Whether the rows are all keys from `lo` to `hi` that have a value after the slots, by rising
 /// key.
-pub(crate) fn is_range(seen: &[Option<Slot>], lo: u64, hi: u64, rows: &[(u64, Value)]) -> bool
+pub(crate) fn is_range(seen: &[Option<Slot>], lo: Key, hi: Key, rows: &[(u64, Value)]) -> bool
     ensures { IsTrue result ↔ IsRange (history_of seen.now) (length seen.now) lo hi rows.now }
 {
     keys_rise(rows)

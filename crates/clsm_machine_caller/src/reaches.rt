@@ -2,7 +2,7 @@ ghost use Rattle.std.specs.Prelude.{◌≡◌, ◌↔◌, ◌+◌, ◌<◌, ◌^
 ghost use Rattle.clsm_law.specs.Views.{IsBelow, is_below};
 ghost use Rattle.clsm_law.specs.Relation.{is_seen, reached_after, reached_by_state};
 
-use clsm_law::{Layout, View};
+use clsm_law::{Cell, Layout, View};
 use clsm_model::Time;
 
 /// Whether the bound is there, and the time is below it.
@@ -43,7 +43,7 @@ pub(crate) fn reached_after(layout: &Layout, view: &View, time: Time) -> Time
 }
 
 /// How far it reaches after a look at the state of this cell.
-pub(crate) fn reached_by_state(layout: &Layout, view: &View, cell: u64, found: u64) -> Time
+pub(crate) fn reached_by_state(layout: &Layout, view: &View, cell: Cell, found: u64) -> Time
     ensures { result ≡ reached_by_state layout.now view.now cell found }
 {
     if found != 0 && cell == layout.cell_of(view.reached) {

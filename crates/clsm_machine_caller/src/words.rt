@@ -9,7 +9,7 @@ use clsm_law::{
     CANCELLED_CELL, EXCLUSIVE_HOLD, Layout, Part, REMOVAL_CELL, Step, UNDECIDED_CELL, VALUE_CELL,
     View, Word,
 };
-use clsm_model::{Change, Deed, Slot, Time};
+use clsm_model::{Change, Deed, Key, Slot, Time};
 
 /// The number, or 0.
 pub(crate) fn or_zero(number: Option<u64>) -> u64
@@ -27,7 +27,7 @@ pub(crate) fn own_line(layout: &Layout, view: &View) -> usize
     (2 * chain + region) as usize
 }
 
-fn head_of(layout: &Layout, time: Time, key: u64) -> Word
+fn head_of(layout: &Layout, time: Time, key: Key) -> Word
     ensures { result ≡ head_of layout.now time key }
 {
     Word::Head {

@@ -7,8 +7,8 @@ ghost use Rattle.clsm_law.specs.declared.step.Step.{Step};
 
 use crate::reaches::reached_after;
 use crate::words::{or_zero, own_line};
-use clsm_law::{Layout, Mode, Part, UNDECIDED_CELL, View, Waiting};
-use clsm_model::{CallRecord, Change, Deed, Members, Time};
+use clsm_law::{Cell, Layout, Mode, Part, UNDECIDED_CELL, View, Waiting};
+use clsm_model::{CallRecord, Change, Deed, Key, Members, Time};
 use std::alloc::AllocError;
 
 /// The lock is held in this mode, and no earlier look is fresh or of this hold.
@@ -115,7 +115,7 @@ pub(crate) fn note_taking(layout: &Layout, view: &mut View, found: u64) -> Resul
 }
 
 /// Notes that the next member of a batch takes this time, and its key.
-pub(crate) fn note_stage(view: &mut View, time: Time, key: u64) -> Result<(), AllocError>
+pub(crate) fn note_stage(view: &mut View, time: Time, key: Key) -> Result<(), AllocError>
     ensures { MatchResult result
         (λ _. (z : Layout) (i x : ℕ) → view.new ≡ view_after z i view.old (Step.Stage time key) x)
         (λ _. view.new ≡ view.old) }
@@ -253,7 +253,7 @@ fn is_own(drawn: Option<Time>, time: Time) -> bool
 }
 
 /// Whether the last looks at states found this one undecided as often as the patience asks for.
-fn is_waited_for(layout: &Layout, waited: Option<Waiting>, cell: u64) -> bool
+fn is_waited_for(layout: &Layout, waited: Option<Waiting>, cell: Cell) -> bool
     ensures { result ≡ is_waited_for layout.now waited cell }
 {
     match waited {

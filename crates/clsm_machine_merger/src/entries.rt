@@ -6,14 +6,14 @@ ghost use Rattle.clsm_law.specs.Deciding.{entry_of_slot};
 
 use crate::words::word_at;
 use clsm_law::{Layout, Word};
-use clsm_model::{Slot, Time, Value};
+use clsm_model::{Key, Slot, Time, Value};
 use std::marker::Model;
 
 /// An entry whose value may have no word too: the words of a place may spell one that nobody wrote.
 /// Contracts see the entry.
 #[derive(Drop)]
 pub(crate) struct PlainEntry {
-    key: u64,
+    key: Key,
     time: Time,
     is_removal: bool,
     words: [u64; 8],
@@ -38,7 +38,7 @@ impl PlainEntry {
     ghost use Rattle.clsm_law.specs.Deciding.{IsPassedBy};
 
     /// The entry of this key, time and value.
-    fn new(key: u64, time: Time, value: Option<Value>) -> PlainEntry
+    fn new(key: Key, time: Time, value: Option<Value>) -> PlainEntry
         ensures { result ≡ record { key = key; time = time; value = value } }
     {
         let mut words = [0; 8];

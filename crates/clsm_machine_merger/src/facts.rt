@@ -6,7 +6,7 @@ ghost use Rattle.clsm_law.specs.Deciding.{IsMergerSmall};
 
 use crate::entries::part_at;
 use crate::words::{epoch_end, retired_region, target_of, word_at};
-use clsm_law::{CANCELLED_CELL, Layout, MergerView, Word};
+use clsm_law::{CANCELLED_CELL, Cell, Layout, MergerView, Word};
 
 /// Whether the undrawn cells of the epoch are cancelled.
 pub(crate) fn is_padded(layout: &Layout, words: &[u64], merger: &MergerView) -> bool
@@ -48,7 +48,7 @@ pub(crate) fn is_orderless(layout: &Layout, words: &[u64], merger: &MergerView) 
 }
 
 /// Whether the states of the retired region are 0, except that of this cell.
-pub(crate) fn is_last(layout: &Layout, words: &[u64], merger: &MergerView, cell: u64) -> bool
+pub(crate) fn is_last(layout: &Layout, words: &[u64], merger: &MergerView, cell: Cell) -> bool
     requires size { length words.now ≡ size_of layout.now }
     requires small { IsMergerSmall layout.now merger.now }
     ensures { result ≡ is_last layout.now (memory layout.now words.now) merger.now cell }

@@ -13,7 +13,7 @@ use crate::facts::{is_headless, is_orderless, is_padded, is_target_canonical};
 use crate::phases::{is_clean, is_frozen, is_retired};
 use crate::sources::Merge;
 use crate::words::{epoch_end, retired_region, target_of, word_at};
-use clsm_law::{Items, LAST_LIMIT, Layout, MergerView, Reader, Step, Word, is_named};
+use clsm_law::{Cell, Items, LAST_LIMIT, Layout, MergerView, Reader, Step, Word, is_named};
 use clsm_model::{Slot, Time};
 
 fn is_all_quiet(readers: &Items<Reader>) -> bool
@@ -65,7 +65,7 @@ fn is_let_go(merger: &MergerView) -> bool
 }
 
 /// Whether the cell is one of the retired region.
-fn is_retired_cell(layout: &Layout, merger: &MergerView, cell: u64) -> bool
+fn is_retired_cell(layout: &Layout, merger: &MergerView, cell: Cell) -> bool
     requires { IsMergerSmall layout.now merger.now }
     ensures { IsTrue result ↔ ((cell < 2 * layout.now.cells) × (region_of layout.now cell ≡ retired_region merger.now)) }
 {

@@ -4,7 +4,7 @@ ghost use Rattle.clsm_words.specs.Plays.{IsSeatOf};
 ghost use Rattle.clsm_memtable.specs.Filling.{Fills, FillsParts, MayFill};
 
 use clsm_law::Part;
-use clsm_model::{Time, Value};
+use clsm_model::{Key, Time, Value};
 use clsm_words::{Pace, RawSeat, Words};
 
 /// Fills the words of the value into the drawn cell.
@@ -25,7 +25,7 @@ pub(crate) fn fill_words<P: Pace>(words: &Words<P>, seat: &mut RawSeat, time: Ti
 
 /// Fills the parts of the drawn cell, except its next.
 #[inline(always)]
-fn fill_cell<P: Pace>(words: &Words<P>, seat: &mut RawSeat, time: Time, key: u64, value: &[u64])
+fn fill_cell<P: Pace>(words: &Words<P>, seat: &mut RawSeat, time: Time, key: Key, value: &[u64])
     requires { MayFill words.now seat.old time (length value.now) }
     ensures of { IsSeatOf words.now seat.new }
     ensures filled { FillsParts seat.old.knows seat.new.knows }
@@ -48,7 +48,7 @@ pub fn fill<P: Pace>(
     words: &Words<P>,
     seat: &mut RawSeat,
     time: Time,
-    key: u64,
+    key: Key,
     value: Option<&Value>,
 )
     requires of { IsSeatOf words.now seat.old }

@@ -2,6 +2,7 @@ ghost use Rattle.std.specs.Prelude.{◌≡◌, ℕ, ◌+◌, ◌≤◌, [], leng
 ghost use Rattle.clsm_model.specs.History.{History, plain, slot_at, end_of};
 ghost use Rattle.clsm_model.specs.Map.{AddsKey, IsMap, IsRange, Applies, WritesKey, between, value_at};
 
+use crate::Key;
 use crate::slot::Slot;
 use crate::value::Value;
 use std::alloc::{AllocError, Global};
@@ -78,7 +79,7 @@ impl PlainMap {
         }
     }
 
-    fn write(&mut self, key: u64, written: Option<Value>) -> Result<(), Memory>
+    fn write(&mut self, key: Key, written: Option<Value>) -> Result<(), Memory>
         ensures writes { OnOk result (WritesKey key written self.old self.new) }
         ensures refused { OnErr result (IsSome written × (value_at self.old key ≡ None)) }
         ensures unchanged { OnErr result (self.new ≡ self.old) }
@@ -94,7 +95,7 @@ impl PlainMap {
     }
 
     /// The value of the key, if it has one.
-    pub fn get(&self, key: u64) -> Option<Value>
+    pub fn get(&self, key: Key) -> Option<Value>
         ensures { result ≡ value_at self.now key }
     {
         self.values.get(&key).copied()
@@ -103,7 +104,7 @@ impl PlainMap {
     /// All pairs with `lo <= key <= hi` by rising key; none where `lo > hi`. Refused if memory
     /// runs out. Of the map of a history below a time they are all keys from `lo` to `hi` with a
     /// value below that time. It costs a search and the pairs.
-    pub fn range(&self, lo: u64, hi: u64) -> Result<Vec<(u64, Value)>, Memory>
+    pub fn range(&self, lo: Key, hi: Key) -> Result<Vec<(u64, Value)>, Memory>
         ensures rows { IfOk result (λ rows. rows.items ≡ between lo hi self.now) }
         ensures history { IfOk result (λ rows.
             (h : History) (s : ℕ) → IsMap h s self.now → IsRange h s lo hi rows.items) }

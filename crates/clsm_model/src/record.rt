@@ -1,31 +1,31 @@
 ghost use Rattle.std.specs.Prelude.{◌≡◌};
 
-use crate::Time;
 use crate::members::Members;
 use crate::page_range::PageRange;
 use crate::rows::Rows;
 use crate::slot::Change;
 use crate::value::Value;
+use crate::{Key, Time};
 use std::alloc::AllocError;
 
 /// What a call did, with its arguments and its answer.
 #[derive(Clone, PartialEq, Eq, Hash, Drop, Debug)]
 pub enum Deed {
     Put {
-        key: u64,
+        key: Key,
         value: Value,
     },
     Remove {
-        key: u64,
+        key: Key,
     },
     /// A read of `old` and then the change: with `Keep` it is a read alone.
     Rmw {
-        key: u64,
+        key: Key,
         old: Option<Value>,
         change: Change,
     },
     Get {
-        key: u64,
+        key: Key,
         reply: Option<Value>,
     },
     /// The opening of a snapshot, and its close.
@@ -33,13 +33,13 @@ pub enum Deed {
     Close,
     /// A read at the open snapshot.
     GetAt {
-        key: u64,
+        key: Key,
         reply: Option<Value>,
     },
     /// All pairs with `lo <= key <= hi`, by rising key.
     Scan {
-        lo: u64,
-        hi: u64,
+        lo: Key,
+        hi: Key,
         rows: Rows,
     },
     /// The pairs of the range, and the key of the next pair, if there is one.

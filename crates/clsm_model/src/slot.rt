@@ -1,5 +1,6 @@
 ghost use Rattle.std.specs.Prelude.{◌≡◌};
 
+use crate::Key;
 use crate::value::Value;
 
 /// What a timestamp came to: nothing, or a write. A write without a value is a removal.
@@ -10,7 +11,7 @@ pub enum Slot {
     /// The write of `key` by the seat with this number.
     Wrote {
         seat: u32,
-        key: u64,
+        key: Key,
         value: Option<Value>,
     },
 }
@@ -19,7 +20,7 @@ impl Slot {
     ghost use Rattle.clsm_model.specs.Map.{value_after};
 
     /// What the slot leaves at the key, where its value was `before`.
-    pub fn value_after(&self, key: u64, before: Option<Value>) -> Option<Value>
+    pub fn value_after(&self, key: Key, before: Option<Value>) -> Option<Value>
         ensures { result ≡ value_after self.now key before }
     {
         match *self {

@@ -6,7 +6,7 @@ use crate::place::{Place, Setting, Stage};
 use crate::runs::search;
 use crate::scanning::{Keys, rows_below};
 use clsm_law::{End, Layout, Step, Word};
-use clsm_model::{Change, Deal, Deed, Time, Value};
+use clsm_model::{Change, Deal, Deed, Key, Time, Value};
 use std::alloc::Global;
 
 /// The value of the key below the time: by the cells of the component's epochs, and else by its
@@ -16,7 +16,7 @@ fn value_below(
     layout: &Layout,
     component: u64,
     time: Time,
-    key: u64,
+    key: Key,
 ) -> Result<Option<Value>, Stop> {
     if let Some(written) = newest(made, layout, component, time, key)? {
         return value_at(made, layout, written);

@@ -3,7 +3,7 @@
 use crate::made::{Made, Stop};
 use clsm_law::{Word, level_one_place};
 use clsm_levels::{Entry, level_zero_runs};
-use clsm_model::{Time, Value};
+use clsm_model::{Key, Time, Value};
 
 /// The parts of an entry: its key, twice its time and 1 more for a removal, the number of its
 /// value's words, and the first of these.
@@ -31,7 +31,7 @@ fn value_in(made: &mut Made, place: u64, entry: u64) -> Result<Option<Value>, St
 }
 
 /// The entry of this key with this time word.
-fn entry_in(made: &mut Made, place: u64, entry: u64, key: u64, stamp: u64) -> Result<Entry, Stop> {
+fn entry_in(made: &mut Made, place: u64, entry: u64, key: Key, stamp: u64) -> Result<Entry, Stop> {
     let value = if stamp % 2 == 1 {
         None
     } else {
@@ -45,8 +45,8 @@ fn entry_in(made: &mut Made, place: u64, entry: u64, key: u64, stamp: u64) -> Re
 fn first_of(
     made: &mut Made,
     place: u64,
-    lo: u64,
-    hi: u64,
+    lo: Key,
+    hi: Key,
     until: Time,
 ) -> Result<Option<Entry>, Stop> {
     let count = made.look(Word::Count(place))?;
@@ -71,8 +71,8 @@ fn first_of(
 pub(crate) fn search(
     made: &mut Made,
     component: u64,
-    lo: u64,
-    hi: u64,
+    lo: Key,
+    hi: Key,
     until: Time,
 ) -> Result<Option<Entry>, Stop> {
     let mut least = first_of(made, level_one_place(component), lo, hi, until)?;

@@ -5,14 +5,14 @@ use crate::place::Place;
 use crate::runs::search;
 use clsm_law::{Layout, Part, Word};
 use clsm_levels::Entry;
-use clsm_model::{Rows, Time, Value};
+use clsm_model::{Key, Rows, Time, Value};
 use std::alloc::{AllocError, Global};
 
 /// The keys from `lo` to `hi`.
 #[derive(Clone, Copy)]
 pub(crate) struct Keys {
-    pub(crate) lo: u64,
-    pub(crate) hi: u64,
+    pub(crate) lo: Key,
+    pub(crate) hi: Key,
 }
 
 /// Puts the entry behind those of its key and of lesser keys.
@@ -82,7 +82,7 @@ fn next_entry(
 /// Puts the row behind the others, if it has a value.
 fn push_row(
     rows: &mut Vec<(u64, Value)>,
-    key: u64,
+    key: Key,
     value: Option<Value>,
 ) -> Result<(), AllocError> {
     if let Some(value) = value {

@@ -3,7 +3,7 @@ use crate::deal::{is_batch, is_change};
 use crate::made::{Made, Stop};
 use crate::place::{Place, Setting, Stage};
 use clsm_law::{EXCLUSIVE_HOLD, End, Layout, Part, Step, Word};
-use clsm_model::{Deed, Time, Value};
+use clsm_model::{Deed, Key, Time, Value};
 
 /// Fills the length and the words of the drawn cell.
 fn fill_value(made: &mut Made, value: Option<&Value>) -> Result<(), Stop> {
@@ -19,7 +19,7 @@ fn fill_value(made: &mut Made, value: Option<&Value>) -> Result<(), Stop> {
 }
 
 /// The head of the chain of the key and the time's region.
-fn head_of(layout: &Layout, time: Time, key: u64) -> Word {
+fn head_of(layout: &Layout, time: Time, key: Key) -> Word {
     let region = layout.region_of(layout.cell_of(time));
     let chain = key % layout.chains;
     Word::Head { region, chain }

@@ -9,13 +9,13 @@ ghost use Rattle.clsm_runs.specs.Searching.{HasEntry, IsPosition, IsSearchable, 
 
 use crate::entry::{HeldEntry, HeldRun, KEY, TIME, count};
 use crate::side::{Side, Span, Turn, slope};
-use clsm_model::{Time, Value};
+use clsm_model::{Key, Time, Value};
 use clsm_words::{Guide, Pace, RawSeat, Words, load_into};
 
 /// What a search is for: the newest version of the key with a time below `until`.
 #[derive(Clone, Copy)]
 pub struct Wanted {
-    pub key: u64,
+    pub key: Key,
     pub until: Time,
 }
 

@@ -11,7 +11,7 @@ ghost use Rattle.clsm_runs.specs.Searching.{run_at};
 
 use crate::entry::{HeldEntry, HeldRun, KEY, TIME, count};
 use crate::finding::Wanted;
-use clsm_model::{Time, Value};
+use clsm_model::{Key, Time, Value};
 use clsm_words::{Pace, RawSeat, Words, load_value, load_word};
 
 /// How far a passage of a run has come: to the entry at the position, of so many; and whether all
@@ -36,7 +36,7 @@ impl Passage {
 #[derive(Clone, Copy)]
 pub struct Passed {
     number: u64,
-    pub key: u64,
+    pub key: Key,
 }
 
 /// The versions that a passage seeks: those below `until` of the keys from `from` on.

@@ -1,6 +1,7 @@
 //! Where an entry stands in its run, and where the one that is sought may still be.
 ghost use Rattle.std.specs.Prelude.{◌≡◌, ◌<◌, ◌≤◌, None};
 
+use clsm_model::Key;
 use clsm_words::{Guide, RawSeat};
 use std::num::{nearest_u64_to_f64, saturating_f64_to_u64};
 
@@ -108,7 +109,7 @@ impl Span {
 
     /// The entry to look at next.
     #[inline(always)]
-    pub(crate) fn next(&self, key: u64, turn: Turn) -> u64
+    pub(crate) fn next(&self, key: Key, turn: Turn) -> u64
         requires { self.now.low < self.now.high }
         ensures { (self.now.low ≤ result) × (result < self.now.high) }
     {

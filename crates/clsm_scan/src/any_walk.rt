@@ -7,6 +7,7 @@ use crate::run_cursor::RunCursor;
 use crate::sink::Sink;
 use crate::source::Source;
 use crate::walk::Walk;
+use clsm_model::Key;
 use clsm_words::{Pace, RawSeat, Words};
 
 /// A walk along an epoch or a run of the held component.
@@ -54,7 +55,7 @@ impl Source for AnyWalk {
 
 impl Walk for AnyWalk {
     #[inline(always)]
-    fn seek<P: Pace>(&mut self, words: &Words<P>, seat: &mut RawSeat, key: u64) {
+    fn seek<P: Pace>(&mut self, words: &Words<P>, seat: &mut RawSeat, key: Key) {
         match self {
             AnyWalk::AlongEpoch(walk) => walk.seek(words, seat, key),
             AnyWalk::AlongRun(walk) => walk.seek(words, seat, key),

@@ -6,7 +6,7 @@ ghost use Rattle.clsm_scan.specs.Collected.{IsCollected, IsNextKey, is_full, lef
 ghost use Rattle.clsm_scan.specs.Reading.{HasReadTo, MayReadFrom};
 
 use crate::cursor::Cursor;
-use clsm_model::{Memory, Value};
+use clsm_model::{Key, Memory, Value};
 use clsm_words::{Pace, RawSeat, Words};
 use std::alloc::Global;
 
@@ -16,8 +16,8 @@ const FEW: usize = 16;
 /// The keys from `lo` to `hi`, and how many pairs of them at most, where that is given.
 #[derive(Clone, Copy)]
 pub struct KeyRange {
-    pub lo: u64,
-    pub hi: u64,
+    pub lo: Key,
+    pub hi: Key,
     pub max: Option<usize>,
 }
 
@@ -35,7 +35,7 @@ pub(crate) fn next_key<C: Cursor, P: Pace>(
     seat: &mut RawSeat,
     cursor: &mut C,
     from: u64,
-    hi: u64,
+    hi: Key,
 ) -> Option<u64>
     requires stands { MayReadFrom C.is_over C.stands words.now seat.old cursor.old from }
     ensures of { IsSeatOf words.now seat.new }

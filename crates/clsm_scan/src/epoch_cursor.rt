@@ -12,7 +12,7 @@ ghost use Rattle.clsm_scan.specs.Walking.{IsWriteAt, found_on, spot_entry, spot_
 use crate::sink::Sink;
 use crate::source::Source;
 use crate::walk::Walk;
-use clsm_model::Value;
+use clsm_model::{Key, Value};
 use clsm_search::Epoch;
 use clsm_words::{Pace, RawSeat, Spot, Words};
 
@@ -108,7 +108,7 @@ impl Source for EpochCursor {
 }
 
 impl Walk for EpochCursor {
-    fn seek<P: Pace>(&mut self, words: &Words<P>, seat: &mut RawSeat, key: u64) {
+    fn seek<P: Pace>(&mut self, words: &Words<P>, seat: &mut RawSeat, key: Key) {
         self.ahead = self.epoch.seek(words, seat, key);
         self.last = None;
     }

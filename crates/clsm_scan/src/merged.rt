@@ -14,6 +14,7 @@ use crate::sink::Sink;
 use crate::source::Source;
 use crate::walk::Walk;
 use arrayvec::ArrayVec;
+use clsm_model::Key;
 use clsm_runs::HeldRun;
 use clsm_words::{Pace, RawSeat, Words};
 
@@ -21,7 +22,7 @@ use clsm_words::{Pace, RawSeat, Words};
 #[derive(Clone, Copy)]
 pub struct Stream {
     walk: AnyWalk,
-    key: u64,
+    key: Key,
 }
 
 /// What stands in an unused place.
@@ -39,7 +40,7 @@ impl Default for Stream {
 impl Stream {
     /// Goes on to the next write with a key from `from` on: whether there is one up to `hi`.
     #[inline(always)]
-    fn go_on<P: Pace>(&mut self, words: &Words<P>, seat: &mut RawSeat, from: u64, hi: u64) -> bool
+    fn go_on<P: Pace>(&mut self, words: &Words<P>, seat: &mut RawSeat, from: u64, hi: Key) -> bool
         requires of { IsSeatOf words.now seat.old }
         requires over { any_over seat.old.knows self.old.walk }
         requires stands { any_stands seat.old.knows self.old.walk from }
@@ -67,7 +68,7 @@ pub struct Merged {
     /// The place of the first walk of those that came by the least key.
     lead: usize,
     /// The greatest key.
-    hi: u64,
+    hi: Key,
 }
 
 /// The first place among those of the streams with the least key.
@@ -101,7 +102,7 @@ fn key_at(streams: &[Stream], at: usize) -> Option<u64>
 impl Merged {
     /// No walk, of which keys up to `hi` are wanted.
     #[inline(always)]
-    pub(crate) fn new(hi: u64) -> Merged
+    pub(crate) fn new(hi: Key) -> Merged
         ensures none { result.streams.items ≡ [] }
         ensures hi { result.hi ≡ hi }
     {
@@ -119,7 +120,7 @@ impl Merged {
         words: &Words<P>,
         seat: &mut RawSeat,
         walk: Option<AnyWalk>,
-        lo: u64,
+        lo: Key,
     )
         requires merges { IsMerging words.now seat.old lo self.old }
         requires room { length self.old.streams.items < 6 }

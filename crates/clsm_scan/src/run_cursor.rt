@@ -15,7 +15,7 @@ ghost use Rattle.clsm_scan.specs.Walking.{found_in_run_on, passed_on, passed_sam
 use crate::sink::Sink;
 use crate::source::Source;
 use crate::walk::Walk;
-use clsm_model::{Time, Value};
+use clsm_model::{Key, Time, Value};
 use clsm_runs::{HeldRun, Passage, Passed, Sought};
 use clsm_words::{Pace, RawSeat, Words};
 
@@ -126,7 +126,7 @@ impl Source for RunCursor {
 }
 
 impl Walk for RunCursor {
-    fn seek<P: Pace>(&mut self, words: &Words<P>, seat: &mut RawSeat, key: u64) {
+    fn seek<P: Pace>(&mut self, words: &Words<P>, seat: &mut RawSeat, key: Key) {
         let until = self.until;
         let sought = Sought { from: key, until };
         self.passage = self.run.seek(words, seat, sought);

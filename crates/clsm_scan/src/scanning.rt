@@ -14,7 +14,7 @@ use crate::run_cursor::RunCursor;
 use crate::visiting::{Bounds, KeyCount, Visitor, visit_keys};
 use clsm_law::level_one_place;
 use clsm_levels::level_zero_runs;
-use clsm_model::{Memory, Time};
+use clsm_model::{Key, Memory, Time};
 use clsm_runs::HeldRun;
 use clsm_search::Epoch;
 use clsm_words::{Pace, RawSeat, Words};
@@ -69,7 +69,7 @@ pub struct ReadPoint {
 impl Merged {
     /// Adds the walks along the component's epochs from the key on, the later one first.
     #[inline(always)]
-    fn add_epochs<P: Pace>(&mut self, words: &Words<P>, seat: &mut RawSeat, at: ReadPoint, key: u64)
+    fn add_epochs<P: Pace>(&mut self, words: &Words<P>, seat: &mut RawSeat, at: ReadPoint, key: Key)
         requires of { IsSeatOf words.now seat.old }
         requires may { MayScan seat.old.knows at.component at.until }
         requires none { self.old.streams.items ≡ [] }
@@ -90,7 +90,7 @@ impl Merged {
 
     /// Adds the walks along the component's runs from the key on, the newest first.
     #[inline(always)]
-    fn add_runs<P: Pace>(&mut self, words: &Words<P>, seat: &mut RawSeat, at: ReadPoint, key: u64)
+    fn add_runs<P: Pace>(&mut self, words: &Words<P>, seat: &mut RawSeat, at: ReadPoint, key: Key)
         requires merges { IsMerging words.now seat.old key self.old }
         requires held { seat.old.knows.view.held ≡ Some at.component }
         requires room { length self.old.streams.items ≤ 2 }
@@ -106,7 +106,7 @@ impl Merged {
 
     /// Adds the walks along all that the point reads, from the key on.
     #[inline]
-    fn add_all<P: Pace>(&mut self, words: &Words<P>, seat: &mut RawSeat, at: ReadPoint, key: u64)
+    fn add_all<P: Pace>(&mut self, words: &Words<P>, seat: &mut RawSeat, at: ReadPoint, key: Key)
         requires of { IsSeatOf words.now seat.old }
         requires may { MayScan seat.old.knows at.component at.until }
         requires none { self.old.streams.items ≡ [] }

@@ -2,7 +2,7 @@
 ghost use Rattle.std.specs.Prelude.{◌≡◌, ◌∷◌, ◌++◌, [], OnOk};
 ghost use Rattle.clsm_model.specs.Map.{Pair};
 
-use clsm_model::{Memory, Value};
+use clsm_model::{Key, Memory, Value};
 
 /// What takes the rows that a source gives, one at a time.
 pub trait Sink {
@@ -14,7 +14,7 @@ pub trait Sink {
     ghost is_ready: { Self → Type 0 };
 
     /// Takes the row of this key.
-    fn take(&mut self, key: u64, value: Value) -> Self::Reply
+    fn take(&mut self, key: Key, value: Value) -> Self::Reply
         requires { is_ready self.old }
         ensures ready { is_ready self.new }
         ensures takes { takes self.old (key, value) result self.new };
@@ -29,7 +29,7 @@ impl Sink for Vec<(u64, Value)> {
     ghost is_ready = { λ rows. Unit {0} };
 
     #[inline(always)]
-    fn take(&mut self, key: u64, value: Value) -> Result<(), Memory> {
+    fn take(&mut self, key: Key, value: Value) -> Result<(), Memory> {
         let pushed = match value.words() {
             // (one word is written where it stays, and not copied with the room for others)
             [word] => self.push((key, Value::from(*word))),

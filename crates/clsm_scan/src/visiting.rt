@@ -11,14 +11,14 @@ use crate::collecting::next_key;
 use crate::cursor::Cursor;
 use crate::sink::Sink;
 use crate::source::Source;
-use clsm_model::Value;
+use clsm_model::{Key, Value};
 use clsm_words::{Pace, RawSeat, Words};
 
 /// The keys from `lo` to `hi`.
 #[derive(Clone, Copy)]
 pub struct Bounds {
-    pub lo: u64,
-    pub hi: u64,
+    pub lo: Key,
+    pub hi: Key,
 }
 
 /// How many keys of a range have a value, and the first of them.
@@ -74,7 +74,7 @@ impl<F: FnMut(u64, Value)> Sink for Calling<'_, F> {
     ghost is_ready = { λ sink. F.IsAlwaysCallable sink.call.now };
 
     #[inline(always)]
-    fn take(&mut self, key: u64, value: Value) {
+    fn take(&mut self, key: Key, value: Value) {
         (self.call)(key, value);
     }
 }

@@ -7,12 +7,13 @@ ghost use Rattle.clsm_scan.specs.Heads.{key_of};
 ghost use Rattle.clsm_scan.specs.Reading.{MayReadFrom};
 
 use crate::source::Source;
+use clsm_model::Key;
 use clsm_words::{Pace, RawSeat, Words};
 
 /// A walk along writes of a held component, which passes each write once.
 pub trait Walk: Source {
     /// Goes to the key: what it comes by from there on is still ahead.
-    fn seek<P: Pace>(&mut self, words: &Words<P>, seat: &mut RawSeat, key: u64)
+    fn seek<P: Pace>(&mut self, words: &Words<P>, seat: &mut RawSeat, key: Key)
         requires of { IsSeatOf words.now seat.old }
         requires over { Self.is_over seat.old.knows self.old }
         ensures of { IsSeatOf words.now seat.new }

@@ -3,7 +3,7 @@ ghost use Rattle.std.specs.Prelude.{◌≡◌, ◌∷◌, [], IfOk, IfSome, OnOk
 ghost use Rattle.clsm_model.specs.declared.record.Deed.TheVariants.{Get};
 ghost use Rattle.clsm_script.specs.Kept.{GainsRecord, KeepsCall, record_of};
 
-use clsm_model::{CallRecord, Deed, Time, Value};
+use clsm_model::{CallRecord, Deed, Key, Time, Value};
 use clsm_store::{Answer, Call, Got};
 use std::alloc::{AllocError, Global};
 use std::marker::Model;
@@ -15,21 +15,21 @@ enum Kept {
     Put {
         seat: u32,
         time: Time,
-        key: u64,
+        key: Key,
         word: u64,
     },
     /// A get that found one word.
     Found {
         seat: u32,
         time: Time,
-        key: u64,
+        key: Key,
         word: u64,
     },
     /// A get that found nothing.
     Absent {
         seat: u32,
         time: Time,
-        key: u64,
+        key: Key,
     },
     Other(Box<CallRecord>),
 }
@@ -67,7 +67,7 @@ impl Kept {
     }
 
     /// What is kept of a get of at most one word.
-    fn of_get(seat: u32, key: u64, got: &Got) -> Option<Kept>
+    fn of_get(seat: u32, key: Key, got: &Got) -> Option<Kept>
         ensures { IfSome result (λ kept. record_of kept ≡
             record { seat = seat; time = got.now.time; deed = Get key got.now.value }) }
     {

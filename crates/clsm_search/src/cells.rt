@@ -9,8 +9,8 @@ ghost use Rattle.clsm_law.specs.declared.word.Part.TheVariants.{Key};
 ghost use Rattle.clsm_search.specs.Searching.{IsFoundTime, IsKnownTime, is_write, slot_in, value_in};
 ghost use Rattle.clsm_search.specs.Staying.{known_stays, slot_stays};
 
-use clsm_law::{Part, Word};
-use clsm_model::{Time, Value};
+use clsm_law::{Cell, Part, Word};
+use clsm_model::{Key, Time, Value};
 use clsm_words::{Load, Pace, RawSeat, Words, load_into};
 
 /// The cell of a time that the seat knows, of a component that it holds.
@@ -18,7 +18,7 @@ use clsm_words::{Load, Pace, RawSeat, Words, load_into};
 pub(crate) struct KnownCell {
     pub(crate) component: u64,
     pub(crate) time: Time,
-    pub(crate) cell: u64,
+    pub(crate) cell: Cell,
 }
 
 /// What the state of the time's cell is.
@@ -52,7 +52,7 @@ impl KnownCell {
 
     /// Whether the time is a write of the key.
     #[inline(always)]
-    pub(crate) fn is_write<P: Pace>(&self, words: &Words<P>, seat: &mut RawSeat, key: u64) -> bool
+    pub(crate) fn is_write<P: Pace>(&self, words: &Words<P>, seat: &mut RawSeat, key: Key) -> bool
         requires of { IsSeatOf words.now seat.old }
         requires known { IsKnownTime seat.old.knows self.now.component self.now.time self.now.cell }
         ensures of { IsSeatOf words.now seat.new }

@@ -12,14 +12,14 @@ ghost use Rattle.clsm_search.specs.Searching.{slot_in, value_in};
 ghost use Rattle.clsm_search.specs.Frozen.{IsEntryAt, IsFrozenTime, IsKeyOf, IsOfFrozen, IsVersionOf};
 ghost use Rattle.clsm_search.specs.Staying.{frozen_stays, slot_on};
 
-use clsm_law::{Part, Word};
+use clsm_law::{Cell, Part, Word};
 use clsm_levels::Version;
 use clsm_model::{Time, Value};
 use clsm_words::{Load, Pace, RawMerger, Words, load_value};
 
 /// What the state of the time's cell is.
 #[inline]
-fn state<P: Pace>(words: &Words<P>, merger: &mut RawMerger, time: Time, cell: u64) -> u64
+fn state<P: Pace>(words: &Words<P>, merger: &mut RawMerger, time: Time, cell: Cell) -> u64
     requires of { IsSeatOf words.now merger.old }
     requires frozen { IsFrozenTime merger.old.knows time cell }
     ensures of { IsSeatOf words.now merger.new }
@@ -32,7 +32,13 @@ fn state<P: Pace>(words: &Words<P>, merger: &mut RawMerger, time: Time, cell: u6
 
 /// What this part of the time's cell is.
 #[inline]
-fn part<P: Pace>(words: &Words<P>, merger: &mut RawMerger, time: Time, cell: u64, part: Part) -> u64
+fn part<P: Pace>(
+    words: &Words<P>,
+    merger: &mut RawMerger,
+    time: Time,
+    cell: Cell,
+    part: Part,
+) -> u64
     requires of { IsSeatOf words.now merger.old }
     requires frozen { IsFrozenTime merger.old.knows time cell }
     requires there { is_part part ≡ true }
@@ -48,7 +54,7 @@ fn part<P: Pace>(words: &Words<P>, merger: &mut RawMerger, time: Time, cell: u64
 #[derive(Clone, Copy)]
 struct FrozenCell {
     time: Time,
-    cell: u64,
+    cell: Cell,
 }
 
 impl Load<RawMerger> for FrozenCell {

@@ -12,8 +12,8 @@ ghost use Rattle.clsm_search.specs.Versions.{IsNewestVersion};
 use crate::cells::KnownCell;
 use crate::list::Epoch;
 use crate::versions::{FEW, Listed, PILE, Unsure};
-use clsm_law::{Part, Word};
-use clsm_model::Time;
+use clsm_law::{Cell, Part, Word};
+use clsm_model::{Key, Time};
 use clsm_words::{Pace, RawSeat, Words};
 
 /// What a list tells of the newest write of a key: its time, where there is one.
@@ -33,7 +33,7 @@ fn is_later(best: Option<Time>, time: Time) -> bool
 #[derive(Clone, Copy)]
 struct ChainWalk {
     epoch: Epoch,
-    key: u64,
+    key: Key,
     /// The place of the next cell, or 0 at the chain's end.
     next: u64,
     /// The newest write of the key among the cells that were passed.
@@ -42,7 +42,7 @@ struct ChainWalk {
 
 /// What the next of the cell is, on whose time the seat's walk stands.
 #[inline(always)]
-fn next_of<P: Pace>(words: &Words<P>, seat: &mut RawSeat, cell: u64) -> u64
+fn next_of<P: Pace>(words: &Words<P>, seat: &mut RawSeat, cell: Cell) -> u64
     requires of { IsSeatOf words.now seat.old }
     requires held { seat.old.knows.view.held ≢ None }
     requires inside { cell < 2 * seat.old.knows.layout.cells }
@@ -59,7 +59,7 @@ impl ChainWalk {
     /// The best so far, or the time of this cell in the epoch, where that is below the epoch's
     /// bound, later, and a write of the key.
     #[inline(always)]
-    fn better<P: Pace>(&self, words: &Words<P>, seat: &mut RawSeat, cell: u64) -> Option<Time>
+    fn better<P: Pace>(&self, words: &Words<P>, seat: &mut RawSeat, cell: Cell) -> Option<Time>
         requires walks { IsWalking words.now seat.old self.now }
         requires place { cell_of seat.old.knows.layout (self.now.epoch.first + cell % seat.old.knows.layout.cells) ≡ cell }
         ensures looks { LooksOn words.now seat.old seat.new }
@@ -240,7 +240,7 @@ impl ChainWalk {
 impl Epoch {
     /// The walk that begins at the head of the key's chain in the epoch, which is begun.
     #[inline(always)]
-    fn walk_of<P: Pace>(&self, words: &Words<P>, seat: &mut RawSeat, key: u64) -> ChainWalk
+    fn walk_of<P: Pace>(&self, words: &Words<P>, seat: &mut RawSeat, key: Key) -> ChainWalk
         requires of { IsSeatOf words.now seat.old }
         requires may { MayWalk seat.old.knows self.now }
         requires begun { self.now.first < self.now.until }
@@ -262,7 +262,7 @@ impl Epoch {
 
     /// The time of the newest write of the key in the epoch, which is begun.
     #[inline(always)]
-    fn newest_time<P: Pace>(&self, words: &Words<P>, seat: &mut RawSeat, key: u64) -> Option<Time>
+    fn newest_time<P: Pace>(&self, words: &Words<P>, seat: &mut RawSeat, key: Key) -> Option<Time>
         requires of { IsSeatOf words.now seat.old }
         requires may { MayWalk seat.old.knows self.now }
         requires begun { self.now.first < self.now.until }
@@ -276,7 +276,7 @@ impl Epoch {
 
     /// The time of the newest write of the key in the epoch, which may begin behind its bound.
     #[inline(always)]
-    fn newest_in<P: Pace>(&self, words: &Words<P>, seat: &mut RawSeat, key: u64) -> Option<Time>
+    fn newest_in<P: Pace>(&self, words: &Words<P>, seat: &mut RawSeat, key: Key) -> Option<Time>
         requires of { IsSeatOf words.now seat.old }
         requires held { seat.old.knows.view.held ≡ Some self.now.component }
         requires within { self.now.until ≤ self.now.first + seat.old.knows.layout.cells }
@@ -303,7 +303,7 @@ pub fn newest<P: Pace>(
     words: &Words<P>,
     seat: &mut RawSeat,
     component: u64,
-    key: u64,
+    key: Key,
     until: Time,
 ) -> Option<Time>
     requires of { IsSeatOf words.now seat.old }

@@ -5,13 +5,13 @@ ghost use Rattle.clsm_words.specs.Plays.{IsSeatOf};
 ghost use Rattle.clsm_search.specs.Spans.{IsWrittenIn};
 
 use crate::cells::KnownCell;
-use clsm_model::Time;
+use clsm_model::{Key, Time};
 use clsm_words::{Pace, RawSeat, Words};
 
 /// A key, and the times from `from` on and below `until`.
 #[derive(Clone, Copy)]
 pub struct Span {
-    pub key: u64,
+    pub key: Key,
     pub from: Time,
     pub until: Time,
 }

@@ -11,6 +11,7 @@ use crate::board::Board;
 use crate::job::Place;
 use crate::refusal::{BatchRefused, Refused};
 use crate::writing;
+use clsm_model::Key;
 use clsm_store::{
     Answer, Call, Caller, Change, Counted, Free, Got, Memory, Message, Open, Page, Pages, Rmw,
     Scan, Seat, Time, Value, added, put_if_absent,
@@ -85,7 +86,7 @@ impl<'a, R: Wait, P: Place> SessionCaller<'a, R, P> {
     /// before but for its tally. It is refused with `Worn` if the next epoch would end past 2^62,
     /// and else with `RunFull`.
     #[tactic(auto, using(crate::proofs::Places::cells_of))]
-    pub fn put(&mut self, key: u64, value: Value) -> Result<Time, Refused>
+    pub fn put(&mut self, key: Key, value: Value) -> Result<Time, Refused>
         ensures { WaitsToWrite self.old self.new (Put key value) result }
     {
         writing::write(self.rt, self.board, &mut self.caller, key, Some(&value))
@@ -94,7 +95,7 @@ impl<'a, R: Wait, P: Place> SessionCaller<'a, R, P> {
     /// Removes the key, and answers the removal's time, whether or not the key had a value. It
     /// waits and is refused as `put`.
     #[tactic(auto, using(crate::proofs::Places::cells_of))]
-    pub fn remove(&mut self, key: u64) -> Result<Time, Refused>
+    pub fn remove(&mut self, key: Key) -> Result<Time, Refused>
         ensures { WaitsToWrite self.old self.new (Remove key) result }
     {
         writing::write(self.rt, self.board, &mut self.caller, key, None)
@@ -103,7 +104,7 @@ impl<'a, R: Wait, P: Place> SessionCaller<'a, R, P> {
     /// Reads the key, and makes of its value what the function answers to it, as `Store::rmw`. The
     /// function may be asked several times. It waits and is refused as `put`.
     #[tactic(auto, using(crate::proofs::Places::cells_of))]
-    pub fn rmw<F: Fn(Option<Value>) -> Change>(&mut self, key: u64, f: &F) -> Result<Rmw, Refused>
+    pub fn rmw<F: Fn(Option<Value>) -> Change>(&mut self, key: Key, f: &F) -> Result<Rmw, Refused>
         requires { F.IsAlwaysCallable f.now }
         ensures { WaitsToChangeBy self.old self.new key (F.post f.now) result }
     {
@@ -113,7 +114,7 @@ impl<'a, R: Wait, P: Place> SessionCaller<'a, R, P> {
     /// Adds the number to the key's word, which counts as 0 where the key has no value. It keeps
     /// the value where the sum passes 2^64 - 1 or the value has several words: the answer's
     /// `change` tells. It waits and is refused as `put`.
-    pub fn add(&mut self, key: u64, by: u64) -> Result<Rmw, Refused>
+    pub fn add(&mut self, key: Key, by: u64) -> Result<Rmw, Refused>
         ensures { WaitsToChangeBy self.old self.new key (Adds by) result }
     {
         self.rmw(key, &|old| added(old, by))
@@ -121,7 +122,7 @@ impl<'a, R: Wait, P: Place> SessionCaller<'a, R, P> {
 
     /// Writes the value at the key where the key has none, and else keeps what it has: the answer's
     /// `old` tells. It waits and is refused as `put`.
-    pub fn put_if_absent(&mut self, key: u64, value: Value) -> Result<Rmw, Refused>
+    pub fn put_if_absent(&mut self, key: Key, value: Value) -> Result<Rmw, Refused>
         ensures { WaitsToChangeBy self.old self.new key (PutsIfAbsent value) result }
     {
         self.rmw(key, &|old| put_if_absent(old, value))
@@ -140,7 +141,7 @@ impl<'a, R: Wait, P: Place> SessionCaller<'a, R, P> {
 
     /// As `Store::get`.
     #[inline(always)]
-    pub fn get(&mut self, key: u64) -> Got
+    pub fn get(&mut self, key: Key) -> Got
         ensures { Gets self.old self.new key result }
     {
         self.caller.get(key)
@@ -162,7 +163,7 @@ impl<'a, R: Wait, P: Place> SessionCaller<'a, R, P> {
     }
 
     /// As `Store::get_at`, but answers `None`, with nothing done, where no snapshot is open.
-    pub fn get_at(&mut self, key: u64) -> Option<Got>
+    pub fn get_at(&mut self, key: Key) -> Option<Got>
         ensures { GetsAtIfOpen self.old self.new key result }
     {
         self.caller.snapshot_time()?;
@@ -170,14 +171,14 @@ impl<'a, R: Wait, P: Place> SessionCaller<'a, R, P> {
     }
 
     /// As `Store::scan`.
-    pub fn scan(&mut self, lo: u64, hi: u64) -> Result<Scan, Memory>
+    pub fn scan(&mut self, lo: Key, hi: Key) -> Result<Scan, Memory>
         ensures { Scans self.old self.new lo hi result }
     {
         self.caller.scan(self.alloc, lo, hi)
     }
 
     /// As `Store::page`.
-    pub fn page(&mut self, from: u64, hi: u64, max: usize) -> Result<Page, Memory>
+    pub fn page(&mut self, from: u64, hi: Key, max: usize) -> Result<Page, Memory>
         ensures { GivesPage self.old self.new from hi max result }
     {
         self.caller.page(self.alloc, from, hi, max)
@@ -191,14 +192,14 @@ impl<'a, R: Wait, P: Place> SessionCaller<'a, R, P> {
     }
 
     /// As `Store::count`.
-    pub fn count(&mut self, lo: u64, hi: u64) -> Counted
+    pub fn count(&mut self, lo: Key, hi: Key) -> Counted
         ensures { CountsRange self.old self.new lo hi result }
     {
         self.caller.count(self.alloc, lo, hi)
     }
 
     /// As `Store::visit`.
-    pub fn visit<F: FnMut(u64, Value)>(&mut self, lo: u64, hi: u64, call: &mut F) -> Counted
+    pub fn visit<F: FnMut(u64, Value)>(&mut self, lo: Key, hi: Key, call: &mut F) -> Counted
         requires { F.IsAlwaysCallable call.old }
         ensures { VisitsRange (λ before row after. F.step before row.0 row.1 tt after) F.IsAlwaysCallable
             self.old self.new lo hi call.old call.new result }
@@ -207,7 +208,7 @@ impl<'a, R: Wait, P: Place> SessionCaller<'a, R, P> {
     }
 
     /// As `Store::scan_now`.
-    pub fn scan_now(&mut self, lo: u64, hi: u64) -> Result<Scan, Memory>
+    pub fn scan_now(&mut self, lo: Key, hi: Key) -> Result<Scan, Memory>
         ensures { ScansAnew self.old self.new lo hi result }
     {
         self.caller.scan_now(self.alloc, lo, hi)

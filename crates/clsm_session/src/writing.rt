@@ -6,6 +6,7 @@ ghost use Rattle.clsm_session.specs.Promises.{WaitsToChangeBy, WaitsToWrite, Wai
 
 use crate::board::Board;
 use crate::refusal::{BatchRefused, Refused};
+use clsm_model::Key;
 use clsm_store::{BatchError, Caller, Change, Free, Full, Rmw, Time, Value};
 use std::sync::Wait;
 
@@ -18,7 +19,7 @@ const MOST_TRIES: u64 = u64::MAX;
 fn try_write<'a, R: Wait>(
     rt: &R,
     caller: &mut Caller<'a, Free>,
-    key: u64,
+    key: Key,
     value: Option<&Value>,
 ) -> Result<Time, Full>
     ensures { Writes caller.old.seat caller.new.seat (deed_of key (option_copied value.entry)) result }
@@ -35,7 +36,7 @@ pub(crate) fn write<'a, R: Wait>(
     rt: &R,
     board: &Board,
     caller: &mut Caller<'a, Free>,
-    key: u64,
+    key: Key,
     value: Option<&Value>,
 ) -> Result<Time, Refused>
     requires cells { board.now.cells ≡ caller.old.seat.store.layout.cells }
@@ -64,7 +65,7 @@ pub(crate) fn rmw<'a, R: Wait, F: Fn(Option<Value>) -> Change>(
     rt: &R,
     board: &Board,
     caller: &mut Caller<'a, Free>,
-    key: u64,
+    key: Key,
     f: &F,
 ) -> Result<Rmw, Refused>
     requires callable { F.IsAlwaysCallable f.now }

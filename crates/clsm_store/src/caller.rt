@@ -8,7 +8,7 @@ ghost use Rattle.clsm_store.specs.Promises.{TriesToWrite, TriesToWriteBatch, Vis
 
 use crate::seat::Seat;
 use crate::store::Store;
-use clsm_model::{CallRecord, Change, Deed, Memory, Time, Value};
+use clsm_model::{CallRecord, Change, Deed, Key, Memory, Time, Value};
 use clsm_store_calls::{
     BatchError, Counted, Full, Got, Open, Page, Rmw, Scan, TryBatchError, TryPutError,
 };
@@ -35,14 +35,14 @@ impl<'a, P: Pace> Caller<'a, P> {
     }
 
     /// As `Store::put`.
-    pub fn put<R: Wait>(&mut self, rt: &R, key: u64, value: Value) -> Result<Time, Full>
+    pub fn put<R: Wait>(&mut self, rt: &R, key: Key, value: Value) -> Result<Time, Full>
         ensures { Writes self.old.seat self.new.seat (Put key value) result }
     {
         self.store.put(rt, &mut self.seat, key, value)
     }
 
     /// As `Store::remove`.
-    pub fn remove<R: Wait>(&mut self, rt: &R, key: u64) -> Result<Time, Full>
+    pub fn remove<R: Wait>(&mut self, rt: &R, key: Key) -> Result<Time, Full>
         ensures { Writes self.old.seat self.new.seat (Remove key) result }
     {
         self.store.remove(rt, &mut self.seat, key)
@@ -56,14 +56,14 @@ impl<'a, P: Pace> Caller<'a, P> {
     }
 
     /// As `Store::try_put`.
-    pub fn try_put(&mut self, key: u64, value: Value) -> Result<Time, TryPutError>
+    pub fn try_put(&mut self, key: Key, value: Value) -> Result<Time, TryPutError>
         ensures { TriesToWrite self.old.seat self.new.seat (Put key value) result }
     {
         self.store.try_put(&mut self.seat, key, value)
     }
 
     /// As `Store::try_remove`.
-    pub fn try_remove(&mut self, key: u64) -> Result<Time, TryPutError>
+    pub fn try_remove(&mut self, key: Key) -> Result<Time, TryPutError>
         ensures { TriesToWrite self.old.seat self.new.seat (Remove key) result }
     {
         self.store.try_remove(&mut self.seat, key)
@@ -78,7 +78,7 @@ impl<'a, P: Pace> Caller<'a, P> {
 
     /// As `Store::get`.
     #[inline(always)]
-    pub fn get(&mut self, key: u64) -> Got
+    pub fn get(&mut self, key: Key) -> Got
         ensures { Gets self.old.seat self.new.seat key result }
     {
         self.store.get(&mut self.seat, key)
@@ -88,7 +88,7 @@ impl<'a, P: Pace> Caller<'a, P> {
     pub fn rmw<R: Wait, F: Fn(Option<Value>) -> Change>(
         &mut self,
         rt: &R,
-        key: u64,
+        key: Key,
         f: &F,
     ) -> Result<Rmw, Full>
         requires { F.IsAlwaysCallable f.now }
@@ -100,7 +100,7 @@ impl<'a, P: Pace> Caller<'a, P> {
     /// As `Store::try_rmw`.
     pub fn try_rmw<F: Fn(Option<Value>) -> Change>(
         &mut self,
-        key: u64,
+        key: Key,
         f: &F,
     ) -> Result<Rmw, TryPutError>
         requires { F.IsAlwaysCallable f.now }
@@ -124,7 +124,7 @@ impl<'a, P: Pace> Caller<'a, P> {
     }
 
     /// As `Store::get_at`.
-    pub fn get_at(&mut self, key: u64) -> Got
+    pub fn get_at(&mut self, key: Key) -> Got
         requires { self.old.seat.snapshot ≢ None }
         ensures { GetsAt self.old.seat self.new.seat key result }
     {
@@ -132,21 +132,21 @@ impl<'a, P: Pace> Caller<'a, P> {
     }
 
     /// As `Store::scan`.
-    pub fn scan(&mut self, alloc: Global, lo: u64, hi: u64) -> Result<Scan, Memory>
+    pub fn scan(&mut self, alloc: Global, lo: Key, hi: Key) -> Result<Scan, Memory>
         ensures { Scans self.old.seat self.new.seat lo hi result }
     {
         self.store.scan(alloc, &mut self.seat, lo, hi)
     }
 
     /// As `Store::page`.
-    pub fn page(&mut self, alloc: Global, from: u64, hi: u64, max: usize) -> Result<Page, Memory>
+    pub fn page(&mut self, alloc: Global, from: u64, hi: Key, max: usize) -> Result<Page, Memory>
         ensures { GivesPage self.old.seat self.new.seat from hi max result }
     {
         self.store.page(alloc, &mut self.seat, from, hi, max)
     }
 
     /// As `Store::count`.
-    pub fn count(&mut self, alloc: Global, lo: u64, hi: u64) -> Counted
+    pub fn count(&mut self, alloc: Global, lo: Key, hi: Key) -> Counted
         ensures { CountsRange self.old.seat self.new.seat lo hi result }
     {
         self.store.count(alloc, &mut self.seat, lo, hi)
@@ -156,8 +156,8 @@ impl<'a, P: Pace> Caller<'a, P> {
     pub fn visit<F: FnMut(u64, Value)>(
         &mut self,
         alloc: Global,
-        lo: u64,
-        hi: u64,
+        lo: Key,
+        hi: Key,
         call: &mut F,
     ) -> Counted
         requires { F.IsAlwaysCallable call.old }
@@ -168,7 +168,7 @@ impl<'a, P: Pace> Caller<'a, P> {
     }
 
     /// As `Store::scan_now`.
-    pub fn scan_now(&mut self, alloc: Global, lo: u64, hi: u64) -> Result<Scan, Memory>
+    pub fn scan_now(&mut self, alloc: Global, lo: Key, hi: Key) -> Result<Scan, Memory>
         ensures { ScansAnew self.old.seat self.new.seat lo hi result }
     {
         self.store.scan_now(alloc, &mut self.seat, lo, hi)

@@ -7,7 +7,7 @@ ghost use Rattle.clsm_store.specs.Promises.{WritesBatch};
 
 use crate::seat::{Seat, pass_read};
 use crate::store::Store;
-use clsm_model::{Change, Time, Value};
+use clsm_model::{Change, Key, Time, Value};
 use clsm_pins::close_snapshot;
 use clsm_store_calls::{
     BatchError, Full, Got, Modification, Open, OpenSnapshot, Rmw, TryBatchError, TryPutError,
@@ -26,7 +26,7 @@ impl<P: Pace> Store<P> {
         &self,
         rt: &R,
         seat: &mut Seat,
-        key: u64,
+        key: Key,
         value: Value,
     ) -> Result<Time, Full>
         requires { seat.old.store ≡ self.now }
@@ -37,7 +37,7 @@ impl<P: Pace> Store<P> {
 
     /// Removes the key, and answers the removal's time, whether or not the key had a value. It
     /// waits and is refused as `put`.
-    pub fn remove<R: Wait>(&self, rt: &R, seat: &mut Seat, key: u64) -> Result<Time, Full>
+    pub fn remove<R: Wait>(&self, rt: &R, seat: &mut Seat, key: Key) -> Result<Time, Full>
         requires { seat.old.store ≡ self.now }
         ensures { Writes seat.old seat.new (Remove key) result }
     {
@@ -71,7 +71,7 @@ impl<P: Pace> Store<P> {
     /// with `Full` as `put`, with `Busy` if the lock was not free to enter, with `Raced` if
     /// another seat was faster, and with `Overtaken` if a reader cancelled the time: nothing was
     /// written then, and the seat is as before, but for its count of such refusals.
-    pub fn try_put(&self, seat: &mut Seat, key: u64, value: Value) -> Result<Time, TryPutError>
+    pub fn try_put(&self, seat: &mut Seat, key: Key, value: Value) -> Result<Time, TryPutError>
         requires { seat.old.store ≡ self.now }
         ensures { TriesToWrite seat.old seat.new (Put key value) result }
     {
@@ -80,7 +80,7 @@ impl<P: Pace> Store<P> {
 
     /// Removes the key as `remove`, but tries each exchange once and never waits. Refused as
     /// `try_put`.
-    pub fn try_remove(&self, seat: &mut Seat, key: u64) -> Result<Time, TryPutError>
+    pub fn try_remove(&self, seat: &mut Seat, key: Key) -> Result<Time, TryPutError>
         requires { seat.old.store ≡ self.now }
         ensures { TriesToWrite seat.old seat.new (Remove key) result }
     {
@@ -108,7 +108,7 @@ impl<P: Pace> Store<P> {
     /// write that is drawn below its time and still undecided after one look and `patience` more
     /// is cancelled, and its writer writes again. It is never refused.
     #[inline(always)]
-    pub fn get(&self, seat: &mut Seat, key: u64) -> Got
+    pub fn get(&self, seat: &mut Seat, key: Key) -> Got
         requires { seat.old.store ≡ self.now }
         ensures { Gets seat.old seat.new key result }
     {
@@ -131,7 +131,7 @@ impl<P: Pace> Store<P> {
         &self,
         rt: &R,
         seat: &mut Seat,
-        key: u64,
+        key: Key,
         f: &F,
     ) -> Result<Rmw, Full>
         requires of { seat.old.store ≡ self.now }
@@ -152,7 +152,7 @@ impl<P: Pace> Store<P> {
     pub fn try_rmw<F: Fn(Option<Value>) -> Change>(
         &self,
         seat: &mut Seat,
-        key: u64,
+        key: Key,
         f: &F,
     ) -> Result<Rmw, TryPutError>
         requires of { seat.old.store ≡ self.now }
@@ -197,7 +197,7 @@ impl<P: Pace> Store<P> {
 
     /// The value of the key below the time of the seat's open snapshot. It takes no lock, never
     /// waits and is never refused.
-    pub fn get_at(&self, seat: &mut Seat, key: u64) -> Got
+    pub fn get_at(&self, seat: &mut Seat, key: Key) -> Got
         requires of { seat.old.store ≡ self.now }
         requires opened { seat.old.snapshot ≢ None }
         ensures { GetsAt seat.old seat.new key result }

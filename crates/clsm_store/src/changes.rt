@@ -7,7 +7,7 @@ ghost use Rattle.clsm_store.specs.Promises.{ChangesBy, TriesToChangeBy};
 use crate::caller::Caller;
 use crate::seat::Seat;
 use crate::store::Store;
-use clsm_model::{Change, Value};
+use clsm_model::{Change, Key, Value};
 use clsm_store_calls::{Full, Rmw, TryPutError};
 use clsm_words::Pace;
 use std::sync::Wait;
@@ -65,7 +65,7 @@ impl<P: Pace> Store<P> {
     /// Adds the number to the key's word, which counts as 0 if the key has no value, in one
     /// read-modify-write. It keeps the value if the sum passes 2^64 - 1 or the value has several
     /// words: the answer's `change` tells. It waits and is refused as `put`.
-    pub fn add<R: Wait>(&self, rt: &R, seat: &mut Seat, key: u64, by: u64) -> Result<Rmw, Full>
+    pub fn add<R: Wait>(&self, rt: &R, seat: &mut Seat, key: Key, by: u64) -> Result<Rmw, Full>
         requires { seat.old.store ≡ self.now }
         ensures { ChangesBy seat.old seat.new key (Adds by) result }
     {
@@ -78,7 +78,7 @@ impl<P: Pace> Store<P> {
         &self,
         rt: &R,
         seat: &mut Seat,
-        key: u64,
+        key: Key,
         value: Value,
     ) -> Result<Rmw, Full>
         requires { seat.old.store ≡ self.now }
@@ -89,7 +89,7 @@ impl<P: Pace> Store<P> {
 
     /// Adds the number to the key's word as `add`, but tries each exchange once and never waits.
     /// Refused as `try_rmw`.
-    pub fn try_add(&self, seat: &mut Seat, key: u64, by: u64) -> Result<Rmw, TryPutError>
+    pub fn try_add(&self, seat: &mut Seat, key: Key, by: u64) -> Result<Rmw, TryPutError>
         requires { seat.old.store ≡ self.now }
         ensures { TriesToChangeBy seat.old seat.new key (Adds by) result }
     {
@@ -101,7 +101,7 @@ impl<P: Pace> Store<P> {
     pub fn try_put_if_absent(
         &self,
         seat: &mut Seat,
-        key: u64,
+        key: Key,
         value: Value,
     ) -> Result<Rmw, TryPutError>
         requires { seat.old.store ≡ self.now }
@@ -117,7 +117,7 @@ impl<P: Pace> Store<P> {
     pub fn try_replace(
         &self,
         seat: &mut Seat,
-        key: u64,
+        key: Key,
         expected: Option<Value>,
         desired: Option<Value>,
     ) -> Result<Rmw, TryPutError>
@@ -130,27 +130,27 @@ impl<P: Pace> Store<P> {
 
 impl<'a, P: Pace> Caller<'a, P> {
     /// As `Store::add`.
-    pub fn add<R: Wait>(&mut self, rt: &R, key: u64, by: u64) -> Result<Rmw, Full>
+    pub fn add<R: Wait>(&mut self, rt: &R, key: Key, by: u64) -> Result<Rmw, Full>
         ensures { ChangesBy self.old.seat self.new.seat key (Adds by) result }
     {
         self.store.add(rt, &mut self.seat, key, by)
     }
 
     /// As `Store::put_if_absent`.
-    pub fn put_if_absent<R: Wait>(&mut self, rt: &R, key: u64, value: Value) -> Result<Rmw, Full>
+    pub fn put_if_absent<R: Wait>(&mut self, rt: &R, key: Key, value: Value) -> Result<Rmw, Full>
         ensures { ChangesBy self.old.seat self.new.seat key (PutsIfAbsent value) result }
     {
         self.store.put_if_absent(rt, &mut self.seat, key, value)
     }
     /// As `Store::try_add`.
-    pub fn try_add(&mut self, key: u64, by: u64) -> Result<Rmw, TryPutError>
+    pub fn try_add(&mut self, key: Key, by: u64) -> Result<Rmw, TryPutError>
         ensures { TriesToChangeBy self.old.seat self.new.seat key (Adds by) result }
     {
         self.store.try_add(&mut self.seat, key, by)
     }
 
     /// As `Store::try_put_if_absent`.
-    pub fn try_put_if_absent(&mut self, key: u64, value: Value) -> Result<Rmw, TryPutError>
+    pub fn try_put_if_absent(&mut self, key: Key, value: Value) -> Result<Rmw, TryPutError>
         ensures { TriesToChangeBy self.old.seat self.new.seat key (PutsIfAbsent value) result }
     {
         self.store.try_put_if_absent(&mut self.seat, key, value)
@@ -159,7 +159,7 @@ impl<'a, P: Pace> Caller<'a, P> {
     /// As `Store::try_replace`.
     pub fn try_replace(
         &mut self,
-        key: u64,
+        key: Key,
         expected: Option<Value>,
         desired: Option<Value>,
     ) -> Result<Rmw, TryPutError>

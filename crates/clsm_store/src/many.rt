@@ -7,7 +7,7 @@ ghost use Rattle.clsm_store.specs.Promises.{CountsRange, GivesPage, Scans, Scans
 
 use crate::seat::{Seat, pass_read, under};
 use crate::store::Store;
-use clsm_model::{Deed, Memory, Time, Value};
+use clsm_model::{Deed, Key, Memory, Time, Value};
 use clsm_scan::{Bounds, Calling, Passing, Visitor};
 use clsm_store_calls::{
     Asked, Counted, Page, Request, Scan, Visit, scan_at, scan_now, scan_under, visit_at,
@@ -45,7 +45,7 @@ impl<P: Pace> Store<P> {
     /// runs and the ordered lists of the component in memory from `lo` to `hi`, and takes memory
     /// for the rows alone. It takes no lock and never waits. Refused if memory runs out: nothing is
     /// recorded then, and the seat is at rest.
-    pub fn scan(&self, alloc: Global, seat: &mut Seat, lo: u64, hi: u64) -> Result<Scan, Memory>
+    pub fn scan(&self, alloc: Global, seat: &mut Seat, lo: Key, hi: Key) -> Result<Scan, Memory>
         requires { seat.old.store ≡ self.now }
         ensures { Scans seat.old seat.new lo hi result }
     {
@@ -65,7 +65,7 @@ impl<P: Pace> Store<P> {
         alloc: Global,
         seat: &mut Seat,
         from: u64,
-        hi: u64,
+        hi: Key,
         max: usize,
     ) -> Result<Page, Memory>
         requires { seat.old.store ≡ self.now }
@@ -82,7 +82,7 @@ impl<P: Pace> Store<P> {
     /// the seat has an open snapshot: of the present, then, and not of the snapshot. It is recorded
     /// as a `get` of `lo`, as the record of a scan under a snapshot is of the snapshot's time. It
     /// takes no lock, never waits and is refused as `scan`.
-    pub fn scan_now(&self, alloc: Global, seat: &mut Seat, lo: u64, hi: u64) -> Result<Scan, Memory>
+    pub fn scan_now(&self, alloc: Global, seat: &mut Seat, lo: Key, hi: Key) -> Result<Scan, Memory>
         requires { seat.old.store ≡ self.now }
         ensures { ScansAnew seat.old seat.new lo hi result }
     {
@@ -117,7 +117,7 @@ impl<P: Pace> Store<P> {
     /// at a time of its own, as `get`. It is 0 if `lo > hi`. It makes the looks of a scan of that
     /// range but for those at values, and takes no memory and no lock. It never waits and is never
     /// refused. It is recorded as a page of no rows, whose `more` is the first of the keys.
-    pub fn count(&self, alloc: Global, seat: &mut Seat, lo: u64, hi: u64) -> Counted
+    pub fn count(&self, alloc: Global, seat: &mut Seat, lo: Key, hi: Key) -> Counted
         requires { seat.old.store ≡ self.now }
         ensures { CountsRange seat.old seat.new lo hi result }
     {
@@ -156,8 +156,8 @@ impl<P: Pace> Store<P> {
         &self,
         alloc: Global,
         seat: &mut Seat,
-        lo: u64,
-        hi: u64,
+        lo: Key,
+        hi: Key,
         call: &mut F,
     ) -> Counted
         requires of { seat.old.store ≡ self.now }

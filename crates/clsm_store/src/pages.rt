@@ -4,7 +4,7 @@ ghost use Rattle.clsm_store.specs.Paging.{at_least_one};
 ghost use Rattle.clsm_store.specs.Promises.{GivesNextPage};
 
 use crate::caller::Caller;
-use clsm_model::Memory;
+use clsm_model::{Key, Memory};
 use clsm_store_calls::Page;
 use clsm_words::Pace;
 use std::alloc::Global;
@@ -16,14 +16,14 @@ use std::alloc::Global;
 #[derive(Clone, Copy, PartialEq, Eq, Debug)]
 pub struct Pages {
     pub next: Option<u64>,
-    pub hi: u64,
+    pub hi: Key,
     pub max: usize,
 }
 
 impl Pages {
     /// All pages of the pairs with `lo <= key <= hi`, each of at most `max` pairs, or of 1 if `max`
     /// is 0.
-    pub fn new(lo: u64, hi: u64, max: usize) -> Pages
+    pub fn new(lo: Key, hi: Key, max: usize) -> Pages
         ensures next { result.next ≡ Some lo }
         ensures hi { result.hi ≡ hi }
         ensures max { result.max ≡ at_least_one max }

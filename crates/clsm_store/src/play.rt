@@ -5,6 +5,7 @@ ghost use Rattle.clsm_store.specs.Promises.{GetsAtIfOpen, Plays};
 use crate::caller::Caller;
 use crate::seat::Seat;
 use crate::store::Store;
+use clsm_model::Key;
 use clsm_store_calls::Got;
 use clsm_words::Pace;
 use std::alloc::Global;
@@ -17,7 +18,7 @@ pub use answer::Answer;
 pub use call::Call;
 
 /// Reads the key under the seat's snapshot; `None` if none is open, and nothing was done then.
-fn get_at<P: Pace>(store: &Store<P>, seat: &mut Seat, key: u64) -> Option<Got>
+fn get_at<P: Pace>(store: &Store<P>, seat: &mut Seat, key: Key) -> Option<Got>
     requires { seat.old.store ≡ store.now }
     ensures { GetsAtIfOpen seat.old seat.new key result }
 {

@@ -1,4 +1,5 @@
 //! What the checks of two threads share: the sizes of their store, and what the one puts.
+use clsm_model::Key;
 use clsm_store::{Config, Value};
 
 /// There is a seat for each thread.
@@ -13,6 +14,6 @@ pub(crate) const SIZES: Config = Config {
 /// What is put: the value, and its key.
 #[derive(Clone, Copy)]
 pub struct Write {
-    pub key: u64,
+    pub key: Key,
     pub value: Value,
 }

@@ -6,7 +6,7 @@ ghost use Rattle.clsm_store_calls.specs.Seats.{Answers, AreNew, newcomer};
 ghost use Rattle.clsm_store_audit.specs.Race.{left_by_put};
 
 use crate::pair::{SIZES, Write};
-use clsm_model::{Memory, PlainMap, Slot};
+use clsm_model::{Key, Memory, PlainMap, Slot};
 use clsm_store::{Free, Full, Got, Opened, Seat, Store, Time, open};
 use std::alloc::Global;
 use std::sync::Wait;
@@ -27,7 +27,7 @@ fn write_once<R: Wait>(
 }
 
 /// Gets the key, and answers the seat and what it got.
-fn read_once(store: &Store<Free>, mut seat: Seat, key: u64) -> (Seat, Got)
+fn read_once(store: &Store<Free>, mut seat: Seat, key: Key) -> (Seat, Got)
     requires { seat.store ≡ store.now }
     ensures { Answers seat result.0 result.1.time (Get key result.1.value) }
 {

@@ -10,7 +10,7 @@ ghost use Rattle.clsm_store.specs.Meetings.{told_by};
 ghost use Rattle.clsm_store_audit.specs.Told.{HasFound, HasMade, HasPut};
 
 use crate::pair::{SIZES, Write};
-use clsm_model::Memory;
+use clsm_model::{Key, Memory};
 use clsm_store::{Free, Full, Got, Message, Opened, Seat, Store, Time, open};
 use crossbeam_channel::{Receiver, Sender, bounded};
 use std::alloc::Global;
@@ -32,7 +32,7 @@ impl Home for Brand {
 /// then.
 #[derive(Drop)]
 struct News<H: Home> {
-    key: u64,
+    key: Key,
     time: Time,
     message: Message,
     home: PhantomData<H>,
@@ -45,13 +45,13 @@ struct News<H: Home> {
 #[derive(Drop)]
 struct Found {
     seat: Seat,
-    key: u64,
+    key: Key,
     time: Time,
     got: Got,
 }
 
 /// News of the put of the key at the time, which the seat knows.
-fn news_of<H: Home>(store: &Store<Free>, seat: &mut Seat, key: u64, time: Time) -> News<H>
+fn news_of<H: Home>(store: &Store<Free>, seat: &mut Seat, key: Key, time: Time) -> News<H>
     requires seat { seat.old.store ≡ store.now }
     requires home { H.table ≡ Some store.now.table }
     requires below { time < seat.old.due }

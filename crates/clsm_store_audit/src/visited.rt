@@ -1,6 +1,7 @@
 //! What a caller of a visit can conclude of its own variables.
 ghost use Rattle.std.specs.Prelude.{◌≡◌};
 
+use clsm_model::Key;
 use clsm_store::Caller;
 use clsm_store_calls::Counted;
 use clsm_words::Pace;
@@ -11,8 +12,8 @@ use std::alloc::Global;
 pub fn count_calls<P: Pace>(
     alloc: Global,
     caller: &mut Caller<P>,
-    lo: u64,
-    hi: u64,
+    lo: Key,
+    hi: Key,
 ) -> (u64, Counted)
     ensures { result.0 ≡ result.1.keys }
 {

@@ -30,7 +30,7 @@ use clsm_lock::{lock_shared, unlock_shared};
 use clsm_memtable::{
     Decided, DrawError, DrawnCell, decide, draw, fill, give_up, prefetch, settle_below,
 };
-use clsm_model::{Change, Deed, Time, Value};
+use clsm_model::{Change, Deed, Key, Time, Value};
 use clsm_pins::{pin, unpin};
 use clsm_scan::ReadPoint;
 use clsm_search::{Span, is_written_in, newest};
@@ -44,7 +44,7 @@ const FEW_TIMES: u64 = 64;
 /// made of it.
 #[derive(Drop)]
 pub struct Modification<'a, F> {
-    pub key: u64,
+    pub key: Key,
     pub f: &'a F,
 }
 
@@ -53,7 +53,7 @@ pub struct Modification<'a, F> {
 #[derive(Clone, Copy)]
 pub(crate) struct Modified {
     pub(crate) component: u64,
-    pub(crate) key: u64,
+    pub(crate) key: Key,
     pub(crate) read: Rmw,
     pub(crate) value: Option<Value>,
 }
@@ -69,7 +69,7 @@ pub(crate) enum ChangeAttempt {
 }
 
 /// The read-modify-write with this answer.
-pub(crate) fn deed_of(key: u64, rmw: &Rmw) -> Deed
+pub(crate) fn deed_of(key: Key, rmw: &Rmw) -> Deed
     ensures { result ≡ ChangeOf key rmw.now.old rmw.now.change }
 {
     let old = rmw.old;
@@ -102,7 +102,7 @@ pub(crate) fn value_set(change: &Change) -> Option<Value>
 }
 
 /// The value of the key at the clock, below which all is settled.
-pub(crate) fn latest<P: Pace>(words: &Words<P>, seat: &mut RawSeat, component: u64, key: u64) -> Got
+pub(crate) fn latest<P: Pace>(words: &Words<P>, seat: &mut RawSeat, component: u64, key: Key) -> Got
     requires of { IsSeatOf words.now seat.old }
     requires pinned { IsPinnedInHold seat.old.knows component }
     ensures of { IsSeatOf words.now seat.new }
@@ -288,7 +288,7 @@ impl<'a, P: Pace, R: Wait> Site<'a, P, R> {
 
 /// How the read under a read-modify-write ends: with its record where the key was kept, else with
 /// none, since its write has it.
-pub(crate) fn read_end<E>(key: u64, answer: &Result<Rmw, E>) -> End
+pub(crate) fn read_end<E>(key: Key, answer: &Result<Rmw, E>) -> End
     ensures { result ≡ read_end key answer.now }
 {
     match answer {

@@ -13,7 +13,7 @@ ghost use Rattle.clsm_store_calls.specs.Reading.{BeginsRead, MayReadBelow, Reads
 use crate::got::Got;
 use clsm_law::{End, Word};
 use clsm_memtable::settle_below;
-use clsm_model::{Deed, Value};
+use clsm_model::{Deed, Key, Value};
 use clsm_pins::{pin, unpin};
 use clsm_runs::Wanted;
 use clsm_scan::ReadPoint;
@@ -28,7 +28,7 @@ fn value_left<P: Pace>(
     words: &Words<P>,
     seat: &mut RawSeat,
     point: ReadPoint,
-    key: u64,
+    key: Key,
     into: &mut Option<Value>,
 )
     requires of { IsSeatOf words.now seat.old }
@@ -53,7 +53,7 @@ pub(crate) fn value_below<P: Pace>(
     words: &Words<P>,
     seat: &mut RawSeat,
     point: ReadPoint,
-    key: u64,
+    key: Key,
 ) -> Option<Value>
     requires of { IsSeatOf words.now seat.old }
     requires may { MayReadBelow seat.old.knows point.component point.until }
@@ -93,7 +93,7 @@ pub(crate) fn begin<P: Pace>(words: &Words<P>, seat: &mut RawSeat, pin_word: u64
 
 /// The end of a read with this answer.
 #[inline(always)]
-pub(crate) fn end_of(key: u64, got: &Got) -> End
+pub(crate) fn end_of(key: Key, got: &Got) -> End
     ensures { result ≡ Recorded (Get key got.now.value) }
 {
     let reply = got.value;
@@ -103,7 +103,7 @@ pub(crate) fn end_of(key: u64, got: &Got) -> End
 /// Reads the key at a time of its own, and leaves the answer in the caller's place, which has no
 /// value before. (An answer that is returned is copied for each call that it passes.)
 #[inline(never)]
-pub fn read<P: Pace>(words: &Words<P>, seat: &mut RawSeat, pin_word: u64, key: u64, into: &mut Got)
+pub fn read<P: Pace>(words: &Words<P>, seat: &mut RawSeat, pin_word: u64, key: Key, into: &mut Got)
     requires rests { RestsAt words.now seat.old pin_word }
     requires empty { into.old.value ≡ None }
     ensures rests { RestsAt words.now seat.new (next_word (next_word pin_word)) }

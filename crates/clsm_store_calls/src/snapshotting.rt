@@ -10,7 +10,7 @@ use crate::got::Got;
 use crate::reading::value_below;
 use clsm_law::End;
 use clsm_memtable::settle_below;
-use clsm_model::{Deed, Time};
+use clsm_model::{Deed, Key, Time};
 use clsm_pins::{open_snapshot, pin, unpin};
 use clsm_scan::ReadPoint;
 use clsm_words::{Pace, RawSeat, Words};
@@ -63,7 +63,7 @@ pub(crate) fn begin_under<P: Pace>(
 }
 
 /// The end of a read with this answer under the open snapshot.
-fn end_of(key: u64, got: &Got) -> End
+fn end_of(key: Key, got: &Got) -> End
     ensures { result ≡ Recorded (GetAt key got.now.value) }
 {
     let reply = got.value;
@@ -75,7 +75,7 @@ pub fn read_under<P: Pace>(
     words: &Words<P>,
     seat: &mut RawSeat,
     snapshot: OpenSnapshot,
-    key: u64,
+    key: Key,
 ) -> Got
     requires rests { RestsAt words.now seat.old snapshot.pin_word }
     requires opened { open_time seat.old.knows.view.snapshot ≡ Some snapshot.time }

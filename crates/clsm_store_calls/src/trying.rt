@@ -10,7 +10,7 @@ use crate::refusal::TryPutError;
 use crate::writing::deed_of;
 use clsm_lock::{try_lock_shared, unlock_shared};
 use clsm_memtable::{Decided, DrawError, DrawnCell, decide, draw, fill, give_up, look_ahead};
-use clsm_model::{Time, Value};
+use clsm_model::{Key, Time, Value};
 use clsm_search::Guess;
 use clsm_words::{Pace, RawSeat, Words};
 
@@ -37,7 +37,7 @@ fn try_draw<P: Pace>(words: &Words<P>, seat: &mut RawSeat) -> Tried
 fn try_near<P: Pace>(
     words: &Words<P>,
     seat: &mut RawSeat,
-    key: u64,
+    key: Key,
     value: &Option<Value>,
     guess: &Guess,
 ) -> Tried
@@ -61,7 +61,7 @@ fn try_near<P: Pace>(
 
 /// Looks ahead and tries once to write the value at the key, or with `None` to remove it, in a hold
 /// of the lock.
-fn try_held<P: Pace>(words: &Words<P>, seat: &mut RawSeat, key: u64, value: &Option<Value>) -> Tried
+fn try_held<P: Pace>(words: &Words<P>, seat: &mut RawSeat, key: Key, value: &Option<Value>) -> Tried
     requires of { IsSeatOf words.now seat.old }
     requires holds { IsInHold seat.old.knows }
     ensures of { IsSeatOf words.now seat.new }
@@ -75,7 +75,7 @@ fn try_held<P: Pace>(words: &Words<P>, seat: &mut RawSeat, key: u64, value: &Opt
 pub fn try_write<P: Pace>(
     words: &Words<P>,
     seat: &mut RawSeat,
-    key: u64,
+    key: Key,
     value: &Option<Value>,
 ) -> Tried
     requires of { IsSeatOf words.now seat.old }

@@ -11,7 +11,7 @@ use crate::refusal::Full;
 use crate::site::Site;
 use clsm_lock::{lock_shared, unlock_shared};
 use clsm_memtable::{Decided, DrawError, DrawnCell, Start, decide, draw, fill, look_ahead};
-use clsm_model::{Deed, Time, Value};
+use clsm_model::{Deed, Key, Time, Value};
 use clsm_search::Guess;
 use clsm_words::{Pace, RawSeat, Words};
 use std::sync::Wait;
@@ -27,7 +27,7 @@ pub(crate) enum Attempt {
 
 /// The write of the value at the key, or its removal.
 #[inline(always)]
-pub(crate) fn deed_of(key: u64, value: &Option<Value>) -> Deed
+pub(crate) fn deed_of(key: Key, value: &Option<Value>) -> Deed
     ensures { result ≡ deed_of key value.now }
 {
     match *value {
@@ -43,7 +43,7 @@ impl<'a, P: Pace, R: Wait> Site<'a, P, R> {
     fn try_write_from(
         &self,
         seat: &mut RawSeat,
-        key: u64,
+        key: Key,
         value: &Option<Value>,
         start: &mut Start,
     ) -> Attempt
@@ -73,7 +73,7 @@ impl<'a, P: Pace, R: Wait> Site<'a, P, R> {
     /// Looks ahead, in a hold of the lock, where the search for the place begins at no lost cell.
     #[tactic(auto, using(crate::proofs::Retries::stays_none, crate::proofs::Rest::still_none, crate::proofs::Ahead::looks_in_hold, crate::proofs::Ahead::still_ahead,))]
     #[inline(always)]
-    fn look_first(&self, seat: &mut RawSeat, key: u64, start: &mut Start)
+    fn look_first(&self, seat: &mut RawSeat, key: Key, start: &mut Start)
         requires of { IsSeatOf self.now.words.now seat.old }
         requires holds { IsInHold seat.old.knows }
         requires start { IsStart seat.old.knows start.old.lost }
@@ -93,7 +93,7 @@ impl<'a, P: Pace, R: Wait> Site<'a, P, R> {
     /// ahead first.
     #[tactic(auto, using(crate::proofs::Rest::records_later, crate::proofs::Rest::full_later, crate::proofs::Rest::still_trans, crate::proofs::Rest::still_none, crate::proofs::Retries::stays_none, crate::proofs::Retries::stays_trans,))]
     #[inline(always)]
-    fn write_held(&self, seat: &mut RawSeat, key: u64, value: &Option<Value>) -> Result<Time, Full>
+    fn write_held(&self, seat: &mut RawSeat, key: Key, value: &Option<Value>) -> Result<Time, Full>
         requires of { IsSeatOf self.now.words.now seat.old }
         requires holds { IsInHold seat.old.knows }
         ensures of { IsSeatOf self.now.words.now seat.new }
@@ -120,7 +120,7 @@ pub fn write<P: Pace, R: Wait>(
     rt: &R,
     words: &Words<P>,
     seat: &mut RawSeat,
-    key: u64,
+    key: Key,
     value: &Option<Value>,
 ) -> Result<Time, Full>
     requires of { IsSeatOf words.now seat.old }

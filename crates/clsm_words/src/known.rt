@@ -1,12 +1,12 @@
 use clsm_law::{Layout, MergerView, View};
-use clsm_model::{Batch, Slot, Time};
+use clsm_model::{Batch, Key, Slot, Time};
 use std::collections::LinkedList;
 
 /// A place of an ordered list, a cell plus 1, with the key of its cell.
 #[derive(Clone, Copy, PartialEq, Eq, Debug)]
 pub struct Spot {
     pub place: u64,
-    pub key: u64,
+    pub key: Key,
 }
 
 /// What a seat at the words knows. No value of it is made.

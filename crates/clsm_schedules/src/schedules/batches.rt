@@ -2,10 +2,10 @@
 use crate::schedules::line::{Line, record};
 use crate::schedules::play::{Play, Wrong};
 use clsm_machine::{Step, Word};
-use clsm_model::{CallRecord, Change, Deed, Members, Time};
+use clsm_model::{CallRecord, Change, Deed, Key, Members, Time};
 
 /// The write that a member is, alone.
-fn deed_of(key: u64, change: &Change) -> Deed {
+fn deed_of(key: Key, change: &Change) -> Deed {
     match change {
         Change::Set(value) => Deed::Put { key, value: *value },
         _ => Deed::Remove { key },

@@ -5,7 +5,7 @@ use crate::schedules::writes::{part_at, word_at, words_of};
 use clsm_law::level_one_place;
 use clsm_levels::level_zero_runs;
 use clsm_machine::{End, Part, Step, Word};
-use clsm_model::{CallRecord, Deed, Time, Value};
+use clsm_model::{CallRecord, Deed, Key, Time, Value};
 
 impl Play {
     /// Parts of a read; other rows are passed on.
@@ -84,7 +84,7 @@ impl Play {
         seat: u32,
         component: u64,
         time: Time,
-        key: u64,
+        key: Key,
         value: &Option<Value>,
     ) -> Result<(), Wrong> {
         for epoch in [component.saturating_add(1), component] {
@@ -149,7 +149,7 @@ impl Play {
         &mut self,
         seat: u32,
         first: Time,
-        key: u64,
+        key: Key,
         time: Time,
     ) -> Result<Option<Time>, Wrong> {
         let mut newest = None;
@@ -183,7 +183,7 @@ impl Play {
         &mut self,
         seat: u32,
         place: u64,
-        key: u64,
+        key: Key,
         time: Time,
     ) -> Result<Option<(u64, u64)>, Wrong> {
         for entry in 0..self.look(seat, Word::Count(place))? {

@@ -3,7 +3,7 @@
 use crate::schedules::line::{Line, record};
 use crate::schedules::play::{Play, Wrong};
 use clsm_machine::{Part, Step, Word};
-use clsm_model::{CallRecord, Change, Deed, Time, Value};
+use clsm_model::{CallRecord, Change, Deed, Key, Time, Value};
 use clsm_planner::link_behind;
 
 pub(crate) fn words_of(value: &Option<Value>) -> &[u64] {
@@ -73,7 +73,7 @@ impl Play {
     }
 
     /// The head of the chain in which a write of the key at the time is linked.
-    pub(crate) fn head_of(&self, time: Time, key: u64) -> Word {
+    pub(crate) fn head_of(&self, time: Time, key: Key) -> Word {
         Word::Head {
             region: self.layout.region_of(self.layout.cell_of(time)),
             chain: key % self.layout.chains,
@@ -106,7 +106,7 @@ impl Play {
     fn fills(
         &mut self,
         seat: u32,
-        key: u64,
+        key: Key,
         value: &Option<Value>,
         left_out: Part,
     ) -> Result<(), Wrong> {
@@ -125,7 +125,7 @@ impl Play {
         Ok(())
     }
 
-    fn links(&mut self, seat: u32, key: u64, time: Time) -> Result<(), Wrong> {
+    fn links(&mut self, seat: u32, key: Key, time: Time) -> Result<(), Wrong> {
         let first = self.look(seat, self.head_of(time, key))?;
         self.does(seat, Step::Fill(Part::Next, first))?;
         self.does(seat, Step::Link(first))
@@ -147,7 +147,7 @@ impl Play {
 
     /// Fills the link of the drawn cell, and puts it between the last place of the list before a
     /// cell of the key and the time, and the one behind that.
-    fn inserts(&mut self, seat: u32, key: u64, time: Time) -> Result<(), Wrong> {
+    fn inserts(&mut self, seat: u32, key: Key, time: Time) -> Result<(), Wrong> {
         let drawn = self.layout.cell_of(time);
         let region = self.layout.region_of(drawn);
         let mut place = 0;

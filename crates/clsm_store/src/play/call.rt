@@ -4,7 +4,7 @@ ghost use Rattle.clsm_store_calls.specs.Seats.{Answers, SeatState};
 ghost use Rattle.clsm_store.specs.Play.{HasList, IsBatch, PlaysCall, call_for};
 
 use super::answer::Answer;
-use clsm_model::{CallRecord, Deal, Deed, Members, Memory, PageRange, Time, Value};
+use clsm_model::{CallRecord, Deal, Deed, Key, Members, Memory, PageRange, Time, Value};
 use clsm_store_calls::{Page, Scan};
 use std::alloc::{AllocError, Global};
 
@@ -12,28 +12,28 @@ use std::alloc::{AllocError, Global};
 #[derive(Debug, Drop)]
 pub enum Call {
     /// Writes the value at the key.
-    Put { key: u64, value: Value },
+    Put { key: Key, value: Value },
     /// Removes the key.
-    Remove { key: u64 },
+    Remove { key: Key },
     /// Writes the value at the key, if no other seat is in the way.
-    Try { key: u64, value: Value },
+    Try { key: Key, value: Value },
     /// Adds to the key's word, which is 0 where it has no value; keeps it where the sum passes 64
     /// bits, or it has several words.
-    Add { key: u64, by: u64 },
+    Add { key: Key, by: u64 },
     /// Writes the value at the key where it has none, and else keeps it.
-    Claim { key: u64, value: Value },
+    Claim { key: Key, value: Value },
     /// Reads the value at the key.
-    Get { key: u64 },
+    Get { key: Key },
     /// Opens a snapshot, if none is open.
     Snap,
     /// Closes the open snapshot.
     Close,
     /// Reads the value at the key under the open snapshot.
-    GetAt { key: u64 },
+    GetAt { key: Key },
     /// Reads all keys from `lo` to `hi` that have a value, under the open snapshot if one is open.
-    Scan { lo: u64, hi: u64 },
+    Scan { lo: Key, hi: Key },
     /// Reads the first `max` of the keys that a scan would read.
-    Page { from: u64, hi: u64, max: u64 },
+    Page { from: u64, hi: Key, max: u64 },
     /// Makes the writes of all members at once.
     Batch { members: Members },
 }

@@ -2,6 +2,7 @@
 use super::act::{Act, Answer, Step, Write, read_as};
 use super::drawn::{Load, Mix, after, draw, next};
 use super::gate::Gates;
+use clsm_model::Key;
 use clsm_store::{
     Answer as Called, BatchError, Call, CallRecord, Caller, Change, Counted, Deed, Full, Got,
     Members, MergeError, Merger, Page, PageRange, Pages, ReclaimError, Rmw, Rows, Scan, Stopped,
@@ -166,7 +167,7 @@ fn call_of(rt: &impl Abort, alloc: Global, act: &Act) -> Call {
 
 impl<'a> Actor<'a> {
     /// A change of the key's value, whose record is kept.
-    fn change<R: Abort + Wait>(&mut self, rt: &R, key: u64) -> Answer {
+    fn change<R: Abort + Wait>(&mut self, rt: &R, key: Key) -> Answer {
         let Rmw { time, old, change } = match self.caller.rmw(rt, key, &|old| next(old)) {
             Ok(rmw) => rmw,
             Err(Full { time }) => return Answer::Full(time),
@@ -326,7 +327,7 @@ impl<'a> Actor<'a> {
     }
 
     /// Visits the keys from this one on. What was visited is kept as the record of a scan.
-    fn visit(&mut self, rt: &impl Abort, alloc: Global, lo: u64) -> Answer {
+    fn visit(&mut self, rt: &impl Abort, alloc: Global, lo: Key) -> Answer {
         let hi = u64::MAX;
         let mut rows = Vec::new(alloc);
         let mut is_kept = true;
@@ -347,7 +348,7 @@ impl<'a> Actor<'a> {
     }
 
     /// Scans the keys from this one on in the present. The scan is recorded as a read of that key.
-    fn scan_now(&mut self, rt: &impl Abort, alloc: Global, lo: u64) -> Answer {
+    fn scan_now(&mut self, rt: &impl Abort, alloc: Global, lo: Key) -> Answer {
         let Ok(scan) = self.caller.scan_now(alloc, lo, u64::MAX) else {
             return Answer::NoMemory;
         };

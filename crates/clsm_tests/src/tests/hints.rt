@@ -2,7 +2,7 @@
 
 use super::drawn::after;
 use clsm_law::Layout;
-use clsm_model::{Config, Deed, PlainMap, Slot, Value};
+use clsm_model::{Config, Deed, Key, PlainMap, Slot, Value};
 use clsm_store_calls::{Asked, Got, Request, read, scan_at, write};
 use clsm_words::{Free, RawSeat, Words};
 use std::alloc::Global;
@@ -88,7 +88,7 @@ impl Alone {
     }
 
     /// Puts the word at the key, and in the map.
-    fn put<R: Abort + Wait>(&mut self, rt: &R, map: &mut PlainMap, key: u64, word: u64) {
+    fn put<R: Abort + Wait>(&mut self, rt: &R, map: &mut PlainMap, key: Key, word: u64) {
         let value = Value::new(&[word]).expect(rt, "one word");
         let written = write(rt, &self.words, &mut self.seat, key, &Some(value));
         assert!(rt; written.is_ok());
@@ -101,7 +101,7 @@ impl Alone {
     }
 
     /// The key's value, and all pairs from the key on, are those of the map.
-    fn compare(&mut self, rt: &impl Abort, alloc: Global, map: &PlainMap, key: u64) {
+    fn compare(&mut self, rt: &impl Abort, alloc: Global, map: &PlainMap, key: Key) {
         let mut got = Got {
             time: 0,
             value: None,

@@ -3,7 +3,7 @@
 ghost use Rattle.std.specs.Prelude.{◌≡◌, []};
 ghost use Rattle.clsm_store_calls.specs.Seats.{AreNew, HasSizes, IsNewMerger};
 
-use clsm_model::{CallRecord, Config, Deed, Memory, OpenError, Value};
+use clsm_model::{CallRecord, Config, Deed, Key, Memory, OpenError, Value};
 use clsm_store::{Free, Merger, NotFrozen, Opened, Seat, Store, open};
 use clsm_store_audit::{Write, joined_are_records, race_agrees, settle_audited};
 use std::alloc::Global;
@@ -45,7 +45,7 @@ fn record_put<R: Abort + Wait>(
     store: &Store<Free>,
     seat: &mut Seat,
     records: &mut Vec<CallRecord>,
-    key: u64,
+    key: Key,
 )
     requires store { seat.old.store ≡ store.now }
     requires calls { records.old.items ≡ seat.old.calls }

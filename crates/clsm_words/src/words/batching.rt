@@ -9,7 +9,7 @@ use super::{RawSeat, Words};
 use crate::operation::Operation::{Exchange, Store, Subtract};
 use crate::pace::{Kind, Pace};
 use clsm_law::{Answer, EXCLUSIVE_HOLD, Part, Step, Word};
-use clsm_model::{Change, Time};
+use clsm_model::{Change, Key, Time};
 use std::marker::Brand;
 
 impl<P: Pace> Words<P> {
@@ -38,7 +38,7 @@ impl<P: Pace> Words<P> {
     /// Takes the time for the next member of the seat's batch, and fills this key in its cell. The
     /// time is the seat's then as a drawn one is.
     #[inline(always)]
-    pub fn stage(&self, seat: &mut RawSeat, time: Time, key: u64)
+    pub fn stage(&self, seat: &mut RawSeat, time: Time, key: Key)
         requires { MayPlay self.now seat.old (Stage time key) }
         ensures { Plays self.now seat.old (Stage time key) seat.new }
     {

@@ -7,8 +7,8 @@ ghost use Rattle.clsm_law.specs.Relation.{state_by, won_if};
 
 use super::{WordTable, Words};
 use crate::pace::Pace;
-use clsm_law::{Answer, REMOVAL_CELL, UNDECIDED_CELL, VALUE_CELL, Word};
-use clsm_model::{Change, Deed, Time};
+use clsm_law::{Answer, Cell, REMOVAL_CELL, UNDECIDED_CELL, VALUE_CELL, Word};
+use clsm_model::{Change, Deed, Key, Time};
 
 impl WordTable {
     /// The cell that the time has.
@@ -21,7 +21,7 @@ impl WordTable {
 
     /// The head of the chain in which the time's cell with this key is linked.
     #[inline(always)]
-    pub(super) fn head_of(&self, time: Time, key: u64) -> Word
+    pub(super) fn head_of(&self, time: Time, key: Key) -> Word
         ensures { result ≡ head_of self.now.layout time key }
     {
         Word::Head {
@@ -55,7 +55,7 @@ impl<P: Pace> Words<P> {
 
     /// The number of the cell in its region.
     #[inline(always)]
-    pub fn number_in_region(&self, cell: u64) -> u64
+    pub fn number_in_region(&self, cell: Cell) -> u64
         ensures { result ≡ cell % self.now.layout.cells }
     {
         self.words.divisors.region.rest(cell)
@@ -63,7 +63,7 @@ impl<P: Pace> Words<P> {
 
     /// The chain of the key.
     #[inline(always)]
-    pub fn chain_of(&self, key: u64) -> u64
+    pub fn chain_of(&self, key: Key) -> u64
         ensures { result ≡ key % self.now.layout.chains }
     {
         self.words.divisors.chains.rest(key)
@@ -71,7 +71,7 @@ impl<P: Pace> Words<P> {
 
     /// The head of the chain in which the time's cell with this key is linked.
     #[inline(always)]
-    pub fn head_of(&self, time: Time, key: u64) -> Word
+    pub fn head_of(&self, time: Time, key: Key) -> Word
         ensures { result ≡ head_of self.now.layout time key }
     {
         self.words.head_of(time, key)

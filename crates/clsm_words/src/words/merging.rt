@@ -10,7 +10,7 @@ use super::cells::won_if;
 use super::{RawMerger, Words};
 use crate::operation::Operation::{Exchange, Load, Store, Subtract};
 use crate::pace::Pace;
-use clsm_law::{Answer, CANCELLED_CELL, EXCLUSIVE_HOLD, Step, UNDECIDED_CELL, Word};
+use clsm_law::{Answer, CANCELLED_CELL, Cell, EXCLUSIVE_HOLD, Step, UNDECIDED_CELL, Word};
 use clsm_model::Time;
 
 impl<P: Pace> Words<P> {
@@ -99,7 +99,7 @@ impl<P: Pace> Words<P> {
 
     /// Empties a cell of the retired region.
     #[inline(always)]
-    pub fn clear_state(&self, seat: &mut RawMerger, cell: u64)
+    pub fn clear_state(&self, seat: &mut RawMerger, cell: Cell)
         requires { MayMerge self.now seat.old (ClearState cell) }
         ensures { PlaysAsMerger self.now seat.old (ClearState cell) seat.new }
     {

@@ -3,7 +3,7 @@ ghost use Rattle.std.specs.Prelude.{◌≡◌};
 
 use crate::tests::model::{Wrong, optional_value, same};
 use clsm_levels::{Cursor, Entry, Place, entries_of, judge, least, places, target, wanted};
-use clsm_model::Slot;
+use clsm_model::{Key, Slot};
 use std::alloc::Global;
 
 const ZERO_0: Place = Place::LevelZero(0);
@@ -43,7 +43,7 @@ pub(super) fn table_of_places(alloc: Global) -> Result<(), Wrong> {
 /// An entry as data: its key, its time, and its word; None for a removal.
 type Line = (u64, u64, Option<u64>);
 
-fn entry(key: u64, time: u64, word: Option<u64>) -> Entry
+fn entry(key: Key, time: u64, word: Option<u64>) -> Entry
     ensures { result.time ≡ time }
 {
     let value = optional_value(word);
@@ -168,7 +168,7 @@ pub(super) fn merges(alloc: Global) -> Result<(), Wrong> {
     Ok(())
 }
 
-fn write(key: u64, word: Option<u64>) -> Option<Slot> {
+fn write(key: Key, word: Option<u64>) -> Option<Slot> {
     let value = entry(key, 0, word).value;
     Some(Slot::Wrote {
         seat: 0,
@@ -205,7 +205,7 @@ const NO_HEAD: Cursor = Cursor {
     head: None,
 };
 
-fn cursor(key: u64, time: u64, word: Option<u64>) -> Cursor {
+fn cursor(key: Key, time: u64, word: Option<u64>) -> Cursor {
     Cursor {
         position: 0,
         head: Some(entry(key, time, word).version()),

@@ -1,6 +1,6 @@
 //! Values, refusals and the plain map.
 use crate::tests::model::{Wrong, same};
-use clsm_model::*;
+use clsm_model::{Key, *};
 use std::alloc::Global;
 
 const GREATEST: u64 = u64::MAX;
@@ -98,7 +98,7 @@ fn slot_of(written: Written) -> Slot {
 }
 
 /// Whether the map has these pairs between the two keys, and no more.
-fn holds(map: &PlainMap, lo: u64, hi: u64, pairs: Pairs) -> Result<bool, Wrong> {
+fn holds(map: &PlainMap, lo: Key, hi: Key, pairs: Pairs) -> Result<bool, Wrong> {
     let Ok(rows) = map.range(lo, hi) else {
         return Err(Wrong::Memory);
     };

@@ -16,7 +16,7 @@ returns-then-go_on-clause-added g c =
     subst (λ (o : Option AnyWalk). HasAdded c.args.lo k m k' (record { streams = c.push.new.self; lead = m.lead; hi = m.hi }) (found_in (any_found k) o))
     (sym c.in-Some.is)
     (added_one c.args.lo k k' m (record { streams = c.push.new.self; lead = m.lead; hi = m.hi }) c.in-Some.walk looks
-        c.requires.merges.over c.requires.merges.stands refl
+    c.requires.merges.over c.requires.merges.stands refl
     c.go_on.new.self c.push.ensures.items c.go_on.ensures.over (c.go_on.ensures.ahead c.if-go_on.true).1
     (λ key. c.go_on.ensures.same key ∙ c.seek.ensures.same key))
 

@@ -9,10 +9,10 @@ returns-in-Ok g c =
 pub newest_behind-requires-2 : goal.newest_behind-requires-2
 newest_behind-requires-2 g c =
     walk_stays c.args.words.now c.to_write-further.new.seat c.newest_near.new.seat c.to_write-further.result
-        c.to_write-further.ensures.walks c.newest_near.ensures.looks
+    c.to_write-further.ensures.walks c.newest_near.ensures.looks
 
 pub returns : goal.returns
 returns g c =
     behind_on c.args.words.now c.args.seat.now c.to_write-further.new.seat c.newest_near.new.seat c.args.self c.to_write-further.result
-        c.to_write-further.ensures
+    c.to_write-further.ensures
     c.newest_near.ensures.looks c.newest_behind-2.new.seat c.newest_behind-2.result c.newest_behind-2.ensures

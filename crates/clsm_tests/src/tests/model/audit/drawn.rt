@@ -2,7 +2,7 @@
 //! and such lists with one field altered.
 use super::{END, KEYS};
 use clsm_model::{
-    CallRecord, Change, Deed, Members, Memory, PageRange, PlainMap, Rows, Slot, Time, Value,
+    CallRecord, Change, Deed, Key, Members, Memory, PageRange, PlainMap, Rows, Slot, Time, Value,
 };
 use rand_core::utils::NextWord;
 use rand_pcg::Pcg32;
@@ -28,7 +28,7 @@ fn draw_key(draws: &mut Pcg32) -> u64 {
 }
 
 /// The deed that leaves this at the key.
-fn write_of(is_rmw: bool, key: u64, old: Option<Value>, left: Option<Value>) -> Deed {
+fn write_of(is_rmw: bool, key: Key, old: Option<Value>, left: Option<Value>) -> Deed {
     match (is_rmw, left) {
         (true, Some(value)) => {
             let change = Change::Set(value);
@@ -56,7 +56,7 @@ impl Played {
     }
 
     /// A write of the key. A time behind it may be given up.
-    fn draw_write(&mut self, alloc: Global, seat: u32, key: u64) -> Result<(Time, Deed), Memory> {
+    fn draw_write(&mut self, alloc: Global, seat: u32, key: Key) -> Result<(Time, Deed), Memory> {
         let time = self.clock();
         let old = self.map_at(alloc, time)?.get(key);
         let drawn = draw_value(&mut self.draws);
@@ -72,7 +72,7 @@ impl Played {
     }
 
     /// A read of one key, an opening or a close.
-    fn draw_read(&mut self, alloc: Global, seat: usize, key: u64) -> Result<(Time, Deed), Memory> {
+    fn draw_read(&mut self, alloc: Global, seat: usize, key: Key) -> Result<(Time, Deed), Memory> {
         let now = self.clock();
         let open = self.open[seat % 3];
         match (open, self.draws.next_word() % 3) {

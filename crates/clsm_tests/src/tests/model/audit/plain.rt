@@ -1,7 +1,7 @@
 //! A second check of records, quadratic and straight from the words of the audit's four passes.
 use super::{CELLS, END, KEYS};
 use clsm_audit::FaultKind;
-use clsm_model::{CallRecord, Change, Deed, PageRange, Time, Value};
+use clsm_model::{CallRecord, Change, Deed, Key, PageRange, Time, Value};
 
 /// What the change writes, if it does.
 fn left_by(change: &Change) -> Option<Option<Value>> {
@@ -21,7 +21,7 @@ pub fn span(call: &CallRecord) -> u64 {
 }
 
 /// What the call writes at the key at its time that is so far behind its first, if it does.
-fn written(call: &CallRecord, behind: u64, key: u64) -> Option<Option<Value>> {
+fn written(call: &CallRecord, behind: u64, key: Key) -> Option<Option<Value>> {
     match &call.deed {
         Deed::Put { key: at, value } if *at == key => Some(Some(*value)),
         Deed::Remove { key: at } if *at == key => Some(None),
@@ -147,7 +147,7 @@ fn ran_back(records: &[CallRecord], index: usize, call: &CallRecord) -> bool {
 }
 
 /// The value that the newest write of the key below the time left.
-fn value_below(records: &[CallRecord], key: u64, time: Time) -> Option<Value> {
+fn value_below(records: &[CallRecord], key: Key, time: Time) -> Option<Value> {
     let mut newest = 0;
     let mut value = None;
     for call in records {
