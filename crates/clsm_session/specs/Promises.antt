@@ -2,7 +2,7 @@
 -- hears, promise what the store's do, by the records of `Promises.antt` of clsm_store. Here is what
 -- it promises otherwise: its writes wait until there is room for them. `old` is the seat as the
 -- call found it, `new` as it left it, and `result` what it answered.
-use Rattle.std.specs.Prelude.{◌≡◌, ℕ, List, Option, Result, IfErr, IfOk}
+use Rattle.std.specs.Prelude.{ℕ, List, Option, Result, IfErr, IfOk}
 use Rattle.clsm_model.specs.declared.record.Deed.{Deed}
 use Rattle.clsm_model.specs.declared.record.Deed.TheVariants.{Batch, Rmw as ChangeOf}
 use Rattle.clsm_model.specs.declared.slot.Change.{Change}
