@@ -1,4 +1,6 @@
 //! The steps on the lock, the clock and the front, and looks at any word.
+ghost use Rattle.std.specs.Prelude.{◌≡◌, true};
+ghost use Rattle.clsm_law.specs.Memory.{is_word};
 ghost use Rattle.clsm_law.specs.declared.step.Step.TheVariants.{EnterShared, LeaveShared, Draw, Look, RaiseFront};
 ghost use Rattle.clsm_law.specs.declared.word.Word.TheVariants.{Front};
 ghost use Rattle.clsm_words.specs.Knowing.{Opens};
@@ -70,6 +72,15 @@ impl<P: Pace> Words<P> {
         self.pace.step(seat.number, Kind::RaiseFront);
         self.words
             .act_told::<Brand, Time>(&mut seat.seat, &time, Word::Front, Load)
+    }
+
+    /// Loads the word for nobody, so that it is near when a seat looks at it. What it finds tells
+    /// nothing, and it is no step.
+    #[inline(always)]
+    pub fn peek(&self, word: Word) -> u64
+        requires { is_word self.now.layout word ≡ true }
+    {
+        self.words.table.shared.peek(self.words.place(word))
     }
 
     /// Looks at the word.
