@@ -32,8 +32,8 @@ FROM are keys, numbers of 64 bits; V is 1 to 8 such words, joined by commas.
 
 An empty line and one that begins with # are passed over.
 
-Exit status: 0 done; 1 a bad line, a failed read or write; 2 an audit found a fault; 3 the
-sizes were refused or memory ran out.
+Exit status: 0 done; 1 a bad line, a failed read or write; 3 the sizes were refused or memory
+ran out.
 
 Example:
   printf 'put 7 1\\nget 7\\n' | clsm script --cells 64";
@@ -125,9 +125,9 @@ pub(crate) const RECORDS: &str = "Print each answered call as a record, in place
 pub(crate) const CLOCK: &str =
     "With --records, print behind each record when its call began and ended";
 
-pub(crate) const AUDIT_SEATS: &str = "Seats that the records may be of, 1 to 64";
+pub(crate) const AUDIT_SEATS: &str = "Seats that the records may be of";
 
-pub(crate) const AUDIT_CELLS: &str = "Cells of the store that was called, 4 to 65,536";
+pub(crate) const AUDIT_CELLS: &str = "Cells of the store that was called: its longest batch";
 
 pub(crate) const ORDER: &str =
     "Audit too that each call stands behind those that had ended before it began";

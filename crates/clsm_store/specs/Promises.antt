@@ -1,7 +1,8 @@
 -- The page to read first: what each call of a seat promises, all of it, once. `Store` makes a call
 -- by a seat that it is given, `Caller` by its own, and both promise the same. `old` is the seat as
 -- the call found it, `new` as it left it, and `result` what it answered. A call asks only for a
--- seat of its store, and `get_at` also for an open snapshot. At the end stand the merger's calls:
+-- seat of its store; `get_at` also for an open snapshot, `rmw` and `visit` for a function that may
+-- be called with any value, `hear` for a message of the store. At the end stand the merger's calls:
 -- each asks for its store's token in one phase, `old`, and hands one back.
 use Rattle.std.specs.Prelude.{◌≡◌, ℕ, ◌+◌, ◌*◌, ◌^◌, ◌<◌, ◌≤◌, List, replicate}
 use Rattle.std.specs.Prelude.{Option, None, Some, IfNone, IfSome, Result, IfErr, IfOk}

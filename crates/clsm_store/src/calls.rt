@@ -48,8 +48,8 @@ impl<P: Pace> Store<P> {
     /// of the first. They become visible together, by one step: no read of any seat is answered
     /// between them, and of members of one key the last one wins. A batch never spans two epochs.
     /// It holds the lock alone, once: it waits for that until no writer is inside, and keeps other
-    /// writers out meanwhile, but no reader. It takes no memory, gives up no time and loses no
-    /// exchange.
+    /// writers out meanwhile, but no reader. It takes no memory; in the hold it gives up no time and
+    /// loses no exchange.
     ///
     /// Refused, in this order: with `Empty` if there is no member, `TooLong` if there are more
     /// than an epoch has cells, `Keep` if a member keeps its key, each before it enters the lock;
