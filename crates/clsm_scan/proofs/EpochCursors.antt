@@ -1,6 +1,6 @@
 -- The walks along a component's two epochs find together what a search of all its writes finds.
 use Rattle.std.proofs.Common.{◌≡◌, ℕ, zero, suc, ◌+◌, ◌*◌, ◌<◌, ◌≤◌, ◌⊎◌, ◌++◌, Bool, cond, min, List, length, get_or, sym, ap, ◌∙◌, subst, arith, inl, inr}
-use Rattle.std.proofs.Common.{⊎_elim, append_assoc, add-mul, refl, Option, Some, None}
+use Rattle.std.proofs.Common.{⊎_elim, append_assoc, add-mul, refl, Option, Some, None, false}
 use Rattle.std.proofs.lemmas.Bool.{cases_lt, lt-ltb, le-ltb}
 use Rattle.clsm_model.specs.declared.slot.Slot.{Slot}
 use Rattle.clsm_model.specs.declared.slot.Slot.TheVariants.{Nothing}
@@ -65,7 +65,7 @@ module _ (k : Known) (component until number first : ℕ) where
   abbrev begun : AnyWalk
   begun = AlongEpoch (record {
     epoch = record { component = component; number = number; first = first; until = min until (first + cells) };
-    ahead = None;
+    stand = record { ahead = None; leaps = false };
     last = None;
   })
 

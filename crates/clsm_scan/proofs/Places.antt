@@ -19,7 +19,11 @@ use Rattle.clsm_scan.specs.Walks.{any_found, any_last}
 -- what is read past the end, where nothing is read
 abbrev pub nowhere : Stream
 nowhere = record {
-  walk = AlongEpoch (record { epoch = record { component = 0; number = 0; first = 0; until = 0 }; ahead = None; last = None });
+  walk = AlongEpoch (record {
+    epoch = record { component = 0; number = 0; first = 0; until = 0 };
+    stand = record { ahead = None; leaps = false };
+    last = None;
+  });
   key = 0;
 }
 

@@ -37,7 +37,7 @@ epoch_walk component number first cells until =
     cond (nat_lt first until)
     (Some (AlongEpoch (record {
       epoch = record { component = component; number = number; first = first; until = min until (first + cells) };
-      ahead = None;
+      stand = record { ahead = None; leaps = false };
       last = None;
     }))) None
 

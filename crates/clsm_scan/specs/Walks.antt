@@ -27,7 +27,7 @@ any_over k (AlongRun w) = IsSearchable k w.run.component w.run.place × If (IsPa
 
 -- no write with a key from this one on is behind it
 abbrev pub any_stands : Known → AnyWalk → ℕ → Type 0
-any_stands k (AlongEpoch w) from = StandsAt k w.epoch from w.ahead
+any_stands k (AlongEpoch w) from = StandsAt k w.epoch from w.stand.ahead
 any_stands k (AlongRun w) from = IsPassageFrom k w.run w.until from w.passage
 
 -- the write that it came by last
@@ -53,11 +53,11 @@ any_found_stays k k' (AlongEpoch w) looks over key = found_on k k' w.epoch looks
 any_found_stays k k' (AlongRun w) looks over key = found_in_run_on k k' w.run.component w.run.place w.until looks.looks over.0 key
 
 pub any_stands_stays : (k k' : Known) (w : AnyWalk) (from : ℕ) → LooksAside k k' → any_over k w → any_stands k w from → any_stands k' w from
-any_stands_stays k k' (AlongEpoch w) from looks over stands = stands_on k k' w.epoch from w.ahead looks.looks over.0 stands
+any_stands_stays k k' (AlongEpoch w) from looks over stands = stands_on k k' w.epoch from w.stand.ahead looks.looks over.0 stands
 any_stands_stays k k' (AlongRun w) from looks over stands = passage_stays k k' w.run w.until from w.passage looks.looks over.0 stands
 
 pub any_stands_later : (k : Known) (w : AnyWalk) (from later : ℕ) → from ≤ later → any_stands k w from → any_stands k w later
-any_stands_later k (AlongEpoch w) from later le stands = stands_later k w.epoch from later w.ahead le stands
+any_stands_later k (AlongEpoch w) from later le stands = stands_later k w.epoch from later w.stand.ahead le stands
 any_stands_later k (AlongRun w) from later le stands = passage_later k w.run w.until from later w.passage le stands
 
 pub any_last_stays : (k k' : Known) (w : AnyWalk) → LooksAside k k' → any_over k w → any_last k' w ≡ any_last k w

@@ -1,5 +1,5 @@
 //! A walk along the ordered list of an epoch.
-ghost use Rattle.std.specs.Prelude.{◌≡◌, ◌∷◌, [], None, true};
+ghost use Rattle.std.specs.Prelude.{◌≡◌, ◌∷◌, [], None, false, true};
 ghost use Rattle.clsm_model.specs.Map.{Pair};
 ghost use Rattle.clsm_search.specs.Ordering.{MayWalk, StandsAt, found_in_epoch};
 ghost use Rattle.clsm_search.proofs.Orders.{walk_on};
@@ -13,15 +13,15 @@ use crate::sink::Sink;
 use crate::source::Source;
 use crate::walk::Walk;
 use clsm_model::{Key, Value};
-use clsm_search::Epoch;
+use clsm_search::{Epoch, Stand};
 use clsm_words::{Pace, RawSeat, Spot, Words};
 
 /// A walk along an epoch of the held component.
 #[derive(Clone, Copy)]
 pub struct EpochCursor {
     epoch: Epoch,
-    /// The spot of the list from which it goes on, if there is one.
-    ahead: Option<Spot>,
+    /// Where it stands in the list.
+    stand: Stand,
     /// The spot of the write that it came by last, if there was one.
     last: Option<Spot>,
 }
@@ -29,11 +29,11 @@ pub struct EpochCursor {
 impl EpochCursor {
     /// The walk along the epoch, which has to seek first.
     pub fn new(epoch: Epoch) -> EpochCursor
-        ensures { result ≡ record { epoch = epoch; ahead = None; last = None } }
+        ensures { result ≡ record { epoch = epoch; stand = record { ahead = None; leaps = false }; last = None } }
     {
         EpochCursor {
             epoch,
-            ahead: None,
+            stand: Stand::at(None),
             last: None,
         }
     }
@@ -70,7 +70,7 @@ impl Source for EpochCursor {
 
     ghost is_over = { λ k w. MayWalk k w.epoch × If (IsWriteAt k w.epoch) w.last };
 
-    ghost stands = { λ k w from. StandsAt k w.epoch from w.ahead };
+    ghost stands = { λ k w from. StandsAt k w.epoch from w.stand.ahead };
 
     ghost last = { λ k w. spot_entry k w.epoch w.last };
 
@@ -100,23 +100,23 @@ impl Source for EpochCursor {
 
     ghost found_stays = { λ k k' w looks over key. found_on k k' w.epoch looks.looks key };
 
-    ghost stands_stays = { λ k k' w from looks over stands. stands_on k k' w.epoch from w.ahead looks.looks over.0 stands };
+    ghost stands_stays = { λ k k' w from looks over stands. stands_on k k' w.epoch from w.stand.ahead looks.looks over.0 stands };
 
-    ghost stands_later = { λ k w from later le stands. stands_later k w.epoch from later w.ahead le stands };
+    ghost stands_later = { λ k w from later le stands. stands_later k w.epoch from later w.stand.ahead le stands };
 
     ghost last_stays = { λ k k' w looks over. spot_same k k' w.epoch w.last looks.looks };
 }
 
 impl Walk for EpochCursor {
     fn seek<P: Pace>(&mut self, words: &Words<P>, seat: &mut RawSeat, key: Key) {
-        self.ahead = self.epoch.seek(words, seat, key);
+        self.stand = Stand::at(self.epoch.seek(words, seat, key));
         self.last = None;
     }
 
     #[inline(always)]
     fn next<P: Pace>(&mut self, words: &Words<P>, seat: &mut RawSeat, from: u64) -> Option<u64> {
         // (place and key are written word by word: a copy of both would wait for them)
-        match self.epoch.newest_from(words, seat, &mut self.ahead, from) {
+        match self.epoch.newest_from(words, seat, &mut self.stand, from) {
             Some(Spot { place, key }) => {
                 self.last = Some(Spot { place, key });
                 Some(key)

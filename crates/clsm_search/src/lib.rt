@@ -27,3 +27,4 @@ pub use list::Epoch;
 pub use scale::Scale;
 pub use searching::newest;
 pub use spans::{Span, is_written_in};
+pub use versions::Stand;
