@@ -14,6 +14,8 @@ use Rattle.clsm_model.specs.declared.record.Deed.{Deed}
 use Rattle.clsm_store.specs.Changes.{Replaces, added}
 use Rattle.clsm_store.specs.Freezing.{TryFreezes}
 use Rattle.clsm_store.specs.Opening.{IsRefusal}
+use Rattle.clsm_store.specs.Phase.{CountsIfFrozen}
+use Rattle.clsm_store.specs.declared.phase.NotFrozen.{NotFrozen}
 use Rattle.clsm_store.specs.Sweeping.{TrySweeps}
 use Rattle.clsm_store.specs.declared.freezing.TryFroze.{TryFroze}
 use Rattle.clsm_store.specs.declared.freezing.TryFroze.TheVariants.{Busy as FreezeBusy, Done as FreezeDone, Waited as FreezeWaited}
@@ -44,6 +46,7 @@ use Rattle.clsm_c.specs.declared.types.CoreAdding.{CoreAdding}
 use Rattle.clsm_c.specs.declared.types.CoreChanged.{CoreChanged}
 use Rattle.clsm_c.specs.declared.types.CoreCode.{CoreCode}
 use Rattle.clsm_c.specs.declared.types.CoreCounted.{CoreCounted}
+use Rattle.clsm_c.specs.declared.types.CoreEntries.{CoreEntries}
 use Rattle.clsm_c.specs.declared.types.CoreGot.{CoreGot}
 use Rattle.clsm_c.specs.declared.types.CoreKey.{CoreKey}
 use Rattle.clsm_c.specs.declared.types.CorePaged.{CorePaged}
@@ -52,6 +55,7 @@ use Rattle.clsm_c.specs.declared.types.CoreReplacing.{CoreReplacing}
 use Rattle.clsm_c.specs.declared.types.CoreRow.{CoreRow}
 use Rattle.clsm_c.specs.declared.types.CoreSizes.{CoreSizes}
 use Rattle.clsm_c.specs.declared.types.CoreTime.{CoreTime}
+use Rattle.clsm_c.specs.declared.types.CoreTurn.{CoreTurn}
 use Rattle.clsm_c.specs.declared.types.CoreUsed.{CoreUsed}
 use Rattle.clsm_c.specs.Values.{IsValue, TellsValue}
 
@@ -355,6 +359,21 @@ abbrev pub FreezesIf : Option OwnMerger → CoreUsed → Option OwnMerger → �
 FreezesIf (Some old) ask (Some new) code = (came : Result TryFroze Worn) × (code ≡ freeze_code came) × TryFreezes ask.used old.phase new.phase came
 FreezesIf None ask None code = code ≡ NO_HANDLE
 FreezesIf _ ask _ code = ⊥
+
+-- the code of a count of entries, and the number that it answers
+abbrev pub entries_code : Result ℕ NotFrozen → ℕ
+entries_code (Ok entries) = OK
+entries_code (Err refusal) = IDLE
+
+abbrev pub entries_told : Result ℕ NotFrozen → ℕ
+entries_told (Ok entries) = entries
+entries_told (Err refusal) = 0
+
+abbrev pub CountsEntries : Option OwnMerger → CoreTurn → Option OwnMerger → CoreEntries → ℕ → Type 0
+CountsEntries (Some old) ask (Some new) answer code =
+    (counted : Result ℕ NotFrozen) × (code ≡ entries_code counted) × (answer.entries ≡ entries_told counted) × CountsIfFrozen old.phase new.phase ask.turn counted
+CountsEntries None ask None answer code = code ≡ NO_HANDLE
+CountsEntries _ ask _ answer code = ⊥
 
 -- the code of what a sweep came to
 abbrev pub sweep_code : Result TrySwept Stopped → ℕ

@@ -1,7 +1,7 @@
 //! The calls for C, on slots: safe functions, one for each export, of its name.
 ghost use Rattle.std.specs.Prelude.{◌≡◌, ◌<◌, IfErr, IfNone, IfOk, IfSome};
 ghost use Rattle.clsm_c.specs.Calls.{Adds, AreMembers, Batches, Closes, Counts, Fills, FreezesIf, Gets, GetsAt, IsNext, IsPinnedBy, IsRefusedAt, IsTimeOf};
-ghost use Rattle.clsm_c.specs.Calls.{Opens, Pages};
+ghost use Rattle.clsm_c.specs.Calls.{CountsEntries, Opens, Pages};
 ghost use Rattle.clsm_c.specs.Calls.{HasLong, IsBatchTime, IsMember, Puts, Removes, ReplacesBy, Snaps, Sweeps, TakesCaller, TakesMerger, TellsChange};
 ghost use Rattle.clsm_c.specs.Calls.{batch_code, change_code, found_code, freeze_code, kept_code, refusal_code, refused_code, sweep_code, try_code};
 ghost use Rattle.clsm_c.specs.Calls.{value_after};
@@ -14,9 +14,9 @@ use crate::codes::{
 };
 use crate::slots::{CallerSlot, MergerSlot, StoreSlot};
 use crate::types::{
-    CoreAdding, CoreChanged, CoreCode, CoreCounted, CoreGot, CoreKey, CorePaged, CoreRange,
-    CoreReplacing, CoreRow, CoreSizes, CoreTime, CoreUsed, TooLong, from_core, to_core,
-    value_or_none,
+    CoreAdding, CoreChanged, CoreCode, CoreCounted, CoreEntries, CoreGot, CoreKey, CorePaged,
+    CoreRange, CoreReplacing, CoreRow, CoreSizes, CoreTime, CoreTurn, CoreUsed, TooLong, from_core,
+    to_core, value_or_none,
 };
 use clsm_handle::{
     BatchError, Change, Config, Got, OpenError, Rmw, Stopped, Time, TryBatchError, TryFroze,
@@ -490,4 +490,18 @@ pub(crate) fn try_sweep(slot: &mut MergerSlot, ask: &CoreUsed, answer: &mut Core
     let (merger, came) = merger.try_sweep_if_used(ask.used);
     slot.merger = Some(merger);
     tell_sweep(came, answer)
+}
+
+pub(crate) fn count_entries(slot: &mut MergerSlot, ask: &CoreTurn, answer: &mut CoreEntries) -> Code
+    ensures { CountsEntries slot.old.merger ask.now slot.new.merger answer.new result }
+{
+    answer.entries = 0;
+    let Some(merger) = &mut slot.merger else {
+        return NO_HANDLE;
+    };
+    let Ok(entries) = merger.entries(ask.turn) else {
+        return IDLE;
+    };
+    answer.entries = entries;
+    OK
 }

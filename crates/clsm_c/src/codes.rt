@@ -81,7 +81,7 @@ pub const BAD_PATIENCE: Code = 34;
 /// The value has no word, or more than eight.
 pub const BAD_VALUE: Code = 35;
 
-/// The batch has no member, or more than fit.
+/// The batch has no member, or more than an epoch has cells.
 pub const BAD_BATCH: Code = 36;
 
 /// A pointer is null.
@@ -95,3 +95,9 @@ pub const BAD_SEATS: Code = 39;
 
 /// The shards.
 pub const BAD_SHARDS: Code = 40;
+
+/// Who merges.
+pub const BAD_MERGE: Code = 41;
+
+/// The batch has no row.
+pub const EMPTY_BATCH: Code = 42;

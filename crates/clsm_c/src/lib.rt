@@ -7,7 +7,7 @@
 
 ghost use Rattle.std.specs.Prelude.{◌≡◌};
 ghost use Rattle.std.specs.Ptr.{room_at};
-ghost use Rattle.clsm_c.specs.Calls.{Adds, Batches, Closes, Counts, FreezesIf, Gets, GetsAt, Opens, Pages, Puts, Removes, ReplacesBy, Snaps, Sweeps};
+ghost use Rattle.clsm_c.specs.Calls.{Adds, Batches, Closes, Counts, CountsEntries, FreezesIf, Gets, GetsAt, Opens, Pages, Puts, Removes, ReplacesBy, Snaps, Sweeps};
 ghost use Rattle.clsm_c.specs.Calls.{TakesCaller, TakesMerger};
 ghost use Rattle.clsm_c.specs.Lent.{both, bytes_of, left, lies};
 ghost use Rattle.clsm_c.specs.contracts.slots.CallerSlot.{the_row as caller_row};
@@ -24,8 +24,9 @@ use slots::{CallerSlot, MergerSlot, StoreSlot};
 pub use slots::{CALLER_WORDS, MERGER_WORDS, STORE_WORDS};
 use std::alloc::Global;
 pub use types::{
-    CoreAdding, CoreChanged, CoreCode, CoreCounted, CoreGot, CoreKey, CorePaged, CoreRange,
-    CoreReplacing, CoreRooms, CoreRow, CoreSizes, CoreTime, CoreUsed, CoreValue,
+    CoreAdding, CoreChanged, CoreCode, CoreCounted, CoreEntries, CoreGot, CoreKey, CorePaged,
+    CoreRange, CoreReplacing, CoreRooms, CoreRow, CoreSizes, CoreTime, CoreTurn, CoreUsed,
+    CoreValue,
 };
 
 // ---- stores
@@ -346,4 +347,20 @@ pub unsafe extern "C" fn clsm_core_try_sweep(
     ensures* { sem 𝓛 (left merger_row merger (λ new. Sweeps old.merger ask.now new.merger answer.new result)) }
 {
     calls::try_sweep(unsafe { &mut *merger.cast::<MergerSlot>() }, ask, answer)
+}
+
+/// Answers how many entries the run has that is searched at this turn, counted from 0: those of
+/// level 0, the newest first, and then that of level 1; 0 if there are fewer runs. Answers `OK`; or
+/// `IDLE`, and 0, if no epoch is frozen.
+#[unsafe(no_mangle)]
+pub unsafe extern "C" fn clsm_core_count_entries(
+    merger: *mut u8,
+    ask: &CoreTurn,
+    answer: &mut CoreEntries,
+) -> u32
+    ghost old: { MergerSlot }
+    requires* { sem 𝓛 (lies merger_row merger old) }
+    ensures* { sem 𝓛 (left merger_row merger (λ new. CountsEntries old.merger ask.now new.merger answer.new result)) }
+{
+    calls::count_entries(unsafe { &mut *merger.cast::<MergerSlot>() }, ask, answer)
 }

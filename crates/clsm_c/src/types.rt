@@ -74,6 +74,13 @@ pub struct CoreUsed {
     pub used: u64,
 }
 
+/// Which of the merged runs: the turn at which it is searched, counted from 0.
+#[repr(C)]
+#[derive(Clone, Copy)]
+pub struct CoreTurn {
+    pub turn: u64,
+}
+
 /// The bytes that each kind of handle takes.
 #[repr(C)]
 #[derive(Clone, Copy)]
@@ -120,6 +127,13 @@ pub struct CoreChanged {
 pub struct CoreCounted {
     pub time: u64,
     pub keys: u64,
+}
+
+/// How many entries a run has.
+#[repr(C)]
+#[derive(Clone, Copy)]
+pub struct CoreEntries {
+    pub entries: u64,
 }
 
 /// The time of a page, how many rows it has, and, if there are more, the key at which they begin.

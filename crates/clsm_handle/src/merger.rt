@@ -2,10 +2,10 @@
 ghost use Rattle.std.specs.Prelude.{◌≡◌};
 ghost use Rattle.std.specs.Arc.{arc_value};
 ghost use Rattle.clsm_store.specs.Freezing.{TryFreezes};
-ghost use Rattle.clsm_store.specs.Phase.{merger_in};
+ghost use Rattle.clsm_store.specs.Phase.{CountsIfFrozen, merger_in};
 ghost use Rattle.clsm_store.specs.Sweeping.{TrySweeps};
 
-use clsm_store::{Free, Merger, Phase, Stopped, Store, TryFroze, TrySwept, Worn};
+use clsm_store::{Free, Merger, NotFrozen, Phase, Stopped, Store, TryFroze, TrySwept, Worn};
 use std::alloc::Global;
 use std::sync::Arc;
 
@@ -30,6 +30,13 @@ impl OwnMerger {
         };
         let (Merger { phase, .. }, answer) = merger.try_freeze_if_used(used);
         (OwnMerger { store, phase }, answer)
+    }
+
+    /// As `Phase::entries`.
+    pub fn entries(&mut self, turn: u64) -> Result<u64, NotFrozen>
+        ensures { CountsIfFrozen self.old.phase self.new.phase turn result }
+    {
+        self.phase.entries(&*self.store, turn)
     }
 
     /// As `Merger::try_sweep_if_used`.

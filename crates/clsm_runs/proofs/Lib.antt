@@ -1,4 +1,5 @@
 pub mod NamedRuns
+pub mod Turns
 pub mod Looking
 pub mod EntryValues
 pub mod Remaining

@@ -10,10 +10,10 @@ use Rattle.clsm_levels.specs.Pass.{kept_after}
 use Rattle.clsm_levels.specs.Run.{all_of}
 use Rattle.clsm_levels.specs.Version.{version_of}
 use Rattle.clsm_law.specs.declared.word.Word.TheVariants.{Count}
-use Rattle.clsm_law.specs.Memory.{room_of}
+use Rattle.clsm_law.specs.Memory.{Memory, room_of}
 use Rattle.clsm_law.specs.Merging.{is_frozen, target_of}
 use Rattle.clsm_law.specs.Places.{entries_from, entries_in, is_named}
-use Rattle.clsm_law.specs.Worlds.{are_canonical, is_canonical, passes_from}
+use Rattle.clsm_law.specs.Worlds.{are_canonical, is_canonical, passes_from, runs_of}
 use Rattle.clsm_words.specs.declared.known.Known.{Known}
 use Rattle.clsm_words.specs.Knowing.{row_of}
 use Rattle.clsm_search.specs.declared.frozen_walk.FrozenWalk.{FrozenWalk}
@@ -36,6 +36,11 @@ pub record AreSources (rows : List (List Entry)) : Type 0 where
 abbrev pub IsPlaceOfRow : Known → ℕ → Option ℕ → Type 0
 IsPlaceOfRow k row None = row_at (rows_of k) row ≡ []
 IsPlaceOfRow k row (Some place) = (row_at (rows_of k) row ≡ run_at k place) × (is_named k.merger.merged place ≡ true) × (place < 5)
+
+-- the place of the run that is searched at this turn, behind so many merges
+abbrev pub IsPlaceOfTurn : Memory → ℕ → ℕ → Option ℕ → Type 0
+IsPlaceOfTurn memory merges turn None = row_at (runs_of memory merges) turn ≡ []
+IsPlaceOfTurn memory merges turn (Some place) = (row_at (runs_of memory merges) turn ≡ entries_in memory place) × (is_named merges place ≡ true) × (place < 5)
 
 -- the entry stands where the winner says, and this is its version
 pub record IsTaken (rows : List (List Entry)) (w : Winner) (e : Entry) : Type 0 where

@@ -2,6 +2,7 @@
 //! and merged.
 #![tactic(auto)]
 
+mod counting;
 mod entry;
 mod finding;
 mod merging;
@@ -13,6 +14,7 @@ mod side;
 mod sources;
 mod writing;
 
+pub use counting::entries_at;
 pub use entry::HeldRun;
 pub use finding::Wanted;
 pub use merging::{RunFull, merge};

@@ -12,7 +12,7 @@ use Rattle.clsm_store.specs.declared.phase.MergeError.TheVariants.{NotFrozen as 
 use Rattle.clsm_store.specs.declared.phase.NotFrozen.{NotFrozen}
 use Rattle.clsm_store.specs.declared.phase.ReclaimError.{ReclaimError}
 use Rattle.clsm_store.specs.declared.phase.ReclaimError.TheVariants.{NotRetired, Pinned}
-use Rattle.clsm_store.specs.Promises.{FreezesEpoch, MergesEpoch, ReclaimsRetired}
+use Rattle.clsm_store.specs.Promises.{CountsEntries, FreezesEpoch, MergesEpoch, ReclaimsRetired}
 
 -- the merger, in whichever phase it is
 abbrev pub merger_in : Phase → MergerState
@@ -43,6 +43,13 @@ pub record MeetsMerger (old new : Phase) (before after : SeatState) (result : Re
   pub seat : after ≡ before
   -- a frozen epoch agrees with what the seat knows; where none is, the call is refused
   pub meets : AgreesIfFrozen old before.past result
+
+-- entries, in any phase: refused where no epoch is frozen
+abbrev pub CountsIfFrozen : Phase → Phase → ℕ → Result ℕ NotFrozen → Type 0
+CountsIfFrozen (Frozen old) (Frozen new) turn (Ok entries) = CountsEntries old new turn entries
+CountsIfFrozen (Frozen old) _ turn _ = ⊥
+CountsIfFrozen old new turn (Ok entries) = ⊥
+CountsIfFrozen old new turn (Err _) = new ≡ old
 
 -- where an epoch is frozen, it is merged, and the number of merges is answered, or the merge is
 -- refused; else nothing is done

@@ -4,9 +4,10 @@
 -- seat of its store; `get_at` also for an open snapshot, `rmw` and `visit` for a function that may
 -- be called with any value, `hear` for a message of the store. At the end stand the merger's calls:
 -- each asks for its store's token in one phase, `old`, and hands one back.
-use Rattle.std.specs.Prelude.{◌≡◌, ℕ, ◌+◌, ◌*◌, ◌^◌, ◌<◌, ◌≤◌, List, replicate}
+use Rattle.std.specs.Prelude.{◌≡◌, ℕ, ◌+◌, ◌*◌, ◌^◌, ◌<◌, ◌≤◌, List, length, replicate}
 use Rattle.std.specs.Prelude.{Option, None, Some, IfNone, IfSome, Result, IfErr, IfOk}
 use Rattle.clsm_law.specs.Merging.{unseen}
+use Rattle.clsm_levels.specs.Cursors.{row_at}
 use Rattle.clsm_law.specs.Views.{next_word}
 use Rattle.clsm_model.specs.declared.plain_map.Memory.{Memory}
 use Rattle.clsm_model.specs.declared.record.Deed.{Deed}
@@ -335,6 +336,13 @@ pub record MeetsSeat (old new : FrozenState) (before after : SeatState) : Type 0
   pub seat : after ≡ before
   -- the epoch's writes and the runs are those of a history that begins with what the seat knows
   pub agrees : AgreesWith before.past old
+
+-- entries, of the run that is searched at this turn
+pub record CountsEntries (old new : FrozenState) (turn entries : ℕ) : Type 0 where
+  -- the token stays as it was
+  pub token : new ≡ old
+  -- the run has so many; there are none where there are fewer runs
+  pub entries_of : entries ≡ length (row_at old.runs turn)
 
 -- merge
 pub record MergesEpoch (old : FrozenState) (result : Result RetiredState (FrozenState × RunFull)) : Type 0 where

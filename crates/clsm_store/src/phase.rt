@@ -1,7 +1,12 @@
 //! The merger's phases, and why a call of the merger does nothing.
+ghost use Rattle.std.specs.Prelude.{◌≡◌};
+ghost use Rattle.clsm_store.specs.Phase.{CountsIfFrozen, merger_in};
+
 use crate::merger::{Clean, Frozen, Retired};
+use crate::store::Store;
 use clsm_runs::RunFull;
 use clsm_store_calls::{Pinned, Worn};
+use clsm_words::Pace;
 use thiserror::Error;
 
 /// The merger's token, in whichever phase it is.
@@ -13,6 +18,19 @@ pub enum Phase {
     Frozen(Frozen),
     /// A component is retired.
     Retired(Retired),
+}
+
+impl Phase {
+    /// As `Frozen::entries`. Refused in any other phase, where nothing is done.
+    pub fn entries<P: Pace>(&mut self, store: &Store<P>, turn: u64) -> Result<u64, NotFrozen>
+        requires { (merger_in self.old).store ≡ store.now }
+        ensures { CountsIfFrozen self.old self.new turn result }
+    {
+        match self {
+            Phase::Frozen(frozen) => Ok(frozen.entries(store, turn)),
+            _ => Err(NotFrozen),
+        }
+    }
 }
 
 /// Why no epoch was frozen. The token is then as it was.

@@ -28,7 +28,7 @@ pub use batching::{batch, try_batch};
 pub use changing::{Modification, change};
 pub use freezing::{freeze, try_freeze};
 pub use got::{Counted, Got, Page, Rmw, Scan};
-pub use looking::{drawn_at, room_at};
+pub use looking::{drawn_at, entries_at, room_at};
 pub use meeting::{confirm_at, meet_at};
 pub use merger_seat::MergerSeat;
 pub use merging::merge;

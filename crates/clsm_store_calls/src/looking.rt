@@ -1,9 +1,10 @@
-//! Looks at how full an epoch is.
-ghost use Rattle.std.specs.Prelude.{◌≡◌};
+//! Looks at how full an epoch is, and the runs.
+ghost use Rattle.std.specs.Prelude.{◌≡◌, length};
+ghost use Rattle.clsm_levels.specs.Cursors.{row_at};
 ghost use Rattle.clsm_words.specs.Plays.{IsSeatOf};
-ghost use Rattle.clsm_store_calls.specs.Freezing.{IsClean};
+ghost use Rattle.clsm_store_calls.specs.Freezing.{IsClean, IsFrozen};
 ghost use Rattle.clsm_store_calls.specs.Looking.{LooksAtClock, LooksForRoom, drawn_of};
-ghost use Rattle.clsm_store_calls.specs.Merging.{IsReady, clean_of};
+ghost use Rattle.clsm_store_calls.specs.Merging.{IsReady, clean_of, frozen_of};
 ghost use Rattle.clsm_store_calls.specs.Resting.{IsAtRest};
 
 use crate::merger_seat::MergerSeat;
@@ -37,4 +38,20 @@ pub fn drawn_at<P: Pace>(words: &Words<P>, merger: &mut MergerSeat) -> u64
 {
     let clock = words.look_as_merger(&mut merger.raw, Word::Clock);
     clock.saturating_sub(merger.merges.saturating_mul(words.cells()))
+}
+
+/// How many entries the run has that is searched at this turn, while an epoch is frozen: none where
+/// there are fewer runs.
+pub fn entries_at<P: Pace>(words: &Words<P>, merger: &mut MergerSeat, turn: u64) -> u64
+    requires of { IsSeatOf words.now merger.old.raw }
+    requires frozen { IsFrozen merger.old.raw.knows merger.old.merges }
+    requires ready { IsReady merger.old }
+    ensures of { IsSeatOf words.now merger.new.raw }
+    ensures frozen { IsFrozen merger.new.raw.knows merger.new.merges }
+    ensures ready { IsReady merger.new }
+    ensures same { frozen_of merger.new ≡ frozen_of merger.old }
+    ensures told { result ≡ length (row_at (frozen_of merger.old).runs turn) }
+{
+    merger.raw.show_invariant();
+    clsm_runs::entries_at(words, &mut merger.raw, merger.merges, turn)
 }

@@ -4,7 +4,7 @@ ghost use Rattle.clsm_store_calls.specs.Freezing.{IsClean, IsFrozen};
 ghost use Rattle.clsm_store_calls.specs.Looking.{LooksAtClock, drawn_of};
 ghost use Rattle.clsm_store_calls.specs.Merging.{IsReady, IsRetiring, clean_of, frozen_of, retired_of};
 ghost use Rattle.clsm_store_calls.specs.Seats.{CleanState, FrozenState, RetiredState};
-ghost use Rattle.clsm_store.specs.Promises.{FreezesEpoch, MeetsSeat, MergesEpoch, ReclaimsRetired, TriesToFreezeEpoch};
+ghost use Rattle.clsm_store.specs.Promises.{CountsEntries, FreezesEpoch, MeetsSeat, MergesEpoch, ReclaimsRetired, TriesToFreezeEpoch};
 
 use crate::phase::TryFreezeError;
 use crate::seat::Seat;
@@ -14,7 +14,7 @@ use clsm_law::LAST_LIMIT;
 use clsm_model::Time;
 use clsm_runs::RunFull;
 use clsm_store_calls::{
-    MergerSeat, Pinned, Worn, agree_at, drawn_at, freeze, merge, reclaim, try_freeze,
+    MergerSeat, Pinned, Worn, agree_at, drawn_at, entries_at, freeze, merge, reclaim, try_freeze,
 };
 use clsm_words::Pace;
 use std::marker::Model;
@@ -169,6 +169,16 @@ impl Frozen {
         ensures { result ≡ self.now.noted }
     {
         self.merger.noted
+    }
+
+    /// How many entries the run has that is searched at this turn, counted from 0: those of level 0,
+    /// the newest first, and then that of level 1; 0 if there are fewer runs. The token is as it
+    /// was. It costs one look, and never waits.
+    pub fn entries<P: Pace>(&mut self, store: &Store<P>, turn: u64) -> u64
+        requires { self.old.merger.store ≡ store.now }
+        ensures { CountsEntries self.old self.new turn result }
+    {
+        entries_at(&store.words, &mut self.merger, turn)
     }
 
     /// Shows what holds while an epoch is frozen: there is a history whose writes in the epoch are
