@@ -1,36 +1,23 @@
 //! Callers.
 mod batches;
 mod changes;
+mod walks;
 
 use crate::error::{Memory, NoSeat, Refused, TryError, Unseen};
-use crate::pause::Pause;
-use crate::pool::Home;
-use crate::range::{read_page, Page, Range};
-use crate::seat::{range_of, Lost, Seat};
+use crate::library::{unexpected, Code, Handle};
+use crate::range::{read_page, Keys, Page, Range};
 use crate::snapshot::Snapshot;
-use crate::store::Shared;
 use crate::value::Value;
 use crate::Time;
-use std::cell::Cell;
+use cupolanettle_sys as raw;
 use std::fmt;
 use std::ops::RangeBounds;
-use std::sync::Arc;
-
-/// How often a caller that is to follow a time reads before it gives up.
-const MOST_LOOKS: u32 = 64;
 
 /// Makes calls on a store, from one thread at a time.
 ///
-/// A caller may be moved to another thread, but not shared:
-///
-/// ```compile_fail,E0277
-/// fn share<T: Sync>() {}
-/// share::<cupolanettle::Caller>();
-/// ```
-///
-/// So each thread has its own. Reads take no lock and never wait; each reads the map as it was at
-/// one moment. Writes wait while another thread merges what they need, and are refused only if the
-/// store is too small.
+/// Reads take no lock and never wait; each reads the map as it was at one moment. Writes wait
+/// while another thread merges what they need. They are [refused](Refused) if too many keys have a
+/// value, or if a snapshot stays open for too long.
 ///
 /// ```
 /// use cupolanettle::{Error, Options, Value};
@@ -44,40 +31,28 @@ const MOST_LOOKS: u32 = 64;
 /// # Ok::<(), Error>(())
 /// ```
 ///
-/// The reads of a caller see all that it wrote. For those of other callers see
-/// [`follow`](Caller::follow).
+/// The reads of a caller see all that it wrote, and of others [what came
+/// before](crate#what-a-read-sees).
+///
+/// A caller may be moved to another thread, but not shared. So each thread opens its own, and
+/// where one shares another's, the compiler says that `OneCallerForEachThread` cannot be shared:
+///
+/// ```compile_fail,E0277
+/// # use cupolanettle::{Error, Options};
+/// # let store = Options::new().keys(1_000).open()?;
+/// let caller = store.caller()?;
+/// std::thread::scope(|scope| {
+///     scope.spawn(|| caller.get(7));
+/// });
+/// # Ok::<(), Error>(())
+/// ```
 pub struct Caller {
-    /// There until the drop.
-    seat: Option<Seat>,
-    home: Arc<Home>,
-    /// The time of the last answered call.
-    time: Cell<Time>,
-    /// Reads are at this time or later.
-    seen: Cell<Time>,
-    /// A write at this time or later tells the merger of it.
-    tell_at: Cell<Time>,
+    handle: Handle<raw::Caller>,
 }
 
 impl Caller {
-    pub(crate) fn open(shared: &Arc<Shared>) -> Result<Caller, NoSeat> {
-        let (seat, seen) = shared.pool.take()?;
-        let home = Arc::new(Home::new(shared));
-        shared.pool.make_known(seat.number, &home);
-        Ok(Caller {
-            seat: Some(seat),
-            home,
-            time: Cell::new(0),
-            seen: Cell::new(seen),
-            tell_at: Cell::new(shared.works.tell_from()),
-        })
-    }
-
-    #[inline]
-    fn seat(&self) -> &Seat {
-        match &self.seat {
-            Some(seat) => seat,
-            None => unreachable!(),
-        }
+    pub(crate) fn of(handle: Handle<raw::Caller>) -> Caller {
+        Caller { handle }
     }
 
     // ---- times
@@ -93,7 +68,7 @@ impl Caller {
     /// ```
     #[must_use]
     pub fn number(&self) -> usize {
-        self.seat().number
+        self.handle.number()
     }
 
     /// The time of the last call that was answered, or 0 before any: of a write its own, of a read
@@ -111,7 +86,7 @@ impl Caller {
     /// ```
     #[must_use]
     pub fn time(&self) -> Time {
-        self.time.get()
+        self.handle.time()
     }
 
     /// The time from which on reads see all that this caller wrote and read. Send it along with a
@@ -128,18 +103,23 @@ impl Caller {
     /// ```
     #[must_use]
     pub fn seen(&self) -> Time {
-        self.seen.get()
+        self.handle.seen()
     }
 
-    /// From now on this caller's reads, snapshots and iterators are at this time or later, at which
-    /// another caller of the store had [seen](Caller::seen) what it had. It reads once.
+    /// From now on this caller's reads, snapshots and iterators are at this time or later, which
+    /// another caller of the store had [seen](Caller::seen): they see what that had seen. Costs a
+    /// read, or nothing if they do so already.
+    ///
+    /// A time is a number, and tells nothing of the store that it is of. One of another store is
+    /// refused if this store has not reached it, and else taken for one of this store: reads are
+    /// right, but nobody is followed.
     ///
     /// # Errors
     ///
-    /// [`Unseen`] where the store has not come to that time, so that no caller of it has seen it.
+    /// [`Unseen`] if the store has not reached that time, so that no caller of it has seen it.
     ///
     /// ```
-    /// # use cupolanettle::{Error, Options};
+    /// # use cupolanettle::{Error, Options, Unseen};
     /// let store = Options::new().keys(1_000).open()?;
     /// let (one, other) = (store.caller()?, store.caller()?);
     /// one.put(7, 70)?;
@@ -149,19 +129,15 @@ impl Caller {
     /// other.follow(seen)?;
     /// assert_eq!(other.get(key), Some(70.into()));
     ///
-    /// assert!(other.follow(seen + 1_000).is_err());
+    /// assert_eq!(other.follow(seen + 1_000), Err(Unseen));
     /// # Ok::<(), Error>(())
     /// ```
     pub fn follow(&self, seen: Time) -> Result<(), Unseen> {
-        let mut pause = Pause::new();
-        for _ in 0..MOST_LOOKS {
-            self.get(0);
-            if self.time() >= seen {
-                return Ok(());
-            }
-            pause.wait();
+        match self.handle.follow(seen) {
+            raw::OK => Ok(()),
+            raw::BAD_VALUE => Err(Unseen),
+            code => unexpected(code),
         }
-        Err(Unseen)
     }
 
     // ---- writes
@@ -169,11 +145,13 @@ impl Caller {
     /// Writes the value at the key, and answers the write's time.
     ///
     /// Where another thread is faster it tries again. Where the epoch is full it sleeps until the
-    /// merger has begun the next one.
+    /// merger has begun the next one; if open snapshots keep that from making room, until one of
+    /// them is dropped, for as long as [`Options::wait`](crate::Options::wait) says. While a long
+    /// merge runs, it sleeps now and then, for a millisecond at most.
     ///
     /// # Errors
     ///
-    /// [`Refused`], with nothing written.
+    /// [`Refused`], with nothing written; [`Refused::RunFull`] only if the key has no value.
     ///
     /// ```
     /// # use cupolanettle::{Error, Options, Value};
@@ -187,9 +165,7 @@ impl Caller {
     /// ```
     #[inline]
     pub fn put(&self, key: u64, value: impl Into<Value>) -> Result<Time, Refused> {
-        let value = value.into();
-        let time = self.write(|seat| seat.try_put(key, value))?;
-        Ok(self.wrote(time))
+        self.written(self.handle.put(key, &value.into()))
     }
 
     /// Removes the key, whether or not it has a value, and answers the removal's time. It takes
@@ -197,7 +173,7 @@ impl Caller {
     ///
     /// # Errors
     ///
-    /// [`Refused`], with nothing removed.
+    /// [`Refused`], with nothing removed; never [`Refused::RunFull`].
     ///
     /// ```
     /// # use cupolanettle::{Error, Options};
@@ -210,15 +186,15 @@ impl Caller {
     /// # Ok::<(), Error>(())
     /// ```
     pub fn remove(&self, key: u64) -> Result<Time, Refused> {
-        let time = self.write(|seat| seat.try_remove(key))?;
-        Ok(self.wrote(time))
+        self.written(self.handle.remove(key))
     }
 
     /// As [`put`](Caller::put), but it tries once and never waits.
     ///
     /// # Errors
     ///
-    /// [`TryError`], with nothing written.
+    /// [`TryError`], with nothing written; [`TryError::Refused`] where `put` would be refused, or
+    /// would wait for a snapshot to be dropped.
     ///
     /// ```
     /// # use cupolanettle::{Error, Options, TryError};
@@ -226,78 +202,58 @@ impl Caller {
     /// let caller = store.caller()?;
     /// match caller.try_put(1, 10) {
     ///     Ok(time) => println!("written at {time}"),
-    ///     Err(TryError::Full) => println!("after the merge"),
-    ///     Err(lost) => println!("now: {lost}"),
+    ///     Err(TryError::Refused(refused)) => return Err(refused.into()),
+    ///     Err(TryError::Full) => println!("again, after the merge"),
+    ///     Err(lost) => println!("again, at once: {lost}"),
     /// }
     /// # Ok::<(), Error>(())
     /// ```
     #[inline]
     pub fn try_put(&self, key: u64, value: impl Into<Value>) -> Result<Time, TryError> {
-        let value = value.into();
-        let time = self.try_write(|seat| seat.try_put(key, value))?;
-        Ok(self.wrote(time))
+        self.tried(self.handle.try_put(key, &value.into()))
     }
 
     /// As [`remove`](Caller::remove), but it tries once and never waits.
     ///
     /// # Errors
     ///
-    /// [`TryError`], with nothing removed.
+    /// [`TryError`], with nothing removed. A loop of tries ends with [`TryError::Refused`].
     ///
     /// ```
-    /// # use cupolanettle::{Error, Options};
+    /// # use cupolanettle::{Error, Options, TryError};
     /// let store = Options::new().keys(1_000).open()?;
     /// let caller = store.caller()?;
     /// caller.put(1, 10)?;
-    /// while caller.try_remove(1).is_err() {}
+    /// loop {
+    ///     match caller.try_remove(1) {
+    ///         Ok(_) => break,
+    ///         Err(TryError::Refused(refused)) => return Err(refused.into()),
+    ///         Err(_) => std::thread::yield_now(),
+    ///     }
+    /// }
     /// assert_eq!(caller.get(1), None);
     /// # Ok::<(), Error>(())
     /// ```
     pub fn try_remove(&self, key: u64) -> Result<Time, TryError> {
-        let time = self.try_write(|seat| seat.try_remove(key))?;
-        Ok(self.wrote(time))
+        self.tried(self.handle.try_remove(key))
     }
 
-    /// Tries until a write is answered, or there is no room for it.
-    fn write<T>(&self, once: impl Fn(&Seat) -> Result<T, Lost>) -> Result<T, Refused> {
-        let mut pause = Pause::new();
-        loop {
-            match once(self.seat()) {
-                Ok(answer) => return Ok(answer),
-                Err(Lost::Full(time)) => self.home.shared.works.make_room(time)?,
-                Err(Lost::Again(_)) => pause.wait(),
-            }
+    /// What a write came to.
+    #[inline]
+    fn written(&self, code: Code) -> Result<Time, Refused> {
+        match code {
+            raw::OK => Ok(self.time()),
+            code => Err(Refused::of(code)),
         }
     }
 
-    /// Tries once.
-    fn try_write<T>(&self, once: impl Fn(&Seat) -> Result<T, Lost>) -> Result<T, TryError> {
-        once(self.seat()).map_err(|lost| match lost {
-            Lost::Full(time) => {
-                self.home.shared.works.call(time);
-                TryError::Full
-            }
-            Lost::Again(error) => error,
-        })
-    }
-
-    /// Notes a write at this time. By its own times a writer knows how far the epoch is, so that it
-    /// shares no word with others until half of that is drawn.
+    /// What a write came to that was tried once.
     #[inline]
-    fn wrote(&self, time: Time) -> Time {
-        self.wrote_all(time, 1)
-    }
-
-    /// Notes so many writes, the first one at this time.
-    #[inline]
-    fn wrote_all(&self, time: Time, writes: Time) -> Time {
-        let end = time + writes;
-        self.time.set(time);
-        self.seen.set(self.seen.get().max(end));
-        if end > self.tell_at.get() {
-            self.tell_at.set(self.home.shared.works.tell(end - 1));
+    fn tried(&self, code: Code) -> Result<Time, TryError> {
+        match code {
+            raw::OK => Ok(self.time()),
+            code => Err(TryError::of(code)),
         }
-        time
     }
 
     // ---- reads
@@ -314,13 +270,9 @@ impl Caller {
     /// # Ok::<(), Error>(())
     /// ```
     #[inline]
+    #[allow(clippy::must_use_candidate)] // a read moves the caller's time, too
     pub fn get(&self, key: u64) -> Option<Value> {
-        loop {
-            let got = self.seat().get(key);
-            if self.is_in_order(got.time) {
-                return got.value;
-            }
-        }
+        self.handle.get(key)
     }
 
     /// How many keys of the range have a value. It walks all of them, and takes no memory.
@@ -337,22 +289,21 @@ impl Caller {
     /// ```
     #[must_use]
     pub fn count(&self, keys: impl RangeBounds<u64>) -> u64 {
-        let asked = range_of(&keys);
-        loop {
-            let (time, count) = self.seat().count(asked);
-            if self.is_in_order(time) {
-                return count;
-            }
-        }
+        self.handle.count(Keys::of(&keys))
     }
 
-    /// The first rows of the range by rising key, at most so many, all read at one moment. The next
-    /// page is read at a moment of its own: for all rows at one moment, take a
+    /// The first rows of the range by rising key, at most so many, as they are at one moment,
+    /// without a snapshot.
+    ///
+    /// The next page is read at a moment of its own: for all rows at one moment, take a
     /// [`range`](Caller::range) or a [`snapshot`](Caller::snapshot).
+    ///
+    /// It takes time and memory for the rows that there are: more than 1,024 are read several
+    /// times, each time with four times the room.
     ///
     /// # Errors
     ///
-    /// [`Memory`]: it takes room for so many rows.
+    /// [`Memory`].
     ///
     /// ```
     /// # use cupolanettle::{Error, Options};
@@ -367,32 +318,18 @@ impl Caller {
     /// # Ok::<(), Error>(())
     /// ```
     pub fn page(&self, keys: impl RangeBounds<u64>, most: usize) -> Result<Page, Memory> {
-        let asked = range_of(&keys);
-        loop {
-            let (time, page) = read_page(self.seat(), asked, most)?;
-            if self.is_in_order(time) {
-                return Ok(page);
-            }
-        }
-    }
-
-    /// Whether a read at this time is not below what this caller had seen, and notes it then. The
-    /// core orders what one seat does. What a caller has seen may be another seat's: of a snapshot,
-    /// of a caller that it follows, or of one that was dropped before. So that is tested.
-    #[inline]
-    fn is_in_order(&self, time: Time) -> bool {
-        if time < self.seen.get() {
-            return false;
-        }
-        self.seen.set(time);
-        self.time.set(time);
-        true
+        read_page(&self.handle, Keys::of(&keys), most)
     }
 
     // ---- snapshots
 
     /// Opens a snapshot of the present, which sees all that this caller wrote and read. It is a
-    /// handle of its own, and may outlive the caller.
+    /// handle of its own, and may outlive the caller. It costs a read, and a lock only if the
+    /// caller has no seat to spare, of which it keeps one once it has used it.
+    ///
+    /// While it is open, writes of this caller do not wait for snapshots to be dropped: they are
+    /// [refused](Refused::OwnSnapshot) at once. For a snapshot that another thread reads
+    /// meanwhile, take [`Store::snapshot`](crate::Store::snapshot).
     ///
     /// # Errors
     ///
@@ -410,16 +347,15 @@ impl Caller {
     /// # Ok::<(), Error>(())
     /// ```
     pub fn snapshot(&self) -> Result<Snapshot, NoSeat> {
-        let seat = self.home.take_seat()?;
-        let snapshot = Snapshot::open(seat, Arc::clone(&self.home), self.seen());
-        self.seen.set(snapshot.time());
-        self.time.set(snapshot.time());
-        Ok(snapshot)
+        Ok(Snapshot::of(self.handle.snapshot()?))
     }
 
-    /// The rows of the range by rising key, at one moment: that of a
-    /// [`snapshot`](Caller::snapshot), which the iterator has to itself and reads by up to 64 rows at
-    /// a time.
+    /// An iterator over the rows of the range by rising key, as they are at one moment: over a
+    /// snapshot.
+    ///
+    /// It has that [`snapshot`](Caller::snapshot) to itself, and reads up to 64 rows at a time. A
+    /// long loop that writes as it reads takes a [`walk`](Caller::walk): here its writes may be
+    /// [refused](Refused::OwnSnapshot), as the snapshot keeps old versions.
     ///
     /// # Errors
     ///
@@ -442,15 +378,7 @@ impl Caller {
     /// # Ok::<(), Error>(())
     /// ```
     pub fn range(&self, keys: impl RangeBounds<u64>) -> Result<Range<Snapshot>, NoSeat> {
-        Ok(Range::new(self.snapshot()?, range_of(&keys)))
-    }
-}
-
-impl Drop for Caller {
-    fn drop(&mut self) {
-        if let Some(seat) = self.seat.take() {
-            self.home.close(seat, self.seen());
-        }
+        Ok(Range::new(self.snapshot()?, Keys::of(&keys)))
     }
 }
 

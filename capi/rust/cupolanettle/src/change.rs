@@ -1,7 +1,6 @@
 //! What changes answer.
 use crate::value::Value;
 use crate::Time;
-use cupolanettle_sys as raw;
 
 /// What a change of a key found, and what the key has after it.
 ///
@@ -43,19 +42,4 @@ pub struct Kept {
     pub time: Time,
     /// The value that the key has, if it has one.
     pub value: Option<Value>,
-}
-
-impl Changed {
-    #[inline]
-    pub(crate) fn from_raw(raw: &raw::Changed) -> Changed {
-        let (before, after) = (Value::from_raw(raw.before), Value::from_raw(raw.after));
-        Changed { time: raw.time, before, after }
-    }
-}
-
-impl Kept {
-    #[inline]
-    pub(crate) fn from_raw(raw: &raw::Changed) -> Kept {
-        Kept { time: raw.time, value: Value::from_raw(raw.before) }
-    }
 }

@@ -1,6 +1,10 @@
 //! Why calls are refused.
+mod conversions;
+mod texts;
+
 use crate::change::Kept;
-use std::fmt;
+use crate::library::{unexpected, Code};
+use cupolanettle_sys as raw;
 
 /// Why a store was not opened. Nothing of it is kept.
 ///
@@ -12,12 +16,17 @@ use std::fmt;
 #[non_exhaustive]
 #[derive(Clone, Copy, PartialEq, Eq, Hash, Debug)]
 pub enum OpenError {
-    /// [`keys`](crate::Options::keys) is 0, or with four times the epoch more than 4,194,304.
+    /// [`keys`](crate::Options::keys) is not from 1 to 4,194,304 less six times the epoch and 64.
     Keys,
-    /// [`epoch`](crate::Options::epoch) is not between 4 and 65,536.
+    /// [`versions`](crate::Options::versions) is not from six times the epoch and 64 to 4,194,304
+    /// less the keys.
+    Versions,
+    /// [`epoch`](crate::Options::epoch) is not from 4 to 65,536.
     Epoch,
     /// [`patience`](crate::Options::patience) is over 64.
     Patience,
+    /// [`wait`](crate::Options::wait) is over 18,446,744,073,709 milliseconds.
+    Wait,
     /// Memory ran out.
     Memory,
     /// The system started no thread for the merger.
@@ -26,7 +35,8 @@ pub enum OpenError {
     Build,
 }
 
-/// Why a write was refused. Nothing was written.
+/// Why a write was refused. Nothing was written, and all else goes on: reads are never refused,
+/// and the same write is taken once there is room.
 ///
 /// ```
 /// use cupolanettle::{Error, Options, Refused};
@@ -35,20 +45,52 @@ pub enum OpenError {
 /// let caller = store.caller()?;
 /// let snapshot = caller.snapshot()?; // keeps all versions
 /// let refused = (0..1_000).find_map(|number| caller.put(7, number).err());
-/// assert_eq!(refused, Some(Refused::RunFull));
+/// assert_eq!(refused, Some(Refused::OwnSnapshot));
 ///
 /// drop(snapshot);
 /// caller.put(7, 70)?;
 /// # Ok::<(), Error>(())
 /// ```
+///
+/// A store with too many keys takes all writes but those that would give it one more:
+///
+/// ```
+/// # use cupolanettle::{Error, Options, Refused};
+/// let store = Options::new().keys(100).epoch(4).open()?;
+/// let caller = store.caller()?;
+/// let full = (0..).find(|&key| caller.put(key, 0).is_err()).unwrap();
+/// assert_eq!(caller.put(full, 0), Err(Refused::RunFull));
+///
+/// caller.put(7, 70)?; // it has a value
+/// caller.retain(100.., |_, _| false)?; // removes all but 100 keys
+/// caller.put(full, 0)?;
+/// # Ok::<(), Error>(())
+/// ```
 #[non_exhaustive]
 #[derive(Clone, Copy, PartialEq, Eq, Hash, Debug)]
 pub enum Refused {
-    /// The epoch is full, and the one before it cannot be merged: there are more keys, and versions
-    /// for open snapshots, than the store was opened for. Once a snapshot or an iterator is dropped,
-    /// the same call may succeed. If none is open, the store takes no write any more, removals among
-    /// them: copy its rows to a larger one.
+    /// More keys have a value than the store was opened [for](crate::Options::keys), and this
+    /// write would give one more key a value. Writes of keys that have a value, and removals, are
+    /// taken still.
+    ///
+    /// Once so many keys were removed that no more have a value than that, the same write is
+    /// taken. To find that out it counts all keys, where that may help.
     RunFull,
+    /// The epoch is full, and the one before cannot be merged, since open snapshots and iterators
+    /// keep more old versions than the store has [room](crate::Options::versions) for. The write
+    /// has [waited](crate::Options::wait) for one of them to be dropped. While none is open, no
+    /// write is refused so.
+    ///
+    /// Once enough of them are dropped, the oldest first, the same write is taken. Keep them for a
+    /// shorter time, or open the store with more room or a longer wait.
+    VersionsFull,
+    /// As [`VersionsFull`](Refused::VersionsFull), but this caller has a
+    /// [snapshot](crate::Caller::snapshot) or [iterator](crate::Caller::range) open itself. So the
+    /// write did not wait: as a rule its own thread would have to drop that.
+    ///
+    /// Once it is dropped, the same write is taken, or waits for others. A loop that writes as it
+    /// reads takes a [`walk`](crate::Caller::walk), which keeps no versions.
+    OwnSnapshot,
     /// Times end at 2^62. No real program gets there.
     Worn,
 }
@@ -106,32 +148,73 @@ pub enum BatchError {
     Refused(Refused),
 }
 
-/// Why a write that never waits was not made. Nothing was written. The same call may succeed if it
-/// is made again.
+/// Why a write that never waits was not made. Nothing was written.
+///
+/// All but [`Refused`](TryError::Refused) may be made again at once. With that, a loop of tries
+/// ends: it would go on for as long as the store is full.
 ///
 /// ```
-/// use cupolanettle::{Error, Options, TryError};
+/// use cupolanettle::{Caller, Error, Options, Refused, TryError};
+/// use std::thread;
 ///
-/// let store = Options::new().keys(1_000).epoch(4).merge_in_calls().open()?;
+/// fn put(caller: &Caller, key: u64, word: u64) -> Result<(), Refused> {
+///     loop {
+///         match caller.try_put(key, word) {
+///             Ok(_) => return Ok(()),
+///             Err(TryError::Refused(refused)) => return Err(refused),
+///             Err(_) => thread::yield_now(), // or work of another kind
+///         }
+///     }
+/// }
+///
+/// let store = Options::new().keys(4).epoch(4).open()?;
 /// let caller = store.caller()?;
-/// let refused = (0..1_000).find_map(|key| caller.try_put(key, 0).err());
-/// assert_eq!(refused, Some(TryError::Full));
-/// store.sweep()?;
-/// caller.try_put(4, 0)?;
+/// let refused = (0..).find_map(|key| put(&caller, key, 0).err());
+/// assert_eq!(refused, Some(Refused::RunFull));
 /// # Ok::<(), Error>(())
 /// ```
 #[non_exhaustive]
 #[derive(Clone, Copy, PartialEq, Eq, Hash, Debug)]
 pub enum TryError {
-    /// The epoch has no room: a merge must begin first. The merger was called; where
+    /// The epoch has no room yet: a merge must begin first. The merger's thread was called. Where
     /// [calls merge](crate::Options::merge_in_calls), call [`Store::sweep`](crate::Store::sweep).
     Full,
-    /// Another thread was entering or leaving a write, or freezing the epoch.
+    /// Another thread was entering or leaving a write, or freezing the epoch, or counting the
+    /// keys.
     Busy,
     /// Another write was faster.
     Raced,
     /// A reader would not wait for this write, and cancelled it.
     Overtaken,
+    /// A write that waits would be refused, too, or would wait for a snapshot to be dropped: the
+    /// last merge came to that. [`OwnSnapshot`](Refused::OwnSnapshot) is told as
+    /// [`VersionsFull`](Refused::VersionsFull) here.
+    Refused(Refused),
+}
+
+/// Why [`retain`](crate::Caller::retain) did not come to the end of its range. Rows that it
+/// removed before are removed.
+///
+/// ```
+/// use cupolanettle::{Error, Options, RetainError};
+///
+/// let store = Options::new().keys(1_000).open()?;
+/// let caller = store.caller()?;
+/// caller.put(7, 70)?;
+/// match caller.retain(.., |_, value| value[0] < 50) {
+///     Ok(removed) => assert_eq!(removed, 1),
+///     Err(RetainError::Memory) => println!("give some back, and go on"),
+///     Err(refused) => return Err(refused.into()),
+/// }
+/// # Ok::<(), Error>(())
+/// ```
+#[non_exhaustive]
+#[derive(Clone, Copy, PartialEq, Eq, Hash, Debug)]
+pub enum RetainError {
+    /// Memory ran out. The same call may succeed if it is made again.
+    Memory,
+    /// A removal was refused, which is never for too many keys.
+    Refused(Refused),
 }
 
 /// All 64 seats of the store are taken by callers, snapshots and iterators that are open.
@@ -141,10 +224,20 @@ pub enum TryError {
 ///
 /// let store = Options::new().keys(1_000).open()?;
 /// let callers: Vec<_> = (0..64).map(|_| store.caller()).collect::<Result<_, _>>()?;
-/// assert!(matches!(store.caller(), Err(NoSeat { .. })));
+/// assert!(matches!(store.caller(), Err(NoSeat)));
 /// # Ok::<(), Error>(())
 /// ```
-#[non_exhaustive]
+///
+/// Its name in a pattern stands for this error alone, as do those of [`Memory`], [`BadValue`] and
+/// [`Unseen`]. Another error does not compile there:
+///
+/// ```compile_fail,E0308
+/// use cupolanettle::{Error, NoSeat};
+///
+/// fn is_no_seat(result: Result<(), Error>) -> bool {
+///     matches!(result, Err(NoSeat)) // Err(Error::NoSeat(NoSeat))
+/// }
+/// ```
 #[derive(Clone, Copy, PartialEq, Eq, Hash, Debug)]
 pub struct NoSeat;
 
@@ -155,10 +248,12 @@ pub struct NoSeat;
 ///
 /// let store = Options::new().keys(1_000).open()?;
 /// let caller = store.caller()?;
-/// assert!(matches!(caller.page(.., usize::MAX), Err(Memory { .. })));
+/// match caller.page(.., 100) {
+///     Ok(page) => assert!(page.rows.is_empty()),
+///     Err(Memory) => println!("give some back, and read again"),
+/// }
 /// # Ok::<(), Error>(())
 /// ```
-#[non_exhaustive]
 #[derive(Clone, Copy, PartialEq, Eq, Hash, Debug)]
 pub struct Memory;
 
@@ -168,23 +263,21 @@ pub struct Memory;
 /// use cupolanettle::{BadValue, Value};
 ///
 /// let words = vec![7; 9];
-/// assert!(matches!(Value::try_from(&words[..]), Err(BadValue { .. })));
+/// assert_eq!(Value::try_from(&words[..]), Err(BadValue));
 /// ```
-#[non_exhaustive]
 #[derive(Clone, Copy, PartialEq, Eq, Hash, Debug)]
 pub struct BadValue;
 
-/// No caller of the store has seen this time.
+/// The store has not reached this time, so that no caller of it has seen it.
 ///
 /// ```
 /// use cupolanettle::{Error, Options, Unseen};
 ///
 /// let store = Options::new().keys(1_000).open()?;
 /// let caller = store.caller()?;
-/// assert!(matches!(caller.follow(1), Err(Unseen { .. })));
+/// assert_eq!(caller.follow(1), Err(Unseen));
 /// # Ok::<(), Error>(())
 /// ```
-#[non_exhaustive]
 #[derive(Clone, Copy, PartialEq, Eq, Hash, Debug)]
 pub struct Unseen;
 
@@ -227,168 +320,46 @@ pub enum Error {
     Unseen(Unseen),
 }
 
-impl fmt::Display for OpenError {
-    fn fmt(&self, f: &mut fmt::Formatter<'_>) -> fmt::Result {
-        f.write_str(match self {
-            OpenError::Keys => "keys out of range: 1 to 4194304 less four times the epoch",
-            OpenError::Epoch => "epoch out of range: 4 to 65536",
-            OpenError::Patience => "patience out of range: 0 to 64",
-            OpenError::Memory => "memory ran out",
-            OpenError::NoThread => "no thread for the merger",
-            OpenError::Build => "the linked library is of another build",
-        })
-    }
-}
+// ---- what the codes of the library say
 
-impl fmt::Display for Refused {
-    fn fmt(&self, f: &mut fmt::Formatter<'_>) -> fmt::Result {
-        f.write_str(match self {
-            Refused::RunFull => "the store holds as many keys and versions as it can",
-            Refused::Worn => "times have come to their end",
-        })
-    }
-}
-
-impl fmt::Display for Kept {
-    fn fmt(&self, f: &mut fmt::Formatter<'_>) -> fmt::Result {
-        f.write_str("the change does not fit the value of the key")
-    }
-}
-
-impl fmt::Display for ChangeError {
-    fn fmt(&self, f: &mut fmt::Formatter<'_>) -> fmt::Result {
-        match self {
-            ChangeError::Kept(kept) => kept.fmt(f),
-            ChangeError::Refused(refused) => refused.fmt(f),
+impl OpenError {
+    pub(crate) fn of(code: Code) -> OpenError {
+        match code {
+            raw::BAD_KEYS => OpenError::Keys,
+            raw::BAD_VERSIONS => OpenError::Versions,
+            raw::BAD_EPOCH => OpenError::Epoch,
+            raw::BAD_PATIENCE => OpenError::Patience,
+            raw::BAD_WAIT => OpenError::Wait,
+            raw::MEMORY => OpenError::Memory,
+            raw::NO_THREAD => OpenError::NoThread,
+            raw::BAD_BUILD => OpenError::Build,
+            code => unexpected(code),
         }
     }
 }
 
-impl fmt::Display for BatchError {
-    fn fmt(&self, f: &mut fmt::Formatter<'_>) -> fmt::Result {
-        match self {
-            BatchError::Empty => f.write_str("the batch has no write"),
-            BatchError::TooLong => f.write_str("the batch has more writes than an epoch"),
-            BatchError::Memory => Memory.fmt(f),
-            BatchError::Refused(refused) => refused.fmt(f),
+impl Refused {
+    #[cold]
+    pub(crate) fn of(code: Code) -> Refused {
+        match code {
+            raw::RUN_FULL => Refused::RunFull,
+            raw::VERSIONS_FULL => Refused::VersionsFull,
+            raw::OWN_SNAPSHOT => Refused::OwnSnapshot,
+            raw::WORN => Refused::Worn,
+            code => unexpected(code),
         }
     }
 }
 
-impl fmt::Display for TryError {
-    fn fmt(&self, f: &mut fmt::Formatter<'_>) -> fmt::Result {
-        f.write_str(match self {
-            TryError::Full => "the epoch is full",
-            TryError::Busy => "another thread was entering or leaving",
-            TryError::Raced => "another write was faster",
-            TryError::Overtaken => "a reader cancelled the write",
-        })
-    }
-}
-
-impl fmt::Display for NoSeat {
-    fn fmt(&self, f: &mut fmt::Formatter<'_>) -> fmt::Result {
-        f.write_str("all seats of the store are taken")
-    }
-}
-
-impl fmt::Display for Memory {
-    fn fmt(&self, f: &mut fmt::Formatter<'_>) -> fmt::Result {
-        f.write_str("memory ran out")
-    }
-}
-
-impl fmt::Display for BadValue {
-    fn fmt(&self, f: &mut fmt::Formatter<'_>) -> fmt::Result {
-        f.write_str("a value has one to eight words")
-    }
-}
-
-impl fmt::Display for Unseen {
-    fn fmt(&self, f: &mut fmt::Formatter<'_>) -> fmt::Result {
-        f.write_str("no caller of the store has seen this time")
-    }
-}
-
-impl fmt::Display for Error {
-    fn fmt(&self, f: &mut fmt::Formatter<'_>) -> fmt::Result {
-        match self {
-            Error::Open(error) => error.fmt(f),
-            Error::Refused(error) => error.fmt(f),
-            Error::Kept(error) => error.fmt(f),
-            Error::Batch(error) => error.fmt(f),
-            Error::Try(error) => error.fmt(f),
-            Error::NoSeat(error) => error.fmt(f),
-            Error::Memory(error) => error.fmt(f),
-            Error::BadValue(error) => error.fmt(f),
-            Error::Unseen(error) => error.fmt(f),
-        }
-    }
-}
-
-impl std::error::Error for Error {}
-
-/// Makes each type an error, and one that `?` turns into [`Error`].
-macro_rules! errors {
-    ($($error:ident => $variant:ident,)*) => {$(
-        impl std::error::Error for $error {}
-
-        impl From<$error> for Error {
-            fn from(error: $error) -> Error {
-                Error::$variant(error)
-            }
-        }
-    )*};
-}
-
-errors! {
-    OpenError => Open,
-    Refused => Refused,
-    Kept => Kept,
-    TryError => Try,
-    NoSeat => NoSeat,
-    Memory => Memory,
-    BadValue => BadValue,
-    Unseen => Unseen,
-}
-
-impl std::error::Error for ChangeError {}
-
-impl std::error::Error for BatchError {}
-
-impl From<Refused> for BatchError {
-    fn from(refused: Refused) -> BatchError {
-        BatchError::Refused(refused)
-    }
-}
-
-impl From<BatchError> for Error {
-    fn from(error: BatchError) -> Error {
-        match error {
-            BatchError::Refused(refused) => refused.into(),
-            BatchError::Memory => Memory.into(),
-            own => Error::Batch(own),
-        }
-    }
-}
-
-impl From<Kept> for ChangeError {
-    fn from(kept: Kept) -> ChangeError {
-        ChangeError::Kept(kept)
-    }
-}
-
-impl From<Refused> for ChangeError {
-    fn from(refused: Refused) -> ChangeError {
-        ChangeError::Refused(refused)
-    }
-}
-
-impl From<ChangeError> for Error {
-    fn from(error: ChangeError) -> Error {
-        match error {
-            ChangeError::Kept(kept) => kept.into(),
-            ChangeError::Refused(refused) => refused.into(),
+impl TryError {
+    #[cold]
+    pub(crate) fn of(code: Code) -> TryError {
+        match code {
+            raw::FULL => TryError::Full,
+            raw::BUSY => TryError::Busy,
+            raw::RACED => TryError::Raced,
+            raw::OVERTAKEN => TryError::Overtaken,
+            code => TryError::Refused(Refused::of(code)),
         }
     }
 }

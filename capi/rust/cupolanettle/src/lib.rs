@@ -1,9 +1,9 @@
 //! An ordered map in memory for many threads, from `u64` to values of one to eight words.
 //!
-//! Reads take no lock and never wait, and a snapshot reads the map as it was. A thread of the store
-//! merges old versions in the background. The map is the proved core of Cupolanettle, a concurrent
-//! log-structured merge map: every answer of a single call is that of a plain map of the writes
-//! below its time.
+//! Reads take no lock and never wait, and a snapshot reads the map as it was. A thread of the
+//! store merges old versions in the background. The map is the proved core of Cupolanettle, a
+//! concurrent log-structured merge map: every answer of a single call is that of a plain map of
+//! the writes below its time.
 //!
 //! # A word counter
 //!
@@ -50,8 +50,9 @@
 //! - [`Options`] opens a [`Store`] with all the memory that it will ever need.
 //! - A [`Caller`] writes and reads. Each thread has its own.
 //! - A [`Snapshot`] reads the map as it was when it was opened.
-//! - A [`Range`] gives row after row of a snapshot.
+//! - A [`Range`] gives row after row of a snapshot, and a [`Walk`] those of the present.
 //! - A [`Value`] is a slice of one to eight words.
+//! - [`Statistics`] are what a store tells of itself.
 //!
 //! # Writes and changes
 //!
@@ -61,60 +62,129 @@
 //! [`Caller::update`] for any function of the old value. A [`Batch`] has writes of several keys,
 //! which [`Caller::batch`] makes at one moment.
 //!
+//! # Iterators
+//!
+//! [`Caller::range`] and [`Snapshot::range`] go by a snapshot: all rows are of one moment, and the
+//! store keeps old versions meanwhile. [`Caller::walk`] goes without one, for loops that write as
+//! they read. It is weakly consistent, as iterators of concurrent skip lists are: it reads up to 64
+//! rows at a time, each time as they are by then. [`Caller::retain`] removes rows as it walks.
+//!
+//! ```
+//! # use cupolanettle::{Error, Options};
+//! # let store = Options::new().keys(1_000).open()?;
+//! # let caller = store.caller()?;
+//! # (0..500).try_for_each(|key| caller.put(key, key).map(drop))?;
+//! for row in caller.walk(..)? {
+//!     let (key, value) = row?;
+//!     caller.put(key, 2 * value[0])?;
+//! }
+//! let removed = caller.retain(.., |_, value| value[0] >= 900)?;
+//! assert_eq!((removed, caller.range(..)?.count()), (450, 50));
+//! # Ok::<(), Error>(())
+//! ```
+//!
 //! # Seats
 //!
-//! A store has 64 seats: each caller, snapshot and iterator takes one while it is open. A caller
-//! keeps one more for its next snapshot, until somebody else needs it.
+//! A store has 64 seats: each caller, each snapshot and each iterator that has a snapshot of its
+//! own takes one while it is open. A caller keeps one more for its next snapshot, until somebody
+//! else needs it. More threads than seats share a pool of callers; a channel is one:
+//!
+//! ```
+//! use cupolanettle::{Error, Options};
+//! use std::sync::{mpsc, Mutex};
+//! use std::thread;
+//!
+//! const THREADS: u64 = 200;
+//! const CALLERS: usize = 8;
+//!
+//! fn main() -> Result<(), Error> {
+//!     let store = Options::new().keys(1_000).open()?;
+//!     let (give, take) = mpsc::channel();
+//!     for _ in 0..CALLERS {
+//!         give.send(store.caller()?).expect("the pool is open");
+//!     }
+//!     let take = Mutex::new(take);
+//!     thread::scope(|scope| {
+//!         for own in 0..THREADS {
+//!             let (give, take) = (give.clone(), &take);
+//!             scope.spawn(move || {
+//!                 let next = take.lock().expect("no panic").recv(); // waits until one is free
+//!                 let caller = next.expect("the pool is open");
+//!                 caller.put(own, own).expect("there is room");
+//!                 give.send(caller).expect("the pool is open");
+//!             });
+//!         }
+//!     });
+//!     assert_eq!(store.snapshot()?.count(..), THREADS);
+//!     Ok(())
+//! }
+//! ```
 //!
 //! # Times
 //!
-//! Each write has a [time](Time) of its own; later writes have greater ones. A read has a time too:
-//! it answers by all writes below that, and by no other. No caller's times run back. If a thread
-//! tells another of something that it wrote or read, it can send [`Caller::seen`] along: after
-//! [`Caller::follow`] the other one's reads see it as well.
+//! Each write has a [time](Time) of its own; later writes have greater ones. A read has a time
+//! too: it answers by all writes below that, and by no other. No caller's times run back.
+//!
+//! # What a read sees
+//!
+//! A call that ended before another began, with a lock, a channel, a join or a sequentially
+//! consistent atomic between them, is seen by it. [`Caller::seen`] and [`Caller::follow`] are for
+//! the rest, such as a message by a socket, a file or a relaxed atomic.
+//!
+//! That holds since each read is at the time that the store's clock shows as the read begins, and
+//! a write ends when the clock shows more than its time. All atomics of the core are sequentially
+//! consistent, so that a read that begins later finds that time on the clock, or a greater one.
+//! Within one caller this is proved; between callers it is tested, where threads hand over what
+//! they wrote in each of these ways.
 //!
 //! # Memory
 //!
-//! [`Options::keys`] says how many keys the store has room for. Each write is a version, and merges
-//! drop the versions that no snapshot needs. There is room for those of four epochs more: a
-//! snapshot that stays open for longer, while keys are overwritten, makes writes be refused with
-//! [`Refused::RunFull`].
+//! A store takes all its memory when it is opened. [`Options::keys`] says how many keys it has
+//! room for. Where there are more, writes that would give one more key a value are refused with
+//! [`Refused::RunFull`]; all others are taken, and once keys were removed, these are, too.
+//!
+//! Each write is a version, and merges drop the versions that no open snapshot may read.
+//! [`Options::versions`] says for how many the store has room beside its keys. If a snapshot stays
+//! open for more writes than that, writes wait for it to be dropped, for up to [`Options::wait`],
+//! and then are refused with [`Refused::VersionsFull`]. A caller that has a snapshot open itself
+//! would wait for its own thread, and is refused at once, with [`Refused::OwnSnapshot`].
+//! [`Store::stats`] tells how much room there is, and how old the oldest snapshot is.
 //!
 //! # What is trusted
 //!
-//! The answer of each call of the core, and its memory safety, are proved. This crate is not: its
-//! `unsafe` blocks, all in one file, pass to the core what it asks. The order of what two seats do
-//! follows from the order of atomic operations, and is tested as calls are made. `malloc` is to
-//! align by 16, no call may be made from a signal handler or in a forked child, and each needs some
-//! 16 KiB of stack.
+//! The answer of each call of the core, and its memory safety, are proved. The library for C
+//! around it is not, with its locks, its seats and its thread, nor is this crate: its `unsafe`
+//! blocks, all in one file, pass to the library what that asks. `malloc` is to align by 16, no
+//! call may be made from a signal handler, none but drops in a forked child, and each needs 16 KiB
+//! of stack.
 #![warn(missing_docs)]
 #![deny(unsafe_code, unsafe_op_in_unsafe_fn)]
 
 mod batch;
-mod board;
 mod caller;
 mod change;
 mod error;
-mod handle;
-mod merging;
-mod pause;
-mod pool;
+mod library;
 mod range;
-mod seat;
 mod snapshot;
+mod statistics;
 mod store;
 mod value;
+mod walk;
 
 pub use batch::Batch;
 pub use caller::Caller;
 pub use change::{Changed, Kept};
 pub use error::{
-    BadValue, BatchError, ChangeError, Error, Memory, NoSeat, OpenError, Refused, TryError, Unseen,
+    BadValue, BatchError, ChangeError, Error, Memory, NoSeat, OpenError, Refused, RetainError,
+    TryError, Unseen,
 };
 pub use range::{Page, Range};
 pub use snapshot::Snapshot;
+pub use statistics::Statistics;
 pub use store::{Options, Store};
 pub use value::Value;
+pub use walk::Walk;
 
 /// A time: each write has one of its own, and a read sees the writes below its own. A new store is
 /// at time 0, and times end at 2^62.
@@ -129,3 +199,8 @@ pub use value::Value;
 /// # Ok::<(), Error>(())
 /// ```
 pub type Time = u64;
+
+/// The programs of the readme, for tests.
+#[cfg(doctest)]
+#[doc = include_str!("../../README.md")]
+struct Readme;

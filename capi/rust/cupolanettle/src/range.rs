@@ -1,6 +1,6 @@
 //! Pages, and iterators over rows.
 use crate::error::Memory;
-use crate::seat::Seat;
+use crate::library::{Handle, Kind};
 use crate::snapshot::Snapshot;
 use crate::value::Value;
 use crate::Time;
@@ -8,9 +8,43 @@ use cupolanettle_sys as raw;
 use std::borrow::Borrow;
 use std::fmt;
 use std::iter::FusedIterator;
+use std::ops::{Bound, RangeBounds};
 
 /// The most rows that an iterator reads at a time.
-const MOST_ROWS: usize = 64;
+const ROWS_AT_A_TIME: usize = 64;
+
+/// A page is read with room for so many rows at first.
+const FIRST_ROOM: usize = 1_024;
+
+/// It is read anew with so many times the room while there are more rows.
+const GROWTH: usize = 4;
+
+/// The keys from the first one to the last one, both included; none if the first is above the
+/// last.
+#[derive(Clone, Copy)]
+pub(crate) struct Keys {
+    pub(crate) first: u64,
+    pub(crate) last: u64,
+}
+
+impl Keys {
+    pub(crate) fn of(bounds: &impl RangeBounds<u64>) -> Keys {
+        let first = match bounds.start_bound() {
+            Bound::Included(&key) => Some(key),
+            Bound::Excluded(&key) => key.checked_add(1),
+            Bound::Unbounded => Some(0),
+        };
+        let last = match bounds.end_bound() {
+            Bound::Included(&key) => Some(key),
+            Bound::Excluded(&key) => key.checked_sub(1),
+            Bound::Unbounded => Some(u64::MAX),
+        };
+        match (first, last) {
+            (Some(first), Some(last)) => Keys { first, last },
+            _ => Keys { first: 1, last: 0 },
+        }
+    }
+}
 
 /// The first rows of a range.
 ///
@@ -35,44 +69,39 @@ pub struct Page {
     pub next: Option<u64>,
 }
 
-/// Room for so many rows.
-fn room(rows: usize) -> Result<Vec<raw::Row>, Memory> {
-    let mut room = Vec::new();
-    room.try_reserve_exact(rows).map_err(|_| Memory)?;
-    room.resize(rows, raw::Row::default());
-    Ok(room)
-}
-
 /// The key and the value of a row that was read.
-fn pair(row: &raw::Row) -> Option<(u64, Value)> {
+#[inline]
+pub(crate) fn pair(row: &raw::Row) -> Option<(u64, Value)> {
     Some((row.key, Value::from_raw(row.value)?))
 }
 
-/// How many rows were read.
-#[allow(clippy::cast_possible_truncation)] // no more than there was room for
-fn rows_of(page: raw::Paged) -> usize {
-    page.rows as usize
-}
-
-/// Reads a page of at most so many rows, and answers also its time.
-pub(crate) fn read_page(
-    seat: &Seat,
-    keys: raw::Range,
+/// Reads a page of at most so many rows: anew with more room while there are more rows, so that it
+/// takes memory for the rows that there are. The last reading is the answer.
+pub(crate) fn read_page<K: Kind>(
+    handle: &Handle<K>,
+    keys: Keys,
     most: usize,
-) -> Result<(Time, Page), Memory> {
-    let mut read = room(most)?;
-    let page = seat.page(keys, &mut read)?;
-    let found = &read[..rows_of(page)];
+) -> Result<Page, Memory> {
+    let mut read = Vec::new();
+    let mut room = most.min(FIRST_ROOM);
+    let next = loop {
+        let next = handle.page(keys, room, &mut read)?;
+        if next.is_none() || room == most {
+            break next;
+        }
+        room = most.min(room.saturating_mul(GROWTH));
+    };
     let mut rows = Vec::new();
-    rows.try_reserve_exact(found.len()).map_err(|_| Memory)?;
-    rows.extend(found.iter().filter_map(pair));
-    Ok((page.time, Page { rows, next: page.more.then_some(page.next) }))
+    rows.try_reserve_exact(read.len()).map_err(|_| Memory)?;
+    rows.extend(read.iter().filter_map(pair));
+    Ok(Page { rows, next })
 }
 
-/// An iterator over the rows of a range by rising key, at one moment.
+/// An iterator over the rows of a range by rising key, as they are at one moment: over a snapshot.
 ///
 /// [`Snapshot::range`] lends it a snapshot, and [`Caller::range`](crate::Caller::range) gives it
-/// one of its own, which is closed when the iterator is dropped, wherever that is.
+/// one of its own, which is closed when the iterator is dropped, wherever that is. A
+/// [`Walk`](crate::Walk) has none.
 ///
 /// An item is an error only where memory ran out; the iterator then goes on from the same row.
 ///
@@ -90,16 +119,15 @@ pub(crate) fn read_page(
 pub struct Range<S> {
     snapshot: S,
     /// What is left behind the rows that were read.
-    left: Option<raw::Range>,
-    /// The rows that were read last, and the place among the first so many of them.
+    left: Option<Keys>,
+    /// The rows that were read last, and the place of the next one among them.
     rows: Vec<raw::Row>,
-    count: usize,
     at: usize,
 }
 
 impl<S: Borrow<Snapshot>> Range<S> {
-    pub(crate) fn new(snapshot: S, keys: raw::Range) -> Range<S> {
-        Range { snapshot, left: Some(keys), rows: Vec::new(), count: 0, at: 0 }
+    pub(crate) fn new(snapshot: S, keys: Keys) -> Range<S> {
+        Range { snapshot, left: Some(keys), rows: Vec::new(), at: 0 }
     }
 
     /// The time at which it reads.
@@ -122,39 +150,35 @@ impl<S: Borrow<Snapshot>> Range<S> {
         let Some(keys) = self.left else {
             return Ok(());
         };
-        if self.rows.is_empty() {
-            self.rows = room(most_rows(keys))?;
-        }
-        let page = self.snapshot.borrow().seat().page(keys, &mut self.rows)?;
         self.at = 0;
-        self.count = rows_of(page);
-        self.left = page.more.then_some(raw::Range { first: page.next, last: keys.last });
+        let next = self.snapshot.borrow().handle.page(keys, room_for(keys), &mut self.rows)?;
+        self.left = next.map(|first| Keys { first, ..keys });
         Ok(())
     }
 }
 
-/// How many rows to read at a time, of a range in which there may be fewer.
-fn most_rows(keys: raw::Range) -> usize {
-    let behind = keys.last.saturating_sub(keys.first);
-    usize::try_from(behind).map_or(MOST_ROWS, |behind| MOST_ROWS.min(behind.saturating_add(1)))
+/// The room to read rows of this range, in which there may be few keys.
+fn room_for(keys: Keys) -> usize {
+    let others = usize::try_from(keys.last.saturating_sub(keys.first)).unwrap_or(usize::MAX);
+    ROWS_AT_A_TIME.min(others.saturating_add(1))
 }
 
 impl<S: Borrow<Snapshot>> Iterator for Range<S> {
     type Item = Result<(u64, Value), Memory>;
 
     fn next(&mut self) -> Option<Self::Item> {
-        if self.at == self.count {
+        if self.at == self.rows.len() {
             if let Err(memory) = self.read_on() {
                 return Some(Err(memory));
             }
         }
-        let row = self.rows[..self.count].get(self.at).and_then(pair)?;
+        let row = self.rows.get(self.at).and_then(pair)?;
         self.at += 1;
         Some(Ok(row))
     }
 
     fn size_hint(&self) -> (usize, Option<usize>) {
-        (self.count - self.at, None)
+        (self.rows.len() - self.at, None)
     }
 }
 

@@ -1,28 +1,28 @@
 //! Snapshots.
 use crate::error::Memory;
-use crate::pause::Pause;
-use crate::pool::Home;
-use crate::range::{read_page, Page, Range};
-use crate::seat::{range_of, Seat};
+use crate::library::Handle;
+use crate::range::{read_page, Keys, Page, Range};
 use crate::value::Value;
 use crate::Time;
+use cupolanettle_sys as raw;
 use std::fmt;
 use std::ops::RangeBounds;
-use std::sync::Arc;
 
 /// Reads the map as it was when the snapshot was opened.
 ///
 /// It is a handle of its own, with a seat of its own: callers go on beside it. It may be moved to
-/// another thread, but not shared:
+/// another thread, but not shared. Threads that read the map of one moment take it in turn, in a
+/// [`Mutex`](std::sync::Mutex).
 ///
 /// ```compile_fail,E0277
 /// fn share<T: Sync>() {}
 /// share::<cupolanettle::Snapshot>();
 /// ```
 ///
-/// While it is open, merges keep all versions that it may read. So one that stays open while keys
-/// are overwritten fills the store, until writes are refused with
-/// [`RunFull`](crate::Refused::RunFull).
+/// While it is open, merges keep all versions that it may read, for which the store has
+/// [room](crate::Options::versions). If it stays open while more is written than that, writes
+/// [wait](crate::Options::wait) for it to be dropped, or are
+/// [refused](crate::Refused::VersionsFull).
 ///
 /// ```
 /// use cupolanettle::{Error, Options};
@@ -38,32 +38,12 @@ use std::sync::Arc;
 /// # Ok::<(), Error>(())
 /// ```
 pub struct Snapshot {
-    /// There until the drop; its snapshot is open.
-    seat: Option<Seat>,
-    home: Arc<Home>,
-    time: Time,
+    pub(crate) handle: Handle<raw::Snapshot>,
 }
 
 impl Snapshot {
-    /// Opens the snapshot of the seat, which reads at this time or later.
-    pub(crate) fn open(seat: Seat, home: Arc<Home>, seen: Time) -> Snapshot {
-        let mut pause = Pause::new();
-        loop {
-            let time = seat.open_snapshot();
-            if time >= seen {
-                return Snapshot { seat: Some(seat), home, time };
-            }
-            seat.close_snapshot();
-            pause.wait();
-        }
-    }
-
-    #[inline]
-    pub(crate) fn seat(&self) -> &Seat {
-        match &self.seat {
-            Some(seat) => seat,
-            None => unreachable!(),
-        }
+    pub(crate) fn of(handle: Handle<raw::Snapshot>) -> Snapshot {
+        Snapshot { handle }
     }
 
     /// The number of its seat, from 0 to 63, which no other caller or snapshot has that is open.
@@ -77,7 +57,7 @@ impl Snapshot {
     /// ```
     #[must_use]
     pub fn number(&self) -> usize {
-        self.seat().number
+        self.handle.number()
     }
 
     /// The time at which it reads: it sees the writes below that, and no other. Who
@@ -93,7 +73,7 @@ impl Snapshot {
     /// ```
     #[must_use]
     pub fn time(&self) -> Time {
-        self.time
+        self.handle.time()
     }
 
     /// The value that the key had, if it had one.
@@ -111,7 +91,7 @@ impl Snapshot {
     #[must_use]
     #[inline]
     pub fn get(&self, key: u64) -> Option<Value> {
-        self.seat().get_at(key)
+        self.handle.get(key)
     }
 
     /// How many keys of the range had a value. It walks all of them, and takes no memory.
@@ -128,15 +108,16 @@ impl Snapshot {
     /// ```
     #[must_use]
     pub fn count(&self, keys: impl RangeBounds<u64>) -> u64 {
-        let (_, count) = self.seat().count(range_of(&keys));
-        count
+        self.handle.count(Keys::of(&keys))
     }
 
-    /// The first rows of the range by rising key, at most so many.
+    /// The first rows of the range by rising key, at most so many, as they are in this snapshot:
+    /// all pages are of one moment. It takes time and memory as
+    /// [`Caller::page`](crate::Caller::page).
     ///
     /// # Errors
     ///
-    /// [`Memory`]: it takes room for so many rows.
+    /// [`Memory`].
     ///
     /// ```
     /// # use cupolanettle::{Error, Options};
@@ -157,12 +138,12 @@ impl Snapshot {
     /// # Ok::<(), Error>(())
     /// ```
     pub fn page(&self, keys: impl RangeBounds<u64>, most: usize) -> Result<Page, Memory> {
-        let (_, page) = read_page(self.seat(), range_of(&keys), most)?;
-        Ok(page)
+        read_page(&self.handle, Keys::of(&keys), most)
     }
 
-    /// The rows of the range by rising key, read by up to 64 at a time. An item is [`Memory`] where
-    /// memory ran out.
+    /// An iterator over the rows of the range by rising key, as they are in this snapshot.
+    ///
+    /// It reads up to 64 rows at a time. An item is [`Memory`] where memory ran out.
     ///
     /// ```
     /// # use cupolanettle::{Error, Options};
@@ -177,16 +158,7 @@ impl Snapshot {
     /// # Ok::<(), Error>(())
     /// ```
     pub fn range(&self, keys: impl RangeBounds<u64>) -> Range<&Snapshot> {
-        Range::new(self, range_of(&keys))
-    }
-}
-
-impl Drop for Snapshot {
-    fn drop(&mut self) {
-        if let Some(seat) = self.seat.take() {
-            seat.close_snapshot();
-            self.home.give_back(seat, self.time);
-        }
+        Range::new(self, Keys::of(&keys))
     }
 }
 
@@ -194,7 +166,7 @@ impl fmt::Debug for Snapshot {
     fn fmt(&self, f: &mut fmt::Formatter<'_>) -> fmt::Result {
         f.debug_struct("Snapshot")
             .field("number", &self.number())
-            .field("time", &self.time)
+            .field("time", &self.time())
             .finish_non_exhaustive()
     }
 }

@@ -1,25 +1,29 @@
 //! Stores: opening them, and what their handles share.
 use crate::caller::Caller;
 use crate::error::{NoSeat, OpenError, Refused};
-use crate::handle::{Code, Handle};
-use crate::merging::{MergerThread, Works};
-use crate::pool::{Home, Pool};
-use crate::seat::{Seat, SEATS};
+use crate::library::OpenStore;
 use crate::snapshot::Snapshot;
-use crate::Time;
+use crate::statistics::Statistics;
 use cupolanettle_sys as raw;
+use std::ffi::c_int;
 use std::fmt;
 use std::sync::Arc;
+use std::thread;
+use std::time::Duration;
 
-/// How many versions under snapshots there is room for, in epochs.
-const EPOCHS_UNDER_SNAPSHOTS: usize = 4;
+/// The most milliseconds that a write may wait: so many nanoseconds fit into 64 bits.
+const MOST_WAIT: u128 = u64::MAX as u128 / NANOSECONDS;
+
+/// The nanoseconds of a millisecond.
+const NANOSECONDS: u128 = 1_000_000;
 
 /// How to open a store.
 ///
 /// ```
 /// use cupolanettle::{OpenError, Options};
+/// use std::time::Duration;
 ///
-/// let store = Options::new().keys(1_000).epoch(64).open()?;
+/// let store = Options::new().keys(1_000_000).wait(Duration::from_secs(10)).open()?; // 264 MiB
 /// # drop(store);
 /// # Ok::<(), OpenError>(())
 /// ```
@@ -27,31 +31,47 @@ const EPOCHS_UNDER_SNAPSHOTS: usize = 4;
 #[must_use = "`open` opens a store"]
 pub struct Options {
     keys: usize,
-    epoch: usize,
+    versions: Option<usize>,
+    epoch: Option<usize>,
     patience: usize,
+    wait: Duration,
     merges_in_calls: bool,
 }
 
 impl Options {
-    /// Room for 100,000 keys, epochs of 4,096 writes, a patience of 64 looks, and a thread that
-    /// merges: 22 MiB.
+    /// Room for 100,000 keys and as many old versions, epochs of 6,250 writes, a patience of 64
+    /// looks, a wait of a second, and a thread that merges: 37 MiB. With other keys, versions and
+    /// epochs go by them.
     ///
     /// ```
     /// # use cupolanettle::Options;
-    /// let written_out = Options::new().keys(100_000).epoch(4_096).patience(64);
+    /// # use std::time::Duration;
+    /// let written_out = Options::new().keys(100_000).patience(64).wait(Duration::from_secs(1));
     /// assert_eq!(Options::new(), written_out);
     /// ```
     pub const fn new() -> Options {
-        Options { keys: 100_000, epoch: 4_096, patience: 64, merges_in_calls: false }
+        Options {
+            keys: 100_000,
+            versions: None,
+            epoch: None,
+            patience: 64,
+            wait: Duration::from_secs(1),
+            merges_in_calls: false,
+        }
     }
 
-    /// The most keys that have a value at once, from 1 to 4,194,304 less four times the epoch. Each
-    /// takes 176 bytes, from the start. Give it room to spare: a store that has more keys takes no
-    /// write any more.
+    /// The most keys that have a value at once, from 1 to 4,194,304 less the
+    /// [versions](Options::versions), which are at least six times the epoch and 64. Each takes
+    /// 176 bytes, from the start.
+    ///
+    /// So many keys always find room. The store finds out that there are more when it merges, and
+    /// may have six epochs and 64 keys more by then. From then on it refuses writes that would
+    /// give one more key a value, with [`RunFull`](crate::Refused::RunFull), until keys were
+    /// removed.
     ///
     /// ```
     /// # use cupolanettle::{OpenError, Options};
-    /// let store = Options::new().keys(1_000_000).open()?; // 173 MiB
+    /// let store = Options::new().keys(1_000).open()?; // 7 MiB
     /// assert_eq!(Options::new().keys(0).open().err(), Some(OpenError::Keys));
     /// # Ok::<(), OpenError>(())
     /// ```
@@ -60,9 +80,35 @@ impl Options {
         self
     }
 
-    /// The most writes between two merges, 4 to 65,536; best a power of two. Each takes 1,248 bytes.
-    /// Longer epochs make fewer merges, and leave more room for the versions that open snapshots
-    /// keep.
+    /// Room for old versions that open snapshots and iterators keep, beside the keys: from six
+    /// times the epoch and 64 to 4,194,304 less the keys. Each takes 176 bytes, from the start. If
+    /// it is not set, as many as keys, but no more than 100,000, or the least number if that is
+    /// more.
+    ///
+    /// Each write since the oldest open snapshot was opened takes one of them. Once there is no
+    /// room for more, writes [wait](Options::wait) for that snapshot to be dropped.
+    ///
+    /// ```
+    /// # use cupolanettle::{OpenError, Options};
+    /// let store = Options::new().keys(1_000).versions(1_000_000).open()?; // 171 MiB
+    ///
+    /// let least = Options::new().keys(1_000).epoch(64).versions(6 * 64 + 64);
+    /// least.open()?;
+    /// let less = least.versions(6 * 64 + 63);
+    /// assert_eq!(less.open().err(), Some(OpenError::Versions));
+    /// # Ok::<(), OpenError>(())
+    /// ```
+    pub const fn versions(mut self, versions: usize) -> Options {
+        self.versions = Some(versions);
+        self
+    }
+
+    /// The most writes between two merges, 4 to 65,536. Each takes 544 bytes. If it is not set, a
+    /// sixteenth of the keys, but at least 4,096 and at most 65,536, or as many as leave room for
+    /// the least versions.
+    ///
+    /// Longer epochs make fewer merges, each of which copies more. Batches are at most as long as
+    /// an epoch, and are best far shorter.
     ///
     /// ```
     /// # use cupolanettle::{OpenError, Options};
@@ -71,7 +117,7 @@ impl Options {
     /// # Ok::<(), OpenError>(())
     /// ```
     pub const fn epoch(mut self, epoch: usize) -> Options {
-        self.epoch = epoch;
+        self.epoch = Some(epoch);
         self
     }
 
@@ -86,6 +132,32 @@ impl Options {
     /// ```
     pub const fn patience(mut self, patience: usize) -> Options {
         self.patience = patience;
+        self
+    }
+
+    /// For how long a write waits for a snapshot or an iterator to be dropped that keeps it from
+    /// finding room, from zero to 18,446,744,073,709 milliseconds, in whole milliseconds, rounded
+    /// up. Zero: it is refused at once. If it is not set, a second.
+    ///
+    /// The write is refused with [`VersionsFull`](crate::Refused::VersionsFull) then. If one of
+    /// the snapshots is its own caller's, it does not wait at all, and is refused with
+    /// [`OwnSnapshot`](crate::Refused::OwnSnapshot).
+    ///
+    /// ```
+    /// # use cupolanettle::{Error, OpenError, Options, Refused};
+    /// # use std::time::Duration;
+    /// let store = Options::new().keys(1_000).epoch(64).wait(Duration::ZERO).open()?;
+    /// let caller = store.caller()?;
+    /// let snapshot = store.snapshot()?;
+    /// let refused = (0..).find_map(|word| caller.put(7, word).err());
+    /// assert_eq!(refused, Some(Refused::VersionsFull));
+    ///
+    /// let too_long = Options::new().wait(Duration::MAX);
+    /// assert_eq!(too_long.open().err(), Some(OpenError::Wait));
+    /// # Ok::<(), Error>(())
+    /// ```
+    pub const fn wait(mut self, wait: Duration) -> Options {
+        self.wait = wait;
         self
     }
 
@@ -107,7 +179,8 @@ impl Options {
         self
     }
 
-    /// Opens an empty store, with all the memory that it will ever need, and starts its merger.
+    /// Opens an empty store, with all the memory that it will ever need, and starts its merger. It
+    /// takes as much again while it opens the store.
     ///
     /// # Errors
     ///
@@ -120,31 +193,45 @@ impl Options {
     /// # Ok::<(), OpenError>(())
     /// ```
     pub fn open(&self) -> Result<Store, OpenError> {
+        let opened = OpenStore::open(&self.raw()?).map_err(OpenError::of)?;
+        Ok(Store { opened: Arc::new(opened), keys: self.keys })
+    }
+
+    /// The options for the library, where 0 has a meaning of its own.
+    fn raw(&self) -> Result<raw::Options, OpenError> {
         if self.keys == 0 {
             return Err(OpenError::Keys);
         }
-        let opened = Handle::open(&self.sizes()).map_err(refusal_of)?;
-        let merger = opened.take().ok_or(OpenError::Build)?;
-        let pool = Pool::new(seats_of(&opened)?);
-        let works = Arc::new(Works::new(merger, self.epoch as Time, self.merges_in_calls));
-        let thread = if self.merges_in_calls {
-            None
-        } else {
-            Some(MergerThread::start(&works).map_err(|_| OpenError::NoThread)?)
+        if self.versions == Some(0) {
+            return Err(OpenError::Versions);
+        }
+        if self.epoch == Some(0) {
+            return Err(OpenError::Epoch);
+        }
+        let patience = match self.patience {
+            0 => -1,
+            looks => c_int::try_from(looks).map_err(|_| OpenError::Patience)?,
         };
-        Ok(Store { shared: Arc::new(Shared { _thread: thread, works, pool }) })
+        Ok(raw::Options {
+            keys: self.keys,
+            versions: self.versions.unwrap_or(0),
+            epoch: self.epoch.unwrap_or(0),
+            patience,
+            wait: self.milliseconds_of_wait()?,
+            merge: if self.merges_in_calls { raw::MERGE_IN_CALLS } else { 0 },
+            ..raw::Options::default()
+        })
     }
 
-    /// The sizes for the core, which tests them.
-    fn sizes(&self) -> raw::Sizes {
-        let versions = self.epoch.saturating_mul(EPOCHS_UNDER_SNAPSHOTS);
-        raw::Sizes {
-            cells: self.epoch,
-            seats: SEATS,
-            shards: 1,
-            run: self.keys.saturating_add(versions),
-            patience: self.patience,
+    fn milliseconds_of_wait(&self) -> Result<i64, OpenError> {
+        let milliseconds = self.wait.as_nanos().div_ceil(NANOSECONDS);
+        if milliseconds == 0 {
+            return Ok(-1);
         }
+        if milliseconds > MOST_WAIT {
+            return Err(OpenError::Wait);
+        }
+        i64::try_from(milliseconds).map_err(|_| OpenError::Wait)
     }
 }
 
@@ -154,38 +241,11 @@ impl Default for Options {
     }
 }
 
-/// Why the core opened no store.
-fn refusal_of(code: Code) -> OpenError {
-    match code {
-        raw::MEMORY => OpenError::Memory,
-        raw::BAD_KEYS => OpenError::Keys,
-        raw::BAD_EPOCH => OpenError::Epoch,
-        raw::BAD_PATIENCE => OpenError::Patience,
-        _ => OpenError::Build,
-    }
-}
-
-/// All seats of the store; the last one has the number 0.
-fn seats_of(opened: &Handle<raw::Store>) -> Result<Vec<Seat>, OpenError> {
-    let mut seats = Vec::with_capacity(SEATS);
-    for number in (0..SEATS).rev() {
-        seats.push(Seat::new(opened.take().ok_or(OpenError::Build)?, number));
-    }
-    Ok(seats)
-}
-
-/// What the handles of a store share. Its thread ends first.
-pub(crate) struct Shared {
-    _thread: Option<MergerThread>,
-    pub(crate) works: Arc<Works>,
-    pub(crate) pool: Pool,
-}
-
 /// An ordered map from `u64` to [`Value`](crate::Value), for many threads.
 ///
-/// A `Store` is a handle: clones are of the same map, and any thread may use them. Calls on the map
-/// are made through [callers](Caller) and [snapshots](Snapshot), at most 64 at once. The store is
-/// closed when the last of all these is dropped. That ends the merger's thread, after the merge
+/// A `Store` is a handle: clones are of the same map, and any thread may use them. Calls on the
+/// map are made through [callers](Caller) and [snapshots](Snapshot), at most 64 at once. The store
+/// is closed when the last of all these is dropped. That ends the merger's thread, after the merge
 /// that it may be at.
 ///
 /// ```
@@ -199,11 +259,14 @@ pub(crate) struct Shared {
 /// ```
 #[derive(Clone)]
 pub struct Store {
-    shared: Arc<Shared>,
+    opened: Arc<OpenStore>,
+    /// So many it was opened for.
+    keys: usize,
 }
 
 impl Store {
-    /// Opens a caller, whose reads see all that callers did and saw that were dropped before.
+    /// Opens a caller, whose reads see all that callers did and saw that were dropped before. It
+    /// costs a read, and takes a lock.
     ///
     /// # Errors
     ///
@@ -217,11 +280,14 @@ impl Store {
     /// # Ok::<(), Error>(())
     /// ```
     pub fn caller(&self) -> Result<Caller, NoSeat> {
-        Caller::open(&self.shared)
+        Ok(Caller::of(self.opened.caller()?))
     }
 
     /// Opens a snapshot of the present, which sees all that callers did and saw that were dropped
-    /// before.
+    /// before. It costs a read, and takes a lock.
+    ///
+    /// It is of no caller: a write that it keeps from finding room [waits](Options::wait), even if
+    /// its own thread has the snapshot. A thread that writes takes [`Caller::snapshot`] instead.
     ///
     /// # Errors
     ///
@@ -234,18 +300,20 @@ impl Store {
     /// # Ok::<(), Error>(())
     /// ```
     pub fn snapshot(&self) -> Result<Snapshot, NoSeat> {
-        let (seat, seen) = self.shared.pool.take()?;
-        Ok(Snapshot::open(seat, Arc::new(Home::of_none(&self.shared)), seen))
+        Ok(Snapshot::of(self.opened.snapshot()?))
     }
 
-    /// Merges now all that was written before the call, and waits for a merge that is running. The
-    /// store merges by itself: call this to try at once after a snapshot was dropped that kept
-    /// writes from finding room, before many reads, or after [`TryError::Full`] where [calls
-    /// merge](Options::merge_in_calls).
+    /// Merges now all that was written before the call, and gives up old versions that no snapshot
+    /// needs. The store does so by itself, but not at once: call this before many reads, once a
+    /// snapshot is dropped that kept many versions, or after [`TryError::Full`] where
+    /// [calls merge](Options::merge_in_calls).
+    ///
+    /// It waits for a merge that is running, for writes that are, and for reads that hold what
+    /// merges replaced. At worst it copies all that is in the store.
     ///
     /// # Errors
     ///
-    /// [`Refused`]; what was merged so far stays merged.
+    /// [`Refused::VersionsFull`] and [`Refused::Worn`]; what was merged so far stays merged.
     ///
     /// ```
     /// # use cupolanettle::{Error, Options, TryError};
@@ -262,12 +330,45 @@ impl Store {
     ///
     /// [`TryError::Full`]: crate::TryError::Full
     pub fn sweep(&self) -> Result<(), Refused> {
-        self.shared.works.sweep()
+        loop {
+            match self.opened.sweep() {
+                raw::OK | raw::IDLE => return Ok(()),
+                raw::PINNED => thread::yield_now(),
+                code => return Err(Refused::of(code)),
+            }
+        }
+    }
+
+    /// What the store tells of itself: memory, open handles, times, room, merges, waits and
+    /// refusals. Costs a read, and takes no lock that a write waits for.
+    ///
+    /// ```
+    /// # use cupolanettle::{Error, Options};
+    /// let store = Options::new().keys(1_000).open()?;
+    /// let caller = store.caller()?;
+    /// caller.put(1, 10)?;
+    /// let now = store.stats();
+    /// assert_eq!((now.callers, now.clock, now.epoch_writes), (1, 1, 1));
+    /// assert_eq!(now.run_full + now.versions_full, 0);
+    /// # Ok::<(), Error>(())
+    /// ```
+    #[must_use]
+    pub fn stats(&self) -> Statistics {
+        Statistics::of(&self.opened.stats())
     }
 }
 
+/// Reads the [statistics](Store::stats), and shows the main ones.
 impl fmt::Debug for Store {
     fn fmt(&self, f: &mut fmt::Formatter<'_>) -> fmt::Result {
-        f.debug_struct("Store").finish_non_exhaustive()
+        let statistics = self.stats();
+        f.debug_struct("Store")
+            .field("keys", &self.keys)
+            .field("room_for_keys", &statistics.room_for_keys)
+            .field("clock", &statistics.clock)
+            .field("epoch_writes", &statistics.epoch_writes)
+            .field("callers", &statistics.callers)
+            .field("snapshots", &statistics.snapshots)
+            .finish_non_exhaustive()
     }
 }

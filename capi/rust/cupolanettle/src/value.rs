@@ -5,6 +5,7 @@ use std::borrow::Borrow;
 use std::cmp::Ordering;
 use std::fmt;
 use std::hash::{Hash, Hasher};
+use std::num::NonZeroU64;
 use std::ops::Deref;
 
 /// A value: one to eight words of 64 bits. It is a slice of them, and is compared, ordered and
@@ -40,34 +41,37 @@ use std::ops::Deref;
 /// ```
 #[derive(Clone, Copy)]
 pub struct Value {
-    /// Of one to eight words; those behind the length are 0.
-    raw: raw::Value,
+    /// One to eight.
+    length: NonZeroU64,
+    /// Those behind the length are 0.
+    words: [u64; Value::MOST_WORDS],
 }
 
 impl Value {
     /// The most words of a value.
     pub const MOST_WORDS: usize = 8;
 
-    /// The value of these words, of which there are one to eight.
-    fn of(words: &[u64]) -> Value {
+    /// The value of these words, if there are one to eight.
+    #[inline]
+    fn of(words: &[u64]) -> Option<Value> {
         let mut raw = raw::Value { length: words.len() as u64, words: [0; Value::MOST_WORDS] };
-        raw.words[..words.len()].copy_from_slice(words);
-        Value { raw }
+        raw.words.get_mut(..words.len())?.copy_from_slice(words);
+        Value::from_raw(raw)
     }
 
-    /// What the core answers, or `None` where that is no value.
+    /// What the library answers, or `None` where that is no value.
     #[inline]
     pub(crate) fn from_raw(raw: raw::Value) -> Option<Value> {
-        (raw.length > 0).then_some(Value { raw })
+        NonZeroU64::new(raw.length).map(|length| Value { length, words: raw.words })
     }
 
-    /// The value for the core.
+    /// The value for the library.
     #[inline]
     pub(crate) fn into_raw(self) -> raw::Value {
-        self.raw
+        raw::Value { length: self.length.get(), words: self.words }
     }
 
-    /// The value for the core, or none.
+    /// The value for the library, or none.
     #[inline]
     pub(crate) fn raw_of(value: Option<Value>) -> raw::Value {
         value.map(Value::into_raw).unwrap_or_default()
@@ -77,7 +81,7 @@ impl Value {
 impl From<u64> for Value {
     #[inline]
     fn from(word: u64) -> Value {
-        Value { raw: raw::Value { length: 1, words: [word, 0, 0, 0, 0, 0, 0, 0] } }
+        Value { length: NonZeroU64::MIN, words: [word, 0, 0, 0, 0, 0, 0, 0] }
     }
 }
 
@@ -85,7 +89,10 @@ impl<const N: usize> From<[u64; N]> for Value {
     #[inline]
     fn from(words: [u64; N]) -> Value {
         const { assert!(N >= 1 && N <= Value::MOST_WORDS, "a value has one to eight words") };
-        Value::of(&words)
+        match Value::of(&words) {
+            Some(value) => value,
+            None => unreachable!(),
+        }
     }
 }
 
@@ -93,10 +100,7 @@ impl TryFrom<&[u64]> for Value {
     type Error = BadValue;
 
     fn try_from(words: &[u64]) -> Result<Value, BadValue> {
-        if words.is_empty() || words.len() > Value::MOST_WORDS {
-            return Err(BadValue);
-        }
-        Ok(Value::of(words))
+        Value::of(words).ok_or(BadValue)
     }
 }
 
@@ -106,7 +110,7 @@ impl Deref for Value {
     #[inline]
     #[allow(clippy::cast_possible_truncation)] // it is at most eight
     fn deref(&self) -> &[u64] {
-        &self.raw.words[..self.raw.length as usize]
+        &self.words[..self.length.get() as usize]
     }
 }
 

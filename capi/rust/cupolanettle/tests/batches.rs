@@ -94,14 +94,14 @@ fn lengths_where_calls_merge() -> Result<(), Error> {
 }
 
 #[test]
-fn run_full_then_room() -> Result<(), Error> {
+fn versions_full_then_room() -> Result<(), Error> {
     for options in [Options::new(), Options::new().merge_in_calls()] {
         let store = options.keys(2).epoch(4).open()?;
         let caller = store.caller()?;
         let snapshot = caller.snapshot()?;
         let both = |word: u64| caller.batch(Batch::new().set(1, word).set(2, word));
         let refused = (0..1_000).find_map(|word| both(word).err());
-        assert_eq!(refused, Some(BatchError::Refused(Refused::RunFull)));
+        assert_eq!(refused, Some(BatchError::Refused(Refused::OwnSnapshot)));
         assert_eq!(caller.get(1), caller.get(2));
         drop(snapshot);
         for word in 0..100 {

@@ -1,6 +1,6 @@
 //! Changes: what each finds and leaves, and that none is lost between threads beside the merger.
 use cupolanettle::{Caller, ChangeError, Changed, Error, Kept, Options, Refused, Store, Value};
-use std::panic::{catch_unwind, AssertUnwindSafe};
+use std::panic::catch_unwind;
 use std::thread;
 
 const THREADS: u64 = 4;
@@ -147,9 +147,9 @@ fn the_function_of_an_update_may_call_its_caller() -> Result<(), Error> {
 fn an_update_whose_function_panics_writes_nothing() -> Result<(), Error> {
     let caller = small()?.caller()?;
     caller.put(1, 10)?;
-    let came = catch_unwind(AssertUnwindSafe(|| {
+    let came = catch_unwind(|| {
         caller.update(1, |old| -> Option<Value> { std::panic::resume_unwind(Box::new(old)) })
-    }));
+    });
     let found = came.unwrap_err().downcast::<Option<Value>>().unwrap();
     assert_eq!(*found, Some(10.into()));
     assert_eq!((caller.get(1), caller.time()), (Some(10.into()), 1));
@@ -178,13 +178,13 @@ fn changes_are_refused_as_writes() -> Result<(), Error> {
     for options in [Options::new(), Options::new().merge_in_calls()] {
         let store = options.keys(16).epoch(4).open()?;
         let caller = store.caller()?;
-        let snapshot = store.snapshot()?;
+        let snapshot = caller.snapshot()?;
         let refused = (0..500).find_map(|_| caller.add(1, 1).err());
-        assert_eq!(refused, Some(ChangeError::Refused(Refused::RunFull)));
+        assert_eq!(refused, Some(ChangeError::Refused(Refused::OwnSnapshot)));
         let sum = caller.get(1);
-        assert_eq!(caller.put_if_absent(2, 20), Err(Refused::RunFull.into()));
-        assert_eq!(caller.replace(1, sum, None), Err(Refused::RunFull.into()));
-        assert_eq!(caller.update(1, |_| None::<Value>), Err(Refused::RunFull));
+        assert_eq!(caller.put_if_absent(2, 20), Err(Refused::OwnSnapshot.into()));
+        assert_eq!(caller.replace(1, sum, None), Err(Refused::OwnSnapshot.into()));
+        assert_eq!(caller.update(1, |_| None::<Value>), Err(Refused::OwnSnapshot));
         assert_eq!((caller.get(1), caller.count(..)), (sum, 1));
         drop(snapshot);
         let changed = caller.add(1, 1)?;

@@ -1,7 +1,10 @@
 //! Handles: how many there are, in which order they are dropped, and where they go.
-use cupolanettle::{Caller, Error, NoSeat, Options, Range, Snapshot, Store, Value};
+use cupolanettle::{
+    Batch, Caller, Error, NoSeat, Options, Range, Snapshot, Statistics, Store, Value, Walk,
+};
 use std::collections::BTreeSet;
-use std::{mem, panic, thread};
+use std::panic::{self, RefUnwindSafe, UnwindSafe};
+use std::{mem, thread};
 
 const SEATS: usize = 64;
 
@@ -23,9 +26,27 @@ fn kinds() {
     is_shared::<Store>();
     is_shared::<Value>();
     is_shared::<Error>();
+    is_shared::<Statistics>();
     is_send::<Caller>();
     is_send::<Snapshot>();
     is_send::<Range<Snapshot>>();
+}
+
+/// A panic leaves each of them whole: no function of a user's runs in a call of the library.
+#[test]
+fn unwinding() {
+    fn is_unwind_safe<T: UnwindSafe + RefUnwindSafe>() {}
+    is_unwind_safe::<Options>();
+    is_unwind_safe::<Store>();
+    is_unwind_safe::<Caller>();
+    is_unwind_safe::<Snapshot>();
+    is_unwind_safe::<Range<Snapshot>>();
+    is_unwind_safe::<Range<&Snapshot>>();
+    is_unwind_safe::<Walk<'_>>();
+    is_unwind_safe::<Statistics>();
+    is_unwind_safe::<Batch>();
+    is_unwind_safe::<Value>();
+    is_unwind_safe::<Error>();
 }
 
 #[test]
@@ -35,7 +56,8 @@ fn the_65th_seat_is_refused() -> Result<(), Error> {
     assert_eq!(callers.len(), SEATS);
     let numbers: BTreeSet<_> = callers.iter().map(Caller::number).collect();
     assert!(numbers.into_iter().eq(0..SEATS));
-    assert_eq!(callers[0].snapshot().map(drop), Err(store.caller().unwrap_err()));
+    assert_eq!(callers[0].snapshot().map(drop), Err(NoSeat));
+    assert_eq!(store.snapshot().map(drop), Err(NoSeat));
     assert!(callers[0].range(..).is_err());
     callers.pop();
     let snapshot = callers[0].snapshot()?;
@@ -53,7 +75,8 @@ fn spare_seats_are_found() -> Result<(), Error> {
         caller.snapshot()?;
     }
     let others: Vec<_> = (0..SEATS / 2).map(|_| store.caller()).collect::<Result<_, _>>()?;
-    assert_eq!(store.caller().map(drop), Err(callers[0].snapshot().unwrap_err()));
+    assert_eq!(callers[0].snapshot().map(drop), Err(NoSeat));
+    assert_eq!(store.caller().map(drop), Err(NoSeat));
     drop(others);
     callers[0].snapshot()?;
     Ok(())
@@ -239,7 +262,7 @@ fn an_iterator_is_left_half_way() -> Result<(), Error> {
 fn no_seat_is_an_error() {
     let store = small().unwrap();
     let _callers = all_callers(&store);
-    let refused: NoSeat = store.caller().unwrap_err();
-    assert_eq!(Error::from(refused), Error::NoSeat(refused));
-    assert_eq!(Error::from(refused).to_string(), refused.to_string());
+    assert_eq!(store.caller().map(drop), Err(NoSeat));
+    assert_eq!(Error::from(NoSeat), Error::NoSeat(NoSeat));
+    assert_eq!(Error::from(NoSeat).to_string(), NoSeat.to_string());
 }

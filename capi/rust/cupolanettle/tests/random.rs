@@ -154,6 +154,16 @@ impl Play {
         self.assert_change(key, came, wanted);
     }
 
+    /// Removes some rows of a range.
+    fn retain(&mut self) -> Result<(), Error> {
+        let (keys, bound) = (self.random.keys(), self.random.value());
+        let before = self.map.len();
+        let removed = self.caller.retain(keys.clone(), |_, value| value < bound)?;
+        self.map.retain(|key, value| !keys.contains(key) || *value < bound);
+        assert_eq!(removed, (before - self.map.len()) as u64);
+        Ok(())
+    }
+
     fn assert_change(&mut self, key: u64, came: Result<Changed, ChangeError>, wanted: Wanted) {
         let old = self.map.get(&key).copied();
         let (time, seen) = (self.caller.time(), self.caller.seen());
@@ -175,7 +185,7 @@ impl Play {
     fn read(&mut self) -> Result<(), Error> {
         let (key, keys) = (self.random.key(), self.random.keys());
         let most = self.random.size_below(100);
-        match self.random.below(8) {
+        match self.random.below(10) {
             0 => assert_eq!(self.caller.count(keys.clone()), rows(&self.map, keys).len() as u64),
             1 => {
                 let page = self.caller.page(keys.clone(), most)?;
@@ -183,6 +193,10 @@ impl Play {
             }
             2 => {
                 let read: Result<Vec<_>, _> = self.caller.range(keys.clone())?.collect();
+                assert_eq!(read?, rows(&self.map, keys));
+            }
+            3 => {
+                let read: Result<Vec<_>, _> = self.caller.walk(keys.clone())?.collect();
                 assert_eq!(read?, rows(&self.map, keys));
             }
             _ => assert_eq!(self.caller.get(key), self.map.get(&key).copied()),
@@ -231,7 +245,8 @@ impl Play {
                 Ok(())
             }
             2 => Ok(self.store.sweep()?),
-            3..=29 => self.read_snapshot(),
+            3 => self.retain(),
+            4..=29 => self.read_snapshot(),
             30..=31 => self.write_batch(),
             32..=49 => self.write(),
             50..=69 => {

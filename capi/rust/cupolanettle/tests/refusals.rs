@@ -1,13 +1,17 @@
-//! Refusals, and that they leave the store as it was.
-use cupolanettle::{Caller, Error, OpenError, Options, Refused, Store, TryError};
+//! Refusals for old versions, and that they leave the store as it was.
+use cupolanettle::{
+    BadValue, Caller, Error, Memory, NoSeat, OpenError, Options, Refused, RetainError, Store,
+    TryError, Unseen,
+};
 use std::thread;
+use std::time::Duration;
 
 /// More writes than any store of these tests has room for.
 const MANY: u64 = 500;
 
-/// A store with little room, in which calls merge or not.
+/// A store with little room, in which calls merge or not, and writes do not wait for snapshots.
 fn tiny(merge_in_calls: bool) -> Result<Store, OpenError> {
-    let options = Options::new().keys(16).epoch(4);
+    let options = Options::new().keys(16).epoch(4).wait(Duration::ZERO);
     if merge_in_calls {
         options.merge_in_calls().open()
     } else {
@@ -15,16 +19,13 @@ fn tiny(merge_in_calls: bool) -> Result<Store, OpenError> {
     }
 }
 
-/// Overwrites the key until that is refused, and answers the last word that was written, if one
+/// Overwrites the key until that is refused so, and answers the last word that was written, if one
 /// was.
-fn overwrite(caller: &Caller, key: u64) -> Option<u64> {
+fn overwrite(caller: &Caller, key: u64, wanted: Refused) -> Option<u64> {
     for word in 0..MANY {
-        match caller.put(key, word) {
-            Ok(_) => {}
-            Err(refused) => {
-                assert_eq!(refused, Refused::RunFull);
-                return word.checked_sub(1);
-            }
+        if let Err(refused) = caller.put(key, word) {
+            assert_eq!(refused, wanted);
+            return word.checked_sub(1);
         }
     }
     panic!("there was room for all");
@@ -36,44 +37,82 @@ fn try_put(caller: &Caller, key: u64, word: u64) -> Result<(), TryError> {
         match caller.try_put(key, word) {
             Ok(_) => return Ok(()),
             Err(TryError::Full) => return Err(TryError::Full),
+            Err(TryError::Refused(refused)) => return Err(refused.into()),
             Err(_) => thread::yield_now(),
         }
     }
 }
 
-fn run_full_then_room(merge_in_calls: bool) -> Result<(), Error> {
-    let store = tiny(merge_in_calls)?;
-    let caller = store.caller()?;
-    caller.put(1, 1_000)?;
-    for _ in 0..3 {
-        let snapshot = caller.snapshot()?;
-        let before = snapshot.get(1);
-        let last = overwrite(&caller, 1).unwrap();
-        assert_eq!(caller.get(1), Some(last.into()));
-        assert_eq!(caller.put(2, 20), Err(Refused::RunFull));
-        assert_eq!(caller.remove(1), Err(Refused::RunFull));
-        assert_eq!(store.sweep(), Err(Refused::RunFull));
-        assert_eq!(try_put(&caller, 1, 0), Err(TryError::Full));
-        assert_eq!(snapshot.get(1), before);
-        assert_eq!(caller.get(1), Some(last.into()));
-        assert_eq!(caller.get(2), None);
-        drop(snapshot);
-        for word in 0..MANY {
-            caller.put(1, word)?;
+/// While this is open, which is the caller's own or not, versions fill the store; then there is
+/// room again.
+fn versions_full_then_room<T>(
+    open: impl Fn(&Store, &Caller) -> T,
+    wanted: Refused,
+) -> Result<(), Error> {
+    for merge_in_calls in [false, true] {
+        let store = tiny(merge_in_calls)?;
+        let (caller, other) = (store.caller()?, store.caller()?);
+        caller.put(1, 1_000)?;
+        for _ in 0..3 {
+            let opened = open(&store, &caller);
+            let last = overwrite(&caller, 1, wanted).unwrap();
+            assert_eq!(caller.put(2, 20), Err(wanted));
+            assert_eq!(caller.remove(1), Err(wanted));
+            assert_eq!(caller.retain(.., |_, _| false), Err(wanted.into()));
+            assert_eq!(other.put(1, 0), Err(Refused::VersionsFull));
+            assert_eq!(other.remove(1), Err(Refused::VersionsFull));
+            assert_eq!(store.sweep(), Err(Refused::VersionsFull));
+            assert_eq!(try_put(&caller, 1, 0), Err(Refused::VersionsFull.into()));
+            assert_eq!((caller.get(1), caller.get(2)), (Some(last.into()), None));
+            drop(opened);
+            for word in 0..MANY {
+                caller.put(1, word)?;
+            }
+            assert_eq!(caller.count(..), 1);
         }
-        assert_eq!(caller.count(..), 1);
+        assert_eq!(store.stats().run_full, 0);
     }
     Ok(())
 }
 
 #[test]
-fn run_full_then_room_where_a_thread_merges() -> Result<(), Error> {
-    run_full_then_room(false)
+fn a_snapshot_of_nobody_fills_the_store() -> Result<(), Error> {
+    versions_full_then_room(|store, _| store.snapshot().unwrap(), Refused::VersionsFull)
 }
 
 #[test]
-fn run_full_then_room_where_calls_merge() -> Result<(), Error> {
-    run_full_then_room(true)
+fn a_snapshot_of_another_caller_fills_the_store() -> Result<(), Error> {
+    let open = |store: &Store, _: &Caller| {
+        let other = store.caller().unwrap();
+        let snapshot = other.snapshot().unwrap();
+        (other, snapshot)
+    };
+    versions_full_then_room(open, Refused::VersionsFull)
+}
+
+#[test]
+fn a_snapshot_of_the_caller_fills_the_store() -> Result<(), Error> {
+    versions_full_then_room(|_, caller| caller.snapshot().unwrap(), Refused::OwnSnapshot)
+}
+
+#[test]
+fn an_iterator_of_the_caller_fills_the_store() -> Result<(), Error> {
+    versions_full_then_room(|_, caller| caller.range(..).unwrap(), Refused::OwnSnapshot)
+}
+
+/// However long writes may wait, none waits for its own thread.
+#[test]
+fn the_caller_of_a_snapshot_does_not_wait() -> Result<(), Error> {
+    for options in [Options::new(), Options::new().merge_in_calls()] {
+        let store = options.keys(16).epoch(4).wait(Duration::from_nanos(u64::MAX - 1)).open();
+        assert_eq!(store.err(), Some(OpenError::Wait));
+        let store = options.keys(16).epoch(4).wait(Duration::from_secs(1 << 33)).open()?;
+        let caller = store.caller()?;
+        let snapshot = caller.snapshot()?;
+        let last = overwrite(&caller, 1, Refused::OwnSnapshot);
+        assert_eq!((snapshot.get(1), caller.get(1)), (None, last.map(Into::into)));
+    }
+    Ok(())
 }
 
 fn all_threads_are_refused(merge_in_calls: bool) -> Result<(), Error> {
@@ -86,7 +125,7 @@ fn all_threads_are_refused(merge_in_calls: bool) -> Result<(), Error> {
             let store = &store;
             for key in 0..4 {
                 scope.spawn(move || {
-                    overwrite(&store.caller().unwrap(), key);
+                    overwrite(&store.caller().unwrap(), key, Refused::VersionsFull);
                 });
             }
         });
@@ -110,34 +149,6 @@ fn all_threads_are_refused_where_a_thread_merges() -> Result<(), Error> {
 #[test]
 fn all_threads_are_refused_where_calls_merge() -> Result<(), Error> {
     all_threads_are_refused(true)
-}
-
-#[test]
-fn too_many_keys() -> Result<(), Error> {
-    for merge_in_calls in [false, true] {
-        let store = tiny(merge_in_calls)?;
-        let caller = store.caller()?;
-        let refused = (0..MANY).find(|&key| caller.put(key, key).is_err()).unwrap();
-        assert!(refused >= 16);
-        assert_eq!(caller.count(..), refused);
-        assert!((0..refused).all(|key| caller.get(key) == Some(key.into())));
-        assert_eq!(caller.put(0, 0), Err(Refused::RunFull));
-    }
-    Ok(())
-}
-
-#[test]
-fn keys_that_were_removed_make_room() -> Result<(), Error> {
-    for merge_in_calls in [false, true] {
-        let store = tiny(merge_in_calls)?;
-        let caller = store.caller()?;
-        for key in 0..MANY {
-            caller.put(key, key)?;
-            caller.remove(key)?;
-        }
-        assert_eq!(caller.count(..), 0);
-    }
-    Ok(())
 }
 
 #[test]
@@ -165,8 +176,9 @@ fn full_calls_the_thread_that_merges() -> Result<(), Error> {
     let caller = store.caller()?;
     for _ in 0..3 {
         let snapshot = caller.snapshot()?;
-        overwrite(&caller, 1);
+        overwrite(&caller, 1, Refused::OwnSnapshot);
         drop(snapshot);
+        // A merge that began before the snapshot was dropped may come to VersionsFull still.
         for word in 0..MANY {
             while try_put(&caller, 1, word).is_err() {
                 thread::yield_now();
@@ -175,43 +187,6 @@ fn full_calls_the_thread_that_merges() -> Result<(), Error> {
     }
     assert_eq!(caller.get(1), Some((MANY - 1).into()));
     Ok(())
-}
-
-#[test]
-fn half_an_epoch_calls_the_thread_that_merges() -> Result<(), Error> {
-    let store = Options::new().keys(100).epoch(64).open()?;
-    let caller = store.caller()?;
-    for epoch in 0..10 {
-        for key in 0..=32 {
-            caller.put(key, epoch)?;
-        }
-        // A freeze ends the epoch, and the times of the next one begin.
-        while caller.time() / 64 == epoch {
-            caller.get(0);
-            thread::yield_now();
-        }
-    }
-    assert_eq!(caller.count(..), 33);
-    Ok(())
-}
-
-#[test]
-fn options_out_of_range() {
-    let refused = |options: Options| options.open().err();
-    assert_eq!(refused(Options::new().keys(0)), Some(OpenError::Keys));
-    assert_eq!(refused(Options::new().keys(4_194_304)), Some(OpenError::Keys));
-    assert_eq!(
-        refused(Options::new().keys(4_194_304 - 4 * 64 + 1).epoch(64)),
-        Some(OpenError::Keys)
-    );
-    assert_eq!(refused(Options::new().keys(usize::MAX)), Some(OpenError::Keys));
-    assert_eq!(refused(Options::new().epoch(0)), Some(OpenError::Epoch));
-    assert_eq!(refused(Options::new().epoch(3)), Some(OpenError::Epoch));
-    assert_eq!(refused(Options::new().epoch(65_537)), Some(OpenError::Epoch));
-    assert_eq!(refused(Options::new().epoch(usize::MAX)), Some(OpenError::Epoch));
-    assert_eq!(refused(Options::new().patience(65)), Some(OpenError::Patience));
-    assert_eq!(refused(Options::new().keys(1).epoch(4).patience(64)), None);
-    assert_eq!(Options::new(), Options::default());
 }
 
 #[test]
@@ -237,14 +212,6 @@ fn ranges_of_all_kinds() -> Result<(), Error> {
     assert_eq!(caller.count(high..low), 0);
     assert_eq!(caller.range(high..low)?.count(), 0);
     assert_eq!(caller.range(u64::MAX..)?.count(), 1);
-    assert_eq!(caller.page(high..low, 3)?.rows, []);
-    assert_eq!(caller.page(.., 0)?.next, Some(0));
-    assert_eq!(caller.page(.., 5)?.next, None);
-    assert_eq!(caller.page(..=2, 3)?.next, None);
-    assert_eq!(
-        caller.page(.., usize::MAX).map(drop),
-        Err(caller.page(.., usize::MAX).unwrap_err())
-    );
     Ok(())
 }
 
@@ -254,26 +221,57 @@ fn times_that_were_not_seen() -> Result<(), Error> {
     let caller = store.caller()?;
     assert_eq!((caller.time(), caller.seen()), (0, 0));
     caller.follow(0)?;
-    assert!(caller.follow(1).is_err());
-    assert!(caller.follow(u64::MAX).is_err());
+    assert_eq!(caller.follow(1), Err(Unseen));
+    assert_eq!(caller.follow(u64::MAX), Err(Unseen));
     let time = caller.put(1, 10)?;
     caller.follow(time + 1)?;
-    assert!(caller.follow(time + 1_000).is_err());
+    assert_eq!(caller.follow(time + 1_000), Err(Unseen));
     assert_eq!(caller.get(1), Some(10.into()));
     assert_eq!(store.caller()?.seen(), 0);
     Ok(())
 }
 
 #[test]
+fn times_of_another_store() -> Result<(), Error> {
+    let (caller, stranger) = (tiny(true)?.caller()?, tiny(true)?.caller()?);
+    for _ in 0..3 {
+        stranger.put(1, 20)?;
+    }
+    assert_eq!(caller.follow(stranger.seen()), Err(Unseen));
+    assert_eq!((caller.seen(), caller.get(1)), (0, None));
+    // Once this store has reached that time, nothing tells it from its own.
+    let time = (0..3).try_fold(0, |_, word| caller.put(1, word))?;
+    caller.follow(stranger.seen())?;
+    assert_eq!((caller.get(1), caller.time()), (Some(2.into()), time + 1));
+    Ok(())
+}
+
+#[test]
 fn errors_say_what_they_are() {
-    let errors: [Error; 4] = [
+    let errors: [Error; 13] = [
         OpenError::Keys.into(),
+        OpenError::Versions.into(),
+        OpenError::Wait.into(),
         Refused::RunFull.into(),
+        Refused::VersionsFull.into(),
+        Refused::OwnSnapshot.into(),
         TryError::Full.into(),
+        RetainError::Memory.into(),
         Options::new().epoch(1).open().unwrap_err().into(),
+        NoSeat.into(),
+        Memory.into(),
+        BadValue.into(),
+        Unseen.into(),
     ];
     for error in errors {
         assert!(!error.to_string().is_empty());
         assert!(std::error::Error::source(&error).is_none());
     }
+    let refused = TryError::from(Refused::Worn);
+    assert_eq!(Error::from(refused), Error::Refused(Refused::Worn));
+    assert_eq!(refused.to_string(), Refused::Worn.to_string());
+    let refused = RetainError::from(Refused::Worn);
+    assert_eq!(Error::from(refused), Error::Refused(Refused::Worn));
+    assert_eq!(refused.to_string(), Refused::Worn.to_string());
+    assert_eq!(RetainError::from(Memory).to_string(), Memory.to_string());
 }

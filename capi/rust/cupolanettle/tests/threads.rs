@@ -1,5 +1,5 @@
 //! Threads that write and read beside the merger.
-use cupolanettle::{Caller, Error, Options, Snapshot, Store, Time, Value};
+use cupolanettle::{Caller, Error, Options, Refused, Snapshot, Store, Time, TryError, Value};
 use std::sync::mpsc;
 use std::thread;
 
@@ -74,6 +74,17 @@ fn calls_merge() -> Result<(), Error> {
     work_in_threads(&Options::new().keys(ROOM).epoch(256).merge_in_calls().open()?)
 }
 
+/// Tries until the write is made or refused.
+fn until_made(attempt: impl Fn() -> Result<Time, TryError>) -> Result<Time, Refused> {
+    loop {
+        match attempt() {
+            Ok(time) => return Ok(time),
+            Err(TryError::Refused(refused)) => return Err(refused),
+            Err(_) => thread::yield_now(),
+        }
+    }
+}
+
 #[test]
 fn writers_that_never_wait() -> Result<(), Error> {
     let store = Options::new().keys(1_000).epoch(64).open()?;
@@ -82,13 +93,9 @@ fn writers_that_never_wait() -> Result<(), Error> {
             let caller = store.caller()?;
             scope.spawn(move || {
                 for round in 0..ROUNDS {
-                    while caller.try_put(own, round).is_err() {
-                        thread::yield_now();
-                    }
+                    until_made(|| caller.try_put(own, round)).unwrap();
                     assert_eq!(caller.get(own), Some(round.into()));
-                    while caller.try_remove(own).is_err() {
-                        thread::yield_now();
-                    }
+                    until_made(|| caller.try_remove(own)).unwrap();
                     assert_eq!(caller.get(own), None);
                 }
             });

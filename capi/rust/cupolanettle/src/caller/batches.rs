@@ -1,19 +1,21 @@
 //! Batches of writes.
 use super::Caller;
 use crate::batch::Batch;
-use crate::error::{BatchError, Memory};
+use crate::error::{BatchError, Refused};
 use crate::Time;
+use cupolanettle_sys as raw;
 
 impl Caller {
     /// Makes all writes of the batch at one moment: each read has all of them or none. It answers
     /// the time of the first one; the others follow it, in their order.
     ///
-    /// It takes room for all of them in one epoch, and memory while it runs. It lets no other write
-    /// run beside it, but every read, and waits as [`put`](Caller::put).
+    /// It takes room for all of them in one epoch, and memory while it runs. It lets no other
+    /// write run beside it, but every read, and waits as [`put`](Caller::put).
     ///
     /// # Errors
     ///
-    /// [`BatchError`], with nothing written.
+    /// [`BatchError`], with nothing written; [`Refused::RunFull`] if one of its keys would be one
+    /// more.
     ///
     /// ```
     /// # use cupolanettle::{Batch, Caller, Error, Options};
@@ -38,16 +40,12 @@ impl Caller {
     /// # Ok::<(), Error>(())
     /// ```
     pub fn batch(&self, batch: &Batch) -> Result<Time, BatchError> {
-        let writes = batch.len() as Time;
-        if batch.is_empty() {
-            return Err(BatchError::Empty);
-        }
-        if writes > self.home.shared.works.cells() {
-            return Err(BatchError::TooLong);
-        }
-        match self.write(|seat| seat.try_batch(batch.rows()))? {
-            Ok(time) => Ok(self.wrote_all(time, writes)),
-            Err(Memory) => Err(BatchError::Memory),
+        match self.handle.batch(batch.rows()) {
+            raw::OK => Ok(self.time()),
+            raw::EMPTY_BATCH => Err(BatchError::Empty),
+            raw::BAD_BATCH => Err(BatchError::TooLong),
+            raw::MEMORY => Err(BatchError::Memory),
+            code => Err(Refused::of(code).into()),
         }
     }
 }

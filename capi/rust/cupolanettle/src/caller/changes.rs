@@ -1,15 +1,16 @@
 //! Changes: calls that read a key and write it in one step.
 use super::Caller;
-use crate::change::Changed;
+use crate::change::{Changed, Kept};
 use crate::error::{ChangeError, Refused};
-use crate::pause::Pause;
-use crate::seat::{Seat, Tried};
+use crate::library::Code;
 use crate::value::Value;
+use cupolanettle_sys as raw;
 
 /// Changes read a key and write it in one step: no other write of the key comes between.
 ///
-/// They wait as [`put`](Caller::put) does. A change that does not fit the value of the key keeps
-/// that: it writes nothing, is a read, and answers [`ChangeError::Kept`] with what it found.
+/// They wait as [`put`](Caller::put) does, and are [refused](Refused) as that is. A change that
+/// does not fit the value of the key keeps that: it writes nothing, is a read, and answers
+/// [`ChangeError::Kept`] with what it found.
 impl Caller {
     /// Adds to the word of the key, which counts as 0 if the key has no value. It answers what the
     /// key had and has.
@@ -34,7 +35,7 @@ impl Caller {
     /// ```
     #[inline]
     pub fn add(&self, key: u64, by: u64) -> Result<Changed, ChangeError> {
-        self.change(|seat| seat.try_add(key, by))
+        self.changed(self.handle.add(key, by))
     }
 
     /// Writes the value at the key if the key has none.
@@ -122,7 +123,8 @@ impl Caller {
         expected: Option<Value>,
         desired: Option<Value>,
     ) -> Result<Changed, ChangeError> {
-        self.change(|seat| seat.try_replace(key, expected, desired))
+        let (expected, desired) = (Value::raw_of(expected), Value::raw_of(desired));
+        self.changed(self.handle.replace(key, &expected, &desired))
     }
 
     /// Gives the key what the function makes of its value, where `None` stands for no value: the
@@ -132,12 +134,14 @@ impl Caller {
     /// came between, **the function is asked again**, with the new value; its last answer is the
     /// one that is written. It is written even if the key has that value already.
     ///
-    /// The function may call this caller, but the loop has no end if it changes this key each time.
-    /// If it panics, nothing was written.
+    /// The function may call this caller, but the loop has no end if it changes this key each
+    /// time. If it panics, this call has written nothing, and the caller goes on as before. One
+    /// that may give up is a loop of its own, as [`replace`](Caller::replace) shows.
     ///
     /// # Errors
     ///
-    /// [`Refused`], with nothing written.
+    /// [`Refused`], as of [`put`](Caller::put), with nothing written. That the key was kept is
+    /// none: the function is asked again then.
     ///
     /// ```
     /// # use cupolanettle::{Error, Options, Value};
@@ -174,20 +178,14 @@ impl Caller {
         }
     }
 
-    /// Makes a change, and notes its time. One that keeps the value is a read, which may be below
-    /// what this caller had seen: then it is made again.
+    /// What a change came to. One that keeps the value is a read.
     #[inline]
-    fn change(&self, once: impl Fn(&Seat) -> Tried) -> Result<Changed, ChangeError> {
-        let mut pause = Pause::new();
-        loop {
-            match self.write(&once)? {
-                Ok(changed) => {
-                    self.wrote(changed.time);
-                    return Ok(changed);
-                }
-                Err(kept) if self.is_in_order(kept.time) => return Err(kept.into()),
-                Err(_) => pause.wait(),
-            }
+    fn changed(&self, (code, found): (Code, raw::Changed)) -> Result<Changed, ChangeError> {
+        let (before, after) = (Value::from_raw(found.before), Value::from_raw(found.after));
+        match code {
+            raw::OK => Ok(Changed { time: self.time(), before, after }),
+            raw::KEPT => Err(Kept { time: self.time(), value: before }.into()),
+            code => Err(Refused::of(code).into()),
         }
     }
 }

@@ -1,0 +1,374 @@
+//! Handles of the library, and its calls. All unsafe code of this crate stands here.
+//!
+//! What the library asks of its callers stands at the head of `clsm.h`. Handles are used between
+//! their open and their close: the calls here are those of a handle, which its drop alone closes,
+//! and which keeps its store. They are in one call at a time: a [`Handle`] is not `Sync`, and no
+//! call runs code of others. A walk borrows its caller, and so is in that one's thread. Other
+//! pointers are to objects of a frame, to slices and to vectors.
+#![allow(unsafe_code)]
+
+use crate::error::{Memory, NoSeat};
+use crate::range::Keys;
+use crate::value::Value;
+use crate::Time;
+use cupolanettle_sys as raw;
+use std::ffi::{c_int, c_uint, CStr};
+use std::marker::PhantomData;
+use std::mem::MaybeUninit;
+use std::ptr::{null_mut, NonNull};
+use std::sync::Arc;
+
+/// What a call answers: one of the codes of `cupolanettle_sys`.
+pub(crate) type Code = c_int;
+
+/// The library has answered what it never does where its handles are used as they are here.
+#[cold]
+pub(crate) fn unexpected(code: Code) -> ! {
+    // SAFETY: it is a text that stays, whatever the code.
+    let name = unsafe { CStr::from_ptr(raw::clsm_strerror(code)) };
+    panic!("the library answers {code}: {}", name.to_string_lossy())
+}
+
+/// Whether the library that was linked is that of these declarations.
+fn is_of_this_build() -> bool {
+    // SAFETY: it is a text that stays.
+    let version = unsafe { CStr::from_ptr(raw::clsm_version()) };
+    version.to_bytes() == raw::VERSION.as_bytes()
+}
+
+/// Where a handle lies.
+struct Place<K>(NonNull<K>);
+
+// SAFETY: a place allows nothing: each call says why it may be made.
+unsafe impl<K> Send for Place<K> {}
+
+// SAFETY: as above.
+unsafe impl<K> Sync for Place<K> {}
+
+// ---- stores
+
+/// An open store.
+pub(crate) struct OpenStore {
+    at: Place<raw::Store>,
+}
+
+impl OpenStore {
+    /// Opens a store, or answers the code of the refusal.
+    pub(crate) fn open(options: &raw::Options) -> Result<OpenStore, Code> {
+        if !is_of_this_build() {
+            return Err(raw::BAD_BUILD);
+        }
+        let mut at = null_mut();
+        // SAFETY: the options are only read, and `at` is of this frame.
+        let code = unsafe { raw::clsm_open(options, &raw mut at) };
+        NonNull::new(at).map(|at| OpenStore { at: Place(at) }).ok_or(code)
+    }
+
+    fn place(&self) -> *mut raw::Store {
+        self.at.0.as_ptr()
+    }
+
+    pub(crate) fn sweep(&self) -> Code {
+        // SAFETY: the store is open, and may be in several calls.
+        unsafe { raw::clsm_sweep(self.place()) }
+    }
+
+    pub(crate) fn stats(&self) -> raw::Statistics {
+        let mut statistics = raw::Statistics::default();
+        // SAFETY: as in `sweep`, and `statistics` is of this frame.
+        let code = unsafe { raw::clsm_stats(self.place(), &raw mut statistics) };
+        match code {
+            raw::OK => statistics,
+            code => unexpected(code),
+        }
+    }
+
+    /// Opens a caller of the store.
+    pub(crate) fn caller(self: &Arc<OpenStore>) -> Result<Handle<raw::Caller>, NoSeat> {
+        // SAFETY: as in `sweep`, and the place is one for the handle.
+        Handle::open(self, |at| unsafe { raw::clsm_caller_open(self.place(), at) })
+    }
+
+    /// Opens a snapshot of the store.
+    pub(crate) fn snapshot(self: &Arc<OpenStore>) -> Result<Handle<raw::Snapshot>, NoSeat> {
+        // SAFETY: as in `caller`.
+        Handle::open(self, |at| unsafe { raw::clsm_store_snapshot(self.place(), at) })
+    }
+}
+
+impl Drop for OpenStore {
+    fn drop(&mut self) {
+        // SAFETY: the store is open, nothing uses it after its drop, and as each handle keeps its
+        // store, none of them is open.
+        let code = unsafe { raw::clsm_close(self.place()) };
+        debug_assert_eq!(code, raw::OK);
+    }
+}
+
+// ---- handles
+
+/// What the compiler names where a thread would share another one's caller.
+pub(crate) struct OneCallerForEachThread;
+
+/// What the compiler names where a thread would share another one's snapshot.
+pub(crate) struct OneSnapshotForEachThread;
+
+type Close<K> = unsafe extern "C" fn(*mut K);
+type Number<K> = unsafe extern "C" fn(*const K) -> c_uint;
+type TimeOf<K> = unsafe extern "C" fn(*const K) -> Time;
+type Get<K> = unsafe extern "C" fn(*mut K, u64, *mut raw::Value) -> Code;
+type Count<K> = unsafe extern "C" fn(*mut K, u64, u64, *mut u64) -> Code;
+type Page<K> =
+    unsafe extern "C" fn(*mut K, u64, u64, *mut raw::Row, usize, *mut raw::PageEnd) -> Code;
+
+/// A kind of handle, and the calls that all kinds have.
+pub(crate) trait Kind: Sized {
+    /// Its name tells how threads may use such handles.
+    type Rule;
+    const CLOSE: Close<Self>;
+    const NUMBER: Number<Self>;
+    const TIME: TimeOf<Self>;
+    const GET: Get<Self>;
+    const COUNT: Count<Self>;
+    const PAGE: Page<Self>;
+}
+
+impl Kind for raw::Caller {
+    type Rule = OneCallerForEachThread;
+    const CLOSE: Close<Self> = raw::clsm_caller_close;
+    const NUMBER: Number<Self> = raw::clsm_number;
+    const TIME: TimeOf<Self> = raw::clsm_time;
+    const GET: Get<Self> = raw::clsm_get;
+    const COUNT: Count<Self> = raw::clsm_count;
+    const PAGE: Page<Self> = raw::clsm_page;
+}
+
+impl Kind for raw::Snapshot {
+    type Rule = OneSnapshotForEachThread;
+    const CLOSE: Close<Self> = raw::clsm_snapshot_close;
+    const NUMBER: Number<Self> = raw::clsm_snapshot_number;
+    const TIME: TimeOf<Self> = raw::clsm_snapshot_time;
+    const GET: Get<Self> = raw::clsm_snapshot_get;
+    const COUNT: Count<Self> = raw::clsm_snapshot_count;
+    const PAGE: Page<Self> = raw::clsm_snapshot_page;
+}
+
+/// An open handle, which goes from thread to thread, but is never shared.
+pub(crate) struct Handle<K: Kind> {
+    at: Place<K>,
+    rule: PhantomData<*const K::Rule>,
+    /// Dropped behind the handle.
+    store: Arc<OpenStore>,
+}
+
+// SAFETY: the library lets its handles go to another thread, if the two threads synchronise. They
+// do whenever a value goes from one to the other.
+unsafe impl<K: Kind> Send for Handle<K> {}
+
+impl<K: Kind> Handle<K> {
+    /// The handle that a call opens at the place that it is passed.
+    fn open(
+        store: &Arc<OpenStore>,
+        call: impl FnOnce(*mut *mut K) -> Code,
+    ) -> Result<Handle<K>, NoSeat> {
+        let mut at = null_mut();
+        let code = call(&raw mut at);
+        match NonNull::new(at) {
+            Some(at) => Ok(Handle { at: Place(at), rule: PhantomData, store: Arc::clone(store) }),
+            None if code == raw::NO_SEAT => Err(NoSeat),
+            None => unexpected(code),
+        }
+    }
+
+    #[inline]
+    fn place(&self) -> *mut K {
+        self.at.0.as_ptr()
+    }
+
+    pub(crate) fn number(&self) -> usize {
+        // SAFETY: the handle is open, and in no other call.
+        unsafe { K::NUMBER(self.place()) as usize }
+    }
+
+    #[inline]
+    pub(crate) fn time(&self) -> Time {
+        // SAFETY: as in `number`.
+        unsafe { K::TIME(self.place()) }
+    }
+
+    #[inline]
+    pub(crate) fn get(&self, key: u64) -> Option<Value> {
+        let mut found = MaybeUninit::uninit();
+        // SAFETY: as in `number`, and `found` is of this frame.
+        let code = unsafe { K::GET(self.place(), key, found.as_mut_ptr()) };
+        match code {
+            // SAFETY: a call that answers so has written what it found.
+            raw::OK | raw::NOT_FOUND => Value::from_raw(unsafe { found.assume_init() }),
+            code => unexpected(code),
+        }
+    }
+
+    pub(crate) fn count(&self, keys: Keys) -> u64 {
+        let mut count = 0;
+        // SAFETY: as in `number`, and `count` is of this frame.
+        let code = unsafe { K::COUNT(self.place(), keys.first, keys.last, &raw mut count) };
+        match code {
+            raw::OK => count,
+            code => unexpected(code),
+        }
+    }
+
+    /// Reads the first rows of the range, at most so many, in place of those that the vector has.
+    /// Answers the key of the next one, if there are more.
+    #[allow(clippy::cast_possible_truncation)] // no more rows than there was room for
+    pub(crate) fn page(
+        &self,
+        keys: Keys,
+        most: usize,
+        rows: &mut Vec<raw::Row>,
+    ) -> Result<Option<u64>, Memory> {
+        let mut end = raw::PageEnd::default();
+        rows.clear();
+        rows.try_reserve_exact(most).map_err(|_| Memory)?;
+        let (into, told) = (rows.as_mut_ptr(), &raw mut end);
+        // SAFETY: as in `number`, the vector has room for so many rows, and `end` is of this
+        // frame.
+        let code = unsafe { K::PAGE(self.place(), keys.first, keys.last, into, most, told) };
+        match code {
+            // SAFETY: a call that answers so has written so many rows, for which there was room.
+            raw::OK => unsafe { rows.set_len(end.rows as usize) },
+            raw::MEMORY => return Err(Memory),
+            code => unexpected(code),
+        }
+        Ok(end.more.then_some(end.next))
+    }
+}
+
+impl<K: Kind> Drop for Handle<K> {
+    fn drop(&mut self) {
+        // SAFETY: as in `number`, and nothing uses the handle after its drop.
+        unsafe { K::CLOSE(self.place()) };
+    }
+}
+
+// ---- callers
+
+impl Handle<raw::Caller> {
+    #[inline]
+    pub(crate) fn seen(&self) -> Time {
+        // SAFETY: as in `number`.
+        unsafe { raw::clsm_seen(self.place()) }
+    }
+
+    pub(crate) fn follow(&self, seen: Time) -> Code {
+        // SAFETY: as in `number`.
+        unsafe { raw::clsm_follow(self.place(), seen) }
+    }
+
+    /// Opens a snapshot, which is a read of this caller.
+    pub(crate) fn snapshot(&self) -> Result<Handle<raw::Snapshot>, NoSeat> {
+        // SAFETY: as in `number`, and the place is one for the handle.
+        Handle::open(&self.store, |at| unsafe { raw::clsm_snapshot_open(self.place(), at) })
+    }
+
+    /// Begins a walk, which reads by this caller.
+    pub(crate) fn walk(&self, keys: Keys) -> Result<OpenWalk<'_>, Memory> {
+        let mut at = null_mut();
+        let Keys { first, last } = keys;
+        // SAFETY: as in `number`, and `at` is of this frame.
+        let code = unsafe { raw::clsm_walk_open(self.place(), first, last, &raw mut at) };
+        match NonNull::new(at) {
+            Some(at) => Ok(OpenWalk { at: Place(at), caller: PhantomData }),
+            None if code == raw::MEMORY => Err(Memory),
+            None => unexpected(code),
+        }
+    }
+
+    #[inline]
+    pub(crate) fn put(&self, key: u64, value: &[u64]) -> Code {
+        // SAFETY: as in `number`, and the words are one slice.
+        unsafe { raw::clsm_put(self.place(), key, value.as_ptr(), value.len()) }
+    }
+
+    #[inline]
+    pub(crate) fn remove(&self, key: u64) -> Code {
+        // SAFETY: as in `number`.
+        unsafe { raw::clsm_remove(self.place(), key) }
+    }
+
+    #[inline]
+    pub(crate) fn try_put(&self, key: u64, value: &[u64]) -> Code {
+        // SAFETY: as in `put`.
+        unsafe { raw::clsm_try_put(self.place(), key, value.as_ptr(), value.len()) }
+    }
+
+    #[inline]
+    pub(crate) fn try_remove(&self, key: u64) -> Code {
+        // SAFETY: as in `number`.
+        unsafe { raw::clsm_try_remove(self.place(), key) }
+    }
+
+    pub(crate) fn batch(&self, rows: &[raw::Row]) -> Code {
+        // SAFETY: as in `number`, and the rows are one slice.
+        unsafe { raw::clsm_batch(self.place(), rows.as_ptr(), rows.len()) }
+    }
+
+    #[inline]
+    pub(crate) fn add(&self, key: u64, by: u64) -> (Code, raw::Changed) {
+        let mut changed = raw::Changed::default();
+        // SAFETY: as in `number`, and `changed` is of this frame.
+        let code = unsafe { raw::clsm_add(self.place(), key, by, &raw mut changed) };
+        (code, changed)
+    }
+
+    #[inline]
+    pub(crate) fn replace(
+        &self,
+        key: u64,
+        expected: &raw::Value,
+        desired: &raw::Value,
+    ) -> (Code, raw::Changed) {
+        let mut changed = raw::Changed::default();
+        // SAFETY: as in `add`, and the values are only read.
+        let code =
+            unsafe { raw::clsm_replace(self.place(), key, expected, desired, &raw mut changed) };
+        (code, changed)
+    }
+}
+
+// ---- walks
+
+/// A walk, which its caller outlives: it borrows that.
+///
+/// The library uses the caller in each call of the walk, and wants both in one call at a time.
+/// They are: what borrows a handle, which is not `Sync`, stays in the thread that has the handle,
+/// and no call runs code of others. A walk that is forgotten keeps its memory, and is used no
+/// more.
+pub(crate) struct OpenWalk<'a> {
+    at: Place<raw::Walk>,
+    caller: PhantomData<&'a Handle<raw::Caller>>,
+}
+
+impl OpenWalk<'_> {
+    /// The next row, or `None` behind the last one, and so again.
+    #[inline]
+    pub(crate) fn next(&mut self) -> Result<Option<raw::Row>, Memory> {
+        let mut row = MaybeUninit::uninit();
+        // SAFETY: the walk and its caller are open, and in no other call; `row` is of this frame.
+        let code = unsafe { raw::clsm_walk_next(self.at.0.as_ptr(), row.as_mut_ptr()) };
+        match code {
+            // SAFETY: a call that answers so has written the row.
+            raw::OK => Ok(Some(unsafe { row.assume_init() })),
+            raw::DONE => Ok(None),
+            raw::MEMORY => Err(Memory),
+            code => unexpected(code),
+        }
+    }
+}
+
+impl Drop for OpenWalk<'_> {
+    fn drop(&mut self) {
+        // SAFETY: the walk is open, and nothing uses it after its drop.
+        unsafe { raw::clsm_walk_close(self.at.0.as_ptr()) };
+    }
+}

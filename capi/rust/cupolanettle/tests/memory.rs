@@ -1,0 +1,173 @@
+//! Memory that runs out: each call that takes some is refused, changes nothing, and is made once
+//! there is some.
+//!
+//! This program has a malloc of its own, in front of that of the system.
+use cupolanettle::{
+    Batch, BatchError, Caller, Error, Memory, OpenError, Options, RetainError, Store,
+};
+use std::cell::Cell;
+use std::ffi::c_void;
+
+const ROWS: u64 = 200;
+/// So many rows an iterator reads at a time.
+const AT_A_TIME: usize = 64;
+/// More allocations than any call makes.
+const MANY: u32 = 1_000_000;
+
+thread_local! {
+    /// After so many more allocations of this thread, the next one is refused.
+    static UNTIL_REFUSED: Cell<Option<u32>> = const { Cell::new(None) };
+}
+
+extern "C" {
+    fn __libc_malloc(size: usize) -> *mut c_void;
+}
+
+/// # Safety
+///
+/// As the system's.
+#[no_mangle]
+pub unsafe extern "C" fn malloc(size: usize) -> *mut c_void {
+    let left = UNTIL_REFUSED.get();
+    UNTIL_REFUSED.set(left.and_then(|left| left.checked_sub(1)));
+    if left == Some(0) {
+        return std::ptr::null_mut();
+    }
+    // SAFETY: it is the system's.
+    unsafe { __libc_malloc(size) }
+}
+
+/// What the call answers if so many of its allocations succeed; and whether it made more.
+fn with_allocations<T>(count: u32, call: impl FnOnce() -> T) -> (T, bool) {
+    UNTIL_REFUSED.set(Some(count));
+    let answer = call();
+    (answer, UNTIL_REFUSED.replace(None).is_none())
+}
+
+/// Refuses each allocation of the call in turn; answers how many there were, and the last answer.
+fn refuse_each<T>(call: impl Fn() -> Result<T, Memory>) -> (u32, T) {
+    let mut count = 0;
+    loop {
+        let (answer, is_refused) = with_allocations(count, &call);
+        match answer {
+            Ok(answer) if !is_refused => return (count, answer),
+            answer => assert_eq!(answer.map(drop), Err(Memory)),
+        }
+        count += 1;
+    }
+}
+
+fn filled() -> Result<(Store, Caller), Error> {
+    let store = Options::new().keys(1_000).open()?;
+    let caller = store.caller()?;
+    for key in 0..ROWS {
+        caller.put(key, key)?;
+    }
+    Ok((store, caller))
+}
+
+#[test]
+fn pages() -> Result<(), Error> {
+    let (_store, caller) = filled()?;
+    let snapshot = caller.snapshot()?;
+    let (count, page) = refuse_each(|| caller.page(.., usize::MAX));
+    assert!(count > 1);
+    assert_eq!(page.rows.len() as u64, ROWS);
+    let (count, page) = refuse_each(|| snapshot.page(..10, 5));
+    assert!(count > 1);
+    assert_eq!((page.rows.len(), page.next), (5, Some(5)));
+    Ok(())
+}
+
+#[test]
+fn an_iterator_goes_on_from_the_same_row() -> Result<(), Error> {
+    let (_store, caller) = filled()?;
+    for taken in [0, AT_A_TIME, 2 * AT_A_TIME] {
+        let mut rows = caller.range(..)?;
+        assert_eq!(rows.by_ref().take(taken).flatten().count(), taken);
+        for _ in 0..3 {
+            let (row, is_refused) = with_allocations(0, || rows.next());
+            assert!(is_refused);
+            assert_eq!(row, Some(Err(Memory)));
+        }
+        let keys: Vec<_> = rows.map(|row| row.map(|row| row.0)).collect::<Result<_, _>>()?;
+        assert!(keys.into_iter().eq(taken as u64..ROWS));
+    }
+    Ok(())
+}
+
+/// Its opening is refused, or a reading, which goes on from the same row.
+#[test]
+fn a_walk_goes_on_from_the_same_row() -> Result<(), Error> {
+    let (_store, caller) = filled()?;
+    let (count, walk) = refuse_each(|| caller.walk(..));
+    assert!(count > 0);
+    drop(walk);
+    for taken in [0, AT_A_TIME, 2 * AT_A_TIME] {
+        let mut rows = caller.walk(..)?;
+        assert_eq!(rows.by_ref().take(taken).flatten().count(), taken);
+        for _ in 0..3 {
+            let (row, is_refused) = with_allocations(0, || rows.next());
+            assert!(is_refused);
+            assert_eq!(row, Some(Err(Memory)));
+        }
+        let keys: Vec<_> = rows.map(|row| row.map(|row| row.0)).collect::<Result<_, _>>()?;
+        assert!(keys.into_iter().eq(taken as u64..ROWS));
+    }
+    Ok(())
+}
+
+/// It ends where memory runs out, and what it removed before is removed.
+#[test]
+fn a_removal_of_rows() -> Result<(), Error> {
+    let (_store, caller) = filled()?;
+    for count in 0..MANY {
+        let before = caller.count(..);
+        let (came, is_refused) = with_allocations(count, || caller.retain(.., |_, _| false));
+        match came {
+            Ok(removed) => {
+                assert!(count > 1 && !is_refused);
+                assert_eq!((removed, caller.count(..)), (before, 0));
+                return Ok(());
+            }
+            Err(refused) => assert_eq!((refused, is_refused), (RetainError::Memory, true)),
+        }
+        let removed = ROWS - caller.count(..);
+        assert_eq!(removed % AT_A_TIME as u64, 0);
+        for key in 0..removed {
+            caller.put(key, key)?;
+        }
+    }
+    panic!("it takes more and more");
+}
+
+#[test]
+fn batches() -> Result<(), Error> {
+    let (_store, caller) = filled()?;
+    let mut batch = Batch::new();
+    batch.remove(1).set(2, 9);
+    let before = caller.time();
+    let (came, is_refused) = with_allocations(0, || caller.batch(&batch));
+    assert!(is_refused);
+    assert_eq!(came, Err(BatchError::Memory));
+    assert_eq!((caller.time(), caller.count(..)), (before, ROWS));
+    caller.batch(&batch)?;
+    assert_eq!(caller.count(..), ROWS - 1);
+    Ok(())
+}
+
+#[test]
+fn stores() -> Result<(), Error> {
+    let options = Options::new().keys(1_000);
+    UNTIL_REFUSED.set(Some(MANY));
+    let store = options.open();
+    let left = UNTIL_REFUSED.replace(None);
+    store?.caller()?.put(1, 1)?;
+    // The last one is of Rust's own few words, without which the program ends.
+    for count in 0..MANY - left.unwrap() - 1 {
+        let (came, is_refused) = with_allocations(count, || options.open().map(drop));
+        assert!(is_refused);
+        assert_eq!(came, Err(OpenError::Memory));
+    }
+    Ok(())
+}
