@@ -51,8 +51,8 @@ static void refuse(clsm_caller *caller) {
     for (uint64_t i = 0; i <= EPOCH; i++) rows[i] = row(100 + i, i);
     ANSWERS(CLSM_BAD_POINTER, clsm_batch(NULL, rows, 1));
     ANSWERS(CLSM_BAD_POINTER, clsm_batch(caller, NULL, 1));
-    ANSWERS(CLSM_BAD_BATCH, clsm_batch(caller, NULL, 0));
-    ANSWERS(CLSM_BAD_BATCH, clsm_batch(caller, rows, 0));
+    ANSWERS(CLSM_EMPTY_BATCH, clsm_batch(caller, NULL, 0));
+    ANSWERS(CLSM_EMPTY_BATCH, clsm_batch(caller, rows, 0));
     ANSWERS(CLSM_BAD_BATCH, clsm_batch(caller, rows, EPOCH + 1));
     ANSWERS(CLSM_BAD_BATCH, clsm_batch(caller, rows, SIZE_MAX));
     rows[2].value.length = 9;
@@ -127,7 +127,7 @@ static void fill_run(int merge) {
         CHECK(written < 1000);
         code = clsm_batch(caller, rows, 2);
     }
-    CHECK(code == CLSM_RUN_FULL);
+    CHECK(code == CLSM_OWN_SNAPSHOT);
     CHECK(word_at(caller, 1) == written - 2 && word_at(caller, 2) == written - 2);
     clsm_snapshot_close(snapshot);
     for (uint64_t i = 0; i < 100; i++) {

@@ -53,8 +53,8 @@ static void claim(clsm_caller *caller) {
 }
 
 static void replace(clsm_caller *caller) {
-    const clsm_value old = word(50), new = word(51), other = word(52), empty = {.length = 0};
-    const clsm_value longer = {2, {50, 0}};
+    const clsm_value old = word(50), new = word(51), other = word(52);
+    const clsm_value longer = {2, {50, 0}}, too_long = {.length = 9};
     clsm_changed changed;
     OK(clsm_replace(caller, 5, NULL, &old, NULL));
     ANSWERS(CLSM_KEPT, clsm_replace(caller, 5, NULL, &new, &changed));
@@ -67,9 +67,22 @@ static void replace(clsm_caller *caller) {
     OK(clsm_replace(caller, 5, &new, NULL, &changed));
     CHECK(is(&changed.before, 51) && is_none(&changed.after));
     ANSWERS(CLSM_NOT_FOUND, clsm_get(caller, 5, NULL));
-    ANSWERS(CLSM_BAD_VALUE, clsm_replace(caller, 5, &empty, &new, NULL));
-    ANSWERS(CLSM_BAD_VALUE, clsm_replace(caller, 5, NULL, &empty, NULL));
+    ANSWERS(CLSM_BAD_VALUE, clsm_replace(caller, 5, &too_long, &new, NULL));
+    ANSWERS(CLSM_BAD_VALUE, clsm_replace(caller, 5, NULL, &too_long, NULL));
     ANSWERS(CLSM_BAD_POINTER, clsm_replace(NULL, 5, NULL, &new, NULL));
+}
+
+/* A value of length 0 is none, whatever words are behind it. */
+static void replace_none(clsm_caller *caller) {
+    const clsm_value one = word(70), empty = {0, {7, 7}};
+    clsm_changed changed;
+    OK(clsm_replace(caller, 7, &empty, &one, &changed));
+    CHECK(is_none(&changed.before) && is(&changed.after, 70));
+    ANSWERS(CLSM_KEPT, clsm_replace(caller, 7, &empty, &one, NULL));
+    OK(clsm_replace(caller, 7, &one, &empty, &changed));
+    CHECK(is(&changed.before, 70) && is_none(&changed.after));
+    OK(clsm_replace(caller, 7, &empty, &empty, NULL));
+    ANSWERS(CLSM_NOT_FOUND, clsm_get(caller, 7, NULL));
 }
 
 /* Each change has a time of its own behind all before it, and one that kept the value reads there.
@@ -85,17 +98,17 @@ static void rise(clsm_caller *caller) {
 
 /* ---- In threads */
 
-/* Adds one by a get and a replacement, until no other write came between. */
+/* Adds one by a get and a replacement, until no other write came between, as clsm.h advises for any
+ * change. */
 static void add_by_replacing(clsm_caller *caller, uint64_t key) {
-    for (;;) {
+    int code = CLSM_KEPT;
+    while (code == CLSM_KEPT) {
         clsm_value old, new;
-        int found = clsm_get(caller, key, &old);
-        CHECK(found == CLSM_OK || found == CLSM_NOT_FOUND);
-        new = word(found == CLSM_OK ? old.words[0] + 1 : 1);
-        int code = clsm_replace(caller, key, found == CLSM_OK ? &old : NULL, &new, NULL);
-        if (code == CLSM_OK) return;
-        CHECK(code == CLSM_KEPT);
+        CHECK(clsm_get(caller, key, &old) <= CLSM_NOT_FOUND);
+        new = word(old.length ? old.words[0] + 1 : 1);
+        code = clsm_replace(caller, key, &old, &new, NULL);
     }
+    ANSWERS(CLSM_OK, code);
 }
 
 static void *count(void *store) {
@@ -141,6 +154,7 @@ int main(int argc, char **argv) {
     add(caller);
     claim(caller);
     replace(caller);
+    replace_none(caller);
     rise(caller);
     clsm_caller_close(caller);
     OK(clsm_close(store));

@@ -20,6 +20,18 @@
 #define ANSWERS(code, call) check_code(__FILE__, __LINE__, #call, code, call)
 #define OK(call)            ANSWERS(CLSM_OK, call)
 
+/* Whether AddressSanitizer is there, which names each call on a closed handle. */
+#if defined __SANITIZE_ADDRESS__
+#define NAMES_CLOSED true
+#elif defined __has_feature
+#if __has_feature(address_sanitizer)
+#define NAMES_CLOSED true
+#endif
+#endif
+#ifndef NAMES_CLOSED
+#define NAMES_CLOSED false
+#endif
+
 static inline void check_code(const char *file, int line, const char *call, int wanted, int code) {
     if (code == wanted) return;
     fprintf(stderr, "%s:%d: %s answered %d (%s), not %d\n", file, line, call, code,

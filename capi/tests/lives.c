@@ -4,8 +4,12 @@
 #define _POSIX_C_SOURCE 200809L
 #include "check.h"
 
+#include <dirent.h>
+#include <inttypes.h>
 #include <pthread.h>
+#include <signal.h>
 #include <stdatomic.h>
+#include <string.h>
 #include <sys/wait.h>
 #include <unistd.h>
 
@@ -164,6 +168,89 @@ static void fork_beside(void) {
     OK(clsm_close(store));
 }
 
+static clsm_store *left_store;
+static clsm_caller *left_caller;
+static clsm_snapshot *left_snapshot;
+static clsm_scan *left_scan;
+
+/* As the destructors of C++ do at the end of a process. */
+static void close_all(void) {
+    clsm_scan_close(left_scan);
+    clsm_snapshot_close(left_snapshot);
+    clsm_caller_close(left_caller);
+    ANSWERS(CLSM_OK, clsm_close(left_store));
+}
+
+/* A child that closes what its parent opened leaves it as it is, and ends. */
+static void close_in_child(void) {
+    enum { CLOSED = 7 };
+    int status;
+    left_store = opened(64);
+    put_keys(left_store, 1, 100);
+    OK(clsm_caller_open(left_store, &left_caller));
+    OK(clsm_snapshot_open(left_caller, &left_snapshot));
+    OK(clsm_scan_open(left_caller, 1, 100, &left_scan));
+    fflush(NULL);
+    pid_t child = fork();
+    CHECK(child >= 0);
+    if (child == 0) {
+        close_all();
+        _exit(CLOSED);
+    }
+    CHECK(waitpid(child, &status, 0) == child);
+    CHECK(WIFEXITED(status) && WEXITSTATUS(status) == CLOSED);
+    OK(clsm_snapshot_get(left_snapshot, 1, NULL));
+    OK(clsm_scan_next(left_scan, &(clsm_row){0}));
+    close_all();
+}
+
+/* ---- The merger's thread, as the system shows it */
+
+/* The number behind this name in the status of a thread, in base 16. */
+static uint64_t status_of(const char *thread, const char *name) {
+    char path[300], line[300];
+    uint64_t number = 0;
+    snprintf(path, sizeof path, "/proc/self/task/%s/status", thread);
+    FILE *file = fopen(path, "r");
+    CHECK(file);
+    while (fgets(line, sizeof line, file))
+        if (strncmp(line, name, strlen(name)) == 0)
+            sscanf(line + strlen(name), "%" SCNx64, &number);
+    fclose(file);
+    return number;
+}
+
+static bool is_named(const char *thread, const char *name) {
+    char path[300], found[300] = "";
+    snprintf(path, sizeof path, "/proc/self/task/%s/comm", thread);
+    FILE *file = fopen(path, "r");
+    CHECK(file && fgets(found, sizeof found, file));
+    fclose(file);
+    return strncmp(found, name, strlen(name)) == 0;
+}
+
+/* It has a name. It leaves all signals to others but those of its own faults and of profilers. */
+static void show_thread(void) {
+    static const int own[] = {SIGSEGV, SIGBUS, SIGFPE, SIGILL, SIGTRAP, SIGABRT, SIGPROF};
+    static const int others[] = {SIGINT, SIGTERM, SIGHUP, SIGALRM, SIGUSR1, SIGCHLD, SIGPIPE};
+    clsm_store *store = opened(64);
+    put_keys(store, 1, 200); /* so it has begun */
+    DIR *threads = opendir("/proc/self/task");
+    unsigned found = 0;
+    CHECK(threads);
+    for (struct dirent *entry; (entry = readdir(threads));) {
+        if (entry->d_name[0] == '.' || !is_named(entry->d_name, "clsm-merger")) continue;
+        const uint64_t blocked = status_of(entry->d_name, "SigBlk:");
+        for (size_t i = 0; i < sizeof own / sizeof *own; i++) CHECK(!(blocked >> (own[i] - 1) & 1));
+        for (size_t i = 0; i < sizeof others / sizeof *others; i++)
+            CHECK(blocked >> (others[i] - 1) & 1);
+        found++;
+    }
+    closedir(threads);
+    CHECK(found == 1);
+    OK(clsm_close(store));
+}
+
 /* ---- Stores beside one another */
 
 static void open_many(void) {
@@ -190,5 +277,7 @@ int main(int count, char **texts) {
     leave_scans();
     open_many();
     fork_beside();
+    close_in_child();
+    show_thread();
     return passed(count > 1 ? texts[1] : "lives");
 }

@@ -9,6 +9,8 @@
 #include <stdlib.h>
 #include <string.h>
 
+const char CLSM_CORE_INTERFACE = 0;
+
 enum { SEATS = 64, NONE = 0 };
 static const uint64_t LAST_LIMIT = (uint64_t)1 << 62;
 
@@ -61,8 +63,8 @@ struct plan {
 };
 
 static struct plan plans[MOCK_CALLS];
-static void (*interruption)(void *);
-static void *interrupted_with;
+static void (*interruptions[MOCK_CALLS])(void *);
+static void *interrupted_with[MOCK_CALLS];
 static unsigned bytes_more;
 
 void mock_core_refuse(enum mock_call call, uint32_t code, unsigned times) {
@@ -92,9 +94,19 @@ void mock_core_await(enum mock_call call, unsigned made) {
     pthread_mutex_unlock(&lock);
 }
 
-void mock_core_interrupt(void (*function)(void *), void *with) {
-    interruption = function;
-    interrupted_with = with;
+void mock_core_interrupt(enum mock_call call, void (*function)(void *), void *with) {
+    pthread_mutex_lock(&lock);
+    interruptions[call] = function;
+    interrupted_with[call] = with;
+    pthread_mutex_unlock(&lock);
+}
+
+static void interrupt(enum mock_call call) {
+    pthread_mutex_lock(&lock);
+    void (*function)(void *) = interruptions[call];
+    interruptions[call] = NULL;
+    pthread_mutex_unlock(&lock);
+    if (function) function(interrupted_with[call]);
 }
 
 void mock_core_grow_handles(unsigned bytes) { bytes_more = bytes; }
@@ -301,7 +313,7 @@ static uint32_t refusal_of_rows(size_t cells, const clsm_core_row *rows, size_t 
 static uint32_t write_all(struct store *store, const clsm_core_row *rows, size_t count,
                           clsm_core_time *answer) {
     uint32_t code = refusal_of_rows(store->sizes.cells, rows, count);
-    if (code == CLSM_CORE_OK) code = planned(MOCK_WRITE);
+    if (code == CLSM_CORE_OK) code = planned(MOCK_BATCH);
     if (code != CLSM_CORE_OK) return code;
     answer->time = store->clock;
     if (count > limit(store) - store->clock) return CLSM_CORE_FULL;
@@ -402,12 +414,8 @@ static uint32_t read_below(const struct store *store, uint64_t key, uint64_t tim
 
 uint32_t clsm_core_get(clsm_core_caller *at, const clsm_core_key *ask, clsm_core_got *answer) {
     struct store *store = store_of(at);
-    void (*function)(void *) = interruption;
     if (!store) return CLSM_CORE_NO_HANDLE;
-    if (function) {
-        interruption = NULL;
-        function(interrupted_with);
-    }
+    interrupt(MOCK_READ);
     pthread_mutex_lock(&lock);
     uint32_t code = read_below(store, ask->key, read_time(store, MOCK_READ), answer);
     pthread_mutex_unlock(&lock);
@@ -578,6 +586,31 @@ static uint32_t sweep(struct store *store, uint64_t used, clsm_core_time *answer
     return CLSM_CORE_OK;
 }
 
+/* How many versions were merged: all of them count as entries of the last run, and none stand in
+ * the others. */
+static uint64_t count_merged(const struct store *store) {
+    const uint64_t end = (store->epoch - 1) * store->sizes.cells;
+    uint64_t merged = 0;
+    for (size_t i = 0; i < store->count; i++)
+        for (const struct version *at = store->entries[i].newest; at; at = at->older)
+            merged += at->time < end;
+    return merged;
+}
+
+uint32_t clsm_core_count_entries(clsm_core_merger *at, const clsm_core_turn *ask,
+                                 clsm_core_entries *answer) {
+    enum { MERGES_OF_LEVELS = 4 };
+    struct store *store = store_of(at);
+    answer->entries = 0;
+    if (!store) return CLSM_CORE_NO_HANDLE;
+    pthread_mutex_lock(&lock);
+    const bool is_frozen = store->phase == FROZEN;
+    const uint64_t young = is_frozen ? (store->epoch - 1) % MERGES_OF_LEVELS : 0;
+    if (is_frozen && ask->turn == young) answer->entries = count_merged(store);
+    pthread_mutex_unlock(&lock);
+    return is_frozen ? CLSM_CORE_OK : CLSM_CORE_IDLE;
+}
+
 uint32_t clsm_core_try_freeze(clsm_core_merger *at, const clsm_core_used *ask,
                               clsm_core_time *answer) {
     struct store *store = store_of(at);
@@ -593,6 +626,7 @@ uint32_t clsm_core_try_sweep(clsm_core_merger *at, const clsm_core_used *ask,
                              clsm_core_time *answer) {
     struct store *store = store_of(at);
     if (!store) return CLSM_CORE_NO_HANDLE;
+    interrupt(MOCK_SWEEP);
     pthread_mutex_lock(&lock);
     uint32_t code = sweep(store, ask->used, answer);
     pthread_mutex_unlock(&lock);

@@ -4,7 +4,7 @@
 
 #include <stdint.h>
 
-enum mock_call { MOCK_WRITE, MOCK_READ, MOCK_SNAPSHOT, MOCK_FREEZE, MOCK_SWEEP, MOCK_CALLS };
+enum mock_call { MOCK_WRITE, MOCK_BATCH, MOCK_READ, MOCK_SNAPSHOT, MOCK_FREEZE, MOCK_SWEEP, MOCK_CALLS };
 
 /* The next so many of these calls answer the code, and do nothing; a freeze or a sweep counts only
  * if it has something to do. */
@@ -19,8 +19,8 @@ unsigned mock_core_count(enum mock_call call);
 /* Sleeps until so many of these calls were made. */
 void mock_core_await(enum mock_call call, unsigned made);
 
-/* The next get calls this, once. */
-void mock_core_interrupt(void (*function)(void *), void *with);
+/* The next get, or the next sweep, first calls this, once. */
+void mock_core_interrupt(enum mock_call call, void (*function)(void *), void *with);
 
 /* Handles take so many bytes more than the header reserves. */
 void mock_core_grow_handles(unsigned bytes);

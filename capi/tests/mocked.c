@@ -1,11 +1,18 @@
 /* What only luck would show with the proved core: lost races, a read that is in the way of a merge,
  * the end of times, and reads that run back, which the core is not proved never to do between two
  * seats. The core is mock_core.c, which does each of these when it is told to. */
+#define _POSIX_C_SOURCE 200809L
 #include "between.h"
 #include "check.h"
 #include "mock_core.h"
 
 #include <limits.h>
+#include <pthread.h>
+#include <sched.h>
+#include <unistd.h>
+
+/* A call that should go on, and does not, ends the test behind so many. */
+enum { MOST_SECONDS = 60 };
 
 static const uint64_t WORD = 5;
 
@@ -51,24 +58,101 @@ static void lose(enum clsm_code code) {
     OK(clsm_add(caller, 1, 1, NULL));
     CHECK(between_yields() - yields == 3 * (LOST - PAUSED));
     const clsm_row rows[] = {{2, {1, {20}}}, {3, {1, {30}}}};
-    mock_core_refuse(MOCK_WRITE, (uint32_t)code, LOST);
+    mock_core_refuse(MOCK_BATCH, (uint32_t)code, LOST);
     OK(clsm_batch(caller, rows, 2));
     CHECK(between_yields() - yields == 4 * (LOST - PAUSED));
     CHECK(clsm_seen(caller) == clsm_time(caller) + 2);
     closed(store, caller);
 }
 
+/* ---- Batches and freezes that lost too many: writes let them in first */
+
+static void *write_batch(void *of) {
+    const clsm_row rows[] = {{2, {1, {20}}}, {3, {1, {30}}}};
+    OK(clsm_batch(of, rows, 2));
+    return NULL;
+}
+
+static void *put_once(void *of) {
+    OK(clsm_put(of, 4, &WORD, 1));
+    return NULL;
+}
+
+static void let_batches_in(void) {
+    enum { LOSSES = 4 };
+    clsm_store *store = opened(64, CLSM_MERGE_IN_CALLS);
+    clsm_caller *callers[] = {caller_of(store), caller_of(store), caller_of(store)};
+    pthread_t batch, put;
+    const unsigned made = mock_core_count(MOCK_BATCH);
+    mock_core_refuse(MOCK_BATCH, CLSM_BUSY, LOSSES - 1);
+    OK(clsm_batch(callers[0], &(clsm_row){.key = 1}, 1));
+    CHECK(mock_core_count(MOCK_BATCH) == made + LOSSES);
+    OK(clsm_try_put(callers[0], 1, &WORD, 1));
+    mock_core_refuse(MOCK_BATCH, CLSM_BUSY, UINT_MAX);
+    CHECK(pthread_create(&batch, NULL, write_batch, callers[1]) == 0);
+    mock_core_await(MOCK_BATCH, made + 3 * LOSSES);
+    ANSWERS(CLSM_BUSY, clsm_try_put(callers[0], 1, &WORD, 1));
+    ANSWERS(CLSM_BUSY, clsm_try_remove(callers[0], 1));
+    OK(clsm_get(callers[0], 1, NULL));
+    CHECK(pthread_create(&put, NULL, put_once, callers[2]) == 0);
+    mock_core_refuse(MOCK_BATCH, CLSM_OK, 0);
+    CHECK(pthread_join(batch, NULL) == 0 && pthread_join(put, NULL) == 0);
+    OK(clsm_try_put(callers[0], 1, &WORD, 1));
+    OK(clsm_get(callers[0], 4, NULL));
+    for (int i = 0; i < 3; i++) clsm_caller_close(callers[i]);
+    OK(clsm_close(store));
+}
+
+/* Nobody waits for a batch for ever. */
+static void go_on_beside_batch(void) {
+    clsm_store *store = opened(64, CLSM_MERGE_IN_CALLS);
+    clsm_caller *caller = caller_of(store), *other = caller_of(store);
+    const unsigned made = mock_core_count(MOCK_BATCH);
+    pthread_t batch;
+    mock_core_refuse(MOCK_BATCH, CLSM_BUSY, UINT_MAX);
+    CHECK(pthread_create(&batch, NULL, write_batch, other) == 0);
+    mock_core_await(MOCK_BATCH, made + 100);
+    alarm(MOST_SECONDS);
+    for (uint64_t key = 0; key < 3; key++) OK(clsm_put(caller, key, &WORD, 1));
+    alarm(0);
+    mock_core_refuse(MOCK_BATCH, CLSM_OK, 0);
+    CHECK(pthread_join(batch, NULL) == 0);
+    clsm_caller_close(other);
+    closed(store, caller);
+}
+
+static void let_freezes_in(void) {
+    clsm_store *store = opened(8, 0);
+    clsm_caller *caller = caller_of(store);
+    const unsigned made = mock_core_count(MOCK_FREEZE);
+    mock_core_refuse(MOCK_FREEZE, CLSM_BUSY, UINT_MAX);
+    for (uint64_t key = 0; key < 4; key++) OK(clsm_put(caller, key, &WORD, 1));
+    mock_core_await(MOCK_FREEZE, made + 100);
+    ANSWERS(CLSM_BUSY, clsm_try_put(caller, 1, &WORD, 1));
+    mock_core_refuse(MOCK_FREEZE, CLSM_OK, 0);
+    for (uint64_t key = 0; key < 100; key++) OK(clsm_put(caller, key, &WORD, 1));
+    closed(store, caller);
+}
+
 /* ---- Merges that are in somebody's way */
 
 static void sweep_in_the_way(void) {
+    enum { TIMES = 50 };
     clsm_store *store = opened(4, CLSM_MERGE_IN_CALLS);
     clsm_caller *caller = caller_of(store);
     OK(clsm_put(caller, 1, &WORD, 1));
-    mock_core_refuse(MOCK_FREEZE, CLSM_BUSY, 1);
-    ANSWERS(CLSM_BUSY, clsm_sweep(store));
-    mock_core_refuse(MOCK_SWEEP, CLSM_PINNED, 1);
-    ANSWERS(CLSM_PINNED, clsm_sweep(store));
+    /* What it freezes is merged then, but a read is in the way of the next one. */
+    mock_core_refuse(MOCK_SWEEP, CLSM_PINNED, 2);
+    OK(clsm_sweep(store));
     OK(clsm_put(caller, 2, &WORD, 1));
+    ANSWERS(CLSM_PINNED, clsm_sweep(store));
+    /* It waits for writers, also behind a merge of what was frozen before. */
+    unsigned made = mock_core_count(MOCK_SWEEP);
+    mock_core_refuse(MOCK_FREEZE, CLSM_BUSY, TIMES);
+    OK(clsm_sweep(store));
+    CHECK(mock_core_count(MOCK_SWEEP) - made == 2);
+    OK(clsm_put(caller, 3, &WORD, 1));
+    mock_core_refuse(MOCK_FREEZE, CLSM_BUSY, TIMES);
     OK(clsm_sweep(store));
     ANSWERS(CLSM_IDLE, clsm_sweep(store));
     closed(store, caller);
@@ -88,20 +172,120 @@ static void merge_in_calls_in_the_way(void) {
     closed(store, caller);
 }
 
-/* So does the merger's thread, which yields after each time. */
+/* So does the merger's thread, which yields sixteen times, and then sleeps each time. */
 static void merge_beside_in_the_way(void) {
-    enum { TIMES = 50, WRITES = 400 };
+    enum { TIMES = 50, YIELDS = 16, WRITES = 400 };
     clsm_store *store = opened(4, 0);
     clsm_caller *caller = caller_of(store);
     uint64_t keys;
     const unsigned long yields = between_yields();
     mock_core_refuse(MOCK_SWEEP, CLSM_PINNED, TIMES);
     for (uint64_t key = 0; key < WRITES; key++) OK(clsm_put(caller, key, &WORD, 1));
-    CHECK(between_yields() - yields == TIMES);
+    CHECK(between_yields() - yields == YIELDS);
     mock_core_refuse(MOCK_FREEZE, CLSM_BUSY, TIMES);
     for (uint64_t key = 0; key < WRITES; key++) OK(clsm_put(caller, key, &WORD, 1));
     OK(clsm_count(caller, 0, UINT64_MAX, &keys));
     CHECK(keys == WRITES);
+    closed(store, caller);
+}
+
+/* Puts nine times, which is once more than two epochs of the store have writes, and ends if it was
+ * cancelled meanwhile. */
+static void *put_nine_times(void *of) {
+    clsm_caller *caller = of;
+    for (uint64_t key = 0; key < 9; key++) OK(clsm_put(caller, key, &WORD, 1));
+    pthread_testcancel();
+    return NULL;
+}
+
+/* While a read is in the way of a merge, nobody wakes those who wait for room behind that. */
+static void sleep_behind_pinned(void) {
+    enum { WRITERS = 8, TIMES = 100 };
+    clsm_store *store = opened(4, 0);
+    clsm_caller *callers[WRITERS];
+    pthread_t threads[WRITERS];
+    unsigned made = mock_core_count(MOCK_SWEEP);
+    mock_core_refuse(MOCK_SWEEP, CLSM_PINNED, UINT_MAX);
+    for (int i = 0; i < WRITERS; i++) {
+        callers[i] = caller_of(store);
+        CHECK(pthread_create(&threads[i], NULL, put_nine_times, callers[i]) == 0);
+    }
+    mock_core_await(MOCK_SWEEP, made + 1);
+    between_await_sleepers(WRITERS);
+    made = mock_core_count(MOCK_SWEEP);
+    const unsigned long wakes = between_wakes();
+    while (mock_core_count(MOCK_SWEEP) < made + TIMES) sched_yield();
+    CHECK(between_wakes() == wakes);
+    mock_core_refuse(MOCK_SWEEP, CLSM_OK, 0);
+    for (int i = 0; i < WRITERS; i++) {
+        CHECK(pthread_join(threads[i], NULL) == 0);
+        clsm_caller_close(callers[i]);
+    }
+    OK(clsm_close(store));
+}
+
+/* A thread that is cancelled while its write waits for room makes the write first. */
+static void cancel_one_who_waits(void) {
+    clsm_store *store = opened(4, 0);
+    clsm_caller *caller = caller_of(store), *other = caller_of(store);
+    pthread_t thread;
+    void *answer;
+    mock_core_refuse(MOCK_SWEEP, CLSM_PINNED, UINT_MAX);
+    for (uint64_t key = 10; key < 14; key++) OK(clsm_put(other, key, &WORD, 1));
+    CHECK(pthread_create(&thread, NULL, put_nine_times, caller) == 0);
+    between_await_sleepers(1);
+    CHECK(pthread_cancel(thread) == 0);
+    mock_core_refuse(MOCK_SWEEP, CLSM_OK, 0);
+    CHECK(pthread_join(thread, &answer) == 0 && answer == PTHREAD_CANCELED);
+    OK(clsm_get(caller, 8, NULL));
+    for (uint64_t key = 0; key < 20; key++) OK(clsm_put(other, key, &WORD, 1));
+    clsm_caller_close(caller);
+    closed(store, other);
+}
+
+static void close_snapshot(void *of) { clsm_snapshot_close(of); }
+
+/* A snapshot that is closed while the merge is refused for it makes the merge be tried again. */
+static void close_during_merge(void) {
+    const clsm_options options = {.epoch = 4, .wait = -1, .merge = CLSM_MERGE_IN_CALLS};
+    clsm_store *store;
+    clsm_snapshot *snapshot;
+    OK(clsm_open(&options, &store));
+    clsm_caller *caller = caller_of(store);
+    OK(clsm_store_snapshot(store, &snapshot));
+    mock_core_refuse(MOCK_SWEEP, CLSM_PINNED, 1);
+    for (uint64_t i = 0; i < 5; i++) OK(clsm_put(caller, i, &WORD, 1));
+    mock_core_interrupt(MOCK_SWEEP, close_snapshot, snapshot);
+    mock_core_refuse(MOCK_SWEEP, CLSM_RUN_FULL, 1);
+    for (uint64_t i = 0; i < 20; i++) OK(clsm_put(caller, i, &WORD, 1));
+    closed(store, caller);
+}
+
+/* Two who sweep at once do so in turn. */
+struct sweeping {
+    clsm_store *store;
+    pthread_t thread;
+};
+
+static void *sweep_once(void *of) {
+    clsm_sweep(of);
+    return NULL;
+}
+
+static void sweep_beside(void *of) {
+    struct sweeping *other = of;
+    CHECK(pthread_create(&other->thread, NULL, sweep_once, other->store) == 0);
+    between_await_sleepers(1);
+}
+
+static void sweep_in_turn(void) {
+    clsm_store *store = opened(64, CLSM_MERGE_IN_CALLS);
+    clsm_caller *caller = caller_of(store);
+    struct sweeping other = {.store = store};
+    OK(clsm_put(caller, 1, &WORD, 1));
+    mock_core_interrupt(MOCK_SWEEP, sweep_beside, &other);
+    OK(clsm_sweep(store));
+    CHECK(pthread_join(other.thread, NULL) == 0);
     closed(store, caller);
 }
 
@@ -168,22 +352,36 @@ static void merge_on(void) {
     closed(store, caller);
 }
 
-/* A write that tries once and finds the epoch full calls the merger, even if that gave up before.
- */
+/* A write that tries once and finds the epoch full calls the merger, even if that gave up before,
+ * and tells that from a merge that is not done yet. */
 static void call_again(void) {
     clsm_store *store = opened(4, 0);
     clsm_caller *caller = caller_of(store);
-    mock_core_refuse(MOCK_SWEEP, CLSM_RUN_FULL, UINT_MAX);
-    int code = CLSM_OK;
-    for (uint64_t i = 0; code == CLSM_OK; i++) {
-        code = clsm_put(caller, i, &WORD, 1);
-        CHECK(i < 100);
-    }
-    ANSWERS(CLSM_RUN_FULL, code);
-    mock_core_refuse(MOCK_SWEEP, CLSM_OK, 0);
-    const unsigned made = mock_core_count(MOCK_SWEEP);
-    ANSWERS(CLSM_FULL, clsm_try_put(caller, 1, &WORD, 1));
+    clsm_snapshot *snapshot;
+    unsigned made = mock_core_count(MOCK_SWEEP);
+    mock_core_refuse(MOCK_SWEEP, CLSM_PINNED, UINT_MAX);
+    for (uint64_t i = 0; i < 2; i++) OK(clsm_put(caller, i, &WORD, 1));
     mock_core_await(MOCK_SWEEP, made + 1);
+    for (uint64_t i = 0; i < 4; i++) OK(clsm_put(caller, i, &WORD, 1));
+    ANSWERS(CLSM_FULL, clsm_try_put(caller, 1, &WORD, 1));
+    mock_core_refuse(MOCK_SWEEP, CLSM_RUN_FULL, UINT_MAX);
+    ANSWERS(CLSM_RUN_FULL, clsm_put(caller, 1, &WORD, 1));
+    between_await_sleepers(1);
+    made = mock_core_count(MOCK_SWEEP);
+    ANSWERS(CLSM_RUN_FULL, clsm_try_put(caller, 1, &WORD, 1));
+    mock_core_await(MOCK_SWEEP, made + 1);
+    ANSWERS(CLSM_RUN_FULL, clsm_sweep(store));
+    /* Once a snapshot is closed that was in its way, a merge may have room. */
+    between_await_sleepers(1);
+    OK(clsm_snapshot_open(caller, &snapshot));
+    ANSWERS(CLSM_VERSIONS_FULL, clsm_sweep(store));
+    ANSWERS(CLSM_VERSIONS_FULL, clsm_try_put(caller, 1, &WORD, 1));
+    between_await_sleepers(1);
+    made = mock_core_count(MOCK_SWEEP);
+    clsm_snapshot_close(snapshot);
+    mock_core_await(MOCK_SWEEP, made + 1);
+    between_await_sleepers(1);
+    mock_core_refuse(MOCK_SWEEP, CLSM_OK, 0);
     OK(clsm_put(caller, 1, &WORD, 1));
     closed(store, caller);
 }
@@ -198,7 +396,7 @@ static void wear_out(int merge) {
     ANSWERS(CLSM_WORN, clsm_put(caller, 4, &WORD, 1));
     ANSWERS(CLSM_WORN, clsm_remove(caller, 1));
     ANSWERS(CLSM_WORN, clsm_batch(caller, &(clsm_row){.key = 1}, 1));
-    ANSWERS(CLSM_FULL, clsm_try_put(caller, 4, &WORD, 1));
+    ANSWERS(CLSM_WORN, clsm_try_put(caller, 4, &WORD, 1));
     ANSWERS(CLSM_WORN, clsm_sweep(store));
     OK(clsm_get(caller, 3, NULL));
     mock_core_refuse(MOCK_FREEZE, CLSM_OK, 0);
@@ -262,6 +460,19 @@ static void follow_back(void) {
     const unsigned made = mock_core_count(MOCK_READ);
     OK(clsm_caller_open(store, &next));
     CHECK(mock_core_count(MOCK_READ) - made == 4 && clsm_seen(next) == seen + 1);
+    clsm_caller_close(next);
+    /* So does a snapshot of the store, and the next caller sees what that saw. */
+    mock_core_run_back(MOCK_SNAPSHOT, 1, 3);
+    OK(clsm_store_snapshot(store, &snapshot));
+    CHECK(clsm_snapshot_time(snapshot) == seen + 1);
+    OK(clsm_put(other, 3, &WORD, 1));
+    clsm_snapshot_close(snapshot);
+    OK(clsm_store_snapshot(store, &snapshot));
+    CHECK(clsm_snapshot_time(snapshot) == seen + 2);
+    clsm_snapshot_close(snapshot);
+    mock_core_run_back(MOCK_READ, 1, 3);
+    OK(clsm_caller_open(store, &next));
+    CHECK(clsm_seen(next) == seen + 2);
     clsm_caller_close(other);
     closed(store, next);
 }
@@ -281,9 +492,16 @@ int main(void) {
     lose(CLSM_BUSY);
     lose(CLSM_RACED);
     lose(CLSM_OVERTAKEN);
+    let_batches_in();
+    go_on_beside_batch();
+    let_freezes_in();
     sweep_in_the_way();
     merge_in_calls_in_the_way();
     merge_beside_in_the_way();
+    sleep_behind_pinned();
+    cancel_one_who_waits();
+    close_during_merge();
+    sweep_in_turn();
     merge_at_half();
     merge_for_batches();
     merge_on();

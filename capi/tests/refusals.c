@@ -23,12 +23,16 @@ static clsm_caller *caller_of(clsm_store *store) {
 /* ---- Names */
 
 static void name_codes(void) {
-    static const int codes[] = {CLSM_OK,        CLSM_NOT_FOUND,   CLSM_KEPT,         CLSM_DONE,
-                                CLSM_IDLE,      CLSM_FULL,        CLSM_BUSY,         CLSM_RACED,
-                                CLSM_OVERTAKEN, CLSM_PINNED,      CLSM_MEMORY,       CLSM_NO_SEAT,
-                                CLSM_RUN_FULL,  CLSM_WORN,        CLSM_IN_USE,       CLSM_NO_THREAD,
-                                CLSM_BAD_KEYS,  CLSM_BAD_EPOCH,   CLSM_BAD_PATIENCE, CLSM_BAD_VALUE,
-                                CLSM_BAD_BATCH, CLSM_BAD_POINTER, CLSM_BAD_BUILD};
+    static const int codes[] = {CLSM_OK,        CLSM_NOT_FOUND,     CLSM_KEPT,
+                                CLSM_DONE,      CLSM_IDLE,          CLSM_FULL,
+                                CLSM_BUSY,      CLSM_RACED,         CLSM_OVERTAKEN,
+                                CLSM_PINNED,    CLSM_MEMORY,        CLSM_NO_SEAT,
+                                CLSM_RUN_FULL,  CLSM_WORN,          CLSM_IN_USE,
+                                CLSM_NO_THREAD, CLSM_CLOSED,        CLSM_BAD_KEYS,
+                                CLSM_BAD_EPOCH, CLSM_BAD_PATIENCE,  CLSM_BAD_VALUE,
+                                CLSM_BAD_BATCH, CLSM_BAD_POINTER,   CLSM_BAD_BUILD,
+                                CLSM_BAD_MERGE, CLSM_EMPTY_BATCH,   CLSM_BAD_VERSIONS,
+                                CLSM_BAD_WAIT,  CLSM_VERSIONS_FULL, CLSM_OWN_SNAPSHOT};
     const size_t count = sizeof codes / sizeof *codes;
     for (size_t i = 0; i < count; i++) {
         CHECK(strcmp(clsm_strerror(codes[i]), "unknown code") != 0);
@@ -49,17 +53,23 @@ static void refuse_option(int code, clsm_options options) {
 }
 
 static void refuse_options(void) {
-    refuse_option(CLSM_BAD_KEYS, (clsm_options){.keys = 4194304 - 4 * 4096 + 1});
-    refuse_option(CLSM_BAD_KEYS, (clsm_options){.keys = 4194304 - 4 * 4 + 1, .epoch = 4});
+    refuse_option(CLSM_BAD_KEYS, (clsm_options){.keys = 4194304 - 6 * 4 - 64 + 1});
+    refuse_option(CLSM_BAD_KEYS,
+                  (clsm_options){.keys = 4194304 - 6 * 4096 - 64 + 1, .epoch = 4096});
     refuse_option(CLSM_BAD_KEYS, (clsm_options){.keys = SIZE_MAX});
+    refuse_option(CLSM_BAD_VERSIONS, (clsm_options){.epoch = 4096, .versions = 6 * 4096 + 63});
+    refuse_option(CLSM_BAD_VERSIONS,
+                  (clsm_options){.keys = 100000, .versions = 4194304 - 100000 + 1});
+    refuse_option(CLSM_BAD_VERSIONS, (clsm_options){.versions = SIZE_MAX});
+    refuse_option(CLSM_BAD_WAIT, (clsm_options){.wait = -2});
     refuse_option(CLSM_BAD_EPOCH, (clsm_options){.epoch = 3});
     refuse_option(CLSM_BAD_EPOCH, (clsm_options){.epoch = 65537});
     refuse_option(CLSM_BAD_EPOCH, (clsm_options){.epoch = SIZE_MAX});
     refuse_option(CLSM_BAD_PATIENCE, (clsm_options){.patience = -2});
     refuse_option(CLSM_BAD_PATIENCE, (clsm_options){.patience = 65});
-    refuse_option(CLSM_BAD_BUILD, (clsm_options){.merge = 2});
-    refuse_option(CLSM_BAD_BUILD, (clsm_options){.merge = -1});
-    for (int i = 0; i < 4; i++) {
+    refuse_option(CLSM_BAD_MERGE, (clsm_options){.merge = 2});
+    refuse_option(CLSM_BAD_MERGE, (clsm_options){.merge = -1});
+    for (int i = 0; i < 2; i++) {
         clsm_options later = {.keys = 1};
         later.zero[i] = 1;
         refuse_option(CLSM_BAD_BUILD, later);
@@ -70,7 +80,9 @@ static void take_options(void) {
     const clsm_options good[] = {{.keys = 0},
                                  {.keys = 1, .epoch = 4, .patience = 1},
                                  {.keys = 10, .epoch = 65536, .patience = 64},
-                                 {.epoch = 5, .patience = -1, .merge = CLSM_MERGE_IN_CALLS}};
+                                 {.epoch = 5, .patience = -1, .merge = CLSM_MERGE_IN_CALLS},
+                                 {.epoch = 4, .versions = 88, .wait = -1},
+                                 {.keys = 10, .versions = 50000, .wait = INT64_MAX}};
     for (size_t i = 0; i < sizeof good / sizeof *good; i++) {
         clsm_store *store = opened(&good[i]);
         clsm_caller *caller = caller_of(store);
@@ -126,9 +138,20 @@ static void refuse_null_handles(void) {
     ANSWERS(CLSM_BAD_POINTER, clsm_scan_open(NULL, 0, 1, &scan));
     ANSWERS(CLSM_BAD_POINTER, clsm_scan_next(NULL, &row));
     CHECK(!caller && !snapshot && !scan);
+    ANSWERS(CLSM_BAD_POINTER, clsm_store_snapshot(NULL, &snapshot));
+    ANSWERS(CLSM_BAD_POINTER, clsm_close_at(NULL));
+    ANSWERS(CLSM_BAD_POINTER, clsm_close_at(&(clsm_store *){NULL}));
+    CHECK(clsm_time(NULL) == 0 && clsm_seen(NULL) == 0 && clsm_snapshot_time(NULL) == 0);
+    CHECK(clsm_number(NULL) == CLSM_SEATS && clsm_snapshot_number(NULL) == CLSM_SEATS);
     clsm_caller_close(NULL);
     clsm_snapshot_close(NULL);
     clsm_scan_close(NULL);
+    clsm_caller_close_at(NULL);
+    clsm_snapshot_close_at(NULL);
+    clsm_scan_close_at(NULL);
+    clsm_caller_close_at(&caller);
+    clsm_snapshot_close_at(&snapshot);
+    clsm_scan_close_at(&scan);
 }
 
 static void refuse_null_answers(clsm_store *store, clsm_caller *caller) {
@@ -138,6 +161,7 @@ static void refuse_null_answers(clsm_store *store, clsm_caller *caller) {
     clsm_scan *scan;
     ANSWERS(CLSM_BAD_POINTER, clsm_caller_open(store, NULL));
     ANSWERS(CLSM_BAD_POINTER, clsm_snapshot_open(caller, NULL));
+    ANSWERS(CLSM_BAD_POINTER, clsm_store_snapshot(store, NULL));
     ANSWERS(CLSM_BAD_POINTER, clsm_scan_open(caller, 0, 1, NULL));
     ANSWERS(CLSM_BAD_POINTER, clsm_put(caller, 1, NULL, 1));
     ANSWERS(CLSM_BAD_POINTER, clsm_try_put(caller, 1, NULL, 1));
@@ -282,6 +306,73 @@ static void stay_open_while_used(void) {
     OK(clsm_close(store));
 }
 
+/* A second close of a handle does nothing, while nobody else has its seat. */
+static void close_twice(void) {
+    clsm_store *store = opened(&IN_CALLS);
+    clsm_caller *caller = caller_of(store), *callers[CLSM_SEATS];
+    clsm_snapshot *snapshot;
+    clsm_scan *scan;
+    OK(clsm_snapshot_open(caller, &snapshot));
+    OK(clsm_scan_open(caller, 0, 1, &scan));
+    clsm_snapshot_close(snapshot);
+    clsm_snapshot_close(snapshot);
+    clsm_scan_close(scan);
+    clsm_scan_close(scan);
+    clsm_caller_close(caller);
+    clsm_caller_close(caller);
+    clsm_snapshot_close((clsm_snapshot *)caller);
+    uint64_t numbers = 0;
+    for (unsigned i = 0; i < CLSM_SEATS; i++) {
+        callers[i] = caller_of(store);
+        numbers |= (uint64_t)1 << clsm_number(callers[i]);
+    }
+    CHECK(numbers == UINT64_MAX);
+    for (unsigned i = 0; i < CLSM_SEATS; i++) clsm_caller_close(callers[i]);
+    OK(clsm_close(store));
+}
+
+/* Each sets its pointer to null, if it closed what that was to. */
+static void close_and_forget(void) {
+    clsm_store *store = opened(NULL);
+    clsm_caller *caller = caller_of(store);
+    clsm_snapshot *snapshot;
+    clsm_scan *scan;
+    OK(clsm_snapshot_open(caller, &snapshot));
+    OK(clsm_scan_open(caller, 0, 1, &scan));
+    clsm_scan_close_at(&scan);
+    clsm_snapshot_close_at(&snapshot);
+    CHECK(!scan && !snapshot);
+    ANSWERS(CLSM_IN_USE, clsm_close_at(&store));
+    CHECK(store);
+    clsm_caller_close_at(&caller);
+    CHECK(!caller);
+    OK(clsm_close_at(&store));
+    CHECK(!store);
+}
+
+/* A snapshot of no caller sees what closed callers did, and what it saw the next caller sees. */
+static void open_snapshots_of_the_store(void) {
+    clsm_store *store = opened(NULL);
+    clsm_caller *caller = caller_of(store), *next;
+    clsm_snapshot *snapshots[CLSM_SEATS];
+    OK(clsm_put(caller, 1, WORDS, 1));
+    const uint64_t seen = clsm_seen(caller);
+    clsm_caller_close(caller);
+    for (unsigned i = 0; i < CLSM_SEATS; i++) {
+        OK(clsm_store_snapshot(store, &snapshots[i]));
+        CHECK(clsm_snapshot_time(snapshots[i]) >= seen);
+        OK(clsm_snapshot_get(snapshots[i], 1, NULL));
+    }
+    ANSWERS(CLSM_NO_SEAT, clsm_store_snapshot(store, &(clsm_snapshot *){NULL}));
+    ANSWERS(CLSM_NO_SEAT, clsm_caller_open(store, &next));
+    ANSWERS(CLSM_IN_USE, clsm_close(store));
+    for (unsigned i = 0; i < CLSM_SEATS; i++) clsm_snapshot_close(snapshots[i]);
+    OK(clsm_caller_open(store, &next));
+    CHECK(clsm_seen(next) >= seen);
+    clsm_caller_close(next);
+    OK(clsm_close(store));
+}
+
 /* ---- Room */
 
 static void fill_epoch(void) {
@@ -315,10 +406,10 @@ static void fill_run(int merge) {
     OK(clsm_put(caller, 1, WORDS, 1));
     OK(clsm_snapshot_open(caller, &snapshot));
     while ((code = clsm_put(caller, 1, &written, 1)) == CLSM_OK) CHECK(++written < 1000);
-    CHECK(code == CLSM_RUN_FULL);
-    ANSWERS(CLSM_RUN_FULL, clsm_remove(caller, 1));
-    ANSWERS(CLSM_RUN_FULL, clsm_sweep(store));
-    ANSWERS(CLSM_FULL, clsm_try_remove(caller, 1));
+    CHECK(code == CLSM_OWN_SNAPSHOT);
+    ANSWERS(CLSM_OWN_SNAPSHOT, clsm_remove(caller, 1));
+    ANSWERS(CLSM_VERSIONS_FULL, clsm_sweep(store));
+    ANSWERS(CLSM_VERSIONS_FULL, clsm_try_remove(caller, 1));
     OK(clsm_get(caller, 1, &value));
     CHECK(value.words[0] == written - 1);
     OK(clsm_snapshot_get(snapshot, 1, &value));
@@ -349,6 +440,9 @@ int main(void) {
     OK(clsm_close(store));
     sweep_nothing();
     stay_open_while_used();
+    if (!NAMES_CLOSED) close_twice();
+    close_and_forget();
+    open_snapshots_of_the_store();
     fill_epoch();
     fill_run(0);
     fill_run(CLSM_MERGE_IN_CALLS);

@@ -3,7 +3,7 @@
 T = $(OUT)/tests
 comma = ,
 wrap = $(patsubst %,-Wl$(comma)--wrap=%,$(1))
-BETWEEN = $(call wrap,pthread_cond_wait pthread_cond_signal pthread_cond_broadcast pthread_create pthread_join sched_yield)
+BETWEEN = $(call wrap,pthread_cond_wait pthread_cond_timedwait pthread_cond_signal pthread_cond_broadcast pthread_create pthread_join sched_yield sem_wait sem_post)
 HEAP = $(call wrap,malloc calloc realloc posix_memalign free)
 STRICT = $(C) -Werror
 SHARED_HEADERS = clsm.h tests/check.h tests/between.h tests/mock_core.h tests/record.h
@@ -11,9 +11,9 @@ SHARED_HEADERS = clsm.h tests/check.h tests/between.h tests/mock_core.h tests/re
 $(T): $(OUT)/settings
 	mkdir -p $@
 
-# ---- Programs: over the library; `mocked` and `checked` over the parts and the mock core.
+# ---- Programs: over the library; `mocked`, `checked` and `schedules` over the parts and the mock core.
 
-$(T)/threads $(T)/refusals $(T)/changes $(T)/batch $(T)/lives $(T)/audited: $(T)/%: tests/%.c $(SHARED_HEADERS) $(T)/between.o $(OUT)/libclsm.a
+$(T)/threads $(T)/refusals $(T)/changes $(T)/batch $(T)/full $(T)/lives $(T)/audited: $(T)/%: tests/%.c $(SHARED_HEADERS) $(T)/between.o $(OUT)/libclsm.a
 	$(STRICT) -o $@ $< $(T)/between.o $(OUT)/libclsm.a $(BETWEEN)
 
 $(T)/memory: $(T)/%: tests/%.c $(SHARED_HEADERS) $(OUT)/libclsm.a | $(T)
@@ -22,7 +22,7 @@ $(T)/memory: $(T)/%: tests/%.c $(SHARED_HEADERS) $(OUT)/libclsm.a | $(T)
 $(T)/stack $(T)/closed: $(T)/%: tests/%.c $(SHARED_HEADERS) $(OUT)/libclsm.a | $(T)
 	$(STRICT) -o $@ $< $(OUT)/libclsm.a
 
-$(T)/shared: tests/lives.c $(SHARED_HEADERS) $(T)/between.o $(OUT)/libclsm.so.0
+$(T)/shared: tests/lives.c $(SHARED_HEADERS) $(T)/between.o $(OUT)/$(SHARED)
 	$(STRICT) -o $@ $< $(T)/between.o $(BETWEEN) -L$(OUT) -lclsm -Wl,-rpath,'$$ORIGIN/..'
 
 $(T)/core: tests/core.c tests/check.h core/clsm_core.h $(OUT)/codes.o $(CORE) | $(T)
@@ -39,6 +39,19 @@ $(T)/mocked: tests/mocked.c $(SHARED_HEADERS) $(T)/between.o $(T)/mock_core.o $(
 
 $(T)/checked: tests/checked.c $(SHARED_HEADERS) $(T)/mock_core.o $(PARTS:%=src/%.c) $(HEADERS)
 	$(STRICT) -DCLSM_CHECKED -o $@ $< $(T)/mock_core.o $(PARTS:%=src/%.c)
+
+# Its parts are those of src/ with tests/schedules/scheduled.h before them.
+SCHEDULED = $(PARTS:%=$(T)/scheduled/%.o)
+SCHEDULED_HEADERS = $(HEADERS) $(wildcard tests/schedules/*.h) tests/mock_core.h
+SCHEDULES = $(wildcard tests/schedules/*.c)
+COUNTED = $(call wrap,malloc calloc free)
+
+$(SCHEDULED): $(T)/scheduled/%.o: src/%.c $(SCHEDULED_HEADERS) | $(T)
+	@mkdir -p $(@D)
+	$(STRICT) -include tests/schedules/scheduled.h -c -o $@ $<
+
+$(T)/schedules: $(SCHEDULES) $(SCHEDULED_HEADERS) $(T)/mock_core.o $(SCHEDULED)
+	$(STRICT) -o $@ $(SCHEDULES) $(T)/mock_core.o $(SCHEDULED) $(COUNTED)
 
 $(T)/between.o $(T)/mock_core.o: $(T)/%.o: tests/%.c $(SHARED_HEADERS) core/clsm_core.h $(OUT)/settings | $(T)
 	$(STRICT) -c -o $@ $<
@@ -57,7 +70,7 @@ AUDITING = $(firstword $(AUDIT)) $(if $(filter ../clsm,$(AUDIT)),rt)
 
 .PHONY: tools audit-tools valgrind-tools
 tools:
-	$(call tools_of,$(BUILDING) $(CLANG) $(CLANGXX) pkg-config timeout diff python3 $(if $(SANITIZE),,cargo) $(AUDITING))
+	$(call tools_of,$(BUILDING) $(CLANG) $(CLANGXX) cmake pkg-config readelf timeout diff python3 $(if $(SANITIZE),,cargo) $(AUDITING))
 audit-tools:
 	$(call tools_of,$(BUILDING) timeout $(AUDITING))
 valgrind-tools:
@@ -71,16 +84,17 @@ generated:
 	$(if $(wildcard ../crates),gen/core --check && gen/exports --check)
 
 # The names that the libraries define are those of the header, and no others.
-names: $(OUT)/libclsm.a $(OUT)/libclsm.so.0 $(OUT)/names
+names: $(OUT)/libclsm.a $(OUT)/$(SHARED) $(OUT)/names
 	$(NM) -g --defined-only $(OUT)/libclsm.a | sed -n 's/^[0-9a-f]* [A-Z] //p' | sort | diff $(OUT)/names -
-	$(NM) -D --defined-only $(OUT)/libclsm.so.0 | sed -n 's/^[0-9a-f]* [^A] //p' | sed 's/@.*//' | sort | diff $(OUT)/names -
+	$(NM) -D --defined-only $(OUT)/$(SHARED) | sed -n 's/^[0-9a-f]* [^A] //p' | sed 's/@.*//' | sort | diff $(OUT)/names -
 
 warnings:
 	for cc in $(CC) $(CLANG); do \
-	    for file in core/*.c src/*.c tests/*.c examples/*.c; do \
+	    for file in core/*.c src/*.c tests/*.c $(SCHEDULES) examples/*.c; do \
 	        $$cc -std=c11 $(WARNINGS) -Werror -O2 -I. -fsyntax-only -pthread $$file || exit 1; \
 	    done; \
 	    $$cc -std=c11 $(WARNINGS) -Werror -O2 -fsyntax-only -pthread -DCLSM_CHECKED src/*.c || exit 1; \
+	    $$cc -std=c11 $(WARNINGS) -Werror -O2 -fsyntax-only -pthread -include tests/schedules/scheduled.h src/*.c || exit 1; \
 	done
 	for cxx in $(CXX) $(CLANGXX); do \
 	    $$cxx -std=c++11 $(WARNINGS) -Werror -fsyntax-only -x c++-header clsm.h || exit 1; \
@@ -91,17 +105,21 @@ warnings:
 
 ROUNDS = $(if $(SANITIZE),2000,20000)
 EXAMPLES = $(patsubst examples/%.c,%,$(wildcard examples/*.c))
-PROGRAMS = threads refusals memory lives stack changes batch cxx core mocked checked $(EXAMPLES:%=example-%) \
+# ThreadSanitizer has nothing to find where one thread runs.
+ALONE = $(if $(filter thread,$(SANITIZE)),,schedules)
+PROGRAMS = threads refusals memory lives stack changes batch full cxx core mocked checked $(ALONE) $(EXAMPLES:%=example-%) \
     $(if $(SANITIZE),,shared) $(if $(filter address,$(SANITIZE)),closed) $(if $(AUDIT),audited)
 BUILT = $(PROGRAMS:%=$(T)/%)
-PLAIN = refusals memory lives stack changes batch cxx core mocked checked $(if $(filter address,$(SANITIZE)),closed)
+PLAIN = refusals memory lives stack changes batch full cxx core mocked checked $(if $(filter address,$(SANITIZE)),closed)
 AGAIN = $(MAKE) OUT=$(OUT) CORE=$(CORE)
 # What is not for sanitizers; what the documents show is not in an archive that was packed.
-WHOLE = "$(T)/shared shared" "tests/examples rust $(CORE) $(OUT)/rust" \
+WHOLE = "$(T)/shared shared" "tests/interface $(T)/mock_core.o $(OBJECTS)" \
+    "tests/examples rust $(OUT)/libclsm.a $(OUT)/rust" \
     "tests/examples python $(OUT)/libclsm.so" \
-    $(if $(wildcard ../crates),"tests/documents $(OUT)/libclsm.a $(OUT)/libclsm.so $(CORE) $(OUT)/rust") \
+    $(if $(wildcard ../crates),"tests/documents $(OUT)/libclsm.a $(OUT)/libclsm.so $(OUT)/rust") \
     "tests/installed $(AGAIN)" "tests/planted $(OUT)/planted" "tests/packed $(AGAIN)"
 RUNS = "$(T)/threads $(ROUNDS)" "$(T)/threads $(ROUNDS) one" $(PLAIN:%=$(T)/%) "tests/examples c $(T)" \
+    $(patsubst %,"$(T)/% $(if $(SANITIZE),2)",$(ALONE)) \
     $(if $(SANITIZE),,$(WHOLE)) $(if $(AUDIT),"tests/audit $(T)/audited $(AUDIT_CALLS) $(AUDIT)")
 SMALL = "$(T)/threads 200" $(patsubst %,$(T)/%,$(filter-out stack,$(PLAIN)))
 MEMCHECK = valgrind -q --error-exitcode=9 --leak-check=full --errors-for-leak-kinds=definite --show-leak-kinds=definite --fair-sched=yes

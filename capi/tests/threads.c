@@ -122,6 +122,37 @@ static void *open_and_close(void *of) {
     return NULL;
 }
 
+/* Each time a seat is taken, one is left: so many threads may have one beside that of their caller.
+ */
+enum { LEFT = 2 };
+static atomic_int users;
+
+static void wait_for_seat(void) {
+    for (int now = 0; !atomic_compare_exchange_weak(&users, &now, now + 1);)
+        if (now == LEFT) now = LEFT - 1;
+}
+
+/* Takes a seat and gives it back, its caller's spare one or one of the pool. */
+static void *share_last_seats(void *of) {
+    struct worker *self = of;
+    clsm_caller *caller, *other;
+    clsm_snapshot *snapshot;
+    OK(clsm_caller_open(self->store, &caller));
+    for (uint64_t i = 0; i < rounds; i++) {
+        wait_for_seat();
+        if ((i + self->number) % 3) {
+            OK(clsm_snapshot_open(caller, &snapshot));
+            clsm_snapshot_close(snapshot);
+        } else {
+            OK(clsm_caller_open(self->store, &other));
+            clsm_caller_close(other);
+        }
+        atomic_fetch_sub(&users, 1);
+    }
+    clsm_caller_close(caller);
+    return NULL;
+}
+
 /* ---- Messages: each thread numbers its letters, and the others follow it */
 
 static _Atomic(uint64_t) seen_by[THREADS], letters_of[THREADS];
@@ -166,6 +197,14 @@ static void in_threads(clsm_store *store, void *(*task)(void *)) {
     for (int i = 0; i < THREADS; i++) CHECK(pthread_join(workers[i].thread, NULL) == 0);
 }
 
+static void crowd(clsm_store *store) {
+    enum { TAKEN = CLSM_SEATS - THREADS - LEFT };
+    clsm_caller *callers[TAKEN];
+    for (int i = 0; i < TAKEN; i++) OK(clsm_caller_open(store, &callers[i]));
+    in_threads(store, share_last_seats);
+    for (int i = 0; i < TAKEN; i++) clsm_caller_close(callers[i]);
+}
+
 /* All keys that the workers left. */
 static void read_all(clsm_store *store) {
     clsm_caller *caller;
@@ -190,6 +229,7 @@ static void try_store(size_t epoch, int merge) {
     OK(clsm_close(store));
     OK(clsm_open(&options, &store));
     in_threads(store, open_and_close);
+    crowd(store);
     OK(clsm_close(store));
 }
 

@@ -1,0 +1,236 @@
+/* Calls that are checked and noted: calls.h. */
+#include "calls.h"
+
+#include "../../src/store.h"
+#include "../mock_core.h"
+
+enum { TIMES = 512, KEYS = 64, CODES = 64 }; /* of a scenario, at most */
+
+clsm_store *the_store;
+clsm_caller *callers[CLSM_SEATS];
+
+static struct write {
+    bool is_made;
+    uint64_t key, value; /* 0: none */
+} writes[TIMES];
+
+static struct read { uint64_t time, key, value; } reads[TIMES];
+
+static size_t reads_made;
+static uint64_t values, clock_seen, refused[CODES];
+
+static char told[100];
+
+void expect(bool holds, const char *what) {
+    if (holds) return;
+    snprintf(told, sizeof told, "it is not so that %s", what);
+    scheduler_fail(told);
+}
+
+int expect_code(int code, uint64_t codes, const char *call) {
+    if ((codes | OR(OK)) >> code & 1) return code;
+    snprintf(told, sizeof told, "%s answers %d, %s", call, code, clsm_strerror(code));
+    scheduler_fail(told);
+}
+
+/* The same of a call whose refusals the store counts. */
+static int expect_counted(int code, uint64_t codes, const char *call) {
+    refused[expect_code(code, codes, call)]++;
+    return code;
+}
+
+/* ---- Notes */
+
+static void note_write(uint64_t time, uint64_t key, uint64_t value) {
+    expect(time < TIMES && key < KEYS, "there is room for notes");
+    expect(!writes[time].is_made, "no two writes have one time");
+    writes[time] = (struct write){true, key, value};
+}
+
+static void note_read(uint64_t time, uint64_t key, uint64_t value) {
+    expect(reads_made < TIMES, "there is room for notes");
+    reads[reads_made++] = (struct read){time, key, value};
+}
+
+static void check_read(const struct read *read) {
+    uint64_t time = read->time, value = 0;
+    while (time-- > 0) {
+        if (!writes[time].is_made || writes[time].key != read->key) continue;
+        value = writes[time].value;
+        break;
+    }
+    expect(value == read->value, "a read has what was written below its time");
+}
+
+static void check_map(void) {
+    uint64_t newest[KEYS] = {0}, keys = 0;
+    clsm_row rows[KEYS];
+    clsm_page_end end;
+    for (size_t time = 0; time < TIMES; time++)
+        if (writes[time].is_made) newest[writes[time].key] = writes[time].value;
+    for (size_t key = 0; key < KEYS; key++) keys += newest[key] != 0;
+    expect_code(clsm_page(callers[0], 0, KEYS, rows, KEYS, &end), 0, "page");
+    expect(end.rows == keys, "the map has as many keys as were written");
+    for (size_t i = 0; i < keys; i++)
+        expect(rows[i].value.words[0] == newest[rows[i].key], "the map has what was written last");
+}
+
+/* ---- Calls of a caller */
+
+static uint64_t seen_by(unsigned who) { return clsm_seen(callers[who]); }
+
+/* Of a call that took so many times: none if it is a read. */
+static void check_time(unsigned who, uint64_t seen, uint64_t took) {
+    const uint64_t time = clsm_time(callers[who]);
+    expect(time >= seen && seen_by(who) == time + took, "times do not run back");
+}
+
+static int wrote(unsigned who, uint64_t seen, int code, uint64_t key, uint64_t value) {
+    if (code != CLSM_OK) return code;
+    check_time(who, seen, 1);
+    note_write(clsm_time(callers[who]), key, value);
+    return code;
+}
+
+int put(unsigned who, uint64_t key, uint64_t codes) {
+    const uint64_t value = ++values, seen = seen_by(who);
+    int code = expect_counted(clsm_put(callers[who], key, &value, 1), codes, "put");
+    return wrote(who, seen, code, key, value);
+}
+
+int try_put(unsigned who, uint64_t key, uint64_t codes) {
+    const uint64_t value = ++values, seen = seen_by(who);
+    int code = expect_counted(clsm_try_put(callers[who], key, &value, 1), codes, "try_put");
+    return wrote(who, seen, code, key, value);
+}
+
+int removed(unsigned who, uint64_t key, uint64_t codes) {
+    const uint64_t seen = seen_by(who);
+    int code = expect_counted(clsm_remove(callers[who], key), codes, "remove");
+    return wrote(who, seen, code, key, 0);
+}
+
+int batch(unsigned who, uint64_t first, size_t count, uint64_t codes) {
+    enum { ROWS = 8 };
+    clsm_row rows[ROWS] = {{.key = first}};
+    const uint64_t seen = seen_by(who), value = values;
+    for (size_t i = 0; i < count; i++) rows[i] = (clsm_row){first + i, {1, {++values}}};
+    int code = expect_counted(clsm_batch(callers[who], rows, count), codes, "batch");
+    if (code != CLSM_OK) return code;
+    check_time(who, seen, count);
+    for (size_t i = 0; i < count; i++)
+        note_write(clsm_time(callers[who]) + i, first + i, value + 1 + i);
+    return code;
+}
+
+int add(unsigned who, uint64_t key, uint64_t codes) {
+    const uint64_t seen = seen_by(who);
+    clsm_changed changed;
+    int code = expect_counted(clsm_add(callers[who], key, 1, &changed), codes, "add");
+    if (code == CLSM_OK) note_read(clsm_time(callers[who]), key, changed.before.words[0]);
+    return wrote(who, seen, code, key, changed.after.words[0]);
+}
+
+void get(unsigned who, uint64_t key) {
+    const uint64_t seen = seen_by(who);
+    clsm_value value;
+    expect_code(clsm_get(callers[who], key, &value), OR(NOT_FOUND), "get");
+    check_time(who, seen, 0);
+    note_read(clsm_time(callers[who]), key, value.words[0]);
+}
+
+uint64_t count_keys(unsigned who) {
+    uint64_t keys;
+    expect_code(clsm_count(callers[who], 0, UINT64_MAX, &keys), 0, "count");
+    return keys;
+}
+
+/* ---- Others */
+
+clsm_caller *open_caller(uint64_t codes) {
+    clsm_caller *caller;
+    expect_counted(clsm_caller_open(the_store, &caller), codes, "caller_open");
+    return caller;
+}
+
+clsm_snapshot *open_snapshot(clsm_caller *caller, uint64_t codes) {
+    clsm_snapshot *snapshot;
+    int code =
+        caller ? clsm_snapshot_open(caller, &snapshot) : clsm_store_snapshot(the_store, &snapshot);
+    expect_counted(code, codes, "snapshot_open");
+    return snapshot;
+}
+
+void read_and_close(clsm_snapshot *snapshot) {
+    const uint64_t key = 1;
+    clsm_value value;
+    expect_code(clsm_snapshot_get(snapshot, key, &value), OR(NOT_FOUND), "snapshot_get");
+    note_read(clsm_snapshot_time(snapshot), key, value.words[0]);
+    clsm_snapshot_close(snapshot);
+}
+
+int sweep(uint64_t codes) { return expect_code(clsm_sweep(the_store), codes, "sweep"); }
+
+static clsm_statistics statistics(void) {
+    clsm_statistics now;
+    expect_code(clsm_stats(the_store, &now), 0, "stats");
+    return now;
+}
+
+void look(void) {
+    const uint64_t before = clock_seen;
+    const clsm_statistics now = statistics();
+    expect(now.callers + now.snapshots + now.scans <= CLSM_SEATS, "no more are open than seats");
+    expect(now.clock >= before, "the clock does not run back");
+    if (clock_seen < now.clock) clock_seen = now.clock;
+}
+
+/* ---- The store */
+
+void plan_nothing(void) {
+    for (int call = 0; call < MOCK_CALLS; call++) {
+        mock_core_refuse((enum mock_call)call, CLSM_OK, 0);
+        mock_core_run_back((enum mock_call)call, 0, 0);
+    }
+}
+
+void open_store(const clsm_options *options, unsigned count) {
+    plan_nothing();
+    memset(writes, 0, sizeof writes);
+    memset(refused, 0, sizeof refused);
+    memset(callers, 0, sizeof callers);
+    reads_made = 0;
+    values = 0;
+    clock_seen = 0;
+    expect_code(clsm_open(options, &the_store), 0, "open");
+    for (unsigned i = 0; i < count; i++) callers[i] = open_caller(0);
+    scheduler_settle();
+}
+
+void check_quiet(void) {
+    const struct clsm_board *board = &the_store->board;
+    const uint64_t cells = the_store->cells, clock = clsm_read_clock(the_store);
+    expect(board->waiting == 0 && board->taken == board->given, "nobody waits");
+    expect(the_store->gate < CLSM_EAGER && the_store->crowd.batches == 0, "nobody is at the gate");
+    expect(the_store->pace.began == 0, "no merge is running");
+    expect(the_store->counts.clock >= clock_seen, "the clock does not run back");
+    if (the_store->merges_in_calls) return;
+    expect(!the_store->is_frozen && clock / cells == board->frozen && clock % cells < cells / 2,
+           "an epoch is merged from half full on");
+}
+
+static void check_refusals(void) {
+    const clsm_statistics now = statistics();
+    expect(now.run_full == refused[CLSM_RUN_FULL] && now.no_seat == refused[CLSM_NO_SEAT]
+               && now.versions_full == refused[CLSM_VERSIONS_FULL] + refused[CLSM_OWN_SNAPSHOT],
+           "refusals are counted");
+}
+
+void close_store(void) {
+    if (!callers[0]) callers[0] = open_caller(0);
+    check_map();
+    for (size_t i = 0; i < reads_made; i++) check_read(&reads[i]);
+    check_refusals();
+    for (unsigned i = 0; i < CLSM_SEATS; i++) clsm_caller_close(callers[i]);
+    expect_code(clsm_close(the_store), 0, "close");
+}
