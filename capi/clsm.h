@@ -14,14 +14,18 @@
  * Each write has a time, a number that no other write has, and a caller's times rise. A read has a
  * time too: it answers by all writes below that time, and by no other.
  *
+ * A call that ended before another one began is seen by it, if a lock, a channel, a thread's start
+ * or join, or a sequentially consistent atomic orders the two. For the rest there is clsm_seen.
+ *
  * What C owes, which nothing checks; a handle is what an open call gave:
  * 1. A handle is used between its open and its close only.
  * 2. It is in one call at a time, except for a store. It goes to another thread by a thread's start
  *    or join, a lock, or a sequentially consistent atomic.
  * 3. Each other pointer is to a whole object that nobody else uses during the call; what is const
  *    others may read. It is not null unless its parameter is named or_null.
- * 4. malloc, realloc and free are of one allocator, which aligns by 16.
- * 5. No call is made in a signal handler, in a forked child or in a thread that is then cancelled.
+ * 4. malloc, realloc, posix_memalign and free are of one allocator, which aligns by 16.
+ * 5. No call is made in a signal handler, or in a thread that may be cancelled asynchronously. In a
+ *    forked child only closes are made, which leave all as it is there.
  * 6. A call has CLSM_STACK bytes of stack.
  * 7. This header and the library are of one build. */
 #ifndef CLSM_H
@@ -58,18 +62,25 @@ enum clsm_code {
 
     CLSM_MEMORY = 16,    /* memory ran out */
     CLSM_NO_SEAT = 17,   /* CLSM_SEATS callers, snapshots and scans are open */
-    CLSM_RUN_FULL = 18,  /* too many keys, and versions for open snapshots, for this store */
+    CLSM_RUN_FULL = 18,  /* more keys have a value than the store was opened for */
     CLSM_WORN = 19,      /* times end at 2^62 */
     CLSM_IN_USE = 20,    /* a caller, a snapshot or a scan is open; or in another call */
     CLSM_NO_THREAD = 21, /* the system started no thread */
+    CLSM_CLOSED = 22,    /* the handle is closed: nothing but a library with CLSM_CHECKED says so */
+    CLSM_VERSIONS_FULL = 25, /* an open snapshot keeps more versions than there is room for */
+    CLSM_OWN_SNAPSHOT = 26,  /* so, and the caller has a snapshot or a scan open itself */
 
     CLSM_BAD_KEYS = 32,     /* options: keys is out of range */
     CLSM_BAD_EPOCH = 33,    /* options: epoch is out of range */
     CLSM_BAD_PATIENCE = 34, /* options: patience is out of range */
     CLSM_BAD_VALUE = 35,    /* a value of no word or of more than eight; a time not reached yet */
-    CLSM_BAD_BATCH = 36,    /* a batch of no row, or of more rows than an epoch has writes */
+    CLSM_BAD_BATCH = 36,    /* a batch of more rows than an epoch has writes */
     CLSM_BAD_POINTER = 37,  /* a pointer is null that must not be */
-    CLSM_BAD_BUILD = 38     /* an option that the library does not know; parts of several builds */
+    CLSM_BAD_BUILD = 38,    /* an option that the library does not know; parts of several builds */
+    CLSM_BAD_MERGE = 41,    /* options: merge is neither 0 nor CLSM_MERGE_IN_CALLS */
+    CLSM_EMPTY_BATCH = 42,  /* a batch of no row */
+    CLSM_BAD_VERSIONS = 43, /* options: versions is out of range */
+    CLSM_BAD_WAIT = 44      /* options: wait is out of range */
 };
 
 /* The name of a code in a few words, as "not found"; of any other number "unknown code". */
@@ -82,13 +93,15 @@ typedef struct clsm_store clsm_store;
 typedef struct clsm_caller clsm_caller;
 typedef struct clsm_snapshot clsm_snapshot;
 typedef struct clsm_scan clsm_scan;
+typedef struct clsm_walk clsm_walk;
 
-/* The first length of the words; the others are 0. There is no value if length is 0. */
+/* The first length of the words. Length 0 is no value, wherever a value is asked for or answered: a
+ * key that has none, one that is to have none, a row of a batch that removes its key. In answers
+ * the words behind the length are 0; in questions they do not count. */
 typedef struct {
     uint64_t length, words[8];
 } clsm_value;
 
-/* In a batch a row without a value removes its key. */
 typedef struct {
     uint64_t key;
     clsm_value value;
@@ -107,39 +120,70 @@ typedef struct {
 
 #define CLSM_MERGE_IN_CALLS 1
 
-/* How to open a store. 0 is a good choice for each field; all of them 0 make a store of 22 MiB: 176
- * bytes for each of the keys, 1,248 for each write of an epoch, and 40 KiB. */
+/* How to open a store. 0 is a good choice for each field; all of them 0 make a store of 37 MiB: 176
+ * bytes for each of the keys and versions, 544 for each write of an epoch, and 64 KiB. */
 typedef struct {
-    size_t keys;      /* most keys with a value: 1 to 4,194,304 - 4 * epoch; 0: 100,000 */
-    size_t epoch;     /* most writes between two merges: 4 to 65,536; 0: 4,096 */
-    int patience;     /* how often a read looks again at an unfinished write before it cancels
-                         that: 1 to 64; 0: 64; -1: never */
-    int merge;        /* 0: a thread of the store merges; CLSM_MERGE_IN_CALLS: writes do */
-    uint64_t zero[4]; /* 0: later options */
+    size_t keys;  /* most keys with a value: 1 to 4,194,304 - versions; 0: 100,000 */
+    size_t epoch; /* most writes between two merges: 4 to 65,536; 0: a sixteenth of the keys, but at
+                     least 4,096 */
+    int patience; /* how often a read looks again at an unfinished write before it cancels
+                     that: 1 to 64; 0: 64; -1: never */
+    int merge;    /* 0: a thread of the store merges; CLSM_MERGE_IN_CALLS: writes do */
+    size_t versions; /* room for old versions that open snapshots keep, beside keys: from 6 * epoch
+                        + 64 on; 0: as many as keys, but not over 100,000 if that is enough */
+    int64_t wait; /* for how many milliseconds a write waits for a snapshot to be closed that keeps
+                     it from finding room; 0: 1,000; -1: not at all */
+    uint64_t zero[2]; /* 0: later options */
 } clsm_options;
+
+/* What a store tells of itself. */
+typedef struct {
+    uint64_t bytes;                     /* of memory */
+    uint64_t callers, snapshots, scans; /* that are open */
+    uint64_t oldest_time, oldest_age; /* of the oldest snapshot or scan: the time at which it reads,
+                                         and for how many nanoseconds it is open, or 0 */
+    uint64_t clock;                   /* the time of the next write; while all seats are in use, as
+                                         it was found last */
+    uint64_t epoch_writes;            /* writes of the current epoch */
+    uint64_t level_zero, level_one;   /* entries of the runs, keys and old versions, before the last
+                                         merge */
+    uint64_t room_for_keys;           /* so many more keys, at least, may have a value */
+    uint64_t room_for_versions;       /* so many more entries fit into level one */
+    uint64_t merges;                  /* that were made */
+    uint64_t last_merge, longest_merge;        /* how many nanoseconds they took */
+    uint64_t waits, longest_wait;              /* how often writes waited for room, and how long */
+    uint64_t run_full, versions_full, no_seat; /* how often calls were refused with these codes */
+} clsm_statistics;
 
 /* ---- Stores */
 
-/* Opens an empty store. Takes all the memory that the store will need, and starts its thread, which
- * blocks all signals. With null, all options are 0.
+/* Opens an empty store. Takes all the memory that the store will need, and as much again while it
+ * opens. Starts its thread, named clsm-merger, which leaves all signals to others but those of its
+ * own faults and of profilers. With null, all options are 0.
  *
- * OK. MEMORY, NO_THREAD, BAD_KEYS, BAD_EPOCH, BAD_PATIENCE, BAD_BUILD, BAD_POINTER: *store is null
- * then. */
+ * OK. MEMORY, NO_THREAD, BAD_KEYS, BAD_EPOCH, BAD_PATIENCE, BAD_MERGE, BAD_BUILD, BAD_POINTER:
+ * *store is null then. */
 int clsm_open(const clsm_options *options_or_null, clsm_store **store);
 
-/* Closes a store: ends its thread, which ends a running merge first, and frees its memory.
+/* Closes a store: ends its thread, which ends a running merge first, and frees its memory. In a
+ * forked child it frees nothing, as the thread is not there.
  *
  * OK. IN_USE, BAD_POINTER: the store is open as before. */
 int clsm_close(clsm_store *store);
 
 /* Merges all that was written so far, and gives up old versions. The store does so by itself, but
  * not at once: call it after RUN_FULL, once a snapshot is closed, or before many reads. Waits for a
- * merge that is running; at worst it copies all that is in the store.
+ * merge that is running, and for writes that are; at worst it copies all that is in the store.
  *
- * OK; IDLE. BUSY: nothing was merged, as other threads were writing. PINNED: not all was merged, as
- * other threads were reading; the next merge goes on from there. RUN_FULL: not all was merged;
- * writes go on while the epoch has room. WORN. BAD_POINTER. */
+ * OK; IDLE. PINNED: not all was merged, as a read that runs still holds what the merge before
+ * replaced: call again. VERSIONS_FULL: not all was merged; writes go on while the epoch has room.
+ * WORN. BAD_POINTER. */
 int clsm_sweep(clsm_store *store);
+
+/* What the store tells of itself. Costs a read, and takes no lock that a write waits for.
+ *
+ * OK. BAD_POINTER. */
+int clsm_stats(clsm_store *store, clsm_statistics *statistics);
 
 /* ---- Callers
  *
@@ -153,15 +197,16 @@ int clsm_caller_open(clsm_store *store, clsm_caller **caller);
 /* Closes a caller; its snapshots and scans stay open. Null is allowed. */
 void clsm_caller_close(clsm_caller *caller);
 
-/* A number from 0 to 63 that no other open caller, snapshot or scan of the store has. */
+/* A number from 0 to 63 that no other open caller, snapshot or scan of the store has. CLSM_SEATS of
+ * null. */
 unsigned clsm_number(const clsm_caller *caller);
 
 /* The time of the last call that was answered: a write's own; of a read, and of a snapshot or a
- * scan that was opened, the time at which it reads. 0 before any. */
+ * scan that was opened, the time at which it reads. 0 before any, and of null. */
 uint64_t clsm_time(const clsm_caller *caller);
 
-/* From this time on, reads see all that this caller wrote and read. For messages: a thread sends it
- * along, and the one that receives it follows. */
+/* From this time on, reads see all that this caller wrote and read. For messages that nothing else
+ * orders: a thread sends it along, and the one that receives it follows. 0 of null. */
 uint64_t clsm_seen(const clsm_caller *caller);
 
 /* Makes this caller read at the time or later from now on, in its new snapshots and scans too.
@@ -178,20 +223,32 @@ int clsm_follow(clsm_caller *caller, uint64_t seen);
  * CLSM_MERGE_IN_CALLS, one of the writes that found it full merges, and the others sleep until it
  * has begun the next epoch.
  *
- * RUN_FULL: the epoch is full and the one before cannot be merged. Nothing was written. The same
- * write may be made again once a snapshot or a scan was closed. If none is open, the store has more
- * keys than it was opened for, and takes no write any more, removals among them. */
+ * While a long merge runs, writes sleep now and then, a millisecond at most, so that they do not
+ * fill the epoch long before it ends. They let a batch in that has lost some tries.
+ *
+ * A write that is refused has written nothing:
+ *
+ * RUN_FULL: more keys have a value than the store was opened for, and this write would give one
+ * more key a value. Writes of keys that have one, and removals, are not refused; once keys were
+ * removed, the same write is taken. It counts all keys then, if that may help.
+ *
+ * VERSIONS_FULL: the epoch is full, and the one before cannot be merged, since an open snapshot or
+ * scan keeps more old versions than there is room for. The write has waited for that to be closed,
+ * for as long as the options say. OWN_SNAPSHOT: so, and this caller has a snapshot or a scan open
+ * itself: it did not wait. While none is open, a write always finds room. */
 
 /* Writes a value of so many words, 1 to 8, at the key.
- * OK; RUN_FULL, WORN, BAD_VALUE, BAD_POINTER. */
+ * OK; RUN_FULL, VERSIONS_FULL, OWN_SNAPSHOT, WORN, BAD_VALUE, BAD_POINTER. */
 int clsm_put(clsm_caller *caller, uint64_t key, const uint64_t *words, size_t count);
 
 /* Removes the key, whether or not it has a value; in the epoch it takes the room of a put.
- * OK; RUN_FULL, WORN, BAD_POINTER. */
+ * OK; VERSIONS_FULL, OWN_SNAPSHOT, WORN, BAD_POINTER. */
 int clsm_remove(clsm_caller *caller, uint64_t key);
 
-/* As clsm_put and clsm_remove, but they are made once and never wait: FULL, BUSY, RACED, OVERTAKEN
- * in place of RUN_FULL and WORN. FULL has called the store's thread, if it has one. */
+/* As clsm_put and clsm_remove, but they are made once and never wait: also FULL, BUSY, RACED,
+ * OVERTAKEN, and VERSIONS_FULL at once. FULL has called the store's thread, if it has one: the
+ * epoch before may still be merged. VERSIONS_FULL and WORN have called it too: the last merge came
+ * to that. Without a thread, they wait for clsm_sweep. */
 int clsm_try_put(clsm_caller *caller, uint64_t key, const uint64_t *words, size_t count);
 int clsm_try_remove(clsm_caller *caller, uint64_t key);
 
@@ -200,31 +257,34 @@ int clsm_try_remove(clsm_caller *caller, uint64_t key);
  * for the rows while it runs, and the room of a put for each of them: if the epoch has not as much
  * left, it waits for the next epoch. It lets no other write run beside it, but every read.
  *
- * OK; RUN_FULL, WORN, MEMORY, BAD_BATCH, BAD_VALUE if a value has more than eight words,
- * BAD_POINTER. Nothing was written then. */
+ * OK; RUN_FULL if one of the keys would be one more, VERSIONS_FULL, OWN_SNAPSHOT, WORN, MEMORY,
+ * EMPTY_BATCH, BAD_BATCH, BAD_VALUE if a value has more than eight words, BAD_POINTER. Nothing was
+ * written then. */
 int clsm_batch(clsm_caller *caller, const clsm_row *rows, size_t count);
 
 /* ---- Changes
  *
  * A change reads the key and writes it in one step: no other write of the key comes between.
- * Changes wait as writes do, and are refused as they are. KEPT: nothing was written, since the
+ * Changes wait as clsm_put does, and are refused as it is. KEPT: nothing was written, since the
  * value does not fit the change; that is a read. All of them tell what the key had and has, if
  * changed_or_null is given. */
 
 /* Adds to the word of the key, which counts as 0 if the key has no value. OK; KEPT if the value has
- * several words, or the sum passes 2^64 - 1; RUN_FULL, WORN, BAD_POINTER. */
+ * several words, or the sum passes 2^64 - 1; BAD_POINTER. */
 int clsm_add(clsm_caller *caller, uint64_t key, uint64_t by, clsm_changed *changed_or_null);
 
-/* Writes the value at the key if the key has none. OK; KEPT if it has one; RUN_FULL, WORN,
- * BAD_VALUE, BAD_POINTER. */
+/* Writes the value at the key if the key has none. OK; KEPT if it has one; BAD_VALUE if the value
+ * has no word or more than eight, BAD_POINTER. */
 int clsm_put_if_absent(clsm_caller *caller, uint64_t key, const clsm_value *value,
                        clsm_changed *changed_or_null);
 
 /* Writes the desired value at the key if the key has the expected one. A null pointer stands for no
- * value: as the expected one the key is to have none, as the desired one it is removed. OK; KEPT if
- * the key has another value than the expected one; RUN_FULL, WORN, BAD_VALUE, BAD_POINTER.
+ * value, as length 0 does: as the expected one the key is to have none, as the desired one it is
+ * removed. OK; KEPT if the key has another value than the expected one; BAD_VALUE if one has more
+ * than eight words, BAD_POINTER.
  *
- * Any other change is a clsm_get and a clsm_replace, until that does not answer KEPT. */
+ * Any other change is a clsm_get and a clsm_replace of what that answered, until it does not answer
+ * KEPT. */
 int clsm_replace(clsm_caller *caller, uint64_t key, const clsm_value *expected_or_null,
                  const clsm_value *desired_or_null, clsm_changed *changed_or_null);
 
@@ -252,7 +312,8 @@ int clsm_page(clsm_caller *caller, uint64_t first, uint64_t last, clsm_row *rows
  *
  * A snapshot reads the map as it was when it was opened. Its caller goes on beside it, and may be
  * closed before it. While it is open, merges keep each version that it may read: if keys are
- * overwritten long enough meanwhile, the store is full of versions, and writes answer RUN_FULL. */
+ * overwritten long enough meanwhile, there is no room for more, and writes wait for it to be
+ * closed, or are refused with VERSIONS_FULL. */
 
 /* Opens a snapshot of the present. Costs a read, and takes no memory; it takes a lock only if the
  * caller has no seat to spare, of which it keeps one once it has used it.
@@ -260,10 +321,16 @@ int clsm_page(clsm_caller *caller, uint64_t first, uint64_t last, clsm_row *rows
  * OK. NO_SEAT, BAD_POINTER: *snapshot is null then. */
 int clsm_snapshot_open(clsm_caller *caller, clsm_snapshot **snapshot);
 
+/* Opens a snapshot of the present for any thread, without a caller: it sees all that callers wrote
+ * and read that were closed before. Takes a lock.
+ *
+ * OK. NO_SEAT, BAD_POINTER: *snapshot is null then. */
+int clsm_store_snapshot(clsm_store *store, clsm_snapshot **snapshot);
+
 /* Closes a snapshot. Null is allowed. */
 void clsm_snapshot_close(clsm_snapshot *snapshot);
 
-/* The time at which it reads. */
+/* The time at which it reads. 0 of null. */
 uint64_t clsm_snapshot_time(const clsm_snapshot *snapshot);
 
 /* As clsm_number. */
@@ -292,6 +359,36 @@ int clsm_scan_next(clsm_scan *scan, clsm_row *row);
 
 /* Closes a scan, wherever it is. Null is allowed. */
 void clsm_scan_close(clsm_scan *scan);
+
+/* ---- Walks
+ *
+ * A walk gives the rows of a range one after another, for loops that write as they read: it is no
+ * snapshot, keeps no versions and takes no seat. It reads 64 rows at a time, as clsm_page does,
+ * each time the map of that moment: a row may have been changed since, and of keys that are written
+ * meanwhile behind the walk it tells nothing, as Java's skip lists do. It is its caller's: used in
+ * one call at a time with it, and closed before it. */
+
+/* Begins a walk over the rows from first to last, both included. Takes memory for 64 rows.
+ *
+ * OK. MEMORY, BAD_POINTER: *walk is null then. */
+int clsm_walk_open(clsm_caller *caller, uint64_t first, uint64_t last, clsm_walk **walk);
+
+/* The next row, by rising key. OK; DONE, and so again. MEMORY, BAD_POINTER: it is next still. */
+int clsm_walk_next(clsm_walk *walk, clsm_row *row);
+
+/* Ends a walk, wherever it is. Null is allowed. */
+void clsm_walk_close(clsm_walk *walk);
+
+/* ---- For other languages
+ *
+ * As the closes above, and each sets the pointer to null in the same call, if it closed what that
+ * is to: an interrupt that a language lets in between two calls finds the pointer either open or
+ * null.
+ */
+int clsm_close_at(clsm_store **store);
+void clsm_caller_close_at(clsm_caller **caller);
+void clsm_snapshot_close_at(clsm_snapshot **snapshot);
+void clsm_scan_close_at(clsm_scan **scan);
 
 #ifdef __cplusplus
 }

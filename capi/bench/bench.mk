@@ -6,7 +6,7 @@
 
 B = $(OUT)/bench
 BENCH ?=
-BENCH_PARTS = main border clsm_store contest leveldb_store lmdb_store map_store options report tbb_store workload
+BENCH_PARTS = main border clsm_store contest leveldb_store lmdb_store map_store options report tbb_store waits workload
 CXX17 = $(CXX) -std=c++17 $(WARNINGS) $(CXXFLAGS) $(SANITIZED) -pthread
 
 # The libraries of other stores that are installed. A part does without its own where the header is not there.
@@ -17,7 +17,7 @@ OTHERS = $(foreach library,-lleveldb -llmdb -ltbb,$(shell $(call linked,$(librar
 bench: bench-build
 	$(B)/bench $(BENCH)
 
-bench-build: $(B)/bench $(OUT)/libclsm.so.0
+bench-build: $(B)/bench $(OUT)/$(SHARED)
 
 $(B)/%.o: bench/%.cpp bench/*.h clsm.h core/clsm_core.h
 	@mkdir -p $(@D)

@@ -156,7 +156,7 @@ template <class Way> void measure(Way &&way, Crossing &crossing) {
 } // namespace
 
 std::vector<Crossing> measure_border(std::uint64_t repeat) {
-    const Library library("libclsm.so.0");
+    const Library library("libclsm.so");
     std::vector<Crossing> crossings = {
         {"clsm", "clsm.h", {}, {}}, {"core", "the core alone", {}, {}}, {"clsm.so", "the shared library", {}, {}}};
     if (!library.is_there()) crossings.pop_back();

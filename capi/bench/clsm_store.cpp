@@ -66,7 +66,6 @@ public:
     explicit ClsmStore(std::size_t keys) {
         clsm_options options = {};
         options.keys = keys;
-        options.epoch = std::clamp<std::size_t>(keys / 16, 4096, 65536);
         clsm_store *store = nullptr;
         check(clsm_open(&options, &store));
         store_.reset(store);

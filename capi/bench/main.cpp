@@ -2,6 +2,7 @@
 #include "border.h"
 #include "contest.h"
 #include "options.h"
+#include "waits.h"
 
 #include <cstdlib>
 #include <iostream>
@@ -69,6 +70,8 @@ int run(const std::vector<std::string> &arguments) {
     Csv csv(options.csv);
     play_workloads(options, csv);
     play_border(options, csv);
+    // Seconds for each line: for who asks for it alone.
+    if (!options.workloads.empty() && is_chosen(options.workloads, "waits")) measure_waits(options, std::cout);
     return EXIT_SUCCESS;
 }
 

@@ -18,7 +18,8 @@ const char *const usage =
     "\n"
     "--workloads   A, B, C, D, E, F of YCSB; fillseq, fillrandom, overwrite, readrandom, readhot,\n"
     "              readmissing, readseq, seekrandom, deleterandom, readwhilewriting and\n"
-    "              readwhilescanning of db_bench; border, the least time of a call through C. Default: all\n"
+    "              readwhilescanning of db_bench; border, the least time of a call through C. Default: all.\n"
+    "              And waits, how long single calls take beside what makes them wait\n"
     "--stores      clsm, leveldb, lmdb, tbb, map. Default: all that were installed when this was built\n"
     "--threads     how many threads call, 1 to 32 each. Default: 1,2,4\n"
     "--keys        loaded before each workload but the fills, 100 to 3,000,000. Default: 1,000,000\n"
@@ -58,7 +59,7 @@ std::vector<std::string> names_of(const std::string &option, const std::string &
 }
 
 std::vector<std::string> workload_names() {
-    std::vector<std::string> names = {"border"};
+    std::vector<std::string> names = {"border", "waits"};
     for (const Workload &workload : all_workloads()) names.emplace_back(workload.name);
     return names;
 }

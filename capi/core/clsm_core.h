@@ -100,7 +100,7 @@ enum {
     CLSM_CORE_BAD_PATIENCE = 34,
     /* The value has no word, or more than eight. */
     CLSM_CORE_BAD_VALUE = 35,
-    /* The batch has no member, or more than fit. */
+    /* The batch has no member, or more than an epoch has cells. */
     CLSM_CORE_BAD_BATCH = 36,
     /* A pointer is null. */
     CLSM_CORE_BAD_POINTER = 37,
@@ -109,8 +109,17 @@ enum {
     /* The seats. */
     CLSM_CORE_BAD_SEATS = 39,
     /* The shards. */
-    CLSM_CORE_BAD_SHARDS = 40
+    CLSM_CORE_BAD_SHARDS = 40,
+    /* Who merges. */
+    CLSM_CORE_BAD_MERGE = 41,
+    /* The batch has no row. */
+    CLSM_CORE_EMPTY_BATCH = 42
 };
+
+/* The core defines this name, which changes with this header: with a core of another
+ * interface, a program does not link. */
+#define CLSM_CORE_INTERFACE clsm_core_interface_52c5c70137d3
+extern const char CLSM_CORE_INTERFACE;
 
 /* The handle of a store: the callers and the merger that nobody has taken yet. */
 typedef struct clsm_core_store {
@@ -180,6 +189,11 @@ typedef struct clsm_core_used {
     uint64_t used;
 } clsm_core_used;
 
+/* Which of the merged runs: the turn at which it is searched, counted from 0. */
+typedef struct clsm_core_turn {
+    uint64_t turn;
+} clsm_core_turn;
+
 /* The bytes that each kind of handle takes. */
 typedef struct clsm_core_rooms {
     size_t store;
@@ -215,6 +229,11 @@ typedef struct clsm_core_counted {
     uint64_t time;
     uint64_t keys;
 } clsm_core_counted;
+
+/* How many entries a run has. */
+typedef struct clsm_core_entries {
+    uint64_t entries;
+} clsm_core_entries;
 
 /* The time of a page, how many rows it has, and, if there are more, the key at which they begin. */
 typedef struct clsm_core_paged {
@@ -351,6 +370,12 @@ uint32_t clsm_core_try_freeze(clsm_core_merger *merger, const clsm_core_used *as
 uint32_t clsm_core_try_sweep(clsm_core_merger *merger, const clsm_core_used *ask,
                              clsm_core_time *answer);
 
+/* Answers how many entries the run has that is searched at this turn, counted from 0: those of
+ * level 0, the newest first, and then that of level 1; 0 if there are fewer runs. Answers
+ * CLSM_CORE_OK; or CLSM_CORE_IDLE, and 0, if no epoch is frozen. */
+uint32_t clsm_core_count_entries(clsm_core_merger *merger, const clsm_core_turn *ask,
+                                 clsm_core_entries *answer);
+
 /* ---- layout */
 
 static_assert(sizeof(clsm_core_value) == 72
@@ -387,6 +412,9 @@ static_assert(sizeof(clsm_core_range) == 16
 static_assert(sizeof(clsm_core_used) == 8
                   && offsetof(clsm_core_used, used) == 0,
               "clsm_core_used as the library has it");
+static_assert(sizeof(clsm_core_turn) == 8
+                  && offsetof(clsm_core_turn, turn) == 0,
+              "clsm_core_turn as the library has it");
 static_assert(sizeof(clsm_core_rooms) == 24
                   && offsetof(clsm_core_rooms, store) == 0
                   && offsetof(clsm_core_rooms, caller) == 8
@@ -411,6 +439,9 @@ static_assert(sizeof(clsm_core_counted) == 16
                   && offsetof(clsm_core_counted, time) == 0
                   && offsetof(clsm_core_counted, keys) == 8,
               "clsm_core_counted as the library has it");
+static_assert(sizeof(clsm_core_entries) == 8
+                  && offsetof(clsm_core_entries, entries) == 0,
+              "clsm_core_entries as the library has it");
 static_assert(sizeof(clsm_core_paged) == 32
                   && offsetof(clsm_core_paged, time) == 0
                   && offsetof(clsm_core_paged, rows) == 8

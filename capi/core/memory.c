@@ -2,6 +2,7 @@
  * would also wait for the page tables, so large tables lie on pages of 2 MiB where the system has
  * some. Linux gives them only on request, unless it is set up to give them always. */
 #define _DEFAULT_SOURCE
+#include <errno.h>
 #include <stdlib.h>
 #include <sys/mman.h>
 
@@ -16,7 +17,9 @@ void *clsm_allocate(size_t size) {
     if (posix_memalign(&memory, LARGE_PAGE, size)) return NULL;
 #ifdef MADV_HUGEPAGE
     /* Without the end that fills no large page. If it is refused, the pages are small. */
+    const int before = errno;
     (void)madvise(memory, size - size % LARGE_PAGE, MADV_HUGEPAGE);
+    errno = before;
 #endif
     return memory;
 }

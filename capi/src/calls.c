@@ -24,54 +24,81 @@ static uint32_t attempt_replace(clsm_core_caller *core, const void *ask, void *a
     return clsm_core_try_replace(core, ask, answer);
 }
 
-/* Notes a write of so many members from this time on. */
-static inline int wrote(struct clsm_seat *seat, uint64_t time, uint64_t members) {
-    const uint64_t end = time + members;
-    seat->time = time;
+struct write {
+    clsm_attempt *attempt;
+    const void *ask;
+    void *answer;
+    uint64_t members; /* the times that it takes */
+    struct clsm_entry entry;
+};
+
+/* Notes a write that was made. */
+static inline int wrote(struct clsm_seat *seat, const struct write *write) {
+    const uint64_t *time = write->answer;
+    const uint64_t end = *time + write->members;
+    seat->time = *time;
     if (seat->seen < end) seat->seen = end;
     if (end > seat->tell_at) clsm_board_tell(seat, end - 1);
     return CLSM_OK;
 }
 
-/* Goes on with a write whose first attempt came to this code, until it is answered. */
-static int go_on_writing(struct clsm_seat *seat, clsm_attempt *attempt, const void *ask,
-                         void *answer, uint64_t members, uint32_t code) {
-    const uint64_t *time = answer;
-    struct clsm_patience patience = {1};
+/* Tries to write, if the gate lets it through: what the core answers, or why it does not. */
+static int try_write(struct clsm_seat *seat, const struct write *write,
+                     struct clsm_patience *patience, bool may_wait) {
+    clsm_store *store = seat->store;
+    int code = CLSM_OK;
+    if (write->entry.is_batch) atomic_fetch_add(&store->crowd.batches, 1);
+    if (!clsm_is_gate_open(store)) code = clsm_pass_gate(seat, &write->entry, patience, may_wait);
+    if (code == CLSM_OK) code = (int)write->attempt(&seat->core, write->ask, write->answer);
+    if (write->entry.is_batch) atomic_fetch_sub(&store->crowd.batches, 1);
+    if (code == CLSM_OK) clsm_note_removals(store, write->entry.removals);
+    return code;
+}
+
+/* Goes on with a write whose first try came to this code, until it is answered. */
+static int go_on_writing(struct clsm_seat *seat, const struct write *write, int code) {
+    const uint64_t *time = write->answer;
+    clsm_store *store = seat->store;
+    struct clsm_patience patience = CLSM_PATIENCE;
     for (;;) {
         int refused = CLSM_OK;
         switch (code) {
-        case CLSM_OK: return wrote(seat, *time, members);
-        case CLSM_KEPT:
-            if (clsm_is_in_order(seat, *time)) return CLSM_KEPT;
-            clsm_be_patient(&patience);
-            break;
-        case CLSM_FULL: refused = clsm_board_make_room(seat->store, *time); break;
+        case CLSM_FULL: refused = clsm_make_room(seat, *time, &patience); break;
         case CLSM_BUSY:
         case CLSM_RACED:
-        case CLSM_OVERTAKEN: clsm_be_patient(&patience); break;
-        default: refused = (int)code;
+        case CLSM_OVERTAKEN: clsm_lose(store, write->entry.is_batch, &patience); break;
+        case CLSM_KEPT:
+            if (!clsm_is_in_order(seat, *time)) {
+                clsm_be_patient(&patience);
+                break;
+            }
+            clsm_end_patience(store, &patience);
+            return CLSM_KEPT;
+        default: refused = code;
         }
-        if (refused) return refused;
-        code = attempt(&seat->core, ask, answer);
+        if (refused) {
+            clsm_end_patience(store, &patience);
+            return clsm_note_refusal(store, refused);
+        }
+        code = try_write(seat, write, &patience, true);
+        if (code != CLSM_OK) continue;
+        clsm_end_patience(store, &patience);
+        return wrote(seat, write);
     }
 }
 
-static inline int write_or_wait(struct clsm_seat *seat, clsm_attempt *attempt, const void *ask,
-                                void *answer, uint64_t members) {
-    const uint64_t *time = answer;
-    uint32_t code = attempt(&seat->core, ask, answer);
-    if (code == CLSM_OK) return wrote(seat, *time, members);
-    return go_on_writing(seat, attempt, ask, answer, members, code);
+static inline int write_or_wait(struct clsm_seat *seat, const struct write *write) {
+    struct clsm_patience patience = CLSM_PATIENCE;
+    int code = try_write(seat, write, &patience, true);
+    return code == CLSM_OK ? wrote(seat, write) : go_on_writing(seat, write, code);
 }
 
-static inline int write_once(struct clsm_seat *seat, clsm_attempt *attempt, const void *ask,
-                             void *answer, uint64_t members) {
-    const uint64_t *time = answer;
-    uint32_t code = attempt(&seat->core, ask, answer);
-    if (code == CLSM_OK) return wrote(seat, *time, members);
-    if (code == CLSM_FULL) clsm_board_call(seat->store, *time);
-    return (int)code;
+static inline int write_once(struct clsm_seat *seat, const struct write *write) {
+    struct clsm_patience patience = CLSM_PATIENCE;
+    int code = try_write(seat, write, &patience, false);
+    if (code == CLSM_OK) return wrote(seat, write);
+    if (code == CLSM_FULL) code = clsm_find_full(seat->store);
+    return clsm_note_refusal(seat->store, code);
 }
 
 /* A row for the core, with room for a value of so many words: OK, BAD_VALUE, BAD_POINTER. */
@@ -83,7 +110,10 @@ static inline int row_of(uint64_t key, const uint64_t *words, size_t count, clsm
     return CLSM_OK;
 }
 
-int clsm_put(clsm_caller *caller, uint64_t key, const uint64_t *words, size_t count) {
+typedef int clsm_way(struct clsm_seat *seat, const struct write *write);
+
+static inline int put(clsm_caller *caller, uint64_t key, const uint64_t *words, size_t count,
+                      clsm_way *way) {
     struct clsm_seat *seat = (struct clsm_seat *)caller;
     clsm_core_row ask;
     clsm_core_time answer;
@@ -91,68 +121,71 @@ int clsm_put(clsm_caller *caller, uint64_t key, const uint64_t *words, size_t co
     if (refused) return refused;
     refused = row_of(key, words, count, &ask);
     if (refused) return clsm_end(seat, refused);
-    return clsm_end(seat, write_or_wait(seat, attempt_put, &ask, &answer, 1));
+    const struct write write = {
+        attempt_put, &ask, &answer, 1, {.growth = CLSM_KEY_GROWS, .key = key}};
+    return clsm_end(seat, way(seat, &write));
 }
 
-int clsm_remove(clsm_caller *caller, uint64_t key) {
+static inline int erase(clsm_caller *caller, uint64_t key, clsm_way *way) {
     struct clsm_seat *seat = (struct clsm_seat *)caller;
     const clsm_core_key ask = {key};
     clsm_core_time answer;
     int refused = clsm_begin(seat, CLSM_AS_CALLER);
     if (refused) return refused;
-    return clsm_end(seat, write_or_wait(seat, attempt_remove, &ask, &answer, 1));
+    const struct write write = {attempt_remove, &ask, &answer, 1, {.removals = 1}};
+    return clsm_end(seat, way(seat, &write));
 }
+
+int clsm_put(clsm_caller *caller, uint64_t key, const uint64_t *words, size_t count) {
+    return put(caller, key, words, count, write_or_wait);
+}
+
+int clsm_remove(clsm_caller *caller, uint64_t key) { return erase(caller, key, write_or_wait); }
 
 int clsm_try_put(clsm_caller *caller, uint64_t key, const uint64_t *words, size_t count) {
-    struct clsm_seat *seat = (struct clsm_seat *)caller;
-    clsm_core_row ask;
-    clsm_core_time answer;
-    int refused = clsm_begin(seat, CLSM_AS_CALLER);
-    if (refused) return refused;
-    refused = row_of(key, words, count, &ask);
-    if (refused) return clsm_end(seat, refused);
-    return clsm_end(seat, write_once(seat, attempt_put, &ask, &answer, 1));
+    return put(caller, key, words, count, write_once);
 }
 
-int clsm_try_remove(clsm_caller *caller, uint64_t key) {
-    struct clsm_seat *seat = (struct clsm_seat *)caller;
-    const clsm_core_key ask = {key};
-    clsm_core_time answer;
-    int refused = clsm_begin(seat, CLSM_AS_CALLER);
-    if (refused) return refused;
-    return clsm_end(seat, write_once(seat, attempt_remove, &ask, &answer, 1));
-}
+int clsm_try_remove(clsm_caller *caller, uint64_t key) { return erase(caller, key, write_once); }
 
 /* ---- Batches */
 
-struct batch {
-    const clsm_core_row *rows;
-    size_t count;
-};
-
 static uint32_t attempt_batch(clsm_core_caller *core, const void *ask, void *answer) {
-    const struct batch *batch = ask;
-    return clsm_core_try_batch(core, batch->rows, batch->count, answer);
+    const struct clsm_entry *entry = ask;
+    return clsm_core_try_batch(core, entry->rows, entry->count, answer);
+}
+
+static size_t count_removals(const clsm_row *rows, size_t count) {
+    size_t removals = 0;
+    for (size_t i = 0; i < count; i++) removals += rows[i].value.length == 0;
+    return removals;
 }
 
 int clsm_batch(clsm_caller *caller, const clsm_row *rows, size_t count) {
     struct clsm_seat *seat = (struct clsm_seat *)caller;
-    const struct batch ask = {(const clsm_core_row *)(const void *)rows, count};
     clsm_core_time answer;
     int refused = clsm_begin(seat, CLSM_AS_CALLER);
     if (refused) return refused;
     if (!rows && count > 0) return clsm_end(seat, CLSM_BAD_POINTER);
-    if (count < 1 || count > seat->store->cells) return clsm_end(seat, CLSM_BAD_BATCH);
-    return clsm_end(seat, write_or_wait(seat, attempt_batch, &ask, &answer, count));
+    if (count < 1) return clsm_end(seat, CLSM_EMPTY_BATCH);
+    if (count > seat->store->cells) return clsm_end(seat, CLSM_BAD_BATCH);
+    struct write write = {.attempt = attempt_batch, .answer = &answer, .members = count};
+    write.entry = (struct clsm_entry){.is_batch = true, .growth = CLSM_ROWS_GROW};
+    write.entry.rows = (const clsm_core_row *)(const void *)rows;
+    write.entry.count = count;
+    write.entry.removals = count_removals(rows, count);
+    write.ask = &write.entry;
+    return clsm_end(seat, write_or_wait(seat, &write));
 }
 
 /* ---- Changes */
 
 /* Makes a change, whose answer has what the key had and has. */
 static int change(struct clsm_seat *seat, clsm_attempt *attempt, const void *ask,
-                  clsm_changed *changed) {
+                  struct clsm_entry entry, clsm_changed *changed) {
     clsm_core_changed answer;
-    int code = write_or_wait(seat, attempt, ask, &answer, 1);
+    const struct write write = {attempt, ask, &answer, 1, entry};
+    int code = write_or_wait(seat, &write);
     if (changed && (code == CLSM_OK || code == CLSM_KEPT)) {
         clsm_hand_on(&answer.before, &changed->before);
         clsm_hand_on(&answer.after, &changed->after);
@@ -165,14 +198,15 @@ int clsm_add(clsm_caller *caller, uint64_t key, uint64_t by, clsm_changed *chang
     const clsm_core_adding ask = {key, by};
     int refused = clsm_begin(seat, CLSM_AS_CALLER);
     if (refused) return refused;
-    return change(seat, attempt_add, &ask, changed);
+    const struct clsm_entry entry = {.growth = CLSM_KEY_GROWS, .key = key};
+    return change(seat, attempt_add, &ask, entry, changed);
 }
 
-/* A value for the core: none for a null pointer. OK; BAD_VALUE if it has no word or too many. */
+/* A value for the core: none for a null pointer. OK; BAD_VALUE if it has too many words. */
 static int value_of(const clsm_value *value_or_null, clsm_core_value *value) {
     *value = (clsm_core_value){.length = 0};
     if (!value_or_null) return CLSM_OK;
-    if (value_or_null->length < 1 || value_or_null->length > 8) return CLSM_BAD_VALUE;
+    if (value_or_null->length > 8) return CLSM_BAD_VALUE;
     memcpy(value, value_or_null, sizeof *value);
     return CLSM_OK;
 }
@@ -186,16 +220,32 @@ int clsm_replace(clsm_caller *caller, uint64_t key, const clsm_value *expected,
     refused = value_of(expected, &ask.expected);
     if (!refused) refused = value_of(desired, &ask.desired);
     if (refused) return clsm_end(seat, refused);
-    return change(seat, attempt_replace, &ask, changed);
+    const bool removes = ask.desired.length == 0;
+    const struct clsm_entry entry = {.growth = ask.expected.length > 0 || removes ? CLSM_NO_GROWTH
+                                                                                  : CLSM_KEY_GROWS,
+                                     .key = key,
+                                     .removals = removes};
+    return change(seat, attempt_replace, &ask, entry, changed);
 }
 
 int clsm_put_if_absent(clsm_caller *caller, uint64_t key, const clsm_value *value,
                        clsm_changed *changed) {
     if (!value) return CLSM_BAD_POINTER;
+    if (value->length < 1) return CLSM_BAD_VALUE;
     return clsm_replace(caller, key, NULL, value, changed);
 }
 
 /* ---- Reads */
+
+/* Gets again until the time is in order. Apart, so that a get that need not has no more to keep. */
+static int get_again(struct clsm_seat *seat, const clsm_core_key *ask, clsm_core_got *answer) {
+    struct clsm_patience patience = CLSM_PATIENCE;
+    for (;;) {
+        clsm_be_patient(&patience);
+        int code = (int)clsm_core_get(&seat->core, ask, answer);
+        if (clsm_is_in_order(seat, answer->time)) return code;
+    }
+}
 
 int clsm_get(clsm_caller *caller, uint64_t key, clsm_value *value) {
     struct clsm_seat *seat = (struct clsm_seat *)caller;
@@ -203,11 +253,8 @@ int clsm_get(clsm_caller *caller, uint64_t key, clsm_value *value) {
     clsm_core_got answer;
     int code = clsm_begin(seat, CLSM_AS_CALLER);
     if (code) return code;
-    struct clsm_patience patience = {1};
-    for (;; clsm_be_patient(&patience)) {
-        code = (int)clsm_core_get(&seat->core, &ask, &answer);
-        if (clsm_is_in_order(seat, answer.time)) break;
-    }
+    code = (int)clsm_core_get(&seat->core, &ask, &answer);
+    if (!clsm_is_in_order(seat, answer.time)) code = get_again(seat, &ask, &answer);
     clsm_hand_on(&answer.value, value);
     return clsm_end(seat, code);
 }
@@ -219,7 +266,7 @@ int clsm_count(clsm_caller *caller, uint64_t first, uint64_t last, uint64_t *key
     int code = clsm_begin(seat, CLSM_AS_CALLER);
     if (code) return code;
     if (!keys) return clsm_end(seat, CLSM_BAD_POINTER);
-    struct clsm_patience patience = {1};
+    struct clsm_patience patience = CLSM_PATIENCE;
     for (;; clsm_be_patient(&patience)) {
         code = (int)clsm_core_count(&seat->core, &ask, &answer);
         if (clsm_is_in_order(seat, answer.time)) break;
@@ -234,7 +281,7 @@ int clsm_page(clsm_caller *caller, uint64_t first, uint64_t last, clsm_row *rows
     clsm_core_paged answer;
     int code = clsm_begin(seat, CLSM_AS_CALLER);
     if (code) return code;
-    struct clsm_patience patience = {1};
+    struct clsm_patience patience = CLSM_PATIENCE;
     for (;; clsm_be_patient(&patience)) {
         code = clsm_read_page(seat, first, last, rows, room, &answer, end);
         if (code != CLSM_OK || clsm_is_in_order(seat, answer.time)) break;

@@ -1,256 +1,282 @@
 /* The merger: its thread, and how writers call it and wait for it. */
 #include "store.h"
 
+#include <errno.h>
 #include <sched.h>
 #include <signal.h>
+#include <time.h>
 
-/* ---- Patience */
+/* ---- Calling the merger's thread, which takes no lock */
 
-static void pause_once(void) {
-#if defined __x86_64__ || defined __i386__
-    __asm__ __volatile__("pause");
-#elif defined __aarch64__
-    __asm__ __volatile__("yield");
-#endif
+static void call_thread(struct clsm_board *board) {
+    if (!atomic_exchange(&board->is_called, true)) sem_post(&board->work);
 }
 
-void clsm_be_patient(struct clsm_patience *patience) {
-    if (patience->pauses > 64) {
-        sched_yield();
-        return;
-    }
-    for (unsigned i = 0; i < patience->pauses; i++) pause_once();
-    patience->pauses *= 2;
-}
-
-/* ---- The board; each function but the last two of this part is for its holder */
-
-/* The end of the current epoch: the times below it may be drawn. */
-static uint64_t limit(const clsm_store *store) { return (store->board.frozen + 1) * store->cells; }
-
-/* The end of the epoch that a write found full at this time. */
-static uint64_t end_of_epoch(const clsm_store *store, uint64_t time) {
-    return (time + store->cells - 1) / store->cells * store->cells;
+/* Sleeps until the thread is called. */
+static void await_call(struct clsm_board *board) {
+    while (sem_wait(&board->work) && errno == EINTR) continue;
+    atomic_store(&board->is_called, false);
 }
 
 /* How many writes of an epoch call the merger's thread. */
 static uint64_t half_of_epoch(const clsm_store *store) { return store->cells / 2; }
 
-/* Calls the merger's thread, as this epoch was found full; answers the number of the call. */
-static uint64_t call(struct clsm_board *board, uint64_t end) {
-    if (board->full < end) board->full = end;
-    board->is_called = true;
-    pthread_cond_signal(&board->work);
-    return ++board->calls;
+/* Tells that half of this epoch is drawn, unless somebody did. */
+static void tell_half(clsm_store *store, uint64_t epoch) {
+    struct clsm_board *board = &store->board;
+    uint64_t told = atomic_load(&board->told);
+    while (told <= epoch && !atomic_compare_exchange_weak(&board->told, &told, epoch + 1)) continue;
+    if (told <= epoch) call_thread(board);
 }
 
-/* Whether a write waits for room, and the merger has not tried since. */
-static bool is_waited_for(const clsm_store *store) {
-    return store->board.full >= limit(store) && store->board.calls > store->board.refused;
+/* A write tells of itself behind so many times, which are a part of an epoch. */
+static uint64_t step_of_telling(const clsm_store *store) {
+    enum { STEPS_OF_EPOCH = 1024 };
+    return store->cells / STEPS_OF_EPOCH + 1;
 }
-
-/* Takes the merger; waits for those who came before. */
-static void take_merger(struct clsm_board *board) {
-    const uint64_t mine = board->taken++;
-    while (board->given != mine) pthread_cond_wait(&board->room, &board->lock);
-}
-
-static void give_merger(struct clsm_board *board) {
-    board->given++;
-    pthread_cond_broadcast(&board->room);
-}
-
-static bool is_merging(const struct clsm_board *board) { return board->taken != board->given; }
 
 void clsm_board_tell(struct clsm_seat *seat, uint64_t time) {
     clsm_store *store = seat->store;
-    struct clsm_board *board = &store->board;
-    const uint64_t epoch = time / store->cells;
-    const uint64_t second_half = epoch * store->cells + half_of_epoch(store) - 1;
-    if (time < second_half) {
-        seat->tell_at = second_half;
-        return;
-    }
-    seat->tell_at = second_half + store->cells;
-    if (atomic_load_explicit(&board->told, memory_order_relaxed) > epoch) return;
-    pthread_mutex_lock(&board->lock);
-    if (atomic_load_explicit(&board->told, memory_order_relaxed) <= epoch) {
-        atomic_store_explicit(&board->told, epoch + 1, memory_order_relaxed);
-        board->is_called = true;
-        pthread_cond_signal(&board->work);
-    }
-    pthread_mutex_unlock(&board->lock);
+    const uint64_t epoch = time / store->cells, drawn = time % store->cells + 1;
+    const uint64_t half = epoch * store->cells + half_of_epoch(store) - 1;
+    seat->tell_at = time + step_of_telling(store);
+    if (time < half && half < seat->tell_at) seat->tell_at = half;
+    if (time >= half) tell_half(store, epoch);
+    clsm_keep_pace(store, drawn);
 }
 
-void clsm_board_call(clsm_store *store, uint64_t time) {
+void clsm_merger_call(clsm_store *store) {
+    if (!store->merges_in_calls) call_thread(&store->board);
+}
+
+/* ---- The merger; each function of this part is for who holds the board */
+
+uint64_t clsm_limit(const clsm_store *store) { return (store->board.frozen + 1) * store->cells; }
+
+/* Whether a write waits for room, and the merger has not tried since. */
+static bool is_waited_for(const clsm_store *store) {
+    return store->board.full >= clsm_limit(store) && store->board.calls > store->board.refused;
+}
+
+void clsm_merger_take(clsm_store *store) {
     struct clsm_board *board = &store->board;
-    if (store->merges_in_calls || pthread_mutex_trylock(&board->lock)) return;
-    uint64_t end = end_of_epoch(store, time);
-    if (limit(store) <= end) call(board, end);
-    pthread_mutex_unlock(&board->lock);
+    const uint64_t mine = board->taken++;
+    while (board->given != mine) clsm_sleep_on(store, &board->turn, NULL);
+}
+
+bool clsm_is_merging(const clsm_store *store) { return store->board.taken != store->board.given; }
+
+static bool is_refusal(int code) { return code >= CLSM_MEMORY; }
+
+void clsm_merger_give(clsm_store *store, int code) {
+    struct clsm_board *board = &store->board;
+    if (code != CLSM_PINNED) atomic_store(&board->refusal, is_refusal(code) ? code : CLSM_OK);
+    board->given++;
+    if (clsm_is_merging(store)) pthread_cond_broadcast(&board->turn);
+    else if (store->merges_in_calls) clsm_tell_news(store);
 }
 
 /* ---- Steps of whoever has the merger, which do not hold the board */
 
-/* Freezes the epoch if so many of its times are drawn: OK, IDLE, BUSY, WORN. */
+/* Notes how many entries the runs have, behind so many merges. */
+static void note_entries(clsm_store *store, uint64_t merges) {
+    const uint64_t young = merges % CLSM_MERGES_OF_LEVELS;
+    uint64_t entries[2] = {0, 0};
+    for (uint64_t run = 0; run <= young; run++) {
+        const clsm_core_turn ask = {run};
+        clsm_core_entries answer;
+        clsm_core_count_entries(&store->merger, &ask, &answer);
+        entries[run == young] += answer.entries;
+    }
+    atomic_store(&store->counts.level_zero, entries[0]);
+    atomic_store(&store->counts.level_one, entries[1]);
+    if (young == 0 && merges > 0) clsm_note_keys(store, entries[1]);
+}
+
+/* Freezes the epoch if so many of its times are drawn: OK, IDLE, WORN. */
 static int freeze(clsm_store *store, uint64_t used) {
     struct clsm_board *board = &store->board;
+    struct clsm_patience patience = CLSM_PATIENCE;
     const clsm_core_used ask = {used};
     clsm_core_time answer;
-    int code = (int)clsm_core_try_freeze(&store->merger, &ask, &answer);
+    int code;
+    while ((code = (int)clsm_core_try_freeze(&store->merger, &ask, &answer)) == CLSM_BUSY)
+        clsm_lose(store, true, &patience);
+    clsm_end_patience(store, &patience);
     if (code != CLSM_OK) return code;
     store->is_frozen = true;
+    note_entries(store, board->frozen);
     pthread_mutex_lock(&board->lock);
     board->frozen++;
-    pthread_cond_broadcast(&board->room);
+    clsm_tell_news(store);
     pthread_mutex_unlock(&board->lock);
     return CLSM_OK;
 }
 
-/* Merges the frozen epoch, and reclaims what that replaced: OK, PINNED, RUN_FULL. */
-static int finish(clsm_store *store) {
+/* Tries to merge the frozen epoch. Where an open snapshot keeps more entries than there is room
+ * for, its close is told from now on; one that was closed meanwhile makes another try worth while.
+ */
+static int try_finish(clsm_store *store) {
     const clsm_core_used ask = {1};
     clsm_core_time answer;
-    int code = (int)clsm_core_try_sweep(&store->merger, &ask, &answer);
+    for (;;) {
+        const uint64_t oldest = clsm_oldest_view(store);
+        int code = (int)clsm_core_try_sweep(&store->merger, &ask, &answer);
+        if (code != CLSM_RUN_FULL) return code;
+        if (oldest == UINT64_MAX) return CLSM_RUN_FULL;
+        atomic_store(&store->board.held, oldest);
+        if (clsm_oldest_view(store) == oldest) return CLSM_VERSIONS_FULL;
+    }
+}
+
+/* Merges the frozen epoch, and reclaims what that replaced: OK, PINNED, VERSIONS_FULL; and
+ * RUN_FULL, which is not to be. */
+static int finish(clsm_store *store) {
+    struct clsm_counts *counts = &store->counts;
+    const uint64_t began = clsm_now();
+    if (!store->is_merged) clsm_begin_merge(store, began);
+    int code = try_finish(store);
+    const uint64_t took = clsm_now() - began;
+    const bool is_done = code == CLSM_OK || code == CLSM_PINNED;
+    if (!store->is_merged) clsm_end_merge(store, is_done ? took : 0);
+    if (code != CLSM_VERSIONS_FULL) clsm_tell_unheld(store);
+    if (is_done && !store->is_merged) {
+        clsm_count_one(&counts->merges);
+        atomic_store(&counts->last_merge, took);
+        clsm_raise(&counts->longest_merge, took);
+    }
+    store->is_merged = code == CLSM_PINNED;
     if (code == CLSM_OK) store->is_frozen = false;
     return code;
 }
 
 /* Merges what is frozen, or else the epoch if so many of its times are drawn. */
 static int serve(clsm_store *store, uint64_t used) {
-    struct clsm_patience patience = {1};
-    while (!store->is_frozen) {
-        int code = freeze(store, used);
-        if (code == CLSM_BUSY) clsm_be_patient(&patience);
-        else if (code != CLSM_OK) return code;
-    }
-    return finish(store);
+    int code = store->is_frozen ? CLSM_OK : freeze(store, used);
+    return code == CLSM_OK ? finish(store) : code;
 }
 
-/* ---- Room for a write that found its epoch full */
-
-/* Merges until the epoch that ends there is frozen: OK, RUN_FULL, WORN. */
-static int merge_past(clsm_store *store, uint64_t end) {
-    struct clsm_patience patience = {1};
+int clsm_merge_past(clsm_store *store, uint64_t end) {
+    struct clsm_patience patience = CLSM_PATIENCE;
     for (;;) {
         int code = serve(store, 1);
-        if (limit(store) > end) return CLSM_OK;
+        if (clsm_limit(store) > end) return CLSM_OK;
         if (code == CLSM_PINNED) clsm_be_patient(&patience);
         else if (code != CLSM_OK) return code;
     }
 }
 
-/* The write itself merges, unless another one does. Holds the board. */
-static int make_room_here(clsm_store *store, uint64_t end) {
-    struct clsm_board *board = &store->board;
-    while (limit(store) <= end && is_merging(board)) pthread_cond_wait(&board->room, &board->lock);
-    if (limit(store) > end) return CLSM_OK;
-    take_merger(board);
-    pthread_mutex_unlock(&board->lock);
-    int code = merge_past(store, end);
-    pthread_mutex_lock(&board->lock);
-    give_merger(board);
-    return code;
-}
-
-/* Sleeps until the merger's thread has made room, or could not. Holds the board. */
-static int wait_for_room(clsm_store *store, uint64_t end) {
-    struct clsm_board *board = &store->board;
-    if (limit(store) > end) return CLSM_OK;
-    const uint64_t mine = call(board, end);
-    while (limit(store) <= end && board->refused < mine)
-        pthread_cond_wait(&board->room, &board->lock);
-    return limit(store) > end ? CLSM_OK : board->refusal;
-}
-
-int clsm_board_make_room(clsm_store *store, uint64_t time) {
-    const uint64_t end = end_of_epoch(store, time);
-    pthread_mutex_lock(&store->board.lock);
-    int code = store->merges_in_calls ? make_room_here(store, end) : wait_for_room(store, end);
-    pthread_mutex_unlock(&store->board.lock);
-    return code;
-}
-
 /* ---- Merging at once */
+
+/* Merges what was just frozen. If a read is in the way of giving up what that replaced, the thread
+ * does so later, or the next merge. */
+static int finish_or_leave(clsm_store *store) {
+    int code = finish(store);
+    if (code != CLSM_PINNED) return code;
+    clsm_merger_call(store);
+    return CLSM_OK;
+}
 
 int clsm_sweep(clsm_store *store) {
     if (!store) return CLSM_BAD_POINTER;
-    struct clsm_board *board = &store->board;
-    pthread_mutex_lock(&board->lock);
-    take_merger(board);
-    pthread_mutex_unlock(&board->lock);
+    pthread_mutex_t *lock = &store->board.lock;
+    pthread_mutex_lock(lock);
+    clsm_merger_take(store);
+    pthread_mutex_unlock(lock);
     const bool was_frozen = store->is_frozen;
     int code = was_frozen ? finish(store) : CLSM_OK;
     if (code == CLSM_OK) code = freeze(store, 1);
-    if (code == CLSM_IDLE && was_frozen) code = CLSM_OK;
-    else if (code == CLSM_OK) code = finish(store);
-    pthread_mutex_lock(&board->lock);
-    give_merger(board);
-    pthread_mutex_unlock(&board->lock);
+    if (code == CLSM_OK) code = finish_or_leave(store);
+    else if (code == CLSM_IDLE && was_frozen) code = CLSM_OK;
+    pthread_mutex_lock(lock);
+    clsm_merger_give(store, code);
+    pthread_mutex_unlock(lock);
     return code;
 }
 
 /* ---- The merger's thread */
 
-/* What follows from what a merge came to. Holds the board; the first so many calls were served. */
+/* What follows from what a merge came to, which may have been one of an epoch before. Holds the
+ * board; the first so many calls were served. */
 static void note(clsm_store *store, int code, uint64_t calls) {
     struct clsm_board *board = &store->board;
-    switch (code) {
-    case CLSM_RUN_FULL:
-    case CLSM_WORN:
+    if (is_refusal(code)) {
         board->refused = calls;
-        board->refusal = code;
-        break;
-    case CLSM_PINNED: board->is_called = true; break;
-    default:
-        if (atomic_load_explicit(&board->told, memory_order_relaxed) > board->frozen)
-            board->is_called = true;
+        board->refusal_of_calls = code;
+        clsm_tell_news(store);
+    } else if (code != CLSM_PINNED
+               && (is_waited_for(store) || atomic_load(&board->told) > board->frozen)) {
+        call_thread(board);
     }
+}
+
+/* Merges once, if there is something to merge: what serve answers. */
+static int merge_once(clsm_store *store) {
+    struct clsm_board *board = &store->board;
+    pthread_mutex_lock(&board->lock);
+    clsm_merger_take(store);
+    const uint64_t calls = board->calls;
+    const uint64_t used = is_waited_for(store) ? 1 : half_of_epoch(store);
+    pthread_mutex_unlock(&board->lock);
+    int code = serve(store, used);
+    pthread_mutex_lock(&board->lock);
+    note(store, code, calls);
+    clsm_merger_give(store, code);
+    pthread_mutex_unlock(&board->lock);
+    return code;
+}
+
+/* Rests behind a merge that a running read was in the way of: that many turns lets other threads
+ * run, and then sleeps, at first 50 microseconds, at last 800. */
+static void rest(unsigned turns) {
+    enum { YIELDS = 16, DOUBLINGS = 4, FIRST_NANOSECONDS = 50000 };
+    if (turns < YIELDS) {
+        sched_yield();
+        return;
+    }
+    const unsigned doublings = turns - YIELDS < DOUBLINGS ? turns - YIELDS : DOUBLINGS;
+    nanosleep(&(struct timespec){.tv_nsec = (long)FIRST_NANOSECONDS << doublings}, NULL);
 }
 
 /* Sleeps until it is called, merges, and so on until the store is closed. */
 static void *merge_beside(void *of) {
     clsm_store *store = of;
     struct clsm_board *board = &store->board;
-    pthread_mutex_lock(&board->lock);
     for (;;) {
-        while (!board->is_over && !board->is_called && !is_waited_for(store))
-            pthread_cond_wait(&board->work, &board->lock);
-        if (board->is_over) break;
-        take_merger(board);
-        board->is_called = false;
-        const uint64_t calls = board->calls;
-        const uint64_t used = is_waited_for(store) ? 1 : half_of_epoch(store);
-        pthread_mutex_unlock(&board->lock);
-        int code = serve(store, used);
-        pthread_mutex_lock(&board->lock);
-        note(store, code, calls);
-        give_merger(board);
-        if (code != CLSM_PINNED) continue;
-        pthread_mutex_unlock(&board->lock);
-        sched_yield();
-        pthread_mutex_lock(&board->lock);
+        await_call(board);
+        if (atomic_load(&board->is_over)) return NULL;
+        for (unsigned turns = 0; merge_once(store) == CLSM_PINNED; turns++) rest(turns);
     }
-    pthread_mutex_unlock(&board->lock);
-    return NULL;
+}
+
+/* The signals that the thread leaves to others: all but those that a thread causes by itself, and
+ * that of profilers. */
+static void fill_blocked(sigset_t *blocked) {
+    static const int own[] = {SIGSEGV, SIGBUS, SIGFPE, SIGILL, SIGTRAP, SIGABRT, SIGSYS, SIGPROF};
+    sigfillset(blocked);
+    for (size_t i = 0; i < sizeof own / sizeof *own; i++) sigdelset(blocked, own[i]);
 }
 
 int clsm_merger_start(clsm_store *store) {
     if (store->merges_in_calls) return CLSM_OK;
-    sigset_t all, before;
-    sigfillset(&all);
-    if (pthread_sigmask(SIG_SETMASK, &all, &before)) return CLSM_NO_THREAD;
+    sigset_t blocked, before;
+    fill_blocked(&blocked);
+    if (pthread_sigmask(SIG_SETMASK, &blocked, &before)) return CLSM_NO_THREAD;
     int failed = pthread_create(&store->thread, NULL, merge_beside, store);
     pthread_sigmask(SIG_SETMASK, &before, NULL);
-    return failed ? CLSM_NO_THREAD : CLSM_OK;
+    if (failed) return CLSM_NO_THREAD;
+    /* Only for those who look at threads: a failure harms nobody. */
+    (void)pthread_setname_np(store->thread, "clsm-merger");
+    return CLSM_OK;
 }
 
 void clsm_merger_stop(clsm_store *store) {
     struct clsm_board *board = &store->board;
+    int before;
     if (store->merges_in_calls) return;
-    pthread_mutex_lock(&board->lock);
-    board->is_over = true;
-    pthread_cond_signal(&board->work);
-    pthread_mutex_unlock(&board->lock);
+    atomic_store(&board->is_over, true);
+    call_thread(board);
+    pthread_setcancelstate(PTHREAD_CANCEL_DISABLE, &before);
     pthread_join(store->thread, NULL);
+    pthread_setcancelstate(before, &before);
 }

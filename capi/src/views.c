@@ -18,26 +18,67 @@ int clsm_read_page(struct clsm_seat *seat, uint64_t first, uint64_t last, clsm_r
     return code;
 }
 
-/* Opens the snapshot of a seat that was taken for this caller. Its time is not below what the
- * caller saw: contracts of the core order only what one seat does, so that is tested. */
-static void open_view(struct clsm_seat *seat, struct clsm_seat *caller) {
+/* Opens the snapshot of a seat, at a time that is not below what was seen: contracts of the core
+ * order only what one seat does, so that is tested. */
+static void open_view(struct clsm_seat *seat, uint64_t seen) {
     clsm_core_time answer;
-    struct clsm_patience patience = {1};
+    struct clsm_patience patience = CLSM_PATIENCE;
+    atomic_store_explicit(&seat->view, CLSM_OPENING, memory_order_relaxed);
     for (;;) {
         clsm_core_snapshot(&seat->core, &ANY, &answer);
-        if (clsm_is_in_order(caller, answer.time)) break;
+        if (answer.time >= seen) break;
         clsm_core_close_snapshot(&seat->core, &ANY, &answer);
         clsm_be_patient(&patience);
     }
     seat->seen = answer.time;
     seat->time = answer.time;
+    atomic_store_explicit(&seat->since, clsm_now(), memory_order_relaxed);
+    atomic_store_explicit(&seat->view, answer.time + CLSM_VIEWS, memory_order_release);
+}
+
+/* Opens the snapshot of a seat that was taken for this caller, for which that is a read. */
+static void open_view_of(struct clsm_seat *seat, struct clsm_seat *caller) {
+    open_view(seat, caller->seen);
+    caller->seen = seat->time;
+    caller->time = seat->time;
 }
 
 static void close_view(struct clsm_seat *seat, enum clsm_use use) {
     clsm_core_time answer;
-    if (clsm_begin(seat, use)) return;
+    if (clsm_begin_close(seat, use)) return;
     clsm_core_close_snapshot(&seat->core, &ANY, &answer);
+    const uint64_t view = atomic_exchange(&seat->view, 0);
+    clsm_tell_closed(seat->store, view);
     clsm_seat_give_home(seat);
+}
+
+/* The view of a seat, once it is not just opening. */
+static uint64_t view_of(struct clsm_seat *seat) {
+    struct clsm_patience patience = CLSM_PATIENCE;
+    for (;; clsm_be_patient(&patience)) {
+        const uint64_t view = atomic_load(&seat->view);
+        if (view != CLSM_OPENING) return view;
+    }
+}
+
+uint64_t clsm_oldest_view(clsm_store *store) {
+    uint64_t oldest = UINT64_MAX;
+    for (unsigned i = 0; i < CLSM_SEATS; i++) {
+        const uint64_t view = view_of(&store->handles[i].seat);
+        if (view > 0 && view < oldest) oldest = view;
+    }
+    return oldest;
+}
+
+bool clsm_has_view(struct clsm_seat *caller) {
+    const uint64_t uses = atomic_load(&caller->uses);
+    for (unsigned i = 0; i < CLSM_SEATS; i++) {
+        struct clsm_seat *seat = &caller->store->handles[i].seat;
+        if (atomic_load(&seat->view) > 0 && atomic_load(&seat->home) == caller
+            && atomic_load(&seat->home_uses) == uses)
+            return true;
+    }
+    return false;
 }
 
 /* ---- Snapshots */
@@ -49,19 +90,34 @@ int clsm_snapshot_open(clsm_caller *caller, clsm_snapshot **snapshot) {
     if (refused) return refused;
     if (!snapshot) return clsm_end(home, CLSM_BAD_POINTER);
     seat = clsm_seat_take_for(home, CLSM_AS_SNAPSHOT);
-    if (!seat) return clsm_end(home, CLSM_NO_SEAT);
-    open_view(seat, home);
+    if (!seat) return clsm_end(home, clsm_note_refusal(home->store, CLSM_NO_SEAT));
+    open_view_of(seat, home);
     *snapshot = (clsm_snapshot *)seat;
     return clsm_end(home, CLSM_OK);
+}
+
+int clsm_store_snapshot(clsm_store *store, clsm_snapshot **snapshot) {
+    uint64_t seen;
+    if (snapshot) *snapshot = NULL;
+    if (!store || !snapshot) return CLSM_BAD_POINTER;
+    struct clsm_seat *seat = clsm_seat_take(store, CLSM_AS_SNAPSHOT, &seen);
+    if (!seat) return clsm_note_refusal(store, CLSM_NO_SEAT);
+    open_view(seat, seen);
+    *snapshot = (clsm_snapshot *)seat;
+    return CLSM_OK;
 }
 
 void clsm_snapshot_close(clsm_snapshot *snapshot) {
     close_view((struct clsm_seat *)snapshot, CLSM_AS_SNAPSHOT);
 }
 
-uint64_t clsm_snapshot_time(const clsm_snapshot *snapshot) { return snapshot->seat.time; }
+uint64_t clsm_snapshot_time(const clsm_snapshot *snapshot) {
+    return snapshot ? snapshot->seat.time : 0;
+}
 
-unsigned clsm_snapshot_number(const clsm_snapshot *snapshot) { return snapshot->seat.number; }
+unsigned clsm_snapshot_number(const clsm_snapshot *snapshot) {
+    return snapshot ? snapshot->seat.number : CLSM_SEATS;
+}
 
 int clsm_snapshot_get(clsm_snapshot *snapshot, uint64_t key, clsm_value *value) {
     struct clsm_seat *seat = (struct clsm_seat *)snapshot;
@@ -116,13 +172,13 @@ int clsm_scan_open(clsm_caller *caller, uint64_t first, uint64_t last, clsm_scan
     if (refused) return refused;
     if (!scan) return clsm_end(home, CLSM_BAD_POINTER);
     seat = clsm_seat_take_for(home, CLSM_AS_SCAN);
-    if (!seat) return clsm_end(home, CLSM_NO_SEAT);
+    if (!seat) return clsm_end(home, clsm_note_refusal(home->store, CLSM_NO_SEAT));
     refused = begin_place(&seat->place, first, last);
     if (refused) {
         clsm_seat_give_home(seat);
         return clsm_end(home, refused);
     }
-    open_view(seat, home);
+    open_view_of(seat, home);
     *scan = (clsm_scan *)seat;
     return clsm_end(home, CLSM_OK);
 }

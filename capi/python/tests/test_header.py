@@ -17,14 +17,19 @@ HEADER = PROJECT.parent / "clsm.h"
 
 # What the package does without.
 UNUSED_CALLS = {
+    "clsm_caller_close_at",
+    "clsm_close_at",
     "clsm_follow",
     "clsm_number",
     "clsm_page",
     "clsm_scan_close",
+    "clsm_scan_close_at",
     "clsm_scan_next",
     "clsm_scan_open",
     "clsm_seen",
+    "clsm_snapshot_close_at",
     "clsm_snapshot_number",
+    "clsm_store_snapshot",
     "clsm_sweep",
     "clsm_time",
 }

@@ -31,6 +31,7 @@ class Code(enum.IntEnum):
     WORN = 19
     IN_USE = 20
     NO_THREAD = 21
+    CLOSED = 22
     BAD_KEYS = 32
     BAD_EPOCH = 33
     BAD_PATIENCE = 34
@@ -38,6 +39,8 @@ class Code(enum.IntEnum):
     BAD_BATCH = 36
     BAD_POINTER = 37
     BAD_BUILD = 38
+    BAD_MERGE = 41
+    EMPTY_BATCH = 42
 
 
 # Plain numbers, for calls that compare them each time.
