@@ -296,15 +296,16 @@ int clsm_replace(clsm_caller *caller, uint64_t key, const clsm_value *expected_o
 /* The value of the key. OK; NOT_FOUND, with length 0. BAD_POINTER. */
 int clsm_get(clsm_caller *caller, uint64_t key, clsm_value *value_or_null);
 
-/* How many keys of the range have a value. Visits each of them; takes no memory.
+/* How many keys of the range have a value. Visits each of them; while it runs, it is a snapshot.
  * OK; BAD_POINTER. */
 int clsm_count(clsm_caller *caller, uint64_t first, uint64_t last, uint64_t *keys);
 
 /* The first rows of the range by rising key, as many as there is room for. If end->more, the next
  * page begins at end->next: it is another read, so take a snapshot or a scan for pages of one map.
- * Takes memory for the rows while it runs. The pointer to the rows may be null if room is 0.
+ * Takes memory for the rows while it runs, and for 512 at most; if there is room for more, it is a
+ * snapshot meanwhile. The pointer to the rows may be null if room is 0.
  *
- * OK. MEMORY, BAD_POINTER: rows and end are as before. */
+ * OK. MEMORY, BAD_POINTER: end is as before, and rows means nothing. */
 int clsm_page(clsm_caller *caller, uint64_t first, uint64_t last, clsm_row *rows, size_t room,
               clsm_page_end *end);
 

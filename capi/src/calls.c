@@ -261,18 +261,11 @@ int clsm_get(clsm_caller *caller, uint64_t key, clsm_value *value) {
 
 int clsm_count(clsm_caller *caller, uint64_t first, uint64_t last, uint64_t *keys) {
     struct clsm_seat *seat = (struct clsm_seat *)caller;
-    const clsm_core_range ask = {first, last};
-    clsm_core_counted answer;
     int code = clsm_begin(seat, CLSM_AS_CALLER);
     if (code) return code;
     if (!keys) return clsm_end(seat, CLSM_BAD_POINTER);
-    struct clsm_patience patience = CLSM_PATIENCE;
-    for (;; clsm_be_patient(&patience)) {
-        code = (int)clsm_core_count(&seat->core, &ask, &answer);
-        if (clsm_is_in_order(seat, answer.time)) break;
-    }
-    *keys = answer.keys;
-    return clsm_end(seat, code);
+    *keys = clsm_count_keys(seat, first, last);
+    return clsm_end(seat, CLSM_OK);
 }
 
 int clsm_page(clsm_caller *caller, uint64_t first, uint64_t last, clsm_row *rows, size_t room,

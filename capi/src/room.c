@@ -276,15 +276,14 @@ static bool is_worth_a_count(clsm_store *store) {
  * the merge noted more; removals that come meanwhile are not in it. */
 static uint64_t count_keys(struct clsm_seat *seat) {
     clsm_store *store = seat->store;
-    const clsm_core_range all = {0, UINT64_MAX};
-    const uint64_t merges = atomic_load(&store->crowd.merges);
-    clsm_core_counted counted;
+    const uint64_t merges = atomic_load(&store->crowd.merges), time = seat->time;
     atomic_store(&store->crowd.removals, 0);
-    clsm_core_count(&seat->core, &all, &counted);
+    const uint64_t keys = clsm_count_keys(seat, 0, UINT64_MAX);
+    seat->time = time; /* no call of the user's was answered */
     pthread_mutex_lock(&store->board.lock);
-    if (atomic_load(&store->crowd.merges) == merges) note_bound(store, counted.keys, true);
+    if (atomic_load(&store->crowd.merges) == merges) note_bound(store, keys, true);
     pthread_mutex_unlock(&store->board.lock);
-    return counted.keys;
+    return keys;
 }
 
 /* Whether there may be one more key: OK, RUN_FULL, or BUSY if another one counts. */

@@ -25,6 +25,13 @@
 #endif
 
 enum { CLSM_LINE = 64, CLSM_SCAN_ROWS = 64 };
+/* So many rows a long read reads, and counts, at a time. */
+#ifndef CLSM_PART_ROWS
+#define CLSM_PART_ROWS 512
+#endif
+#ifndef CLSM_COUNT_ROWS
+#define CLSM_COUNT_ROWS 128
+#endif
 enum { CLSM_NANOSECONDS = 1000000000 }; /* of a second */
 enum { CLSM_MERGES_OF_LEVELS = 4 };     /* of so many merges the last one is into level 1 */
 
@@ -296,6 +303,9 @@ uint64_t clsm_oldest_view(clsm_store *store);
 /* Whether the caller has a view open. */
 bool clsm_has_view(struct clsm_seat *caller);
 
+/* Counts the keys of a range that have a value, at the snapshot of the seat, or else at one of its
+ * own: the time of the last call is that of the snapshot then. */
+uint64_t clsm_count_keys(struct clsm_seat *seat, uint64_t first, uint64_t last);
 /* Reads a page, at the snapshot of the seat if it has one: OK, MEMORY, BAD_POINTER. */
 int clsm_read_page(struct clsm_seat *seat, uint64_t first, uint64_t last, clsm_row *rows,
                    size_t room, clsm_core_paged *answer, clsm_page_end *end);

@@ -7,17 +7,6 @@ static const clsm_core_key ANY = {0};
 
 /* ---- What callers, snapshots and scans have in common */
 
-int clsm_read_page(struct clsm_seat *seat, uint64_t first, uint64_t last, clsm_row *rows,
-                   size_t room, clsm_core_paged *answer, clsm_page_end *end) {
-    const clsm_core_range ask = {first, last};
-    clsm_row none = {.key = 0};
-    if (!end || (!rows && room > 0)) return CLSM_BAD_POINTER;
-    clsm_core_row *into = (clsm_core_row *)(void *)(rows ? rows : &none);
-    int code = (int)clsm_core_page(&seat->core, &ask, into, room, answer);
-    if (code == CLSM_OK) *end = (clsm_page_end){answer->rows, answer->next, answer->more};
-    return code;
-}
-
 /* Opens the snapshot of a seat, at a time that is not below what was seen: contracts of the core
  * order only what one seat does, so that is tested. */
 static void open_view(struct clsm_seat *seat, uint64_t seen) {
@@ -43,14 +32,95 @@ static void open_view_of(struct clsm_seat *seat, struct clsm_seat *caller) {
     caller->time = seat->time;
 }
 
-static void close_view(struct clsm_seat *seat, enum clsm_use use) {
+static void close_view(struct clsm_seat *seat) {
     clsm_core_time answer;
-    if (clsm_begin_close(seat, use)) return;
     clsm_core_close_snapshot(&seat->core, &ANY, &answer);
     const uint64_t view = atomic_exchange(&seat->view, 0);
     clsm_tell_closed(seat->store, view);
+}
+
+static void close_handle(struct clsm_seat *seat, enum clsm_use use) {
+    if (clsm_begin_close(seat, use)) return;
+    close_view(seat);
     clsm_seat_give_home(seat);
 }
+
+/* ---- Long reads, in parts
+ *
+ * A read of the core holds its pin throughout, and a merge that is done waits for that. So a long
+ * one is made of short ones, all below one snapshot. */
+
+static int read_part(struct clsm_seat *seat, uint64_t first, uint64_t last, clsm_row *rows,
+                     size_t room, clsm_core_paged *answer) {
+    const clsm_core_range ask = {first, last};
+    return (int)clsm_core_page(&seat->core, &ask, (clsm_core_row *)(void *)rows, room, answer);
+}
+
+/* Reads a page at the snapshot of the seat: OK, MEMORY. */
+static int read_parts(struct clsm_seat *seat, uint64_t first, uint64_t last, clsm_row *rows,
+                      size_t room, clsm_core_paged *answer) {
+    uint64_t count = 0;
+    for (;;) {
+        const size_t left = room - (size_t)count;
+        const size_t part = left < CLSM_PART_ROWS ? left : CLSM_PART_ROWS;
+        int code = read_part(seat, first, last, rows + count, part, answer);
+        if (code != CLSM_OK) return code;
+        count += answer->rows;
+        first = answer->next;
+        answer->rows = count;
+        if (!answer->more || count == room) return CLSM_OK;
+    }
+}
+
+/* Reads a page at the snapshot of the seat, or, if it has none, at one of its own. */
+static int read_long(struct clsm_seat *seat, uint64_t first, uint64_t last, clsm_row *rows,
+                     size_t room, clsm_core_paged *answer) {
+    const bool has_view = atomic_load(&seat->view) > 0;
+    const uint64_t time = seat->time;
+    if (!has_view) open_view(seat, seat->seen);
+    int code = read_parts(seat, first, last, rows, room, answer);
+    if (!has_view) close_view(seat);
+    if (code != CLSM_OK) seat->time = time;
+    return code;
+}
+
+int clsm_read_page(struct clsm_seat *seat, uint64_t first, uint64_t last, clsm_row *rows,
+                   size_t room, clsm_core_paged *answer, clsm_page_end *end) {
+    clsm_row none = {.key = 0};
+    if (!end || (!rows && room > 0)) return CLSM_BAD_POINTER;
+    int code = room > CLSM_PART_ROWS
+                   ? read_long(seat, first, last, rows, room, answer)
+                   : read_part(seat, first, last, rows ? rows : &none, room, answer);
+    if (code == CLSM_OK) *end = (clsm_page_end){answer->rows, answer->next, answer->more};
+    return code;
+}
+
+/* Counts at the snapshot of the seat, in parts. If there is no memory for them, in one. */
+static uint64_t count_parts(struct clsm_seat *seat, uint64_t first, uint64_t last) {
+    clsm_row rows[CLSM_COUNT_ROWS];
+    clsm_core_paged answer = {.more = true};
+    uint64_t keys = 0;
+    for (; answer.more; first = answer.next) {
+        if (read_part(seat, first, last, rows, CLSM_COUNT_ROWS, &answer) != CLSM_OK) {
+            const clsm_core_range rest = {first, last};
+            clsm_core_counted counted;
+            clsm_core_count(&seat->core, &rest, &counted);
+            return keys + counted.keys;
+        }
+        keys += answer.rows;
+    }
+    return keys;
+}
+
+uint64_t clsm_count_keys(struct clsm_seat *seat, uint64_t first, uint64_t last) {
+    const bool has_view = atomic_load(&seat->view) > 0;
+    if (!has_view) open_view(seat, seat->seen);
+    const uint64_t keys = count_parts(seat, first, last);
+    if (!has_view) close_view(seat);
+    return keys;
+}
+
+/* ---- Which snapshots are open */
 
 /* The view of a seat, once it is not just opening. */
 static uint64_t view_of(struct clsm_seat *seat) {
@@ -108,7 +178,7 @@ int clsm_store_snapshot(clsm_store *store, clsm_snapshot **snapshot) {
 }
 
 void clsm_snapshot_close(clsm_snapshot *snapshot) {
-    close_view((struct clsm_seat *)snapshot, CLSM_AS_SNAPSHOT);
+    close_handle((struct clsm_seat *)snapshot, CLSM_AS_SNAPSHOT);
 }
 
 uint64_t clsm_snapshot_time(const clsm_snapshot *snapshot) {
@@ -132,14 +202,11 @@ int clsm_snapshot_get(clsm_snapshot *snapshot, uint64_t key, clsm_value *value) 
 
 int clsm_snapshot_count(clsm_snapshot *snapshot, uint64_t first, uint64_t last, uint64_t *keys) {
     struct clsm_seat *seat = (struct clsm_seat *)snapshot;
-    const clsm_core_range ask = {first, last};
-    clsm_core_counted answer;
     int code = clsm_begin(seat, CLSM_AS_SNAPSHOT);
     if (code) return code;
     if (!keys) return clsm_end(seat, CLSM_BAD_POINTER);
-    code = (int)clsm_core_count(&seat->core, &ask, &answer);
-    *keys = answer.keys;
-    return clsm_end(seat, code);
+    *keys = clsm_count_keys(seat, first, last);
+    return clsm_end(seat, CLSM_OK);
 }
 
 int clsm_snapshot_page(clsm_snapshot *snapshot, uint64_t first, uint64_t last, clsm_row *rows,
@@ -183,7 +250,7 @@ int clsm_scan_open(clsm_caller *caller, uint64_t first, uint64_t last, clsm_scan
     return clsm_end(home, CLSM_OK);
 }
 
-void clsm_scan_close(clsm_scan *scan) { close_view((struct clsm_seat *)scan, CLSM_AS_SCAN); }
+void clsm_scan_close(clsm_scan *scan) { close_handle((struct clsm_seat *)scan, CLSM_AS_SCAN); }
 
 /* Reads the next rows of the scan: OK; DONE if there is none; MEMORY. */
 static int read_on(struct clsm_seat *seat, struct clsm_place *place) {

@@ -34,9 +34,11 @@ static uint64_t count_of(clsm_caller *caller) {
 
 /* Puts new keys from this one on until that is refused; answers the first key that was not put. */
 static uint64_t fill(clsm_caller *caller, uint64_t key) {
+    uint64_t time = clsm_time(caller);
     int code;
-    while ((code = clsm_put(caller, key, &WORD, 1)) == CLSM_OK) key++;
+    for (; (code = clsm_put(caller, key, &WORD, 1)) == CLSM_OK; key++) time = clsm_time(caller);
     ANSWERS(CLSM_RUN_FULL, code);
+    CHECK(clsm_time(caller) == time);
     return key;
 }
 

@@ -83,11 +83,19 @@ static clsm_store *opened(const clsm_options *options) {
     return store;
 }
 
+/* A count that is refused memory does without. */
+static uint64_t counted(clsm_caller *caller, uint64_t first) {
+    const long before = atomic_load(&requests), refused = atomic_load(&refused_one);
+    uint64_t count;
+    OK(clsm_count(caller, first, UINT64_MAX, &count));
+    if (before < refused && refused <= atomic_load(&requests)) memories++;
+    return count;
+}
+
 static void read_pages(clsm_caller *caller, uint64_t keys) {
     clsm_row rows[100];
     clsm_page_end end;
     clsm_snapshot *snapshot;
-    uint64_t count;
     rows[0].key = 77;
     int code = clsm_page(caller, 0, UINT64_MAX, rows, 100, &end);
     if (is_again(code)) {
@@ -96,12 +104,29 @@ static void read_pages(clsm_caller *caller, uint64_t keys) {
     }
     ANSWERS(CLSM_OK, code);
     CHECK(end.rows == 100 && end.more && end.next == 100);
-    OK(clsm_count(caller, 0, UINT64_MAX, &count));
-    CHECK(count == keys);
+    CHECK(counted(caller, 0) == keys);
     OK(clsm_snapshot_open(caller, &snapshot));
     AGAIN(CLSM_OK, clsm_snapshot_page(snapshot, 50, UINT64_MAX, rows, 100, &end));
     CHECK(end.rows == 100 && end.more && end.next == 150);
     clsm_snapshot_close(snapshot);
+}
+
+/* Pages that are read in parts, each of which takes memory. */
+static void read_long_pages(clsm_caller *caller, uint64_t keys) {
+    static clsm_row rows[1000];
+    clsm_page_end end = {.rows = 77};
+    const uint64_t none = 0;
+    OK(clsm_put(caller, none, &none, 1));
+    const uint64_t time = clsm_time(caller);
+    int code = clsm_page(caller, 0, UINT64_MAX, rows, 1000, &end);
+    if (is_again(code)) {
+        CHECK(end.rows == 77 && clsm_time(caller) == time);
+        code = clsm_page(caller, 0, UINT64_MAX, rows, 1000, &end);
+    }
+    ANSWERS(CLSM_OK, code);
+    CHECK(end.rows == keys && !end.more);
+    for (uint64_t key = 0; key < keys; key++)
+        CHECK(rows[key].key == key && rows[key].value.words[0] == key);
 }
 
 static void read_scan(clsm_caller *caller, uint64_t keys) {
@@ -125,25 +150,22 @@ static void read_scan(clsm_caller *caller, uint64_t keys) {
 static void write_batches(clsm_caller *caller, uint64_t first) {
     enum { ROWS = 12 };
     clsm_row rows[ROWS];
-    uint64_t count;
     for (uint64_t i = 0; i < ROWS; i++) rows[i] = (clsm_row){first + i, {1, {i}}};
     int code = clsm_batch(caller, rows, ROWS);
     if (is_again(code)) {
-        OK(clsm_count(caller, first, UINT64_MAX, &count));
-        CHECK(count == 0);
+        CHECK(counted(caller, first) == 0);
         code = clsm_batch(caller, rows, ROWS);
     }
     ANSWERS(CLSM_OK, code);
-    OK(clsm_count(caller, first, UINT64_MAX, &count));
-    CHECK(count == ROWS);
+    CHECK(counted(caller, first) == ROWS);
     AGAIN(CLSM_OK, clsm_batch(caller, rows, ROWS));
     for (uint64_t i = 0; i < ROWS; i++) rows[i].value.length = 0;
     AGAIN(CLSM_OK, clsm_batch(caller, rows, ROWS));
 }
 
 static void use_all_calls(int merge) {
-    enum { KEYS = 160 };
-    clsm_store *store = opened(&(clsm_options){.keys = 200, .epoch = 16, .merge = merge});
+    enum { KEYS = 600 };
+    clsm_store *store = opened(&(clsm_options){.keys = 640, .epoch = 16, .merge = merge});
     clsm_caller *caller;
     OK(clsm_caller_open(store, &caller));
     for (uint64_t key = 0; key < KEYS; key++) OK(clsm_put(caller, key, &key, 1));
@@ -152,6 +174,7 @@ static void use_all_calls(int merge) {
     int code = clsm_sweep(store);
     CHECK(code == CLSM_OK || code == CLSM_IDLE);
     read_pages(caller, KEYS);
+    read_long_pages(caller, KEYS);
     read_scan(caller, KEYS);
     read_scan(caller, KEYS);
     clsm_caller_close(caller);

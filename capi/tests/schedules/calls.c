@@ -15,8 +15,9 @@ static struct write {
 } writes[TIMES];
 
 static struct read { uint64_t time, key, value; } reads[TIMES];
+static struct count { uint64_t time, keys; } counts[TIMES];
 
-static size_t reads_made;
+static size_t reads_made, counts_made;
 static uint64_t values, clock_seen, refused[CODES];
 
 static char told[100];
@@ -62,13 +63,26 @@ static void check_read(const struct read *read) {
     expect(value == read->value, "a read has what was written below its time");
 }
 
-static void check_map(void) {
-    uint64_t newest[KEYS] = {0}, keys = 0;
-    clsm_row rows[KEYS];
-    clsm_page_end end;
-    for (size_t time = 0; time < TIMES; time++)
+/* What the keys have at this time, and how many have a value. */
+static uint64_t map_at(uint64_t end, uint64_t newest[KEYS]) {
+    uint64_t keys = 0;
+    memset(newest, 0, KEYS * sizeof *newest);
+    for (uint64_t time = 0; time < end; time++)
         if (writes[time].is_made) newest[writes[time].key] = writes[time].value;
     for (size_t key = 0; key < KEYS; key++) keys += newest[key] != 0;
+    return keys;
+}
+
+static void check_count(const struct count *count) {
+    uint64_t newest[KEYS];
+    expect(map_at(count->time, newest) == count->keys, "a count has the keys of its time");
+}
+
+static void check_map(void) {
+    uint64_t newest[KEYS];
+    const uint64_t keys = map_at(TIMES, newest);
+    clsm_row rows[KEYS];
+    clsm_page_end end;
     expect_code(clsm_page(callers[0], 0, KEYS, rows, KEYS, &end), 0, "page");
     expect(end.rows == keys, "the map has as many keys as were written");
     for (size_t i = 0; i < keys; i++)
@@ -140,9 +154,27 @@ void get(unsigned who, uint64_t key) {
 }
 
 uint64_t count_keys(unsigned who) {
+    const uint64_t seen = seen_by(who);
     uint64_t keys;
     expect_code(clsm_count(callers[who], 0, UINT64_MAX, &keys), 0, "count");
+    check_time(who, seen, 0);
+    expect(counts_made < TIMES, "there is room for notes");
+    counts[counts_made++] = (struct count){clsm_time(callers[who]), keys};
     return keys;
+}
+
+void page(unsigned who) {
+    const uint64_t seen = seen_by(who);
+    uint64_t at = 0;
+    clsm_row rows[KEYS];
+    clsm_page_end end;
+    expect_code(clsm_page(callers[who], 0, KEYS, rows, KEYS, &end), 0, "page");
+    check_time(who, seen, 0);
+    for (uint64_t key = 0; key < KEYS; key++) {
+        const bool has_value = at < end.rows && rows[at].key == key;
+        note_read(clsm_time(callers[who]), key, has_value ? rows[at++].value.words[0] : 0);
+    }
+    expect(at == end.rows && !end.more, "a page has each key once, in order");
 }
 
 /* ---- Others */
@@ -200,6 +232,7 @@ void open_store(const clsm_options *options, unsigned count) {
     memset(refused, 0, sizeof refused);
     memset(callers, 0, sizeof callers);
     reads_made = 0;
+    counts_made = 0;
     values = 0;
     clock_seen = 0;
     expect_code(clsm_open(options, &the_store), 0, "open");
@@ -230,6 +263,7 @@ void close_store(void) {
     if (!callers[0]) callers[0] = open_caller(0);
     check_map();
     for (size_t i = 0; i < reads_made; i++) check_read(&reads[i]);
+    for (size_t i = 0; i < counts_made; i++) check_count(&counts[i]);
     check_refusals();
     for (unsigned i = 0; i < CLSM_SEATS; i++) clsm_caller_close(callers[i]);
     expect_code(clsm_close(the_store), 0, "close");

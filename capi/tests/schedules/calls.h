@@ -33,6 +33,8 @@ int batch(unsigned who, uint64_t first, size_t count, uint64_t codes);
 int add(unsigned who, uint64_t key, uint64_t codes);
 void get(unsigned who, uint64_t key);
 uint64_t count_keys(unsigned who);
+/* Reads all rows at once. */
+void page(unsigned who);
 
 /* Null where that is refused. */
 clsm_caller *open_caller(uint64_t codes);

@@ -43,6 +43,7 @@ static void try_put_twice(uint64_t who) {
 }
 
 static void batch_of_two(uint64_t who) { batch((unsigned)who, 4, 2, 0); }
+static void batch_of_old(uint64_t who) { batch((unsigned)who, 1, 3, 0); }
 static void batch_of_all(uint64_t who) { batch((unsigned)who, 4, EPOCH, 0); }
 static void sweep_once(uint64_t codes) { sweep(codes); }
 
@@ -255,6 +256,10 @@ static void scan_once(uint64_t who) {
     clsm_scan_close(scan);
     get((unsigned)who, 1);
 }
+
+/* Reads in parts. */
+static void count_all(uint64_t who) { count_keys((unsigned)who); }
+static void page_all(uint64_t who) { page((unsigned)who); }
 
 static void look_once(uint64_t with) {
     (void)with;
@@ -488,6 +493,12 @@ static const struct scenario {
              BY(use_caller, 1), BY(use_snapshots, 2)),
     SCENARIO(looks, BOTH, FEWER, 2, fill_epoch, AS_IT_IS, NULL, BY(look_twice, 0), BY(scan_once, 0),
              BY(put_once, 1)),
+    SCENARIO(counts, BOTH, USUAL, 2, fill_epoch, AS_IT_IS, NULL, BY(count_all, 0),
+             BY(batch_of_two, 1)),
+    SCENARIO(counts_and_puts, BOTH, FEWER, 3, fill_half, AS_IT_IS, NULL, BY(count_all, 0),
+             BY(put_thrice, 1), BY(put_twice, 2)),
+    SCENARIO(pages, BOTH, USUAL, 2, fill_epoch, AS_IT_IS, NULL, BY(page_all, 0),
+             BY(batch_of_old, 1)),
     SCENARIO(two_look, BOTH, FEWER, 2, fill_epoch, AS_IT_IS, NULL, BY(look_once, 0),
              BY(look_once, 0), BY(put_once, 1)),
     SCENARIO(followed, BOTH, USUAL, 2, run_back, AS_IT_IS, NULL, BY(put_and_send, 0),
