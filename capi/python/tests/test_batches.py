@@ -7,7 +7,7 @@ from functools import partial
 from typing import Any, List, Tuple
 from unittest import mock
 
-from cupolanettle import Closed, Code, Error, RunFull, Store, Value
+from cupolanettle import Closed, Code, Error, OwnSnapshot, Store, Value
 from cupolanettle import _library as library
 
 from .support import in_child, in_threads
@@ -107,7 +107,7 @@ class Writing(unittest.TestCase):
 
     def test_no_room(self) -> None:
         with Store(keys=2, epoch=4) as store:
-            with self.assertRaises(RunFull), store.snapshot():
+            with self.assertRaises(OwnSnapshot), store.snapshot():
                 for word in range(1_000):
                     with store.batch() as batch:
                         batch[1] = batch[2] = word

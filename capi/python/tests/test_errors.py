@@ -2,20 +2,23 @@
 
 from __future__ import annotations
 
+import math
 import os
 import pickle
 import platform
 import resource
+import threading
 import unittest
 from functools import partial
 from typing import Any, Callable, Dict, List
 from unittest import mock
 
-from cupolanettle import Closed, Code, Error, NoSeat, RunFull, Store
+from cupolanettle import Closed, Code, Error, NoSeat, OwnSnapshot, RunFull, Store, VersionsFull
 from cupolanettle import _library as library
 
 from .support import in_process, in_threads
 
+LEAST_VERSIONS = 6 * 4 + 64  # of an epoch of 4
 STACK_LIMIT = resource.getrlimit(resource.RLIMIT_STACK)[1]
 
 
@@ -28,7 +31,9 @@ class Errors(unittest.TestCase):
         self.assertEqual(str(Error(1_000)), "unknown code")
 
     def test_they_are_pickled(self) -> None:
-        for error in Error(Code.MEMORY), RunFull(Code.RUN_FULL), NoSeat(Code.NO_SEAT), Closed():
+        errors = [Error(Code.MEMORY), RunFull(Code.RUN_FULL), NoSeat(Code.NO_SEAT), Closed()]
+        errors += [VersionsFull(Code.VERSIONS_FULL), OwnSnapshot(Code.OWN_SNAPSHOT)]
+        for error in errors:
             copied = pickle.loads(pickle.dumps(error))
             self.assertIs(type(copied), type(error))
             self.assertEqual((copied.code, str(copied)), (error.code, str(error)))
@@ -36,24 +41,29 @@ class Errors(unittest.TestCase):
 
 class Options(unittest.TestCase):
     def test_out_of_range(self) -> None:
-        refused: Dict[str, List[int]] = {
-            "keys": [-1, 0, 4_194_304 - 4 * 4_096 + 1, 2**31, 2**32 + 1, 2**64, 2**64 + 1],
+        refused: Dict[str, List[float]] = {
+            "keys": [-1, 0, 4_194_304 - 6 * 4 - 64 + 1, 2**31, 2**32 + 1, 2**64, 2**64 + 1],
             "epoch": [-1, 0, 1, 3, 65_537, 2**31, 2**32 + 4, 2**64 + 4],
             "patience": [-2, -1, 65, 2**31, 2**32 + 1, 2**64 + 1],
+            "versions": [-1, 0, 1, 4_194_304, 2**31, 2**64 + 10_000],
+            "wait": [-1, -0.001, math.inf, -math.inf, math.nan],
         }
         for name, values in refused.items():
             for value in values:
                 options: Any = {name: value}
                 with self.subTest(options=options):
                     self.assertRaisesRegex(ValueError, f"^{name} is out", Store, **options)
-        self.assertRaises(ValueError, Store, keys=4_194_304 - 4 * 4 + 1, epoch=4)
+        self.assertRaises(ValueError, Store, keys=4_194_304 - LEAST_VERSIONS + 1, epoch=4)
+        self.assertRaises(ValueError, Store, keys=1, epoch=4, versions=LEAST_VERSIONS - 1)
 
     def test_of_other_types(self) -> None:
-        for name in "keys", "epoch", "patience":
-            for value in None, 16.0, "16":
-                options: Any = {name: value}
-                with self.subTest(options=options), self.assertRaises(TypeError):
-                    Store(**options)
+        wrong: List[Any] = [(name, 16.0) for name in ("keys", "epoch", "versions", "patience")]
+        wrong += [(name, "16") for name in ("keys", "epoch", "versions", "wait", "patience")]
+        wrong += [("keys", None), ("patience", None)]
+        for name, value in wrong:
+            options: Any = {name: value}
+            with self.subTest(options=options), self.assertRaises(TypeError):
+                Store(**options)
 
     def test_in_range(self) -> None:
         options: List[Any] = [
@@ -61,6 +71,9 @@ class Options(unittest.TestCase):
             {"keys": 1, "epoch": 4, "patience": 0},
             {"keys": 1, "epoch": 65_536, "patience": 64},
             {"keys": 100, "epoch": 5, "patience": 1, "merge_in_calls": True},
+            {"epoch": None, "versions": None, "wait": None},
+            {"keys": 1, "epoch": 4, "versions": LEAST_VERSIONS, "wait": 0},
+            {"versions": 200_000, "wait": 1e300},
         ]
         for chosen in options:
             with self.subTest(options=chosen), Store(**chosen) as store:
@@ -77,14 +90,21 @@ class Options(unittest.TestCase):
         with mock.patch.object(library, "store_open", refuse):
             self.assertRaises(Error, Store)
             self.assertRaises(Error, Store, keys=7, epoch=5, patience=0, merge_in_calls=True)
-            self.assertRaises(Error, Store, patience=16)
+            self.assertRaises(Error, Store, versions=1_000, wait=0)
+            self.assertRaises(Error, Store, patience=16, wait=0.0301)
+            self.assertRaises(Error, Store, wait=None)
+            self.assertRaises(Error, Store, wait=1e300)
         found = [[value.keys, value.epoch, value.patience, value.merge] for value in told]
-        given = [[100_000, 4_096, 64, 0], [7, 5, -1, 1], [100_000, 4_096, 16, 0]]
+        default = [100_000, 0, 64, 0]
+        given = [default, [7, 5, -1, 1], default, [100_000, 0, 16, 0], default, default]
         self.assertEqual(found, given)
-        self.assertEqual([list(value.zero) for value in told], [[0] * 4] * 3)
+        self.assertEqual([value.versions for value in told], [0, 0, 1_000, 0, 0, 0])
+        waits = [1_000, 1_000, -1, 31, 2**63 - 1, 2**63 - 1]
+        self.assertEqual([value.wait for value in told], waits)
+        self.assertEqual([list(value.zero) for value in told], [[0] * 2] * 6)
 
     def test_the_greatest(self) -> None:
-        with Store(keys=4_194_304 - 4 * 4, epoch=4) as store:
+        with Store(keys=4_194_304 - LEAST_VERSIONS, epoch=4) as store:
             store[7] = 70
             self.assertEqual(store[7], 70)
 
@@ -107,13 +127,14 @@ class Room(unittest.TestCase):
         """Overwrites one key under a snapshot, until the store is full of versions."""
         written = 0
         with store.snapshot() as snapshot:
-            with self.assertRaises(RunFull) as caught:
+            with self.assertRaises(OwnSnapshot) as caught:
                 while written < 1_000:
                     store[7] = written
                     written += 1
-            self.assertEqual(caught.exception.code, Code.RUN_FULL)
+            self.assertEqual(caught.exception.code, Code.OWN_SNAPSHOT)
             for change in changes_of(store, written - 1):
-                self.assertRaises(RunFull, change)
+                self.assertRaises(OwnSnapshot, change)
+            in_threads([lambda: self.overwrite(store)])
             self.assertEqual(store.setdefault(7, 1), written - 1)
             self.assertFalse(store.replace(7, written, 1))
             self.assertRaises(OverflowError, store.add, 7, 2**64 - 1)
@@ -124,8 +145,15 @@ class Room(unittest.TestCase):
             store[7] = number
         self.assertEqual(store[7], 99)
 
+    def overwrite(self, store: Store) -> None:
+        """In a thread that has no snapshot itself."""
+        with self.assertRaises(VersionsFull) as caught:
+            store[7] = 1
+        self.assertIs(type(caught.exception), VersionsFull)
+        self.assertEqual(caught.exception.code, Code.VERSIONS_FULL)
+
     def test_beside_a_merger(self) -> None:
-        with Store(keys=1, epoch=4) as store:
+        with Store(keys=1, epoch=4, wait=0) as store:
             self.fill(store)
             self.fill_again(store)
 
@@ -134,19 +162,49 @@ class Room(unittest.TestCase):
         self.fill(store)
 
     def test_merging_in_calls(self) -> None:
-        with Store(keys=1, epoch=4, merge_in_calls=True) as store:
+        with Store(keys=1, epoch=4, wait=0.001, merge_in_calls=True) as store:
             self.fill(store)
             self.fill_again(store)
 
+    def test_a_write_waits_for_a_snapshot(self) -> None:
+        with Store(keys=1, epoch=4, wait=None) as store:
+            snapshot = store.snapshot()
+
+            def write() -> None:
+                for number in range(1_000):
+                    store[7] = number
+                    if number == 3:
+                        began.set()
+
+            def close() -> None:
+                began.wait()
+                snapshot.close()
+
+            began = threading.Event()
+            in_threads([write, close])
+            self.assertEqual(store[7], 999)
+
     def test_more_keys_than_it_was_opened_for(self) -> None:
-        with Store(keys=8, epoch=4) as store:
-            keys = 0
-            with self.assertRaises(RunFull):
-                while keys < 1_000:
-                    store[keys] = keys
-                    keys += 1
-            self.assertGreaterEqual(keys, 8)
-            self.assertEqual(list(store.scan()), [(key, key) for key in range(keys)])
+        for merge_in_calls in False, True:
+            with Store(keys=8, epoch=4, merge_in_calls=merge_in_calls) as store:
+                keys = self.fill_with_keys(store)
+                self.assertGreaterEqual(keys, 8)
+                self.assertEqual(list(store.scan()), [(key, key) for key in range(keys)])
+                for key in range(keys):
+                    store[key] = key + 1
+                    store.remove(key)
+                self.assertEqual(store.count(), 0)
+                self.assertGreaterEqual(self.fill_with_keys(store), 8)
+
+    def fill_with_keys(self, store: Store) -> int:
+        """How many keys it takes."""
+        keys = 0
+        with self.assertRaises(RunFull) as caught:
+            while keys < 1_000:
+                store[keys] = keys
+                keys += 1
+        self.assertEqual(caught.exception.code, Code.RUN_FULL)
+        return keys
 
 
 class Seats(unittest.TestCase):
@@ -220,7 +278,13 @@ class AsIfRefused(unittest.TestCase):
         self.snapshot = self.store.snapshot()
 
     def assert_refused(self, call: Callable[[], object], code: Code) -> None:
-        kinds = {Code.RUN_FULL: RunFull, Code.NO_SEAT: NoSeat, Code.BAD_POINTER: Closed}
+        kinds = {
+            Code.RUN_FULL: RunFull,
+            Code.VERSIONS_FULL: VersionsFull,
+            Code.OWN_SNAPSHOT: OwnSnapshot,
+            Code.NO_SEAT: NoSeat,
+            Code.BAD_POINTER: Closed,
+        }
         with self.subTest(code=code), self.assertRaises(Error) as caught:
             call()
         self.assertIs(type(caught.exception), kinds.get(code, Error))
@@ -282,6 +346,7 @@ class AsIfRefused(unittest.TestCase):
 
     def test_opening(self) -> None:
         options = {Code.BAD_KEYS, Code.BAD_EPOCH, Code.BAD_PATIENCE}
+        options |= {Code.BAD_VERSIONS, Code.BAD_WAIT}
         for code in self.codes():
             with mock.patch.object(library, "store_open", partial(answer_code, code)):
                 if code in options:

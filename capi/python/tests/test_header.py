@@ -30,8 +30,12 @@ UNUSED_CALLS = {
     "clsm_snapshot_close_at",
     "clsm_snapshot_number",
     "clsm_store_snapshot",
+    "clsm_stats",
     "clsm_sweep",
     "clsm_time",
+    "clsm_walk_close",
+    "clsm_walk_next",
+    "clsm_walk_open",
 }
 STRUCTURES: Dict[str, Any] = {
     "clsm_value": library.Value,
@@ -39,14 +43,16 @@ STRUCTURES: Dict[str, Any] = {
     "clsm_changed": library.Changed,
     "clsm_page_end": library.PageEnd,
     "clsm_options": library.Options,
+    "clsm_statistics": library.Statistics,
 }
 # What ctypes.PyDLL marks its calls with.
 PYTHON_CALL: int = ctypes.PyDLL._func_flags_ & ~ctypes.CDLL._func_flags_
 
-HANDLES = {"clsm_store", "clsm_caller", "clsm_snapshot", "clsm_scan"}
+HANDLES = {"clsm_store", "clsm_caller", "clsm_snapshot", "clsm_scan", "clsm_walk"}
 TYPES: Dict[str, Any] = {
     "bool": ctypes.c_bool,
     "int": ctypes.c_int,
+    "int64_t": ctypes.c_int64,
     "size_t": ctypes.c_size_t,
     "uint64_t": ctypes.c_uint64,
     "unsigned": ctypes.c_uint,

@@ -8,7 +8,7 @@ import unittest
 from functools import partial
 from typing import Callable, Iterable, List, Tuple
 
-from cupolanettle import NoSeat, RunFull, Snapshot, Store, Value
+from cupolanettle import NoSeat, Snapshot, Store, Value, VersionsFull
 
 from .support import in_threads
 
@@ -121,7 +121,7 @@ class BesideSnapshots(unittest.TestCase):
             try:
                 self.store[key] = count
                 return
-            except RunFull:  # as long as a slow reader's snapshot is open
+            except VersionsFull:  # as long as a slow reader's snapshot is open
                 time.sleep(0)
 
     def read_beside_writer(self, reads: List[Callable[[], None]]) -> None:

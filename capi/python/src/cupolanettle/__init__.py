@@ -23,7 +23,7 @@ sources, or is installed in the system.
 """
 
 from ._batch import Batch
-from ._errors import Closed, Code, Error, NoSeat, RunFull
+from ._errors import Closed, Code, Error, NoSeat, OwnSnapshot, RunFull, VersionsFull
 from ._library import VERSION as __version__
 from ._snapshot import Snapshot
 from ._store import Store
@@ -35,14 +35,17 @@ __all__ = [
     "Code",
     "Error",
     "NoSeat",
+    "OwnSnapshot",
     "RunFull",
     "Snapshot",
     "Store",
     "Value",
+    "VersionsFull",
     "__version__",
 ]
 
 # Users see these names, and not the files that they are written in.
-for _public in (Batch, Closed, Code, Error, NoSeat, RunFull, Snapshot, Store):
-    _public.__module__ = __name__
-del _public
+for _name in __all__:
+    if isinstance(globals()[_name], type):
+        globals()[_name].__module__ = __name__
+del _name

@@ -32,6 +32,8 @@ class Code(enum.IntEnum):
     IN_USE = 20
     NO_THREAD = 21
     CLOSED = 22
+    VERSIONS_FULL = 25
+    OWN_SNAPSHOT = 26
     BAD_KEYS = 32
     BAD_EPOCH = 33
     BAD_PATIENCE = 34
@@ -41,23 +43,24 @@ class Code(enum.IntEnum):
     BAD_BUILD = 38
     BAD_MERGE = 41
     EMPTY_BATCH = 42
+    BAD_VERSIONS = 43
+    BAD_WAIT = 44
 
 
 # Plain numbers, for calls that compare them each time.
 OK = int(Code.OK)
 NOT_FOUND = int(Code.NOT_FOUND)
 KEPT = int(Code.KEPT)
-_FIRST_AGAIN = int(Code.FULL)
-_FIRST_REFUSED = int(Code.MEMORY)
 
 
 class Error(Exception):
     """The library refused a call, which has changed nothing.
 
-    ``code`` says why; the text is its name. Three codes have classes of their own:
-    :class:`RunFull`, :class:`NoSeat` and :class:`Closed`. The others are ``MEMORY`` (memory ran
-    out), ``WORN`` (the times of writes end at 2**62), ``NO_THREAD`` (the system started no thread)
-    and ``BAD_BUILD`` (package and library do not fit).
+    ``code`` says why; the text is its name. Some codes have classes of their own:
+    :class:`RunFull`, :class:`VersionsFull`, :class:`OwnSnapshot`, :class:`NoSeat` and
+    :class:`Closed`. The others are ``MEMORY`` (memory ran out), ``WORN`` (the times of writes end
+    at 2**62), ``NO_THREAD`` (the system started no thread) and ``BAD_BUILD`` (package and library
+    do not fit).
 
     >>> error = Error(Code.MEMORY)
     >>> error.code, str(error)
@@ -75,17 +78,48 @@ class Error(Exception):
 
 
 class RunFull(Error):
-    """The store has more keys, and versions for open snapshots, than it was opened for.
+    """More keys have a value than the store was opened for.
 
-    Only writes raise it. Close snapshots and scans, and write again. If none is open, there are
-    more keys than ``Store(keys=..)`` said, and the store takes no write any more, removals among
-    them: remove keys before, or copy the rows of a scan to a larger store.
+    Only writes of keys that have none raise it: writes of the others, and removals, are taken. Once
+    keys were removed, the same write is taken, too.
+
+    >>> with Store(keys=1, epoch=4) as store:
+    ...     for key in range(100):
+    ...         store[key] = 70
+    Traceback (most recent call last):
+    cupolanettle.RunFull: too many keys
+    """
+
+
+class VersionsFull(Error):
+    """An open snapshot or scan keeps more old versions than the store has room for.
+
+    Only writes raise it, once they have waited for that to be closed, for as long as ``wait`` of
+    the store says. While no snapshot is open, a write always finds room.
+
+    >>> with Store(keys=1, epoch=4, wait=0) as store:
+    ...     try:
+    ...         with store.snapshot():
+    ...             while True:
+    ...                 store[7] = 70
+    ...     except VersionsFull:
+    ...         store[7] = 71
+    ...     store[7]
+    71
+    """
+
+
+class OwnSnapshot(VersionsFull):
+    """The same, and the thread that writes has such a snapshot or scan open itself.
+
+    The write did not wait: it would wait for its own thread. So a loop that writes what it scans
+    may raise it; :meth:`Store.walk` keeps no versions.
 
     >>> with Store(keys=1, epoch=4) as store, store.snapshot():
     ...     while True:
     ...         store[7] = 70
     Traceback (most recent call last):
-    cupolanettle.RunFull: run full
+    cupolanettle.OwnSnapshot: too many versions for the caller's own snapshot
     """
 
 
@@ -126,6 +160,8 @@ class Closed(Error):
 # A closed handle is a null pointer.
 _CLASSES: Dict[int, Type[Error]] = {
     Code.RUN_FULL: RunFull,
+    Code.VERSIONS_FULL: VersionsFull,
+    Code.OWN_SNAPSHOT: OwnSnapshot,
     Code.NO_SEAT: NoSeat,
     Code.BAD_POINTER: Closed,
 }
@@ -134,8 +170,3 @@ _CLASSES: Dict[int, Type[Error]] = {
 def error_of(code: int) -> Error:
     """The exception for a code of 8 or more."""
     return _CLASSES.get(code, Error)(code)
-
-
-def is_again(code: int) -> bool:
-    """Whether the call may succeed if it is made again."""
-    return _FIRST_AGAIN <= code < _FIRST_REFUSED

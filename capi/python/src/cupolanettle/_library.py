@@ -9,7 +9,7 @@ from __future__ import annotations
 import ctypes
 import ctypes.util
 import os
-from ctypes import POINTER, c_bool, c_char_p, c_int, c_size_t, c_uint64, c_void_p
+from ctypes import POINTER, c_bool, c_char_p, c_int, c_int64, c_size_t, c_uint64, c_void_p
 from pathlib import Path
 from typing import Any, Callable, Dict, NamedTuple, Optional, Sequence, Tuple
 
@@ -64,7 +64,36 @@ class Options(ctypes.Structure):
         ("epoch", c_size_t),
         ("patience", c_int),
         ("merge", c_int),
-        ("zero", c_uint64 * 4),
+        ("versions", c_size_t),
+        ("wait", c_int64),
+        ("zero", c_uint64 * 2),
+    ]
+
+
+class Statistics(ctypes.Structure):
+    """What a store tells of itself."""
+
+    _fields_ = [
+        ("bytes", c_uint64),
+        ("callers", c_uint64),
+        ("snapshots", c_uint64),
+        ("scans", c_uint64),
+        ("oldest_time", c_uint64),
+        ("oldest_age", c_uint64),
+        ("clock", c_uint64),
+        ("epoch_writes", c_uint64),
+        ("level_zero", c_uint64),
+        ("level_one", c_uint64),
+        ("room_for_keys", c_uint64),
+        ("room_for_versions", c_uint64),
+        ("merges", c_uint64),
+        ("last_merge", c_uint64),
+        ("longest_merge", c_uint64),
+        ("waits", c_uint64),
+        ("longest_wait", c_uint64),
+        ("run_full", c_uint64),
+        ("versions_full", c_uint64),
+        ("no_seat", c_uint64),
     ]
 
 

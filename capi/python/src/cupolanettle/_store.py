@@ -3,6 +3,7 @@
 from __future__ import annotations
 
 import ctypes
+import math
 import operator
 import sys
 import warnings
@@ -11,7 +12,7 @@ from typing import Any, Callable, Dict, Optional, Tuple, Type, Union, overload
 
 from . import _library as library
 from ._batch import Batch
-from ._errors import KEPT, OK, Code, Error, error_of, is_again
+from ._errors import KEPT, OK, Code, Error, error_of
 from ._reading import Default, Reader
 from ._scanning import Rows
 from ._sessions import Session
@@ -36,7 +37,12 @@ _OPTIONS: Dict[int, str] = {
     Code.BAD_KEYS: "keys",
     Code.BAD_EPOCH: "epoch",
     Code.BAD_PATIENCE: "patience",
+    Code.BAD_VERSIONS: "versions",
+    Code.BAD_WAIT: "wait",
 }
+_MILLISECONDS = 1_000  # of a second
+_AT_ONCE = -1
+_FOR_EVER = 2**63 - 1
 
 
 def _option(name: str, value: int, least: int) -> int:
@@ -44,6 +50,20 @@ def _option(name: str, value: int, least: int) -> int:
     if not least <= number <= _GREATEST_OPTION:
         raise ValueError(f"{name} is out of range")
     return number
+
+
+def _option_or_zero(name: str, value: Optional[int]) -> int:
+    """The option, or 0, which leaves the choice to the library."""
+    return 0 if value is None else _option(name, value, 1)
+
+
+def _milliseconds(wait: Optional[float]) -> int:
+    """How long the library is to wait, rounded up; it takes 0 for another choice."""
+    if wait is None:
+        return _FOR_EVER
+    if not 0 <= wait < math.inf:
+        raise ValueError("wait is out of range")
+    return min(math.ceil(wait * _MILLISECONDS), _FOR_EVER) or _AT_ONCE
 
 
 def _nothing(_: Optional[Value]) -> Optional[Value]:
@@ -56,18 +76,25 @@ class Store(Reader):
 
     Keys and words are from 0 to 2**64 - 1. A value is an int, or a tuple of 2 to 8 ints.
 
-    - ``keys``: the most keys that will have a value, 1 to 4,194,304 - 4 * ``epoch``.
-    - ``epoch``: the most writes between two merges, 4 to 65,536.
+    - ``keys``: the most keys that have a value, from 1 on; 4,194,304 with the versions at most.
+    - ``epoch``: the most writes between two merges, 4 to 65,536. Unless it is given, a sixteenth of
+      the keys, but at least 4,096.
+    - ``versions``: room for old versions that open snapshots keep, from 6 * ``epoch`` + 64 on.
+      Unless it is given, as many as keys, but not over 100,000 if that is enough.
+    - ``wait``: for how many seconds a write waits for a snapshot to be closed that keeps it from
+      finding room. 0: not at all; ``None``: until then.
     - ``patience``: how often a read looks again at an unfinished write before it cancels that,
       0 to 64.
     - ``merge_in_calls``: writes merge, instead of a thread of the store.
 
-    The store takes all its memory at once, 176 bytes for each of the keys and 1,248 for each write
-    of an epoch: 22 MiB unless told otherwise. ``ValueError`` if an option is out of range;
-    :class:`Error` if memory ran out or the system started no thread.
+    The store takes all its memory at once, 176 bytes for each of the keys and versions and 544 for
+    each write of an epoch: 37 MiB unless told otherwise. ``ValueError`` if an option is out of
+    range; :class:`Error` if memory ran out or the system started no thread.
 
     Any thread may call. Reads never wait, and each reads the map of one moment. Writes wait for
-    other writes, and for a merge if the epoch is full: :class:`RunFull` if the merge found no room.
+    other writes, and for a merge if the epoch is full. :class:`RunFull` if a write would give one
+    more key a value than there may be; :class:`VersionsFull` if an open snapshot keeps too many
+    versions.
     Changes, as :meth:`add`, read a key and write it in one step: no other write of the key comes
     between. They wait as writes do.
     A thread takes one of the store's 64 seats from its first call until it ends, and each snapshot
@@ -87,13 +114,17 @@ class Store(Reader):
         self,
         *,
         keys: int = 100_000,
-        epoch: int = 4_096,
+        epoch: Optional[int] = None,
+        versions: Optional[int] = None,
+        wait: Optional[float] = 1.0,
         patience: int = 64,
         merge_in_calls: bool = False,
     ) -> None:
         options = library.Options(
             keys=_option("keys", keys, 1),
-            epoch=_option("epoch", epoch, 1),
+            epoch=_option_or_zero("epoch", epoch),
+            versions=_option_or_zero("versions", versions),
+            wait=_milliseconds(wait),
             patience=_option("patience", patience, 0) or -1,
             merge=1 if merge_in_calls else 0,
         )
@@ -111,7 +142,7 @@ class Store(Reader):
         """Writes the value at the key.
 
         ``ValueError`` if the key or a word is out of range, or the tuple has not 2 to 8 words: a
-        tuple of one would come back as an int. :class:`RunFull` if there is no room.
+        tuple of one would come back as an int. :class:`RunFull` or :class:`VersionsFull` if there is no room.
 
         >>> with Store() as store:
         ...     store[7] = 70
@@ -126,7 +157,7 @@ class Store(Reader):
     def remove(self, key: int) -> None:
         """Removes the key, whether or not it has a value.
 
-        It takes room as a write does: :class:`RunFull` if there is none.
+        It takes room as a write does: :class:`VersionsFull` if there is none.
 
         >>> with Store() as store:
         ...     store[7] = 70
@@ -141,7 +172,7 @@ class Store(Reader):
         handle = self._handle()
         with handle.lock:
             code = calls.attempt(handle.pointer, *arguments)
-            if is_again(code):
+            if code != OK:  # it may be another one if the write waits
                 code = calls.wait(handle.pointer, *arguments)
         if code != OK:
             raise error_of(code)
@@ -191,7 +222,7 @@ class Store(Reader):
     def setdefault(self, key: int, value: Value) -> Value:
         """Writes the value at the key if the key has none. The value that the key has then.
 
-        ``ValueError`` and :class:`RunFull` as for ``store[key] = value``; it takes no room if the
+        ``ValueError`` and :class:`Error` as for ``store[key] = value``; it takes no room if the
         key has a value.
 
         >>> with Store() as store:
@@ -207,7 +238,7 @@ class Store(Reader):
         """Writes the desired value at the key if the key has the expected one. Whether it had.
 
         ``None`` stands for no value: if it is expected, the key is to have none; if it is desired,
-        the key is removed. ``ValueError`` and :class:`RunFull` as for ``store[key] = value``; it
+        the key is removed. ``ValueError`` and :class:`Error` as for ``store[key] = value``; it
         takes no room if the key has another value.
 
         >>> with Store() as store:
@@ -224,7 +255,7 @@ class Store(Reader):
 
         ``None`` stands for no value: the function gets it if the key has none, and answers it to
         remove the key. It is asked again if another write came between, so it should do nothing
-        but answer. What it raises leaves the value. ``ValueError`` and :class:`RunFull` as for
+        but answer. What it raises leaves the value. ``ValueError`` and :class:`Error` as for
         ``store[key] = value``.
 
         >>> def half(old):
@@ -245,7 +276,7 @@ class Store(Reader):
         """Removes the key. The value that it had.
 
         If it had none, the default, or ``KeyError`` without one; that takes no room.
-        :class:`RunFull` if there is no room to remove it.
+        :class:`VersionsFull` if there is no room to remove it.
 
         >>> with Store() as store:
         ...     store[7] = 70
