@@ -20,6 +20,7 @@ from typing import Any, Dict, List, Optional, Tuple
 PROJECT = Path(__file__).resolve().parent
 PACKAGE = "cupolanettle"
 LIBRARY = "libclsm.so"
+SUFFIXES = (".py", ".pyi", ".typed")
 
 # The least time that a zip file can have.
 TIME = (1980, 1, 1, 0, 0, 0)
@@ -47,7 +48,7 @@ def find_license() -> Path:
 
 def package_files() -> List[File]:
     folder = PROJECT / "src" / PACKAGE
-    names = sorted(path.name for path in folder.iterdir() if path.suffix in (".py", ".typed"))
+    names = sorted(path.name for path in folder.iterdir() if path.suffix in SUFFIXES)
     files = [(f"{PACKAGE}/{name}", (folder / name).read_bytes(), 0o644) for name in names]
     return [*files, (f"{PACKAGE}/{LIBRARY}", find_library().read_bytes(), 0o755)]
 

@@ -11,10 +11,15 @@ import warnings
 from pathlib import Path
 from typing import Callable, Dict, Iterable, List
 
-from cupolanettle import _library as library
+from cupolanettle import _finding as finding
+from cupolanettle._core import BACKEND
 
 PROJECT = Path(__file__).resolve().parent.parent
 SOURCES = PROJECT / "src"
+IS_BY_CTYPES = BACKEND == "ctypes"
+LIBRARY = finding.find_library()
+MERGER = "clsm-merger"
+SNAPSHOTS = 60  # that can be open while one thread calls: the seats less four of callers
 
 
 def in_threads(jobs: Iterable[Callable[[], object]]) -> None:
@@ -40,7 +45,8 @@ def in_process(program: str, **environment: str) -> subprocess.CompletedProcess[
     """Runs a program in a Python of its own, which finds the package and the library."""
     variables: Dict[str, str] = {
         **os.environ,
-        library.VARIABLE: os.path.abspath(library.PATH),
+        finding.LIBRARY_VARIABLE: os.path.abspath(LIBRARY) if os.path.isfile(LIBRARY) else LIBRARY,
+        finding.BACKEND_VARIABLE: BACKEND,
         "PYTHONPATH": str(SOURCES),
         **environment,
     }
@@ -68,3 +74,14 @@ def in_child(job: Callable[[], bool]) -> bool:
         finally:
             os._exit(status)
     return os.waitpid(child, 0)[1] == 0
+
+
+def mergers() -> int:
+    """How many threads of stores this process has, which are as many as stores are open."""
+    names = []
+    for task in Path("/proc/self/task").iterdir():
+        try:
+            names.append((task / "comm").read_text().strip())
+        except OSError:  # it has just ended
+            continue
+    return names.count(MERGER)

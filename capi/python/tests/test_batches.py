@@ -5,10 +5,8 @@ from __future__ import annotations
 import unittest
 from functools import partial
 from typing import Any, List, Tuple
-from unittest import mock
 
-from cupolanettle import Closed, Code, Error, OwnSnapshot, Store, Value
-from cupolanettle import _library as library
+from cupolanettle import Closed, OwnSnapshot, Store, Value
 
 from .support import in_child, in_threads
 
@@ -40,10 +38,10 @@ class Writing(unittest.TestCase):
         self.assertEqual(self.rows(), wanted)
 
     def test_an_empty_one_writes_nothing(self) -> None:
-        with mock.patch.object(library, "batch", side_effect=AssertionError):
-            with self.store.batch() as batch:
-                self.assertEqual(len(batch), 0)
-            self.store.batch().write()
+        with self.store.batch() as batch:
+            self.assertEqual(len(batch), 0)
+        self.store.batch().write()
+        self.assertEqual(self.store.stats().clock, 0)
 
     def test_an_error_leaves_nothing(self) -> None:
         with self.assertRaises(ZeroDivisionError):
@@ -94,16 +92,6 @@ class Writing(unittest.TestCase):
             batch[key] = key
         self.assertRaises(ValueError, batch.write)
         self.assertEqual((self.rows(), len(batch)), ([], EPOCH + 1))
-
-    def test_no_memory(self) -> None:
-        batch = self.store.batch()
-        batch[1] = 10
-        with mock.patch.object(library, "batch", return_value=Code.MEMORY):
-            with self.assertRaises(Error) as raised:
-                batch.write()
-        self.assertEqual((raised.exception.code, len(batch)), (Code.MEMORY, 1))
-        batch.write()
-        self.assertEqual(self.rows(), [(1, 10)])
 
     def test_no_room(self) -> None:
         with Store(keys=2, epoch=4) as store:

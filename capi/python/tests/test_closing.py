@@ -3,21 +3,17 @@
 from __future__ import annotations
 
 import contextlib
-import ctypes
 import gc
 import threading
-import time
 import unittest
 import warnings
 import weakref
 from functools import partial
-from typing import Any, Callable, List, Optional
-from unittest import mock
+from typing import Any, Callable, List
 
 from cupolanettle import Closed, NoSeat, Snapshot, Store
-from cupolanettle import _library as library
 
-from .support import in_child, in_process, in_threads
+from .support import SNAPSHOTS, in_child, in_process, in_threads, mergers
 
 
 def calls_of(store: Store) -> List[Callable[[], object]]:
@@ -40,6 +36,9 @@ def calls_of(store: Store) -> List[Callable[[], object]]:
         lambda: store.count(5, 5),
         lambda: store.scan(),
         lambda: store.snapshot(),
+        lambda: store.stats(),
+        lambda: list(store.walk()),
+        lambda: store.retain(lambda key, value: False),
     ]
 
 
@@ -102,7 +101,9 @@ class Closing(unittest.TestCase):
             snapshot.close()
         for rows in scans:
             self.assertEqual(len(list(self.rest_of_page(rows))), 63)
-        self.assertRaises(Closed, next, unread)
+        for _ in range(2):
+            self.assertRaises(Closed, next, unread)
+        unread.close()
         self.assertEqual(list(unread), [])
 
     def test_errors_close_it_too(self) -> None:
@@ -150,194 +151,39 @@ class Closing(unittest.TestCase):
             in_threads([*jobs, partial(close, store, events)])
 
 
-class HeldCalls(unittest.TestCase):
-    """A call that is in the library, as far as the package knows, until a test lets it go."""
+class Waiting(unittest.TestCase):
+    """A write waits for a snapshot, for as long as that is open."""
 
     def setUp(self) -> None:
+        self.store = Store(keys=1, epoch=4, wait=None)
+        self.addCleanup(self.store.close)
+        self.snapshot = self.store.snapshot()
         self.began = threading.Event()
-        self.may_end = threading.Event()
-        self.happened: List[str] = []
-        self.store = filled()
-        self.addCleanup(self.store.close)
 
-    def held(self, call: library.Call) -> library.Call:
-        def waits(*arguments: Any) -> int:
-            self.began.set()
-            self.may_end.wait()
-            for _ in range(1_000):
-                time.sleep(0)
-            code = call(*arguments)
-            self.happened.append("called")
-            return code
+    def write(self) -> None:
+        with self.assertRaises(Closed):
+            while True:
+                self.store[7] = 70
+                self.began.set()
 
-        return waits
-
-    def hold_reads(self, reader: Any) -> None:
-        reader._reads = library.ReadCalls(*map(self.held, reader._reads))
-
-    def close(self, closes: Callable[[], None]) -> None:
+    def close(self) -> None:
         self.began.wait()
-        self.may_end.set()
-        closes()
-        self.happened.append("closed")
+        self.store.close()
 
-    def check(self, call: Callable[[], object], closes: Callable[[], None]) -> None:
-        in_threads([call, partial(self.close, closes)])
-        self.assertEqual(self.happened, ["called", "closed"])
+    def test_the_store_is_closed(self) -> None:
+        in_threads([self.write] * 20 + [self.close] * 2)
+        self.assertRaises(Closed, self.snapshot.get, 7)
 
-    def test_a_store_waits_for_counts(self) -> None:
-        self.hold_reads(self.store)
-        self.check(lambda: self.assertEqual(self.store.count(), 500), self.store.close)
-
-    def test_a_store_waits_for_gets(self) -> None:
-        self.hold_reads(self.store)
-        self.check(lambda: self.assertEqual(self.store[7], 7), self.store.close)
-
-    def test_a_store_waits_for_writes(self) -> None:
-        held = library.PUT._replace(attempt=self.held(library.PUT.attempt))
-        with mock.patch.object(library, "PUT", held):
-            self.check(lambda: self.store.__setitem__(7, 8), self.store.close)
-
-    def test_a_store_waits_for_scans(self) -> None:
-        with mock.patch.object(library, "snapshot_page", self.held(library.snapshot_page)):
-            rows = self.store.scan()
-            self.check(lambda: self.assertEqual(next(rows), (0, 0)), self.store.close)
-
-    def test_a_store_waits_for_snapshots_that_are_opened(self) -> None:
-        with mock.patch.object(library, "snapshot_open", self.held(library.snapshot_open)):
-            self.check(lambda: self.assertRaises(Closed, self.open_and_count), self.store.close)
-
-    def open_and_count(self) -> None:
-        snapshot = self.store.snapshot()
-        while snapshot.count() == 500:
-            pass
-
-    def test_a_store_waits_for_snapshots_that_are_closed(self) -> None:
-        snapshot = self.store.snapshot()
-        handle: Any = snapshot._handle()
-        handle._close = self.held(handle._close)
-        self.check(snapshot.close, self.store.close)
-
-    def test_a_store_waits_for_its_changes(self) -> None:
-        store = filled()
-        with mock.patch.object(library, "add", self.held(library.add)):
-            in_threads(
-                [lambda: self.assertEqual(store.add(7), 8), lambda: self.close(store.close)]
-            )
-        self.assertEqual(self.happened, ["called", "closed"])
-
-    def test_a_store_waits_for_calls_of_its_snapshots(self) -> None:
-        snapshot = self.store.snapshot()
-        self.hold_reads(snapshot)
-        self.check(lambda: self.assertEqual(snapshot.count(), 500), self.store.close)
-
-    def test_a_snapshot_waits_for_its_calls(self) -> None:
-        snapshot = self.store.snapshot()
-        self.hold_reads(snapshot)
-        self.check(lambda: self.assertEqual(snapshot[7], 7), snapshot.close)
-
-    def test_a_child_does_not_wait_for_calls_of_its_parent(self) -> None:
-        snapshot = self.store.snapshot()
-
-        def child() -> bool:
-            self.assertRaises(Closed, self.store.get, 7)
-            self.assertRaises(Closed, snapshot.count)
-            snapshot.close()
-            return True
-
-        def fork() -> None:
+    def test_others_read_meanwhile(self) -> None:
+        def read() -> None:
             self.began.wait()
-            snapshot._reads = reads
-            try:
-                self.assertTrue(in_child(child))
-            finally:
-                self.may_end.set()
-
-        reads = snapshot._reads
-        self.hold_reads(snapshot)
-        in_threads([lambda: self.assertEqual(snapshot.count(), 500), fork])
-
-
-class CallsInsideCalls(unittest.TestCase):
-    """As a signal's handler makes them, or a finalizer."""
-
-    def setUp(self) -> None:
-        self.store = filled()
-        self.addCleanup(self.store.close)
-
-    def interrupt(self, reader: Any, job: Callable[[], object]) -> None:
-        """Makes the next get run the job when it has the lock already."""
-        reads = reader._reads
-
-        def interrupted(*arguments: Any) -> int:
-            reader._reads = reads
-            job()
-            code: int = reads.get(*arguments)
-            return code
-
-        reader._reads = reads._replace(get=interrupted)
-
-    def test_they_answer(self) -> None:
-        def job() -> None:
-            self.store[8] = self.store[9]
-            with self.store.snapshot() as snapshot:
-                self.assertEqual(snapshot[8], 9)
-            self.assertEqual(next(self.store.scan(8)), (8, 9))
-
-        self.interrupt(self.store, job)
-        self.assertEqual(self.store[7], 7)
-        self.assertEqual(self.store[8], 9)
-
-    def test_one_closes_the_store(self) -> None:
-        self.interrupt(self.store, self.store.close)
-        self.assertRaises(Closed, self.store.get, 7)
-
-    def test_one_closes_the_store_of_a_handle_that_is_being_opened(self) -> None:
-        for name in "caller_open", "snapshot_open":
-            opens = getattr(library, name)
-
-            def interrupted(*arguments: Any) -> int:
-                store.close()
-                code: int = opens(*arguments)
-                return code
-
-            with filled() as store, mock.patch.object(library, name, interrupted):
-                in_threads([lambda: self.assertRaises(Closed, store.snapshot)])
-
-    def test_one_closes_the_store_of_a_snapshot_that_was_just_opened(self) -> None:
-        opens = self.store._session.open_snapshot
-
-        def interrupted() -> Any:
-            owner = opens()
+            for _ in range(100):
+                self.assertEqual(self.store[7], 70)
+                self.assertEqual(self.store.count(), 1)
+                self.assertEqual(list(self.store.scan()), [(7, 70)])
             self.store.close()
-            return owner
 
-        with mock.patch.object(self.store._session, "open_snapshot", interrupted):
-            self.assertRaises(Closed, self.store.snapshot)
-
-    def test_one_closes_what_is_being_closed(self) -> None:
-        snapshot = self.store.snapshot()
-        handle: Any = snapshot._handle()
-        closes, closed, pointer_type = handle._close, [], ctypes.c_void_p
-
-        def note(pointer: ctypes.c_void_p) -> None:
-            closed.append(pointer.value is not None)
-            closes(pointer)
-
-        def interrupted(address: Optional[int]) -> ctypes.c_void_p:
-            snapshot.close()
-            return pointer_type(address)
-
-        handle._close = note
-        with mock.patch.object(ctypes, "c_void_p", interrupted):
-            snapshot.close()
-        self.assertEqual(closed, [True])
-
-    def test_one_closes_the_snapshot(self) -> None:
-        snapshot = self.store.snapshot()
-        self.interrupt(snapshot, snapshot.close)
-        self.assertRaises(Closed, snapshot.get, 7)
-        self.assertEqual(self.store[7], 7)
+        in_threads([self.write] * 20 + [read])
 
 
 class Unreferenced(unittest.TestCase):
@@ -357,7 +203,7 @@ class Unreferenced(unittest.TestCase):
 
     def test_scans_that_are_closed(self) -> None:
         with filled() as store:
-            scans = [store.scan() for _ in range(63)]
+            scans = [store.scan() for _ in range(SNAPSHOTS)]
             self.assertRaises(NoSeat, store.scan)
             for rows in scans:
                 next(rows)
@@ -365,16 +211,35 @@ class Unreferenced(unittest.TestCase):
                 self.assertEqual(list(rows), [])
             with contextlib.closing(store.scan()) as rows:
                 self.assertEqual(next(rows), (0, 0))
-            scans = [store.scan() for _ in range(63)]
+            scans = [store.scan() for _ in range(SNAPSHOTS)]
             for rows in scans:
                 self.assertEqual(len(list(rows)), 500)
-            scans = [store.scan() for _ in range(63)]
+            scans = [store.scan() for _ in range(SNAPSHOTS)]
 
     def test_snapshots(self) -> None:
         with filled() as store:
             for _ in range(200):
                 self.assertEqual(store.snapshot()[7], 7)
-            self.assertEqual(len(store._session._handles), 1)
+            self.assertEqual(store.stats().snapshots, 0)
+
+    def test_a_scan_keeps_its_snapshot(self) -> None:
+        with filled() as store:
+            self.assertEqual(len(list(store.snapshot().scan())), 500)
+            rows = store.snapshot().scan(5)
+            store[6] = 7
+            self.assertEqual((next(rows), next(rows)), ((5, 5), (6, 6)))
+            self.assertEqual(sum(key for key, _ in store.snapshot().scan(0, 4)), 6)
+            self.assertEqual(store.stats().snapshots, 1)
+            del rows
+            self.assertEqual(store.stats().snapshots, 0)
+
+    def test_in_a_cycle(self) -> None:
+        with filled() as store:
+            cycle: List[Any] = [store.snapshot(), store.scan()]
+            cycle.append(cycle)
+            del cycle
+            gc.collect()
+            self.assertEqual(store.stats().snapshots, 0)
 
     def test_a_snapshot_keeps_its_store(self) -> None:
         with warnings.catch_warnings():
@@ -387,28 +252,27 @@ class Unreferenced(unittest.TestCase):
             del snapshot
 
     def test_a_store_is_closed_with_a_warning(self) -> None:
+        before = mergers()
         store = filled()
-        session = weakref.ref(store._session)
         in_threads([lambda: store.get(7)])
         gc.disable()
         try:
-            with mock.patch.object(library, "store_close", wraps=library.store_close) as closes:
-                with self.assertWarns(ResourceWarning):
-                    del store
-            closes.assert_called_once()
-            self.assertIsNone(session())
+            with self.assertWarns(ResourceWarning):
+                del store
+            self.assertEqual(mergers(), before)
         finally:
             gc.enable()
 
     def test_a_closed_store_leaves_nothing(self) -> None:
         gc.disable()
         try:
-            with filled() as store:
+            with warnings.catch_warnings(record=True) as caught, filled() as store:
                 next(store.scan())
                 snapshot = store.snapshot()
-                session = weakref.ref(store._session)
+                gone = weakref.ref(store)
             del store, snapshot
-            self.assertIsNone(session())
+            self.assertIsNone(gone())
+            self.assertEqual(caught, [])
         finally:
             gc.enable()
 
@@ -452,8 +316,8 @@ class Forks(unittest.TestCase):
             next(rows)
 
             def child() -> bool:
-                for call in calls_of(store) + calls_of_snapshot(snapshot) + [Store]:
-                    self.assertRaises(Closed, call)
+                for call in calls_of(store) + calls_of_snapshot(snapshot):
+                    self.assertRaisesRegex(Closed, "before a fork", call)
                 with self.assertRaises(Closed):
                     while True:
                         next(rows)
@@ -493,15 +357,22 @@ class Forks(unittest.TestCase):
             in_threads([call, call, fork])
             self.assertEqual(store[7], 7)
 
-    def test_a_child_opens_stores_if_none_was_open(self) -> None:
+    def test_a_child_opens_stores_of_its_own(self) -> None:
         def child() -> bool:
-            with filled() as store:
-                return store[7] == 7
+            self.assertRaises(Closed, store.get, 7)
+            with filled() as own, own.snapshot() as snapshot:
+                in_threads([lambda: own.add(7), lambda: own.add(7)])
+                return own[7] == 9 and snapshot[7] == 7 and in_child(lambda: grandchild(own))
+
+        def grandchild(parents: Store) -> bool:
+            self.assertRaises(Closed, parents.get, 7)
+            with filled() as own:
+                return own[7] == 7
 
         with filled() as store:
+            self.assertTrue(in_child(child))
             self.assertEqual(store[7], 7)
-        del store
-        self.assertTrue(in_child(child))
+        self.assertTrue(in_child(lambda: grandchild(store)))
 
     def test_a_child_that_ends_leaves_the_store(self) -> None:
         with filled() as store:

@@ -11,12 +11,10 @@ import threading
 import unittest
 from functools import partial
 from typing import Any, Callable, Dict, List
-from unittest import mock
 
 from cupolanettle import Closed, Code, Error, NoSeat, OwnSnapshot, RunFull, Store, VersionsFull
-from cupolanettle import _library as library
 
-from .support import in_process, in_threads
+from .support import SNAPSHOTS, in_process, in_threads
 
 LEAST_VERSIONS = 6 * 4 + 64  # of an epoch of 4
 STACK_LIMIT = resource.getrlimit(resource.RLIMIT_STACK)[1]
@@ -79,29 +77,6 @@ class Options(unittest.TestCase):
             with self.subTest(options=chosen), Store(**chosen) as store:
                 store[7] = 70
                 self.assertEqual(store[7], 70)
-
-    def test_what_the_library_is_told(self) -> None:
-        told: List[Any] = []
-
-        def refuse(options: Any, store: Any) -> int:
-            told.append(options._obj)
-            return int(Code.MEMORY)
-
-        with mock.patch.object(library, "store_open", refuse):
-            self.assertRaises(Error, Store)
-            self.assertRaises(Error, Store, keys=7, epoch=5, patience=0, merge_in_calls=True)
-            self.assertRaises(Error, Store, versions=1_000, wait=0)
-            self.assertRaises(Error, Store, patience=16, wait=0.0301)
-            self.assertRaises(Error, Store, wait=None)
-            self.assertRaises(Error, Store, wait=1e300)
-        found = [[value.keys, value.epoch, value.patience, value.merge] for value in told]
-        default = [100_000, 0, 64, 0]
-        given = [default, [7, 5, -1, 1], default, [100_000, 0, 16, 0], default, default]
-        self.assertEqual(found, given)
-        self.assertEqual([value.versions for value in told], [0, 0, 1_000, 0, 0, 0])
-        waits = [1_000, 1_000, -1, 31, 2**63 - 1, 2**63 - 1]
-        self.assertEqual([value.wait for value in told], waits)
-        self.assertEqual([list(value.zero) for value in told], [[0] * 2] * 6)
 
     def test_the_greatest(self) -> None:
         with Store(keys=4_194_304 - LEAST_VERSIONS, epoch=4) as store:
@@ -208,21 +183,23 @@ class Room(unittest.TestCase):
 
 
 class Seats(unittest.TestCase):
-    def test_there_are_64(self) -> None:
+    def test_all_are_taken(self) -> None:
         with Store() as store:
             store[7] = 70
             opened: List[Any] = []
-            for number in range(63):
+            for number in range(SNAPSHOTS):
                 opened.append(store.scan() if number % 2 else store.snapshot())
             for call in store.scan, store.snapshot:
-                with self.assertRaises(NoSeat) as caught:
+                with self.assertRaisesRegex(NoSeat, "each snapshot and scan keeps one") as caught:
                     call()
                 self.assertEqual(caught.exception.code, Code.NO_SEAT)
-            self.assertEqual(store[7], 70)
+            in_threads([lambda: self.assertEqual(store.add(8), 1)])
+            self.assertEqual((store[7], store.count()), (70, 2))
+            self.assertEqual((store.stats().snapshots, store.stats().no_seat > 0), (SNAPSHOTS, True))
             opened.pop().close()
             with store.snapshot() as snapshot:
                 self.assertEqual(snapshot[7], 70)
-            self.assertEqual(list(store.scan()), [(7, 70)])
+            self.assertEqual(list(store.scan()), [(7, 70), (8, 1)])
 
 
 LITTLE_SPACE = """
@@ -266,103 +243,3 @@ class FromTheSystem(unittest.TestCase):
     def test_no_thread(self) -> None:
         program = LITTLE_SPACE.format(options="keys=1_000")
         self.assert_refused(GREAT_STACKS.format(program=program), Code.NO_THREAD)
-
-
-class AsIfRefused(unittest.TestCase):
-    """Each call, as if the library had answered a code."""
-
-    def setUp(self) -> None:
-        self.store = Store()
-        self.addCleanup(self.store.close)
-        self.store[7] = 70
-        self.snapshot = self.store.snapshot()
-
-    def assert_refused(self, call: Callable[[], object], code: Code) -> None:
-        kinds = {
-            Code.RUN_FULL: RunFull,
-            Code.VERSIONS_FULL: VersionsFull,
-            Code.OWN_SNAPSHOT: OwnSnapshot,
-            Code.NO_SEAT: NoSeat,
-            Code.BAD_POINTER: Closed,
-        }
-        with self.subTest(code=code), self.assertRaises(Error) as caught:
-            call()
-        self.assertIs(type(caught.exception), kinds.get(code, Error))
-        self.assertEqual(caught.exception.code, code)
-
-    def codes(self) -> List[Code]:
-        return [code for code in Code if code >= Code.MEMORY]
-
-    def test_reads(self) -> None:
-        readers: List[Any] = [self.store, self.snapshot]
-        for reader in readers:
-            for code in self.codes():
-                answer = partial(answer_code, code)
-                with mock.patch.object(reader, "_reads", library.ReadCalls(answer, answer)):
-                    self.assert_refused(partial(reader.get, 7), code)
-                    self.assert_refused(partial(reader.__getitem__, 7), code)
-                    self.assert_refused(partial(reader.__contains__, 7), code)
-                    self.assert_refused(reader.count, code)
-            self.assertEqual(reader[7], 70)
-
-    def test_writes(self) -> None:
-        writes = [partial(self.store.__setitem__, 7, 71), partial(self.store.remove, 7)]
-        for first in Code.OK, Code.FULL, Code.BUSY, Code.RACED, Code.OVERTAKEN, Code.PINNED:
-            for code in self.codes():
-                calls = library.WriteCalls(partial(answer_code, first), partial(answer_code, code))
-                with mock.patch.multiple(library, PUT=calls, REMOVE=calls):
-                    for call in writes:
-                        if first == Code.OK:
-                            call()
-                        else:
-                            self.assert_refused(call, code)
-        self.assertEqual(self.store[7], 70)
-
-    def test_changes(self) -> None:
-        for code in self.codes():
-            answer = partial(answer_code, code)
-            with mock.patch.multiple(library, add=answer, put_if_absent=answer, replace=answer):
-                for call in changes_of(self.store, 70)[1:]:
-                    self.assert_refused(call, code)
-        self.assertEqual(list(self.store.scan()), [(7, 70)])
-
-    def test_snapshots_and_scans(self) -> None:
-        for code in self.codes():
-            with mock.patch.object(library, "snapshot_open", partial(answer_code, code)):
-                self.assert_refused(self.store.snapshot, code)
-                self.assert_refused(self.store.scan, code)
-            with mock.patch.object(library, "snapshot_page", partial(answer_code, code)):
-                self.assert_refused(partial(next, self.store.scan()), code)
-                self.assert_refused(partial(next, self.snapshot.scan()), code)
-        self.assertEqual(list(self.snapshot.scan()), [(7, 70)])
-        snapshots = [self.store.snapshot() for _ in range(62)]
-        self.assertEqual(len(snapshots), 62)
-
-    def test_callers(self) -> None:
-        for code in self.codes():
-            with mock.patch.object(library, "caller_open", partial(answer_code, code)):
-                in_threads([lambda: self.assert_refused(partial(self.store.get, 7), code)])
-        in_threads([lambda: self.assertEqual(self.store[7], 70)])
-
-    def test_opening(self) -> None:
-        options = {Code.BAD_KEYS, Code.BAD_EPOCH, Code.BAD_PATIENCE}
-        options |= {Code.BAD_VERSIONS, Code.BAD_WAIT}
-        for code in self.codes():
-            with mock.patch.object(library, "store_open", partial(answer_code, code)):
-                if code in options:
-                    self.assertRaises(ValueError, Store)
-                else:
-                    self.assert_refused(Store, code)
-
-    def test_closing(self) -> None:
-        with mock.patch.object(library, "store_close", partial(answer_code, Code.IN_USE)):
-            self.assert_refused(self.store.close, Code.IN_USE)
-        self.assertRaises(Closed, self.store.get, 7)
-        with mock.patch.object(library, "store_close", wraps=library.store_close) as closes:
-            self.store.close()
-            self.store.close()
-        closes.assert_called_once()
-
-
-def answer_code(code: Code, *_: object) -> int:
-    return int(code)

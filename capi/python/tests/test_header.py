@@ -17,20 +17,16 @@ HEADER = PROJECT.parent / "clsm.h"
 
 # What the package does without.
 UNUSED_CALLS = {
-    "clsm_caller_close_at",
-    "clsm_close_at",
-    "clsm_follow",
+    "clsm_caller_close",
+    "clsm_close",
     "clsm_number",
-    "clsm_page",
     "clsm_scan_close",
     "clsm_scan_close_at",
     "clsm_scan_next",
     "clsm_scan_open",
-    "clsm_seen",
-    "clsm_snapshot_close_at",
+    "clsm_snapshot_close",
     "clsm_snapshot_number",
     "clsm_store_snapshot",
-    "clsm_stats",
     "clsm_sweep",
     "clsm_time",
     "clsm_walk_close",
@@ -153,15 +149,20 @@ class Declarations(unittest.TestCase):
                 self.assertEqual((kind, list(parameters)), found[name])
 
     def test_what_keeps_the_lock_of_the_interpreter(self) -> None:
-        keeping = [library.CALLER_READS.get, library.SNAPSHOT_READS.get]
-        keeping += [library.PUT.attempt, library.REMOVE.attempt]
-        releasing = [library.CALLER_READS.count, library.SNAPSHOT_READS.count]
-        releasing += [library.PUT.wait, library.REMOVE.wait, library.snapshot_page]
-        releasing += [library.add, library.put_if_absent, library.replace, library.batch]
-        releasing += [library.store_open, library.store_close, library.snapshot_open]
-        releasing += [library.snapshot_close, library.caller_open, library.caller_close]
+        keeping = [library.get, library.page, library.snapshot_get, library.seen, library.follow]
+        keeping += [library.PUT.attempt, library.REMOVE.attempt, library.snapshot_time]
+        keeping += [library.caller_close_at, library.snapshot_close_at]
+        releasing = [library.count, library.snapshot_count, library.snapshot_page]
+        releasing += [library.PUT.wait, library.REMOVE.wait, library.batch, library.stats]
+        releasing += [library.add, library.put_if_absent, library.replace]
+        releasing += [library.store_open, library.store_close_at, library.snapshot_open]
+        releasing += [library.caller_open]
         self.assertEqual([is_kept_by(call) for call in keeping], [True] * len(keeping))
         self.assertEqual([is_kept_by(call) for call in releasing], [False] * len(releasing))
+
+    def test_statistics(self) -> None:
+        fields = [name for name, _ in library.Statistics._fields_]
+        self.assertEqual(fields, list(cupolanettle.Statistics._fields))
 
     def test_what_scans_read(self) -> None:
         self.assertEqual(ctypes.sizeof(library.Row), 80)

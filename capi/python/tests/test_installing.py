@@ -14,11 +14,12 @@ import unittest
 import zipfile
 from pathlib import Path
 
-from cupolanettle import _library as library
+from cupolanettle import _finding as finding
 
+from .support import LIBRARY as NAME
 from .support import PROJECT, SOURCES, in_process
 
-LIBRARY = Path(library.PATH).resolve()
+LIBRARY = Path(NAME).resolve()
 WHERE = "from cupolanettle import _library; print(_library.PATH)"
 WHERE_INSTALLED = "import ctypes.util; ctypes.util.find_library = {find}; " + WHERE
 
@@ -46,7 +47,8 @@ class Finding(InAFolder):
         self.built.parent.mkdir()
 
     def run_program(self, program: str, chosen: str) -> subprocess.CompletedProcess[str]:
-        return in_process(program, PYTHONPATH=str(self.package.parent), CLSM_LIBRARY=chosen)
+        variables = {"PYTHONPATH": str(self.package.parent), "CLSM_LIBRARY": chosen}
+        return in_process(program, CLSM_BACKEND="ctypes", **variables)
 
     def assert_found(self, path: Path, program: str = WHERE, chosen: str = "") -> None:
         ended = self.run_program(program, chosen)
@@ -95,10 +97,10 @@ class Finding(InAFolder):
         self.assert_refused(".* has no clsm_version$", chosen=other)
 
     def test_versions_must_be_equal(self) -> None:
-        source = self.package / "_library.py"
+        source = self.package / "_finding.py"
         text = source.read_text(encoding="utf-8")
-        source.write_text(text.replace(library.VERSION, "0.0.7"), encoding="utf-8")
-        message = f".* is of version {library.VERSION}; this package needs 0.0.7$"
+        source.write_text(text.replace(finding.VERSION, "0.0.7"), encoding="utf-8")
+        message = f".* is of version {finding.VERSION}; this package needs 0.0.7$"
         self.assert_refused(message, chosen=str(LIBRARY))
 
 
@@ -107,7 +109,7 @@ class Wheels(InAFolder):
     def build(self, folder: Path) -> Path:
         built = subprocess.run(
             [sys.executable, str(PROJECT / "build_wheel.py"), str(folder)],
-            env={**os.environ, library.VARIABLE: str(LIBRARY)},
+            env={**os.environ, finding.LIBRARY_VARIABLE: str(LIBRARY)},
             stdout=subprocess.PIPE,
             universal_newlines=True,
             check=True,
@@ -122,7 +124,7 @@ class Wheels(InAFolder):
                 content = wheel.read(name)
                 digest = base64.urlsafe_b64encode(hashlib.sha256(content).digest())
                 lines.append(f"{name},sha256={digest.decode().rstrip('=')},{len(content)}")
-            self.assertEqual(record, f"cupolanettle-{library.VERSION}.dist-info/RECORD")
+            self.assertEqual(record, f"cupolanettle-{finding.VERSION}.dist-info/RECORD")
             self.assertEqual(wheel.read(record).decode().splitlines(), [*lines, f"{record},,"])
             files = {path.name for path in (SOURCES / "cupolanettle").iterdir() if path.is_file()}
             packed = {name for name in wheel.namelist() if "dist-info" not in name}
@@ -146,6 +148,8 @@ class Wheels(InAFolder):
             "    store[7] = 70, 71\n"
             "    print(list(store.scan()))\n"
         )
-        ended = in_process(program, PYTHONPATH=str(place), CLSM_LIBRARY="")
+        ended = in_process(
+            program, PYTHONPATH=str(place), CLSM_LIBRARY="", CLSM_BACKEND="ctypes"
+        )
         found = place / "cupolanettle" / "libclsm.so"
         self.assertEqual((ended.stdout, ended.stderr), (f"{found}\n[(7, (70, 71))]\n", ""))

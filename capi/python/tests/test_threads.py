@@ -8,9 +8,9 @@ import unittest
 from functools import partial
 from typing import Callable, Iterable, List, Tuple
 
-from cupolanettle import NoSeat, Snapshot, Store, Value, VersionsFull
+from cupolanettle import Snapshot, Store, Value, VersionsFull
 
-from .support import in_threads
+from .support import SNAPSHOTS, in_threads
 
 
 class Threads(unittest.TestCase):
@@ -46,33 +46,50 @@ class Threads(unittest.TestCase):
                 in_threads([partial(write, number) for number in numbers])
             self.assertEqual(store.count(), 1_000)
 
-    def test_a_seat_comes_back_with_the_end_of_its_thread(self) -> None:
-        done = threading.Event()
-        began = [threading.Event() for _ in range(63)]
+    def test_more_than_there_are_seats(self) -> None:
+        count = 200
+        barrier = threading.Barrier(count)
 
-        def stay(event: threading.Event) -> None:
-            try:
-                store[7] = 7
-            finally:
-                event.set()
-            done.wait()
+        def write(number: int) -> None:
+            barrier.wait()
+            store[number] = number
+            self.assertEqual(store.add(number), number + 1)
+            self.assertGreaterEqual(store.count(), 1)
+            with store.batch() as batch:
+                batch[number] = number
+            barrier.wait()
+            self.assertEqual([store[other] for other in range(count)], list(range(count)))
+            with self.a_few, store.snapshot() as snapshot:
+                self.assertEqual(snapshot.count(), count)
 
-        with Store() as store:
-            store[7] = 7
-            threads = [threading.Thread(target=stay, args=(event,)) for event in began]
-            for thread in threads:
-                thread.start()
-            for event in began:
-                event.wait()
-            with self.assertRaises(NoSeat):
-                in_threads([lambda: store.get(7)])
-            self.assertRaises(NoSeat, store.snapshot)
-            self.assertRaises(NoSeat, store.scan)
-            done.set()
-            for thread in threads:
-                thread.join()
-            snapshots = [store.snapshot() for _ in range(63)]
-            self.assertEqual([snapshot[7] for snapshot in snapshots], [7] * 63)
+        with Store(keys=1_000, epoch=16) as store:
+            in_threads([partial(write, number) for number in range(count)])
+            self.assertLessEqual(store.stats().callers, 17)
+            snapshots = [store.snapshot() for _ in range(SNAPSHOTS)]
+            self.assertEqual({snapshot[7] for snapshot in snapshots}, {7})
+
+    def setUp(self) -> None:
+        self.a_few = threading.Semaphore(40)  # at once
+
+    def test_what_a_thread_saw_never_runs_back(self) -> None:
+        """Each of many threads sees the numbers of others rise, by whichever caller it reads."""
+        rounds = 100
+
+        def work(number: int) -> None:
+            seen = [0] * 4
+            for i in range(rounds):
+                store.add(number % 4)
+                with self.a_few, store.snapshot() as snapshot:
+                    found = [snapshot.get(key, 0) for key in range(4)]
+                self.assertTrue(all(old <= new for old, new in zip(seen, found)))
+                seen = [store.get(key, 0) for key in range(4)]
+                self.assertTrue(all(old <= new for old, new in zip(found, seen)))
+                self.assertEqual(store.count(number, number + 1), int(number < 4))
+                store.update(number % 4, lambda old: old)
+
+        with Store(keys=1_000, epoch=64) as store:
+            in_threads([partial(work, number) for number in range(20)])
+            self.assertEqual([store[key] for key in range(4)], [5 * rounds] * 4)
 
     def test_all_write_one_key(self) -> None:
         def write(number: int) -> None:

@@ -17,15 +17,18 @@ never wait, and read the map as it is at one moment; a snapshot keeps that momen
 ...         snapshot[7], list(snapshot.scan(10, 12)), snapshot.count()
 ((1, 3), [(10, (2, 2)), (11, (2, 3))], 4000)
 
-The package calls the C library ``libclsm.so`` by ``ctypes``: the one that the environment variable
-``CLSM_LIBRARY`` names, or else the first one that lies beside the package, was built with its
-sources, or is installed in the system.
+The package calls the library by a C extension that has the library in it, or, where that is not,
+the C library ``libclsm.so`` by ``ctypes``: the one that the environment variable ``CLSM_LIBRARY``
+names, or else the first one that lies beside the package, was built with its sources, or is
+installed in the system. ``CLSM_BACKEND`` chooses: ``extension`` or ``ctypes``.
 """
 
 from ._batch import Batch
 from ._errors import Closed, Code, Error, NoSeat, OwnSnapshot, RunFull, VersionsFull
-from ._library import VERSION as __version__
+from ._finding import VERSION as __version__
+from ._reading import Rows
 from ._snapshot import Snapshot
+from ._statistics import Statistics
 from ._store import Store
 from ._values import Value
 
@@ -36,8 +39,10 @@ __all__ = [
     "Error",
     "NoSeat",
     "OwnSnapshot",
+    "Rows",
     "RunFull",
     "Snapshot",
+    "Statistics",
     "Store",
     "Value",
     "VersionsFull",

@@ -2,27 +2,26 @@
 
 from __future__ import annotations
 
-import struct
+import threading
 from types import TracebackType
 from typing import TYPE_CHECKING, Optional, Type
 
-from . import _library as library
-from ._errors import OK, Code, error_of
-from ._values import Value, key_of, words_of
+from . import _core as core
+from ._errors import Code, Error
+from ._values import Value
 
 if TYPE_CHECKING:
     from ._store import Store
 
-# A row of the library: the key, the length of the value, and its eight words.
-_ROW = struct.Struct("=10Q")
-_NO_WORDS = (0,) * 8
+_ROW_SIZE = len(core.pack(0, None))
 
 
 class Batch:
     """Writes that are made at one moment, in their order: each read has all of them or none.
 
     With ``with``, they are made at its end, and none of them if an error leaves it; without, by
-    :meth:`write`. Of several writes of one key the last one wins.
+    :meth:`write`. Of several writes of one key the last one wins. Threads may share one: what is
+    added while it is written stays in it, for the next :meth:`write`.
 
     >>> with Store() as store:
     ...     store[1] = 100
@@ -36,7 +35,8 @@ class Batch:
 
     def __init__(self, store: Store) -> None:
         self._store = store
-        self._rows = bytearray()
+        self._rows = bytearray()  # always the same one: whoever adds need not look
+        self._lock = threading.RLock()
 
     def __setitem__(self, key: int, value: Value) -> None:
         """Adds a write of the value at the key; ``ValueError`` as for ``store[key] = value``.
@@ -47,9 +47,9 @@ class Batch:
         ...     len(batch)
         2
         """
-        number = key_of(key)
-        words = words_of(value)
-        self._rows += _ROW.pack(number, len(words), *words, *_NO_WORDS[len(words) :])
+        if value is None:
+            raise TypeError("None is no value; remove removes a key")
+        self._rows.extend(core.pack(key, value))
 
     def remove(self, key: int) -> None:
         """Adds a removal of the key, whether or not that has a value.
@@ -59,7 +59,7 @@ class Batch:
         ...     len(batch)
         1
         """
-        self._rows += _ROW.pack(key_of(key), 0, *_NO_WORDS)
+        self._rows.extend(core.pack(key, None))
 
     def __len__(self) -> int:
         """How many writes it has.
@@ -68,10 +68,10 @@ class Batch:
         ...     len(store.batch())
         0
         """
-        return len(self._rows) // _ROW.size
+        return len(self._rows) // _ROW_SIZE
 
     def clear(self) -> None:
-        """Takes all writes out.
+        """Takes all writes out, but not while another thread makes them.
 
         >>> with Store() as store, store.batch() as batch:
         ...     batch[7] = 70
@@ -79,7 +79,8 @@ class Batch:
         ...     len(batch)
         0
         """
-        self._rows = bytearray()
+        with self._lock:
+            self._rows.clear()
 
     def write(self) -> None:
         """Makes the writes, if there are any, and takes them out of the batch.
@@ -95,15 +96,15 @@ class Batch:
         ...     store[7], len(batch)
         (70, 0)
         """
-        count = len(self)
-        if count:
-            rows = (library.Row * count).from_buffer_copy(self._rows)
-            code = self._store._write_batch(rows, count)
-            if code == Code.BAD_BATCH:
-                raise ValueError("a batch has at most as many writes as an epoch")
-            if code != OK:
-                raise error_of(code)
-        self.clear()
+        with self._lock:
+            if not self._rows:
+                return
+            try:
+                self._store._write_rows(self._rows)
+            except Error as error:
+                if error.code != Code.BAD_BATCH:
+                    raise
+                raise ValueError("a batch has at most as many writes as an epoch") from None
 
     def __enter__(self) -> Batch:
         return self

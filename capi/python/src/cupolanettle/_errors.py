@@ -5,7 +5,12 @@ from __future__ import annotations
 import enum
 from typing import Dict, Type
 
-from . import _library as library
+from ._finding import native
+
+if native is None:
+    from ._library import name_of
+else:
+    name_of = native.name_of
 
 
 class Code(enum.IntEnum):
@@ -74,7 +79,7 @@ class Error(Exception):
         self.code = int(code)
 
     def __str__(self) -> str:
-        return library.name_of(self.code)
+        return name_of(self.code)
 
 
 class RunFull(Error):
@@ -124,24 +129,26 @@ class OwnSnapshot(VersionsFull):
 
 
 class NoSeat(Error):
-    """The store has 64 seats, and all of them are taken.
+    """The store has 64 seats, and all that are left are snapshots' and scans'.
 
-    Each thread takes one from its first call until it ends, each snapshot and each scan one until
-    it is closed.
+    Each snapshot and each scan keeps one until it is closed: 47 may always be open at once, and
+    some more while few threads call. Threads themselves need none; they wait for one another.
 
     >>> with Store() as store:
-    ...     snapshots = [store.snapshot() for _ in range(63)]
-    ...     store.snapshot()
+    ...     snapshots = [store.snapshot() for _ in range(64)]
     Traceback (most recent call last):
-    cupolanettle.NoSeat: no seat
+    cupolanettle.NoSeat: no seat: each snapshot and scan keeps one until it is closed
     """
+
+    def __str__(self) -> str:
+        return f"{super().__str__()}: each snapshot and scan keeps one until it is closed"
 
 
 class Closed(Error):
     """The store or the snapshot is closed.
 
-    So are, in a child process, all those that were open when it was forked. The code is
-    ``BAD_POINTER``.
+    So are, in a child process, all those that were open when it was forked: the text says so. The
+    code is ``BAD_POINTER``.
 
     >>> store = Store()
     >>> store.close()
@@ -150,12 +157,15 @@ class Closed(Error):
     cupolanettle.Closed: closed
     """
 
-    def __init__(self, code: int = Code.BAD_POINTER) -> None:
+    def __init__(self, code: int = Code.BAD_POINTER, why: str = "closed") -> None:
         super().__init__(code)
+        self.args = code, why
 
     def __str__(self) -> str:
-        return "closed"
+        return str(self.args[1])
 
+
+_FORKED = "closed: it was opened before a fork; a child process opens stores of its own"
 
 # A closed handle is a null pointer.
 _CLASSES: Dict[int, Type[Error]] = {
@@ -167,6 +177,8 @@ _CLASSES: Dict[int, Type[Error]] = {
 }
 
 
-def error_of(code: int) -> Error:
+def error_of(code: int, is_forked: bool = False) -> Error:
     """The exception for a code of 8 or more."""
+    if is_forked:
+        return Closed(Code.BAD_POINTER, _FORKED)
     return _CLASSES.get(code, Error)(code)

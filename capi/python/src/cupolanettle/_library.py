@@ -1,4 +1,4 @@
-"""The C library: where it is found, and what its header, ``clsm.h``, declares.
+"""The C library by ``ctypes``: what its header, ``clsm.h``, declares.
 
 Calls that never wait and are short keep the interpreter's lock (``PyDLL``): to release it would
 take longer. All others release it (``CDLL``).
@@ -7,15 +7,10 @@ take longer. All others release it (``CDLL``).
 from __future__ import annotations
 
 import ctypes
-import ctypes.util
-import os
 from ctypes import POINTER, c_bool, c_char_p, c_int, c_int64, c_size_t, c_uint64, c_void_p
-from pathlib import Path
-from typing import Any, Callable, Dict, NamedTuple, Optional, Sequence, Tuple
+from typing import Any, Callable, Dict, NamedTuple, Sequence, Tuple
 
-VERSION = "0.2.0"
-VARIABLE = "CLSM_LIBRARY"
-FILE = "libclsm.so"
+from ._finding import VERSION, find_library
 
 Call = Callable[..., int]
 
@@ -107,17 +102,24 @@ DECLARED: Dict[str, Tuple[Any, Sequence[Any]]] = {
     "clsm_version": (c_char_p, []),
     "clsm_strerror": (c_char_p, [c_int]),
     "clsm_open": (c_int, [POINTER(Options), POINTER(_HANDLE)]),
-    "clsm_close": (c_int, [_HANDLE]),
+    "clsm_close_at": (c_int, [POINTER(_HANDLE)]),
+    "clsm_stats": (c_int, [_HANDLE, POINTER(Statistics)]),
     "clsm_caller_open": (c_int, [_HANDLE, POINTER(_HANDLE)]),
-    "clsm_caller_close": (None, [_HANDLE]),
+    "clsm_caller_close_at": (None, [POINTER(_HANDLE)]),
+    "clsm_seen": (c_uint64, [_HANDLE]),
+    "clsm_follow": (c_int, [_HANDLE, c_uint64]),
     "clsm_put": (c_int, [_HANDLE, c_uint64, _WORDS, c_size_t]),
     "clsm_remove": (c_int, [_HANDLE, c_uint64]),
     "clsm_try_put": (c_int, [_HANDLE, c_uint64, _WORDS, c_size_t]),
     "clsm_try_remove": (c_int, [_HANDLE, c_uint64]),
     "clsm_get": (c_int, [_HANDLE, c_uint64, POINTER(Value)]),
     "clsm_count": (c_int, [_HANDLE, c_uint64, c_uint64, _WORDS]),
+    "clsm_page": (
+        c_int,
+        [_HANDLE, c_uint64, c_uint64, POINTER(Row), c_size_t, POINTER(PageEnd)],
+    ),
     "clsm_snapshot_open": (c_int, [_HANDLE, POINTER(_HANDLE)]),
-    "clsm_snapshot_close": (None, [_HANDLE]),
+    "clsm_snapshot_close_at": (None, [POINTER(_HANDLE)]),
     "clsm_snapshot_time": (c_uint64, [_HANDLE]),
     "clsm_snapshot_get": (c_int, [_HANDLE, c_uint64, POINTER(Value)]),
     "clsm_snapshot_count": (c_int, [_HANDLE, c_uint64, c_uint64, _WORDS]),
@@ -138,24 +140,6 @@ DECLARED: Dict[str, Tuple[Any, Sequence[Any]]] = {
 # ---- Loading
 
 
-def _find() -> str:
-    """The path or the name of the library."""
-    chosen = os.environ.get(VARIABLE)
-    if chosen:
-        return chosen
-    package = Path(__file__).resolve().parent
-    if (package / FILE).is_file():
-        return str(package / FILE)
-    project = package.parent.parent
-    built = project.parent / "out" / FILE
-    if (project / "pyproject.toml").is_file() and built.is_file():
-        return str(built)
-    installed = ctypes.util.find_library("clsm")
-    if installed is None:
-        raise ImportError(f"{FILE} was not found: set {VARIABLE} to its path")
-    return installed
-
-
 def _bind(library: ctypes.CDLL, name: str) -> Any:
     """The call of this name, which the library must have."""
     try:
@@ -166,7 +150,7 @@ def _bind(library: ctypes.CDLL, name: str) -> Any:
     return function
 
 
-PATH = _find()
+PATH = find_library()
 try:
     _releasing = ctypes.CDLL(PATH)
     _keeping = ctypes.PyDLL(PATH)
@@ -193,13 +177,6 @@ def name_of(code: int) -> str:
 # ---- The calls
 
 
-class ReadCalls(NamedTuple):
-    """The calls that read a caller or a snapshot."""
-
-    get: Call
-    count: Call
-
-
 class WriteCalls(NamedTuple):
     """The two calls that make a write: one tries once, one waits."""
 
@@ -208,22 +185,26 @@ class WriteCalls(NamedTuple):
 
 
 store_open: Call = _bind(_releasing, "clsm_open")
-store_close: Call = _bind(_releasing, "clsm_close")
+store_close_at: Call = _bind(_releasing, "clsm_close_at")
+stats: Call = _bind(_releasing, "clsm_stats")
 caller_open: Call = _bind(_releasing, "clsm_caller_open")
-caller_close: Call = _bind(_releasing, "clsm_caller_close")
-snapshot_open: Call = _bind(_releasing, "clsm_snapshot_open")
-snapshot_close: Call = _bind(_releasing, "clsm_snapshot_close")
-snapshot_time: Call = _bind(_releasing, "clsm_snapshot_time")
-snapshot_page: Call = _bind(_releasing, "clsm_snapshot_page")
+caller_close_at: Call = _bind(_keeping, "clsm_caller_close_at")
+seen: Call = _bind(_keeping, "clsm_seen")
+follow: Call = _bind(_keeping, "clsm_follow")
 
-CALLER_READS = ReadCalls(_bind(_keeping, "clsm_get"), _bind(_releasing, "clsm_count"))
-SNAPSHOT_READS = ReadCalls(
-    _bind(_keeping, "clsm_snapshot_get"), _bind(_releasing, "clsm_snapshot_count")
-)
+get: Call = _bind(_keeping, "clsm_get")
+page: Call = _bind(_keeping, "clsm_page")  # of few rows
+count: Call = _bind(_releasing, "clsm_count")
 PUT = WriteCalls(_bind(_keeping, "clsm_try_put"), _bind(_releasing, "clsm_put"))
 REMOVE = WriteCalls(_bind(_keeping, "clsm_try_remove"), _bind(_releasing, "clsm_remove"))
-
 add: Call = _bind(_releasing, "clsm_add")
 put_if_absent: Call = _bind(_releasing, "clsm_put_if_absent")
 replace: Call = _bind(_releasing, "clsm_replace")
 batch: Call = _bind(_releasing, "clsm_batch")
+
+snapshot_open: Call = _bind(_releasing, "clsm_snapshot_open")
+snapshot_close_at: Call = _bind(_keeping, "clsm_snapshot_close_at")
+snapshot_time: Call = _bind(_keeping, "clsm_snapshot_time")
+snapshot_get: Call = _bind(_keeping, "clsm_snapshot_get")
+snapshot_count: Call = _bind(_releasing, "clsm_snapshot_count")
+snapshot_page: Call = _bind(_releasing, "clsm_snapshot_page")

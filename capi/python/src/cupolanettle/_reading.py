@@ -2,15 +2,41 @@
 
 from __future__ import annotations
 
-import ctypes
-from typing import Callable, NoReturn, Optional, TypeVar, Union, overload
+from typing import Any, NoReturn, Optional, TypeVar, Union, overload
 
-from . import _library as library
-from ._errors import NOT_FOUND, OK, error_of
-from ._sessions import Handle
-from ._values import Value, key_of, range_of, value_of
+from . import _core as core
+from ._values import Value, range_of
 
 Default = TypeVar("Default")
+
+
+class Rows(core.Rows):
+    """An iterator over rows by rising key: of one moment, or of each page's own.
+
+    :meth:`Store.scan` and :meth:`Snapshot.scan` make those of one moment, and :meth:`Store.walk`
+    makes the others. Threads may share one: each row comes to one of them.
+
+    >>> with Store() as store:
+    ...     store[7] = 70
+    ...     rows = store.scan()
+    ...     next(rows), next(rows, None)
+    ((7, 70), None)
+    """
+
+    def close(self) -> None:
+        """Ends it, wherever it is; a scan of a store also closes its snapshot.
+
+        >>> with Store() as store:
+        ...     store[7] = 70
+        ...     rows = store.scan()
+        ...     rows.close()
+        ...     list(rows)
+        []
+        """
+        super().close()
+
+    def __reduce__(self) -> NoReturn:
+        raise TypeError(f"a {type(self).__name__} cannot be copied or pickled")
 
 
 class Reader:
@@ -19,9 +45,14 @@ class Reader:
     # A class with __getitem__ would otherwise be asked for the keys 0, 1, 2 ..
     __iter__: None = None
 
-    def __init__(self, reads: library.ReadCalls, handle: Callable[[], Handle]) -> None:
-        self._reads = reads
-        self._handle = handle
+    def _get(self, key: int, default: object) -> Any:
+        raise NotImplementedError
+
+    def _has(self, key: int) -> bool:
+        raise NotImplementedError
+
+    def _count(self, first: int, last: int) -> int:
+        raise NotImplementedError
 
     def __getitem__(self, key: int) -> Value:
         """The value of the key; ``KeyError`` if it has none.
@@ -31,7 +62,7 @@ class Reader:
         ...     store[7]
         70
         """
-        value = self._find(key)
+        value: Optional[Value] = self._get(key, None)
         if value is None:
             raise KeyError(key)
         return value
@@ -50,8 +81,7 @@ class Reader:
         ...     store.get(7), store.get(8), store.get(8, 0)
         ((70, 71), None, 0)
         """
-        value = self._find(key)
-        return default if value is None else value
+        return self._get(key, default)
 
     def __contains__(self, key: int) -> bool:
         """Whether the key has a value.
@@ -61,10 +91,10 @@ class Reader:
         ...     7 in store, 8 in store
         (True, False)
         """
-        return self._look_up(key, None)
+        return self._has(key)
 
     def count(self, start: int = 0, stop: Optional[int] = None) -> int:
-        """How many keys from ``start`` on and below ``stop`` have a value; walks all of them.
+        """How many keys from ``start`` on and below ``stop`` have a value; visits all of them.
 
         Without ``stop`` there is no upper end. The greatest key is 2**64 - 1, so 2**64 is the
         greatest bound.
@@ -75,30 +105,7 @@ class Reader:
         ...     store.count(), store.count(4), store.count(3, 20)
         (3, 2, 2)
         """
-        first, last = range_of(start, stop)
-        handle = self._handle()
-        keys = ctypes.c_uint64()
-        with handle.lock:
-            code = self._reads.count(handle.pointer, first, last, ctypes.byref(keys))
-        if code != OK:
-            raise error_of(code)
-        return keys.value
+        return self._count(*range_of(start, stop))
 
     def __reduce__(self) -> NoReturn:
         raise TypeError(f"a {type(self).__name__} cannot be copied or pickled")
-
-    def _find(self, key: int) -> Optional[Value]:
-        found = library.Value()
-        return value_of(found) if self._look_up(key, found) else None
-
-    def _look_up(self, key: int, found: Optional[library.Value]) -> bool:
-        """Whether the key has a value, which goes where it was found."""
-        number = key_of(key)
-        handle = self._handle()
-        with handle.lock:
-            code = self._reads.get(handle.pointer, number, found)
-        if code == OK:
-            return True
-        if code == NOT_FOUND:
-            return False
-        raise error_of(code)

@@ -2,34 +2,20 @@
 
 from __future__ import annotations
 
-import ctypes
 import math
 import operator
-import sys
-import warnings
-from types import TracebackType
-from typing import Any, Callable, Dict, Optional, Tuple, Type, Union, overload
+from typing import Callable, Dict, Optional, Tuple, Union, overload
 
-from . import _library as library
+from . import _core as core
 from ._batch import Batch
-from ._errors import KEPT, OK, Code, Error, error_of
-from ._reading import Default, Reader
-from ._scanning import Rows
-from ._sessions import Session
-from ._snapshot import Snapshot, rows_and_close
-from ._values import (
-    Value,
-    key_of,
-    packed,
-    packed_or_none,
-    range_of,
-    value_of,
-    value_or_none,
-    word_of,
-    words_of,
-)
+from ._errors import Code, Error
+from ._reading import Default, Reader, Rows
+from ._snapshot import FIRST_ROOM, GREATEST_ROOM, Snapshot
+from ._statistics import Statistics, statistics_of
+from ._values import Value, range_of
 
 Function = Callable[[Optional[Value]], Optional[Value]]
+Keep = Callable[[int, Value], object]
 
 _NO_DEFAULT = object()
 _GREATEST_OPTION = 2**31 - 1
@@ -43,6 +29,7 @@ _OPTIONS: Dict[int, str] = {
 _MILLISECONDS = 1_000  # of a second
 _AT_ONCE = -1
 _FOR_EVER = 2**63 - 1
+_NO_PATIENCE = -1
 
 
 def _option(name: str, value: int, least: int) -> int:
@@ -71,7 +58,7 @@ def _nothing(_: Optional[Value]) -> Optional[Value]:
     return None
 
 
-class Store(Reader):
+class Store(core.Store, Reader):
     """An ordered map in memory, for many threads, from ints to ints or tuples of ints.
 
     Keys and words are from 0 to 2**64 - 1. A value is an int, or a tuple of 2 to 8 ints.
@@ -97,11 +84,11 @@ class Store(Reader):
     versions.
     Changes, as :meth:`add`, read a key and write it in one step: no other write of the key comes
     between. They wait as writes do.
-    A thread takes one of the store's 64 seats from its first call until it ends, and each snapshot
-    and scan takes one: :class:`NoSeat` if none is left. Each call of a closed store raises
-    :class:`Closed`.
+    Threads need nothing of their own. A snapshot or a scan keeps one of the store's 64 seats:
+    :class:`NoSeat` if none is left. Each call of a closed store raises :class:`Closed`.
 
-    Use it with ``with``, or close it. After a fork it is closed in the child.
+    Use it with ``with``, or close it. After a fork it is closed in the child, which may open stores
+    of its own.
 
     >>> with Store(keys=1_000) as store:
     ...     store[7] = 70
@@ -120,21 +107,43 @@ class Store(Reader):
         patience: int = 64,
         merge_in_calls: bool = False,
     ) -> None:
-        options = library.Options(
-            keys=_option("keys", keys, 1),
-            epoch=_option_or_zero("epoch", epoch),
-            versions=_option_or_zero("versions", versions),
-            wait=_milliseconds(wait),
-            patience=_option("patience", patience, 0) or -1,
-            merge=1 if merge_in_calls else 0,
+        chosen = (
+            _option("keys", keys, 1),
+            _option_or_zero("epoch", epoch),
+            _option("patience", patience, 0) or _NO_PATIENCE,
+            int(bool(merge_in_calls)),
+            _option_or_zero("versions", versions),
+            _milliseconds(wait),
         )
         try:
-            self._session = Session(options)
+            super().__init__(*chosen)
         except Error as error:
             if error.code not in _OPTIONS:
                 raise
             raise ValueError(f"{_OPTIONS[error.code]} is out of range") from None
-        super().__init__(library.CALLER_READS, self._session.caller)
+
+    def __repr__(self) -> str:
+        if not self._is_open():
+            return "<Store, closed>"
+        now = self.stats()
+        return (
+            f"<Store of {now.bytes:,} bytes: {now.epoch_writes:,} writes in the epoch, "
+            f"{now.merges:,} merges, {now.snapshots:,} snapshots, room for "
+            f"{now.room_for_keys:,} keys and {now.room_for_versions:,} versions>"
+        )
+
+    def stats(self) -> Statistics:
+        """What the store tells of itself: memory, what is open, room, merges, waits and refusals.
+
+        It costs a read.
+
+        >>> with Store(keys=1_000) as store:
+        ...     store[7] = 70
+        ...     now = store.stats()
+        ...     now.epoch_writes, now.room_for_keys, now.versions_full
+        (1, 1000, 0)
+        """
+        return statistics_of(self._stats())
 
     # ---- Writes
 
@@ -150,9 +159,7 @@ class Store(Reader):
         ...     store[7]
         (70, 71)
         """
-        number = key_of(key)
-        words = words_of(value)
-        self._write(library.PUT, number, words, len(words))
+        self._put(key, value)
 
     def remove(self, key: int) -> None:
         """Removes the key, whether or not it has a value.
@@ -166,16 +173,7 @@ class Store(Reader):
         ...     7 in store
         False
         """
-        self._write(library.REMOVE, key_of(key))
-
-    def _write(self, calls: library.WriteCalls, *arguments: Any) -> None:
-        handle = self._handle()
-        with handle.lock:
-            code = calls.attempt(handle.pointer, *arguments)
-            if code != OK:  # it may be another one if the write waits
-                code = calls.wait(handle.pointer, *arguments)
-        if code != OK:
-            raise error_of(code)
+        self._remove(key)
 
     def batch(self) -> Batch:
         """A batch: writes that are made at one moment, at the end of its ``with``.
@@ -189,12 +187,6 @@ class Store(Reader):
         [(2, 10)]
         """
         return Batch(self)
-
-    def _write_batch(self, rows: ctypes.Array[library.Row], count: int) -> int:
-        handle = self._handle()
-        with handle.lock:
-            code: int = library.batch(handle.pointer, rows, count)
-        return code
 
     # ---- Changes
 
@@ -211,13 +203,7 @@ class Store(Reader):
         ...     store.add(7), store.add(7, 5), store[7]
         (1, 6, 6)
         """
-        is_written, changed = self._change(library.add, key_of(key), word_of(by))
-        if not is_written:
-            if changed.before.length > 1:
-                raise ValueError("a tuple cannot be added to")
-            raise OverflowError("the sum is greater than 2**64 - 1")
-        total: int = changed.after.words[0]
-        return total
+        return self._add(key, by)
 
     def setdefault(self, key: int, value: Value) -> Value:
         """Writes the value at the key if the key has none. The value that the key has then.
@@ -229,8 +215,8 @@ class Store(Reader):
         ...     store.setdefault(7, 70), store.setdefault(7, 71), store[7]
         (70, 70, 70)
         """
-        _, changed = self._change(library.put_if_absent, key_of(key), packed(value))
-        return value_of(changed.after)
+        held: Value = self._put_if_absent(key, value)
+        return held
 
     def replace(
         self, key: int, expected: Optional[Value], desired: Optional[Value]
@@ -247,8 +233,7 @@ class Store(Reader):
         (True, False, 70)
         (False, True, False)
         """
-        arguments = key_of(key), packed_or_none(expected), packed_or_none(desired)
-        return self._change(library.replace, *arguments)[0]
+        return self._replace(key, expected, desired)[0]
 
     def update(self, key: int, function: Function) -> Optional[Value]:
         """Writes what the function makes of the key's value. The value that the key has then.
@@ -264,7 +249,7 @@ class Store(Reader):
         ...     [store.update(7, half) for _ in range(5)]
         [5, 2, 1, None, 5]
         """
-        return value_or_none(self._update(key, function).after)
+        return self._update(key, function)[1]
 
     @overload
     def pop(self, key: int) -> Value: ...
@@ -283,7 +268,7 @@ class Store(Reader):
         ...     store.pop(7), store.pop(7, None)
         (70, None)
         """
-        value = value_or_none(self._update(key, _nothing).before)
+        value = self._update(key, _nothing)[0]
         if value is not None:
             return value
         if default is _NO_DEFAULT:
@@ -305,35 +290,21 @@ class Store(Reader):
         """
         self.pop(key)
 
-    def _update(self, key: int, function: Function) -> library.Changed:
+    def _update(self, key: int, function: Function) -> Tuple[Optional[Value], Optional[Value]]:
         """What the key had, and what it has since the function changed that."""
-        number = key_of(key)
-        changed = library.Changed()
-        self._look_up(number, changed.before)
-        is_written = False
-        while not is_written:
-            old = changed.before
-            new = packed_or_none(function(value_or_none(old)))
-            if new is None and not old.length:
-                break
-            expected = old if old.length else None
-            is_written, changed = self._change(library.replace, number, expected, new)
-        return changed
-
-    def _change(self, call: library.Call, *arguments: Any) -> Tuple[bool, library.Changed]:
-        """Whether the call has written, and what the key had and has."""
-        changed = library.Changed()
-        handle = self._handle()
-        with handle.lock:
-            code = call(handle.pointer, *arguments, changed)
-        if code not in (OK, KEPT):
-            raise error_of(code)
-        return code == OK, changed
+        old: Optional[Value] = self._get(key, None)
+        while True:
+            new = function(old)
+            if new is None and old is None:
+                return None, None
+            is_written, old, held = self._replace(key, old, new)
+            if is_written:
+                return old, held
 
     # ---- Reads of one moment
 
     def snapshot(self) -> Snapshot:
-        """Opens a snapshot of the present; takes a seat until it is closed.
+        """Opens a snapshot of the present; keeps a seat until it is closed.
 
         >>> with Store() as store:
         ...     with store.snapshot() as snapshot:
@@ -344,11 +315,12 @@ class Store(Reader):
         return Snapshot(self)
 
     def scan(self, start: int = 0, stop: Optional[int] = None) -> Rows:
-        """The keys from ``start`` on and below ``stop``, with their values, by rising key.
+        """The rows from ``start`` on and below ``stop`` by rising key, at the moment of this call.
 
-        Without ``stop`` there is no upper end. All rows are of the moment of this call: it opens a
-        snapshot, and closes it behind the last row. A scan that is left before stays open until
-        nothing refers to it any more, or until its ``close``.
+        A row is a key and its value. Without ``stop`` there is no upper end. It opens a snapshot,
+        and closes it behind the last row: a loop that writes as it reads may come to
+        :class:`OwnSnapshot`, and :meth:`walk` is for that. A scan that is left before its end stays
+        open until nothing refers to it any more, or until its ``close``.
 
         >>> with Store() as store:
         ...     for key in 20, 3, 7:
@@ -357,7 +329,45 @@ class Store(Reader):
         ([(3, 30), (7, 70)], [(7, 70), (20, 200)])
         """
         first, last = range_of(start, stop)
-        return rows_and_close(Snapshot(self), first, last)
+        return Rows(Snapshot(self), first, last, FIRST_ROOM, GREATEST_ROOM, True)
+
+    # ---- Each page's own moment
+
+    def walk(self, start: int = 0, stop: Optional[int] = None) -> Rows:
+        """The rows from ``start`` on and below ``stop`` by rising key, for loops that write: no snapshot.
+
+        It reads 64 rows at a time, each time the map of that moment, and keeps no versions and no
+        seat. So a row may have been changed since, and of keys that are written meanwhile behind
+        the walk it tells nothing: it is weakly consistent.
+
+        >>> with Store(keys=1_000, epoch=4) as store:
+        ...     for key in range(500):
+        ...         store[key] = key
+        ...     for key, value in store.walk(100):
+        ...         store[key] = 2 * value
+        ...     store[99], store[100], store[499]
+        (99, 200, 998)
+        """
+        return Rows(self, *range_of(start, stop), FIRST_ROOM, FIRST_ROOM, False)
+
+    def retain(self, keep: Keep, start: int = 0, stop: Optional[int] = None) -> int:
+        """Walks, and removes each key for which ``keep(key, value)`` is false. How many it removed.
+
+        It never removes a value that ``keep`` did not see: a key that was given another one
+        meanwhile keeps that, and is not asked about again. What ``keep`` raises ends it, with the
+        keys removed that it came to before. :class:`Error` as for :meth:`remove`.
+
+        >>> with Store() as store:
+        ...     for key in range(500):
+        ...         store[key] = key % 10
+        ...     store.retain(lambda key, value: value == 7, 100), store.count()
+        (360, 140)
+        """
+        removed = 0
+        for key, value in self.walk(start, stop):
+            if not keep(key, value):
+                removed += self.replace(key, value, None)
+        return removed
 
     # ---- Closing
 
@@ -373,22 +383,4 @@ class Store(Reader):
         Traceback (most recent call last):
         cupolanettle.Closed: closed
         """
-        self._session.close()
-
-    def __enter__(self) -> Store:
-        return self
-
-    def __exit__(
-        self,
-        kind: Optional[Type[BaseException]],
-        error: Optional[BaseException],
-        trace: Optional[TracebackType],
-    ) -> None:
-        self.close()
-
-    def __del__(self, is_finalizing: Callable[[], bool] = sys.is_finalizing) -> None:
-        session: Optional[Session] = getattr(self, "_session", None)
-        if session is None or is_finalizing() or not session.is_open():
-            return
-        session.close()
-        warnings.warn("a Store was not closed", ResourceWarning, source=self)
+        super().close()

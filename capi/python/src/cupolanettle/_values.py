@@ -2,17 +2,16 @@
 
 from __future__ import annotations
 
-import ctypes
 import operator
-from typing import List, Optional, Tuple, Union
-
-from . import _library as library
+from typing import Optional, Sequence, Tuple, Union
 
 Value = Union[int, Tuple[int, ...]]
 """A value of a store: an int is one word, a tuple of 2 to 8 ints several."""
 
+Row = Tuple[int, Value]
+"""A key and its value."""
+
 _LIMIT = 2**64
-_ARRAYS = [ctypes.c_uint64 * count for count in range(9)]
 _EMPTY_RANGE = (1, 0)
 
 
@@ -32,35 +31,13 @@ def word_of(word: int) -> int:
     return number
 
 
-def words_of(value: Value) -> ctypes.Array[ctypes.c_uint64]:
+def words_of(value: Value) -> Sequence[int]:
     """The words of a value."""
     if not isinstance(value, tuple):
-        return _ARRAYS[1](word_of(value))
+        return (word_of(value),)
     if not 2 <= len(value) <= 8:
         raise ValueError("a tuple has 2 to 8 words; for one word pass an int")
-    return _ARRAYS[len(value)](*map(word_of, value))
-
-
-def packed(value: Value) -> library.Value:
-    """The value as the library has it."""
-    words = words_of(value)
-    return library.Value(len(words), tuple(words))
-
-
-def packed_or_none(value: Optional[Value]) -> Optional[library.Value]:
-    """The value as the library has it; ``None``, a null pointer, stands for no value."""
-    return None if value is None else packed(value)
-
-
-def value_of(found: library.Value) -> Value:
-    """The value that the library found."""
-    words: List[int] = found.words[: found.length]
-    return words[0] if len(words) == 1 else tuple(words)
-
-
-def value_or_none(found: library.Value) -> Optional[Value]:
-    """The value that the library found, if it found one."""
-    return value_of(found) if found.length else None
+    return tuple(map(word_of, value))
 
 
 def range_of(start: int, stop: Optional[int]) -> Tuple[int, int]:

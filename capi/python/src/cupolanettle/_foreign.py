@@ -1,0 +1,488 @@
+"""Stores and snapshots by ``ctypes``, where the C extension is not.
+
+All threads share one caller for calls that never wait. Each of the others borrows one from a pool
+while it runs: of the callers that open snapshots, that read, or that write. A thread that has a
+snapshot open writes by the caller that opened it, so that the library knows. A caller follows what
+the shared one has seen, and that one follows it: so nothing that a thread saw runs back.
+
+No lock is held while another one is waited for, and those that a handler of a signal may find held
+by its own thread let it in.
+"""
+
+from __future__ import annotations
+
+import ctypes
+import os
+import struct
+import sys
+import threading
+import time
+import weakref
+from typing import Any, Iterator, List, NoReturn, Optional, Sequence, Set, Tuple, TypeVar, Union
+
+from . import _library as library
+from ._errors import KEPT, NOT_FOUND, OK, Code, error_of
+from ._handles import Alarm, Caller, Handle, Lease, Silent, View, switch_off, thread_number
+from ._values import Row, Value, key_of, word_of, words_of
+
+Page = Tuple[List[Row], Optional[int]]
+# The rest of a page, the key behind it if there are more rows, and the room of the next page.
+Place = Tuple[Iterator[Row], Optional[int], int]
+
+# The callers of the pool, by their numbers. The first of each kind is always open.
+_OPENERS = range(0, 4)
+_READERS = range(4, 8)
+_WRITERS = range(8, 16)
+_KINDS = (_OPENERS, _READERS, _WRITERS)
+
+Kind = TypeVar("Kind")
+
+# Whether threads of Python run one at a time.
+_HAS_LOCK: bool = getattr(sys, "_is_gil_enabled", lambda: True)()
+
+_PAUSE = 0.001  # seconds until somebody who waits looks again
+_ARRAYS = [ctypes.c_uint64 * count for count in range(9)]
+_NO_WORDS = (0,) * 8
+
+# A row of the library: the key, the length of the value, and its eight words.
+_ROW = struct.Struct("=10Q")
+
+
+def pack(key: int, value: Optional[Value]) -> bytes:
+    """A row as the library has it; ``None`` stands for no value."""
+    number = key_of(key)
+    words = () if value is None else words_of(value)
+    return _ROW.pack(number, len(words), *words, *_NO_WORDS[len(words) :])
+
+
+def _array_of(value: Value) -> Any:
+    words = words_of(value)
+    return _ARRAYS[len(words)](*words)
+
+
+def _packed(value: Value) -> library.Value:
+    words = words_of(value)
+    return library.Value(len(words), tuple(words))
+
+
+def _packed_or_none(value: Optional[Value]) -> Optional[library.Value]:
+    """The value as the library has it; ``None``, a null pointer, stands for no value."""
+    return None if value is None else _packed(value)
+
+
+def _value_of(found: library.Value) -> Optional[Value]:
+    """The value that the library found, if it found one."""
+    if not found.length:
+        return None
+    words: List[int] = found.words[: found.length]
+    return words[0] if len(words) == 1 else tuple(words)
+
+
+def _page_of(rows: Any, end: library.PageEnd) -> Page:
+    read = ctypes.string_at(rows, end.rows * _ROW.size)
+    page = [
+        (row[0], row[2] if row[1] == 1 else row[2 : 2 + row[1]]) for row in _ROW.iter_unpack(read)
+    ]
+    return page, end.next if end.more else None
+
+
+def _add(references: Set[weakref.ref[Kind]], value: Kind) -> None:
+    """Adds a reference, without those to what is gone, in steps that each leave the set whole."""
+    references.difference_update([found for found in list(references) if found() is None])
+    references.add(weakref.ref(value))
+
+
+class Store:
+    """An open store of the library, and its callers."""
+
+    _alarm: object = Silent()
+
+    def __init__(
+        self, keys: int, epoch: int, patience: int, merge: int, versions: int, wait: int
+    ) -> None:
+        self._closing = True  # until it is open
+        self._is_forked = False
+        self._views: Set[weakref.ref[View]] = set()
+        self._callers: List[Optional[Caller]] = [None] * _WRITERS.stop
+        self._renew_locks()
+        self._handle = Handle(library.store_close_at)
+        self._main = Caller(self._handle)
+        options = library.Options(keys, epoch, patience, merge, versions, wait)
+        _remember(self)
+        self._check(library.store_open(ctypes.byref(options), self._handle._address))
+        self._check(library.caller_open(self._handle.pointer, self._main._address))
+        for kind in _KINDS:
+            self._open_caller(kind.start)
+        self._closing = False
+        self._alarm = Alarm()
+
+    def _renew_locks(self) -> None:
+        self._lock = threading.RLock()  # of the pool and of what is open
+        self._main_lock = threading.RLock()
+        self._handle_lock = threading.RLock()
+
+    def _check(self, code: int) -> None:
+        if code != OK:
+            self._refuse(code)
+
+    def _refuse(self, code: int) -> NoReturn:
+        raise error_of(code, self._is_forked)
+
+    def _exclusively(self, call: library.Call, *arguments: Any) -> int:
+        """Makes a call that keeps the interpreter's lock, which keeps out all other threads."""
+        if _HAS_LOCK:
+            return call(*arguments)
+        with self._main_lock:
+            return call(*arguments)
+
+    # ---- The pool
+
+    def _open_caller(self, number: int) -> Optional[Caller]:
+        """Opens a caller of the pool, if there is a seat."""
+        caller = Caller(self._handle)
+        code = library.caller_open(self._handle.pointer, caller._address)
+        if code == Code.NO_SEAT:
+            return None
+        self._check(code)
+        self._callers[number] = caller
+        return caller
+
+    def _take(self, lease: Lease, kind: Sequence[int]) -> Caller:
+        """Borrows a caller; waits for one if all are in calls of other threads."""
+        while True:
+            with self._lock:
+                if self._closing:
+                    self._refuse(Code.BAD_POINTER)
+                for number in kind:
+                    caller = self._callers[number] or self._open_caller(number)
+                    if caller is not None and not caller.is_of_others():
+                        caller.lend(lease)
+                        return caller
+            time.sleep(_PAUSE)
+
+    def _give_up_seats(self) -> None:
+        """Closes callers that are in no call and opened no snapshot, for another snapshot."""
+        with self._lock:
+            kept = {kind.start for kind in _KINDS} | {view.opener for view in self._open_views()}
+            for number, caller in enumerate(self._callers):
+                if caller is not None and caller.user() is None and number not in kept:
+                    self._callers[number] = None
+                    caller.close()
+
+    def _follow(self, caller: Caller, leader: Caller) -> int:
+        return self._exclusively(library.follow, caller.pointer, library.seen(leader.pointer))
+
+    def _call(self, kind: Sequence[int], call: library.Call, *arguments: Any) -> int:
+        """Makes a call that may wait, by a caller of the pool."""
+        lease = Lease()
+        try:
+            caller = self._take(lease, kind)
+            self._check(self._follow(caller, self._main))
+            code = call(caller.pointer, *arguments)
+            self._follow(self._main, caller)
+            return code
+        finally:
+            lease.is_over = True
+
+    def _for_writing(self) -> Sequence[int]:
+        """Who writes for this thread: the opener of a snapshot that it has open, or any writer."""
+        thread = thread_number()
+        for view in self._open_views():
+            if view.thread == thread:
+                return range(view.opener, view.opener + 1)
+        return _WRITERS
+
+    # ---- Reads
+
+    def _get(self, key: int, default: object) -> Any:
+        found = library.Value()
+        return _value_of(found) if self._look_up(key, found) else default
+
+    def _has(self, key: int) -> bool:
+        return self._look_up(key, None)
+
+    def _look_up(self, key: int, found: Optional[library.Value]) -> bool:
+        """Whether the key has a value, which goes where it was found."""
+        number = key_of(key)
+        code = self._exclusively(library.get, self._main.pointer, number, found)
+        if code not in (OK, NOT_FOUND):
+            self._refuse(code)
+        return code == OK
+
+    def _count(self, first: int, last: int) -> int:
+        keys = ctypes.c_uint64()
+        self._check(self._call(_READERS, library.count, first, last, ctypes.byref(keys)))
+        return keys.value
+
+    def _page(self, first: int, last: int, room: int) -> Page:
+        """The first rows of the range, and the key of the next one if there are more."""
+        rows = (library.Row * room)()
+        end = library.PageEnd()
+        pointer = self._main.pointer
+        code = self._exclusively(library.page, pointer, first, last, rows, room, end)
+        self._check(code)
+        return _page_of(rows, end)
+
+    def _stats(self) -> Tuple[int, ...]:
+        found = library.Statistics()
+        with self._handle_lock:
+            code = library.stats(self._handle.pointer, found)
+        self._check(code)
+        return tuple(getattr(found, name) for name, _ in found._fields_)
+
+    # ---- Writes
+
+    def _put(self, key: int, value: Value) -> None:
+        number = key_of(key)
+        words = _array_of(value)
+        self._write(library.PUT, number, words, len(words))
+
+    def _remove(self, key: int) -> None:
+        self._write(library.REMOVE, key_of(key))
+
+    def _write(self, calls: library.WriteCalls, *arguments: Any) -> None:
+        code = self._exclusively(calls.attempt, self._main.pointer, *arguments)
+        if code != OK:  # it may be another one if the write waits
+            self._check(self._call(self._for_writing(), calls.wait, *arguments))
+
+    def _write_rows(self, rows: bytearray) -> None:
+        """Writes a batch, and takes what it wrote out of it."""
+        count = len(rows) // _ROW.size
+        copied = (library.Row * count).from_buffer_copy(rows)
+        self._check(self._call(self._for_writing(), library.batch, copied, count))
+        del rows[: count * _ROW.size]
+
+    def _change(self, call: library.Call, *arguments: Any) -> Tuple[bool, library.Changed]:
+        """Whether the call has written, and what the key had and has."""
+        changed = library.Changed()
+        code = self._call(self._for_writing(), call, *arguments, changed)
+        if code not in (OK, KEPT):
+            self._refuse(code)
+        return code == OK, changed
+
+    def _add(self, key: int, by: int) -> int:
+        is_written, changed = self._change(library.add, key_of(key), word_of(by))
+        if not is_written:
+            if changed.before.length > 1:
+                raise ValueError("a tuple cannot be added to")
+            raise OverflowError("the sum is greater than 2**64 - 1")
+        total: int = changed.after.words[0]
+        return total
+
+    def _put_if_absent(self, key: int, value: Value) -> Any:
+        _, changed = self._change(library.put_if_absent, key_of(key), _packed(value))
+        return _value_of(changed.after)
+
+    def _replace(
+        self, key: int, expected: Optional[Value], desired: Optional[Value]
+    ) -> Tuple[bool, Optional[Value], Optional[Value]]:
+        """Whether it has written, and what the key had and has."""
+        arguments = key_of(key), _packed_or_none(expected), _packed_or_none(desired)
+        is_written, changed = self._change(library.replace, *arguments)
+        return is_written, _value_of(changed.before), _value_of(changed.after)
+
+    # ---- Snapshots
+
+    def _open_view(self) -> View:
+        view = View(self._handle)
+        code = self._open_once(view)
+        if code == Code.NO_SEAT:
+            self._give_up_seats()
+            code = self._open_once(view)
+        self._check(code)
+        return view
+
+    def _open_views(self) -> List[View]:
+        views = [reference() for reference in list(self._views)]
+        return [view for view in views if view is not None and view.is_open()]
+
+    def _open_once(self, view: View) -> int:
+        lease = Lease()
+        try:
+            caller = self._take(lease, _OPENERS)
+            self._check(self._follow(caller, self._main))
+            _add(self._views, view)
+            view.opener = self._callers.index(caller)
+            code = library.snapshot_open(caller.pointer, view._address)
+            self._follow(self._main, caller)
+            return code
+        finally:
+            lease.is_over = True
+
+    # ---- Closing
+
+    def _is_open(self) -> bool:
+        """Whether nobody has begun to close it."""
+        return not self._closing
+
+    def close(self) -> None:
+        if self._is_forked:
+            return
+        with self._lock:
+            self._closing = True
+        self._close_views()  # for which writes may be waiting
+        while any(caller is not None and caller.is_of_others() for caller in self._callers):
+            time.sleep(_PAUSE)
+        self._close_views()
+        with self._lock:
+            for caller in self._callers:
+                if caller is not None:
+                    caller.close()
+        self._exclusively(library.caller_close_at, self._main._address)
+        with self._handle_lock:
+            if self._handle.pointer.value is not None:
+                self._check(self._handle.close() or OK)
+        switch_off(self._alarm)
+
+    def _close_views(self) -> None:
+        for reference in list(self._views):
+            view = reference()
+            if view is not None:
+                view.close_after_calls()
+
+    def _abandon(self) -> None:
+        """Closes all without the library, in a child process, which has not its parent's locks."""
+        was_open = not self._closing
+        self._closing = True
+        self._is_forked = was_open
+        self._renew_locks()
+        switch_off(self._alarm)
+        for handle in [self._handle, self._main, *self._callers]:
+            if handle is not None:
+                handle.abandon()
+        for reference in self._views:
+            view = reference()
+            if view is not None:
+                view.abandon()
+                view.lock = threading.RLock()
+
+    def __enter__(self) -> Any:
+        return self
+
+    def __exit__(self, *_: object) -> None:
+        self.close()
+
+
+class Snapshot:
+    """An open snapshot of the library."""
+
+    def __init__(self, store: Store) -> None:
+        self._store = store  # which would be closed if nothing referred to it
+        self._view = view = store._open_view()
+        with view.lock:
+            if not view.is_open():
+                store._refuse(Code.BAD_POINTER)
+            self._time = library.snapshot_time(view.pointer)
+
+    def _get(self, key: int, default: object) -> Any:
+        found = library.Value()
+        return _value_of(found) if self._look_up(key, found) else default
+
+    def _has(self, key: int) -> bool:
+        return self._look_up(key, None)
+
+    def _look_up(self, key: int, found: Optional[library.Value]) -> bool:
+        number = key_of(key)
+        view = self._view
+        with view.lock:
+            code = library.snapshot_get(view.pointer, number, found)
+        if code not in (OK, NOT_FOUND):
+            self._store._refuse(code)
+        return code == OK
+
+    def _count(self, first: int, last: int) -> int:
+        keys = ctypes.c_uint64()
+        view = self._view
+        with view.lock:
+            code = library.snapshot_count(view.pointer, first, last, ctypes.byref(keys))
+        self._store._check(code)
+        return keys.value
+
+    def _page(self, first: int, last: int, room: int) -> Page:
+        """The first rows of the range, and the key of the next one if there are more."""
+        rows = (library.Row * room)()
+        end = library.PageEnd()
+        view = self._view
+        with view.lock:
+            code = library.snapshot_page(view.pointer, first, last, rows, room, end)
+        self._store._check(code)
+        return _page_of(rows, end)
+
+    def close(self) -> None:
+        self._view.close_after_calls()
+
+    def __enter__(self) -> Any:
+        return self
+
+    def __exit__(self, *_: object) -> None:
+        self.close()
+
+
+class Rows:
+    """The rows of a range, page by page."""
+
+    def __init__(
+        self,
+        reader: Union[Store, Snapshot],
+        first: int,
+        last: int,
+        room: int,
+        greatest_room: int,
+        is_own: bool,
+    ) -> None:
+        self._reader: Union[Store, Snapshot, None] = reader
+        self._last = last
+        self._greatest_room = greatest_room
+        self._is_own = is_own
+        self._lock = threading.RLock()
+        self._place: Place = iter(()), first, room
+
+    def __iter__(self) -> Any:
+        return self
+
+    def __next__(self) -> Row:
+        while True:
+            place = self._place
+            row = next(place[0], None)
+            if row is not None:
+                return row
+            self._turn(place)
+
+    def _turn(self, place: Place) -> None:
+        """Reads the page behind this one, unless another thread has done so."""
+        with self._lock:
+            reader = self._reader
+            _, at, room = place
+            if self._place is not place:
+                return
+            if reader is None or at is None:
+                self.close()
+                raise StopIteration
+            page, following = reader._page(at, self._last, room)
+            self._place = iter(page), following, min(2 * room, self._greatest_room)
+
+    def close(self) -> None:
+        reader = self._reader
+        self._reader = None
+        self._place = iter(()), None, 1
+        if self._is_own and isinstance(reader, Snapshot):
+            reader.close()
+
+
+# ---- Forks
+
+_stores: Set[weakref.ref[Store]] = set()
+
+
+def _remember(store: Store) -> None:
+    _add(_stores, store)
+
+
+def _abandon_all() -> None:
+    for reference in list(_stores):
+        store = reference()
+        if store is not None:
+            store._abandon()
+
+
+os.register_at_fork(after_in_child=_abandon_all)
