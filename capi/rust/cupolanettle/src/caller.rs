@@ -275,7 +275,7 @@ impl Caller {
         self.handle.get(key)
     }
 
-    /// How many keys of the range have a value. It walks all of them, and takes no memory.
+    /// How many keys of the range have a value. It walks all of them and needs no memory.
     ///
     /// ```
     /// # use cupolanettle::{Error, Options};

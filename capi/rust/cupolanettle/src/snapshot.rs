@@ -94,7 +94,7 @@ impl Snapshot {
         self.handle.get(key)
     }
 
-    /// How many keys of the range had a value. It walks all of them, and takes no memory.
+    /// How many keys of the range had a value. It walks all of them and needs no memory.
     ///
     /// ```
     /// # use cupolanettle::{Error, Options};
