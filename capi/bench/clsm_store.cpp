@@ -57,15 +57,30 @@ private:
     std::vector<clsm_row> rows_;
 };
 
-class ClsmStore {
+struct Naming {
+    const char *name, *title;
+};
+
+constexpr Naming naming_of(std::size_t epoch) {
+    switch (epoch) {
+    case 4096: return {"clsm-4096", "epochs of 4,096"};
+    case 16384: return {"clsm-16384", "epochs of 16,384"};
+    case 65536: return {"clsm-65536", "epochs of 65,536"};
+    default: return {"clsm", "clsm"};
+    }
+}
+
+// With epochs of so many writes, or, for 0, as the library chooses.
+template <std::size_t epoch> class ClsmStore {
 public:
     using Caller = ClsmCaller;
-    static constexpr const char *name = "clsm", *title = "clsm";
+    static constexpr const char *name = naming_of(epoch).name, *title = naming_of(epoch).title;
     static constexpr bool removes = true;
 
     explicit ClsmStore(std::size_t keys) {
         clsm_options options = {};
         options.keys = keys;
+        options.epoch = epoch;
         clsm_store *store = nullptr;
         check(clsm_open(&options, &store));
         store_.reset(store);
@@ -79,6 +94,9 @@ private:
 
 } // namespace
 
-std::unique_ptr<Entrant> make_clsm() { return std::make_unique<EntrantOf<ClsmStore>>(); }
+std::unique_ptr<Entrant> make_clsm() { return std::make_unique<EntrantOf<ClsmStore<0>>>(); }
+std::unique_ptr<Entrant> make_clsm_4096() { return std::make_unique<EntrantOf<ClsmStore<4096>>>(); }
+std::unique_ptr<Entrant> make_clsm_16384() { return std::make_unique<EntrantOf<ClsmStore<16384>>>(); }
+std::unique_ptr<Entrant> make_clsm_65536() { return std::make_unique<EntrantOf<ClsmStore<65536>>>(); }
 
 } // namespace bench

@@ -52,6 +52,9 @@ public:
 
 // Each is null where the store's package was not installed when this was built.
 std::unique_ptr<Entrant> make_clsm();
+std::unique_ptr<Entrant> make_clsm_4096(); // with epochs of so many writes
+std::unique_ptr<Entrant> make_clsm_16384();
+std::unique_ptr<Entrant> make_clsm_65536();
 std::unique_ptr<Entrant> make_leveldb();
 std::unique_ptr<Entrant> make_lmdb();
 std::unique_ptr<Entrant> make_tbb();

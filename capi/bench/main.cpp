@@ -20,6 +20,11 @@ void enter(std::unique_ptr<Entrant> entrant, const char *name, const Options &op
 Entrants entrants_of(const Options &options) {
     Entrants entrants;
     enter(make_clsm(), "clsm", options, entrants);
+    if (!options.stores.empty()) { // only where they are asked for
+        enter(make_clsm_4096(), "clsm-4096", options, entrants);
+        enter(make_clsm_16384(), "clsm-16384", options, entrants);
+        enter(make_clsm_65536(), "clsm-65536", options, entrants);
+    }
     enter(make_leveldb(), "leveldb", options, entrants);
     enter(make_lmdb(), "lmdb", options, entrants);
     enter(make_tbb(), "tbb", options, entrants);

@@ -20,9 +20,10 @@ const char *const usage =
     "              readmissing, readseq, seekrandom, deleterandom, readwhilewriting and\n"
     "              readwhilescanning of db_bench; border, the least time of a call through C. Default: all.\n"
     "              And waits, how long single calls take beside what makes them wait\n"
-    "--stores      clsm, leveldb, lmdb, tbb, map. Default: all that were installed when this was built\n"
+    "--stores      clsm, leveldb, lmdb, tbb, map. Default: all that were installed when this was built.\n"
+    "              And clsm-4096, clsm-16384, clsm-65536: with epochs of so many writes\n"
     "--threads     how many threads call, 1 to 32 each. Default: 1,2,4\n"
-    "--keys        loaded before each workload but the fills, 100 to 3,000,000. Default: 1,000,000\n"
+    "--keys        loaded before each workload but the fills, 100 to 4,000,000. Default: 1,000,000\n"
     "--operations  calls of all threads in a run, 100 to 16,000,000. Default: 200,000\n"
     "--repeat      runs of each line, 1 to 99. Default: 5\n"
     "--csv         also writes workload,threads,store,median,least,greatest,answers and the ratios to\n"
@@ -58,6 +59,9 @@ std::vector<std::string> names_of(const std::string &option, const std::string &
     return names;
 }
 
+const std::vector<std::string> store_names = {"clsm", "clsm-4096", "clsm-16384", "clsm-65536",
+                                              "leveldb", "lmdb", "tbb", "map"};
+
 std::vector<std::string> workload_names() {
     std::vector<std::string> names = {"border", "waits"};
     for (const Workload &workload : all_workloads()) names.emplace_back(workload.name);
@@ -66,9 +70,9 @@ std::vector<std::string> workload_names() {
 
 void set(Options &options, const std::string &option, const std::string &value) {
     if (option == "--workloads") options.workloads = names_of(option, value, workload_names());
-    else if (option == "--stores") options.stores = names_of(option, value, {"clsm", "leveldb", "lmdb", "tbb", "map"});
+    else if (option == "--stores") options.stores = names_of(option, value, store_names);
     else if (option == "--csv") options.csv = value;
-    else if (option == "--keys") options.keys = number_of(option, value, 100, 3'000'000);
+    else if (option == "--keys") options.keys = number_of(option, value, 100, 4'000'000);
     else if (option == "--operations") options.operations = number_of(option, value, 100, 16'000'000);
     else if (option == "--repeat") options.repeat = number_of(option, value, 1, 99);
     else if (option == "--threads") {
