@@ -30,7 +30,7 @@ enum { CLSM_LINE = 64, CLSM_SCAN_ROWS = 64 };
 #define CLSM_PART_ROWS 512
 #endif
 #ifndef CLSM_COUNT_ROWS
-#define CLSM_COUNT_ROWS 128
+#define CLSM_COUNT_ROWS CLSM_SCAN_ROWS /* at most */
 #endif
 enum { CLSM_NANOSECONDS = 1000000000 }; /* of a second */
 enum { CLSM_MERGES_OF_LEVELS = 4 };     /* of so many merges the last one is into level 1 */

@@ -95,21 +95,26 @@ int clsm_read_page(struct clsm_seat *seat, uint64_t first, uint64_t last, clsm_r
     return code;
 }
 
-/* Counts at the snapshot of the seat, in parts. If there is no memory for them, in one. */
+/* Room for the rows of a scan, or a part of a count, or null. The seat keeps it. */
+static clsm_row *rows_of(struct clsm_place *place) {
+    if (!place->rows) place->rows = malloc(CLSM_SCAN_ROWS * sizeof *place->rows);
+    return place->rows;
+}
+
+/* Counts at the snapshot of the seat, in parts; what there is no memory for, in one. */
 static uint64_t count_parts(struct clsm_seat *seat, uint64_t first, uint64_t last) {
-    clsm_row rows[CLSM_COUNT_ROWS];
-    clsm_core_paged answer = {.more = true};
+    clsm_row *rows = rows_of(&seat->place);
+    clsm_core_paged part = {.more = true, .next = first};
     uint64_t keys = 0;
-    for (; answer.more; first = answer.next) {
-        if (read_part(seat, first, last, rows, CLSM_COUNT_ROWS, &answer) != CLSM_OK) {
-            const clsm_core_range rest = {first, last};
-            clsm_core_counted counted;
-            clsm_core_count(&seat->core, &rest, &counted);
-            return keys + counted.keys;
-        }
-        keys += answer.rows;
+    while (rows && part.more) {
+        if (read_part(seat, part.next, last, rows, CLSM_COUNT_ROWS, &part) != CLSM_OK) break;
+        keys += part.rows;
     }
-    return keys;
+    if (!part.more) return keys;
+    const clsm_core_range rest = {part.next, last};
+    clsm_core_counted counted;
+    clsm_core_count(&seat->core, &rest, &counted);
+    return keys + counted.keys;
 }
 
 uint64_t clsm_count_keys(struct clsm_seat *seat, uint64_t first, uint64_t last) {
@@ -222,8 +227,7 @@ int clsm_snapshot_page(clsm_snapshot *snapshot, uint64_t first, uint64_t last, c
 
 /* Puts the seat's place before this range. */
 static int begin_place(struct clsm_place *place, uint64_t first, uint64_t last) {
-    if (!place->rows) place->rows = malloc(CLSM_SCAN_ROWS * sizeof *place->rows);
-    if (!place->rows) return CLSM_MEMORY;
+    if (!rows_of(place)) return CLSM_MEMORY;
     place->at = 0;
     place->count = 0;
     place->next = first;
