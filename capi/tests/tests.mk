@@ -34,6 +34,9 @@ $(T)/example-%: examples/%.c clsm.h $(OUT)/libclsm.a | $(T)
 $(T)/cxx: tests/cxx.cpp clsm.h $(OUT)/libclsm.a | $(T)
 	$(CXX11) -Werror -o $@ $< $(OUT)/libclsm.a
 
+$(T)/cxx17: tests/cxx17.cpp clsm.h clsm.hpp $(OUT)/libclsm.a | $(T)
+	$(CXX17) -Werror -o $@ $< $(OUT)/libclsm.a
+
 $(T)/mocked: tests/mocked.c $(SHARED_HEADERS) $(T)/between.o $(T)/mock_core.o $(OBJECTS)
 	$(STRICT) -o $@ $< $(T)/between.o $(T)/mock_core.o $(OBJECTS) $(BETWEEN)
 
@@ -99,6 +102,10 @@ warnings:
 	for cxx in $(CXX) $(CLANGXX); do \
 	    $$cxx -std=c++11 $(WARNINGS) -Werror -fsyntax-only -x c++-header clsm.h || exit 1; \
 	    $$cxx -std=c++11 $(WARNINGS) -Werror -fsyntax-only -pthread tests/cxx.cpp || exit 1; \
+	    for standard in 17 20; do \
+	        $$cxx -std=c++$$standard $(WARNINGS) -Werror -fsyntax-only -x c++-header clsm.hpp || exit 1; \
+	        $$cxx -std=c++$$standard $(WARNINGS) -Werror -fsyntax-only -pthread tests/cxx17.cpp || exit 1; \
+	    done; \
 	done
 
 # ---- Runs
@@ -107,10 +114,10 @@ ROUNDS = $(if $(SANITIZE),2000,20000)
 EXAMPLES = $(patsubst examples/%.c,%,$(wildcard examples/*.c))
 # ThreadSanitizer has nothing to find where one thread runs.
 ALONE = $(if $(filter thread,$(SANITIZE)),,schedules)
-PROGRAMS = threads refusals memory lives stack changes batch full cxx core mocked checked $(ALONE) $(EXAMPLES:%=example-%) \
+PROGRAMS = threads refusals memory lives stack changes batch full cxx cxx17 core mocked checked $(ALONE) $(EXAMPLES:%=example-%) \
     $(if $(SANITIZE),,shared) $(if $(filter address,$(SANITIZE)),closed) $(if $(AUDIT),audited)
 BUILT = $(PROGRAMS:%=$(T)/%)
-PLAIN = refusals memory lives stack changes batch full cxx core mocked checked $(if $(filter address,$(SANITIZE)),closed)
+PLAIN = refusals memory lives stack changes batch full cxx cxx17 core mocked checked $(if $(filter address,$(SANITIZE)),closed)
 AGAIN = $(MAKE) OUT=$(OUT) CORE=$(CORE)
 # What is not for sanitizers; what the documents show is not in an archive that was packed.
 WHOLE = "$(T)/shared shared" "tests/interface $(T)/mock_core.o $(OBJECTS)" \

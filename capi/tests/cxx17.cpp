@@ -1,0 +1,188 @@
+// The header for C++17: what it adds to clsm.h. Errors thrown and set, handles that close
+// themselves in whichever order, iterators, algorithms of the standard library.
+#include "../clsm.hpp"
+
+#include <cstdio>
+#include <cstdlib>
+#include <numeric>
+#include <thread>
+#include <type_traits>
+
+#define CHECK(holds)                                                                               \
+    do {                                                                                           \
+        if (!(holds)) {                                                                            \
+            std::fprintf(stderr, "%s:%d: %s\n", __FILE__, __LINE__, #holds);                       \
+            std::exit(1);                                                                          \
+        }                                                                                          \
+    } while (0)
+
+namespace {
+
+using clsm::value;
+using std::nullopt;
+
+// Answers the code of the error that the call throws, or CLSM_OK.
+template <class Call> int thrown(Call call) {
+    try {
+        call();
+    } catch (const clsm::error &error) {
+        CHECK(error.code().category() == clsm::category());
+        CHECK(std::string(error.what()).find(clsm_strerror(error.why())) != std::string::npos);
+        return error.why();
+    }
+    return CLSM_OK;
+}
+
+void values() {
+    const value one = 7, two = {70, 71}, three = std::array<std::uint64_t, 3>{1, 2, 3};
+    CHECK(one.size() == 1 && one.front() == 7 && one == value({7}) && one != two);
+    CHECK(two[1] == 71 && std::accumulate(three.begin(), three.end(), std::uint64_t(0)) == 6);
+    const std::uint64_t words[9] = {};
+    int lengths = 0;
+    for (const std::size_t count : {std::size_t(0), std::size_t(9)}) {
+        try {
+            value(words, count);
+        } catch (const std::length_error &) {
+            lengths++;
+        }
+    }
+    CHECK(lengths == 2 && value(words, 8).size() == 8);
+    CHECK(!value::from(clsm_value{}) && value::from(two.raw()) == two);
+}
+
+void keys(clsm::caller &caller) {
+    caller.put(7, {70, 71});
+    caller.put(8, 80);
+    CHECK(caller.get(7) == value({70, 71}) && caller.contains(8) && !caller.get(9));
+    caller.remove(8);
+    CHECK(!caller.contains(8) && caller.count() == 1 && caller.count(8) == 0 && caller.count(7, 7) == 1);
+    CHECK(caller.time() <= caller.seen() && caller.number() < CLSM_SEATS);
+    caller.follow(caller.seen());
+    CHECK(thrown([&] { caller.follow(UINT64_MAX); }) == CLSM_BAD_VALUE);
+}
+
+void changes(clsm::caller &caller) {
+    clsm::change made = caller.add(1, 5);
+    CHECK(made.is_written && !made.before && made.after == value(5));
+    made = caller.add(1, UINT64_MAX);
+    CHECK(!made.is_written && made.before == value(5) && made.after == value(5));
+    CHECK(!caller.put_if_absent(1, 6).is_written && caller.put_if_absent(2, 6).is_written);
+    CHECK(caller.replace(2, value(6), value(7)).is_written && !caller.replace(2, value(6), nullopt).is_written);
+    CHECK(caller.replace(2, value(7), nullopt).is_written && !caller.get(2));
+    const auto halve = [](const std::optional<value> &old) {
+        return old && old->front() > 1 ? std::optional<value>(old->front() / 2) : nullopt;
+    };
+    CHECK(caller.update(1, halve).after == value(2) && caller.update(1, halve).after == value(1));
+    made = caller.update(1, halve);
+    CHECK(made.is_written && made.before == value(1) && !made.after);
+    CHECK(!caller.update(1, halve).is_written);
+}
+
+void batches(clsm::caller &caller) {
+    clsm::batch batch;
+    batch.put(20, 1).put(21, {2, 2}).remove(20);
+    CHECK(batch.size() == 3 && !batch.empty());
+    caller.write(batch);
+    CHECK(!caller.get(20) && caller.get(21) == value({2, 2}));
+    std::error_code code;
+    caller.write(clsm::batch(), code);
+    CHECK(code.value() == CLSM_EMPTY_BATCH && code.message() == clsm_strerror(CLSM_EMPTY_BATCH));
+    CHECK(thrown([&] { caller.write(clsm::batch()); }) == CLSM_EMPTY_BATCH);
+    batch.clear();
+    batch.remove(21);
+    caller.write(batch, code);
+    CHECK(!code && !caller.contains(21));
+}
+
+// All rows are there, in order, by each of the ways.
+void ranges(clsm::caller &caller) {
+    enum { ROWS = 700 };
+    for (std::uint64_t key = 0; key < ROWS; key++) caller.put(1000 + key, {key, 1});
+    const clsm::snapshot snapshot = caller.snapshot();
+    std::uint64_t next = 0;
+    for (const auto &[key, value] : caller.walk(1000)) {
+        CHECK(key == 1000 + next++ && value.size() == 2);
+        if (key % 2 == 0) caller.remove(key);
+    }
+    CHECK(next == ROWS && caller.count(1000) == ROWS / 2);
+    next = 0;
+    auto rows = snapshot.range(1000, 1000 + ROWS - 1);
+    for (const clsm::row &row : rows) CHECK(row.key == 1000 + next && row.value[0] == next++);
+    CHECK(next == ROWS && snapshot.count(1000) == ROWS && snapshot.get(1000) == value({0, 1}));
+    clsm::scan odd = caller.range(1000);
+    CHECK(std::count_if(odd.begin(), odd.end(), [](const clsm::row &row) { return row.key % 2 == 1; }) == ROWS / 2);
+    CHECK(odd.begin() == odd.end());
+    clsm::page page = snapshot.page(1000, UINT64_MAX, 600);
+    CHECK(page.rows.size() == 600 && page.rows.back().key == 1599 && page.next == 1600);
+    page = caller.page(1000, UINT64_MAX, SIZE_MAX);
+    CHECK(page.rows.size() == ROWS / 2 && !page.next);
+    CHECK(caller.page(1000, 2000, 0).next == 1001 && caller.page(5, 4, 9).rows.empty());
+}
+
+// What is opened last may be closed last: each handle keeps the store.
+void lives() {
+    auto opened = std::make_unique<clsm::store>(clsm::options().with_keys(1000).with_epoch(64));
+    auto caller = std::make_unique<clsm::caller>(opened->caller());
+    caller->put(1, 10);
+    clsm::snapshot snapshot = caller->snapshot();
+    clsm::scan scan = caller->range();
+    opened.reset();
+    caller.reset();
+    CHECK(snapshot.get(1) == value(10) && (*scan.begin()).key == 1);
+    clsm::store other;
+    snapshot = other.snapshot(); // closes the first one, and no store before it
+    CHECK(!snapshot.get(1) && other.stats().snapshots == 1);
+    clsm::caller moved = other.caller();
+    clsm::caller kept = std::move(moved);
+    kept.put(2, 20);
+    CHECK(other.stats().callers == 1 && other.sweep() <= CLSM_IDLE);
+}
+
+void refusals() {
+    std::error_code code;
+    const clsm::store refused(clsm::options().with_epoch(3), code);
+    CHECK(!refused.raw() && code.value() == CLSM_BAD_EPOCH && code.category() == clsm::category());
+    CHECK(thrown([] { clsm::store(clsm::options().with_patience(99)); }) == CLSM_BAD_PATIENCE);
+    CHECK(clsm::category().equivalent(CLSM_MEMORY, std::make_error_condition(std::errc::not_enough_memory)));
+    clsm::store full(clsm::options().with_keys(1).with_epoch(4).with_wait(-1).with_versions(88));
+    clsm::caller caller = full.caller();
+    std::uint64_t key = 0;
+    for (code.clear(); !code; key++) caller.put(key, key, code);
+    CHECK(code.value() == CLSM_RUN_FULL && thrown([&] { caller.add(key, 1); }) == CLSM_RUN_FULL);
+    const clsm::snapshot own = caller.snapshot();
+    for (code.clear(); !code;) caller.remove(0, code);
+    CHECK(code.value() == CLSM_OWN_SNAPSHOT);
+}
+
+void threads() {
+    const clsm::store store(clsm::options().with_merge_in_calls().with_epoch(64));
+    std::vector<std::thread> threads;
+    for (int i = 0; i < 4; i++)
+        threads.emplace_back([&store] {
+            clsm::caller caller = store.caller();
+            for (int j = 0; j < 500; j++) caller.add(1, 1);
+        });
+    for (std::thread &thread : threads) thread.join();
+    CHECK(store.caller().get(1) == value(2000));
+}
+
+static_assert(!std::is_copy_constructible_v<clsm::caller> && std::is_nothrow_move_constructible_v<clsm::caller>);
+static_assert(std::is_nothrow_move_assignable_v<clsm::snapshot> && !std::is_copy_assignable_v<clsm::scan>);
+
+} // namespace
+
+int main() {
+    values();
+    {
+        const clsm::store store;
+        clsm::caller caller = store.caller();
+        keys(caller);
+        changes(caller);
+        batches(caller);
+        ranges(caller);
+    }
+    lives();
+    refusals();
+    threads();
+    std::puts("ok cxx17");
+}
