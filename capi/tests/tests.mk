@@ -13,7 +13,7 @@ $(T): $(OUT)/settings
 
 # ---- Programs: over the library; `mocked`, `checked` and `schedules` over the parts and the mock core.
 
-$(T)/threads $(T)/refusals $(T)/changes $(T)/batch $(T)/full $(T)/lives $(T)/audited: $(T)/%: tests/%.c $(SHARED_HEADERS) $(T)/between.o $(OUT)/libclsm.a
+$(T)/threads $(T)/refusals $(T)/changes $(T)/batch $(T)/full $(T)/loops $(T)/lives $(T)/audited: $(T)/%: tests/%.c $(SHARED_HEADERS) $(T)/between.o $(OUT)/libclsm.a
 	$(STRICT) -o $@ $< $(T)/between.o $(OUT)/libclsm.a $(BETWEEN)
 
 $(T)/memory: $(T)/%: tests/%.c $(SHARED_HEADERS) $(OUT)/libclsm.a | $(T)
@@ -114,10 +114,10 @@ ROUNDS = $(if $(SANITIZE),2000,20000)
 EXAMPLES = $(patsubst examples/%.c,%,$(wildcard examples/*.c))
 # ThreadSanitizer has nothing to find where one thread runs.
 ALONE = $(if $(filter thread,$(SANITIZE)),,schedules)
-PROGRAMS = threads refusals memory lives stack changes batch full cxx cxx17 core mocked checked $(ALONE) $(EXAMPLES:%=example-%) \
+PROGRAMS = threads refusals memory lives stack changes batch full loops cxx cxx17 core mocked checked $(ALONE) $(EXAMPLES:%=example-%) \
     $(if $(SANITIZE),,shared) $(if $(filter address,$(SANITIZE)),closed) $(if $(AUDIT),audited)
 BUILT = $(PROGRAMS:%=$(T)/%)
-PLAIN = refusals memory lives stack changes batch full cxx cxx17 core mocked checked $(if $(filter address,$(SANITIZE)),closed)
+PLAIN = refusals memory lives stack changes batch full loops cxx cxx17 core mocked checked $(if $(filter address,$(SANITIZE)),closed)
 AGAIN = $(MAKE) OUT=$(OUT) CORE=$(CORE)
 # What is not for sanitizers; what the documents show is not in an archive that was packed.
 WHOLE = "$(T)/shared shared" "tests/interface $(T)/mock_core.o $(OBJECTS)" \
@@ -128,7 +128,7 @@ WHOLE = "$(T)/shared shared" "tests/interface $(T)/mock_core.o $(OBJECTS)" \
 RUNS = "$(T)/threads $(ROUNDS)" "$(T)/threads $(ROUNDS) one" $(PLAIN:%=$(T)/%) "tests/examples c $(T)" \
     $(patsubst %,"$(T)/% $(if $(SANITIZE),2)",$(ALONE)) \
     $(if $(SANITIZE),,$(WHOLE)) $(if $(AUDIT),"tests/audit $(T)/audited $(AUDIT_CALLS) $(AUDIT)")
-SMALL = "$(T)/threads 200" $(patsubst %,$(T)/%,$(filter-out stack,$(PLAIN)))
+SMALL = "$(T)/threads 200" "$(T)/loops 500" $(patsubst %,$(T)/%,$(filter-out stack loops,$(PLAIN)))
 MEMCHECK = valgrind -q --error-exitcode=9 --leak-check=full --errors-for-leak-kinds=definite --show-leak-kinds=definite --fair-sched=yes
 
 .PHONY: check check-mock check-valgrind check-audit check-planted check-packed
