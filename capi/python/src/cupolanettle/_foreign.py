@@ -22,7 +22,7 @@ from typing import Any, Iterator, List, NoReturn, Optional, Sequence, Set, Tuple
 
 from . import _library as library
 from ._errors import KEPT, NOT_FOUND, OK, Code, error_of
-from ._handles import Alarm, Caller, Handle, Lease, Silent, View, switch_off, thread_number
+from ._handles import Alarm, Caller, Handle, Lease, Silent, View, prune, switch_off, thread_number
 from ._values import Row, Value, key_of, word_of, words_of
 
 Page = Tuple[List[Row], Optional[int]]
@@ -88,7 +88,7 @@ def _page_of(rows: Any, end: library.PageEnd) -> Page:
 
 def _add(references: Set[weakref.ref[Kind]], value: Kind) -> None:
     """Adds a reference, without those to what is gone, in steps that each leave the set whole."""
-    references.difference_update([found for found in list(references) if found() is None])
+    prune(references)
     references.add(weakref.ref(value))
 
 

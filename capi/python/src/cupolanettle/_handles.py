@@ -10,11 +10,11 @@ swallowed.
 from __future__ import annotations
 
 import ctypes
-import itertools
 import sys
 import threading
 import warnings
 import weakref
+from itertools import count, filterfalse
 from typing import Any, Callable, Optional, Set
 
 from . import _library as library
@@ -25,7 +25,12 @@ _LEAST_PRUNED = 64
 class _Closer(weakref.ref):  # type: ignore[type-arg]
     """Calls the library with its parameter once the handle is gone."""
 
-    __slots__ = ("_as_parameter_",)
+    _as_parameter_: Any = None
+
+
+def prune(references: Set[Any]) -> None:
+    """Takes out references to what is gone, in one step."""
+    references.difference_update(filterfalse(weakref.ref.__call__, list(references)))
 
 
 # A weak reference that is collected together with its object calls nothing.
@@ -37,7 +42,7 @@ def _keep(closer: _Closer) -> None:
     global _pruned_at
     _closers.add(closer)
     if len(_closers) > _pruned_at:
-        _closers.difference_update([found for found in list(_closers) if found() is None])
+        prune(_closers)
         _pruned_at = 2 * len(_closers) + _LEAST_PRUNED
 
 
@@ -68,7 +73,7 @@ class Handle:
 # ---- Threads
 
 _local = threading.local()
-_numbers = itertools.count()
+_numbers = count()
 
 
 def thread_number() -> int:

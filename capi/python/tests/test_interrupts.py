@@ -1,0 +1,330 @@
+"""Interrupts: exceptions out of a signal's handler, and calls that it makes, at each step.
+
+A trace function stands for the handler. It comes where an interpreter may run a handler in the
+package's Python: at the beginning of a function, behind each call, and where a loop jumps back.
+"""
+
+from __future__ import annotations
+
+import dis
+import gc
+import sys
+import threading
+import unittest
+import warnings
+from types import CodeType, FrameType
+from typing import Any, Callable, Dict, List, Optional
+from unittest import mock
+
+from cupolanettle import Closed, Store
+
+from .support import SNAPSHOTS, SOURCES, in_process, in_threads, mergers
+
+PACKAGE = str(SOURCES / "cupolanettle")
+JUMPS = ("JUMP_BACKWARD", "JUMP_ABSOLUTE")
+Job = Callable[[], object]
+
+
+class Interrupt(BaseException):
+    """What a handler raises."""
+
+
+class Handler:
+    """Does a job at one step of the package's Python, counted from 0."""
+
+    def __init__(self, step: int, job: Job) -> None:
+        self.left = step
+        self.job: Optional[Job] = job
+        self.codes: Dict[CodeType, bytes] = {}
+        self.is_step: Dict[int, bool] = {}  # by the number of a frame: whether its next one is
+
+    def trace(self, frame: FrameType, event: str, _: object) -> Any:
+        if not frame.f_code.co_filename.startswith(PACKAGE):
+            return None
+        frame.f_trace_opcodes = True
+        frame.f_trace_lines = False
+        if event == "call" or event == "opcode" and self.is_step.get(id(frame), False):
+            self.take_step()
+        if event == "opcode":
+            code = self.codes.setdefault(frame.f_code, frame.f_code.co_code)
+            name = dis.opname[code[frame.f_lasti]]
+            self.is_step[id(frame)] = name.startswith("CALL") or name in JUMPS
+        else:
+            self.is_step[id(frame)] = False
+        return self.trace
+
+    def take_step(self) -> None:
+        if self.left > 0:
+            self.left -= 1
+            return
+        job, self.job = self.job, None
+        if job is not None:
+            sys.settrace(None)
+            job()
+
+    def run(self, calls: Job) -> None:
+        sys.settrace(self.trace)
+        try:
+            calls()
+        finally:
+            sys.settrace(None)
+
+
+def raise_interrupt() -> None:
+    raise Interrupt
+
+
+def take_snapshot(store: Store) -> None:
+    with store.snapshot() as snapshot:
+        snapshot.get(7)
+
+
+def keep_snapshot(store: Store) -> None:
+    snapshot = store.snapshot()
+    snapshot.close()
+
+
+def scan(store: Store) -> None:
+    for _ in store.scan(0, 8):
+        pass
+
+
+def leave_scan(store: Store) -> None:
+    next(store.scan())
+
+
+def scan_snapshot(store: Store) -> None:
+    next(store.snapshot().scan())
+
+
+def put(store: Store) -> None:
+    store[5] = 5
+
+
+def put_often(store: Store) -> None:
+    for number in range(5):
+        store[5] = number
+
+
+def add(store: Store) -> None:
+    store.add(6)
+
+
+def count(store: Store) -> None:
+    store.count()
+
+
+def change(store: Store) -> None:
+    store.update(4, lambda old: 4)
+
+
+def walk(store: Store) -> None:
+    for _ in store.walk(7, 8):
+        pass
+
+
+def write_batch(store: Store) -> None:
+    with store.batch() as batch:
+        batch[8] = 8
+
+
+CALLS: List[Callable[[Store], None]] = [take_snapshot, keep_snapshot, scan, leave_scan]
+CALLS += [scan_snapshot, put, put_often, add, count, change, walk, write_batch]
+
+
+class AtEachStep(unittest.TestCase):
+    def setUp(self) -> None:
+        self.steps = 0
+        self.swallowed: List[object] = []
+        hook = mock.patch.object(sys, "unraisablehook", self.swallowed.append)
+        hook.start()
+        self.addCleanup(hook.stop)
+        caught = warnings.catch_warnings()
+        caught.__enter__()
+        self.addCleanup(caught.__exit__, None, None, None)
+        warnings.simplefilter("ignore", ResourceWarning)
+        self.addCleanup(lambda: self.assertGreater(self.steps, 5))
+
+    def small_store(self) -> Store:
+        store = Store(keys=100, epoch=4, merge_in_calls=True)
+        store[7] = 70
+        return store
+
+    def at_each_step(self, calls: Job, job: Job, check: Job) -> None:
+        """Does the job at the first step of the calls, then at the second one, and so on."""
+        step = 0
+        while True:
+            handler = Handler(step, job)
+            self.run_calls(handler, calls)
+            self.assertEqual(self.swallowed, [])
+            check()
+            if handler.job is not None:
+                self.steps += step
+                return
+            step += 1
+
+    def run_calls(self, handler: Handler, calls: Job) -> None:
+        """Runs the calls, whose job raises an interrupt that comes out, if there is a step for it."""
+        try:
+            handler.run(calls)
+        except Interrupt:
+            return
+        self.assertIsNotNone(handler.job, "the interrupt was swallowed")
+
+
+class Interrupts(AtEachStep):
+    def test_no_seat_is_lost(self) -> None:
+        for call in CALLS:
+            with self.subTest(call=call.__name__), self.small_store() as store:
+
+                def check() -> None:
+                    self.assertEqual(store.stats().snapshots, 0)
+                    in_threads([store.count])
+
+                self.at_each_step(lambda: call(store), raise_interrupt, check)
+                snapshots = [store.snapshot() for _ in range(SNAPSHOTS)]
+                self.assertEqual([snapshot[7] for snapshot in snapshots], [70] * SNAPSHOTS)
+                in_threads([lambda: store.add(9)] * 20)
+                self.assertEqual(store[9], 20)
+
+    def test_a_store_is_opened(self) -> None:
+        before = mergers()
+
+        def check() -> None:
+            gc.collect()
+            self.assertEqual(mergers(), before)
+
+        self.at_each_step(self.open_and_close, raise_interrupt, check)
+
+    def open_and_close(self) -> None:
+        with Store(keys=1, epoch=4) as store:
+            store[7] = 70
+
+    def test_a_store_is_closed(self) -> None:
+        before = mergers()
+        stores: List[Store] = []
+
+        def check() -> None:
+            for store in stores:
+                store.close()
+                self.assertRaises(Closed, store.get, 7)
+            stores.clear()
+            self.assertEqual(mergers(), before)
+
+        self.at_each_step(lambda: self.close_with_all(stores), raise_interrupt, check)
+
+    def close_with_all(self, stores: List[Store]) -> None:
+        store = Store(keys=1, epoch=4)
+        stores.append(store)
+        store[7] = 70
+        rows = store.snapshot().scan()
+        next(rows)
+        store.close()
+
+
+class CallsOfHandlers(AtEachStep):
+    """A handler that makes calls itself, as of a service that is told to end."""
+
+    def run_calls(self, handler: Handler, calls: Job) -> None:
+        try:
+            handler.run(calls)
+        except Closed:
+            self.assertIsNone(handler.job)
+
+    def test_they_answer(self) -> None:
+        for call in CALLS:
+            with self.subTest(call=call.__name__), self.small_store() as store:
+
+                def job() -> None:
+                    store[9] = store[7]
+                    store.add(9)
+                    with store.snapshot() as snapshot:
+                        self.assertEqual(snapshot[9], 71)
+                    self.assertEqual(next(store.scan(9)), (9, 71))
+                    self.assertGreaterEqual(store.count(), 2)
+
+                def check() -> None:
+                    self.assertEqual((store[7], store.stats().snapshots), (70, 0))
+
+                self.at_each_step(lambda: call(store), job, check)
+
+    def test_one_closes_the_store(self) -> None:
+        for call in CALLS:
+            stores = [self.small_store()]
+
+            def close() -> None:
+                stores[0].close()
+
+            def check() -> None:
+                close()
+                self.assertRaises(Closed, stores[0].get, 7)
+                stores[0] = self.small_store()
+
+            with self.subTest(call=call.__name__):
+                self.at_each_step(lambda: call(stores[0]), close, check)
+                close()
+
+    def test_one_opens_another_store(self) -> None:
+        def open_and_close() -> None:
+            with Store(keys=1, epoch=4) as store:
+                store[7] = 70
+
+        before = mergers()
+        check = lambda: self.assertEqual(mergers(), before)  # noqa: E731
+        self.at_each_step(open_and_close, open_and_close, check)
+
+    def test_stores_are_closed_twice(self) -> None:
+        """By the handler in the midst of a close, and by another thread meanwhile."""
+        before = mergers()
+        stores: List[Store] = []
+        threads: List[threading.Thread] = []
+
+        def calls() -> None:
+            store = Store(keys=1, epoch=4)
+            stores.append(store)
+            rows = store.scan()
+            store.close()
+            rows.close()
+
+        def close() -> None:
+            for store in stores:
+                threads.append(threading.Thread(target=store.close))
+                threads[-1].start()
+                store.close()
+
+        def check() -> None:
+            while threads:
+                threads.pop().join()
+            self.assertEqual(mergers(), before)
+            stores.clear()
+
+        self.at_each_step(calls, close, check)
+
+
+SIGNALS = """
+import signal, sys
+from cupolanettle import Store
+swallowed = []
+sys.unraisablehook = swallowed.append
+signal.signal(signal.SIGUSR1, signal.default_int_handler)
+
+def use(store):
+    snapshot = store.snapshot()
+    rows = snapshot.scan()
+    signal.raise_signal(signal.SIGUSR1)
+
+came_out = 0
+with Store(keys=100, epoch=64, merge_in_calls=True) as store:
+    for number in range(300):
+        try:
+            use(store)
+        except KeyboardInterrupt:
+            came_out += 1
+print(came_out, len(swallowed))
+"""
+
+
+class Signals(unittest.TestCase):
+    def test_three_hundred(self) -> None:
+        ended = in_process(SIGNALS)
+        self.assertEqual((ended.stdout, ended.stderr), ("300 0\n", ""))
