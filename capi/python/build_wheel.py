@@ -1,10 +1,11 @@
 #!/usr/bin/env python3
-"""Builds the wheel, with the library in it, by the standard library alone.
+"""Builds the wheel, with the library and the C extension in it, by the standard library alone.
 
     python3 build_wheel.py [FOLDER]     # into dist, unless told otherwise
 
 It is also the build backend of pyproject.toml. The library is the one that CLSM_LIBRARY names, or
-else ../out/libclsm.so. Equal sources give equal wheels.
+else ../out/libclsm.so. The extension is the one beside it, if there is one; the wheel's tag says so.
+Equal sources give equal wheels.
 """
 
 import base64
@@ -20,6 +21,7 @@ from typing import Any, Dict, List, Optional, Tuple
 PROJECT = Path(__file__).resolve().parent
 PACKAGE = "cupolanettle"
 LIBRARY = "libclsm.so"
+EXTENSION = "_native.abi3.so"
 SUFFIXES = (".py", ".pyi", ".typed")
 
 # The least time that a zip file can have.
@@ -28,11 +30,21 @@ TIME = (1980, 1, 1, 0, 0, 0)
 File = Tuple[str, bytes, int]
 
 
-def read_project() -> Dict[str, str]:
-    """The texts of the project table of pyproject.toml, which Python reads from 3.11 on only."""
+def project_table() -> str:
+    """The project table of pyproject.toml, which Python reads from 3.11 on only."""
     text = (PROJECT / "pyproject.toml").read_text(encoding="utf-8")
-    table = text.partition("\n[project]\n")[2].partition("\n[")[0]
-    return dict(re.findall(r'^([\w-]+) = "(.*)"$', table, flags=re.MULTILINE))
+    return text.partition("\n[project]\n")[2].partition("\n[project.")[0].partition("\n[tool")[0]
+
+
+def read_project() -> Dict[str, str]:
+    """The texts of the project table."""
+    return dict(re.findall(r'^([\w-]+) = "(.*)"$', project_table(), flags=re.MULTILINE))
+
+
+def read_list(name: str) -> List[str]:
+    """A list of texts of the project table."""
+    body = project_table().partition(f"\n{name} = [")[2].partition("]")[0]
+    return re.findall(r'"(.*?)"', body)
 
 
 def find_library() -> Path:
@@ -40,6 +52,11 @@ def find_library() -> Path:
     if not library.is_file():
         raise FileNotFoundError(f"{library} is not there: build it, or set CLSM_LIBRARY")
     return library
+
+
+def find_extension() -> Optional[Path]:
+    extension = find_library().parent / EXTENSION
+    return extension if extension.is_file() else None
 
 
 def find_license() -> Path:
@@ -50,13 +67,25 @@ def package_files() -> List[File]:
     folder = PROJECT / "src" / PACKAGE
     names = sorted(path.name for path in folder.iterdir() if path.suffix in SUFFIXES)
     files = [(f"{PACKAGE}/{name}", (folder / name).read_bytes(), 0o644) for name in names]
-    return [*files, (f"{PACKAGE}/{LIBRARY}", find_library().read_bytes(), 0o755)]
+    built = [(LIBRARY, find_library()), (EXTENSION, find_extension())]
+    return files + [
+        (f"{PACKAGE}/{name}", path.read_bytes(), 0o755) for name, path in built if path is not None
+    ]
+
+
+def tags() -> Tuple[List[str], List[str], str]:
+    """Which Pythons, ABIs and platforms it is for: with ``ctypes`` any Python 3 of this system, and
+    with the extension those that have its stable ABI."""
+    platform = re.sub(r"\W", "_", sysconfig.get_platform())
+    if find_extension() is None:
+        return ["py3"], ["none"], platform
+    return ["cp310", "py3"], ["abi3", "none"], platform
 
 
 def tag() -> str:
-    """Any Python 3 of this system: the library knows nothing of Python."""
-    platform = re.sub(r"\W", "_", sysconfig.get_platform())
-    return f"py3-none-{platform}"
+    """The tags, as the name of the wheel has them."""
+    pythons, abis, platform = tags()
+    return f"{'.'.join(pythons)}-{'.'.join(abis)}-{platform}"
 
 
 def metadata(project: Dict[str, str]) -> str:
@@ -66,6 +95,9 @@ def metadata(project: Dict[str, str]) -> str:
         f"Version: {project['version']}",
         f"Summary: {project['description']}",
         "License: MIT",
+        "License-File: LICENSE",
+        f"Keywords: {','.join(read_list('keywords'))}",
+        *(f"Classifier: {classifier}" for classifier in read_list("classifiers")),
         f"Requires-Python: {project['requires-python']}",
         "Description-Content-Type: text/markdown",
     ]
@@ -78,8 +110,9 @@ def wheel_description() -> str:
         "Wheel-Version: 1.0",
         "Generator: build_wheel.py",
         "Root-Is-Purelib: false",
-        f"Tag: {tag()}",
     ]
+    pythons, abis, platform = tags()
+    fields += [f"Tag: {python}-{abi}-{platform}" for python in pythons for abi in abis]
     return "\n".join(fields) + "\n"
 
 

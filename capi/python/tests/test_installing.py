@@ -5,7 +5,9 @@ from __future__ import annotations
 import base64
 import ctypes.util
 import hashlib
+import importlib.util
 import os
+import re
 import shutil
 import subprocess
 import sys
@@ -20,8 +22,16 @@ from .support import LIBRARY as NAME
 from .support import PROJECT, SOURCES, in_process
 
 LIBRARY = Path(NAME).resolve()
-WHERE = "from cupolanettle import _library; print(_library.PATH)"
-WHERE_INSTALLED = "import ctypes.util; ctypes.util.find_library = {find}; " + WHERE
+EXTENSION = LIBRARY.parent / finding.EXTENSION
+HAS_EXTENSION = EXTENSION.is_file() and finding._can_load_extensions()
+FILES = {"extension": finding.EXTENSION, "ctypes": finding.LIBRARY}
+WHERE = (
+    "from cupolanettle import _finding as found\n"
+    "if found.native is None: from cupolanettle._library import PATH\n"
+    "else: PATH = found.native.__file__\n"
+    "print(PATH)"
+)
+WHERE_INSTALLED = "import ctypes.util; ctypes.util.find_library = {find}\n" + WHERE
 
 
 class InAFolder(unittest.TestCase):
@@ -128,8 +138,39 @@ class Wheels(InAFolder):
             self.assertEqual(wheel.read(record).decode().splitlines(), [*lines, f"{record},,"])
             files = {path.name for path in (SOURCES / "cupolanettle").iterdir() if path.is_file()}
             packed = {name for name in wheel.namelist() if "dist-info" not in name}
-            expected = {f"cupolanettle/{name}" for name in files | {"libclsm.so"}}
-            self.assertEqual(packed, expected)
+            built = {"libclsm.so"} | ({EXTENSION.name} if EXTENSION.is_file() else set())
+            self.assertEqual(packed, {f"cupolanettle/{name}" for name in files | built})
+
+    def test_its_tags_are_those_of_its_name(self) -> None:
+        path = self.build(self.folder)
+        with zipfile.ZipFile(path) as wheel:
+            folder = f"cupolanettle-{finding.VERSION}.dist-info"
+            told = wheel.read(f"{folder}/WHEEL").decode()
+            metadata = wheel.read(f"{folder}/METADATA").decode()
+        pythons, abis, platform = path.stem.split("-")[2:]
+        tags = {f"{python}-{abi}-{platform}" for python in pythons.split(".") for abi in abis.split(".")}
+        self.assertEqual(set(re.findall("^Tag: (.*)$", told, flags=re.MULTILINE)), tags)
+        self.assertIn(f"py3-none-{platform}", tags)
+        self.assertEqual(f"cp310-abi3-{platform}" in tags, EXTENSION.is_file())
+        head = metadata.partition("\n\n")[0]
+        self.assertGreater(head.count("\nClassifier: "), 5)
+        for line in "Requires-Python: >=3.8", "License-File: LICENSE", "Name: cupolanettle":
+            self.assertIn(line, head.splitlines())
+
+    @unittest.skipUnless(importlib.util.find_spec("ensurepip"), "there is no pip")
+    def test_pip_installs_it(self) -> None:
+        place = self.folder / "place"
+        subprocess.run([sys.executable, "-m", "venv", str(place)], check=True)
+        python = str(place / "bin" / "python")
+        wheel = str(self.build(self.folder))
+        flags = ["--quiet", "--no-index", "--disable-pip-version-check"]
+        subprocess.run([python, "-m", "pip", "install", *flags, wheel], check=True)
+        environment = {name: text for name, text in os.environ.items() if name[:4] not in ("CLSM", "PYTH")}
+        program = "import cupolanettle as c\nwith c.Store() as store: print(store.add(7))"
+        ended = subprocess.run(
+            [python, "-c", program], env=environment, stdout=subprocess.PIPE, check=True
+        )
+        self.assertEqual(ended.stdout, b"1\n")
 
     def test_equal_sources_give_equal_wheels(self) -> None:
         first = self.build(self.folder / "first")
@@ -148,8 +189,44 @@ class Wheels(InAFolder):
             "    store[7] = 70, 71\n"
             "    print(list(store.scan()))\n"
         )
-        ended = in_process(
-            program, PYTHONPATH=str(place), CLSM_LIBRARY="", CLSM_BACKEND="ctypes"
-        )
-        found = place / "cupolanettle" / "libclsm.so"
-        self.assertEqual((ended.stdout, ended.stderr), (f"{found}\n[(7, (70, 71))]\n", ""))
+        for backend in finding.BACKENDS:
+            if backend == "extension" and not HAS_EXTENSION:
+                continue
+            ended = in_process(
+                program, PYTHONPATH=str(place), CLSM_LIBRARY="", CLSM_BACKEND=backend
+            )
+            found = place / "cupolanettle" / FILES[backend]
+            self.assertEqual((ended.stdout, ended.stderr), (f"{found}\n[(7, (70, 71))]\n", ""))
+
+
+@unittest.skipUnless(HAS_EXTENSION, "there is no extension beside the library")
+class Backends(unittest.TestCase):
+    """Which of the two calls the library."""
+
+    program = "from cupolanettle import _core; print(_core.BACKEND)"
+
+    def test_one_is_chosen(self) -> None:
+        for backend in finding.BACKENDS:
+            ended = in_process(self.program, CLSM_BACKEND=backend)
+            self.assertEqual((ended.stdout, ended.stderr), (f"{backend}\n", ""))
+
+    def test_the_extension_is_first(self) -> None:
+        ended = in_process(self.program, CLSM_BACKEND="")
+        self.assertEqual((ended.stdout, ended.stderr), ("extension\n", ""))
+
+    def test_it_does_not_load_ctypes(self) -> None:
+        program = "import cupolanettle, sys; print('ctypes' in sys.modules)"
+        self.assertEqual(in_process(program, CLSM_BACKEND="extension").stdout, "False\n")
+
+    def test_no_other_one(self) -> None:
+        ended = in_process(self.program, CLSM_BACKEND="cffi")
+        self.assertRegex(ended.stderr, "ImportError: CLSM_BACKEND is cffi")
+
+    def test_a_folder_without_it(self) -> None:
+        with tempfile.TemporaryDirectory() as folder:
+            alone = Path(folder) / "libclsm.so"
+            shutil.copy(LIBRARY, alone)
+            ended = in_process(self.program, CLSM_LIBRARY=str(alone), CLSM_BACKEND="")
+            self.assertEqual((ended.stdout, ended.stderr), ("ctypes\n", ""))
+            ended = in_process(self.program, CLSM_LIBRARY=str(alone), CLSM_BACKEND="extension")
+            self.assertRegex(ended.stderr, "ImportError: _native.abi3.so was not found")
