@@ -28,6 +28,9 @@ $(T)/shared: tests/lives.c $(SHARED_HEADERS) $(T)/between.o $(OUT)/$(SHARED)
 $(T)/core: tests/core.c tests/check.h core/clsm_core.h $(OUT)/codes.o $(CORE) | $(T)
 	$(STRICT) -o $@ $< $(OUT)/codes.o $(CORE)
 
+$(T)/example-cxx-%: examples/%.cpp clsm.h clsm.hpp $(OUT)/libclsm.a | $(T)
+	$(CXX17) -Werror -I. -o $@ $< $(OUT)/libclsm.a
+
 $(T)/example-%: examples/%.c clsm.h $(OUT)/libclsm.a | $(T)
 	$(STRICT) -I. -o $@ $< $(OUT)/libclsm.a
 
@@ -104,7 +107,9 @@ warnings:
 	    $$cxx -std=c++11 $(WARNINGS) -Werror -fsyntax-only -pthread tests/cxx.cpp || exit 1; \
 	    for standard in 17 20; do \
 	        $$cxx -std=c++$$standard $(WARNINGS) -Werror -fsyntax-only -x c++-header clsm.hpp || exit 1; \
-	        $$cxx -std=c++$$standard $(WARNINGS) -Werror -fsyntax-only -pthread tests/cxx17.cpp || exit 1; \
+	        for file in tests/cxx17.cpp examples/*.cpp; do \
+	            $$cxx -std=c++$$standard $(WARNINGS) -Werror -I. -fsyntax-only -pthread $$file || exit 1; \
+	        done; \
 	    done; \
 	done
 
@@ -114,7 +119,8 @@ ROUNDS = $(if $(SANITIZE),2000,20000)
 EXAMPLES = $(patsubst examples/%.c,%,$(wildcard examples/*.c))
 # ThreadSanitizer has nothing to find where one thread runs.
 ALONE = $(if $(filter thread,$(SANITIZE)),,schedules)
-PROGRAMS = threads refusals memory lives stack changes batch full loops cxx cxx17 core mocked checked $(ALONE) $(EXAMPLES:%=example-%) \
+PROGRAMS = threads refusals memory lives stack changes batch full loops cxx cxx17 core mocked checked $(ALONE) \
+    $(EXAMPLES:%=example-%) $(EXAMPLES:%=example-cxx-%) \
     $(if $(SANITIZE),,shared) $(if $(filter address,$(SANITIZE)),closed) $(if $(AUDIT),audited)
 BUILT = $(PROGRAMS:%=$(T)/%)
 PLAIN = refusals memory lives stack changes batch full loops cxx cxx17 core mocked checked $(if $(filter address,$(SANITIZE)),closed)
@@ -125,7 +131,7 @@ WHOLE = "$(T)/shared shared" "tests/interface $(T)/mock_core.o $(OBJECTS)" \
     "tests/examples python $(OUT)/libclsm.so" \
     $(if $(wildcard ../crates),"tests/documents $(OUT)/libclsm.a $(OUT)/libclsm.so $(OUT)/rust") \
     "tests/installed $(AGAIN)" "tests/planted $(OUT)/planted" "tests/packed $(AGAIN)"
-RUNS = "$(T)/threads $(ROUNDS)" "$(T)/threads $(ROUNDS) one" $(PLAIN:%=$(T)/%) "tests/examples c $(T)" \
+RUNS = "$(T)/threads $(ROUNDS)" "$(T)/threads $(ROUNDS) one" $(PLAIN:%=$(T)/%) "tests/examples c $(T)" "tests/examples cxx $(T)" \
     $(patsubst %,"$(T)/% $(if $(SANITIZE),2)",$(ALONE)) \
     $(if $(SANITIZE),,$(WHOLE)) $(if $(AUDIT),"tests/audit $(T)/audited $(AUDIT_CALLS) $(AUDIT)")
 SMALL = "$(T)/threads 200" "$(T)/loops 500" $(patsubst %,$(T)/%,$(filter-out stack loops,$(PLAIN)))
