@@ -83,6 +83,8 @@ struct store {
     struct waiter *waiting;
     unsigned calls; /* so many run without the interpreter's lock */
     unsigned forks; /* as they were when it was opened */
+    int64_t wait;   /* so many milliseconds a write waits for a snapshot to be closed */
+    clsm_statistics tried_again; /* how often the library refused what was then tried again */
     bool was_opened, is_closing;
 };
 
@@ -120,7 +122,7 @@ struct snapshot {
 void clsm_close_snapshot(struct snapshot *snapshot);
 /* Waits until no call is running on it: false once it has raised an exception. */
 bool clsm_await_calls(struct snapshot *snapshot);
-/* Reads a page without the interpreter's lock: OK, or -1 once it has raised an exception. */
+/* Reads a page without the interpreter's lock: the code, or -1 once it has raised an exception. */
 int clsm_read_snapshot(struct snapshot *snapshot, uint64_t first, uint64_t last, clsm_row *rows,
                        size_t room, clsm_page_end *end);
 

@@ -17,20 +17,41 @@ static bool is_snapshot(PyObject *reader) { return PyObject_TypeCheck(reader, cl
 
 /* ---- Reading */
 
-static int read_store(struct store *store, const struct rows *self, clsm_row *page,
+static int read_store(struct store *store, const struct rows *self, clsm_row *page, size_t room,
                       clsm_page_end *end) {
-    int code = CLSM_BAD_POINTER;
-    if (clsm_is_usable(store))
-        code = clsm_page(store->shared, self->next, self->last, page, self->room, end);
-    if (code == CLSM_OK) return code;
-    clsm_refuse_call(store, code);
-    return -1;
+    if (!clsm_is_usable(store)) return CLSM_BAD_POINTER;
+    return clsm_page(store->shared, self->next, self->last, page, room, end);
 }
 
-/* Reads the next page, unless another thread has done so meanwhile. */
+/* Reads the next page: the code, or -1 once it has raised an exception. */
+static int read_page(const struct rows *self, PyObject *reader, clsm_row *page, size_t room,
+                     clsm_page_end *end) {
+    if (!is_snapshot(reader)) return read_store((struct store *)reader, self, page, room, end);
+    return clsm_read_snapshot((struct snapshot *)reader, self->next, self->last, page, room, end);
+}
+
+static void refuse(PyObject *reader, int code) {
+    const bool is_of_snapshot = is_snapshot(reader);
+    clsm_refuse_call(is_of_snapshot ? ((struct snapshot *)reader)->store : (struct store *)reader,
+                     code);
+}
+
+static void take_page(struct rows *self, clsm_row *page, const clsm_page_end *end) {
+    PyMem_Free(self->page);
+    self->page = page;
+    self->count = (size_t)end->rows;
+    self->at = 0;
+    self->next = end->next;
+    self->more = end->more;
+    self->pages++;
+    self->room = 2 * self->room < self->greatest_room ? 2 * self->room : self->greatest_room;
+}
+
+/* Reads the next page, unless another thread has done so, or ended it, meanwhile: false once it has
+ * raised an exception. */
 static bool turn(struct rows *self) {
     const unsigned long long pages = self->pages;
-    const size_t room = self->room;
+    const size_t room = self->room; /* another thread may change it meanwhile */
     clsm_page_end end;
     clsm_row *page = PyMem_Malloc(room * sizeof *page);
     if (!page) {
@@ -39,24 +60,13 @@ static bool turn(struct rows *self) {
     }
     PyObject *reader = self->reader;
     Py_INCREF(reader);
-    const int code = is_snapshot(reader) ? clsm_read_snapshot((struct snapshot *)reader, self->next,
-                                                              self->last, page, room, &end)
-                                         : read_store((struct store *)reader, self, page, &end);
-    const bool is_mine = code == CLSM_OK && self->reader && self->pages == pages;
-    if (is_mine) {
-        PyMem_Free(self->page);
-        self->page = page;
-        self->count = (size_t)end.rows;
-        self->at = 0;
-        self->next = end.next;
-        self->more = end.more;
-        self->pages++;
-        self->room = 2 * room < self->greatest_room ? 2 * room : self->greatest_room;
-    } else {
-        PyMem_Free(page);
-    }
+    const int code = read_page(self, reader, page, room, &end);
+    const bool is_next = self->reader && self->pages == pages;
+    if (is_next && code == CLSM_OK) take_page(self, page, &end);
+    else PyMem_Free(page);
+    if (is_next && code > 0) refuse(reader, code);
     Py_DECREF(reader);
-    return code == CLSM_OK;
+    return code >= 0 && !(is_next && code > 0);
 }
 
 /* Ends it: false once it has raised an exception. */

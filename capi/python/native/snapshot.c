@@ -67,15 +67,14 @@ static PyObject *count(struct snapshot *self, PyObject *const *arguments, Py_ssi
 int clsm_read_snapshot(struct snapshot *self, uint64_t first, uint64_t last, clsm_row *rows,
                        size_t room, clsm_page_end *page) {
     int code;
-    if (!enter(self)) return -1;
+    if (!clsm_is_forked_object(self->store) && !clsm_await_calls(self)) return -1;
+    if (!self->handle || !clsm_is_usable(self->store)) return CLSM_BAD_POINTER;
     begin(self);
     Py_BEGIN_ALLOW_THREADS
     code = clsm_snapshot_page(self->handle, first, last, rows, room, page);
     Py_END_ALLOW_THREADS
     end(self);
-    if (code == CLSM_OK) return code;
-    clsm_refuse_call(self->store, code);
-    return -1;
+    return code;
 }
 
 static PyObject *time_of(PyObject *object, void *none) {

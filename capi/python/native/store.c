@@ -2,6 +2,9 @@
 #include "native.h"
 
 #include <string.h>
+#include <time.h>
+
+enum { LONGEST_WAIT = 100 }; /* milliseconds that a call waits for a snapshot to be closed */
 
 /* ---- Refusals */
 
@@ -25,6 +28,16 @@ static PyObject *none_or_refuse(const struct store *store, int code) {
     Py_RETURN_NONE;
 }
 
+/* Notes what the library refused, if that is tried again, as it counts that. */
+static void note_try(struct store *store, int code) {
+    switch (code) {
+    case CLSM_VERSIONS_FULL: store->tried_again.versions_full++; break;
+    case CLSM_RUN_FULL: store->tried_again.run_full++; break;
+    case CLSM_NO_SEAT: store->tried_again.no_seat++; break;
+    default: break;
+    }
+}
+
 /* ---- The pool */
 
 void clsm_begin_call(struct store *store) { store->calls++; }
@@ -39,6 +52,7 @@ static int is_free(struct store *store, struct caller *caller) {
     if (caller->is_in_call) return 0;
     if (caller->handle) return 1;
     const int code = clsm_caller_open(store->handle, &caller->handle);
+    note_try(store, code);
     if (code == CLSM_NO_SEAT) return 0;
     if (code == CLSM_OK) return 1;
     clsm_refuse_call(store, code);
@@ -109,11 +123,31 @@ static int make_call(struct store *store, int first, int last, struct call *call
 
 /* Makes a call that writes: by the opener of a snapshot that this thread has open, so that the
  * library knows of it, or by any writer. */
-static int make_write(struct store *store, struct call *call) {
+static int make_write_once(struct store *store, struct call *call) {
     const uint64_t thread = clsm_thread_number();
     for (const struct snapshot *open = store->snapshots; open; open = open->next)
         if (open->thread == thread) return make_call(store, open->opener, open->opener + 1, call);
     return make_call(store, WRITERS, CALLERS, call);
+}
+
+static int64_t milliseconds(void) {
+    struct timespec now;
+    clock_gettime(CLOCK_MONOTONIC, &now);
+    return (int64_t)now.tv_sec * 1000 + (int64_t)now.tv_nsec / 1000000;
+}
+
+/* The same. While it waits for a snapshot to be closed, it comes back now and then, for handlers of
+ * signals and for other writers. */
+static int make_write(struct store *store, struct call *call) {
+    int64_t began = 0;
+    for (;;) {
+        const int code = make_write_once(store, call);
+        if (code != CLSM_VERSIONS_FULL || store->wait <= LONGEST_WAIT) return code;
+        if (began == 0) began = milliseconds() - LONGEST_WAIT;
+        if (milliseconds() - began >= store->wait) return code;
+        note_try(store, code);
+        if (PyErr_CheckSignals()) return -1;
+    }
 }
 
 /* ---- Reads */
@@ -159,6 +193,9 @@ static PyObject *stats(struct store *self, PyObject *none) {
     if (!check_open(self)) return NULL;
     const int code = clsm_stats(self->handle, &told);
     if (code != CLSM_OK) return clsm_refuse_call(self, code);
+    told.versions_full -= self->tried_again.versions_full;
+    told.run_full -= self->tried_again.run_full;
+    told.no_seat -= self->tried_again.no_seat;
     uint64_t numbers[sizeof told / sizeof(uint64_t)];
     memcpy(numbers, &told, sizeof told);
     const Py_ssize_t size = (Py_ssize_t)(sizeof numbers / sizeof *numbers);
@@ -183,6 +220,7 @@ static PyObject *put(struct store *self, PyObject *const *arguments, Py_ssize_t 
         return NULL;
     int code = clsm_try_put(self->shared, call.key, call.value.words, call.value.length);
     if (code != CLSM_OK) { /* it may be another one if the write waits */
+        note_try(self, code);
         call.make = call_put;
         code = make_write(self, &call);
     }
@@ -197,7 +235,10 @@ static PyObject *remove_key(struct store *self, PyObject *object) {
     struct call call = {.make = call_remove};
     if (!clsm_read_key(object, &call.key) || !check_open(self)) return NULL;
     int code = clsm_try_remove(self->shared, call.key);
-    if (code != CLSM_OK) code = make_write(self, &call);
+    if (code != CLSM_OK) {
+        note_try(self, code);
+        code = make_write(self, &call);
+    }
     return code < 0 ? NULL : none_or_refuse(self, code);
 }
 
@@ -301,6 +342,7 @@ static int open_once(struct store *store, struct snapshot *snapshot) {
 int clsm_open_snapshot(struct store *store, struct snapshot *snapshot) {
     int code = open_once(store, snapshot);
     if (code == CLSM_NO_SEAT) {
+        note_try(store, code);
         give_up_seats(store);
         code = open_once(store, snapshot);
     }
@@ -379,7 +421,8 @@ static int open_store(PyObject *object, PyObject *arguments, PyObject *names) {
     options.keys = (size_t)keys;
     options.epoch = (size_t)epoch;
     options.versions = (size_t)versions;
-    options.wait = wait;
+    options.wait = wait < LONGEST_WAIT ? wait : LONGEST_WAIT;
+    self->wait = wait;
     self->was_opened = true;
     self->forks = clsm_forks_seen();
     int code;

@@ -104,6 +104,29 @@ class Writing(unittest.TestCase):
                 batch[1] = batch[2] = 1_000
             self.assertEqual(store[2], 1_000)
 
+    def test_threads_share_one(self) -> None:
+        count = 5_000
+
+        def add(own: int) -> None:
+            try:
+                for key in range(own, count, 2):
+                    while len(batch) > 30:
+                        batch.write()
+                    batch[key] = key
+            finally:
+                is_over.append(True)
+
+        def write() -> None:
+            while len(is_over) < 2:
+                batch.write()
+
+        is_over: List[bool] = []
+        with Store(keys=count, epoch=1_000) as store:
+            batch = store.batch()
+            in_threads([partial(add, 0), partial(add, 1), write, write])
+            batch.write()
+            self.assertEqual(list(store.scan()), [(key, key) for key in range(count)])
+
     def test_a_closed_store(self) -> None:
         batch = self.store.batch()
         batch[1] = 10

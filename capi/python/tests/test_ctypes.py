@@ -42,7 +42,7 @@ class Options(unittest.TestCase):
         given = [default, [7, 5, -1, 1], default, [100_000, 0, 16, 0], default, default]
         self.assertEqual(found, given)
         self.assertEqual([value.versions for value in told], [0, 0, 1_000, 0, 0, 0])
-        waits = [1_000, 1_000, -1, 31, 2**63 - 1, 2**63 - 1]
+        waits = [100, 100, -1, 31, 100, 100]
         self.assertEqual([value.wait for value in told], waits)
         self.assertEqual([list(value.zero) for value in told], [[0] * 2] * 6)
 
@@ -119,6 +119,22 @@ class AsIfRefused(unittest.TestCase):
                 self.assert_refused(partial(next, self.store.walk()), code)
         self.assertEqual(list(self.snapshot.scan()), [(7, 70)])
         self.assertEqual(self.store.stats().snapshots, 1)
+
+    def test_what_is_added_while_a_batch_is_written(self) -> None:
+        writes = library.batch
+
+        def add_and_write(*arguments: Any) -> int:
+            in_threads([lambda: batch.__setitem__(2, 20)])
+            batch.remove(7)
+            return writes(*arguments)
+
+        batch = self.store.batch()
+        batch[1] = 10
+        with mock.patch.object(library, "batch", add_and_write):
+            batch.write()
+        self.assertEqual((list(self.store.scan()), len(batch)), ([(1, 10), (7, 70)], 2))
+        batch.write()
+        self.assertEqual((list(self.store.scan()), len(batch)), ([(1, 10), (2, 20)], 0))
 
     def test_batches(self) -> None:
         for code in self.codes():

@@ -324,7 +324,40 @@ print(came_out, len(swallowed))
 """
 
 
+WAITING = """
+import signal, threading, time
+from cupolanettle import Store
+signal.signal(signal.SIGUSR1, signal.default_int_handler)
+
+with Store(keys=1, epoch=4, wait=None, merge_in_calls=True) as store:
+    held = []
+    thread = threading.Thread(target=lambda: held.append(store.snapshot()))
+    thread.start()
+    thread.join()
+
+    def interrupt():
+        before = -1
+        while store.stats().clock != before:  # until no write comes any more
+            before = store.stats().clock
+            time.sleep(0.01)
+        signal.pthread_kill(threading.main_thread().ident, signal.SIGUSR1)
+
+    thread = threading.Thread(target=interrupt)
+    thread.start()
+    try:
+        while True:
+            store[7] = 70
+    except KeyboardInterrupt:
+        print("interrupted")
+    thread.join()
+"""
+
+
 class Signals(unittest.TestCase):
+    def test_a_write_that_waits(self) -> None:
+        ended = in_process(WAITING)
+        self.assertEqual((ended.stdout, ended.stderr), ("interrupted\n", ""))
+
     def test_three_hundred(self) -> None:
         ended = in_process(SIGNALS)
         self.assertEqual((ended.stdout, ended.stderr), ("300 0\n", ""))

@@ -18,7 +18,7 @@ import sys
 import threading
 import time
 import weakref
-from typing import Any, Iterator, List, NoReturn, Optional, Sequence, Set, Tuple, TypeVar, Union
+from typing import Any, Dict, Iterator, List, NoReturn, Optional, Sequence, Set, Tuple, TypeVar, Union
 
 from . import _library as library
 from ._errors import KEPT, NOT_FOUND, OK, Code, error_of
@@ -40,6 +40,15 @@ Kind = TypeVar("Kind")
 # Whether threads of Python run one at a time.
 _HAS_LOCK: bool = getattr(sys, "_is_gil_enabled", lambda: True)()
 
+# Refusals that the library counts, by their names in its statistics.
+_COUNTED: Dict[int, str] = {
+    Code.VERSIONS_FULL: "versions_full",
+    Code.RUN_FULL: "run_full",
+    Code.NO_SEAT: "no_seat",
+}
+
+_LONGEST_WAIT = 100  # milliseconds that a call waits for a snapshot to be closed
+_SECOND = 1_000  # milliseconds
 _PAUSE = 0.001  # seconds until somebody who waits looks again
 _ARRAYS = [ctypes.c_uint64 * count for count in range(9)]
 _NO_WORDS = (0,) * 8
@@ -107,6 +116,9 @@ class Store:
         self._renew_locks()
         self._handle = Handle(library.store_close_at)
         self._main = Caller(self._handle)
+        self._wait = wait / _SECOND
+        self._tried_again: Dict[int, int] = dict.fromkeys(_COUNTED, 0)
+        wait = min(wait, _LONGEST_WAIT)
         options = library.Options(keys, epoch, patience, merge, versions, wait)
         _remember(self)
         self._check(library.store_open(ctypes.byref(options), self._handle._address))
@@ -135,12 +147,18 @@ class Store:
         with self._main_lock:
             return call(*arguments)
 
+    def _note_try(self, code: int) -> None:
+        """Notes what the library refused, if that is tried again, as it counts that."""
+        if code in self._tried_again:
+            self._tried_again[code] += 1
+
     # ---- The pool
 
     def _open_caller(self, number: int) -> Optional[Caller]:
         """Opens a caller of the pool, if there is a seat."""
         caller = Caller(self._handle)
         code = library.caller_open(self._handle.pointer, caller._address)
+        self._note_try(code)
         if code == Code.NO_SEAT:
             return None
         self._check(code)
@@ -192,6 +210,16 @@ class Store:
                 return range(view.opener, view.opener + 1)
         return _WRITERS
 
+    def _call_to_write(self, call: library.Call, *arguments: Any) -> int:
+        """Makes a call that writes. While it waits for a snapshot to be closed, it comes back now
+        and then, for handlers of signals and for other writers."""
+        began = time.monotonic()
+        while True:
+            code = self._call(self._for_writing(), call, *arguments)
+            if code != Code.VERSIONS_FULL or time.monotonic() - began >= self._wait:
+                return code
+            self._note_try(code)
+
     # ---- Reads
 
     def _get(self, key: int, default: object) -> Any:
@@ -228,6 +256,8 @@ class Store:
         with self._handle_lock:
             code = library.stats(self._handle.pointer, found)
         self._check(code)
+        for refused, name in _COUNTED.items():
+            setattr(found, name, getattr(found, name) - self._tried_again[refused])
         return tuple(getattr(found, name) for name, _ in found._fields_)
 
     # ---- Writes
@@ -243,19 +273,20 @@ class Store:
     def _write(self, calls: library.WriteCalls, *arguments: Any) -> None:
         code = self._exclusively(calls.attempt, self._main.pointer, *arguments)
         if code != OK:  # it may be another one if the write waits
-            self._check(self._call(self._for_writing(), calls.wait, *arguments))
+            self._note_try(code)
+            self._check(self._call_to_write(calls.wait, *arguments))
 
     def _write_rows(self, rows: bytearray) -> None:
         """Writes a batch, and takes what it wrote out of it."""
         count = len(rows) // _ROW.size
         copied = (library.Row * count).from_buffer_copy(rows)
-        self._check(self._call(self._for_writing(), library.batch, copied, count))
+        self._check(self._call_to_write(library.batch, copied, count))
         del rows[: count * _ROW.size]
 
     def _change(self, call: library.Call, *arguments: Any) -> Tuple[bool, library.Changed]:
         """Whether the call has written, and what the key had and has."""
         changed = library.Changed()
-        code = self._call(self._for_writing(), call, *arguments, changed)
+        code = self._call_to_write(call, *arguments, changed)
         if code not in (OK, KEPT):
             self._refuse(code)
         return code == OK, changed
@@ -287,6 +318,7 @@ class Store:
         view = View(self._handle)
         code = self._open_once(view)
         if code == Code.NO_SEAT:
+            self._note_try(code)
             self._give_up_seats()
             code = self._open_once(view)
         self._check(code)
