@@ -31,10 +31,15 @@ $(NATIVE): $(NATIVE_OBJECTS) $(OUT)/libclsm.a
 
 .PHONY: native-warnings native-names
 native-warnings:
-ifneq ($(HAS_PYTHON_HEADERS),)
 	for cc in $(CC) $(CLANG); do \
 	    for file in $(NATIVE_PARTS:%=python/native/%.c); do \
 	        $$cc -std=c11 $(WARNINGS) -Werror -O2 -I. -isystem $(PYTHON_HEADERS) -fsyntax-only -pthread $$file || exit 1; \
 	    done; \
 	done
+
+native-names: $(NATIVE)
+	[ "$$($(NM) -D --defined-only $(NATIVE) | sed 's/.* //')" = PyInit__native ]
+
+ifneq ($(HAS_PYTHON_HEADERS),)
+check: native-warnings $(if $(SANITIZE),,native-names)
 endif
