@@ -2,6 +2,7 @@
 
 from __future__ import annotations
 
+import ast
 import doctest
 import inspect
 import typing
@@ -9,9 +10,11 @@ import unittest
 from typing import Any, Dict, Iterator, Tuple
 
 import cupolanettle
+from cupolanettle import _core as core
+from cupolanettle._finding import native
 from cupolanettle._reading import Reader
 
-from .support import PROJECT
+from .support import PROJECT, SOURCES
 
 OPERATORS = {"__getitem__", "__setitem__", "__delitem__", "__contains__"}
 
@@ -54,3 +57,17 @@ class Documentation(unittest.TestCase):
             function = value.fget if isinstance(value, property) else value
             with self.subTest(name=name):
                 self.assertIn("return", typing.get_type_hints(function))
+
+    def test_the_stub_is_true(self) -> None:
+        """What it declares is there, whichever way the library is called."""
+        stub = ast.parse((SOURCES / "cupolanettle" / "_native.pyi").read_text(encoding="ascii"))
+        kinds = [node for node in stub.body if isinstance(node, ast.ClassDef)]
+        self.assertEqual({kind.name for kind in kinds}, {"Store", "Snapshot", "Rows"})
+        for kind in kinds:
+            for node in kind.body:
+                if isinstance(node, ast.FunctionDef):
+                    with self.subTest(kind=kind.name, name=node.name):
+                        self.assertTrue(callable(getattr(getattr(core, kind.name), node.name)))
+        for function in [node for node in stub.body if isinstance(node, ast.FunctionDef)]:
+            if native is not None:
+                self.assertTrue(callable(getattr(native, function.name)))
