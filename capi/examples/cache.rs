@@ -2,7 +2,7 @@
 //! it was at one moment, however often it is read.
 //!
 //!     cargo run --offline --example cache
-use cupolanettle::{Caller, ChangeError, Error, Options, Store, Value};
+use cupolanettle::{Caller, Error, Options, Store, Value};
 use std::thread;
 
 const NUMBERS: u64 = 1_000;
@@ -22,14 +22,7 @@ fn path_of(mut number: u64) -> Value {
 /// The path of a number: from the cache, or computed and kept. If another thread kept it first, the
 /// path is the same.
 fn cached(caller: &Caller, number: u64) -> Result<Value, Error> {
-    if let Some(path) = caller.get(number) {
-        return Ok(path);
-    }
-    let path = path_of(number);
-    match caller.put_if_absent(number, path) {
-        Ok(_) | Err(ChangeError::Kept(_)) => Ok(path),
-        Err(refused) => Err(refused.into()),
-    }
+    Ok(caller.get_or_insert_with(number, || path_of(number))?)
 }
 
 fn fill(store: &Store) -> Result<(), Error> {

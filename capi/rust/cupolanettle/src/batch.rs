@@ -20,6 +20,7 @@ use std::fmt;
 /// # Ok::<(), Error>(())
 /// ```
 #[derive(Clone, Default)]
+#[doc(alias("WriteBatch", "write_batch"))]
 pub struct Batch {
     rows: Vec<raw::Row>,
 }
@@ -44,6 +45,7 @@ impl Batch {
     /// }
     /// assert_eq!(batch.len(), 10);
     /// ```
+    #[doc(alias("put", "insert"))]
     pub fn set(&mut self, key: u64, value: impl Into<Value>) -> &mut Batch {
         self.rows.push(raw::Row { key, value: value.into().into_raw() });
         self
@@ -56,6 +58,7 @@ impl Batch {
     /// batch.remove(7).remove(8);
     /// assert_eq!(batch.len(), 2);
     /// ```
+    #[doc(alias = "delete")]
     pub fn remove(&mut self, key: u64) -> &mut Batch {
         self.rows.push(raw::Row { key, value: raw::Value::default() });
         self
@@ -96,6 +99,71 @@ impl Batch {
 
     pub(crate) fn rows(&self) -> &[raw::Row] {
         &self.rows
+    }
+}
+
+/// Adds a write of each value at its key.
+///
+/// ```
+/// use cupolanettle::{Batch, Error, Options};
+///
+/// let store = Options::new().keys(1_000).open()?;
+/// let caller = store.caller()?;
+/// let mut batch = Batch::new();
+/// batch.remove(9);
+/// batch.extend((0..5).map(|key| (key, 10 * key)));
+/// batch.extend([(7, [70, 71])]);
+/// batch.extend(caller.page(.., 100)?.rows);
+/// assert_eq!(batch.len(), 7);
+/// # Ok::<(), Error>(())
+/// ```
+impl<V: Into<Value>> Extend<(u64, V)> for Batch {
+    fn extend<I: IntoIterator<Item = (u64, V)>>(&mut self, rows: I) {
+        let raw_of = |(key, value): (u64, V)| raw::Row { key, value: value.into().into_raw() };
+        self.rows.extend(rows.into_iter().map(raw_of));
+    }
+}
+
+/// Adds a write of each value at its key, and a removal of each key without a value.
+///
+/// ```
+/// use cupolanettle::{Batch, Value};
+///
+/// let mut batch = Batch::new();
+/// batch.extend([(1, Some(Value::from(10))), (2, None)]);
+/// assert_eq!(format!("{batch:?}"), "[(1, Some([10])), (2, None)]");
+/// ```
+impl Extend<(u64, Option<Value>)> for Batch {
+    fn extend<I: IntoIterator<Item = (u64, Option<Value>)>>(&mut self, rows: I) {
+        let raw_of = |(key, value)| raw::Row { key, value: Value::raw_of(value) };
+        self.rows.extend(rows.into_iter().map(raw_of));
+    }
+}
+
+/// A batch of writes and removals, as they [extend](Batch#impl-Extend<(u64,+V)>-for-Batch) one.
+///
+/// ```
+/// use cupolanettle::{Batch, Error, Options, Value};
+///
+/// let store = Options::new().keys(1_000).open()?;
+/// let caller = store.caller()?;
+/// let squares: Batch = (0..10).map(|key| (key, key * key)).collect();
+/// caller.batch(&squares)?;
+/// assert_eq!(caller.get(9), Some(81.into()));
+///
+/// let none = None::<Value>;
+/// caller.batch(&Batch::from_iter([(8, none), (9, none)]))?;
+/// assert_eq!(caller.count(..), 8);
+/// # Ok::<(), Error>(())
+/// ```
+impl<V> FromIterator<(u64, V)> for Batch
+where
+    Batch: Extend<(u64, V)>,
+{
+    fn from_iter<I: IntoIterator<Item = (u64, V)>>(rows: I) -> Batch {
+        let mut batch = Batch::new();
+        batch.extend(rows);
+        batch
     }
 }
 

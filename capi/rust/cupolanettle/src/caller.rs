@@ -5,7 +5,7 @@ mod walks;
 
 use crate::error::{Memory, NoSeat, Refused, TryError, Unseen};
 use crate::library::{unexpected, Code, Handle};
-use crate::range::{read_page, Keys, Page, Range};
+use crate::range::{first_row, is_empty, read_page, Keys, Page, Range};
 use crate::snapshot::Snapshot;
 use crate::value::Value;
 use crate::Time;
@@ -102,6 +102,7 @@ impl Caller {
     /// # Ok::<(), Error>(())
     /// ```
     #[must_use]
+    #[doc(alias("token", "sequence_number", "version"))]
     pub fn seen(&self) -> Time {
         self.handle.seen()
     }
@@ -164,6 +165,7 @@ impl Caller {
     /// # Ok::<(), Error>(())
     /// ```
     #[inline]
+    #[doc(alias("insert", "upsert", "set", "store", "write"))]
     pub fn put(&self, key: u64, value: impl Into<Value>) -> Result<Time, Refused> {
         self.written(self.handle.put(key, &value.into()))
     }
@@ -185,6 +187,7 @@ impl Caller {
     /// assert_eq!(caller.get(1), None);
     /// # Ok::<(), Error>(())
     /// ```
+    #[doc(alias("delete", "erase", "del"))]
     pub fn remove(&self, key: u64) -> Result<Time, Refused> {
         self.written(self.handle.remove(key))
     }
@@ -271,8 +274,70 @@ impl Caller {
     /// ```
     #[inline]
     #[allow(clippy::must_use_candidate)] // a read moves the caller's time, too
+    #[doc(alias("find", "lookup"))]
     pub fn get(&self, key: u64) -> Option<Value> {
         self.handle.get(key)
+    }
+
+    /// Whether the key has a value. It costs a [`get`](Caller::get), less the copy of the value.
+    ///
+    /// Where the answer decides on a write, another thread may write the key in between: take a
+    /// change instead, such as [`put_if_absent`](Caller::put_if_absent).
+    ///
+    /// ```
+    /// # use cupolanettle::{Error, Options};
+    /// let store = Options::new().keys(1_000).open()?;
+    /// let caller = store.caller()?;
+    /// caller.put(7, 70)?;
+    /// assert!(caller.contains_key(7) && !caller.contains_key(8));
+    /// # Ok::<(), Error>(())
+    /// ```
+    #[inline]
+    #[must_use]
+    #[doc(alias("contains", "has", "exists"))]
+    pub fn contains_key(&self, key: u64) -> bool {
+        self.handle.contains_key(key)
+    }
+
+    /// Whether no key has a value. It reads up to the first row.
+    ///
+    /// ```
+    /// # use cupolanettle::{Error, Options};
+    /// let store = Options::new().keys(1_000).open()?;
+    /// let caller = store.caller()?;
+    /// assert!(caller.is_empty());
+    /// caller.put(7, 70)?;
+    /// assert!(!caller.is_empty());
+    /// # Ok::<(), Error>(())
+    /// ```
+    #[must_use]
+    pub fn is_empty(&self) -> bool {
+        is_empty(&self.handle)
+    }
+
+    /// The row of the least key, or `None` if no key has a value. It is a
+    /// [`page`](Caller::page) of one row.
+    ///
+    /// The first row of a range is `caller.page(first..last, 1)`.
+    ///
+    /// # Errors
+    ///
+    /// [`Memory`].
+    ///
+    /// ```
+    /// # use cupolanettle::{Error, Options};
+    /// let store = Options::new().keys(1_000).open()?;
+    /// let caller = store.caller()?;
+    /// assert_eq!(caller.first_key_value()?, None);
+    /// for key in [8, 3, 5] {
+    ///     caller.put(key, 10 * key)?;
+    /// }
+    /// assert_eq!(caller.first_key_value()?, Some((3, 30.into())));
+    /// # Ok::<(), Error>(())
+    /// ```
+    #[doc(alias("first", "front", "min", "seek_to_first"))]
+    pub fn first_key_value(&self) -> Result<Option<(u64, Value)>, Memory> {
+        first_row(&self.handle)
     }
 
     /// How many keys of the range have a value. It walks all of them and needs no memory.
@@ -288,6 +353,7 @@ impl Caller {
     /// # Ok::<(), Error>(())
     /// ```
     #[must_use]
+    #[doc(alias("len", "size"))]
     pub fn count(&self, keys: impl RangeBounds<u64>) -> u64 {
         self.handle.count(Keys::of(&keys))
     }
@@ -317,6 +383,7 @@ impl Caller {
     /// assert_eq!(page.next, Some(3));
     /// # Ok::<(), Error>(())
     /// ```
+    #[doc(alias("scan", "limit"))]
     pub fn page(&self, keys: impl RangeBounds<u64>, most: usize) -> Result<Page, Memory> {
         read_page(&self.handle, Keys::of(&keys), most)
     }
@@ -346,6 +413,7 @@ impl Caller {
     /// assert_eq!(caller.get(1), Some(11.into()));
     /// # Ok::<(), Error>(())
     /// ```
+    #[doc(alias("read_transaction", "read_txn", "begin"))]
     pub fn snapshot(&self) -> Result<Snapshot, NoSeat> {
         Ok(Snapshot::of(self.handle.snapshot()?))
     }
@@ -377,6 +445,7 @@ impl Caller {
     /// assert_eq!(sum, 60);
     /// # Ok::<(), Error>(())
     /// ```
+    #[doc(alias("iter", "iterator", "cursor", "scan"))]
     pub fn range(&self, keys: impl RangeBounds<u64>) -> Result<Range<Snapshot>, NoSeat> {
         Ok(Range::new(self.snapshot()?, Keys::of(&keys)))
     }

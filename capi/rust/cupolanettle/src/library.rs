@@ -208,6 +208,17 @@ impl<K: Kind> Handle<K> {
         }
     }
 
+    #[inline]
+    pub(crate) fn contains_key(&self, key: u64) -> bool {
+        // SAFETY: as in `number`, and null stands for no place to copy the value to.
+        let code = unsafe { K::GET(self.place(), key, null_mut()) };
+        match code {
+            raw::OK => true,
+            raw::NOT_FOUND => false,
+            code => unexpected(code),
+        }
+    }
+
     pub(crate) fn count(&self, keys: Keys) -> u64 {
         let mut count = 0;
         // SAFETY: as in `number`, and `count` is of this frame.

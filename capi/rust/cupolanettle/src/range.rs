@@ -75,6 +75,21 @@ pub(crate) fn pair(row: &raw::Row) -> Option<(u64, Value)> {
     Some((row.key, Value::from_raw(row.value)?))
 }
 
+/// The first row of all, if there is one.
+pub(crate) fn first_row<K: Kind>(handle: &Handle<K>) -> Result<Option<(u64, Value)>, Memory> {
+    let mut read = Vec::new();
+    handle.page(Keys::of(&..), 1, &mut read)?;
+    Ok(read.first().and_then(pair))
+}
+
+/// Whether there is no row. Where no memory is left to read one, the rows are counted.
+pub(crate) fn is_empty<K: Kind>(handle: &Handle<K>) -> bool {
+    match first_row(handle) {
+        Ok(row) => row.is_none(),
+        Err(Memory) => handle.count(Keys::of(&..)) == 0,
+    }
+}
+
 /// Reads a page of at most so many rows: anew with more room while there are more rows, so that it
 /// takes memory for the rows that there are. The last reading is the answer.
 pub(crate) fn read_page<K: Kind>(
@@ -116,6 +131,7 @@ pub(crate) fn read_page<K: Kind>(
 /// assert_eq!(rows.next().transpose()?, None);
 /// # Ok::<(), Error>(())
 /// ```
+#[doc(alias("Iter", "Iterator", "Cursor", "Scan"))]
 pub struct Range<S> {
     snapshot: S,
     /// What is left behind the rows that were read.

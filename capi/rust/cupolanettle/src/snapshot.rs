@@ -1,7 +1,7 @@
 //! Snapshots.
 use crate::error::Memory;
 use crate::library::Handle;
-use crate::range::{read_page, Keys, Page, Range};
+use crate::range::{first_row, is_empty, read_page, Keys, Page, Range};
 use crate::value::Value;
 use crate::Time;
 use cupolanettle_sys as raw;
@@ -37,6 +37,7 @@ use std::ops::RangeBounds;
 /// assert_eq!(snapshot.count(..), 1);
 /// # Ok::<(), Error>(())
 /// ```
+#[doc(alias("ReadTransaction", "RoTxn", "View"))]
 pub struct Snapshot {
     pub(crate) handle: Handle<raw::Snapshot>,
 }
@@ -94,6 +95,65 @@ impl Snapshot {
         self.handle.get(key)
     }
 
+    /// Whether the key had a value. It costs a [`get`](Snapshot::get), less the copy of the value.
+    ///
+    /// ```
+    /// # use cupolanettle::{Error, Options};
+    /// # let store = Options::new().keys(1_000).open()?;
+    /// # let caller = store.caller()?;
+    /// caller.put(7, 70)?;
+    /// let snapshot = caller.snapshot()?;
+    /// caller.remove(7)?;
+    /// assert!(snapshot.contains_key(7) && !caller.contains_key(7));
+    /// # Ok::<(), Error>(())
+    /// ```
+    #[must_use]
+    #[inline]
+    #[doc(alias("contains", "has", "exists"))]
+    pub fn contains_key(&self, key: u64) -> bool {
+        self.handle.contains_key(key)
+    }
+
+    /// Whether no key had a value. It reads up to the first row.
+    ///
+    /// ```
+    /// # use cupolanettle::{Error, Options};
+    /// # let store = Options::new().keys(1_000).open()?;
+    /// # let caller = store.caller()?;
+    /// let before = caller.snapshot()?;
+    /// caller.put(7, 70)?;
+    /// assert!(before.is_empty() && !caller.snapshot()?.is_empty());
+    /// # Ok::<(), Error>(())
+    /// ```
+    #[must_use]
+    pub fn is_empty(&self) -> bool {
+        is_empty(&self.handle)
+    }
+
+    /// The row of the least key, or `None` if no key had a value. It is a
+    /// [`page`](Snapshot::page) of one row.
+    ///
+    /// # Errors
+    ///
+    /// [`Memory`].
+    ///
+    /// ```
+    /// # use cupolanettle::{Error, Options};
+    /// # let store = Options::new().keys(1_000).open()?;
+    /// # let caller = store.caller()?;
+    /// for key in [8, 3, 5] {
+    ///     caller.put(key, 10 * key)?;
+    /// }
+    /// let snapshot = caller.snapshot()?;
+    /// caller.remove(3)?;
+    /// assert_eq!(snapshot.first_key_value()?, Some((3, 30.into())));
+    /// # Ok::<(), Error>(())
+    /// ```
+    #[doc(alias("first", "front", "min", "seek_to_first"))]
+    pub fn first_key_value(&self) -> Result<Option<(u64, Value)>, Memory> {
+        first_row(&self.handle)
+    }
+
     /// How many keys of the range had a value. It walks all of them and needs no memory.
     ///
     /// ```
@@ -107,6 +167,7 @@ impl Snapshot {
     /// # Ok::<(), Error>(())
     /// ```
     #[must_use]
+    #[doc(alias("len", "size"))]
     pub fn count(&self, keys: impl RangeBounds<u64>) -> u64 {
         self.handle.count(Keys::of(&keys))
     }
@@ -157,8 +218,71 @@ impl Snapshot {
     /// assert_eq!(rows, [(0, 0.into()), (1, 10.into()), (2, 20.into())]);
     /// # Ok::<(), Error>(())
     /// ```
+    #[doc(alias("iterator", "cursor", "scan"))]
     pub fn range(&self, keys: impl RangeBounds<u64>) -> Range<&Snapshot> {
         Range::new(self, Keys::of(&keys))
+    }
+
+    /// An iterator over all rows by rising key: [`range`](Snapshot::range) of all keys.
+    ///
+    /// ```
+    /// # use cupolanettle::{Error, Options};
+    /// # let store = Options::new().keys(1_000).open()?;
+    /// # let caller = store.caller()?;
+    /// caller.put(1, 10)?;
+    /// caller.put(2, 20)?;
+    /// let snapshot = caller.snapshot()?;
+    /// let mut rows = snapshot.iter();
+    /// assert_eq!(rows.next().transpose()?, Some((1, 10.into())));
+    /// assert_eq!(rows.count(), 1);
+    /// # Ok::<(), Error>(())
+    /// ```
+    #[must_use]
+    pub fn iter(&self) -> Range<&Snapshot> {
+        self.range(..)
+    }
+}
+
+/// All rows by rising key, as of [`iter`](Snapshot::iter).
+///
+/// ```
+/// # use cupolanettle::{Error, Options};
+/// # let store = Options::new().keys(1_000).open()?;
+/// # let caller = store.caller()?;
+/// caller.put(1, 10)?;
+/// let snapshot = caller.snapshot()?;
+/// for row in &snapshot {
+///     let (key, value) = row?;
+///     assert_eq!((key, value), (1, 10.into()));
+/// }
+/// # Ok::<(), Error>(())
+/// ```
+impl<'a> IntoIterator for &'a Snapshot {
+    type Item = Result<(u64, Value), Memory>;
+    type IntoIter = Range<&'a Snapshot>;
+
+    fn into_iter(self) -> Range<&'a Snapshot> {
+        self.iter()
+    }
+}
+
+/// All rows by rising key, by an iterator that has the snapshot, and drops it at its own end.
+///
+/// ```
+/// # use cupolanettle::{Error, Options};
+/// # let store = Options::new().keys(1_000).open()?;
+/// # let caller = store.caller()?;
+/// caller.put(1, 10)?;
+/// let rows = store.snapshot()?.into_iter().collect::<Result<Vec<_>, _>>()?;
+/// assert_eq!(rows, [(1, 10.into())]);
+/// # Ok::<(), Error>(())
+/// ```
+impl IntoIterator for Snapshot {
+    type Item = Result<(u64, Value), Memory>;
+    type IntoIter = Range<Snapshot>;
+
+    fn into_iter(self) -> Range<Snapshot> {
+        Range::new(self, Keys::of(&..))
     }
 }
 

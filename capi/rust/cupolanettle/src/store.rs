@@ -29,6 +29,7 @@ const NANOSECONDS: u128 = 1_000_000;
 /// ```
 #[derive(Clone, Copy, PartialEq, Eq, Debug)]
 #[must_use = "`open` opens a store"]
+#[doc(alias("Builder", "Config"))]
 pub struct Options {
     keys: usize,
     versions: Option<usize>,
@@ -258,6 +259,7 @@ impl Default for Options {
 /// # Ok::<(), Error>(())
 /// ```
 #[derive(Clone)]
+#[doc(alias("Database", "DB", "Map", "SkipMap"))]
 pub struct Store {
     opened: Arc<OpenStore>,
     /// So many it was opened for.
@@ -329,6 +331,7 @@ impl Store {
     /// ```
     ///
     /// [`TryError::Full`]: crate::TryError::Full
+    #[doc(alias("compact", "compact_range"))]
     pub fn sweep(&self) -> Result<(), Refused> {
         loop {
             match self.opened.sweep() {
@@ -353,6 +356,7 @@ impl Store {
     /// # Ok::<(), Error>(())
     /// ```
     #[must_use]
+    #[doc(alias("statistics", "metrics"))]
     pub fn stats(&self) -> Statistics {
         Statistics::of(&self.opened.stats())
     }

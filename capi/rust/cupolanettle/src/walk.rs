@@ -56,6 +56,7 @@ use std::iter::FusedIterator;
 ///
 /// [`Caller::walk`]: crate::Caller::walk
 #[must_use = "a walk reads nothing until it is asked for rows"]
+#[doc(alias("Iter", "Iterator", "Cursor"))]
 pub struct Walk<'a> {
     open: OpenWalk<'a>,
 }

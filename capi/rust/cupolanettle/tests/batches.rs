@@ -50,6 +50,28 @@ fn one_may_be_made_again() -> Result<(), Error> {
 }
 
 #[test]
+fn rows_make_one() -> Result<(), Error> {
+    let caller = small().open()?.caller()?;
+    let mut batch: Batch = (0..5).map(|key| (key, 10 * key)).collect();
+    batch.extend([(1, [1, 1]), (5, [5, 5])]);
+    batch.extend([(0, None), (6, Some(Value::from(60)))]);
+    batch.remove(2).extend(Vec::<(u64, Value)>::new());
+    assert_eq!(batch.len(), 10);
+    caller.batch(&batch)?;
+    let left = rows(&caller)?;
+    let wanted = [(1, [1, 1].into()), (3, 30.into()), (4, 40.into()), (5, [5, 5].into())];
+    assert_eq!((&left[..4], &left[4..]), (&wanted[..], &[(6, 60.into())][..]));
+    // The rows of one store are a batch for another.
+    let other = small().open()?.caller()?;
+    other.batch(&left.iter().copied().collect())?;
+    assert_eq!(rows(&other)?, left);
+    other.batch(&left.iter().map(|row| (row.0, None::<Value>)).collect())?;
+    assert!(other.is_empty());
+    assert!(Batch::from_iter(Vec::<(u64, u64)>::new()).is_empty());
+    Ok(())
+}
+
+#[test]
 fn empty_and_long_ones_are_refused() -> Result<(), Error> {
     let store = small().open()?;
     let caller = store.caller()?;

@@ -80,6 +80,29 @@ fn pages() -> Result<(), Error> {
 }
 
 #[test]
+fn the_first_row() -> Result<(), Error> {
+    let (store, caller) = filled()?;
+    let snapshot = caller.snapshot()?;
+    let (count, row) = refuse_each(|| caller.first_key_value());
+    assert!(count > 0);
+    assert_eq!(row, Some((0, 0.into())));
+    let (_, row) = refuse_each(|| snapshot.first_key_value());
+    assert_eq!(row, Some((0, 0.into())));
+    // Whether there is one is told without memory.
+    for (keys, is_empty) in [(ROWS, false), (0, true)] {
+        (keys..ROWS).try_for_each(|key| caller.remove(key).map(drop))?;
+        for refused in 0..=count {
+            assert_eq!(with_allocations(refused, || caller.is_empty()).0, is_empty);
+        }
+    }
+    for refused in 0..=count {
+        assert!(!with_allocations(refused, || snapshot.is_empty()).0);
+    }
+    drop(store);
+    Ok(())
+}
+
+#[test]
 fn an_iterator_goes_on_from_the_same_row() -> Result<(), Error> {
     let (_store, caller) = filled()?;
     for taken in [0, AT_A_TIME, 2 * AT_A_TIME] {

@@ -39,6 +39,7 @@ impl Caller {
     /// # assert_eq!((caller.get(1), caller.get(2)), (None, Some(10.into())));
     /// # Ok::<(), Error>(())
     /// ```
+    #[doc(alias("write_batch", "write", "apply", "commit"))]
     pub fn batch(&self, batch: &Batch) -> Result<Time, BatchError> {
         match self.handle.batch(batch.rows()) {
             raw::OK => Ok(self.time()),

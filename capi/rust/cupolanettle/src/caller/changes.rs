@@ -34,6 +34,7 @@ impl Caller {
     /// # Ok::<(), Error>(())
     /// ```
     #[inline]
+    #[doc(alias("fetch_add", "increment", "merge"))]
     pub fn add(&self, key: u64, by: u64) -> Result<Changed, ChangeError> {
         self.changed(self.handle.add(key, by))
     }
@@ -59,8 +60,53 @@ impl Caller {
     /// # Ok::<(), Error>(())
     /// ```
     #[inline]
+    #[doc(alias("insert_if_absent", "or_insert", "try_insert", "setdefault"))]
     pub fn put_if_absent(&self, key: u64, value: impl Into<Value>) -> Result<Changed, ChangeError> {
         self.replace(key, None, Some(value.into()))
+    }
+
+    /// The value of the key; if it has none, it is given that which the function makes.
+    ///
+    /// It is a [`get`](Caller::get), and, where that finds none, a
+    /// [`put_if_absent`](Caller::put_if_absent) of what the function makes. The function is asked
+    /// once at most, but **it may be asked in vain**: if another thread gives the key a value
+    /// meanwhile, that is answered, and what the function made is dropped. So all who ask for a
+    /// key get one value, until it is written or removed.
+    ///
+    /// The function may call this caller. If it panics, nothing was written, and the caller goes
+    /// on as before.
+    ///
+    /// # Errors
+    ///
+    /// [`Refused`], as of [`put`](Caller::put), with nothing written.
+    ///
+    /// ```
+    /// # use cupolanettle::{Error, Options};
+    /// let store = Options::new().keys(1_000).open()?;
+    /// let caller = store.caller()?;
+    /// let square = |number| caller.get_or_insert_with(number, || number * number);
+    /// assert_eq!(square(7)?, 49.into());
+    /// assert_eq!(caller.get(7), Some(49.into()));
+    ///
+    /// let found = caller.get_or_insert_with(7, || -> u64 { unreachable!("it has a value") })?;
+    /// assert_eq!(found, 49.into());
+    /// # Ok::<(), Error>(())
+    /// ```
+    #[doc(alias("or_insert_with", "get_or_create", "compute_if_absent", "entry"))]
+    pub fn get_or_insert_with<F, V>(&self, key: u64, function: F) -> Result<Value, Refused>
+    where
+        F: FnOnce() -> V,
+        V: Into<Value>,
+    {
+        if let Some(value) = self.get(key) {
+            return Ok(value);
+        }
+        let made = function().into();
+        match self.put_if_absent(key, made) {
+            Ok(_) => Ok(made),
+            Err(ChangeError::Kept(kept)) => Ok(kept.value.unwrap_or(made)),
+            Err(ChangeError::Refused(refused)) => Err(refused),
+        }
     }
 
     /// Writes the desired value at the key if the key has the expected one. `None` stands for no
@@ -117,6 +163,7 @@ impl Caller {
     ///
     /// [`AtomicU64::compare_exchange`]: std::sync::atomic::AtomicU64::compare_exchange
     #[inline]
+    #[doc(alias("compare_exchange", "compare_and_swap", "compare_and_set", "cas"))]
     pub fn replace(
         &self,
         key: u64,
@@ -162,6 +209,7 @@ impl Caller {
     /// assert_eq!((changed.before, changed.after), (Some([3, 9].into()), None));
     /// # Ok::<(), Error>(())
     /// ```
+    #[doc(alias("alter", "compute", "entry", "fetch_update", "modify"))]
     pub fn update<F, V>(&self, key: u64, mut function: F) -> Result<Changed, Refused>
     where
         F: FnMut(Option<Value>) -> Option<V>,

@@ -39,6 +39,7 @@ impl Caller {
     ///
     /// Where other threads write the same keys, [`add`](Caller::add), [`replace`](Caller::replace)
     /// or [`update`](Caller::update) changes what the key has by then.
+    #[doc(alias("iterator", "cursor", "for_each"))]
     pub fn walk(&self, keys: impl RangeBounds<u64>) -> Result<Walk<'_>, Memory> {
         Ok(Walk::of(self.handle.walk(Keys::of(&keys))?))
     }
@@ -71,6 +72,7 @@ impl Caller {
     /// assert_eq!(caller.retain(..100, |key, _| key >= 50)?, 50);
     /// # Ok::<(), Error>(())
     /// ```
+    #[doc(alias("filter", "remove_if", "extract_if"))]
     pub fn retain<F>(&self, keys: impl RangeBounds<u64>, mut keep: F) -> Result<u64, RetainError>
     where
         F: FnMut(u64, Value) -> bool,
