@@ -48,7 +48,7 @@
 //! # The parts
 //!
 //! - [`Options`] opens a [`Store`] with all the memory that it will ever need.
-//! - A [`Caller`] writes and reads. Each thread has its own.
+//! - A [`Caller`] writes and reads. Each thread has its own, or takes one of a [`Pool`].
 //! - A [`Snapshot`] reads the map as it was when it was opened.
 //! - A [`Range`] gives row after row of a snapshot, and a [`Walk`] those of the present.
 //! - A [`Value`] is a slice of one to eight words.
@@ -87,11 +87,13 @@
 //!
 //! A store has 64 seats: each caller, each snapshot and each iterator that has a snapshot of its
 //! own takes one while it is open. A caller keeps one more for its next snapshot, until somebody
-//! else needs it. More threads than seats share a pool of callers; a channel is one:
+//! else needs it.
+//!
+//! More threads than seats share a [`Pool`] of callers. A thread takes one for a piece of work, and
+//! sleeps while all are taken:
 //!
 //! ```
 //! use cupolanettle::{Error, Options};
-//! use std::sync::{mpsc, Mutex};
 //! use std::thread;
 //!
 //! const THREADS: u64 = 200;
@@ -99,26 +101,23 @@
 //!
 //! fn main() -> Result<(), Error> {
 //!     let store = Options::new().keys(1_000).open()?;
-//!     let (give, take) = mpsc::channel();
-//!     for _ in 0..CALLERS {
-//!         give.send(store.caller()?).expect("the pool is open");
-//!     }
-//!     let take = Mutex::new(take);
+//!     let pool = store.pool(CALLERS)?;
 //!     thread::scope(|scope| {
 //!         for own in 0..THREADS {
-//!             let (give, take) = (give.clone(), &take);
+//!             let pool = &pool;
 //!             scope.spawn(move || {
-//!                 let next = take.lock().expect("no panic").recv(); // waits until one is free
-//!                 let caller = next.expect("the pool is open");
+//!                 let caller = pool.take(); // a drop gives it back
 //!                 caller.put(own, own).expect("there is room");
-//!                 give.send(caller).expect("the pool is open");
+//!                 caller.add(THREADS, 1).expect("there is room");
 //!             });
 //!         }
 //!     });
-//!     assert_eq!(store.snapshot()?.count(..), THREADS);
+//!     assert_eq!(pool.take().get(THREADS), Some(THREADS.into()));
 //!     Ok(())
 //! }
 //! ```
+//!
+//! Threads that live outside a scope share the pool in an [`Arc`](std::sync::Arc).
 //!
 //! # Times
 //!
@@ -165,6 +164,7 @@ mod caller;
 mod change;
 mod error;
 mod library;
+mod pool;
 mod range;
 mod snapshot;
 mod statistics;
@@ -179,6 +179,7 @@ pub use error::{
     BadValue, BatchError, ChangeError, Error, Memory, NoSeat, OpenError, Refused, RetainError,
     TryError, Unseen,
 };
+pub use pool::{Pool, PooledCaller};
 pub use range::{Page, Range};
 pub use snapshot::Snapshot;
 pub use statistics::Statistics;
