@@ -281,7 +281,16 @@ pub struct BadValue;
 #[derive(Clone, Copy, PartialEq, Eq, Hash, Debug)]
 pub struct Unseen;
 
-/// Any refusal of this crate, for functions that meet several.
+/// Any error of this crate, for functions that meet several: `?` turns each into it.
+///
+/// A cause has a name of its own, such as [`Refused`], [`Kept`] or [`NoSeat`]. Where a call has
+/// several, its error is an enum whose name ends with `Error`, such as [`ChangeError`]; its
+/// [`source`] is the cause that it holds, and its text leaves that out. As an `Error` all of them
+/// are their causes: refusals are [`Refused`](Error::Refused), and a lack of memory is
+/// [`Memory`](Error::Memory), whichever call that was. Its text and its source are those of what it
+/// holds.
+///
+/// [`source`]: std::error::Error::source
 ///
 /// ```
 /// use cupolanettle::{Error, Options};
@@ -297,10 +306,28 @@ pub struct Unseen;
 /// assert_eq!(play()?, 71);
 /// # Ok::<(), Error>(())
 /// ```
+///
+/// A chain of errors, from what was called to its cause:
+///
+/// ```
+/// use cupolanettle::{Error, Options, Refused};
+/// use std::error::Error as _;
+///
+/// let store = Options::new().keys(1).epoch(4).open()?;
+/// let caller = store.caller()?;
+/// let snapshot = caller.snapshot()?; // keeps all versions
+/// let error = (0..1_000).find_map(|_| caller.add(7, 1).err()).expect("the store is full");
+/// let cause = error.source().expect("it was refused");
+///
+/// assert_eq!(error.to_string(), "the change was refused");
+/// assert_eq!(cause.downcast_ref(), Some(&Refused::OwnSnapshot));
+/// assert_eq!(Error::from(error).to_string(), cause.to_string());
+/// # Ok::<(), Error>(())
+/// ```
 #[non_exhaustive]
 #[derive(Clone, Copy, PartialEq, Eq, Hash, Debug)]
 pub enum Error {
-    /// A store was not opened.
+    /// A store was not opened; not for a lack of memory.
     Open(OpenError),
     /// A write was refused.
     Refused(Refused),
@@ -308,9 +335,9 @@ pub enum Error {
     Kept(Kept),
     /// A batch had no write, or too many.
     Batch(BatchError),
-    /// A write that never waits was not made.
+    /// A write that never waits was not made; it was not refused.
     Try(TryError),
-    /// All seats were taken.
+    /// All seats of the store were taken.
     NoSeat(NoSeat),
     /// Memory ran out.
     Memory(Memory),

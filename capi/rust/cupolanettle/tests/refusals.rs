@@ -267,11 +267,4 @@ fn errors_say_what_they_are() {
         assert!(!error.to_string().is_empty());
         assert!(std::error::Error::source(&error).is_none());
     }
-    let refused = TryError::from(Refused::Worn);
-    assert_eq!(Error::from(refused), Error::Refused(Refused::Worn));
-    assert_eq!(refused.to_string(), Refused::Worn.to_string());
-    let refused = RetainError::from(Refused::Worn);
-    assert_eq!(Error::from(refused), Error::Refused(Refused::Worn));
-    assert_eq!(refused.to_string(), Refused::Worn.to_string());
-    assert_eq!(RetainError::from(Memory).to_string(), Memory.to_string());
 }

@@ -1,14 +1,29 @@
-//! All of them are errors, and `?` turns each into [`Error`].
+//! All of them are errors, with their sources, and `?` turns each into [`Error`].
 use super::{
     BadValue, BatchError, ChangeError, Error, Memory, NoSeat, OpenError, Refused, RetainError,
     TryError, Unseen,
 };
 use crate::change::Kept;
 
-impl std::error::Error for Error {}
+/// It stands for the error that it holds, whose text and source are its own.
+impl std::error::Error for Error {
+    fn source(&self) -> Option<&(dyn std::error::Error + 'static)> {
+        match self {
+            Error::Open(error) => error.source(),
+            Error::Refused(error) => error.source(),
+            Error::Kept(error) => error.source(),
+            Error::Batch(error) => error.source(),
+            Error::Try(error) => error.source(),
+            Error::NoSeat(error) => error.source(),
+            Error::Memory(error) => error.source(),
+            Error::BadValue(error) => error.source(),
+            Error::Unseen(error) => error.source(),
+        }
+    }
+}
 
-/// Makes each type an error, and one that `?` turns into [`Error`].
-macro_rules! errors {
+/// Makes each cause an error, and one that `?` turns into [`Error`].
+macro_rules! causes {
     ($($error:ident => $variant:ident,)*) => {$(
         impl std::error::Error for $error {}
 
@@ -20,8 +35,7 @@ macro_rules! errors {
     )*};
 }
 
-errors! {
-    OpenError => Open,
+causes! {
     Refused => Refused,
     Kept => Kept,
     NoSeat => NoSeat,
@@ -30,17 +44,55 @@ errors! {
     Unseen => Unseen,
 }
 
-impl std::error::Error for ChangeError {}
+impl std::error::Error for OpenError {}
 
-impl std::error::Error for BatchError {}
+impl std::error::Error for ChangeError {
+    fn source(&self) -> Option<&(dyn std::error::Error + 'static)> {
+        match self {
+            ChangeError::Kept(kept) => Some(kept),
+            ChangeError::Refused(refused) => Some(refused),
+        }
+    }
+}
 
-impl std::error::Error for TryError {}
+/// Makes each type an error whose source is a refusal, where it holds one.
+macro_rules! refusals {
+    ($($error:ident,)*) => {$(
+        impl std::error::Error for $error {
+            fn source(&self) -> Option<&(dyn std::error::Error + 'static)> {
+                match self {
+                    $error::Refused(refused) => Some(refused),
+                    _ => None,
+                }
+            }
+        }
 
-impl std::error::Error for RetainError {}
+        impl From<Refused> for $error {
+            fn from(refused: Refused) -> $error {
+                $error::Refused(refused)
+            }
+        }
+    )*};
+}
 
-impl From<Refused> for BatchError {
-    fn from(refused: Refused) -> BatchError {
-        BatchError::Refused(refused)
+refusals! {
+    BatchError,
+    TryError,
+    RetainError,
+}
+
+impl From<OpenError> for Error {
+    fn from(error: OpenError) -> Error {
+        match error {
+            OpenError::Memory => Memory.into(),
+            own => Error::Open(own),
+        }
+    }
+}
+
+impl From<Memory> for BatchError {
+    fn from(_: Memory) -> BatchError {
+        BatchError::Memory
     }
 }
 
@@ -51,12 +103,6 @@ impl From<BatchError> for Error {
             BatchError::Memory => Memory.into(),
             own => Error::Batch(own),
         }
-    }
-}
-
-impl From<Refused> for TryError {
-    fn from(refused: Refused) -> TryError {
-        TryError::Refused(refused)
     }
 }
 
@@ -93,12 +139,6 @@ impl From<ChangeError> for Error {
 impl From<Memory> for RetainError {
     fn from(_: Memory) -> RetainError {
         RetainError::Memory
-    }
-}
-
-impl From<Refused> for RetainError {
-    fn from(refused: Refused) -> RetainError {
-        RetainError::Refused(refused)
     }
 }
 

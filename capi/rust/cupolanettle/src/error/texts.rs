@@ -1,4 +1,5 @@
-//! What errors say to people.
+//! What errors say to people. Those that hold another one leave its text to that, which is their
+//! source.
 use super::{
     BadValue, BatchError, ChangeError, Error, Memory, NoSeat, OpenError, Refused, RetainError,
     TryError, Unseen,
@@ -44,10 +45,10 @@ impl fmt::Display for Kept {
 
 impl fmt::Display for ChangeError {
     fn fmt(&self, f: &mut fmt::Formatter<'_>) -> fmt::Result {
-        match self {
-            ChangeError::Kept(kept) => kept.fmt(f),
-            ChangeError::Refused(refused) => refused.fmt(f),
-        }
+        f.write_str(match self {
+            ChangeError::Kept(_) => "the key kept its value",
+            ChangeError::Refused(_) => "the change was refused",
+        })
     }
 }
 
@@ -57,7 +58,7 @@ impl fmt::Display for BatchError {
             BatchError::Empty => f.write_str("the batch has no write"),
             BatchError::TooLong => f.write_str("the batch has more writes than an epoch"),
             BatchError::Memory => Memory.fmt(f),
-            BatchError::Refused(refused) => refused.fmt(f),
+            BatchError::Refused(_) => f.write_str("the batch was refused"),
         }
     }
 }
@@ -69,7 +70,7 @@ impl fmt::Display for TryError {
             TryError::Busy => f.write_str("another thread was entering or leaving"),
             TryError::Raced => f.write_str("another write was faster"),
             TryError::Overtaken => f.write_str("a reader cancelled the write"),
-            TryError::Refused(refused) => refused.fmt(f),
+            TryError::Refused(_) => f.write_str("the write was refused"),
         }
     }
 }
@@ -78,7 +79,7 @@ impl fmt::Display for RetainError {
     fn fmt(&self, f: &mut fmt::Formatter<'_>) -> fmt::Result {
         match self {
             RetainError::Memory => Memory.fmt(f),
-            RetainError::Refused(refused) => refused.fmt(f),
+            RetainError::Refused(_) => f.write_str("a removal was refused"),
         }
     }
 }
