@@ -228,8 +228,8 @@ pub enum RetainError {
 /// # Ok::<(), Error>(())
 /// ```
 ///
-/// Its name in a pattern stands for this error alone, as do those of [`Memory`], [`BadValue`] and
-/// [`Unseen`]. Another error does not compile there:
+/// Its name in a pattern stands for this error alone, as do those of [`Memory`], [`BadValue`],
+/// [`BadBytes`] and [`Unseen`]. Another error does not compile there:
 ///
 /// ```compile_fail,E0308
 /// use cupolanettle::{Error, NoSeat};
@@ -267,6 +267,20 @@ pub struct Memory;
 /// ```
 #[derive(Clone, Copy, PartialEq, Eq, Hash, Debug)]
 pub struct BadValue;
+
+/// The bytes have no room in a key or a value: [`Text8`](crate::codec::Text8) has up to eight, of
+/// which the last one is not 0, and [`Bytes63`](crate::codec::Bytes63) up to 63.
+///
+/// ```
+/// use cupolanettle::codec::{Bytes63, Text8};
+/// use cupolanettle::BadBytes;
+///
+/// assert_eq!(Text8::try_from("nine bytes"), Err(BadBytes));
+/// assert_eq!(Text8::try_from("zero\0"), Err(BadBytes));
+/// assert_eq!(Bytes63::try_from(&[7; 64][..]), Err(BadBytes));
+/// ```
+#[derive(Clone, Copy, PartialEq, Eq, Hash, Debug)]
+pub struct BadBytes;
 
 /// The store has not reached this time, so that no caller of it has seen it.
 ///
@@ -343,6 +357,8 @@ pub enum Error {
     Memory(Memory),
     /// The words were no value.
     BadValue(BadValue),
+    /// The bytes had no room in a key or a value.
+    BadBytes(BadBytes),
     /// The time was not seen.
     Unseen(Unseen),
 }

@@ -51,7 +51,8 @@
 //! - A [`Caller`] writes and reads. Each thread has its own, or takes one of a [`Pool`].
 //! - A [`Snapshot`] reads the map as it was when it was opened.
 //! - A [`Range`] gives row after row of a snapshot, and a [`Walk`] those of the present.
-//! - A [`Value`] is a slice of one to eight words.
+//! - A [`Value`] is a slice of one to eight words. The [codecs](codec) make keys and values of
+//!   signed numbers, pairs, floating-point numbers, texts and bytes.
 //! - [`Statistics`] are what a store tells of itself.
 //!
 //! # Writes and changes
@@ -162,6 +163,7 @@
 mod batch;
 mod caller;
 mod change;
+pub mod codec;
 mod error;
 mod library;
 mod pool;
@@ -176,8 +178,8 @@ pub use batch::Batch;
 pub use caller::Caller;
 pub use change::{Changed, Kept};
 pub use error::{
-    BadValue, BatchError, ChangeError, Error, Memory, NoSeat, OpenError, Refused, RetainError,
-    TryError, Unseen,
+    BadBytes, BadValue, BatchError, ChangeError, Error, Memory, NoSeat, OpenError, Refused,
+    RetainError, TryError, Unseen,
 };
 pub use pool::{Pool, PooledCaller};
 pub use range::{Page, Range};

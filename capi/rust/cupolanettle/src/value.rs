@@ -53,7 +53,7 @@ impl Value {
 
     /// The value of these words, if there are one to eight.
     #[inline]
-    fn of(words: &[u64]) -> Option<Value> {
+    pub(crate) fn of(words: &[u64]) -> Option<Value> {
         let mut raw = raw::Value { length: words.len() as u64, words: [0; Value::MOST_WORDS] };
         raw.words.get_mut(..words.len())?.copy_from_slice(words);
         Value::from_raw(raw)

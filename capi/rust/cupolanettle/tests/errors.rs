@@ -1,7 +1,7 @@
 //! Errors as one family: texts, sources, and what `?` makes of them.
 use cupolanettle::{
-    BadValue, BatchError, ChangeError, Error, Kept, Memory, NoSeat, OpenError, Options, Refused,
-    RetainError, TryError, Unseen, Value,
+    BadBytes, BadValue, BatchError, ChangeError, Error, Kept, Memory, NoSeat, OpenError, Options,
+    Refused, RetainError, TryError, Unseen, Value,
 };
 use std::error::Error as Any;
 
@@ -27,13 +27,14 @@ fn chain(error: &dyn Any) -> Vec<String> {
 
 #[test]
 fn causes_stand_for_themselves() {
-    let causes: [Box<dyn Any + Send + Sync>; 9] = [
+    let causes: [Box<dyn Any + Send + Sync>; 10] = [
         Refused::RunFull.into(),
         Refused::Worn.into(),
         kept().into(),
         NoSeat.into(),
         Memory.into(),
         BadValue.into(),
+        BadBytes.into(),
         Unseen.into(),
         OpenError::Keys.into(),
         TryError::Raced.into(),
@@ -94,12 +95,13 @@ fn any_error_is_its_cause() {
     }
     let kept = kept();
     assert_eq!(Error::from(ChangeError::from(kept)), Error::Kept(kept));
-    let own: [(Error, Error); 6] = [
+    let own: [(Error, Error); 7] = [
         (OpenError::Wait.into(), Error::Open(OpenError::Wait)),
         (BatchError::Empty.into(), Error::Batch(BatchError::Empty)),
         (TryError::Full.into(), Error::Try(TryError::Full)),
         (NoSeat.into(), Error::NoSeat(NoSeat)),
         (BadValue.into(), Error::BadValue(BadValue)),
+        (BadBytes.into(), Error::BadBytes(BadBytes)),
         (Unseen.into(), Error::Unseen(Unseen)),
     ];
     for (error, wanted) in own {

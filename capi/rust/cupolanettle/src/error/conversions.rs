@@ -1,7 +1,7 @@
 //! All of them are errors, with their sources, and `?` turns each into [`Error`].
 use super::{
-    BadValue, BatchError, ChangeError, Error, Memory, NoSeat, OpenError, Refused, RetainError,
-    TryError, Unseen,
+    BadBytes, BadValue, BatchError, ChangeError, Error, Memory, NoSeat, OpenError, Refused,
+    RetainError, TryError, Unseen,
 };
 use crate::change::Kept;
 
@@ -17,6 +17,7 @@ impl std::error::Error for Error {
             Error::NoSeat(error) => error.source(),
             Error::Memory(error) => error.source(),
             Error::BadValue(error) => error.source(),
+            Error::BadBytes(error) => error.source(),
             Error::Unseen(error) => error.source(),
         }
     }
@@ -41,6 +42,7 @@ causes! {
     NoSeat => NoSeat,
     Memory => Memory,
     BadValue => BadValue,
+    BadBytes => BadBytes,
     Unseen => Unseen,
 }
 

@@ -1,8 +1,8 @@
 //! What errors say to people. Those that hold another one leave its text to that, which is their
 //! source.
 use super::{
-    BadValue, BatchError, ChangeError, Error, Memory, NoSeat, OpenError, Refused, RetainError,
-    TryError, Unseen,
+    BadBytes, BadValue, BatchError, ChangeError, Error, Memory, NoSeat, OpenError, Refused,
+    RetainError, TryError, Unseen,
 };
 use crate::change::Kept;
 use std::fmt;
@@ -102,6 +102,12 @@ impl fmt::Display for BadValue {
     }
 }
 
+impl fmt::Display for BadBytes {
+    fn fmt(&self, f: &mut fmt::Formatter<'_>) -> fmt::Result {
+        f.write_str("a key has up to 8 bytes that do not end with a zero, a value up to 63")
+    }
+}
+
 impl fmt::Display for Unseen {
     fn fmt(&self, f: &mut fmt::Formatter<'_>) -> fmt::Result {
         f.write_str("the store has not reached this time")
@@ -119,6 +125,7 @@ impl fmt::Display for Error {
             Error::NoSeat(error) => error.fmt(f),
             Error::Memory(error) => error.fmt(f),
             Error::BadValue(error) => error.fmt(f),
+            Error::BadBytes(error) => error.fmt(f),
             Error::Unseen(error) => error.fmt(f),
         }
     }
