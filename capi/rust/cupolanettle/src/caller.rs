@@ -1,6 +1,7 @@
 //! Callers.
 mod batches;
 mod changes;
+mod rows;
 mod walks;
 
 use crate::error::{Memory, NoSeat, Refused, TryError, Unseen};

@@ -192,8 +192,9 @@ pub enum TryError {
     Refused(Refused),
 }
 
-/// Why [`retain`](crate::Caller::retain) did not come to the end of its range. Rows that it
-/// removed before are removed.
+/// Why [`retain`](crate::Caller::retain), [`remove_range`](crate::Caller::remove_range) or
+/// [`clear`](crate::Caller::clear) did not come to the end of its range. Rows that it removed
+/// before are removed.
 ///
 /// ```
 /// use cupolanettle::{Error, Options, RetainError};
@@ -214,6 +215,33 @@ pub enum RetainError {
     /// Memory ran out. The same call may succeed if it is made again.
     Memory,
     /// A removal was refused, which is never for too many keys.
+    Refused(Refused),
+}
+
+/// Why [`copy_to`](crate::Snapshot::copy_to) did not come to the last row. Rows that it wrote
+/// before are written.
+///
+/// ```
+/// use cupolanettle::{CopyError, Error, Options, Refused};
+///
+/// let store = Options::new().keys(1_000).open()?;
+/// let caller = store.caller()?;
+/// for key in 0..1_000 {
+///     caller.put(key, key)?;
+/// }
+/// let too_small = Options::new().keys(10).epoch(4).open()?;
+/// let came = store.snapshot()?.copy_to(&too_small);
+/// assert_eq!(came, Err(CopyError::Refused(Refused::RunFull)));
+/// # Ok::<(), Error>(())
+/// ```
+#[non_exhaustive]
+#[derive(Clone, Copy, PartialEq, Eq, Hash, Debug)]
+pub enum CopyError {
+    /// All seats of the other store are taken: the copy takes one.
+    NoSeat,
+    /// Memory ran out. The same call may succeed if it is made again.
+    Memory,
+    /// A write to the other store was refused.
     Refused(Refused),
 }
 

@@ -178,8 +178,8 @@ pub use batch::Batch;
 pub use caller::Caller;
 pub use change::{Changed, Kept};
 pub use error::{
-    BadBytes, BadValue, BatchError, ChangeError, Error, Memory, NoSeat, OpenError, Refused,
-    RetainError, TryError, Unseen,
+    BadBytes, BadValue, BatchError, ChangeError, CopyError, Error, Memory, NoSeat, OpenError,
+    Refused, RetainError, TryError, Unseen,
 };
 pub use pool::{Pool, PooledCaller};
 pub use range::{Page, Range};

@@ -11,7 +11,7 @@ use std::iter::FusedIterator;
 use std::ops::{Bound, RangeBounds};
 
 /// The most rows that an iterator reads at a time.
-const ROWS_AT_A_TIME: usize = 64;
+pub(crate) const ROWS_AT_A_TIME: usize = 64;
 
 /// A page is read with room for so many rows at first.
 const FIRST_ROOM: usize = 1_024;

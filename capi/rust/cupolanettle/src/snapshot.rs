@@ -1,7 +1,8 @@
 //! Snapshots.
-use crate::error::Memory;
+use crate::error::{CopyError, Memory};
 use crate::library::Handle;
-use crate::range::{first_row, is_empty, read_page, Keys, Page, Range};
+use crate::range::{first_row, is_empty, read_page, Keys, Page, Range, ROWS_AT_A_TIME};
+use crate::store::Store;
 use crate::value::Value;
 use crate::Time;
 use cupolanettle_sys as raw;
@@ -240,6 +241,48 @@ impl Snapshot {
     #[must_use]
     pub fn iter(&self) -> Range<&Snapshot> {
         self.range(..)
+    }
+
+    /// Writes all rows of the snapshot into another store, such as a larger one, and answers how
+    /// many those were. Other rows of that store stay.
+    ///
+    /// The rows are those of one moment of this store; what is written to it meanwhile is not among
+    /// them. **In the other store it is not one moment**: the rows are written by
+    /// [batches](crate::Caller::batch) of up to 64, by a caller of its own. So use that store once
+    /// the copy is done, and write to this one no more before, or copy what changed.
+    ///
+    /// It takes the time of a read and a write of each row, and memory for 64 rows. While the
+    /// snapshot is open, this store keeps [old versions](crate::Options::versions).
+    ///
+    /// # Errors
+    ///
+    /// [`CopyError`], with the rows written that it came to before. The same call may be made
+    /// again.
+    ///
+    /// ```
+    /// # use cupolanettle::{Error, Options, Refused};
+    /// let small = Options::new().keys(100).epoch(4).open()?;
+    /// let caller = small.caller()?;
+    /// let full = (0..).find(|&key| caller.put(key, key) == Err(Refused::RunFull)).unwrap();
+    ///
+    /// let large = Options::new().keys(1_000).open()?;
+    /// assert_eq!(small.snapshot()?.copy_to(&large)?, full);
+    /// large.caller()?.put(full, full)?;
+    /// # Ok::<(), Error>(())
+    /// ```
+    #[doc(alias("clone", "backup", "resize", "migrate", "grow"))]
+    pub fn copy_to(&self, store: &Store) -> Result<u64, CopyError> {
+        let caller = store.caller()?;
+        let mut copied = 0;
+        let mut rows = Vec::new();
+        let mut left = Some(Keys::of(&..));
+        while let Some(keys) = left {
+            let next = self.handle.page(keys, ROWS_AT_A_TIME, &mut rows)?;
+            caller.write_rows::<CopyError>(&rows)?;
+            copied += rows.len() as u64;
+            left = next.map(|first| Keys { first, ..keys });
+        }
+        Ok(copied)
     }
 }
 

@@ -1,7 +1,7 @@
 //! Errors as one family: texts, sources, and what `?` makes of them.
 use cupolanettle::{
-    BadBytes, BadValue, BatchError, ChangeError, Error, Kept, Memory, NoSeat, OpenError, Options,
-    Refused, RetainError, TryError, Unseen, Value,
+    BadBytes, BadValue, BatchError, ChangeError, CopyError, Error, Kept, Memory, NoSeat, OpenError,
+    Options, Refused, RetainError, TryError, Unseen, Value,
 };
 use std::error::Error as Any;
 
@@ -49,11 +49,12 @@ fn causes_stand_for_themselves() {
 #[test]
 fn refusals_are_sources() {
     for refused in [Refused::RunFull, Refused::VersionsFull, Refused::OwnSnapshot, Refused::Worn] {
-        let errors: [Box<dyn Any>; 4] = [
+        let errors: [Box<dyn Any>; 5] = [
             ChangeError::from(refused).into(),
             BatchError::from(refused).into(),
             TryError::from(refused).into(),
             RetainError::from(refused).into(),
+            CopyError::from(refused).into(),
         ];
         for error in errors {
             let source = error.source().unwrap();
@@ -72,22 +73,24 @@ fn refusals_are_sources() {
 #[test]
 fn any_error_is_its_cause() {
     let refused = Refused::VersionsFull;
-    let errors: [Error; 5] = [
+    let errors: [Error; 6] = [
         refused.into(),
         ChangeError::from(refused).into(),
         BatchError::from(refused).into(),
         TryError::from(refused).into(),
         RetainError::from(refused).into(),
+        CopyError::from(refused).into(),
     ];
     for error in errors {
         assert_eq!(error, Error::Refused(refused));
         assert_eq!(chain(&error), [refused.to_string()]);
     }
-    let errors: [Error; 4] = [
+    let errors: [Error; 5] = [
         Memory.into(),
         OpenError::Memory.into(),
         BatchError::from(Memory).into(),
         RetainError::from(Memory).into(),
+        CopyError::from(Memory).into(),
     ];
     for error in errors {
         assert_eq!(error, Error::Memory(Memory));
@@ -95,6 +98,7 @@ fn any_error_is_its_cause() {
     }
     let kept = kept();
     assert_eq!(Error::from(ChangeError::from(kept)), Error::Kept(kept));
+    assert_eq!(Error::from(CopyError::from(NoSeat)), Error::NoSeat(NoSeat));
     let own: [(Error, Error); 7] = [
         (OpenError::Wait.into(), Error::Open(OpenError::Wait)),
         (BatchError::Empty.into(), Error::Batch(BatchError::Empty)),

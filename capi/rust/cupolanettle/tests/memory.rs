@@ -3,7 +3,7 @@
 //!
 //! This program has a malloc of its own, in front of that of the system.
 use cupolanettle::{
-    Batch, BatchError, Caller, Error, Memory, OpenError, Options, RetainError, Store,
+    Batch, BatchError, Caller, CopyError, Error, Memory, OpenError, Options, RetainError, Store,
 };
 use std::cell::Cell;
 use std::ffi::c_void;
@@ -159,6 +159,49 @@ fn a_removal_of_rows() -> Result<(), Error> {
         assert_eq!(removed % AT_A_TIME as u64, 0);
         for key in 0..removed {
             caller.put(key, key)?;
+        }
+    }
+    panic!("it takes more and more");
+}
+
+#[test]
+fn a_removal_of_a_range() -> Result<(), Error> {
+    let (_store, caller) = filled()?;
+    for count in 0..MANY {
+        let (came, is_refused) = with_allocations(count, || caller.clear());
+        let removed = ROWS - caller.count(..);
+        match came {
+            Ok(answer) => {
+                assert!(count > 1 && !is_refused);
+                assert_eq!((answer, removed), (ROWS, ROWS));
+                return Ok(());
+            }
+            Err(refused) => assert_eq!((refused, is_refused), (RetainError::Memory, true)),
+        }
+        assert_eq!(removed % AT_A_TIME as u64, 0);
+        for key in 0..removed {
+            caller.put(key, key)?;
+        }
+    }
+    panic!("it takes more and more");
+}
+
+#[test]
+fn a_copy() -> Result<(), Error> {
+    let (store, caller) = filled()?;
+    let snapshot = store.snapshot()?;
+    let copy = Options::new().keys(1_000).open()?;
+    for count in 0..MANY {
+        let (came, is_refused) = with_allocations(count, || snapshot.copy_to(&copy));
+        assert_eq!(copy.stats().callers, 0);
+        match came {
+            Ok(copied) => {
+                assert!(count > 1 && !is_refused);
+                let found = copy.caller()?.page(.., usize::MAX)?;
+                assert_eq!((copied, found), (ROWS, caller.page(.., usize::MAX)?));
+                return Ok(());
+            }
+            Err(refused) => assert_eq!((refused, is_refused), (CopyError::Memory, true)),
         }
     }
     panic!("it takes more and more");

@@ -1,7 +1,7 @@
 //! All of them are errors, with their sources, and `?` turns each into [`Error`].
 use super::{
-    BadBytes, BadValue, BatchError, ChangeError, Error, Memory, NoSeat, OpenError, Refused,
-    RetainError, TryError, Unseen,
+    BadBytes, BadValue, BatchError, ChangeError, CopyError, Error, Memory, NoSeat, OpenError,
+    Refused, RetainError, TryError, Unseen,
 };
 use crate::change::Kept;
 
@@ -81,6 +81,7 @@ refusals! {
     BatchError,
     TryError,
     RetainError,
+    CopyError,
 }
 
 impl From<OpenError> for Error {
@@ -141,6 +142,28 @@ impl From<ChangeError> for Error {
 impl From<Memory> for RetainError {
     fn from(_: Memory) -> RetainError {
         RetainError::Memory
+    }
+}
+
+impl From<NoSeat> for CopyError {
+    fn from(_: NoSeat) -> CopyError {
+        CopyError::NoSeat
+    }
+}
+
+impl From<Memory> for CopyError {
+    fn from(_: Memory) -> CopyError {
+        CopyError::Memory
+    }
+}
+
+impl From<CopyError> for Error {
+    fn from(error: CopyError) -> Error {
+        match error {
+            CopyError::NoSeat => NoSeat.into(),
+            CopyError::Memory => Memory.into(),
+            CopyError::Refused(refused) => refused.into(),
+        }
     }
 }
 

@@ -1,8 +1,8 @@
 //! What errors say to people. Those that hold another one leave its text to that, which is their
 //! source.
 use super::{
-    BadBytes, BadValue, BatchError, ChangeError, Error, Memory, NoSeat, OpenError, Refused,
-    RetainError, TryError, Unseen,
+    BadBytes, BadValue, BatchError, ChangeError, CopyError, Error, Memory, NoSeat, OpenError,
+    Refused, RetainError, TryError, Unseen,
 };
 use crate::change::Kept;
 use std::fmt;
@@ -80,6 +80,16 @@ impl fmt::Display for RetainError {
         match self {
             RetainError::Memory => Memory.fmt(f),
             RetainError::Refused(_) => f.write_str("a removal was refused"),
+        }
+    }
+}
+
+impl fmt::Display for CopyError {
+    fn fmt(&self, f: &mut fmt::Formatter<'_>) -> fmt::Result {
+        match self {
+            CopyError::NoSeat => NoSeat.fmt(f),
+            CopyError::Memory => Memory.fmt(f),
+            CopyError::Refused(_) => f.write_str("a write of the copy was refused"),
         }
     }
 }
