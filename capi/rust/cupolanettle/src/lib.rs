@@ -60,7 +60,8 @@
 //! [`Caller::put`] and [`Caller::remove`] write without a look at what the key has. A change looks
 //! and writes in one step, and answers what the key had and has: [`Caller::add`],
 //! [`Caller::put_if_absent`], [`Caller::replace`], which is a map's compare-and-exchange, and
-//! [`Caller::update`] for any function of the old value. A [`Batch`] has writes of several keys,
+//! [`Caller::update`] for any function of the old value. [`Caller::get_or_insert_with`] answers the
+//! value of a key, which a function makes if there is none. A [`Batch`] has writes of several keys,
 //! which [`Caller::batch`] makes at one moment.
 //!
 //! # Iterators
@@ -68,7 +69,8 @@
 //! [`Caller::range`] and [`Snapshot::range`] go by a snapshot: all rows are of one moment, and the
 //! store keeps old versions meanwhile. [`Caller::walk`] goes without one, for loops that write as
 //! they read. It is weakly consistent, as iterators of concurrent skip lists are: it reads up to 64
-//! rows at a time, each time as they are by then. [`Caller::retain`] removes rows as it walks.
+//! rows at a time, each time as they are by then. [`Caller::retain`] removes rows as it walks;
+//! [`Caller::remove_range`] and [`Caller::clear`] remove all, page by page.
 //!
 //! ```
 //! # use cupolanettle::{Error, Options};
@@ -142,6 +144,7 @@
 //! A store takes all its memory when it is opened. [`Options::keys`] says how many keys it has
 //! room for. Where there are more, writes that would give one more key a value are refused with
 //! [`Refused::RunFull`]; all others are taken, and once keys were removed, these are, too.
+//! [`Snapshot::copy_to`] copies all rows into a larger store.
 //!
 //! Each write is a version, and merges drop the versions that no open snapshot may read.
 //! [`Options::versions`] says for how many the store has room beside its keys. If a snapshot stays
