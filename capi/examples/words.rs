@@ -2,32 +2,21 @@
 //!
 //!     cargo run --offline --example words -- "some text"
 //!
-//! A key is a number. Here it has the letters of a word, the first one in its highest byte, so that
-//! numbers are in the order of words. Words are counted by their first eight letters.
+//! A key is a number. A codec makes one of a word, so that numbers are in the order of words. Words
+//! are counted by their first eight bytes.
+use cupolanettle::codec::{KeyCodec, Text8};
 use cupolanettle::{Error, Options, Store};
 use std::thread;
 
 const TEXT: &str = "the dog and the fox and the lazy cat saw the other dog on and off";
 const THREADS: usize = 4;
 
-fn key_of(word: &str) -> u64 {
-    let mut letters = [0; 8];
-    for (letter, byte) in letters.iter_mut().zip(word.bytes()) {
-        *letter = byte;
-    }
-    u64::from_be_bytes(letters)
-}
-
-fn word_of(key: u64) -> String {
-    let letters = key.to_be_bytes();
-    String::from_utf8_lossy(&letters).trim_end_matches('\0').to_owned()
-}
-
 /// Counts every fourth word, with a caller of its own. No addition of another thread is lost.
 fn count_words(store: &Store, text: &str, own: usize) -> Result<(), Error> {
     let caller = store.caller()?;
     for word in text.split_whitespace().skip(own).step_by(THREADS) {
-        caller.add(key_of(word), 1)?;
+        let first = word.len().min(Text8::MOST_BYTES);
+        caller.add(Text8::try_from(&word.as_bytes()[..first])?.to_key(), 1)?;
     }
     Ok(())
 }
@@ -47,7 +36,7 @@ fn main() -> Result<(), Error> {
     // All counts as they are at one moment.
     for row in store.snapshot()?.range(..) {
         let (key, count) = row?;
-        println!("{} {}", word_of(key), count[0]);
+        println!("{} {}", Text8::from_key(key), count[0]);
     }
     Ok(())
 }

@@ -30,8 +30,9 @@ use std::time::Duration;
 /// ```
 ///
 /// **No times run back.** Whoever takes a caller [follows](Caller::follow) all that were given back
-/// before: it sees what they wrote and read, and its times are later, whichever caller it gets.
-/// What a thread has still taken, the others see as of [any caller](crate#what-a-read-sees).
+/// before: it sees what they wrote and read, and its times are no earlier, whichever caller it
+/// gets. What a caller does that is still taken, the others see as of
+/// [any caller](crate#what-a-read-sees).
 ///
 /// A panic in a piece of work gives the caller back, and poisons nothing.
 ///
