@@ -4,8 +4,8 @@
     python3 build_wheel.py [FOLDER]     # into dist, unless told otherwise
 
 It is also the build backend of pyproject.toml. The library is the one that CLSM_LIBRARY names, or
-else ../out/libclsm.so. The extension is the one beside it, if there is one; the wheel's tag says so.
-Equal sources give equal wheels.
+else ../out/libclsm.so. The extension is the one beside it, if there is one: the wheel's tag says
+so. Equal sources give equal wheels.
 """
 
 import base64

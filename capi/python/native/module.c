@@ -39,7 +39,8 @@ static PyObject *error_of; /* makes an exception of a code */
 
 PyObject *clsm_refuse(int code, bool is_forked) {
     PyObject *error = NULL;
-    if (error_of) error = PyObject_CallFunction(error_of, "iO", code, is_forked ? Py_True : Py_False);
+    PyObject *const truth = is_forked ? Py_True : Py_False;
+    if (error_of) error = PyObject_CallFunction(error_of, "iO", code, truth);
     else PyErr_SetString(PyExc_RuntimeError, clsm_strerror(code));
     if (!error) return NULL;
     PyErr_SetObject((PyObject *)Py_TYPE(error), error);

@@ -1,8 +1,8 @@
 /* The C extension of the Python package: what its parts share.
  *
- * All of it runs under the interpreter's lock, which no call here gives up in between, except where
- * it says so. So fields of objects need no other lock, and no handler of a signal, which Python runs
- * between two of its own steps, comes in between the steps of a call. */
+ * All of it runs under the interpreter's lock, which no call here gives up, except where it says so.
+ * So fields of objects need no other lock, and no handler of a signal, which Python runs between two
+ * of its own steps, comes between the steps of a call. */
 #ifndef CLSM_NATIVE_H
 #define CLSM_NATIVE_H
 

@@ -101,7 +101,7 @@ struct call {
     uint64_t keys;
 };
 
-/* Makes a call by a caller of this range. It follows what was seen, and is followed: so nothing that
+/* Makes a call by a caller of this range. It follows what was seen, and is followed, so nothing that
  * a thread saw runs back. The code, or -1 once it has raised an exception. */
 static int make_call(struct store *store, int first, int last, struct call *call) {
     const int number = find_caller(store, first, last);

@@ -86,7 +86,8 @@ class Batch:
         """Makes the writes, if there are any, and takes them out of the batch.
 
         It waits as a write does. ``ValueError`` if there are more writes than an epoch of the store
-        has; :class:`RunFull`, :class:`VersionsFull`, or :class:`Error` if memory ran out. Nothing was written then, and
+        has; :class:`RunFull`, :class:`VersionsFull`, or :class:`Error` if memory ran out. Nothing
+        was written then, and
         the batch has its writes still.
 
         >>> with Store() as store:

@@ -52,7 +52,7 @@ def find_library() -> str:
 
 
 def _find_extension() -> Optional[Path]:
-    """The extension, which has the library in it: it lies beside the library that it was built of."""
+    """The extension, which has the library in it and lies beside the one that it was built of."""
     if _chosen():
         beside = Path(_chosen()).absolute().parent / EXTENSION
         return beside if beside.is_file() else None

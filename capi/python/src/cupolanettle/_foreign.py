@@ -18,7 +18,19 @@ import sys
 import threading
 import time
 import weakref
-from typing import Any, Dict, Iterator, List, NoReturn, Optional, Sequence, Set, Tuple, TypeVar, Union
+from typing import (
+    Any,
+    Dict,
+    Iterator,
+    List,
+    NoReturn,
+    Optional,
+    Sequence,
+    Set,
+    Tuple,
+    TypeVar,
+    Union,
+)
 
 from . import _library as library
 from ._errors import KEPT, NOT_FOUND, OK, Code, error_of

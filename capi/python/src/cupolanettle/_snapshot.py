@@ -2,14 +2,11 @@
 
 from __future__ import annotations
 
-from typing import TYPE_CHECKING, Optional
+from typing import Optional
 
 from . import _core as core
 from ._reading import Reader, Rows
 from ._values import range_of
-
-if TYPE_CHECKING:
-    from ._store import Store
 
 # Short scans read little, long ones make few calls.
 FIRST_ROOM = 64
@@ -47,10 +44,10 @@ class Snapshot(core.Snapshot, Reader):
         return self._time
 
     def scan(self, start: int = 0, stop: Optional[int] = None) -> Rows:
-        """The rows from ``start`` on and below ``stop`` by rising key, at the snapshot's moment.
+        """The snapshot's iterator: its rows from ``start`` on and below ``stop``, of its moment.
 
-        A row is a key and its value. Without ``stop`` there is no upper end. The scan keeps the
-        snapshot open.
+        A row is a key and its value; they come by rising key. Without ``stop`` there is no upper
+        end. The scan keeps the snapshot open.
 
         >>> with Store() as store:
         ...     for key in 20, 3, 7:

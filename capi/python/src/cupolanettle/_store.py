@@ -151,7 +151,8 @@ class Store(core.Store, Reader):
         """Writes the value at the key.
 
         ``ValueError`` if the key or a word is out of range, or the tuple has not 2 to 8 words: a
-        tuple of one would come back as an int. :class:`RunFull` or :class:`VersionsFull` if there is no room.
+        tuple of one would come back as an int. :class:`RunFull` or :class:`VersionsFull` if there
+        is no room.
 
         >>> with Store() as store:
         ...     store[7] = 70
@@ -315,12 +316,12 @@ class Store(core.Store, Reader):
         return Snapshot(self)
 
     def scan(self, start: int = 0, stop: Optional[int] = None) -> Rows:
-        """The rows from ``start`` on and below ``stop`` by rising key, at the moment of this call.
+        """A snapshot's iterator: the rows from ``start`` on and below ``stop``, all of one moment.
 
-        A row is a key and its value. Without ``stop`` there is no upper end. It opens a snapshot,
-        and closes it behind the last row: a loop that writes as it reads may come to
-        :class:`OwnSnapshot`, and :meth:`walk` is for that. A scan that is left before its end stays
-        open until nothing refers to it any more, or until its ``close``.
+        A row is a key and its value; they come by rising key. Without ``stop`` there is no upper
+        end. The scan opens a snapshot, and closes it behind the last row: a loop that writes as it
+        reads may come to :class:`OwnSnapshot`, and :meth:`walk` is for that. A scan that is left
+        before its end stays open until nothing refers to it any more, or until its ``close``.
 
         >>> with Store() as store:
         ...     for key in 20, 3, 7:
@@ -334,11 +335,11 @@ class Store(core.Store, Reader):
     # ---- Each page's own moment
 
     def walk(self, start: int = 0, stop: Optional[int] = None) -> Rows:
-        """The rows from ``start`` on and below ``stop`` by rising key, for loops that write: no snapshot.
+        """No snapshot, but an iterator for loops that write: each 64 rows are of their own moment.
 
-        It reads 64 rows at a time, each time the map of that moment, and keeps no versions and no
-        seat. So a row may have been changed since, and of keys that are written meanwhile behind
-        the walk it tells nothing: it is weakly consistent.
+        It has the rows from ``start`` on and below ``stop`` by rising key, and keeps no versions and
+        no seat. A row may have been changed since it was read, and of keys that are written
+        meanwhile behind the walk it tells nothing: it is weakly consistent.
 
         >>> with Store(keys=1_000, epoch=4) as store:
         ...     for key in range(500):
