@@ -52,7 +52,7 @@ class AsIfRefused(unittest.TestCase):
     """Each call, as if the library had answered a code."""
 
     def setUp(self) -> None:
-        self.store = Store()
+        self.store = Store(wait=0)
         self.addCleanup(self.store.close)
         self.store[7] = 70
         self.snapshot = self.store.snapshot()

@@ -8,7 +8,7 @@ from typing import Callable, Dict, Optional, Tuple, Union, overload
 
 from . import _core as core
 from ._batch import Batch
-from ._errors import Code, Error
+from ._errors import Closed, Code, Error
 from ._reading import Default, Reader, Rows
 from ._snapshot import FIRST_ROOM, GREATEST_ROOM, Snapshot
 from ._statistics import Statistics, statistics_of
@@ -123,9 +123,10 @@ class Store(core.Store, Reader):
             raise ValueError(f"{_OPTIONS[error.code]} is out of range") from None
 
     def __repr__(self) -> str:
-        if not self._is_open():
+        try:
+            now = self.stats()
+        except Closed:
             return "<Store, closed>"
-        now = self.stats()
         return (
             f"<Store of {now.bytes:,} bytes: {now.epoch_writes:,} writes in the epoch, "
             f"{now.merges:,} merges, {now.snapshots:,} snapshots, room for "
