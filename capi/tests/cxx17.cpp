@@ -1,6 +1,7 @@
 // The header for C++17: what it adds to clsm.h. Errors thrown and set, handles that close
 // themselves in whichever order, iterators, algorithms of the standard library.
 #include "../clsm.hpp"
+#include "../clsm_codec.h"
 
 #include <cstdio>
 #include <cstdlib>
@@ -48,6 +49,19 @@ void values() {
     }
     CHECK(lengths == 2 && value(words, 8).size() == 8);
     CHECK(!value::from(clsm_value{}) && value::from(two.raw()) == two);
+}
+
+// The functions of clsm_codec.h are C++'s, too.
+void codecs(clsm::caller &caller) {
+    for (const std::int64_t number : {-2, 3, -1}) caller.put(clsm_key_of_signed(number), 1);
+    std::int64_t last = -2;
+    for (const auto &[key, value] : caller.range()) CHECK(clsm_signed_of_key(key) >= last && value == 1);
+    clsm_value bytes;
+    char back[CLSM_VALUE_BYTES];
+    std::size_t length;
+    CHECK(clsm_value_of_bytes("green", 5, &bytes) && clsm_bytes_of_value(&bytes, back, &length));
+    CHECK(std::string(back, length) == "green");
+    for (const std::int64_t number : {-2, 3, -1}) caller.remove(clsm_key_of_signed(number));
 }
 
 void keys(clsm::caller &caller) {
@@ -176,6 +190,7 @@ int main() {
     {
         const clsm::store store;
         clsm::caller caller = store.caller();
+        codecs(caller);
         keys(caller);
         changes(caller);
         batches(caller);

@@ -19,6 +19,9 @@ $(T)/threads $(T)/refusals $(T)/changes $(T)/batch $(T)/full $(T)/loops $(T)/liv
 $(T)/memory: $(T)/%: tests/%.c $(SHARED_HEADERS) $(OUT)/libclsm.a | $(T)
 	$(STRICT) -o $@ $< $(OUT)/libclsm.a $(HEAP)
 
+$(T)/codecs: tests/codecs.c tests/check.h clsm.h clsm_codec.h $(OUT)/libclsm.a | $(T)
+	$(STRICT) -o $@ $< $(OUT)/libclsm.a
+
 $(T)/stack $(T)/closed: $(T)/%: tests/%.c $(SHARED_HEADERS) $(OUT)/libclsm.a | $(T)
 	$(STRICT) -o $@ $< $(OUT)/libclsm.a
 
@@ -37,7 +40,7 @@ $(T)/example-%: examples/%.c clsm.h $(OUT)/libclsm.a | $(T)
 $(T)/cxx: tests/cxx.cpp clsm.h $(OUT)/libclsm.a | $(T)
 	$(CXX11) -Werror -o $@ $< $(OUT)/libclsm.a
 
-$(T)/cxx17: tests/cxx17.cpp clsm.h clsm.hpp $(OUT)/libclsm.a | $(T)
+$(T)/cxx17: tests/cxx17.cpp clsm.h clsm.hpp clsm_codec.h $(OUT)/libclsm.a | $(T)
 	$(CXX17) -Werror -o $@ $< $(OUT)/libclsm.a
 
 $(T)/mocked: tests/mocked.c $(SHARED_HEADERS) $(T)/between.o $(T)/mock_core.o $(OBJECTS)
@@ -119,7 +122,7 @@ ROUNDS = $(if $(SANITIZE),2000,20000)
 EXAMPLES = $(patsubst examples/%.c,%,$(wildcard examples/*.c))
 # ThreadSanitizer has nothing to find where one thread runs.
 ALONE = $(if $(filter thread,$(SANITIZE)),,schedules)
-PROGRAMS = threads refusals memory lives stack changes batch full loops cxx cxx17 core mocked checked $(ALONE) \
+PROGRAMS = threads codecs refusals memory lives stack changes batch full loops cxx cxx17 core mocked checked $(ALONE) \
     $(EXAMPLES:%=example-%) $(EXAMPLES:%=example-cxx-%) \
     $(if $(SANITIZE),,shared) $(if $(filter address,$(SANITIZE)),closed) $(if $(AUDIT),audited)
 BUILT = $(PROGRAMS:%=$(T)/%)
@@ -131,10 +134,10 @@ WHOLE = "$(T)/shared shared" "tests/interface $(T)/mock_core.o $(OBJECTS)" \
     "tests/examples python $(OUT)/libclsm.so" \
     $(if $(wildcard ../crates),"tests/documents $(OUT)/libclsm.a $(OUT)/libclsm.so $(OUT)/rust") \
     "tests/installed $(AGAIN)" "tests/planted $(OUT)/planted" "tests/packed $(AGAIN)"
-RUNS = "$(T)/threads $(ROUNDS)" "$(T)/threads $(ROUNDS) one" $(PLAIN:%=$(T)/%) "tests/examples c $(T)" "tests/examples cxx $(T)" \
+RUNS = "$(T)/threads $(ROUNDS)" "$(T)/threads $(ROUNDS) one" "$(T)/codecs tests/codecs.txt" $(PLAIN:%=$(T)/%) "tests/examples c $(T)" "tests/examples cxx $(T)" \
     $(patsubst %,"$(T)/% $(if $(SANITIZE),2)",$(ALONE)) \
     $(if $(SANITIZE),,$(WHOLE)) $(if $(AUDIT),"tests/audit $(T)/audited $(AUDIT_CALLS) $(AUDIT)")
-SMALL = "$(T)/threads 200" "$(T)/loops 500" $(patsubst %,$(T)/%,$(filter-out stack loops,$(PLAIN)))
+SMALL = "$(T)/threads 200" "$(T)/codecs tests/codecs.txt" "$(T)/loops 500" $(patsubst %,$(T)/%,$(filter-out stack loops,$(PLAIN)))
 MEMCHECK = valgrind -q --error-exitcode=9 --leak-check=full --errors-for-leak-kinds=definite --show-leak-kinds=definite --fair-sched=yes
 
 .PHONY: check check-mock check-valgrind check-audit check-planted check-packed
