@@ -129,11 +129,12 @@ BUILT = $(PROGRAMS:%=$(T)/%)
 PLAIN = refusals memory lives stack changes batch full loops cxx cxx17 core mocked checked $(if $(filter address,$(SANITIZE)),closed)
 AGAIN = $(MAKE) OUT=$(OUT) CORE=$(CORE)
 # What is not for sanitizers; what the documents show is not in an archive that was packed.
+PLANTING = "tests/planted $(OUT)/planted"
 WHOLE = "$(T)/shared shared" "tests/interface $(T)/mock_core.o $(OBJECTS)" \
     "tests/examples rust $(OUT)/libclsm.a $(OUT)/rust" \
     "tests/examples python $(OUT)/libclsm.so" \
     $(if $(wildcard ../crates),"tests/documents $(OUT)/libclsm.a $(OUT)/libclsm.so $(OUT)/rust") \
-    "tests/installed $(AGAIN)" "tests/planted $(OUT)/planted" "tests/packed $(AGAIN)"
+    "tests/installed $(AGAIN)" $(PLANTING) "tests/packed $(AGAIN)"
 RUNS = "$(T)/threads $(ROUNDS)" "$(T)/threads $(ROUNDS) one" "$(T)/codecs tests/codecs.txt" $(PLAIN:%=$(T)/%) "tests/examples c $(T)" "tests/examples cxx $(T)" \
     $(patsubst %,"$(T)/% $(if $(SANITIZE),2)",$(ALONE)) \
     $(if $(SANITIZE),,$(WHOLE)) $(if $(AUDIT),"tests/audit $(T)/audited $(AUDIT_CALLS) $(AUDIT)")
