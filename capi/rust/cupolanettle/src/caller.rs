@@ -72,8 +72,8 @@ impl Caller {
         self.handle.number()
     }
 
-    /// The time of the last call that was answered, or 0 before any: of a write its own, of a read
-    /// or a snapshot the time at which that reads.
+    /// The time of the last call that was answered, or [zero](Time::ZERO) before any: of a write its
+    /// own, of a read or a snapshot the time at which that reads.
     ///
     /// ```
     /// # use cupolanettle::{Error, Options};
@@ -94,12 +94,12 @@ impl Caller {
     /// message, for its receiver to [follow](Caller::follow).
     ///
     /// ```
-    /// # use cupolanettle::{Error, Options};
+    /// # use cupolanettle::{Error, Options, Time};
     /// let store = Options::new().keys(1_000).open()?;
     /// let caller = store.caller()?;
-    /// assert_eq!(caller.seen(), 0);
+    /// assert_eq!(caller.seen(), Time::ZERO);
     /// let written = caller.put(7, 70)?;
-    /// assert_eq!(caller.seen(), written + 1);
+    /// assert!(caller.seen() > written);
     /// # Ok::<(), Error>(())
     /// ```
     #[must_use]
@@ -112,7 +112,7 @@ impl Caller {
     /// another caller of the store had [seen](Caller::seen): they see what that had seen. Costs a
     /// read, or nothing if they do so already.
     ///
-    /// A time is a number, and tells nothing of the store that it is of. One of another store is
+    /// A time tells nothing of the store that it is of. One of another store is
     /// refused if this store has not reached it, and else taken for one of this store: reads are
     /// right, but nobody is followed.
     ///
@@ -121,7 +121,7 @@ impl Caller {
     /// [`Unseen`] if the store has not reached that time, so that no caller of it has seen it.
     ///
     /// ```
-    /// # use cupolanettle::{Error, Options, Unseen};
+    /// # use cupolanettle::{Error, Options, Time, Unseen};
     /// let store = Options::new().keys(1_000).open()?;
     /// let (one, other) = (store.caller()?, store.caller()?);
     /// one.put(7, 70)?;
@@ -131,7 +131,7 @@ impl Caller {
     /// other.follow(seen)?;
     /// assert_eq!(other.get(key), Some(70.into()));
     ///
-    /// assert_eq!(other.follow(seen + 1_000), Err(Unseen));
+    /// assert_eq!(other.follow(Time::from(1_000)), Err(Unseen));
     /// # Ok::<(), Error>(())
     /// ```
     pub fn follow(&self, seen: Time) -> Result<(), Unseen> {

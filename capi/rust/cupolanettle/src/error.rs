@@ -313,11 +313,11 @@ pub struct BadBytes;
 /// The store has not reached this time, so that no caller of it has seen it.
 ///
 /// ```
-/// use cupolanettle::{Error, Options, Unseen};
+/// use cupolanettle::{Error, Options, Time, Unseen};
 ///
 /// let store = Options::new().keys(1_000).open()?;
 /// let caller = store.caller()?;
-/// assert_eq!(caller.follow(1), Err(Unseen));
+/// assert_eq!(caller.follow(Time::from(1)), Err(Unseen));
 /// # Ok::<(), Error>(())
 /// ```
 #[derive(Clone, Copy, PartialEq, Eq, Hash, Debug)]

@@ -174,6 +174,7 @@ mod range;
 mod snapshot;
 mod statistics;
 mod store;
+mod time;
 mod value;
 mod walk;
 
@@ -189,22 +190,9 @@ pub use range::{Page, Range};
 pub use snapshot::Snapshot;
 pub use statistics::Statistics;
 pub use store::{Options, Store};
+pub use time::Time;
 pub use value::Value;
 pub use walk::Walk;
-
-/// A time: each write has one of its own, and a read sees the writes below its own. A new store is
-/// at time 0, and times end at 2^62.
-///
-/// ```
-/// use cupolanettle::{Error, Options, Time};
-///
-/// let store = Options::new().keys(1_000).open()?;
-/// let caller = store.caller()?;
-/// let times: [Time; 2] = [caller.put(7, 70)?, caller.put(7, 71)?];
-/// assert!(times[0] < times[1]);
-/// # Ok::<(), Error>(())
-/// ```
-pub type Time = u64;
 
 /// The programs of the readme, for tests.
 #[cfg(doctest)]

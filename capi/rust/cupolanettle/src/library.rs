@@ -115,7 +115,7 @@ pub(crate) struct OneSnapshotForEachThread;
 
 type Close<K> = unsafe extern "C" fn(*mut K);
 type Number<K> = unsafe extern "C" fn(*const K) -> c_uint;
-type TimeOf<K> = unsafe extern "C" fn(*const K) -> Time;
+type TimeOf<K> = unsafe extern "C" fn(*const K) -> u64;
 type Get<K> = unsafe extern "C" fn(*mut K, u64, *mut raw::Value) -> Code;
 type Count<K> = unsafe extern "C" fn(*mut K, u64, u64, *mut u64) -> Code;
 type Page<K> =
@@ -193,7 +193,7 @@ impl<K: Kind> Handle<K> {
     #[inline]
     pub(crate) fn time(&self) -> Time {
         // SAFETY: as in `number`.
-        unsafe { K::TIME(self.place()) }
+        unsafe { K::TIME(self.place()) }.into()
     }
 
     #[inline]
@@ -268,12 +268,12 @@ impl Handle<raw::Caller> {
     #[inline]
     pub(crate) fn seen(&self) -> Time {
         // SAFETY: as in `number`.
-        unsafe { raw::clsm_seen(self.place()) }
+        unsafe { raw::clsm_seen(self.place()) }.into()
     }
 
     pub(crate) fn follow(&self, seen: Time) -> Code {
         // SAFETY: as in `number`.
-        unsafe { raw::clsm_follow(self.place(), seen) }
+        unsafe { raw::clsm_follow(self.place(), seen.into()) }
     }
 
     /// Opens a snapshot, which is a read of this caller.

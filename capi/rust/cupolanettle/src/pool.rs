@@ -85,7 +85,7 @@ impl Store {
         let opened = (0..callers).map(|_| self.caller()).collect::<Result<Vec<_>, _>>()?;
         Ok(Pool {
             callers,
-            idle: Mutex::new(Idle { callers: opened, seen: 0 }),
+            idle: Mutex::new(Idle { callers: opened, seen: Time::ZERO }),
             given_back: Condvar::new(),
         })
     }

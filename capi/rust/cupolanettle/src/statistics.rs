@@ -33,7 +33,7 @@ pub struct Statistics {
     pub snapshots: u64,
     /// How many scans are open, which are iterators of C. Rust opens none.
     pub scans: u64,
-    /// The time at which the oldest open snapshot reads, or 0.
+    /// The time at which the oldest open snapshot reads, or [zero](Time::ZERO).
     pub oldest_time: Time,
     /// For how long that is open. Zero if none is.
     pub oldest_age: Duration,
@@ -77,9 +77,9 @@ impl Statistics {
             callers: raw.callers,
             snapshots: raw.snapshots,
             scans: raw.scans,
-            oldest_time: raw.oldest_time,
+            oldest_time: raw.oldest_time.into(),
             oldest_age: Duration::from_nanos(raw.oldest_age),
-            clock: raw.clock,
+            clock: raw.clock.into(),
             epoch_writes: raw.epoch_writes,
             level_zero: raw.level_zero,
             level_one: raw.level_one,

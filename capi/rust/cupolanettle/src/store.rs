@@ -351,7 +351,7 @@ impl Store {
     /// let caller = store.caller()?;
     /// caller.put(1, 10)?;
     /// let now = store.stats();
-    /// assert_eq!((now.callers, now.clock, now.epoch_writes), (1, 1, 1));
+    /// assert_eq!((now.callers, now.clock, now.epoch_writes), (1, caller.seen(), 1));
     /// assert_eq!(now.run_full + now.versions_full, 0);
     /// # Ok::<(), Error>(())
     /// ```

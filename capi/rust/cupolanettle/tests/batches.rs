@@ -1,6 +1,6 @@
 //! Batches: what one leaves, what refuses one, and that each read beside threads has all of its
 //! writes or none.
-use cupolanettle::{Batch, BatchError, Caller, Error, Options, Refused, Store, Value};
+use cupolanettle::{Batch, BatchError, Caller, Error, Options, Refused, Store, Time, Value};
 use std::sync::atomic::{AtomicUsize, Ordering};
 use std::thread;
 
@@ -8,6 +8,11 @@ const EPOCH: u64 = 64;
 const KEYS: u64 = 8;
 const WRITERS: u64 = 2;
 const ROUNDS: u64 = 500;
+
+/// So much later.
+fn later(time: Time, by: u64) -> Time {
+    (u64::from(time) + by).into()
+}
 
 fn small() -> Options {
     Options::new().keys(10_000).epoch(64)
@@ -27,7 +32,7 @@ fn writes_are_made_in_their_order() -> Result<(), Error> {
     batch.remove(1).set(2, [20, 21]).set(3, 30).remove(3).set(4, 40).set(4, 41).remove(5);
     let time = caller.batch(&batch)?;
     assert!(time >= before);
-    assert_eq!((caller.time(), caller.seen()), (time, time + 7));
+    assert_eq!((caller.time(), caller.seen()), (time, later(time, 7)));
     assert_eq!(rows(&caller)?, [(2, [20, 21].into()), (4, 41.into())]);
     assert_eq!(format!("{:?}", Batch::new().set(1, 2).remove(3)), "[(1, Some([2])), (3, None)]");
     Ok(())
@@ -41,7 +46,7 @@ fn one_may_be_made_again() -> Result<(), Error> {
     batch.set(1, 10).set(2, 20);
     let first = caller.batch(&batch)?;
     let second = caller.batch(&batch)?;
-    assert!(second >= first + 2);
+    assert!(second >= later(first, 2));
     batch.clear();
     batch.remove(1);
     caller.batch(&batch.clone())?;
@@ -81,7 +86,7 @@ fn empty_and_long_ones_are_refused() -> Result<(), Error> {
         batch.set(key, key);
     }
     assert_eq!(caller.batch(&batch), Err(BatchError::TooLong));
-    assert_eq!((caller.time(), caller.seen(), caller.count(..)), (0, 0, 0));
+    assert_eq!((caller.time(), caller.seen(), caller.count(..)), (Time::ZERO, Time::ZERO, 0));
     assert_eq!(Error::from(BatchError::TooLong), Error::Batch(BatchError::TooLong));
     assert_eq!(Error::from(BatchError::Refused(Refused::Worn)), Error::Refused(Refused::Worn));
     assert_eq!(BatchError::Empty.to_string(), "the batch has no write");

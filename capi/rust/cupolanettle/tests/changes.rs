@@ -1,11 +1,18 @@
 //! Changes: what each finds and leaves, and that none is lost between threads beside the merger.
-use cupolanettle::{Caller, ChangeError, Changed, Error, Kept, Options, Refused, Store, Value};
+use cupolanettle::{
+    Caller, ChangeError, Changed, Error, Kept, Options, Refused, Store, Time, Value,
+};
 use std::panic::catch_unwind;
 use std::thread;
 
 const THREADS: u64 = 4;
 const ROUNDS: u64 = 2_000;
 const KEYS: u64 = 8;
+
+/// So much later.
+fn later(time: Time, by: u64) -> Time {
+    (u64::from(time) + by).into()
+}
 
 fn small() -> Result<Store, Error> {
     Ok(Options::new().keys(1_000).epoch(64).open()?)
@@ -152,7 +159,7 @@ fn an_update_whose_function_panics_writes_nothing() -> Result<(), Error> {
     });
     let found = came.unwrap_err().downcast::<Option<Value>>().unwrap();
     assert_eq!(*found, Some(10.into()));
-    assert_eq!((caller.get(1), caller.time()), (Some(10.into()), 1));
+    assert_eq!((caller.get(1), caller.time()), (Some(10.into()), Time::from(1)));
     caller.add(1, 1)?;
     assert_eq!(caller.get(1), Some(11.into()));
     Ok(())
@@ -162,14 +169,14 @@ fn an_update_whose_function_panics_writes_nothing() -> Result<(), Error> {
 fn times_rise() -> Result<(), Error> {
     let caller = small()?.caller()?;
     let first = caller.add(1, 1)?;
-    assert_eq!((caller.time(), caller.seen()), (first.time, first.time + 1));
+    assert_eq!((caller.time(), caller.seen()), (first.time, later(first.time, 1)));
     // One that keeps the value is a read.
     let read = kept(caller.replace(1, None, None));
     assert!(read.time > first.time);
     assert_eq!((caller.time(), caller.seen()), (read.time, read.time));
     let last = caller.update(1, |old| old)?;
     assert!(last.time >= read.time);
-    assert_eq!((caller.time(), caller.seen()), (last.time, last.time + 1));
+    assert_eq!((caller.time(), caller.seen()), (last.time, later(last.time, 1)));
     Ok(())
 }
 

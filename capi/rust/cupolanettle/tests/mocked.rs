@@ -2,7 +2,9 @@
 //! `capi/rust/check` builds the library in place of the proved one.
 #![cfg(clsm_mock)]
 
-use cupolanettle::{Batch, BatchError, ChangeError, Error, OpenError, Options, Refused, TryError};
+use cupolanettle::{
+    Batch, BatchError, ChangeError, Error, OpenError, Options, Refused, Time, TryError,
+};
 use std::os::raw::c_uint;
 use std::sync::{Mutex, MutexGuard, PoisonError};
 
@@ -97,7 +99,7 @@ fn tries_tell_why_they_were_lost() -> Result<(), Error> {
         mock.refuse(WRITE, code, 2);
         assert_eq!(caller.try_put(1, 11), Err(error));
         assert_eq!(caller.try_remove(1), Err(error));
-        assert_eq!((caller.time(), caller.seen()), (0, 1));
+        assert_eq!((caller.time(), caller.seen()), (Time::ZERO, Time::from(1)));
         assert!(!error.to_string().is_empty());
     }
     Ok(())
@@ -125,7 +127,7 @@ fn writes_and_changes_that_are_lost_are_made_again() -> Result<(), Error> {
         mock.refuse(BATCH, code, 100);
         let time = caller.batch(Batch::new().set(1, 10).remove(2))?;
         assert_eq!((mock.count(WRITE) - before, mock.count(BATCH) - batches), (303, 101));
-        assert_eq!((caller.time(), caller.seen()), (time, time + 2));
+        assert_eq!((caller.time(), caller.seen()), (time, Time::from(u64::from(time) + 2)));
     }
     Ok(())
 }
@@ -154,9 +156,9 @@ fn a_value_that_is_kept_is_a_read() -> Result<(), Error> {
     let before = mock.count(READ);
     mock.run_back(READ, 2, 100);
     let Err(ChangeError::Kept(kept)) = caller.add(2, 1) else { panic!("it is no read") };
-    assert_eq!((kept.time, kept.value), (3, Some([2, 2].into())));
+    assert_eq!((kept.time, kept.value), (Time::from(3), Some([2, 2].into())));
     assert_eq!(mock.count(READ) - before, 101);
-    assert_eq!((caller.time(), caller.seen()), (3, 3));
+    assert_eq!((caller.time(), caller.seen()), (Time::from(3), Time::from(3)));
     Ok(())
 }
 

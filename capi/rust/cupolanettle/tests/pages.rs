@@ -92,12 +92,12 @@ fn a_long_page_beside_batches_is_of_one_moment() -> Result<(), Error> {
             written.store(true, Ordering::SeqCst);
             came
         });
-        let mut last = 0;
+        let mut last = Time::ZERO;
         while !written.load(Ordering::SeqCst) {
             last = read_alike(&store, last)?;
         }
         writing.join().unwrap()
     })?;
-    read_alike(&store, 0)?;
+    read_alike(&store, Time::ZERO)?;
     Ok(())
 }

@@ -28,7 +28,7 @@ fn kinds() {
 /// Takes a caller again and again. No time of this thread runs back, nor behind what any thread
 /// had seen as it gave its caller back.
 fn work(pool: &Pool, own: u64, taken: &AtomicUsize, given_back: &Mutex<Time>) {
-    let mut last = 0;
+    let mut last = Time::ZERO;
     for round in 0..ROUNDS {
         let others_saw = *given_back.lock().unwrap();
         let caller = pool.take();
@@ -50,7 +50,7 @@ fn work(pool: &Pool, own: u64, taken: &AtomicUsize, given_back: &Mutex<Time>) {
 fn more_threads_than_seats() -> Result<(), Error> {
     let store = small()?;
     let pool = store.pool(CALLERS)?;
-    let (taken, given_back) = (AtomicUsize::new(0), Mutex::new(0));
+    let (taken, given_back) = (AtomicUsize::new(0), Mutex::new(Time::ZERO));
     let all_are_here = Barrier::new(200);
     thread::scope(|scope| {
         let (pool, all_are_here) = (&pool, &all_are_here);
@@ -89,10 +89,10 @@ fn a_caller_follows_all_that_were_given_back() -> Result<(), Error> {
     let pool = small()?.pool(3)?;
     let (writer, reader, idle) = (pool.take(), pool.take(), pool.take());
     let written = writer.put(1, 10)?;
-    assert_eq!((reader.seen(), idle.seen()), (0, 0));
+    assert_eq!((reader.seen(), idle.seen()), (Time::ZERO, Time::ZERO));
     drop(writer);
     // It was taken before, and follows once it is taken again.
-    assert_eq!(idle.seen(), 0);
+    assert_eq!(idle.seen(), Time::ZERO);
     drop(idle);
     drop(reader);
     let taken = [pool.take(), pool.take(), pool.take()];

@@ -1,5 +1,7 @@
 //! A hundred thousand random calls of one thread, each answered as a `BTreeMap` answers.
-use cupolanettle::{Batch, Caller, ChangeError, Changed, Error, Options, Snapshot, Store, Value};
+use cupolanettle::{
+    Batch, Caller, ChangeError, Changed, Error, Options, Snapshot, Store, Time, Value,
+};
 use std::collections::BTreeMap;
 use std::ops::RangeInclusive;
 
@@ -60,6 +62,11 @@ enum Wanted {
     Has(Option<Value>),
 }
 
+/// So much later.
+fn later(time: Time, by: u64) -> Time {
+    (u64::from(time) + by).into()
+}
+
 /// What an addition to this value is to come to.
 fn sum_of(old: Option<Value>, by: u64) -> Wanted {
     let sum = match old.as_deref() {
@@ -103,7 +110,7 @@ impl Play {
         };
         assert!(time >= before);
         assert_eq!(self.caller.time(), time);
-        assert_eq!(self.caller.seen(), time + 1);
+        assert_eq!(self.caller.seen(), later(time, 1));
         Ok(())
     }
 
@@ -122,7 +129,10 @@ impl Play {
         let before = self.caller.seen();
         let time = self.caller.batch(&batch)?;
         assert!(time >= before);
-        assert_eq!((self.caller.time(), self.caller.seen()), (time, time + batch.len() as u64));
+        assert_eq!(
+            (self.caller.time(), self.caller.seen()),
+            (time, later(time, batch.len() as u64))
+        );
         Ok(())
     }
 
@@ -170,7 +180,7 @@ impl Play {
         match (came, wanted) {
             (Ok(changed), Wanted::Has(new)) => {
                 assert_eq!((changed.before, changed.after), (old, new));
-                assert_eq!((changed.time, changed.time + 1), (time, seen));
+                assert_eq!((changed.time, later(time, 1)), (time, seen));
                 self.map.remove(&key);
                 self.map.extend(new.map(|new| (key, new)));
             }

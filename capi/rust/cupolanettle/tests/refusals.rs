@@ -1,6 +1,6 @@
 //! Refusals for old versions, and that they leave the store as it was.
 use cupolanettle::{
-    BadValue, Caller, Error, Memory, NoSeat, OpenError, Options, Refused, RetainError, Store,
+    BadValue, Caller, Error, Memory, NoSeat, OpenError, Options, Refused, RetainError, Store, Time,
     TryError, Unseen,
 };
 use std::thread;
@@ -8,6 +8,11 @@ use std::time::Duration;
 
 /// More writes than any store of these tests has room for.
 const MANY: u64 = 500;
+
+/// So much later.
+fn later(time: Time, by: u64) -> Time {
+    (u64::from(time) + by).into()
+}
 
 /// A store with little room, in which calls merge or not, and writes do not wait for snapshots.
 fn tiny(merge_in_calls: bool) -> Result<Store, OpenError> {
@@ -219,15 +224,15 @@ fn ranges_of_all_kinds() -> Result<(), Error> {
 fn times_that_were_not_seen() -> Result<(), Error> {
     let store = tiny(false)?;
     let caller = store.caller()?;
-    assert_eq!((caller.time(), caller.seen()), (0, 0));
-    caller.follow(0)?;
-    assert_eq!(caller.follow(1), Err(Unseen));
-    assert_eq!(caller.follow(u64::MAX), Err(Unseen));
+    assert_eq!((caller.time(), caller.seen()), (Time::ZERO, Time::ZERO));
+    caller.follow(Time::ZERO)?;
+    assert_eq!(caller.follow(Time::from(1)), Err(Unseen));
+    assert_eq!(caller.follow(Time::from(u64::MAX)), Err(Unseen));
     let time = caller.put(1, 10)?;
-    caller.follow(time + 1)?;
-    assert_eq!(caller.follow(time + 1_000), Err(Unseen));
+    caller.follow(later(time, 1))?;
+    assert_eq!(caller.follow(later(time, 1_000)), Err(Unseen));
     assert_eq!(caller.get(1), Some(10.into()));
-    assert_eq!(store.caller()?.seen(), 0);
+    assert_eq!(store.caller()?.seen(), Time::ZERO);
     Ok(())
 }
 
@@ -238,11 +243,11 @@ fn times_of_another_store() -> Result<(), Error> {
         stranger.put(1, 20)?;
     }
     assert_eq!(caller.follow(stranger.seen()), Err(Unseen));
-    assert_eq!((caller.seen(), caller.get(1)), (0, None));
+    assert_eq!((caller.seen(), caller.get(1)), (Time::ZERO, None));
     // Once this store has reached that time, nothing tells it from its own.
-    let time = (0..3).try_fold(0, |_, word| caller.put(1, word))?;
+    let time = (0..3).try_fold(Time::ZERO, |_, word| caller.put(1, word))?;
     caller.follow(stranger.seen())?;
-    assert_eq!((caller.get(1), caller.time()), (Some(2.into()), time + 1));
+    assert_eq!((caller.get(1), caller.time()), (Some(2.into()), later(time, 1)));
     Ok(())
 }
 

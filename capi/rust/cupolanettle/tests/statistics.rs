@@ -1,5 +1,5 @@
 //! What a store tells of itself, and what its handles show.
-use cupolanettle::{Error, NoSeat, Options, Refused, Statistics};
+use cupolanettle::{Error, NoSeat, Options, Refused, Statistics, Time};
 use std::time::Duration;
 
 const KEYS: u64 = 100;
@@ -15,8 +15,8 @@ fn of_an_empty_store() -> Result<(), Error> {
     let store = options().open()?;
     let now = store.stats();
     assert_eq!((now.callers, now.snapshots, now.scans), (0, 0, 0));
-    assert_eq!((now.oldest_time, now.oldest_age), (0, Duration::ZERO));
-    assert_eq!((now.clock, now.epoch_writes, now.merges), (0, 0, 0));
+    assert_eq!((now.oldest_time, now.oldest_age), (Time::ZERO, Duration::ZERO));
+    assert_eq!((now.clock, now.epoch_writes, now.merges), (Time::ZERO, 0, 0));
     assert_eq!((now.level_zero, now.level_one), (0, 0));
     assert_eq!((now.room_for_keys, now.room_for_versions), (KEYS, KEYS + VERSIONS));
     assert_eq!((now.last_merge, now.longest_merge), (Duration::ZERO, Duration::ZERO));
@@ -57,7 +57,7 @@ fn of_merges_and_refusals() -> Result<(), Error> {
         caller.put(key, key)?;
     }
     let now = store.stats();
-    assert_eq!((now.clock, now.epoch_writes), (caller.seen(), caller.seen() % EPOCH));
+    assert_eq!((now.clock, now.epoch_writes), (caller.seen(), u64::from(caller.seen()) % EPOCH));
     assert!(now.merges > 3 && now.waits > 3 && now.longest_merge >= now.last_merge);
     assert!(now.level_zero + now.level_one <= KEYS);
     let snapshot = caller.snapshot()?;
@@ -82,7 +82,7 @@ fn of_merges_and_refusals() -> Result<(), Error> {
 #[test]
 fn beside_writers() -> Result<(), Error> {
     let store = Options::new().keys(1_000).epoch(64).open()?;
-    let counts = |now: &Statistics| [now.clock, now.merges, now.waits];
+    let counts = |now: &Statistics| [now.clock.into(), now.merges, now.waits];
     std::thread::scope(|scope| {
         let writing = scope.spawn(|| -> Result<(), Error> {
             let caller = store.caller()?;
