@@ -164,12 +164,30 @@ impl Play {
         self.assert_change(key, came, wanted);
     }
 
-    /// Removes some rows of a range.
+    /// The value of a key, or one that it is given.
+    fn insert(&mut self) -> Result<(), Error> {
+        let (key, value) = (self.random.key(), self.random.value());
+        let mut is_asked = false;
+        let found = self.caller.get_or_insert_with(key, || {
+            is_asked = true;
+            value
+        })?;
+        assert_eq!(is_asked, !self.map.contains_key(&key));
+        assert_eq!(found, *self.map.entry(key).or_insert(value));
+        Ok(())
+    }
+
+    /// Removes some rows of a range, or all.
     fn retain(&mut self) -> Result<(), Error> {
         let (keys, bound) = (self.random.keys(), self.random.value());
+        let bound = Some(bound).filter(|_| self.random.below(2) == 0);
         let before = self.map.len();
-        let removed = self.caller.retain(keys.clone(), |_, value| value < bound)?;
-        self.map.retain(|key, value| !keys.contains(key) || *value < bound);
+        let removed = match bound {
+            Some(bound) => self.caller.retain(keys.clone(), |_, value| value < bound)?,
+            None => self.caller.remove_range(keys.clone())?,
+        };
+        let is_kept = |value: &Value| bound.is_some_and(|bound| *value < bound);
+        self.map.retain(|key, value| !keys.contains(key) || is_kept(value));
         assert_eq!(removed, (before - self.map.len()) as u64);
         Ok(())
     }
@@ -209,6 +227,11 @@ impl Play {
                 let read: Result<Vec<_>, _> = self.caller.walk(keys.clone())?.collect();
                 assert_eq!(read?, rows(&self.map, keys));
             }
+            4 => {
+                assert_eq!(self.caller.first_key_value()?, first_row(&self.map));
+                assert_eq!(self.caller.is_empty(), self.map.is_empty());
+            }
+            5 => assert_eq!(self.caller.contains_key(key), self.map.contains_key(&key)),
             _ => assert_eq!(self.caller.get(key), self.map.get(&key).copied()),
         }
         Ok(())
@@ -235,13 +258,18 @@ impl Play {
         };
         let (key, keys) = (self.random.key(), self.random.keys());
         let most = self.random.size_below(100);
-        match self.random.below(4) {
+        match self.random.below(6) {
             0 => assert_eq!(snapshot.count(keys.clone()), rows(map, keys).len() as u64),
             1 => assert_page(&snapshot.page(keys.clone(), most)?, &rows(map, keys), most),
             2 => {
                 let read: Result<Vec<_>, _> = snapshot.range(keys.clone()).collect();
                 assert_eq!(read?, rows(map, keys));
             }
+            3 => {
+                assert_eq!(snapshot.first_key_value()?, first_row(map));
+                assert_eq!(snapshot.is_empty(), map.is_empty());
+            }
+            4 => assert_eq!(snapshot.contains_key(key), map.contains_key(&key)),
             _ => assert_eq!(snapshot.get(key), map.get(&key).copied()),
         }
         Ok(())
@@ -259,13 +287,18 @@ impl Play {
             4..=29 => self.read_snapshot(),
             30..=31 => self.write_batch(),
             32..=49 => self.write(),
-            50..=69 => {
+            50..=64 => {
                 self.change();
                 Ok(())
             }
+            65..=69 => self.insert(),
             _ => self.read(),
         }
     }
+}
+
+fn first_row(map: &Map) -> Option<(u64, Value)> {
+    map.first_key_value().map(|(key, value)| (*key, *value))
 }
 
 fn assert_page(page: &cupolanettle::Page, rows: &[(u64, Value)], most: usize) {
@@ -279,6 +312,10 @@ fn play(options: Options) -> Result<(), Error> {
         play.call()?;
     }
     let all: Result<Vec<_>, _> = play.caller.range(..)?.collect();
+    assert_eq!(all?, rows(&play.map, 0..=u64::MAX));
+    let copy = Options::new().open()?;
+    play.caller.snapshot()?.copy_to(&copy)?;
+    let all: Result<Vec<_>, _> = copy.snapshot()?.into_iter().collect();
     assert_eq!(all?, rows(&play.map, 0..=u64::MAX));
     Ok(())
 }
