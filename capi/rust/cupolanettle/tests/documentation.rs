@@ -1,4 +1,6 @@
-//! Each public item has an example. That they run, `cargo test` sees to.
+//! Each public item has an example; that they run, `cargo test` sees to. A search of the documents
+//! finds calls by the names that they have elsewhere.
+use std::collections::BTreeSet;
 use std::fs;
 use std::path::{Path, PathBuf};
 
@@ -41,5 +43,34 @@ fn each_public_item_has_an_example() {
         let text = fs::read_to_string(&path).unwrap();
         let found = without_example(&text);
         assert!(found.is_empty(), "{}: {found:?}", path.display());
+    }
+}
+
+/// The names of the attribute on this line, by which a search finds the item below it, too.
+fn aliases(line: &str) -> impl Iterator<Item = &str> {
+    let is_alias = line.trim().starts_with("#[doc(alias");
+    line.split('"').skip(1).step_by(2).filter(move |_| is_alias)
+}
+
+#[test]
+fn names_of_other_maps_are_found() {
+    let folder = Path::new(env!("CARGO_MANIFEST_DIR")).join("src");
+    let texts: Vec<_> =
+        sources(&folder).iter().map(|path| fs::read_to_string(path).unwrap()).collect();
+    let found: BTreeSet<_> = texts.iter().flat_map(|text| text.lines()).flat_map(aliases).collect();
+    let names = [
+        // BTreeMap, dashmap, skip lists
+        ["insert", "entry", "alter", "iterator", "len"],
+        ["or_insert_with", "fetch_update", "extract_if", "drain", "first"],
+        // atomics
+        ["compare_exchange", "compare_and_swap", "fetch_add", "cas", "increment"],
+        // LevelDB, RocksDB, LMDB, SQLite
+        ["delete", "write_batch", "cursor", "compact_range", "merge"],
+        ["upsert", "delete_range", "read_transaction", "scan", "truncate"],
+        // pools of connections
+        ["pool", "acquire", "checkout", "ConnectionPool", "try_lock"],
+    ];
+    for name in names.as_flattened() {
+        assert!(found.contains(name), "{name}");
     }
 }
