@@ -290,10 +290,12 @@ class Store:
 
     def _write_rows(self, rows: bytearray) -> None:
         """Writes a batch, and takes what it wrote out of it."""
-        count = len(rows) // _ROW.size
-        copied = (library.Row * count).from_buffer_copy(rows)
+        written = bytes(rows)
+        count = len(written) // _ROW.size
+        copied = (library.Row * count).from_buffer_copy(written)
         self._check(self._call_to_write(library.batch, copied, count))
-        del rows[: count * _ROW.size]
+        if rows.startswith(written):  # a handler of a signal may have written or cleared them
+            del rows[: len(written)]
 
     def _change(self, call: library.Call, *arguments: Any) -> Tuple[bool, library.Changed]:
         """Whether the call has written, and what the key had and has."""
