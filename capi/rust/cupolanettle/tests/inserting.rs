@@ -80,20 +80,19 @@ fn ask(caller: &Caller, own: u64, asked: &AtomicU64) -> Result<Vec<Value>, Refus
 #[test]
 fn all_threads_get_one_value() -> Result<(), Error> {
     let store = small()?;
-    let (asked, all_are_here) = (AtomicU64::new(0), Barrier::new(4));
+    let callers = (0..THREADS).map(|_| store.caller()).collect::<Result<Vec<_>, _>>()?;
+    let (asked, all_are_here) = (AtomicU64::new(0), Barrier::new(callers.len()));
     let found = thread::scope(|scope| {
         let (asked, all_are_here) = (&asked, &all_are_here);
-        let asking: Vec<_> = (0..THREADS)
-            .map(|own| {
-                let caller = store.caller()?;
-                Ok(scope.spawn(move || {
-                    all_are_here.wait();
-                    ask(&caller, own, asked)
-                }))
+        let ask = |(caller, own): (Caller, u64)| {
+            scope.spawn(move || {
+                all_are_here.wait();
+                ask(&caller, own, asked)
             })
-            .collect::<Result<_, Error>>()?;
+        };
+        let asking: Vec<_> = callers.into_iter().zip(0..).map(ask).collect();
         let found = asking.into_iter().map(|thread| thread.join().unwrap());
-        Ok::<_, Error>(found.collect::<Result<Vec<_>, _>>()?)
+        found.collect::<Result<Vec<_>, _>>()
     })?;
     assert!(found.iter().all(|values| *values == found[0]));
     for (key, value) in (0..).zip(&found[0]) {

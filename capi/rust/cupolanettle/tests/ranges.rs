@@ -3,7 +3,6 @@ use cupolanettle::{
     Caller, CopyError, Error, NoSeat, Options, Refused, RetainError, Store, TryError, Value,
 };
 use std::ops::{Bound, RangeBounds};
-use std::sync::atomic::{AtomicBool, Ordering};
 use std::thread;
 
 /// So many rows are read and written at a time.
@@ -77,19 +76,16 @@ fn a_removal_beside_a_writer() -> Result<(), Error> {
     const KEYS: u64 = 500;
     let store = small()?;
     let caller = store.caller()?;
-    let is_over = AtomicBool::new(false);
     thread::scope(|scope| {
-        let (store, is_over) = (&store, &is_over);
-        let writing = scope.spawn(move || -> Result<u64, Error> {
+        let store = &store;
+        let writing = scope.spawn(move || -> Result<(), Error> {
             let caller = store.caller()?;
-            let mut rounds = 0;
-            while !is_over.load(Ordering::SeqCst) {
+            for round in 0..200 {
                 for key in (0..KEYS).step_by(7) {
-                    caller.put(key, rounds)?;
+                    caller.put(key, round)?;
                 }
-                rounds += 1;
             }
-            Ok(rounds)
+            Ok(())
         });
         for _ in 0..20 {
             for key in 0..KEYS {
@@ -99,7 +95,6 @@ fn a_removal_beside_a_writer() -> Result<(), Error> {
             // Nobody else writes these.
             assert!((0..KEYS).filter(|key| key % 7 > 0).all(|key| !caller.contains_key(key)));
         }
-        is_over.store(true, Ordering::SeqCst);
         writing.join().unwrap()
     })?;
     caller.clear()?;
