@@ -153,6 +153,27 @@
 //! would wait for its own thread, and is refused at once, with [`Refused::OwnSnapshot`].
 //! [`Store::stats`] tells how much room there is, and how old the oldest snapshot is.
 //!
+//! # Names of other maps
+//!
+//! A search of these pages finds most calls by the names that they have elsewhere, too.
+//!
+//! Elsewhere | Here
+//! --|--
+//! `BTreeMap::insert`, `remove` | [`Caller::put`], [`Caller::remove`]; [`Caller::update`] and [`Caller::replace`] also tell the old value
+//! `get_mut`, `iter_mut` | [`Caller::update`]; a [`Caller::walk`] that writes each row
+//! `entry`, `or_insert_with` | [`Caller::update`], [`Caller::get_or_insert_with`]
+//! `range`, `iter` | [`Caller::range`], [`Snapshot::iter`]: rows of one moment; [`Caller::walk`] for others
+//! `len` | [`Caller::count`], which visits the keys
+//! `extend`, `collect` | those of a [`Batch`], at most as long as an epoch
+//! `clear`, `retain` | [`Caller::clear`], [`Caller::retain`], which are not one moment
+//! dashmap's `alter`, `entry`, `iter` | [`Caller::update`], [`Caller::get_or_insert_with`], [`Caller::walk`]
+//! crossbeam's `SkipMap::front`, `get_or_insert_with` | [`Caller::first_key_value`], [`Caller::get_or_insert_with`]
+//! an atomic's `fetch_add`, `compare_exchange`, `fetch_update` | [`Caller::add`], [`Caller::replace`], [`Caller::update`]
+//! sled's `compare_and_swap`, `apply_batch`, `scan_prefix` | [`Caller::replace`], [`Caller::batch`], [`Text8::prefixed`](codec::Text8::prefixed)
+//! heed's and redb's read transactions and types | [`Snapshot`]; [`codec`]
+//! r2d2's `Pool::get` | [`Pool::take`]
+//! files, `flush`, recovery | none: the map is in memory
+//!
 //! # What is trusted
 //!
 //! The answer of each call of the core, and its memory safety, are proved. The library for C
