@@ -247,9 +247,9 @@ impl Snapshot {
     /// many those were. Other rows of that store stay.
     ///
     /// The rows are those of one moment of this store; what is written to it meanwhile is not among
-    /// them. **In the other store it is not one moment**: the rows are written by
-    /// [batches](crate::Caller::batch) of up to 64, by a caller of its own. So use that store once
-    /// the copy is done, and write to this one no more before, or copy what changed.
+    /// them. **In the other store it is not one moment**: a caller of its own writes the rows, in
+    /// [batches](crate::Caller::batch) of up to 64. A program that goes over to a larger store ends
+    /// its writes first, then copies, and then writes to the other one.
     ///
     /// It takes the time of a read and a write of each row, and memory for 64 rows. While the
     /// snapshot is open, this store keeps [old versions](crate::Options::versions).
