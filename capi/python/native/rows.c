@@ -113,6 +113,10 @@ static PyObject *open_rows(PyTypeObject *type, PyObject *arguments, PyObject *na
     if (!PyArg_ParseTuple(arguments, "OKKnnp", &reader, &first, &last, &room, &greatest_room,
                           &is_own))
         return NULL;
+    if (room < 1 || greatest_room < room) {
+        PyErr_SetString(PyExc_ValueError, "a page has room for a row");
+        return NULL;
+    }
     if (!PyObject_TypeCheck(reader, clsm_store_type) && !is_snapshot(reader)) {
         PyErr_SetString(PyExc_TypeError, "rows are of a store or a snapshot");
         return NULL;

@@ -353,7 +353,37 @@ with Store(keys=1, epoch=4, wait=None, merge_in_calls=True) as store:
 """
 
 
+CLOSING = """
+import signal, threading
+from cupolanettle import Closed, Store
+signal.signal(signal.SIGUSR1, lambda *_: store.close())
+main = threading.main_thread().ident
+for number in range(50):
+    store = Store(keys=1_000, epoch=4)
+    for key in range(500):
+        store[key] = key
+    snapshot = store.snapshot()
+    jobs = [lambda: signal.pthread_kill(main, signal.SIGUSR1), store.close]
+    threads = [threading.Thread(target=job) for job in jobs]
+    for thread in threads[:: 1 if number % 2 else -1]:
+        thread.start()
+    calls = [store.count, snapshot.count, lambda: store.add(7), lambda: list(store.scan())]
+    try:
+        while True:
+            calls[number % 4]()
+    except Closed:
+        pass
+    for thread in threads:
+        thread.join()
+print("closed")
+"""
+
+
 class Signals(unittest.TestCase):
+    def test_a_handler_and_a_thread_close_a_store_beside_calls(self) -> None:
+        ended = in_process(CLOSING)
+        self.assertEqual((ended.stdout, ended.stderr), ("closed\n", ""))
+
     def test_a_write_that_waits(self) -> None:
         ended = in_process(WAITING)
         self.assertEqual((ended.stdout, ended.stderr), ("interrupted\n", ""))

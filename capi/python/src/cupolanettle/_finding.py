@@ -94,7 +94,12 @@ def _load_extension() -> Any:
         if is_wanted:
             raise ImportError(f"{EXTENSION} was not found")
         return None
-    return _load(path)
+    try:
+        return _load(path)
+    except ImportError:  # as in a second interpreter of the process
+        if is_wanted:
+            raise
+        return None
 
 
 native: Any = _load_extension()
