@@ -1,8 +1,11 @@
 # The C extension of the Python package, in Python's stable ABI, with the library in it.
 
 PYTHON ?= python3
-PYTHON_HEADERS := $(shell $(PYTHON) -c 'import sysconfig; print(sysconfig.get_path("include"))' 2>/dev/null)
-HAS_PYTHON_HEADERS := $(wildcard $(PYTHON_HEADERS)/Python.h)
+# Nothing where this Python has not the stable ABI of 3.10.
+PYTHON_HEADERS := $(shell $(PYTHON) -c 'import sys, sysconfig as config; \
+    is_stable = sys.version_info >= (3, 10) and not config.get_config_var("Py_GIL_DISABLED"); \
+    print(config.get_path("include") if is_stable else "")' 2>/dev/null)
+HAS_PYTHON_HEADERS := $(if $(PYTHON_HEADERS),$(wildcard $(PYTHON_HEADERS)/Python.h))
 
 NATIVE = $(OUT)/_native.abi3.so
 NATIVE_PARTS = module rows snapshot store values waiting
@@ -16,7 +19,7 @@ ifneq ($(HAS_PYTHON_HEADERS),)
 extension-or-not: extension
 else
 extension-or-not:
-	@echo "capi: without Python's headers there is no extension; Python calls libclsm.so by ctypes"
+	@echo "capi: without the headers of Python 3.10 or later there is no extension; Python calls libclsm.so by ctypes"
 endif
 
 $(OUT)/native/%.o: python/native/%.c python/native/native.h clsm.h $(OUT)/settings
