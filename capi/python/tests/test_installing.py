@@ -222,6 +222,12 @@ class Backends(unittest.TestCase):
         ended = in_process(self.program, CLSM_BACKEND="cffi")
         self.assertRegex(ended.stderr, "ImportError: CLSM_BACKEND is cffi")
 
+    def test_a_library_that_is_a_name(self) -> None:
+        """It is the system's, whatever lies in the folder at hand."""
+        program = f"import os; os.chdir({str(EXTENSION.parent)!r}); {self.program}"
+        ended = in_process(program, CLSM_LIBRARY="no-library.so", CLSM_BACKEND="")
+        self.assertRegex(ended.stderr, "ImportError: no-library.so cannot be loaded")
+
     def test_a_folder_without_it(self) -> None:
         with tempfile.TemporaryDirectory() as folder:
             alone = Path(folder) / "libclsm.so"

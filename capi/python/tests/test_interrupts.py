@@ -326,9 +326,17 @@ print(came_out, len(swallowed))
 
 WAITING = """
 import signal, threading, time
-from cupolanettle import Store
+from cupolanettle import Closed, Store
 signal.signal(signal.SIGUSR1, signal.default_int_handler)
 
+def write():
+    try:
+        while True:
+            store.add(7)
+    except Closed:
+        pass
+
+others = [threading.Thread(target=write) for _ in range({others})]
 with Store(keys=1, epoch=4, wait=None, merge_in_calls=True) as store:
     held = []
     thread = threading.Thread(target=lambda: held.append(store.snapshot()))
@@ -342,11 +350,13 @@ with Store(keys=1, epoch=4, wait=None, merge_in_calls=True) as store:
             time.sleep(0.01)
         signal.pthread_kill(threading.main_thread().ident, signal.SIGUSR1)
 
+    for other in others:
+        other.start()
     thread = threading.Thread(target=interrupt)
     thread.start()
     try:
         while True:
-            store[7] = 70
+            store.add(7)
     except KeyboardInterrupt:
         print("interrupted")
     thread.join()
@@ -385,8 +395,10 @@ class Signals(unittest.TestCase):
         self.assertEqual((ended.stdout, ended.stderr), ("closed\n", ""))
 
     def test_a_write_that_waits(self) -> None:
-        ended = in_process(WAITING)
-        self.assertEqual((ended.stdout, ended.stderr), ("interrupted\n", ""))
+        """For a snapshot, and, beside more writers than there are callers, for one of these."""
+        for others in 0, 30:
+            ended = in_process(WAITING.replace("{others}", str(others)))
+            self.assertEqual((ended.stdout, ended.stderr), ("interrupted\n", ""))
 
     def test_three_hundred(self) -> None:
         ended = in_process(SIGNALS)

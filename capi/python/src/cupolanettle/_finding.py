@@ -54,8 +54,9 @@ def find_library() -> str:
 def _find_extension() -> Optional[Path]:
     """The extension, which has the library in it and lies beside the one that it was built of."""
     if _chosen():
-        beside = Path(_chosen()).absolute().parent / EXTENSION
-        return beside if beside.is_file() else None
+        library = Path(_chosen()).absolute()
+        beside = library.parent / EXTENSION
+        return beside if library.is_file() and beside.is_file() else None
     beside = _PACKAGE / EXTENSION
     return beside if beside.is_file() else _built(EXTENSION)
 
