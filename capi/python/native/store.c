@@ -4,7 +4,11 @@
 #include <string.h>
 #include <time.h>
 
-enum { LONGEST_WAIT = 100 }; /* milliseconds that a call waits for a snapshot to be closed */
+enum {
+    LONGEST_WAIT = 100,   /* milliseconds that a call waits for a snapshot to be closed */
+    MILLISECONDS = 1000,  /* of a second */
+    NANOSECONDS = 1000000 /* of a millisecond */
+};
 
 /* ---- Refusals */
 
@@ -133,7 +137,7 @@ static int make_write_once(struct store *store, struct call *call) {
 static int64_t milliseconds(void) {
     struct timespec now;
     clock_gettime(CLOCK_MONOTONIC, &now);
-    return (int64_t)now.tv_sec * 1000 + (int64_t)now.tv_nsec / 1000000;
+    return (int64_t)now.tv_sec * MILLISECONDS + (int64_t)now.tv_nsec / NANOSECONDS;
 }
 
 /* The same. While it waits for a snapshot to be closed, it comes back now and then, for handlers of
