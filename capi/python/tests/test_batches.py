@@ -2,6 +2,8 @@
 
 from __future__ import annotations
 
+import threading
+import time
 import unittest
 from functools import partial
 from typing import Any, List, Tuple
@@ -126,6 +128,39 @@ class Writing(unittest.TestCase):
             in_threads([partial(add, 0), partial(add, 1), write, write])
             batch.write()
             self.assertEqual(list(store.scan()), [(key, key) for key in range(count)])
+
+    def test_one_is_added_to_while_it_waits(self) -> None:
+        """For a snapshot, which keeps its write from finding room."""
+        with Store(keys=8, epoch=4, wait=None, merge_in_calls=True) as store:
+            batch = store.batch()
+
+            def fill() -> int:
+                try:
+                    with self.assertRaises(OwnSnapshot):
+                        while True:
+                            store[1] = 10
+                    return store.stats().waits
+                finally:
+                    is_full.set()
+
+            def fill_and_add() -> None:
+                with store.snapshot():
+                    waits = fill()
+                    while store.stats().waits == waits:
+                        time.sleep(0)
+                    for key in 3, 4:
+                        batch[key] = key
+
+            def write() -> None:
+                is_full.wait()
+                batch[2] = 20
+                batch.write()
+
+            is_full = threading.Event()
+            in_threads([fill_and_add, write])
+            self.assertEqual((list(store.scan()), len(batch)), ([(1, 10), (2, 20)], 2))
+            batch.write()
+            self.assertEqual([key for key, _ in store.scan()], [1, 2, 3, 4])
 
     def test_a_closed_store(self) -> None:
         batch = self.store.batch()
