@@ -24,8 +24,9 @@
  * 3. Each other pointer is to a whole object that nobody else uses during the call; what is const
  *    others may read. It is not null unless its parameter is named or_null.
  * 4. malloc, realloc, posix_memalign and free are of one allocator, which aligns by 16.
- * 5. No call is made in a signal handler, or in a thread that may be cancelled asynchronously. In a
- *    forked child only closes are made, which leave all as it is there.
+ * 5. No call is made in a signal handler, or in a thread that may be cancelled asynchronously. A
+ *    forked child may open stores of its own; of what was opened before the fork it makes closes
+ *    only, which leave all as it is there.
  * 6. A call has CLSM_STACK bytes of stack.
  * 7. This header and the library are of one build. */
 #ifndef CLSM_H

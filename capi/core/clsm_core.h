@@ -22,7 +22,7 @@
  * - The room for handles is enough: clsm_core_room answers what they take.
  * - A bool is 0 or 1.
  * - malloc, realloc and free come from one allocator, and align by 16.
- * - No call is made from a signal handler, nor in the forked child of a process with threads.
+ * - No call is made from a signal handler, nor in a forked child on a handle of its parent's.
  * - There is stack enough, and no other symbol has these names.
  */
 #ifndef CLSM_CORE_H
