@@ -181,6 +181,21 @@ static void close_all(void) {
     ANSWERS(CLSM_OK, clsm_close(left_store));
 }
 
+/* In a child, which may open stores. Sanitizers let it start no thread. */
+static void use_own_store(void) {
+    const clsm_options options = {.epoch = 16, .merge = CLSM_MERGE_IN_CALLS};
+    clsm_store *store;
+    clsm_caller *caller;
+    uint64_t keys;
+    OK(clsm_open(&options, &store));
+    OK(clsm_caller_open(store, &caller));
+    put_keys(store, 1, 100);
+    OK(clsm_count(caller, 0, UINT64_MAX, &keys));
+    CHECK(keys == 100);
+    clsm_caller_close(caller);
+    OK(clsm_close(store));
+}
+
 /* A child that closes what its parent opened leaves it as it is, and ends. */
 static void close_in_child(void) {
     enum { CLOSED = 7 };
@@ -195,6 +210,7 @@ static void close_in_child(void) {
     CHECK(child >= 0);
     if (child == 0) {
         close_all();
+        use_own_store();
         _exit(CLOSED);
     }
     CHECK(waitpid(child, &status, 0) == child);
