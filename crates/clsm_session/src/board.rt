@@ -2,6 +2,7 @@
 ghost use Rattle.std.specs.Prelude.{◌≡◌, ◌≤◌, ◌-◌, ◌^◌, ℕ, IfErr, min};
 ghost use Rattle.clsm_session.specs.Waiting.{EndsAt, IsReason};
 
+use crate::gate::Gate;
 use crate::refusal::Refused;
 use clsm_law::LAST_LIMIT;
 use std::sync::atomic::AtomicU64;
@@ -18,6 +19,8 @@ pub(crate) struct Board {
     served: Condvar,
     /// The time whose write wakes the merger.
     wake_at: AtomicU64,
+    /// Where batches and freezes are let in.
+    pub(crate) gate: Gate,
     /// The timestamps of an epoch.
     pub(crate) cells: u64,
     pub(crate) ghost some_cells: { 1 ≤ cells },
@@ -65,6 +68,7 @@ impl Board {
             called: Condvar::new(),
             served: Condvar::new(),
             wake_at: AtomicU64::new(cells / 2),
+            gate: Gate::new(),
             cells,
         }
     }

@@ -4,6 +4,7 @@
 
 mod board;
 mod caller;
+mod gate;
 mod job;
 mod merging;
 mod refusal;

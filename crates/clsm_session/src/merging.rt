@@ -29,7 +29,9 @@ fn serve<'a, R: Wait>(
     board: &Board,
     calls: u64,
 ) -> Merger<'a, Free> {
+    board.gate.come(rt);
     let (merger, frozen) = merger.freeze(rt);
+    board.gate.go(rt);
     if let Ok(epoch) = frozen {
         board.open_epoch_behind(rt, epoch);
     }

@@ -1,7 +1,7 @@
 //! Writes that wait for room: each is tried again once the merger has made room for it.
 ghost use Rattle.std.specs.Prelude.{◌≡◌, option_copied};
 ghost use Rattle.clsm_store_calls.specs.Resting.{deed_of};
-ghost use Rattle.clsm_store.specs.Promises.{Writes};
+ghost use Rattle.clsm_store.specs.Promises.{Writes, WritesBatch};
 ghost use Rattle.clsm_session.specs.Promises.{WaitsToChangeBy, WaitsToWrite, WaitsToWriteBatch};
 
 use crate::board::Board;
@@ -48,6 +48,7 @@ pub(crate) fn write<'a, R: Wait>(
             continue;
         }
         tries += 1;
+        board.gate.let_in(rt);
         match try_write(rt, caller, key, value) {
             Ok(time) => {
                 board.note_write(rt, time);
@@ -78,6 +79,7 @@ pub(crate) fn rmw<'a, R: Wait, F: Fn(Option<Value>) -> Change>(
             continue;
         }
         tries += 1;
+        board.gate.let_in(rt);
         match caller.rmw(rt, key, f) {
             Ok(changed) => {
                 board.note_write(rt, changed.time);
@@ -87,6 +89,21 @@ pub(crate) fn rmw<'a, R: Wait, F: Fn(Option<Value>) -> Change>(
         }
     }
     unreachable!()
+}
+
+/// Tries to write the members, which other writes let in first.
+fn write_alone<'a, R: Wait>(
+    rt: &R,
+    board: &Board,
+    caller: &mut Caller<'a, Free>,
+    members: &[(u64, Change)],
+) -> Result<Time, BatchError>
+    ensures { WritesBatch caller.old.seat caller.new.seat members.now result }
+{
+    board.gate.come(rt);
+    let came = caller.batch(rt, members);
+    board.gate.go(rt);
+    came
 }
 
 /// As `SessionCaller::batch`.
@@ -106,7 +123,7 @@ pub(crate) fn batch<'a, R: Wait>(
             continue;
         }
         tries += 1;
-        match caller.batch(rt, members) {
+        match write_alone(rt, board, caller, members) {
             Ok(time) => {
                 board.note_write(rt, time);
                 return Ok(time);

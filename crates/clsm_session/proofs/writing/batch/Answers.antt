@@ -13,40 +13,40 @@ returns-in-Ok g c =
           subst (λ (store : StoreId). FitsDeed store.layout.cells (Group c.args.members.now)) c.loop.invariant.refused.same.store
           c.in-Ok.ensures.fits;
       cancels =
-          batch_cancels c.args.caller.now.seat.tally c.loop.caller.seat.tally c.batch.new.self.seat.tally c.loop.invariant.cancels c.in-Ok.ensures.counts;
+          batch_cancels c.args.caller.now.seat.tally c.loop.caller.seat.tally c.write_alone.new.caller.seat.tally c.loop.invariant.cancels c.in-Ok.ensures.counts;
       refused = tt;
     }
 
 pub returns-in-Err : goal.returns-in-Err
 returns-in-Err g c =
-    let refused = refused_as c.loop.caller.seat c.batch.new.self.seat c.args.members.now _ _ c.in-Err-Full.field-0-is c.in-Err-Full.ensures.refused in
+    let refused = refused_as c.loop.caller.seat c.write_alone.new.caller.seat c.args.members.now _ _ c.in-Err-Full.field-0-is c.in-Err-Full.ensures.refused in
     let few : c.loop.tries < 2 ^ 64 - 1 = omega arith in
     record {
       written = tt;
       fits = tt;
       cancels =
-          full_cancels c.args.caller.now.seat.tally c.loop.caller.seat.tally c.batch.new.self.seat.tally _ _ c.in-Err-Full.field-0-is
+          full_cancels c.args.caller.now.seat.tally c.loop.caller.seat.tally c.write_alone.new.caller.seat.tally _ _ c.in-Err-Full.field-0-is
           c.loop.invariant.cancels c.in-Err-Full.ensures.counts;
       refused = (
         subst (λ (store : StoreId). FitsDeed store.layout.cells (Group c.args.members.now)) c.loop.invariant.refused.same.store refused.0,
-        no_room_after c.args.caller.now.seat c.loop.caller.seat c.batch.new.self.seat c.in-Err-Full.time (length c.args.members.now) c.loop.tries
+        no_room_after c.args.caller.now.seat c.loop.caller.seat c.write_alone.new.caller.seat c.in-Err-Full.time (length c.args.members.now) c.loop.tries
             _ c.in-Err.refused few c.loop.invariant.holds c.loop.invariant.refused c.requires.cells c.in-Err.ensures refused.1,
       );
     }
 
 pub loop-preserved : goal.loop-preserved
 loop-preserved g c =
-    let refused = refused_as c.loop.caller.seat c.batch.new.self.seat c.args.members.now _ _ c.in-Err-Full.field-0-is c.in-Err-Full.ensures.refused in
+    let refused = refused_as c.loop.caller.seat c.write_alone.new.caller.seat c.args.members.now _ _ c.in-Err-Full.field-0-is c.in-Err-Full.ensures.refused in
     record {
-      refused = refuses_trans c.args.caller.now.seat c.loop.caller.seat c.batch.new.self.seat c.loop.invariant.refused refused.1.refused;
+      refused = refuses_trans c.args.caller.now.seat c.loop.caller.seat c.write_alone.new.caller.seat c.loop.invariant.refused refused.1.refused;
       fits =
           inr (subst (λ (store : StoreId). FitsDeed store.layout.cells (Group c.args.members.now)) c.loop.invariant.refused.same.store
           refused.0);
       cancels =
-          full_cancels c.args.caller.now.seat.tally c.loop.caller.seat.tally c.batch.new.self.seat.tally _ _ c.in-Err-Full.field-0-is
+          full_cancels c.args.caller.now.seat.tally c.loop.caller.seat.tally c.write_alone.new.caller.seat.tally _ _ c.in-Err-Full.field-0-is
           c.loop.invariant.cancels c.in-Err-Full.ensures.counts;
       more = (tt, tt);
       holds =
-          holds_more c.loop.tries c.args.caller.now.seat.tally c.loop.caller.seat.tally c.batch.new.self.seat.tally c.loop.invariant.holds
+          holds_more c.loop.tries c.args.caller.now.seat.tally c.loop.caller.seat.tally c.write_alone.new.caller.seat.tally c.loop.invariant.holds
           refused.1.entered;
     }
