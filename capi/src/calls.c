@@ -60,13 +60,14 @@ static int go_on_writing(struct clsm_seat *seat, const struct write *write, int 
     const uint64_t *time = write->answer;
     clsm_store *store = seat->store;
     struct clsm_patience patience = CLSM_PATIENCE;
+    patience.wants_in = write->entry.is_batch;
     for (;;) {
         int refused = CLSM_OK;
         switch (code) {
         case CLSM_FULL: refused = clsm_make_room(seat, *time, &patience); break;
         case CLSM_BUSY:
         case CLSM_RACED:
-        case CLSM_OVERTAKEN: clsm_lose(store, write->entry.is_batch, &patience); break;
+        case CLSM_OVERTAKEN: clsm_lose(store, patience.wants_in, &patience); break;
         case CLSM_KEPT:
             if (!clsm_is_in_order(seat, *time)) {
                 clsm_be_patient(&patience);

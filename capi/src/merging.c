@@ -108,6 +108,7 @@ static int freeze(clsm_store *store, uint64_t used) {
     note_entries(store, board->frozen);
     pthread_mutex_lock(&board->lock);
     board->frozen++;
+    clsm_let_batches_in(store);
     clsm_tell_news(store);
     pthread_mutex_unlock(&board->lock);
     return CLSM_OK;

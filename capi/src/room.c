@@ -46,7 +46,7 @@ void clsm_be_patient(struct clsm_patience *patience) {
 }
 
 void clsm_lose(clsm_store *store, bool wants_in, struct clsm_patience *patience) {
-    if (wants_in && ++patience->losses == EAGER_LOSSES) {
+    if (wants_in && !patience->is_eager && ++patience->losses == EAGER_LOSSES) {
         patience->is_eager = true;
         atomic_fetch_add(&store->gate, CLSM_EAGER);
     }
@@ -97,6 +97,28 @@ static bool wait_for_news(clsm_store *store, const struct timespec *until) {
 
 void clsm_tell_news(clsm_store *store) {
     if (store->board.waiting > 0) pthread_cond_broadcast(&store->board.room);
+}
+
+void clsm_let_batches_in(clsm_store *store) {
+    struct clsm_board *board = &store->board;
+    atomic_fetch_add(&store->gate, (board->batches - board->let_in) * CLSM_EAGER);
+    board->let_in = board->batches;
+}
+
+/* Whether a batch waits for the next freeze, which lets it in: it found the epoch full that ends
+ * there. Another one, which was faster than the news of a freeze, waits for one more. */
+static bool begin_wait(clsm_store *store, uint64_t end, const struct clsm_patience *patience) {
+    const bool is_next = patience->wants_in && clsm_limit(store) == end;
+    store->board.batches += is_next;
+    return is_next;
+}
+
+/* Ends such a wait: if there is room behind that epoch, the batch was let in. */
+static void end_wait(clsm_store *store, uint64_t end, struct clsm_patience *patience) {
+    store->board.batches--;
+    if (clsm_limit(store) <= end) return;
+    store->board.let_in--;
+    patience->is_eager = true;
 }
 
 /* ---- Snapshots that are in the way of a merge */
@@ -157,8 +179,11 @@ static uint64_t end_of_epoch(const clsm_store *store, uint64_t time) {
 }
 
 /* The write itself merges, unless another one does. Holds the board. */
-static int merge_here(clsm_store *store, uint64_t end) {
+static int merge_here(clsm_store *store, uint64_t end, struct clsm_patience *patience) {
+    if (clsm_limit(store) > end) return CLSM_OK;
+    const bool is_next = begin_wait(store, end, patience);
     while (clsm_limit(store) <= end && clsm_is_merging(store)) wait_for_news(store, NULL);
+    if (is_next) end_wait(store, end, patience);
     if (clsm_limit(store) > end) return CLSM_OK;
     clsm_merger_take(store);
     pthread_mutex_unlock(&store->board.lock);
@@ -169,13 +194,15 @@ static int merge_here(clsm_store *store, uint64_t end) {
 }
 
 /* Sleeps until the merger's thread has made room, or could not. Holds the board. */
-static int wait_for_merge(clsm_store *store, uint64_t end) {
+static int wait_for_merge(clsm_store *store, uint64_t end, struct clsm_patience *patience) {
     struct clsm_board *board = &store->board;
     if (clsm_limit(store) > end) return CLSM_OK;
     if (board->full < end) board->full = end;
     const uint64_t mine = ++board->calls;
     clsm_merger_call(store);
+    const bool is_next = begin_wait(store, end, patience);
     while (clsm_limit(store) <= end && board->refused < mine) wait_for_news(store, NULL);
+    if (is_next) end_wait(store, end, patience);
     return clsm_limit(store) > end ? CLSM_OK : board->refusal_of_calls;
 }
 
@@ -186,7 +213,8 @@ int clsm_make_room(struct clsm_seat *seat, uint64_t time, struct clsm_patience *
     clsm_end_patience(store, patience);
     pthread_mutex_lock(&store->board.lock);
     do {
-        code = store->merges_in_calls ? merge_here(store, end) : wait_for_merge(store, end);
+        code = store->merges_in_calls ? merge_here(store, end, patience)
+                                      : wait_for_merge(store, end, patience);
         if (code != CLSM_VERSIONS_FULL) break;
         code = wait_for_close(seat, patience);
     } while (code == CLSM_OK);

@@ -118,6 +118,8 @@ struct clsm_board {
     pthread_cond_t room;  /* wakes those who wait for room: there is some, or it was refused */
     pthread_cond_t turn;  /* wakes those who wait for the merger */
     unsigned waiting;     /* so many wait for room */
+    unsigned batches;     /* so many of them are batches that wait for the next freeze */
+    unsigned let_in;      /* and so many of those were let in by one */
     uint64_t frozen;      /* so many epochs were frozen: the number of the current one */
     uint64_t full;        /* the greatest end of an epoch that a write found full, or 0 */
     uint64_t calls;       /* how often writes called for room */
@@ -227,6 +229,7 @@ void clsm_merger_give(clsm_store *store, int code);
 struct clsm_patience {
     unsigned pauses; /* of the next pause */
     unsigned losses; /* so many tries were lost to other threads */
+    bool wants_in;   /* it is a batch */
     bool is_eager;   /* others let this one in first */
     bool has_end;    /* it waits for a snapshot to be closed, until then */
     struct timespec end;
@@ -252,6 +255,9 @@ void clsm_be_patient(struct clsm_patience *patience);
 bool clsm_sleep_on(clsm_store *store, pthread_cond_t *condition, const struct timespec *until);
 /* Wakes those who wait for room. For who holds the board. */
 void clsm_tell_news(clsm_store *store);
+/* Lets batches in first that wait for room, of which there is some now: writes that wake with them
+ * would else fill the epoch before them. For who holds the board. */
+void clsm_let_batches_in(clsm_store *store);
 /* Tells that no view is in the way of a merge any more, if one was. */
 void clsm_tell_unheld(clsm_store *store);
 /* Tells that a view was closed, if it was in the way of a merge. */

@@ -244,6 +244,7 @@ void check_quiet(void) {
     const struct clsm_board *board = &the_store->board;
     const uint64_t cells = the_store->cells, clock = clsm_read_clock(the_store);
     expect(board->waiting == 0 && board->taken == board->given, "nobody waits");
+    expect(board->batches == 0 && board->let_in == 0, "no batch waits");
     expect(the_store->gate < CLSM_EAGER && the_store->crowd.batches == 0, "nobody is at the gate");
     expect(the_store->pace.began == 0, "no merge is running");
     expect(the_store->counts.clock >= clock_seen, "the clock does not run back");

@@ -59,6 +59,11 @@ static void relent(uint64_t call) {
     mock_core_refuse((enum mock_call)call, CLSM_OK, 0);
 }
 
+/* From now on the core lets batches lose so often. */
+static void lose_batches(uint64_t times) {
+    mock_core_refuse(MOCK_BATCH, CLSM_BUSY, (unsigned)times);
+}
+
 static void put_and_relent(uint64_t who) {
     linger();
     put_once(who);
@@ -435,6 +440,10 @@ static const struct scenario {
              BY(batch_of_two, 0), BY(put_and_relent, 1)),
     SCENARIO(cancelled_at_gate, BOTH, FEWER, 2, fill_one, TOLD(BATCH, BUSY, 40), NULL,
              BY(batch_of_two, 0), BY(put_and_end, 1), BY(cancel, 1)),
+    SCENARIO(full_batches, BOTH, FEWER, 3, fill_epoch, AS_IT_IS, NULL, BY(batch_of_two, 0),
+             BY(batch_of_all, 1), BY(put_twice, 2)),
+    SCENARIO(full_and_busy, BOTH, FEWER, 1, fill_epoch, AS_IT_IS, NULL, BY(batch_of_two, 0),
+             BY(lose_batches, 6)),
     SCENARIO(long_batch, BOTH, USUAL, 2, fill_one, AS_IT_IS, NULL, BY(batch_of_all, 0),
              BY(put_once, 1)),
     SCENARIO(sweeps, BOTH, FEWER, 1, fill_half, AS_IT_IS, NULL, BY(sweep_once, OR(IDLE)),
