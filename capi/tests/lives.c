@@ -11,6 +11,7 @@
 #include <stdatomic.h>
 #include <string.h>
 #include <sys/wait.h>
+#include <time.h>
 #include <unistd.h>
 
 static const uint64_t WORD = 5;
@@ -240,30 +241,47 @@ static bool is_named(const char *thread, const char *name) {
     char path[300], found[300] = "";
     snprintf(path, sizeof path, "/proc/self/task/%s/comm", thread);
     FILE *file = fopen(path, "r");
-    CHECK(file && fgets(found, sizeof found, file));
+    if (!file) return false; /* it has just ended */
+    const bool is_there = fgets(found, sizeof found, file);
     fclose(file);
-    return strncmp(found, name, strlen(name)) == 0;
+    return is_there && strncmp(found, name, strlen(name)) == 0;
 }
 
-/* It has a name. It leaves all signals to others but those of its own faults and of profilers. */
-static void show_thread(void) {
+/* Its signals: it leaves all to others but those of its own faults and of profilers. */
+static void check_signals(const char *thread) {
     static const int own[] = {SIGSEGV, SIGBUS, SIGFPE, SIGILL, SIGTRAP, SIGABRT, SIGPROF};
     static const int others[] = {SIGINT, SIGTERM, SIGHUP, SIGALRM, SIGUSR1, SIGCHLD, SIGPIPE};
-    clsm_store *store = opened(64);
-    put_keys(store, 1, 200); /* so it has begun */
+    const uint64_t blocked = status_of(thread, "SigBlk:");
+    for (size_t i = 0; i < sizeof own / sizeof *own; i++) CHECK(!(blocked >> (own[i] - 1) & 1));
+    for (size_t i = 0; i < sizeof others / sizeof *others; i++)
+        CHECK(blocked >> (others[i] - 1) & 1);
+}
+
+/* How many there are, and one of them. */
+static unsigned count_mergers(char one[256]) {
     DIR *threads = opendir("/proc/self/task");
-    unsigned found = 0;
+    unsigned count = 0;
     CHECK(threads);
     for (struct dirent *entry; (entry = readdir(threads));) {
         if (entry->d_name[0] == '.' || !is_named(entry->d_name, "clsm-merger")) continue;
-        const uint64_t blocked = status_of(entry->d_name, "SigBlk:");
-        for (size_t i = 0; i < sizeof own / sizeof *own; i++) CHECK(!(blocked >> (own[i] - 1) & 1));
-        for (size_t i = 0; i < sizeof others / sizeof *others; i++)
-            CHECK(blocked >> (others[i] - 1) & 1);
-        found++;
+        snprintf(one, 256, "%s", entry->d_name);
+        count++;
     }
     closedir(threads);
-    CHECK(found == 1);
+    return count;
+}
+
+/* It has a name. One that was joined before is listed for a moment still. */
+static void show_thread(void) {
+    enum { MOST_LOOKS = 10000, PAUSE = 1000000 };
+    char thread[256];
+    clsm_store *store = opened(64);
+    put_keys(store, 1, 200); /* so it has begun */
+    for (int looks = 0; count_mergers(thread) != 1; looks++) {
+        CHECK(looks < MOST_LOOKS);
+        nanosleep(&(struct timespec){.tv_nsec = PAUSE}, NULL);
+    }
+    check_signals(thread);
     OK(clsm_close(store));
 }
 

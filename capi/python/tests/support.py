@@ -7,6 +7,7 @@ import signal
 import subprocess
 import sys
 import threading
+import time
 import warnings
 from pathlib import Path
 from typing import Callable, Dict, Iterable, List
@@ -19,6 +20,8 @@ SOURCES = PROJECT / "src"
 IS_BY_CTYPES = BACKEND == "ctypes"
 LIBRARY = finding.find_library()
 MERGER = "clsm-merger"
+_MOST_LOOKS = 10_000
+_PAUSE = 0.001  # seconds
 SNAPSHOTS = 60  # that can be open while one thread calls: the seats less four of callers
 
 
@@ -76,8 +79,17 @@ def in_child(job: Callable[[], bool]) -> bool:
     return os.waitpid(child, 0)[1] == 0
 
 
-def mergers() -> int:
-    """How many threads of stores this process has, which are as many as stores are open."""
+def await_mergers(count: int) -> None:
+    """Waits until this process has so many threads of stores, as many as stores are open: one that
+    has ended is listed a moment longer than until it was joined."""
+    for _ in range(_MOST_LOOKS):
+        if _mergers() == count:
+            return
+        time.sleep(_PAUSE)
+    raise AssertionError(f"{_mergers()} threads of stores, not {count}")
+
+
+def _mergers() -> int:
     names = []
     for task in Path("/proc/self/task").iterdir():
         try:

@@ -13,7 +13,7 @@ from typing import Any, Callable, List
 
 from cupolanettle import Closed, NoSeat, Snapshot, Store
 
-from .support import SNAPSHOTS, in_child, in_process, in_threads, mergers
+from .support import SNAPSHOTS, await_mergers, in_child, in_process, in_threads
 
 
 def calls_of(store: Store) -> List[Callable[[], object]]:
@@ -252,14 +252,14 @@ class Unreferenced(unittest.TestCase):
             del snapshot
 
     def test_a_store_is_closed_with_a_warning(self) -> None:
-        before = mergers()
+        await_mergers(0)
         store = filled()
         in_threads([lambda: store.get(7)])
         gc.disable()
         try:
             with self.assertWarns(ResourceWarning):
                 del store
-            self.assertEqual(mergers(), before)
+            await_mergers(0)
         finally:
             gc.enable()
 

@@ -18,7 +18,7 @@ from unittest import mock
 
 from cupolanettle import Closed, Store
 
-from .support import SNAPSHOTS, SOURCES, in_process, in_threads, mergers
+from .support import SNAPSHOTS, SOURCES, await_mergers, in_process, in_threads
 
 PACKAGE = str(SOURCES / "cupolanettle")
 JUMPS = ("JUMP_BACKWARD", "JUMP_ABSOLUTE")
@@ -188,11 +188,11 @@ class Interrupts(AtEachStep):
                 self.assertEqual(store[9], 20)
 
     def test_a_store_is_opened(self) -> None:
-        before = mergers()
+        await_mergers(0)
 
         def check() -> None:
             gc.collect()
-            self.assertEqual(mergers(), before)
+            await_mergers(0)
 
         self.at_each_step(self.open_and_close, raise_interrupt, check)
 
@@ -201,7 +201,7 @@ class Interrupts(AtEachStep):
             store[7] = 70
 
     def test_a_store_is_closed(self) -> None:
-        before = mergers()
+        await_mergers(0)
         stores: List[Store] = []
 
         def check() -> None:
@@ -209,7 +209,7 @@ class Interrupts(AtEachStep):
                 store.close()
                 self.assertRaises(Closed, store.get, 7)
             stores.clear()
-            self.assertEqual(mergers(), before)
+            await_mergers(0)
 
         self.at_each_step(lambda: self.close_with_all(stores), raise_interrupt, check)
 
@@ -269,13 +269,13 @@ class CallsOfHandlers(AtEachStep):
             with Store(keys=1, epoch=4) as store:
                 store[7] = 70
 
-        before = mergers()
-        check = lambda: self.assertEqual(mergers(), before)  # noqa: E731
+        await_mergers(0)
+        check = lambda: await_mergers(0)  # noqa: E731
         self.at_each_step(open_and_close, open_and_close, check)
 
     def test_stores_are_closed_twice(self) -> None:
         """By the handler in the midst of a close, and by another thread meanwhile."""
-        before = mergers()
+        await_mergers(0)
         stores: List[Store] = []
         threads: List[threading.Thread] = []
 
@@ -295,7 +295,7 @@ class CallsOfHandlers(AtEachStep):
         def check() -> None:
             while threads:
                 threads.pop().join()
-            self.assertEqual(mergers(), before)
+            await_mergers(0)
             stores.clear()
 
         self.at_each_step(calls, close, check)
