@@ -57,6 +57,7 @@ opening z = record {
   merged = 0;
   exclusive = false;
   holds = 0;
+  busy = 0;
   padded = false;
   clock_extended = false;
   limit_extended = false;
@@ -65,6 +66,7 @@ opening z = record {
   rounds = 0;
   noted = None;
   clock_looks = 0;
+  clock_found = 0;
   merged_floor = 0;
   former_floor = 0;
   readers = replicate z.seats unseen;
@@ -86,6 +88,10 @@ is_frozen _ = false
 abbrev pub is_retired : Phase → Bool
 is_retired Retired = true
 is_retired _ = false
+
+-- nothing is frozen, and it does not hold the lock: so it is while it sees how full an epoch is
+abbrev pub is_polling : MergerView → Bool
+is_polling m = not m.exclusive && is_clean m.phase
 
 -- the end of the epoch of the next merge
 abbrev pub epoch_end : Layout → MergerView → ℕ
@@ -290,15 +296,22 @@ merger_looked z m (Snap i) x = let round = cond (is_frozen m.phase) (round_by m.
 }
 -- while a component is retired: whether the seat is quiet
 merger_looked z m (Pin i) x = record m { readers = cond (is_retired m.phase) (slice_set m.readers i (reader_by (reader_at m.readers i) x)) m.readers }
--- outside a hold of the lock it is counted
-merger_looked z m Clock x = record m { clock_looks = one_more_if (not m.exclusive) m.clock_looks }
+-- while nothing is frozen and outside a hold of the lock it is counted, and what it found is noted
+merger_looked z m Clock x = record m {
+  clock_looks = one_more_if (is_polling m) m.clock_looks;
+  clock_found = cond (is_polling m) x m.clock_found;
+}
 -- of other words nothing is noted
 merger_looked z m _ x = m
 
 -- the merger's view after a step that found x, in a world with these facts
 abbrev pub merger_after : Layout → Facts → MergerView → Step → ℕ → MergerView
--- won: the lock is held, which is counted
-merger_after z f m EnterExclusive x = record m { exclusive = cond (x == 0) true m.exclusive; holds = one_more_if (x == 0) m.holds }
+-- won: the lock is held, which is counted; lost: that is counted
+merger_after z f m EnterExclusive x = let won = x == 0 in record m {
+  exclusive = cond won true m.exclusive;
+  holds = one_more_if won m.holds;
+  busy = one_more_if (not won) m.busy;
+}
 -- the lock is given back; where the limit was moved in the hold an epoch is frozen, no round of
 -- looks has begun, and none found a time noted
 merger_after z f m LeaveExclusive x = record m {

@@ -45,9 +45,10 @@ uncounted v =
 abbrev pub uncounted_reader : Reader → Reader
 uncounted_reader r = record r { looks = 0 }
 
--- the merger's view without its counts, and without what the last whole round found
+-- the merger's view without its counts, and without what its last whole round and its last look at
+-- the clock found
 abbrev pub uncounted_merger : MergerView → MergerView
-uncounted_merger m = record m { holds = 0; rounds = 0; noted = None; clock_looks = 0; readers = map uncounted_reader m.readers }
+uncounted_merger m = record m { holds = 0; busy = 0; rounds = 0; noted = None; clock_looks = 0; clock_found = 0; readers = map uncounted_reader m.readers }
 
 -- the world without them
 abbrev pub uncounted_world : WorldState → WorldState

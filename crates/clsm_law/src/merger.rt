@@ -36,7 +36,8 @@ pub struct Reader {
     pub looks: u64,
 }
 
-/// What the merger knows and has done. `==` and the hash leave the counts out.
+/// What the merger knows and has done. `==` and the hash leave the counts out, and what its last
+/// looks found.
 #[derive(Drop)]
 #[derive_where(PartialEq, Eq, Hash)]
 pub struct MergerView {
@@ -49,6 +50,9 @@ pub struct MergerView {
     /// How often it took the lock, modulo 2^64.
     #[derive_where(skip(EqHashOrd))]
     pub holds: u64,
+    /// How often it tried to take the lock and found it held, modulo 2^64.
+    #[derive_where(skip(EqHashOrd))]
+    pub busy: u64,
     pub padded: bool,
     pub clock_extended: bool,
     pub limit_extended: bool,
@@ -61,9 +65,12 @@ pub struct MergerView {
     /// The least time that the last whole round of this epoch found noted.
     #[derive_where(skip(EqHashOrd))]
     pub noted: Option<Time>,
-    /// How often it looked at CLOCK outside a hold of the lock, modulo 2^64.
+    /// How often it looked at CLOCK while nothing was frozen, outside a hold of the lock, modulo
+    /// 2^64; and what the last such look found, or 0.
     #[derive_where(skip(EqHashOrd))]
     pub clock_looks: u64,
+    #[derive_where(skip(EqHashOrd))]
+    pub clock_found: Time,
     /// The floors that the runs of this component and of the one before were merged with.
     pub merged_floor: Time,
     pub former_floor: Time,

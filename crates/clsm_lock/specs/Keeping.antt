@@ -54,10 +54,15 @@ pub record KeepsMerge (old new : Known) : Type 0 where
   pub past : IsPrefix old.past new.past
   pub words : (word : Word) → IsOwn old.layout old.merger word → row_of new word ≡ row_of old word
 
--- it tried the lock and did not get it
+-- it tried the lock, so many times, and did not get it
 pub record StaysOutMerger (old new : Known) : Type 0 where
   pub keeps : KeepsMerge old new
-  pub merger : new.merger ≡ old.merger
+  pub merger : new.merger ≡ record old.merger { busy = new.merger.busy }
+
+-- it tried the lock once, and was refused, which is counted
+pub record IsRefusedMerger (old new : Known) : Type 0 where
+  pub out : StaysOutMerger old new
+  pub counted : new.merger.busy ≡ next_word old.merger.busy
 
 -- nobody else holds the lock: its word is that of one exclusive hold; and the merger's past ends at
 -- the clock, so that each drawn time is decided
@@ -65,8 +70,8 @@ pub record HoldsAloneAsMerger (k : Known) : Type 0 where
   pub lock : row_of k Lock ≡ exclusive_hold
   pub clock : length k.past ≡ row_of k Clock
 
--- it entered: it holds the lock alone
-pub record EntersAlone (old new : Known) : Type 0 where
+-- it entered: it holds the lock alone; its count of refusals is this
+pub record EntersAlone (old new : Known) (busy : ℕ) : Type 0 where
   pub keeps : KeepsMerge old new
-  pub merger : new.merger ≡ record old.merger { exclusive = true; holds = next_word old.merger.holds }
+  pub merger : new.merger ≡ record old.merger { exclusive = true; holds = next_word old.merger.holds; busy = busy }
   pub alone : HoldsAloneAsMerger new

@@ -6,7 +6,7 @@ ghost use Rattle.clsm_law.specs.Views.{next_word};
 ghost use Rattle.clsm_law.specs.Merging.{is_clean, is_freeze_whole};
 ghost use Rattle.clsm_words.specs.Knowing.{HoldsAlone};
 ghost use Rattle.clsm_words.specs.Plays.{IsSeatOf, PlaysAsMerger};
-ghost use Rattle.clsm_lock.specs.Keeping.{EntersAlone, EntersExclusively, IsRefused, Leaves, StaysOutMerger};
+ghost use Rattle.clsm_lock.specs.Keeping.{EntersAlone, EntersExclusively, IsRefused, IsRefusedMerger, Leaves};
 
 use crate::sharing::Busy;
 use clsm_law::Answer;
@@ -68,14 +68,14 @@ pub fn unlock_exclusive<P: Pace>(words: &Words<P>, seat: &mut RawSeat)
 /// Tries once to hold the lock alone as the merger: one exchange. It never waits. Nothing is frozen
 /// then. With `Ok` no caller holds it while the merger does, so no time is drawn, and what each
 /// time came to is known to the merger. Refused with `Busy` where a caller held it; the merger is
-/// then as it was.
+/// then as it was, but that its count of such refusals has moved by one.
 pub fn try_lock_as_merger<P: Pace>(words: &Words<P>, merger: &mut RawMerger) -> Result<(), Busy>
     requires of { IsSeatOf words.now merger.old }
     requires clean { is_clean merger.old.knows.merger.phase ≡ true }
     requires free { merger.old.knows.merger.exclusive ≡ false }
     ensures of { IsSeatOf words.now merger.new }
-    ensures entered { OnOk result (EntersAlone merger.old.knows merger.new.knows) }
-    ensures out { OnErr result (StaysOutMerger merger.old.knows merger.new.knows) }
+    ensures entered { OnOk result (EntersAlone merger.old.knows merger.new.knows merger.old.knows.merger.busy) }
+    ensures refused { OnErr result (IsRefusedMerger merger.old.knows merger.new.knows) }
 {
     match words.enter_as_merger(merger) {
         Answer::Done => {
@@ -94,7 +94,7 @@ pub fn lock_as_merger<P: Pace, R: Wait>(rt: &R, words: &Words<P>, merger: &mut R
     requires clean { is_clean merger.old.knows.merger.phase ≡ true }
     requires free { merger.old.knows.merger.exclusive ≡ false }
     ensures of { IsSeatOf words.now merger.new }
-    ensures entered { EntersAlone merger.old.knows merger.new.knows }
+    ensures entered { EntersAlone merger.old.knows merger.new.knows merger.new.knows.merger.busy }
 {
     for _ in rt.forever() {
         if try_lock_as_merger(words, merger).is_ok() {

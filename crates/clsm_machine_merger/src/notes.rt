@@ -1,12 +1,13 @@
 ghost use Rattle.std.specs.Prelude.{◌≡◌, ◌<◌, ℕ, List, Option, length};
 ghost use Rattle.clsm_model.specs.declared.slot.Slot.{Slot};
+ghost use Rattle.clsm_law.specs.declared.layout.Layout.{Layout};
 ghost use Rattle.clsm_law.specs.Layout.{memory, size_of};
 ghost use Rattle.clsm_law.specs.Worlds.{facts_of};
 ghost use Rattle.clsm_law.specs.Merging.{Facts, merger_after, merger_looked};
 ghost use Rattle.clsm_law.specs.Deciding.{IsMergerSmall, LooksAtWord};
 
 use crate::facts::is_last;
-use crate::phases::{is_frozen, is_retired};
+use crate::phases::{is_clean, is_frozen, is_retired};
 use crate::readers::{forget, reader_at, reader_by};
 use crate::rounds::{floor_by, noted_by, round_by, round_end, rounds_by};
 use clsm_law::{Layout, MergerView, Phase, Step, Word};
@@ -22,6 +23,17 @@ fn note_snapshot(layout: &Layout, merger: &mut MergerView, seat: u64, found: u64
         merger.rounds = rounds_by(layout, merger, round);
         merger.noted = noted_by(layout, merger, round);
         merger.round = round_end(layout, round);
+    }
+}
+
+/// Counts a look at the clock while nothing is frozen, outside a hold of the lock, and notes what it
+/// found.
+fn note_clock(merger: &mut MergerView, found: u64)
+    ensures { (z : Layout) → merger.new ≡ merger_looked z merger.old Word.Clock found }
+{
+    if !merger.exclusive && is_clean(merger.phase) {
+        merger.clock_looks = merger.clock_looks.wrapping_add(1);
+        merger.clock_found = found;
     }
 }
 
@@ -77,11 +89,10 @@ pub fn note_merger(layout: &Layout, words: &[u64], merger: &mut MergerView, step
             merger.exclusive = true;
             merger.holds = merger.holds.wrapping_add(1);
         }
+        Step::EnterExclusive => merger.busy = merger.busy.wrapping_add(1),
         Step::LeaveExclusive => leave(layout, merger),
         Step::Look(Word::Snap(seat)) => note_snapshot(layout, merger, *seat, found),
-        Step::Look(Word::Clock) if !merger.exclusive => {
-            merger.clock_looks = merger.clock_looks.wrapping_add(1);
-        }
+        Step::Look(Word::Clock) => note_clock(merger, found),
         Step::Look(Word::Pin(seat)) => note_pin(layout, merger, *seat, found),
         Step::Pad(_) => merger.padded = true,
         Step::ClearState(cell) if is_last(layout, words, merger, *cell) => {

@@ -1,7 +1,8 @@
 -- A sweep goes on from a part of it that was done.
-use Rattle.std.proofs.Common.{◌≡◌, ap, refl, subst, ℕ, Ok, Err, Result, true}
+use Rattle.std.proofs.Common.{◌≡◌, ◌∙◌, ap, refl, sym, subst, ℕ, Ok, Err, Result, true}
 use Rattle.std.specs.Prelude.{⊤}
-use Rattle.clsm_store_calls.specs.Seats.{CleanState, FrozenState, RetiredState}
+use Rattle.clsm_law.specs.Views.{next_word}
+use Rattle.clsm_store_calls.specs.Seats.{CleanState, FrozenState, MergerState, RetiredState}
 use Rattle.clsm_store_calls.specs.declared.refusal.Worn.{Worn as WornToo}
 use Rattle.clsm_store.specs.declared.freezing.TryFroze.{TryFroze}
 use Rattle.clsm_store.specs.declared.freezing.TryFroze.TheVariants.{Busy as FreezeBusy, Done as FreezeDone}
@@ -13,15 +14,15 @@ use Rattle.clsm_store.specs.declared.phase.ReclaimError.TheVariants.{Pinned as R
 use Rattle.clsm_store.specs.declared.phase.TryFreezeError.{TryFreezeError}
 use Rattle.clsm_store.specs.declared.phase.TryFreezeError.TheVariants.{Busy as Taken, Worn as TryWorn}
 use Rattle.clsm_store.specs.declared.sweeping.Stopped.{Stopped}
-use Rattle.clsm_store.specs.declared.sweeping.Stopped.TheVariants.{Worn, Pinned}
+use Rattle.clsm_store.specs.declared.sweeping.Stopped.TheVariants.{Worn, RunFull, Pinned}
 use Rattle.clsm_store.specs.declared.sweeping.Swept.{Swept}
 use Rattle.clsm_store.specs.declared.sweeping.Swept.TheVariants.{Done}
 use Rattle.clsm_store.specs.declared.sweeping.TrySwept.{TrySwept}
 use Rattle.clsm_store.specs.declared.sweeping.TrySwept.TheVariants.{Done as TryDone}
 use Rattle.clsm_store.specs.Freezing.{IsUsed, TryFreezes}
-use Rattle.clsm_store.specs.Phase.{Freezes, Merges, Reclaims}
+use Rattle.clsm_store.specs.Phase.{Freezes, Merges, Reclaims, merger_in}
 use Rattle.clsm_store.specs.Promises.{FreezesEpoch, MergesEpoch, RefusesFreeze, TriesToFreezeEpoch}
-use Rattle.clsm_store.specs.Sweeping.{Finishes, Sweeps, SweepsClean, SweepsFrozen, SweepsIf, SweepsRetired, TrySweeps}
+use Rattle.clsm_store.specs.Sweeping.{Finishes, Sweeps, SweepsClean, SweepsAtOnce, SweepsFrozen, SweepsIf, SweepsRetired, TrySweeps}
 
 -- ---- behind the freeze
 
@@ -94,11 +95,10 @@ swept_if used old mid new (Err stopped) (stays, _) swept = subst (λ (p : Phase)
 
 -- ---- the same sweep, which tries the lock once
 
--- the lock was free, and the epoch is frozen as by a freeze that waits
+-- the lock was free, and the epoch is frozen
 pub froze_if : (used : ℕ) (old : Phase) (looked : CleanState) (frozen : FrozenState) → IsUsed used old (Clean looked) true
     → TriesToFreezeEpoch looked (Ok frozen) → TryFreezes used old (Frozen frozen) (Ok FreezeDone)
-froze_if used (Clean old) looked frozen (looks, many) tried =
-    (looked, looks, many, (record { frozen = tried.frozen; floor = tried.floor; noted = tried.noted; worn = tt }, refl))
+froze_if used (Clean old) looked frozen (looks, many) tried = (looked, looks, many, tried)
 froze_if used old looked frozen (stays, _) tried = absurd (cc stays)
 
 -- the answer where none was frozen
@@ -126,13 +126,59 @@ abbrev pub tried_of : Result ⊤ Stopped → Result TrySwept Stopped
 tried_of (Ok _) = Ok TryDone
 tried_of (Err stopped) = Err stopped
 
+-- a freeze at the first try is one as by a freeze that waits
+freezes_of : (old : CleanState) (frozen : FrozenState) → TriesToFreezeEpoch old (Ok frozen) → FreezesEpoch old (Ok frozen)
+freezes_of old frozen tried = record {
+  frozen = tried.frozen
+      ∙ ap (λ (busy : ℕ). record old.merger { holds = next_word old.merger.holds; busy = busy }) (sym (ap (λ (m : MergerState). m.busy) tried.frozen));
+  floor = tried.floor;
+  noted = tried.noted;
+  worn = tt;
+}
+
+-- behind a freeze no lock is tried
+reclaimed_same : (old : RetiredState) (new : Phase) (answer : Result ⊤ Stopped) → SweepsRetired old new answer → (merger_in new).busy ≡ old.merger.busy
+reclaimed_same old (Clean new) (Ok done) reclaims = ap (λ (s : CleanState). s.merger.busy) reclaims.clean
+reclaimed_same old (Frozen new) (Ok done) none = absurd none
+reclaimed_same old (Retired new) (Ok done) none = absurd none
+reclaimed_same old (Retired new) (Err (Pinned pinned)) reclaims = ap (λ (s : RetiredState). s.merger.busy) reclaims.retired
+reclaimed_same old (Clean new) (Err (Pinned pinned)) none = absurd none
+reclaimed_same old (Frozen new) (Err (Pinned pinned)) none = absurd none
+reclaimed_same old new (Err (RunFull full)) none = absurd none
+reclaimed_same old new (Err (Worn worn)) none = absurd none
+
+frozen_same : (old : FrozenState) (new : Phase) (answer : Result ⊤ Stopped) → SweepsFrozen old new answer → (merger_in new).busy ≡ old.merger.busy
+frozen_same old (Frozen new) (Err (RunFull full)) merges = ap (λ (s : FrozenState). s.merger.busy) merges.frozen
+frozen_same old (Clean new) (Err (RunFull full)) none = absurd none
+frozen_same old (Retired new) (Err (RunFull full)) none = absurd none
+frozen_same old new (Ok done) (retired, merges, swept) =
+    reclaimed_same retired new (Ok done) swept ∙ ap (λ (m : MergerState). m.busy) merges.0.retired
+frozen_same old new (Err (Pinned pinned)) (retired, merges, swept) =
+    reclaimed_same retired new (Err (Pinned pinned)) swept ∙ ap (λ (m : MergerState). m.busy) merges.0.retired
+frozen_same old new (Err (Worn worn)) (retired, merges, none) = absurd none
+
+-- so the whole sweep tried it once
+at_once : (old : CleanState) (frozen : FrozenState) (new : Phase) (answer : Result ⊤ Stopped) → TriesToFreezeEpoch old (Ok frozen)
+    → SweepsFrozen frozen new answer → SweepsAtOnce old new answer
+at_once old frozen new answer tried swept = (
+  frozen_on old frozen new answer (freezes_of old frozen tried) swept,
+  frozen_same frozen new answer swept ∙ ap (λ (m : MergerState). m.busy) tried.frozen,
+)
+
+-- no epoch can be frozen any more
+pub worn_by_try : (used : ℕ) (old new : Phase) (worn : WornToo) → TryFreezes used old new (Err worn) → TrySweeps used old new (Err (Worn worn))
+worn_by_try used (Clean old) (Clean new) worn (looked, looks, many, freezes) =
+    (looked, looks, many, (freezes, ap (λ (s : CleanState). s.merger.busy) freezes.worn.0))
+worn_by_try used (Clean old) new worn (looked, looks, many, none) = absurd none
+worn_by_try used old new worn none = absurd none
+
 -- the lock was free
 pub swept_by_try : (used : ℕ) (old mid new : Phase) (answer : Result ⊤ Stopped) → TryFreezes used old mid (Ok FreezeDone) → Finishes mid new answer
     → TrySweeps used old new (tried_of answer)
 swept_by_try used (Clean old) (Frozen mid) new (Ok done) (looked, looks, many, freezes) finishes =
-    (looked, looks, many, frozen_on looked mid new (Ok done) freezes.0 finishes)
+    (looked, looks, many, at_once looked mid new (Ok done) freezes finishes)
 swept_by_try used (Clean old) (Frozen mid) new (Err stopped) (looked, looks, many, freezes) finishes =
-    (looked, looks, many, frozen_on looked mid new (Err stopped) freezes.0 finishes)
+    (looked, looks, many, at_once looked mid new (Err stopped) freezes finishes)
 swept_by_try used (Clean old) mid new answer (looked, looks, many, none) finishes = absurd none
 swept_by_try used old mid new (Ok done) stays finishes = subst (λ (p : Phase). Finishes p new (Ok tt)) stays finishes
 swept_by_try used old mid new (Err stopped) stays finishes = subst (λ (p : Phase). Finishes p new (Err stopped)) stays finishes

@@ -34,7 +34,7 @@ use Rattle.clsm_store_calls.specs.declared.refusal.Worn.{Worn}
 use Rattle.clsm_store_calls.specs.Agreeing.{AgreesWith}
 use Rattle.clsm_store_calls.specs.Batching.{CountsBatch, CountsTryBatch, IsRefusedBatch, IsRefusedTryBatch}
 use Rattle.clsm_store_calls.specs.Changing.{changed_at}
-use Rattle.clsm_store_calls.specs.Looking.{StaysClean}
+use Rattle.clsm_store_calls.specs.Looking.{IsKeptOut}
 use Rattle.clsm_store_calls.specs.Merging.{IsRunFull, TakesFloor}
 use Rattle.clsm_store_calls.specs.Reclaiming.{AreAllQuiet, IsLowestLoud}
 use Rattle.clsm_store_calls.specs.Scanning.{CountsKeys, IsAtClock, ScansNow, VisitsKeys}
@@ -302,8 +302,9 @@ pub record GetsAtIfOpen (old new : SeatState) (key : ℕ) (result : Option Got) 
 
 -- freeze
 pub record FreezesEpoch (old : CleanState) (result : Result FrozenState (CleanState × Worn)) : Type 0 where
-  -- frozen: it held the lock once, and the store and the number of merges are as before
-  pub frozen : IfOk result (λ frozen. frozen.merger ≡ record old.merger { holds = next_word old.merger.holds })
+  -- frozen: it held the lock once, and may have found it held before; the store, the number of
+  -- merges and what it knows of its looks at the clock are as before
+  pub frozen : IfOk result (λ frozen. frozen.merger ≡ record old.merger { holds = next_word old.merger.holds; busy = frozen.merger.busy })
   -- and so are the floor and the rounds
   pub floor : IfOk result (λ frozen. (frozen.floor ≡ old.floor) × (frozen.rounds ≡ old.rounds))
   -- and no time is noted, as no round was made for this epoch yet
@@ -311,21 +312,21 @@ pub record FreezesEpoch (old : CleanState) (result : Result FrozenState (CleanSt
   -- refused: the next limit would pass 2^62, and nothing was done
   pub worn : IfErr result (λ refused. (refused.0 ≡ old) × (2 ^ 62 < (old.merger.merges + 2) * old.merger.store.layout.cells))
 
--- a try to freeze was refused: a caller held the lock, and nothing was done; or the next limit
--- would pass 2^62
+-- a try to freeze was refused: a caller held the lock, which is counted, and nothing was done; or
+-- the next limit would pass 2^62
 abbrev pub RefusesFreeze : CleanState → CleanState → TryFreezeError → Type 0
-RefusesFreeze old new Busy = StaysClean old new
+RefusesFreeze old new Busy = IsKeptOut old new
 RefusesFreeze old new (WornToo _) = (new ≡ old) × (2 ^ 62 < (old.merger.merges + 2) * old.merger.store.layout.cells)
 
 -- try_freeze
 pub record TriesToFreezeEpoch (old : CleanState) (result : Result FrozenState (CleanState × TryFreezeError)) : Type 0 where
-  -- as freeze
+  -- as freeze, and it never found the lock held
   pub frozen : IfOk result (λ frozen. frozen.merger ≡ record old.merger { holds = next_word old.merger.holds })
   -- as freeze
   pub floor : IfOk result (λ frozen. (frozen.floor ≡ old.floor) × (frozen.rounds ≡ old.rounds))
   -- as freeze
   pub noted : IfOk result (λ frozen. frozen.noted ≡ None)
-  -- refused: as freeze, or a caller held the lock, and nothing was done
+  -- refused: as freeze, or its one try found the lock held by a caller, and nothing was done
   pub refused : IfErr result (λ refused. RefusesFreeze old refused.0 refused.1)
 
 -- meet, of a frozen epoch; it takes the seat from `before` to `after`
@@ -363,13 +364,11 @@ pub record MergesEpoch (old : FrozenState) (result : Result RetiredState (Frozen
 
 -- reclaim
 pub record ReclaimsRetired (old : RetiredState) (result : Result CleanState (RetiredState × Pinned)) : Type 0 where
-  -- reclaimed: the store, the number of merges, the floor and the rounds are as before
+  -- reclaimed: the store, the number of merges, the counts, the floor and the rounds are as before
   pub clean : IfOk result (λ clean. clean ≡ record {
     merger = old.merger;
     floor = old.floor;
     rounds = old.rounds;
-    looks = clean.looks;
-    clock = clean.clock;
     readers = clean.readers;
   })
   -- and each seat was found quiet, by one look

@@ -1,8 +1,7 @@
 -- A sweep: a freeze, a merge and a reclaim, as far as these go. What it comes to is said by what
 -- these come to: where one is done the next goes on from it, and where one is refused the sweep
 -- stops there, for the same reason.
-use Rattle.std.specs.Prelude.{◌≡◌, ℕ, ◌+◌, ◌<◌, ◌≤◌, ⊤, min, Result, Ok, Err}
-use Rattle.clsm_store_calls.specs.Looking.{LooksAtClock, drawn_of}
+use Rattle.std.specs.Prelude.{◌≡◌, ℕ, ◌+◌, ⊤, Result, Ok, Err}
 use Rattle.clsm_store_calls.specs.Seats.{CleanState, FrozenState, RetiredState}
 use Rattle.clsm_store.specs.declared.phase.Phase.{Phase}
 use Rattle.clsm_store.specs.declared.phase.Phase.TheVariants.{Clean, Frozen, Retired}
@@ -15,7 +14,8 @@ use Rattle.clsm_store.specs.declared.sweeping.Swept.{Swept}
 use Rattle.clsm_store.specs.declared.sweeping.Swept.TheVariants.{Done, Waited}
 use Rattle.clsm_store.specs.declared.sweeping.TrySwept.{TrySwept}
 use Rattle.clsm_store.specs.declared.sweeping.TrySwept.TheVariants.{Busy, Done as TryDone, Waited as TryWaited}
-use Rattle.clsm_store.specs.Phase.{Freezes, Merges, Reclaims}
+use Rattle.clsm_store.specs.Freezing.{IsBusy, Waits, WhereUsed}
+use Rattle.clsm_store.specs.Phase.{Freezes, Merges, Reclaims, merger_in}
 
 -- from a retired component on: a reclaim
 abbrev pub SweepsRetired : RetiredState → Phase → Result ⊤ Stopped → Type 0
@@ -52,22 +52,9 @@ Finishes old new answer = Sweeps old new answer
 
 -- ---- a sweep that freezes an epoch only once enough of it is used
 
--- so many times of the epoch are enough: as many as are asked for, or all that it has
-abbrev pub enough : ℕ → CleanState → ℕ
-enough used s = min used s.merger.store.layout.cells
-
--- fewer were drawn at the look at the clock, and but for that look the merger is as it was
-abbrev pub Waits : ℕ → CleanState → Phase → Type 0
-Waits used old (Clean new) = LooksAtClock old new × (drawn_of new < enough used new)
-Waits used old _ = ⊥
-
 -- enough were drawn at the look at the clock, and it swept
 abbrev pub SweepsUsed : ℕ → CleanState → Phase → Result ⊤ Stopped → Type 0
-SweepsUsed used old new answer =
-    (looked : CleanState)
-    × LooksAtClock old looked
-    × (enough used looked ≤ drawn_of looked)
-    × SweepsClean looked new answer
+SweepsUsed used old new answer = WhereUsed used old (λ looked. SweepsClean looked new answer)
 
 -- from where nothing is frozen: it waits, or it sweeps
 abbrev pub SweepsCleanIf : ℕ → CleanState → Phase → Result Swept Stopped → Type 0
@@ -84,17 +71,20 @@ SweepsIf used old new (Err stopped) = Sweeps old new (Err stopped)
 
 -- ---- the same sweep, which tries the lock once
 
--- a caller held the lock: but for its one look at the clock the merger is as it was
-abbrev pub IsBusy : CleanState → Phase → Type 0
-IsBusy old (Clean new) = LooksAtClock old new
-IsBusy old _ = ⊥
+-- a sweep whose freeze never found the lock held
+abbrev pub SweepsAtOnce : CleanState → Phase → Result ⊤ Stopped → Type 0
+SweepsAtOnce old new answer = SweepsClean old new answer × ((merger_in new).busy ≡ old.merger.busy)
+
+-- enough were drawn at the look at the clock, and it swept, with one try for the lock
+abbrev pub TrySweepsUsed : ℕ → CleanState → Phase → Result ⊤ Stopped → Type 0
+TrySweepsUsed used old new answer = WhereUsed used old (λ looked. SweepsAtOnce looked new answer)
 
 -- from where nothing is frozen: it waits, or finds the lock held, or sweeps
 abbrev pub TrySweepsClean : ℕ → CleanState → Phase → Result TrySwept Stopped → Type 0
 TrySweepsClean used old new (Ok TryWaited) = Waits used old new
-TrySweepsClean used old new (Ok Busy) = IsBusy old new
-TrySweepsClean used old new (Ok TryDone) = SweepsUsed used old new (Ok tt)
-TrySweepsClean used old new (Err stopped) = SweepsUsed used old new (Err stopped)
+TrySweepsClean used old new (Ok Busy) = IsBusy used old new
+TrySweepsClean used old new (Ok TryDone) = TrySweepsUsed used old new (Ok tt)
+TrySweepsClean used old new (Err stopped) = TrySweepsUsed used old new (Err stopped)
 
 -- what such a sweep comes to: in the other phases it takes no lock
 abbrev pub TrySweeps : ℕ → Phase → Phase → Result TrySwept Stopped → Type 0

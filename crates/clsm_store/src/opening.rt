@@ -103,11 +103,12 @@ fn seat_merger(alloc: Global, layout: &Layout, raw: RawMerger) -> Result<MergerS
         store = record { table = raw.table; layout = raw.knows.layout };
         merges = 0;
         holds = 0;
+        busy = 0;
+        polls = 0;
+        polled = 0;
       };
       floor = 0;
       rounds = 0;
-      looks = 0;
-      clock = (clean_of merger).clock;
       readers = replicate raw.knows.layout.seats unseen;
     }) }
     ensures clean { IfOk result (λ merger. IsClean merger.raw.knows merger.merges) }

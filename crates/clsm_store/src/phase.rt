@@ -44,7 +44,8 @@ pub enum FreezeError {
     Worn(Worn),
 }
 
-/// Why `try_freeze` froze no epoch. The token is then as it was.
+/// Why `try_freeze` froze no epoch. The token is then as it was, but that it counts a try that found
+/// the lock held.
 #[derive(Clone, Copy, PartialEq, Eq, Debug, Error)]
 pub enum TryFreezeError {
     /// A caller held the lock.

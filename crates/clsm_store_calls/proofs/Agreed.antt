@@ -1,5 +1,6 @@
 -- What the merger carries of a frozen epoch is of one history with what it was told.
-use Rattle.std.proofs.Common.{◌≡◌, ℕ, ◌+◌, ◌*◌, ◌<◌, ◌≤◌, List, [], append-nil, length, get_or, refl, ap, sym, subst, ◌∙◌, arith, lt_of_not-le, vec_capacity}
+use Rattle.std.proofs.Common.{◌≡◌, ℕ, ◌+◌, ◌*◌, ◌<◌, ◌≤◌, ◌&&◌, not, Bool, true, false, cond, List, [], append-nil, length, get_or, refl, ap, sym, subst}
+use Rattle.std.proofs.Common.{◌∙◌, arith, lt_of_not-le, vec_capacity}
 use mathlib.Core.List.{IsPrefix}
 use native.Mathlib.Decide.{dec_le}
 use Rattle.std.proofs.lemmas.List.{get_or_append_left}
@@ -9,9 +10,13 @@ use Rattle.clsm_model.specs.declared.slot.Slot.TheVariants.{Nothing}
 use Rattle.clsm_model.specs.History.{plain}
 use Rattle.clsm_law.specs.declared.layout.Layout.{Layout}
 use Rattle.clsm_law.specs.declared.merger.MergerView.{MergerView}
+use Rattle.clsm_law.specs.declared.merger.Phase.{Phase}
+use Rattle.clsm_law.specs.declared.merger.Phase.TheVariants.{Frozen}
 use Rattle.clsm_law.specs.declared.word.Word.TheVariants.{Clock}
 use Rattle.clsm_law.specs.declared.step.Step.TheVariants.{Look}
 use Rattle.clsm_law.specs.Law.{AreRuns}
+use Rattle.clsm_law.specs.Merging.{is_clean, is_frozen, merger_looked}
+use Rattle.clsm_law.specs.Relation.{one_more_if}
 use Rattle.clsm_law.proofs.Runs.Kept.{runs_stay as runs_agree}
 use Rattle.clsm_words.specs.declared.known.Known.{Known}
 use Rattle.clsm_words.specs.Knowing.{row_of}
@@ -22,6 +27,7 @@ use Rattle.clsm_words.proofs.Changing.{look_leaves}
 use Rattle.clsm_words.proofs.MergerFacts.{entries_below as entries_agree}
 use Rattle.clsm_store_calls.specs.declared.merger_seat.MergerSeat.{MergerSeat}
 use Rattle.clsm_store_calls.specs.Agreeing.{AgreesWith}
+use Rattle.clsm_store_calls.specs.Flooring.{with_floor}
 use Rattle.clsm_store_calls.specs.Freezing.{IsFrozen}
 use Rattle.clsm_store_calls.specs.Merging.{IsOfHistory, IsReady, epoch_known, frozen_of, runs_known}
 use Rattle.clsm_store_calls.proofs.Prepared.{epoch_stays, of_history, runs_stay, still_frozen}
@@ -79,15 +85,22 @@ module _ (m : MergerSeat) (sound : IsSoundMerger m.raw.knows) (frozen : IsFrozen
 
 -- ---- what a message and a look leave
 
+-- while an epoch is frozen a look at the clock leaves the view as it was
+frozen_unpolled : (p : Phase) (b : Bool) → is_frozen p ≡ true → (b && is_clean p) ≡ false
+frozen_unpolled Frozen true e = refl
+frozen_unpolled Frozen false e = refl
+frozen_unpolled _ b e = absurd (cc e)
+
+unpolled : (z : Layout) (m : MergerView) (x : ℕ) → is_frozen m.phase ≡ true → merger_looked z m Clock x ≡ m
+unpolled z m x frozen =
+    let none = frozen_unpolled m.phase (not m.exclusive) frozen in
+    λ i. record m { clock_looks = one_more_if (none i) m.clock_looks; clock_found = cond (none i) x m.clock_found }
+
 module _ (m : MergerSeat) (message : MessageState) (table : TableId) (told new : Known) (x : ℕ) (same_table : table ≡ m.raw.table)
     (learns : Learns m.raw.knows message told) (looks : FollowsMerger (Look Clock) told x new)
     (sound' : IsSoundMerger told) (sound : IsSoundMerger new) (frozen : IsFrozen m.raw.knows m.merges) (ready : IsReady m) where
   abbrev old : Known
   old = m.raw.knows
-
-  -- the view, but for what a round and looks at the clock change
-  abbrev floored : MergerView → MergerView → MergerView
-  floored v w = record v { floor = w.floor; round = w.round; rounds = w.rounds; noted = w.noted; clock_looks = w.clock_looks }
 
   -- the merger afterwards
   abbrev pub met : MergerSeat
@@ -96,15 +109,18 @@ module _ (m : MergerSeat) (message : MessageState) (table : TableId) (told new :
   layout : new.layout ≡ old.layout
   layout = looks.layout ∙ ap (λ (k : Known). k.layout) learns
 
-  view : new.merger ≡ record old.merger { clock_looks = new.merger.clock_looks }
-  view = subst (λ (v : MergerView). v ≡ record told.merger { clock_looks = v.clock_looks }) (sym looks.view) refl
-      ∙ ap (λ (k : Known). record k.merger { clock_looks = new.merger.clock_looks }) learns
-
-  pub met_frozen : IsFrozen new m.merges
-  met_frozen = still_frozen old new m.merges (subst (λ (v : MergerView). v ≡ floored old.merger v) (sym view) refl) frozen
+  told_view : told.merger ≡ old.merger
+  told_view = ap (λ (k : Known). k.merger) learns
 
   told_frozen : IsFrozen told m.merges
-  told_frozen = still_frozen old told m.merges (subst (λ (v : MergerView). v ≡ floored old.merger v) (sym (ap (λ (k : Known). k.merger) learns)) refl) frozen
+  told_frozen = still_frozen old told m.merges (subst (λ (v : MergerView). v ≡ with_floor old.merger v) (sym told_view) refl) frozen
+
+  -- a look at the clock is not noted while an epoch is frozen
+  view : new.merger ≡ old.merger
+  view = looks.view ∙ unpolled told.layout told.merger x told_frozen.frozen ∙ told_view
+
+  pub met_frozen : IsFrozen new m.merges
+  met_frozen = still_frozen old new m.merges (subst (λ (v : MergerView). v ≡ with_floor old.merger v) (sym view) refl) frozen
 
   pub met_ready : IsReady met
   met_ready = record {
@@ -124,7 +140,14 @@ module _ (m : MergerSeat) (message : MessageState) (table : TableId) (told new :
 
   pub met_same : frozen_of met ≡ frozen_of m
   met_same = λ i. record {
-    merger = record { store = record { table = same_table i; layout = layout i }; merges = m.merges; holds = (view i).holds };
+    merger = record {
+      store = record { table = same_table i; layout = layout i };
+      merges = m.merges;
+      holds = (view i).holds;
+      busy = (view i).busy;
+      polls = (view i).clock_looks;
+      polled = (view i).clock_found;
+    };
     floor = m.floor;
     rounds = (view i).rounds;
     noted = (view i).noted;

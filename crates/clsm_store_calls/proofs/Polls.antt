@@ -1,5 +1,5 @@
--- Looks at the clock and at the limit between two calls.
-use Rattle.std.proofs.Common.{◌≡◌, ℕ, ◌-◌, ◌&&◌, not, false, cond, refl, sym, ap, subst, ◌∙◌, arith, Some}
+-- Looks at the clock and at the limit between two calls, and a refused try of the merger for the lock.
+use Rattle.std.proofs.Common.{◌≡◌, ℕ, ◌-◌, ◌&&◌, not, true, false, cond, refl, sym, ap, subst, ◌∙◌, arith, Some}
 use Rattle.clsm_law.specs.declared.layout.Layout.{Layout}
 use Rattle.clsm_law.specs.declared.word.Word.TheVariants.{Clock, Limit}
 use Rattle.clsm_law.specs.declared.step.Step.TheVariants.{Look}
@@ -7,13 +7,16 @@ use Rattle.clsm_law.specs.declared.view.View.{View}
 use Rattle.clsm_law.specs.declared.view.Mode.TheVariants.{Free}
 use Rattle.clsm_law.specs.declared.view.SnapshotState.{SnapshotState}
 use Rattle.clsm_law.specs.declared.view.SnapshotState.TheVariants.{Absent, Noted, Timed, Open}
+use Rattle.clsm_law.specs.declared.merger.MergerView.{MergerView}
+use Rattle.clsm_law.specs.Merging.{is_clean}
 use Rattle.clsm_law.specs.Views.{is_free, next_word}
 use Rattle.clsm_law.specs.Relation.{first_of, looked, one_more_if, timed_by}
 use Rattle.clsm_words.specs.declared.known.Known.{Known}
-use Rattle.clsm_words.specs.Knowing.{Follows, row_of}
+use Rattle.clsm_words.specs.Knowing.{Follows}
 use Rattle.clsm_words.specs.Merging.{FollowsMerger}
+use Rattle.clsm_lock.specs.Keeping.{IsRefusedMerger}
 use Rattle.clsm_store_calls.specs.declared.merger_seat.MergerSeat.{MergerSeat}
-use Rattle.clsm_store_calls.specs.Looking.{LooksAtClock, LooksForRoom}
+use Rattle.clsm_store_calls.specs.Looking.{IsKeptOut, LooksForRoom, PollsClock}
 use Rattle.clsm_store_calls.specs.Merging.{clean_of}
 use Rattle.clsm_store_calls.specs.Resting.{IsAtRest, IsSettled}
 use Rattle.clsm_store_calls.specs.Tally.{counted}
@@ -88,21 +91,53 @@ module _ (k k1 k2 : Known) (limit clock : ℕ) (rests : IsAtRest k) (a : Follows
 
 -- ---- the merger's
 
-pub looks_at_clock : (old new : MergerSeat) (x : ℕ) → new.raw.table ≡ old.raw.table → new.merges ≡ old.merges → new.floor ≡ old.floor
-    → old.raw.knows.merger.exclusive ≡ false → FollowsMerger (Look Clock) old.raw.knows x new.raw.knows → LooksAtClock (clean_of old) (clean_of new)
-looks_at_clock old new x table merges floor free follows =
-    let m = old.raw.knows.merger in
-    let view : new.raw.knows.merger ≡ record m { clock_looks = next_word m.clock_looks } =
-    follows.view ∙ (λ i. record m { clock_looks = one_more_if (not (free i)) m.clock_looks }) in
+-- while nothing is frozen and it does not hold the lock, a look at the clock is counted, and what it
+-- found is noted
+module _ (k k' : Known) (x : ℕ) (free : k.merger.exclusive ≡ false) (clean : is_clean k.merger.phase ≡ true)
+    (follows : FollowsMerger (Look Clock) k x k') where
+  polled_view : k'.merger ≡ record k.merger { clock_looks = next_word k.merger.clock_looks; clock_found = x }
+  polled_view = follows.view ∙ (λ i. record k.merger {
+    clock_looks = one_more_if (not (free i) && clean i) k.merger.clock_looks;
+    clock_found = cond (not (free i) && clean i) x k.merger.clock_found;
+  })
+
+  pub polled_found : k'.merger.clock_found ≡ x
+  polled_found = ap (λ (m : MergerView). m.clock_found) polled_view
+
+pub polls_clock : (old new : MergerSeat) (x : ℕ) → new.raw.table ≡ old.raw.table → new.merges ≡ old.merges → new.floor ≡ old.floor
+    → old.raw.knows.merger.exclusive ≡ false → is_clean old.raw.knows.merger.phase ≡ true → FollowsMerger (Look Clock) old.raw.knows x new.raw.knows
+    → PollsClock (clean_of old) (clean_of new)
+polls_clock old new x table merges floor free clean follows =
+    let view = polled_view old.raw.knows new.raw.knows x free clean follows in
     λ i. record {
       merger = record {
         store = record { table = table i; layout = follows.layout i };
         merges = merges i;
         holds = (view i).holds;
+        busy = (view i).busy;
+        polls = (view i).clock_looks;
+        polled = new.raw.knows.merger.clock_found;
       };
       floor = floor i;
       rounds = (view i).rounds;
-      looks = (view i).clock_looks;
-      clock = row_of new.raw.knows Clock;
+      readers = (view i).readers;
+    }
+
+-- a try for the lock that was refused is counted, and leaves all else
+pub kept_out : (old new : MergerSeat) → new.raw.table ≡ old.raw.table → new.merges ≡ old.merges → new.floor ≡ old.floor
+    → IsRefusedMerger old.raw.knows new.raw.knows → IsKeptOut (clean_of old) (clean_of new)
+kept_out old new table merges floor refused =
+    let view = refused.out.merger in
+    λ i. record {
+      merger = record {
+        store = record { table = table i; layout = refused.out.keeps.layout i };
+        merges = merges i;
+        holds = (view i).holds;
+        busy = refused.counted i;
+        polls = (view i).clock_looks;
+        polled = (view i).clock_found;
+      };
+      floor = floor i;
+      rounds = (view i).rounds;
       readers = (view i).readers;
     }

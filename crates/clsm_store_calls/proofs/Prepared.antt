@@ -80,17 +80,40 @@ row_is k = ap (λ (es : List Entry). merged es) (sym (epoch_is k))
 
 -- ---- the whole
 
+-- what was counted of the lock and of looks at the clock stays
+pub record Counts (old new : MergerView) : Type 0 where
+  pub holds : new.holds ≡ old.holds
+  pub busy : new.busy ≡ old.busy
+  pub looks : new.clock_looks ≡ old.clock_looks
+  pub found : new.clock_found ≡ old.clock_found
+
+-- so where another floor is taken at most
+pub counts_of : (old new : Known) → new.merger ≡ with_floor old.merger new.merger → Counts old.merger new.merger
+counts_of old new view = record {
+  holds = ap (λ (m : MergerView). m.holds) view;
+  busy = ap (λ (m : MergerView). m.busy) view;
+  looks = ap (λ (m : MergerView). m.clock_looks) view;
+  found = ap (λ (m : MergerView). m.clock_found) view;
+}
+
 -- what contracts see of the merger stays, but for the floor, the rounds and what the last one found
 pub same_frozen : (old new : MergerSeat) → new.raw.table ≡ old.raw.table → new.raw.knows.layout ≡ old.raw.knows.layout → new.merges ≡ old.merges
-    → new.raw.knows.merger.holds ≡ old.raw.knows.merger.holds → epoch_known new.raw.knows ≡ epoch_known old.raw.knows → runs_known new.raw.knows
+    → Counts old.raw.knows.merger new.raw.knows.merger → epoch_known new.raw.knows ≡ epoch_known old.raw.knows → runs_known new.raw.knows
     ≡ runs_known old.raw.knows → frozen_of new ≡ record (frozen_of old) {
       floor = new.floor;
       rounds = new.raw.knows.merger.rounds;
       noted = new.raw.knows.merger.noted;
     }
-same_frozen old new table layout merges holds epoch runs =
+same_frozen old new table layout merges counts epoch runs =
     λ i. record {
-      merger = record { store = record { table = table i; layout = layout i }; merges = merges i; holds = holds i };
+      merger = record {
+        store = record { table = table i; layout = layout i };
+        merges = merges i;
+        holds = counts.holds i;
+        busy = counts.busy i;
+        polls = counts.looks i;
+        polled = counts.found i;
+      };
       floor = new.floor;
       rounds = new.raw.knows.merger.rounds;
       noted = new.raw.knows.merger.noted;

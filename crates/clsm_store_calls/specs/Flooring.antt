@@ -11,7 +11,7 @@ use Rattle.clsm_words.specs.Knowing.{row_of}
 
 -- the merger's view m, but with the floor of n, its rounds of looks, and what these found
 abbrev pub with_floor : MergerView → MergerView → MergerView
-with_floor m n = record m { floor = n.floor; round = n.round; rounds = n.rounds; noted = n.noted; clock_looks = n.clock_looks }
+with_floor m n = record m { floor = n.floor; round = n.round; rounds = n.rounds; noted = n.noted }
 
 -- its view is as it was, but for its floor and its rounds of looks, its past goes on, and the words
 -- of runs stay

@@ -32,22 +32,20 @@ pub record HoldsClean (k : Known) (merges : ℕ) : Type 0 where
   pub clean : is_clean k.merger.phase ≡ true
   pub alone : HoldsAloneAsMerger k
 
--- it froze the epoch behind so many merges, and has held the lock so often, modulo 2^64
-pub record Freezes (old new : Known) (merges holds : ℕ) : Type 0 where
+-- it froze the epoch behind so many merges, and has held the lock so often, and found it held so
+-- often, both modulo 2^64
+pub record Freezes (old new : Known) (merges holds busy : ℕ) : Type 0 where
   pub frozen : IsFrozen new merges
   pub floor : new.merger.floor ≡ old.merger.floor
   pub rounds : new.merger.rounds ≡ old.merger.rounds
   pub noted : new.merger.noted ≡ None
   pub holds_is : new.merger.holds ≡ holds
+  pub busy_is : new.merger.busy ≡ busy
+  pub looks : new.merger.clock_looks ≡ old.merger.clock_looks
+  pub found : new.merger.clock_found ≡ old.merger.clock_found
 
 -- it goes on holding the lock, and has padded cells at most
 pub record HoldsOn (old new : Known) : Type 0 where
   pub layout : new.layout ≡ old.layout
   pub exclusive : new.merger.exclusive ≡ true
-  pub phase : new.merger.phase ≡ old.merger.phase
-  pub merged : new.merger.merged ≡ old.merger.merged
-  pub clock : new.merger.clock_extended ≡ old.merger.clock_extended
-  pub limit : new.merger.limit_extended ≡ old.merger.limit_extended
-  pub floor : new.merger.floor ≡ old.merger.floor
-  pub rounds : new.merger.rounds ≡ old.merger.rounds
-  pub holds : new.merger.holds ≡ old.merger.holds
+  pub view : new.merger ≡ record old.merger { padded = new.merger.padded }

@@ -3,7 +3,7 @@ use Rattle.std.specs.Prelude.{◌≡◌, ℕ, ◌-◌, ◌*◌, ◌≤◌, Some}
 use Rattle.clsm_law.specs.Views.{next_word}
 use Rattle.clsm_words.specs.declared.known.Known.{Known}
 use Rattle.clsm_store_calls.specs.Resting.{OnlyLooks}
-use Rattle.clsm_store_calls.specs.Seats.{CleanState, SeatState}
+use Rattle.clsm_store_calls.specs.Seats.{CleanState, MergerState, SeatState}
 use Rattle.clsm_store_calls.specs.Tally.{Tally, tally_of}
 
 -- the counts after one look at the limit, which found it here, and one at the clock
@@ -29,14 +29,15 @@ pub record FindsRoom (old new : SeatState) (left : ℕ) : Type 0 where
   pub above : old.due ≤ clock
   pub left_is : left ≡ limit - clock
 
--- how many times of the epoch were drawn at the merger's last step
-abbrev pub drawn_of : CleanState → ℕ
-drawn_of s = s.clock - s.merger.merges * s.merger.store.layout.cells
+-- how many times of the epoch were drawn, as the merger's last look at the clock found it while
+-- nothing was frozen
+abbrev pub drawn_of : MergerState → ℕ
+drawn_of s = s.polled - s.merges * s.store.layout.cells
 
--- the merger is as it was, but that it looked at the clock, once
-abbrev pub LooksAtClock : CleanState → CleanState → Type 0
-LooksAtClock old new = new ≡ record old { looks = next_word old.looks; clock = new.clock }
+-- the merger is as it was, but that it looked at the clock, once, and what it found
+abbrev pub PollsClock : CleanState → CleanState → Type 0
+PollsClock old new = new ≡ record old { merger = record old.merger { polls = next_word old.merger.polls; polled = new.merger.polled } }
 
--- it is as it was, but that the clock may have moved
-abbrev pub StaysClean : CleanState → CleanState → Type 0
-StaysClean old new = new ≡ record old { clock = new.clock }
+-- it tried the lock once and found it held, which is counted; else it is as it was
+abbrev pub IsKeptOut : CleanState → CleanState → Type 0
+IsKeptOut old new = new ≡ record old { merger = record old.merger { busy = next_word old.merger.busy } }

@@ -7,7 +7,6 @@ use Rattle.clsm_levels.specs.declared.entry.Entry.{Entry}
 use Rattle.clsm_levels.specs.Entry.{IsWriteOf, entries_of}
 use Rattle.clsm_levels.specs.Merge.{is_to_level_one, wanted}
 use Rattle.clsm_levels.specs.Run.{IsExact, all_of}
-use Rattle.clsm_law.specs.declared.word.Word.TheVariants.{Clock}
 use Rattle.clsm_law.specs.Merging.{lesser}
 use Rattle.clsm_law.specs.Views.{next_word}
 use Rattle.clsm_law.specs.Worlds.{epoch_of, runs_of}
@@ -28,19 +27,23 @@ runs_known k = runs_of (row_of k) k.merger.merged
 
 -- what contracts see of the merger
 
--- its store, and the number of merges
+-- its store, the number of merges, its counts, and what its last look at the clock found
 abbrev pub merger_of : MergerSeat → MergerState
-merger_of m = record { store = record { table = m.raw.table; layout = m.raw.knows.layout }; merges = m.merges; holds = m.raw.knows.merger.holds }
+merger_of m = record {
+  store = record { table = m.raw.table; layout = m.raw.knows.layout };
+  merges = m.merges;
+  holds = m.raw.knows.merger.holds;
+  busy = m.raw.knows.merger.busy;
+  polls = m.raw.knows.merger.clock_looks;
+  polled = m.raw.knows.merger.clock_found;
+}
 
--- the same while nothing is frozen: with its floor, its rounds, its looks, the clock and what was
--- noted of each seat
+-- the same while nothing is frozen: with its floor, its rounds and what was noted of each seat
 abbrev pub clean_of : MergerSeat → CleanState
 clean_of m = record {
   merger = merger_of m;
   floor = m.floor;
   rounds = m.raw.knows.merger.rounds;
-  looks = m.raw.knows.merger.clock_looks;
-  clock = row_of m.raw.knows Clock;
   readers = m.raw.knows.merger.readers;
 }
 

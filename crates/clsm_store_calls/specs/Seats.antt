@@ -81,22 +81,23 @@ pub record AreNew (store : StoreId) (count : ℕ) (seats : List SeatState) : Typ
   pub counted : length seats ≡ count
   pub each : (i : ℕ) → i < length seats → slice_index_or seats i (newcomer store i) ≡ newcomer store i
 
--- the merger: its store, the number of merges, and how often it held the lock, modulo 2^64
+-- the merger: its store, the number of merges, how often it held the lock, and how often it tried
+-- that and found it held; how often it looked at the clock while nothing was frozen and it did not
+-- hold the lock, and what the last of these looks found, or 0. The counts are modulo 2^64
 pub record MergerState : Type 0 where
   pub store : StoreId
   pub merges : ℕ
   pub holds : ℕ
+  pub busy : ℕ
+  pub polls : ℕ
+  pub polled : ℕ
 
 -- and, while nothing is frozen, the floor of the last try to merge, how many rounds of looks at all
--- snapshot words it made and how often it looked at the clock outside a hold of the lock, both
--- modulo 2^64, the clock as it was at the merger's last step, and what was noted of each seat since
--- the last merge
+-- snapshot words it made, modulo 2^64, and what was noted of each seat since the last merge
 pub record CleanState : Type 0 where
   pub merger : MergerState
   pub floor : ℕ
   pub rounds : ℕ
-  pub looks : ℕ
-  pub clock : ℕ
   pub readers : List Reader
 
 -- and, while an epoch is frozen, the floor and the rounds, the least time that the last round found
@@ -121,11 +122,9 @@ pub record RetiredState : Type 0 where
 -- the store's merger, which did nothing yet
 abbrev pub IsNewMerger : StoreId → CleanState → Type 0
 IsNewMerger store new = new ≡ record {
-  merger = record { store = store; merges = 0; holds = 0 };
+  merger = record { store = store; merges = 0; holds = 0; busy = 0; polls = 0; polled = 0 };
   floor = 0;
   rounds = 0;
-  looks = 0;
-  clock = new.clock;
   readers = replicate store.layout.seats unseen;
 }
 

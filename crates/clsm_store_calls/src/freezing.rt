@@ -2,7 +2,7 @@
 ghost use Rattle.std.specs.Prelude.{◌≡◌, ◌+◌, ◌*◌, ◌^◌, ◌≤◌, OnErr, OnOk, true};
 ghost use Rattle.clsm_law.specs.{Merging.epoch_end, Views.next_word};
 ghost use Rattle.clsm_words.specs.{Merging.facts_known, Plays.IsSeatOf};
-ghost use Rattle.clsm_lock.specs.Keeping.{StaysOutMerger};
+ghost use Rattle.clsm_lock.specs.Keeping.{IsRefusedMerger};
 ghost use Rattle.clsm_store_calls.specs.Freezing.{Freezes, HoldsClean, HoldsOn, IsClean};
 
 use clsm_law::Word;
@@ -32,7 +32,7 @@ fn freeze_held<P: Pace>(words: &Words<P>, merger: &mut RawMerger, merges: u64)
     requires clean { HoldsClean merger.old.knows merges }
     requires room { (merges + 2) * merger.old.knows.layout.cells ≤ 2 ^ 62 }
     ensures of { IsSeatOf words.now merger.new }
-    ensures freezes { Freezes merger.old.knows merger.new.knows merges merger.old.knows.merger.holds }
+    ensures freezes { Freezes merger.old.knows merger.new.knows merges merger.old.knows.merger.holds merger.old.knows.merger.busy }
 {
     let end = (merges + 1) * words.cells();
     pad(words, merger, merges, end);
@@ -47,13 +47,14 @@ pub fn freeze<P: Pace, R: Wait>(rt: &R, words: &Words<P>, merger: &mut RawMerger
     requires clean { IsClean merger.old.knows merges }
     requires room { (merges + 2) * merger.old.knows.layout.cells ≤ 2 ^ 62 }
     ensures of { IsSeatOf words.now merger.new }
-    ensures freezes { Freezes merger.old.knows merger.new.knows merges (next_word merger.old.knows.merger.holds) }
+    ensures freezes { Freezes merger.old.knows merger.new.knows merges (next_word merger.old.knows.merger.holds) merger.new.knows.merger.busy }
 {
     lock_as_merger(rt, words, merger);
     freeze_held(words, merger, merges);
 }
 
-/// Tries once to freeze the epoch. Refused with `Busy` where a caller held the lock.
+/// Tries once to freeze the epoch. Refused with `Busy` where a caller held the lock, which is
+/// counted.
 pub fn try_freeze<P: Pace>(
     words: &Words<P>,
     merger: &mut RawMerger,
@@ -63,8 +64,9 @@ pub fn try_freeze<P: Pace>(
     requires clean { IsClean merger.old.knows merges }
     requires room { (merges + 2) * merger.old.knows.layout.cells ≤ 2 ^ 62 }
     ensures of { IsSeatOf words.now merger.new }
-    ensures freezes { OnOk result (Freezes merger.old.knows merger.new.knows merges (next_word merger.old.knows.merger.holds)) }
-    ensures busy { OnErr result (StaysOutMerger merger.old.knows merger.new.knows) }
+    ensures freezes { OnOk result (Freezes merger.old.knows merger.new.knows merges
+        (next_word merger.old.knows.merger.holds) merger.old.knows.merger.busy) }
+    ensures busy { OnErr result (IsRefusedMerger merger.old.knows merger.new.knows) }
 {
     try_lock_as_merger(words, merger)?;
     freeze_held(words, merger, merges);

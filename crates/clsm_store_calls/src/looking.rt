@@ -3,8 +3,8 @@ ghost use Rattle.std.specs.Prelude.{◌≡◌, length};
 ghost use Rattle.clsm_levels.specs.Cursors.{row_at};
 ghost use Rattle.clsm_words.specs.Plays.{IsSeatOf};
 ghost use Rattle.clsm_store_calls.specs.Freezing.{IsClean, IsFrozen};
-ghost use Rattle.clsm_store_calls.specs.Looking.{LooksAtClock, LooksForRoom, drawn_of};
-ghost use Rattle.clsm_store_calls.specs.Merging.{IsReady, clean_of, frozen_of};
+ghost use Rattle.clsm_store_calls.specs.Looking.{LooksForRoom, PollsClock, drawn_of};
+ghost use Rattle.clsm_store_calls.specs.Merging.{IsReady, clean_of, frozen_of, merger_of};
 ghost use Rattle.clsm_store_calls.specs.Resting.{IsAtRest};
 
 use crate::merger_seat::MergerSeat;
@@ -33,8 +33,8 @@ pub fn drawn_at<P: Pace>(words: &Words<P>, merger: &mut MergerSeat) -> u64
     ensures of { IsSeatOf words.now merger.new.raw }
     ensures clean { IsClean merger.new.raw.knows merger.new.merges }
     ensures ready { IsReady merger.new }
-    ensures looks { LooksAtClock (clean_of merger.old) (clean_of merger.new) }
-    ensures drawn { result ≡ drawn_of (clean_of merger.new) }
+    ensures polls { PollsClock (clean_of merger.old) (clean_of merger.new) }
+    ensures drawn { result ≡ drawn_of (merger_of merger.new) }
 {
     let clock = words.look_as_merger(&mut merger.raw, Word::Clock);
     clock.saturating_sub(merger.merges.saturating_mul(words.cells()))

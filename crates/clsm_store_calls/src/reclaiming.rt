@@ -96,10 +96,8 @@ pub fn reclaim<P: Pace>(
     requires retired { IsRetired merger.old.knows merges }
     requires seen { seen.old.items ≡ merger.old.knows.merger.readers }
     ensures of { IsSeatOf words.now merger.new }
-    ensures floor { merger.new.knows.merger.floor ≡ merger.old.knows.merger.floor }
-    ensures rounds { merger.new.knows.merger.rounds ≡ merger.old.knows.merger.rounds }
-    ensures noted { merger.new.knows.merger.noted ≡ merger.old.knows.merger.noted }
-    ensures holds { merger.new.knows.merger.holds ≡ merger.old.knows.merger.holds }
+    ensures view { merger.new.knows.merger ≡ record merger.old.knows.merger
+        { phase = merger.new.knows.merger.phase; readers = merger.new.knows.merger.readers } }
     ensures counted { length seen.new.items ≡ length seen.old.items }
     ensures clean { OnOk result (IsClean merger.new.knows merges) }
     ensures quiet { OnOk result (AreAllQuiet merger.old.knows.merger.readers merger.new.knows.merger.readers) }

@@ -1,7 +1,7 @@
 //! The merger's tokens, one for each phase, and what it does in each.
 ghost use Rattle.std.specs.Prelude.{◌≡◌, ◌+◌, ◌*◌, ◌^◌, ◌<◌, ◌≤◌, MatchBool};
 ghost use Rattle.clsm_store_calls.specs.Freezing.{IsClean, IsFrozen};
-ghost use Rattle.clsm_store_calls.specs.Looking.{LooksAtClock, drawn_of};
+ghost use Rattle.clsm_store_calls.specs.Looking.{PollsClock, drawn_of};
 ghost use Rattle.clsm_store_calls.specs.Merging.{IsReady, IsRetiring, clean_of, frozen_of, retired_of};
 ghost use Rattle.clsm_store_calls.specs.Seats.{CleanState, FrozenState, RetiredState};
 ghost use Rattle.clsm_store.specs.Promises.{CountsEntries, FreezesEpoch, MeetsSeat, MergesEpoch, ReclaimsRetired, TriesToFreezeEpoch};
@@ -21,9 +21,10 @@ use std::marker::Model;
 use std::sync::Wait;
 
 /// The merger's token, while nothing is frozen. It may be moved to another thread. Contracts see
-/// its store and the number of merges; the floor of the last try to merge, and how many rounds of
-/// looks at the snapshot words were made; the clock as it was at the merger's last step; and what
-/// was noted of each seat since the last merge.
+/// its store and the number of merges; how often it held the lock and how often it found it held;
+/// how often it looked at the clock, and what it found last; the floor of the last try to merge, and
+/// how many rounds of looks at the snapshot words were made; and what was noted of each seat since
+/// the last merge.
 #[derive(Drop)]
 pub struct Clean {
     pub(crate) merger: MergerSeat,
@@ -84,8 +85,8 @@ impl Clean {
     /// may be drawn by the time that it answers. It never waits.
     pub fn drawn<P: Pace>(&mut self, store: &Store<P>) -> u64
         requires { self.old.merger.store ≡ store.now }
-        ensures looks { LooksAtClock self.old self.new }
-        ensures drawn { result ≡ drawn_of self.new }
+        ensures polls { PollsClock self.old self.new }
+        ensures drawn { result ≡ drawn_of self.new.merger }
     {
         drawn_at(&store.words, &mut self.merger)
     }
@@ -127,7 +128,7 @@ impl Clean {
 impl Clean {
     /// Freezes the current epoch as `freeze`, but tries the lock once and never waits. Refused, and
     /// with the token, with `Worn` as `freeze`, and with `Busy` if a caller held the lock: nothing
-    /// was done then.
+    /// was done then but the try, which the token counts.
     pub fn try_freeze<P: Pace>(
         mut self,
         store: &Store<P>,

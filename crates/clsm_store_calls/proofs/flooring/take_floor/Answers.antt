@@ -37,14 +37,13 @@ loop-seat-preserved g c =
       keeps = record {
         layout = follows.layout ∙ is.keeps.layout;
         view = subst (λ (m : MergerView). m ≡ record k.merger
-            { floor = m.floor; round = m.round; rounds = m.rounds; noted = m.noted; clock_looks = m.clock_looks })
+            { floor = m.floor; round = m.round; rounds = m.rounds; noted = m.noted })
             (sym view) refl
             ∙ ap (λ (m : MergerView). record m {
               floor = new.merger.floor;
               round = new.merger.round;
               rounds = new.merger.rounds;
               noted = new.merger.noted;
-              clock_looks = new.merger.clock_looks;
             }) is.keeps.view;
         past = prefix_trans first.past k.past new.past is.keeps.past follows.longer;
         runs = λ word run. look_leaves k new (Snap i) x follows word run ∙ is.keeps.runs word run;

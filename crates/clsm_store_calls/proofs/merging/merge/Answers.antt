@@ -7,7 +7,8 @@ use Rattle.clsm_runs.specs.Outputs.{kept_of}
 use Rattle.clsm_store_calls.specs.declared.merger_seat.MergerSeat.{MergerSeat}
 use Rattle.clsm_store_calls.specs.Merging.{IsRunFull, StaysFrozen, epoch_known, frozen_of, kept_by, runs_known}
 use Rattle.clsm_store_calls.specs.Seats.{FrozenState}
-use Rattle.clsm_store_calls.proofs.Prepared.{same_frozen, still_frozen}
+use Rattle.clsm_store_calls.specs.Flooring.{with_floor}
+use Rattle.clsm_store_calls.proofs.Prepared.{counts_of, same_frozen, still_frozen}
 use Rattle.clsm_store_calls.proofs.Publishing.{epoch_same, kept_is, may_publish, not_full, run_full, runs_same}
 use Rattle.clsm_store_calls.proofs.merging.merge.Goals as goal
 
@@ -44,7 +45,6 @@ returns-in_err-merge-clause-stays g c =
             round = m.round;
             rounds = m.rounds;
             noted = m.noted;
-            clock_looks = m.clock_looks;
           }) (sym changes.view)) stays.frozen;
       ready = record {
         floor = stays.ready.floor ∙ ap (λ (m : MergerView). m.floor) (sym changes.view);
@@ -54,7 +54,7 @@ returns-in_err-merge-clause-stays g c =
         seats = stays.ready.seats ∙ ap (λ (z : Layout). z.seats) (sym changes.layout);
       };
       same = same_frozen ready left (c.in_err-merge.ensures.of.0 ∙ sym c.renew_floor.ensures.of.0) changes.layout refl
-          (ap (λ (m : MergerView). m.holds) changes.view)
+          (counts_of k k' (changes.view ∙ ap (λ (m : MergerView). with_floor k.merger m) (sym changes.view)))
           (epoch_same k k' c.show_invariant.ensures stays.frozen.frozen stays.frozen.out.exclusive changes)
           (runs_same k k' c.show_invariant.ensures stays.frozen.frozen stays.frozen.out.exclusive changes)
           ∙ ap (λ (s : FrozenState). record s { floor = ready.floor; rounds = k'.merger.rounds; noted = k'.merger.noted }) stays.same;

@@ -1,7 +1,7 @@
 use Rattle.std.proofs.Common.{◌≡◌, ℕ, ◌+◌, ◌*◌, ◌≤◌, arith, refl, sym, ap, ◌∙◌, subst, vec_capacity}
 use Rattle.clsm_law.specs.declared.layout.Layout.{Layout}
 use Rattle.clsm_law.specs.declared.merger.MergerView.{MergerView}
-use Rattle.clsm_store_calls.proofs.Prepared.{epoch_stays, runs_stay, same_frozen, still_frozen}
+use Rattle.clsm_store_calls.proofs.Prepared.{counts_of, epoch_stays, runs_stay, same_frozen, still_frozen}
 use Rattle.clsm_store_calls.proofs.merging.renew_floor.Goals as goal
 
 pub returns-clause-stays : goal.returns-clause-stays
@@ -32,7 +32,7 @@ returns-clause-stays g c =
         walk = c.args.merger.now.walk;
         seen = c.args.merger.now.seen;
       })
-          (c.take_floor-floor.ensures.of.0 ∙ sym c.requires.of.0) keeps.layout refl (ap (λ (m : MergerView). m.holds) keeps.view)
+          (c.take_floor-floor.ensures.of.0 ∙ sym c.requires.of.0) keeps.layout refl (counts_of k floored keeps.view)
           (epoch_stays k floored c.show_invariant.ensures c.requires.frozen.frozen c.requires.frozen.out.exclusive keeps.layout
           (ap (λ (m : MergerView). m.merged) keeps.view) keeps.past)
           (runs_stay k floored (ap (λ (m : MergerView). m.merged) keeps.view) keeps.runs);

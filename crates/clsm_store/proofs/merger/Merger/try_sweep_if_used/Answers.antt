@@ -2,7 +2,7 @@ use Rattle.std.proofs.Common.{◌≡◌, Err, Ok, rules, subst}
 use Rattle.clsm_store.specs.Freezing.{TryFreezes}
 use Rattle.clsm_store.specs.Sweeping.{Finishes}
 use Rattle.clsm_store.specs.declared.freezing.TryFroze.TheVariants.{Done}
-use Rattle.clsm_store.proofs.SweepParts.{swept_by_try}
+use Rattle.clsm_store.proofs.SweepParts.{swept_by_try, worn_by_try}
 use Rattle.clsm_store.proofs.merger.Merger.try_sweep_if_used.Goals as goal
 
 pub returns-in-Ok-clause-sweeps : goal.returns-in-Ok-clause-sweeps
@@ -22,3 +22,9 @@ returns-in-Err-answer-clause-sweeps g c =
     swept_by_try c.args.used c.args.self.phase froze.result.0.phase new (Err c.in-Err-answer.stopped)
     (subst (TryFreezes c.args.used c.args.self.phase froze.result.0.phase) is froze.ensures.freezes)
     (subst (Finishes froze.result.0.phase new) c.in-Err-answer.is c.finish-merger.ensures.finishes)
+
+pub returns-in-Err-clause-sweeps : goal.returns-in-Err-clause-sweeps
+returns-in-Err-clause-sweeps g c =
+    let froze = c.try_freeze_if_used-merger in
+    worn_by_try c.args.used c.args.self.phase froze.result.0.phase c.in-Err.worn
+    (subst (TryFreezes c.args.used c.args.self.phase froze.result.0.phase) c.in-Err.is froze.ensures.freezes)
