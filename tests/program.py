@@ -18,8 +18,8 @@ PROGRAMS = [BUILT / "clsm_driver", BUILT / "clsm_driver.by-rattle"]
 MOST_SECONDS = 600
 
 # Lines with another blank than the space, and lines that are no text.
-BAD_COMMANDS = b"put\t7 70|get\t7|get 7\t|\tget 7|\t|get 7\r|\r|get \xd9\xa7|get \xff7|get \xff\n|# \xff".split(b"|")
-BAD_RECORDS = b"0 0 put\t7 70|0 0 put 7 70\r|0 0 put 7 \xff|# \xff".split(b"|")
+BAD_COMMANDS = b"put\t7 70|get\t7|get 7\t|\tget 7|\t|get 7\r|\r|get \xd9\xa7|get \xff7|get \xff\n".split(b"|")
+BAD_RECORDS = b"0 0 put\t7 70|0 0 put 7 70\r|0 0 put 7 \xff".split(b"|")
 
 
 class Played(NamedTuple):
@@ -60,6 +60,8 @@ class Tests(unittest.TestCase):
             ("script", b"\n", b""),
             ("script", b"put 7 70\nget 7", b"@0\n70 @1\n"),
             ("script", b"  \n# comment\n  #\tput\n  get   7  \n#", b"none @0\n"),
+            ("script", b"# \xff\nget 7\n", b"none @0\n"),
+            ("audit", b"# \xff\n", b"audit ok\n"),
             ("audit", b"", b"audit ok\n"),
             ("audit", b"0 0 put 7 70\n0 1 get 7 70", b"audit ok\n"),
         ]:
@@ -76,16 +78,23 @@ class Tests(unittest.TestCase):
             (b"get 7", b" ", b"\n", b"none @0\n"),
             (b"get 7", b" ", b"\nget 8\n", b"none @0\nnone @0\n"),
             (b"get 7", b" ", b"", b"none @0\n"),
-            (b"#", b"x", b"\nget 7", b"none @0\n"),
         ]:
             self.expect(["script"], begin.ljust(4096, fill) + end, Played(output, b"", 0))
             for length in (4097, 9000):
                 self.expect(["script"], begin.ljust(length, fill) + end, Played(b"", b"bad line 1\n", 1))
 
+    def test_comments_and_spaces_of_any_length(self) -> None:
+        for begin, fill in [(b"#", b"x"), (b"#", b"\xff"), (b" ", b" ")]:
+            for length in (4096, 4097, 8192, 100000):
+                line = begin.ljust(length, fill)
+                self.expect(["script"], line + b"\nget 7", Played(b"none @0\n", b"", 0))
+                self.expect(["script"], b"get 7\n" + line, Played(b"none @0\n", b"", 0))
+        self.expect(["script"], b" " * 9000 + b"get 7\n", Played(b"", b"bad line 1\n", 1))
+
     def test_an_input_with_no_end(self) -> None:
         for program in PROGRAMS:
             with self.subTest(program=program.name):
-                self.assertEqual(play_endless(program, ["script"], b"#"), Played(b"", b"bad line 1\n", 1))
+                self.assertEqual(play_endless(program, ["script"], b"x"), Played(b"", b"bad line 1\n", 1))
 
     def test_words_are_text(self) -> None:
         refused = Played(b"", b"error: a word of the command line is not UTF-8\n", 1)

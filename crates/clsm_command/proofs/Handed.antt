@@ -1,6 +1,6 @@
 -- What was done for the words of a command line, from what was done for their options.
-use Rattle.std.proofs.Common.{◌≡◌, ℕ, Bool, Option, Some, None, List, subst}
-use Rattle.std.specs.Prelude.{IfSome, IsSomeAnd}
+use Rattle.std.proofs.Common.{◌≡◌, ℕ, Bool, Option, List, subst}
+use Rattle.std.specs.Prelude.{IfSome}
 use Rattle.clap.specs.Words.{Text}
 use Rattle.clsm_command.specs.Answers.{IsInRange, IsParsed}
 use Rattle.clsm_workload.specs.Run.{EndsWell, FindsFault}
@@ -10,15 +10,14 @@ use Rattle.clsm_text.specs.Audit.{AreLawful, PrintsFault, PrintsVerdict}
 use Rattle.clsm_text.specs.declared.audit.AskedAudit.{AskedAudit}
 use Rattle.clsm_text.specs.declared.verdict.Verdict.TheVariants.{Lawful}
 use Rattle.clsm_command.specs.Doing.{AsksRun, IsAskedFor, IsDone, IsFaulty, Runs, RunsIntoFault, audit_sizes}
-use Rattle.clsm_command.specs.declared.options.AuditOptions.{AuditOptions}
-use Rattle.clsm_command.specs.declared.options.Options.{Options}
-use Rattle.clsm_command.specs.declared.options.Options.TheVariants.{Audit}
-use Rattle.clsm_command.specs.declared.options.RunOptions.{RunOptions}
+use Rattle.clsm_command.specs.declared.asked.AuditOptions.{AuditOptions}
+use Rattle.clsm_command.specs.declared.asked.Options.{Options}
+use Rattle.clsm_command.specs.declared.asked.Options.TheVariants.{Audit}
+use Rattle.clsm_command.specs.declared.asked.RunOptions.{RunOptions}
 
-pub asked_for : {A : Type 0} (output : Option A) (words : List Text) (options : Options) (Holds : Options → A → Type 0) → IsParsed words options
-    → IsInRange options → IsSomeAnd output (Holds options) → IsSomeAnd output (λ a. IsAskedFor words (λ o. Holds o a))
-asked_for None words options Holds parsed range holds = absurd holds
-asked_for (Some a) words options Holds parsed range holds = record { options = options; parsed = parsed; range = range; holds = holds }
+pub asked_for : (words : List Text) (options : Options) (Holds : Options → Type 0) → IsParsed words options → IsInRange options → Holds options
+    → IsAskedFor words Holds
+asked_for words options Holds parsed range holds = record { options = options; parsed = parsed; range = range; holds = holds }
 
 -- the run that was made is the one that is asked for
 pub runs_so : (options : RunOptions) (asked : AskedRun) (before after : Option (List ℕ)) → EndsWell asked before after → AsksRun options asked

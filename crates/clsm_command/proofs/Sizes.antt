@@ -10,12 +10,12 @@ use Rattle.clsm_command.specs.Answers.{IsAnswer, IsExplore, IsParsed, IsRefused,
 use Rattle.clsm_explore.specs.Scripts.{sizes_of}
 use Rattle.clsm_explore.specs.declared.scripts.Exploration.{Exploration}
 use Rattle.clsm_command.specs.Doing.{AsksExploration, HasSoundSizes, IsAskedFor, explored_sizes}
-use Rattle.clsm_command.specs.declared.options.AuditOptions.{AuditOptions}
+use Rattle.clsm_command.specs.declared.asked.AuditOptions.{AuditOptions}
 use Rattle.clsm_command.specs.Program.{clsm}
-use Rattle.clsm_command.specs.declared.options.ExploreOptions.{ExploreOptions}
-use Rattle.clsm_command.specs.declared.options.Options.{Options}
-use Rattle.clsm_command.specs.declared.options.Options.TheVariants.{Audit, Explore, Run, Script}
-use Rattle.clsm_command.specs.declared.options.RunOptions.{RunOptions}
+use Rattle.clsm_command.specs.declared.asked.ExploreOptions.{ExploreOptions}
+use Rattle.clsm_command.specs.declared.asked.Options.{Options}
+use Rattle.clsm_command.specs.declared.asked.Options.TheVariants.{Audit, Explore, Run, Script}
+use Rattle.clsm_command.specs.declared.asked.RunOptions.{RunOptions}
 use Rattle.clsm_command.specs.declared.refusal.Refusal.{Refusal}
 use Rattle.clsm_command.specs.declared.refusal.Refusal.TheVariants.{Memory}
 use Rattle.clsm_command.proofs.Ranges.{apart}

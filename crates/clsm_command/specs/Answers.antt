@@ -16,11 +16,11 @@ use Rattle.clsm_model.specs.declared.config.Config.{Config}
 use Rattle.clsm_model.specs.Config.{IsBetween}
 use Rattle.clsm_workload.specs.declared.load.Shows.{Shows}
 use Rattle.clsm_command.specs.Program.{clsm, u64_max}
-use Rattle.clsm_command.specs.declared.options.AuditOptions.{AuditOptions}
-use Rattle.clsm_command.specs.declared.options.ExploreOptions.{ExploreOptions}
-use Rattle.clsm_command.specs.declared.options.Options.{Options}
-use Rattle.clsm_command.specs.declared.options.Options.TheVariants.{Audit, Explore, Run, Script}
-use Rattle.clsm_command.specs.declared.options.RunOptions.{RunOptions}
+use Rattle.clsm_command.specs.declared.asked.AuditOptions.{AuditOptions}
+use Rattle.clsm_command.specs.declared.asked.ExploreOptions.{ExploreOptions}
+use Rattle.clsm_command.specs.declared.asked.Options.{Options}
+use Rattle.clsm_command.specs.declared.asked.Options.TheVariants.{Audit, Explore, Run, Script}
+use Rattle.clsm_command.specs.declared.asked.RunOptions.{RunOptions}
 use Rattle.clsm_command.specs.declared.refusal.Refusal.{Refusal}
 use Rattle.clsm_command.specs.declared.refusal.Refusal.TheVariants.{Help, Memory, Words}
 

@@ -13,11 +13,11 @@ use Rattle.clsm_script.specs.Script.{IsScript}
 use Rattle.clsm_text.specs.Audit.{AreLawful, PrintsFault, PrintsVerdict}
 use Rattle.clsm_text.specs.declared.verdict.Verdict.TheVariants.{Lawful}
 use Rattle.clsm_command.specs.Answers.{IsInRange, IsParsed, IsRefused}
-use Rattle.clsm_command.specs.declared.options.AuditOptions.{AuditOptions}
-use Rattle.clsm_command.specs.declared.options.ExploreOptions.{ExploreOptions}
-use Rattle.clsm_command.specs.declared.options.Options.{Options}
-use Rattle.clsm_command.specs.declared.options.Options.TheVariants.{Audit, Explore, Run, Script}
-use Rattle.clsm_command.specs.declared.options.RunOptions.{RunOptions}
+use Rattle.clsm_command.specs.declared.asked.AuditOptions.{AuditOptions}
+use Rattle.clsm_command.specs.declared.asked.ExploreOptions.{ExploreOptions}
+use Rattle.clsm_command.specs.declared.asked.Options.{Options}
+use Rattle.clsm_command.specs.declared.asked.Options.TheVariants.{Audit, Explore, Run, Script}
+use Rattle.clsm_command.specs.declared.asked.RunOptions.{RunOptions}
 use Rattle.clsm_command.specs.declared.refusal.Refusal.TheVariants.{Help}
 
 -- the options ask for this run

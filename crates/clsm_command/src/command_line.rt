@@ -2,8 +2,8 @@ ghost use Rattle.std.specs.Prelude.{◌≡◌, ◌⊎◌, IfErr, IfOk, map};
 ghost use Rattle.clsm_command.specs.Answers.{IsInRange, IsParsed, IsRefused};
 ghost use Rattle.clsm_command.specs.declared.refusal.Refusal.TheVariants.{Memory, NotText};
 
+use crate::asked::Options;
 use crate::matches::chosen;
-use crate::options::Options;
 use crate::program::program;
 use crate::refusal::Refusal;
 use std::alloc::Global;
@@ -30,7 +30,7 @@ pub fn words<R: Env + Alloc<A = Global>>(rt: &R) -> Result<Vec<String>, Refusal>
 ///
 /// Refused with `Words` where clap finds a fault in the words, with `Help` where they ask for help
 /// or the version, each with clap's error and its text, and with `Memory`.
-pub fn parse<S: AsStr>(alloc: Global, words: &[S]) -> Result<Options, Refusal>
+pub fn options<S: AsStr>(alloc: Global, words: &[S]) -> Result<Options, Refusal>
     ensures parsed { IfOk result (IsParsed (map S.text words.entry.now)) }
     ensures range { IfOk result IsInRange }
     ensures refused { IfErr result (IsRefused (map S.text words.entry.now)) }

@@ -1,14 +1,14 @@
 //! What the command line asks for is done.
-ghost use Rattle.std.specs.Prelude.{◌≡◌, ◌⊎◌, ◌≤◌, IsSomeAnd, map};
+ghost use Rattle.std.specs.Prelude.{◌≡◌, ◌⊎◌, ◌≤◌, map};
 ghost use Rattle.clsm_command.specs.Answers.{IsInRange};
 ghost use Rattle.clsm_command.specs.Doing.{AsksExploration, AsksRun, HasSoundSizes, IsAskedFor, IsDone, IsFaulty, IsHelp, audit_sizes};
-ghost use Rattle.clsm_command.specs.declared.options.Options.TheVariants.{Run, Script};
+ghost use Rattle.clsm_command.specs.declared.asked.Options.TheVariants.{Run, Script};
 ghost use Rattle.clsm_command.specs.declared.refusal.Refusal.TheVariants.{Help, Memory};
 ghost use Rattle.clsm_text.specs.Failure.{status_of};
 ghost use Rattle.clap.specs.declared.error.Error.{Error};
 
-use crate::command_line::parse;
-use crate::options::{AuditOptions, ExploreOptions, Options, RunOptions};
+use crate::asked::{AuditOptions, ExploreOptions, Options, RunOptions};
+use crate::command_line::options;
 use crate::refusal::Refusal;
 use clsm_explore::{Exploration, Shows, explore_scripts};
 use clsm_model::Config;
@@ -17,7 +17,7 @@ use clsm_text::{AskedAudit, Failure, Streams, audit_lines};
 use clsm_workload::{AskedRun, Load, run_printed};
 use std::alloc::Global;
 use std::convert::AsStr;
-use std::io::{self, BufWriter, Read, Write};
+use std::io::{self, Read, Write};
 use std::rt::Clock;
 use std::sync::Wait;
 use std::thread::Threads;
@@ -25,12 +25,11 @@ use std::thread::Threads;
 /// The entries that a run of level 1 has room for in an exploration.
 const EXPLORED_RUN: usize = 4;
 
-/// How the program ended: its exit status, and its output, unless memory ran out before it was
-/// used.
+/// How the program ended: its exit status, and its output.
 #[derive(Drop)]
 pub struct Ended<W> {
     pub status: u8,
-    pub output: Option<W>,
+    pub output: W,
 }
 
 /// Does what the words of a command line ask for, the first of which is the program's name. Answers
@@ -53,15 +52,14 @@ where
     W: Write + Drop,
     E: Write + Send + Drop,
     ensures status { result.status ≤ 3 }
-    ensures done { result.status ≡ 0 → IsHelp (map S.text words.entry.now) ⊎ IsSomeAnd result.output (λ output.
-        IsAskedFor (map S.text words.entry.now) (λ options.
-        IsDone options (R.remaining streams.input) (W.contents streams.output) (W.contents output))) }
-    ensures fault { result.status ≡ 2 → IsSomeAnd result.output (λ output.
-        IsAskedFor (map S.text words.entry.now) (λ options.
-        IsFaulty options (R.remaining streams.input) (W.contents streams.output) (W.contents output))) }
+    ensures done { result.status ≡ 0 → IsHelp (map S.text words.entry.now)
+        ⊎ IsAskedFor (map S.text words.entry.now) (λ options.
+        IsDone options (R.remaining streams.input) (W.contents streams.output) (W.contents result.output)) }
+    ensures fault { result.status ≡ 2 → IsAskedFor (map S.text words.entry.now) (λ options.
+        IsFaulty options (R.remaining streams.input) (W.contents streams.output) (W.contents result.output)) }
     ensures refused { IsAskedFor (map S.text words.entry.now) (λ options. ¬ HasSoundSizes options) → result.status ≡ 3 }
 {
-    match parse(alloc, words) {
+    match options(alloc, words) {
         Ok(options) => obey(rt, alloc, options, streams),
         Err(refusal) => {
             let Streams {
@@ -70,7 +68,6 @@ where
                 ..
             } = streams;
             let status = refuse(refusal, &mut output, faults);
-            let output = Some(output);
             Ended { status, output }
         }
     }
@@ -86,10 +83,10 @@ where
     E: Write + Send + Drop,
     requires range { IsInRange options }
     ensures status { result.status ≤ 3 }
-    ensures done { result.status ≡ 0 → IsSomeAnd result.output (λ output.
-        IsDone options (R.remaining streams.input) (W.contents streams.output) (W.contents output)) }
-    ensures fault { result.status ≡ 2 → IsSomeAnd result.output (λ output.
-        IsFaulty options (R.remaining streams.input) (W.contents streams.output) (W.contents output)) }
+    ensures done { result.status ≡ 0 →
+        IsDone options (R.remaining streams.input) (W.contents streams.output) (W.contents result.output) }
+    ensures fault { result.status ≡ 2 →
+        IsFaulty options (R.remaining streams.input) (W.contents streams.output) (W.contents result.output) }
     ensures refused { ¬ HasSoundSizes options → result.status ≡ 3 }
 {
     let Streams {
@@ -110,33 +107,24 @@ where
             explore_scripts(alloc, &asked_exploration(&options), &mut output, faults)
         }
     };
-    let output = Some(output);
     Ended { status, output }
 }
 
 /// Plays the script.
 #[tactic(auto, using(crate::proofs::Statuses::no_fault, crate::proofs::Statuses::script_most))]
-fn play<T, R, W, E>(setting: &Setting<'_, T>, input: R, output: W, mut faults: E) -> Ended<W>
+fn play<T, R, W, E>(setting: &Setting<'_, T>, input: R, mut output: W, faults: E) -> Ended<W>
 where
     T: Wait,
     R: Read + Drop,
     W: Write + Drop,
     E: Write + Drop,
     ensures status { result.status ≤ 3 }
-    ensures done { result.status ≡ 0 → IsSomeAnd result.output (λ after.
-        IsDone (Script setting.now.config) (R.remaining input) (W.contents output) (W.contents after)) }
+    ensures done { result.status ≡ 0 →
+        IsDone (Script setting.now.config) (R.remaining input) (W.contents output) (W.contents result.output) }
     ensures faultless { ¬ (result.status ≡ 2) }
     ensures refused { ¬ HasSoundSizes (Script setting.now.config) → result.status ≡ 3 }
 {
-    let Ok(mut answers) = BufWriter::new(setting.alloc, output) else {
-        let status = fail(Failure::Memory, &mut faults);
-        let output = None;
-        return Ended { status, output };
-    };
-    let status = script(setting, input, &mut answers, faults);
-    // A writer that is dropped would write once more.
-    let (output, _) = answers.into_parts();
-    let output = Some(output);
+    let status = script(setting, input, &mut output, faults);
     Ended { status, output }
 }
 

@@ -2,15 +2,15 @@
 //! refused, and what is done for it.
 #![tactic(auto)]
 
+mod asked;
 mod command_line;
 mod dispatch;
 mod help;
 mod matches;
-mod options;
 mod program;
 mod refusal;
 
-pub use command_line::{parse, words};
+pub use asked::{AuditOptions, ExploreOptions, Options, RunOptions};
+pub use command_line::{options, words};
 pub use dispatch::{Ended, command, refuse};
-pub use options::{AuditOptions, ExploreOptions, Options, RunOptions};
 pub use refusal::Refusal;

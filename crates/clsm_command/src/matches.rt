@@ -3,7 +3,7 @@ ghost use Rattle.std.specs.Prelude.{◌≡◌, IfOk, codes, map};
 ghost use Rattle.clsm_command.specs.Answers as spec;
 ghost use Rattle.clsm_command.specs.Answers.{IsAnswer, IsCommand, rows_in};
 
-use crate::options::{AuditOptions, ExploreOptions, Options, RunOptions};
+use crate::asked::{AuditOptions, ExploreOptions, Options, RunOptions};
 use clap::ArgMatches;
 use clsm_model::Config;
 use clsm_workload::Shows;

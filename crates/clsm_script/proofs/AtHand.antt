@@ -7,8 +7,9 @@ use Rattle.std.specs.Io.{StartsWith}
 use Rattle.std.specs.Io.BufRead.{DropsConsumable}
 use Rattle.clsm_text.proofs.AtHand.{some_at_hand, taken_at_hand}
 use Rattle.clsm_text.proofs.Inputs.{LeadsTo, Tells}
-use Rattle.clsm_text.specs.Input.{BeginsWithLine, TakesLine}
-use Rattle.clsm_text.specs.Line.{IsText, words_of}
+use Rattle.clsm_text.specs.Input.{BeginsWithLine}
+use Rattle.clsm_text.specs.Line.{IsComment, IsText, words_of}
+use Rattle.clsm_text.specs.Taken.{TakesLine}
 use Rattle.clsm_script.specs.Command.{IsCommand, Says}
 use Rattle.clsm_script.specs.Line.{Reads, TakesCommand}
 use Rattle.clsm_script.specs.Lines.{Outputs, Stage, outputs_of}
@@ -28,7 +29,7 @@ leads_taken (Some bytes) None new command count after leads taken same = absurd 
 leads_taken (Some bytes) (Some now) new command count after leads taken same =
     subst (LeadsTo IsCommand (Some bytes) new) (sym same)
     (leads_past (Some bytes) (Some now) new taken.line taken.line (Some command) true count leads
-    ((λ _. taken.some), λ _. refl) refl taken.takes refl (taken.text, taken.says))
+    ((λ _. taken.some), λ _. refl) refl taken.takes refl (taken.is_said, taken.text, taken.says))
 
 -- and its call is played, and its answer printed
 pub prints_taken : (old now new : Option (List ℕ)) (call : Call) (count after : ℕ) (start : Stage)
@@ -47,21 +48,22 @@ prints_taken (Some bytes) None new call count after start a b p held given given
 prints_taken (Some bytes) (Some now) new call count after start a b p held given given_now leads taken to prints same =
     prints_on (Some bytes) (Some now) new taken.line taken.line (Some (commands.Call call)) true count
     start a b p p held given given_now leads ((λ _. taken.some), λ _. refl) refl taken.takes refl
-    (taken.text, taken.says) to
+    (taken.is_said, taken.text, taken.says) to
     (prints_call (Some (commands.Call call)) call a b p given given_now prints refl) after same
 
 -- a line that is at hand is taken, and says a command
 pub takes_command : (old new : Option (List ℕ)) (shown buffer line : List ℕ) (command : Command) →
     shown ≡ buffer → IfSome old (λ bytes. StartsWith bytes buffer) → BeginsWithLine shown line →
-    DropsConsumable old new (Some (length buffer)) (length line + 1) → IsText line →
+    DropsConsumable old new (Some (length buffer)) (length line + 1) → ¬ IsComment (words_of line) → IsText line →
     Says command (words_of line) → IfSome old (λ bytes. TakesCommand bytes new command)
-takes_command None new shown buffer line command is starts begins drops text says = tt
-takes_command (Some bytes) new shown buffer line command is starts begins drops text says =
+takes_command None new shown buffer line command is starts begins drops is_said text says = tt
+takes_command (Some bytes) new shown buffer line command is starts begins drops is_said text says =
     let first : BeginsWithLine buffer line = subst (λ b. BeginsWithLine b line) is begins in
     record {
       line = line;
       some = some_at_hand bytes buffer line starts first;
       takes = taken_at_hand (Some bytes) new buffer line starts first drops;
+      is_said = is_said;
       text = text;
       says = says;
     }

@@ -7,18 +7,19 @@ use Rattle.clsm_audit.specs.Faults.{IsFirstFault}
 use Rattle.clsm_audit.specs.declared.fault.AuditError.TheVariants as audits
 use Rattle.clsm_store.specs.declared.phase.Phase.{Phase}
 use Rattle.clsm_store.specs.declared.play.call.Call.{Call}
-use Rattle.std.specs.Io.KnownBytes.{Appends, Keeps, prepend_known}
-use Rattle.std.proofs.KnownBytes.{Appends-nil, Appends-kept, Appends-trans}
-use Rattle.std.specs.Prelude.{◌⊎◌, ◌≢◌, ◌==◌, if◌then◌else◌, IfErr, IsErrAnd, OnOk, Result, ⊤}
+use Rattle.std.specs.Io.KnownBytes.{Appends, prepend_known}
+use Rattle.std.proofs.KnownBytes.{Appends-nil, Appends-trans}
+use Rattle.std.specs.Prelude.{◌≢◌, ◌==◌, if◌then◌else◌, IfErr, IsErrAnd, OnOk, Result, ⊤}
 use Rattle.clsm_model.specs.Config.{IsSound}
 use Rattle.clsm_model.specs.declared.config.Config.{Config}
 use Rattle.clsm_store_audit.specs.Settled.{HaveWholeHistory}
 use Rattle.clsm_store_calls.specs.Seats.{StoreId}
 use Rattle.clsm_text.specs.Failure.{StopsReading, status_of}
-use Rattle.clsm_text.specs.Input.{TakesLine}
+use Rattle.clsm_text.specs.Input.{first_line}
 use Rattle.clsm_text.specs.Line.{lines_of, words_of, IsComment}
+use Rattle.clsm_text.specs.Taken.{TakesLine}
 use Rattle.clsm_text.proofs.Inputs.{IsEmpty, LeadsTo, Tells, inside, leads_over, line_at, reads_next}
-use Rattle.clsm_script.specs.Answer.{IsFault}
+use Rattle.clsm_script.specs.Answer.{IsFault, WantsMemory}
 use Rattle.clsm_script.specs.Command.{IsCommand}
 use Rattle.clsm_script.specs.Line.{Reads}
 use Rattle.clsm_script.specs.Lines.{EndsPlay, IsNewStage, IsPlayedOn, Outputs, PlayLines, PlaysCommand, PlaysLine, Stage}
@@ -34,7 +35,7 @@ use Rattle.clsm_script.specs.declared.answer.Answer.TheVariants as answers
 use Rattle.clsm_script.specs.declared.command.Command.{Command}
 use Rattle.clsm_script.specs.declared.command.Command.TheVariants as commands
 use Rattle.clsm_script.specs.declared.session.Session.{Session}
-use Rattle.clsm_script.proofs.Readings.{reads_good}
+use Rattle.clsm_script.proofs.Readings.{reads_whole}
 
 -- ---- chains of lines
 
@@ -63,8 +64,8 @@ PlaysSaid None old new = new ≡ old
 PlaysSaid (Some command) old new = PlaysCommand command old new
 
 plays_said : (line : List ℕ) (said : Option Command) (old new : Stage) → Reads line (Ok said) → PlaysSaid said old new → PlaysLine line old new
-plays_said line None old new reads same = inl (reads.1, same)
-plays_said line (Some command) old new reads plays = inr (command, reads.1, plays)
+plays_said line None old new comment same = inl (comment, same)
+plays_said line (Some command) old new reads plays = inr (command, reads.2, plays)
 
 -- so many lines are played
 abbrev pub PlayTo : Option (List ℕ) → ℕ → Stage → Stage → Type 0
@@ -81,15 +82,16 @@ pub plays_on : (old now new : Option (List ℕ)) (line text : List ℕ) (said : 
 plays_on None now new line text said found count start a b leads tells some takes is reads played plays after same = tt
 plays_on (Some bytes) None new line text said found count start a b leads tells some takes is reads played plays after same = absurd leads
 plays_on (Some bytes) (Some now) new line text said found count start a b leads tells some takes is reads played plays after same =
-    let read = subst (λ (l : List ℕ). Reads l (Ok said)) is reads in
-    let next = reads_next IsCommand bytes now new line found count leads tells some takes (reads_good line said read) in
+    let whole = first_line now in
+    let read = reads_whole (first_line now) line said takes.stands (subst (λ (l : List ℕ). Reads l (Ok said)) is reads) in
+    let next = reads_next IsCommand bytes now found count leads tells some in
     let lines = lines_of bytes in
-    let here = inside IsCommand lines count line next.0 next.1 in
-    let front : take after lines ≡ take count lines ++ line ∷ [] =
+    let here = inside IsCommand lines count whole next.0 next.1 in
+    let front : take after lines ≡ take count lines ++ whole ∷ [] =
     ap (λ k. take k lines) (same ∙ add-one count) ∙ take-suc lines count [] here
-    ∙ ap (λ l. take count lines ++ l ∷ []) (line_at IsCommand lines count line next.0 next.1 []) in
+    ∙ ap (λ l. take count lines ++ l ∷ []) (line_at IsCommand lines count whole next.0 next.1 []) in
     subst (λ (ls : List (List ℕ)). PlayLines ls start b) (sym front)
-    (play_more (take count lines) line start a b played (plays_said line said a b read plays))
+    (play_more (take count lines) whole start a b played (plays_said whole said a b read plays))
 
 -- ---- what is printed
 
@@ -102,12 +104,6 @@ pub record PrintTo (input : Option (List ℕ)) (count : ℕ) (start : Stage) (se
 pub print_start : (input : Option (List ℕ)) (a : Session) (p : Phase) (output : Option (List ℕ))
     → PrintTo input 0 (stage_of a p []) a p (outputs_of output output)
 print_start input a p output = record { printed = []; plays = play_start input (stage_of a p []); appended = Appends-nil output }
-
--- what is held back is given out
-pub prints_kept : (input : Option (List ℕ)) (count : ℕ) (start : Stage) (a : Session) (p : Phase) (old now new : Option (List ℕ)) → Keeps now new
-    → PrintTo input count start a p (outputs_of old now) → PrintTo input count start a p (outputs_of old new)
-prints_kept input count start a p old now new kept to =
-    record { printed = to.printed; plays = to.plays; appended = Appends-kept old now new to.printed to.appended kept }
 
 -- what was read of a line is played, and what that prints stands behind what the output held
 pub record PrintsSaid (said : Option Command) (a b : Session) (p q : Phase) (now new : Option (List ℕ)) : Type 0 where
@@ -126,20 +122,21 @@ prints_nothing said a p output none = record {
 
 pub prints_call : (said : Option Command) (call : Call) (a b : Session) (p : Phase) (now new : Option (List ℕ)) → PrintsCall call a b now new
     → said ≡ Some (commands.Call call) → PrintsSaid said a b p p now new
-prints_call said call a b p now new (answer, calls, appended) is = record {
+prints_call said call a b p now new (answer, calls, is_made, appended) is = record {
   more = line_of (call_text answer);
   plays = λ printed. subst (λ (o : Option Command). PlaysSaid o (stage_of a p printed) (stage_of b p (printed ++ line_of (call_text answer)))) (sym is)
-      (record { answer = answers.Call answer; plays = calls; turns = refl; prints = refl; goes_on = λ fault. fault });
+      (record { answer = answers.Call answer; plays = calls; turns = refl; prints = refl; goes_on = λ fault. fault; is_made = is_made });
   appended = appended;
 }
 
 pub prints_command : (said : Option Command) (command : Command) (a b : Session) (p q : Phase) (answer : Answer) (now new : Option (List ℕ))
-    → Plays command a b answer → Turns command p q answer → ¬ IsFault answer → Appends now new (line_of (answer_text answer)) → said ≡ Some command
+    → Plays command a b answer → Turns command p q answer → ¬ IsFault answer → ¬ WantsMemory answer → Appends now new (line_of (answer_text answer))
+    → said ≡ Some command
     → PrintsSaid said a b p q now new
-prints_command said command a b p q answer now new plays turns goes_on appended is = record {
+prints_command said command a b p q answer now new plays turns goes_on is_made appended is = record {
   more = line_of (answer_text answer);
   plays = λ printed. subst (λ (o : Option Command). PlaysSaid o (stage_of a p printed) (stage_of b q (printed ++ line_of (answer_text answer)))) (sym is)
-      (record { answer = answer; plays = plays; turns = turns; prints = refl; goes_on = goes_on });
+      (record { answer = answer; plays = plays; turns = turns; prints = refl; goes_on = goes_on; is_made = is_made });
   appended = appended;
 }
 
@@ -217,63 +214,44 @@ stops_residual (Err y) store input session failure stops fault is =
 
 -- ---- the end of a script
 
--- the answers that were held back are given out
-module _ (config : Config) (start : Stage) (session : Session) (held given new : Option (List ℕ)) (is_new : IsNewStage config start)
-    (kept : Keeps given new) (lawful : HaveWholeHistory session.seats.items) where
-  ends_kept : (bytes : List ℕ) → EndsPlay start session (outputs_of held given) bytes → EndsPlay start session (outputs_of held new) bytes
-  ends_kept bytes ends = record {
-    phase = ends.phase;
-    printed = ends.printed;
-    played = ends.played;
-    appended = Appends-kept held given new ends.printed ends.appended kept;
-  }
+-- the play of an input is a play on a new store
+ends_on : (config : Config) (start : Stage) (session : Session) (outputs : Outputs) (input : Option (List ℕ)) → IsNewStage config start
+    → HaveWholeHistory session.seats.items → IfSome input (EndsPlay start session outputs) → IfSome input (IsPlayedOn config outputs)
+ends_on config start session outputs None is_new lawful ends = tt
+ends_on config start session outputs (Some bytes) is_new lawful ends =
+    record { old = start; session = session; is_new = is_new; ends = ends; lawful = lawful }
 
-  ends_on : (input : Option (List ℕ)) → IfSome input (EndsPlay start session (outputs_of held given)) → IfSome input (IsPlayedOn config (outputs_of held new))
-  ends_on None ends = tt
-  ends_on (Some bytes) ends = record { old = start; session = session; is_new = is_new; ends = ends_kept bytes ends; lawful = lawful }
-
-abbrev IsFailedBy : Result ⊤ Failure → Failure → Type 0
-IsFailedBy ended failure = ended ≡ Err failure
-
--- what the play came to, or a device failed at the end
-module _ (played : Result ⊤ Failure) where
-  pub ended_ok : (A : Type 0) (ended : Result ⊤ Failure) → (ended ≡ played) ⊎ (ended ≡ Err Device) → OnOk played A → OnOk ended A
-  ended_ok A (Err failure) which holds = tt
-  ended_ok A (Ok done) (inl is) holds = subst (λ (r : Result ⊤ Failure). OnOk r A) (sym is) holds
-  ended_ok A (Ok done) (inr is) holds = absurd (cc)
-
-  stops_bytes : (store : StoreId) (session : Session) (bytes : Option (List ℕ)) (failure : Failure) → ¬ IsFailedBy (Err failure) Device
-      → (Err failure ≡ played) ⊎ IsFailedBy (Err failure) Device → IfErr played (StopsPlay store bytes session) → StopsPlay store bytes session failure
-  stops_bytes store session bytes failure other (inl is) stops =
-      subst (λ (r : Result ⊤ Failure). IfErr r (StopsPlay store bytes session)) (sym is) stops
-  stops_bytes store session bytes failure other (inr is) stops = absurd (other is)
-
-  pub ended_fault : (store : StoreId) (session : Session) (bytes : Option (List ℕ)) (ended : Result ⊤ Failure)
-      → (ended ≡ played) ⊎ (ended ≡ Err Device) → IfErr played (StopsPlay store bytes session) → ended ≡ Err Fault → IsFaulted store session
-  ended_fault store session bytes ended which stops is = stops_bytes store session bytes Fault (λ e. absurd (cc))
-      (subst (λ (r : Result ⊤ Failure). (r ≡ played) ⊎ (r ≡ Err Device)) is which) stops
-
-  module _ (store : StoreId) (config : Config) (session : Session) (bytes input : Option (List ℕ)) (same : bytes ≡ input) (sound : IsSound config)
-      (stops : IfErr played (StopsPlay store bytes session)) where
-    pub ended_stops : (ended : Result ⊤ Failure) → (ended ≡ played) ⊎ (ended ≡ Err Device) → ended ≢ Err Fault → IfErr ended (StopsScript config input)
-    ended_stops (Ok done) which faultless = tt
-    ended_stops (Err Device) which faultless = (sound, tt)
-    ended_stops (Err Memory) which faultless = (sound, tt)
-    ended_stops (Err Fault) which faultless = absurd (faultless refl)
-    ended_stops (Err (Refused error)) which faultless = absurd (stops_bytes store session bytes (Refused error) (λ e. absurd (cc)) which stops)
-    ended_stops (Err (BadLine number)) which faultless = (
-      sound,
-      subst (λ (b : Option (List ℕ)). StopsReading IsCommand b (BadLine number)) same
-          (stops_bytes store session bytes (BadLine number) (λ e. absurd (cc)) which stops),
-    )
-
-pub ended_played : (config : Config) (start : Stage) (session : Session) (held given new bytes input : Option (List ℕ)) (ended : Result ⊤ Failure)
-    → IsNewStage config start → bytes ≡ input → (ended ≢ Err Device → Keeps given new) → OnOk ended (HaveWholeHistory session.seats.items)
-    → OnOk ended (IfSome bytes (EndsPlay start session (outputs_of held given))) → OnOk ended (IfSome input (IsPlayedOn config (outputs_of held new)))
-ended_played config start session held given new bytes input (Err failure) is_new same kept lawful ends = tt
-ended_played config start session held given new bytes input (Ok done) is_new same kept lawful ends =
-    ends_on config start session held given new is_new (kept (λ e. absurd (cc))) lawful input
+pub ended_played : (config : Config) (start : Stage) (session : Session) (held given bytes input : Option (List ℕ)) (ended : Result ⊤ Failure)
+    → IsNewStage config start → bytes ≡ input → OnOk ended (HaveWholeHistory session.seats.items)
+    → OnOk ended (IfSome bytes (EndsPlay start session (outputs_of held given))) → OnOk ended (IfSome input (IsPlayedOn config (outputs_of held given)))
+ended_played config start session held given bytes input (Err failure) is_new same lawful ends = tt
+ended_played config start session held given bytes input (Ok done) is_new same lawful ends =
+    ends_on config start session (outputs_of held given) input is_new lawful
     (subst (λ (b : Option (List ℕ)). IfSome b (EndsPlay start session (outputs_of held given))) same ends)
+
+-- an audit's fault stops a play
+pub stopped_fault : (played : Result ⊤ Failure) (store : StoreId) (session : Session) (bytes : Option (List ℕ))
+    → IfErr played (StopsPlay store bytes session) → played ≡ Err Fault → IsFaulted store session
+stopped_fault played store session bytes stops is = subst (λ (r : Result ⊤ Failure). IfErr r (StopsPlay store bytes session)) is stops
+
+module _ (played : Result ⊤ Failure) (store : StoreId) (config : Config) (session : Session) (bytes input : Option (List ℕ)) (same : bytes ≡ input)
+    (sound : IsSound config) (stops : IfErr played (StopsPlay store bytes session)) where
+  stops_script : (failure : Failure) → failure ≢ Fault → StopsPlay store bytes session failure → StopsScript config input failure
+  stops_script Device other why = (sound, tt)
+  stops_script Memory other why = (sound, tt)
+  stops_script Fault other why = absurd (other refl)
+  stops_script (Refused error) other why = absurd why
+  stops_script (BadLine number) other why = (
+    sound,
+    subst (λ (b : Option (List ℕ)). StopsReading IsCommand b (BadLine number)) same why,
+  )
+
+  by_result : (r : Result ⊤ Failure) → r ≢ Err Fault → IfErr r (StopsPlay store bytes session) → IfErr r (StopsScript config input)
+  by_result (Ok done) faultless why = tt
+  by_result (Err failure) faultless why = stops_script failure (λ e. faultless (ap Err e)) why
+
+  pub ended_stops : played ≢ Err Fault → IfErr played (StopsScript config input)
+  ended_stops faultless = by_result played faultless stops
 
 -- the status of what stops a script is not that of a fault
 pub status_known : (config : Config) (input : Option (List ℕ)) (failure : Failure) (status : ℕ) → status ≡ status_of failure

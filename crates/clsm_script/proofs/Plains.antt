@@ -7,7 +7,7 @@ use Rattle.std.proofs.lemmas.Str.Ascii.{IsAscii-from_all}
 use Rattle.std.specs.Str.{IsAscii}
 use Rattle.clsm_text.proofs.Digits.{value_of_number}
 use Rattle.clsm_text.proofs.PlainLines.{HasNoSpace, one_number, two_numbers}
-use Rattle.clsm_text.specs.Line.{IsText, words_of}
+use Rattle.clsm_text.specs.Line.{IsComment, IsText, words_of}
 use Rattle.clsm_text.specs.Member.{WritesNumber}
 use Rattle.clsm_script.specs.Command.{SaysCall}
 use Rattle.clsm_store.specs.declared.play.call.Call.TheVariants.{Put, Get}
@@ -28,23 +28,29 @@ module _ (a b c : ℕ) where
 
 -- the line `get K`
 pub says_get : (key : List ℕ) (number : ℕ) → WritesNumber key number →
-    IsText (codes "get" ++ 32 ∷ key) × SaysCall (Get number) (words_of (codes "get" ++ 32 ∷ key))
+    (¬ IsComment (words_of (codes "get" ++ 32 ∷ key))) × IsText (codes "get" ++ 32 ∷ key)
+    × SaysCall (Get number) (words_of (codes "get" ++ 32 ∷ key))
 says_get key number written =
     let (text, words) =
     one_number (codes "get") (omega arith) (omega arith) (no_space 103 101 116 refl refl refl)
-    (all_ascii 103 101 116 (lit< tt) (lit< tt) (lit< tt)) key written.0 in
-    (text, subst (SaysCall (Get number)) (sym words) (refl, written))
+    (all_ascii 103 101 116 (lit< tt) (lit< tt) (lit< tt)) key written.0 in (
+      (λ comment. let sign : ◌≡◌ {A = ℕ} 103 35 = subst IsComment words comment in absurd (omega arith)),
+      text,
+      subst (SaysCall (Get number)) (sym words) (refl, written),
+    )
 
 -- the line `put K V`, of one word
 pub says_put : (row key text : List ℕ) (number word : ℕ) (value : List ℕ) → row ≡ key ++ 32 ∷ text →
     WritesNumber key number → WritesNumber text word → value ≡ word ∷ [] →
-    IsText (codes "put" ++ 32 ∷ row) × SaysCall (Put number value) (words_of (codes "put" ++ 32 ∷ row))
+    (¬ IsComment (words_of (codes "put" ++ 32 ∷ row))) × IsText (codes "put" ++ 32 ∷ row)
+    × SaysCall (Put number value) (words_of (codes "put" ++ 32 ∷ row))
 says_put row key text number word value parts written other only =
     let (is_text, words) =
     two_numbers (codes "put") (omega arith) (omega arith) (no_space 112 117 116 refl refl refl)
     (all_ascii 112 117 116 (lit< tt) (lit< tt) (lit< tt)) key text written.0 other.0 in
     let (is_value, same) = value_of_number text other.0 in
     rw parts (
+      (λ comment. let sign : ◌≡◌ {A = ℕ} 112 35 = subst IsComment words comment in absurd (omega arith)),
       is_text,
       subst (SaysCall (Put number value)) (sym words)
           (refl, written, (is_value, only ∙ ap (λ w. w ∷ []) other.1 ∙ sym same)),

@@ -7,7 +7,7 @@ use Rattle.clsm_store.specs.declared.phase.Phase.{Phase}
 use Rattle.clsm_store.specs.declared.phase.Phase.TheVariants.{Clean}
 use Rattle.clsm_store_audit.specs.Settled.{HaveWholeHistory}
 use Rattle.clsm_text.specs.Line.{words_of, lines_of, IsComment}
-use Rattle.clsm_script.specs.Answer.{IsFault}
+use Rattle.clsm_script.specs.Answer.{IsFault, WantsMemory}
 use Rattle.clsm_script.specs.Command.{Says}
 use Rattle.clsm_script.specs.Play.{Plays, Turns}
 use Rattle.clsm_script.specs.Printed.{answer_text, line_of}
@@ -24,13 +24,14 @@ pub record Stage : Type 0 where
 abbrev pub stage_of : Session → Phase → List ℕ → Stage
 stage_of session phase printed = record { session = session; phase = phase; printed = printed }
 
--- the command is played, its answer is printed as a line, and is no fault
+-- the command is played, its answer is printed as a line, and is no fault nor want of memory
 pub record PlaysCommand (command : Command) (old new : Stage) : Type 0 where
   pub answer : Answer
   pub plays : Plays command old.session new.session answer
   pub turns : Turns command old.phase new.phase answer
   pub prints : new.printed ≡ old.printed ++ line_of (answer_text answer)
   pub goes_on : ¬ IsFault answer
+  pub is_made : ¬ WantsMemory answer
 
 -- the line says nothing, and nothing is done; or it says a command, which is played
 abbrev pub PlaysLine : List ℕ → Stage → Stage → Type 0

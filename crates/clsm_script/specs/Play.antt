@@ -10,7 +10,7 @@ use Rattle.clsm_store_calls.specs.Seats.{SeatState, known_by}
 use Rattle.clsm_store.specs.Headline.{IsAt}
 use Rattle.clsm_store.specs.Meetings.{Meets}
 use Rattle.clsm_store.specs.Phase.{Freezes, Merges, Reclaims}
-use Rattle.clsm_store.specs.Play.{PlaysCall}
+use Rattle.clsm_store.specs.Play.{CountsCall, PlaysCall, ReadsAtClock, WantsMemory}
 use Rattle.clsm_store.specs.declared.play.answer.Answer.{Answer as CallAnswer}
 use Rattle.clsm_store.specs.declared.play.call.Call.{Call}
 use Rattle.clsm_script.specs.Printed.{call_text, line_of}
@@ -25,25 +25,28 @@ use Rattle.clsm_script.specs.declared.command.Command.TheVariants.{Freeze, Merge
 use Rattle.clsm_script.specs.declared.session.Session.{Session}
 use Rattle.clsm_store.specs.declared.phase.Phase.{Phase}
 
--- the seat in use makes the call; the records gain what its calls gain, and the other seats stay as
--- they are
+-- the seat in use makes the call, which counts what a call of its name counts, and reads at the clock
+-- where such a call does; the records gain what its calls gain, and the other seats stay as they are
 pub record Calls (call : Call) (old new : Session) (answer : CallAnswer) : Type 0 where
   pub before : SeatState
   pub after : SeatState
   pub made : List CallRecord
   pub at : IsAt old.seats.items old.used before
   pub plays : PlaysCall call before after answer
+  pub counts : CountsCall call before after answer
+  pub clock : ReadsAtClock call before after answer
   pub calls : after.calls ≡ before.calls ++ made
   pub seats : new.seats.items ≡ set old.seats.items old.used after
   pub records : new.records ≡ old.records ++ made
   pub used : new.used ≡ old.used
   pub config : new.config ≡ old.config
 
--- the seat in use makes the call, and what it is answered is printed as a line behind what the
--- output held
+-- the seat in use makes the call, and what it is answered, which is no want of memory, is printed as a
+-- line behind what the output held
 abbrev pub PrintsCall : Call → Session → Session → Option (List ℕ) → Option (List ℕ) → Type 0
 PrintsCall call old new before after = (answer : CallAnswer)
     × Calls call old new answer
+    × (¬ WantsMemory answer)
     × Appends before after (line_of (call_text answer))
 
 -- the seat with this number is in use afterwards; it is refused where there is no such seat

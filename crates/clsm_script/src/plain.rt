@@ -1,7 +1,7 @@
 //! The lines that a script has most of, read where they lie.
 ghost use Rattle.std.specs.Prelude.{◌≡◌, ◌++◌, ◌∷◌, codes, IfNone, IfSome};
 ghost use Rattle.std.specs.Io.Buffered.{reader_remaining};
-ghost use Rattle.clsm_text.specs.Line.{words_of, IsText};
+ghost use Rattle.clsm_text.specs.Line.{words_of, IsComment, IsText};
 ghost use Rattle.clsm_script.specs.Command.{SaysCall};
 ghost use Rattle.clsm_script.specs.Line.{TakesCommand};
 ghost use Rattle.clsm_script.specs.declared.command.Command.TheVariants.{Call as Makes};
@@ -30,7 +30,8 @@ pub fn call_at_hand<R: Read>(reader: &mut BufReader<R>) -> Option<Call>
 /// one space between each two words; `None` for any other line.
 #[inline(always)]
 fn parse_plain(line: &[u8]) -> Option<Call>
-    ensures { IfSome result (λ call. IsText line.now × SaysCall call (words_of line.now)) }
+    ensures { IfSome result (λ call. (¬ IsComment (words_of line.now)) × IsText line.now
+        × SaysCall call (words_of line.now)) }
 {
     match line {
         [b'p', b'u', b't', b' ', row @ ..] => parse_put(row),
@@ -42,7 +43,8 @@ fn parse_plain(line: &[u8]) -> Option<Call>
 /// The put that a line says after its name and a space.
 #[inline(always)]
 fn parse_put(row: &[u8]) -> Option<Call>
-    ensures { IfSome result (λ call. IsText (codes "put" ++ 32 ∷ row.now)
+    ensures { IfSome result (λ call. (¬ IsComment (words_of (codes "put" ++ 32 ∷ row.now)))
+        × IsText (codes "put" ++ 32 ∷ row.now)
         × SaysCall call (words_of (codes "put" ++ 32 ∷ row.now))) }
 {
     let end = row.iter().position(|byte| *byte == b' ')?;
@@ -55,7 +57,8 @@ fn parse_put(row: &[u8]) -> Option<Call>
 /// The get that a line says after its name and a space.
 #[inline(always)]
 fn parse_get(key: &[u8]) -> Option<Call>
-    ensures { IfSome result (λ call. IsText (codes "get" ++ 32 ∷ key.now)
+    ensures { IfSome result (λ call. (¬ IsComment (words_of (codes "get" ++ 32 ∷ key.now)))
+        × IsText (codes "get" ++ 32 ∷ key.now)
         × SaysCall call (words_of (codes "get" ++ 32 ∷ key.now))) }
 {
     let key = parse_digits(key)?;

@@ -1,13 +1,12 @@
-ghost use Rattle.std.specs.Prelude.{◌≡◌, ◌≢◌, ◌⊎◌, [], Contains, Err, IfSome, OnOk, IfErr};
-ghost use Rattle.std.specs.Io.Buffered.{reader_buffer, reader_remaining, writer_buffer, writer_contents, writer_inner};
-ghost use Rattle.std.specs.Io.KnownBytes.{Keeps};
+ghost use Rattle.std.specs.Prelude.{◌≡◌, ◌≢◌, [], Err, IfSome, OnOk, IfErr};
+ghost use Rattle.std.specs.Io.Buffered.{reader_remaining};
 ghost use Rattle.clsm_store_audit.specs.Settled.{HaveWholeHistory};
 ghost use Rattle.clsm_script.specs.Lines.{EndsPlay, IsPlayedOn, outputs_of, stage_of};
 ghost use Rattle.clsm_script.specs.Play.{PrintsCall};
 ghost use Rattle.clsm_script.specs.Script.{IsScript, IsStatus, StopsPlay, StopsScript};
 ghost use Rattle.clsm_script.specs.Session.{IsFaulted, IsSession};
 ghost use Rattle.clsm_text.specs.Failure.{IsOutside};
-ghost use Rattle.clsm_text.specs.declared.failure.Failure.TheVariants.{Device, Fault};
+ghost use Rattle.clsm_text.specs.declared.failure.Failure.TheVariants.{Fault};
 ghost use Rattle.clsm_model.specs.Config.{IsSound};
 
 use crate::command::Command;
@@ -18,7 +17,7 @@ use crate::writing::{write_answer, write_call_answer};
 use clsm_store::{Call, Config, Merger, Opened, Pace, Phase, Store, open};
 use clsm_text::{Failure, read_line};
 use std::alloc::Global;
-use std::io::{BufReader, BufWriter, Read, Write};
+use std::io::{BufReader, Read, Write};
 use std::sync::Wait;
 
 /// What a script is played with: the runtime that it waits by, the allocator, and the sizes of its
@@ -39,34 +38,25 @@ struct Host<'a, T, P: Pace> {
 }
 
 /// Plays the commands of an input, one a line, on a new store of these sizes, and writes each
-/// answer to the output as a line of its own, as `Answer` shows it, and nothing else. Answers are
-/// held back only as long as the next line is at hand: before more input is waited for, all are
-/// written and flushed. Where a script is not played to its end, a line on the faults says why:
-/// `bad line L` or `device`, with status 1, or `refused N SIZE` or `no memory`, with status 3. The
-/// status of a script that is played to its end is 0. A write to the faults that fails changes no
-/// status.
+/// answer to the output as a line of its own, as `Answer` shows it, and nothing else. Each answer is
+/// written at once and flushed before the next line is read; a write that fails ends the script.
+/// Where a script is not played to its end, a line on the faults says why: `bad line L` or `device`,
+/// with status 1, or `refused N SIZE` or `no memory`, with status 3. The status of a script that is
+/// played to its end is 0. A write to the faults that fails changes no status.
 ///
 /// No audit finds a fault. One that did would end the script with status 2, and lines on the faults
 /// would say why: what an explanation of `clsm_audit` says.
-///
-/// With status 0 all answers are written. Otherwise the output may still hold some back. Call
-/// `into_parts` on it then, since a `BufWriter` that is dropped writes what it holds back.
-pub fn script<T, R, W, E>(
-    setting: &Setting<'_, T>,
-    input: R,
-    output: &mut BufWriter<W>,
-    mut faults: E,
-) -> u8
+pub fn script<T, R, W, E>(setting: &Setting<'_, T>, input: R, output: &mut W, mut faults: E) -> u8
 where
     T: Wait,
     R: Read + Drop,
-    W: Write + Drop,
+    W: Write,
     E: Write + Drop,
     ensures status { IsStatus result }
     ensures refused { ¬ IsSound setting.now.config → result ≡ 3 }
     ensures read { result ≡ 0 → IfSome (R.remaining input) IsScript }
     ensures played { result ≡ 0 → IfSome (R.remaining input)
-        (IsPlayedOn setting.now.config (outputs_of (writer_contents W.contents output.old) (W.contents (writer_inner output.new)))) }
+        (IsPlayedOn setting.now.config (outputs_of (W.contents output.old) (W.contents output.new))) }
 {
     match play_script(setting, input, output, &mut faults) {
         Ok(()) => 0,
@@ -80,18 +70,18 @@ where
 fn play_script<T, R, W, E>(
     setting: &Setting<'_, T>,
     input: R,
-    output: &mut BufWriter<W>,
+    output: &mut W,
     faults: &mut E,
 ) -> Result<(), Failure>
 where
     T: Wait,
     R: Read + Drop,
-    W: Write + Drop,
+    W: Write,
     E: Write,
     ensures opened { OnOk result (IsSound setting.now.config) }
     ensures read { OnOk result (IfSome (R.remaining input) IsScript) }
     ensures played { OnOk result (IfSome (R.remaining input)
-        (IsPlayedOn setting.now.config (outputs_of (writer_contents W.contents output.old) (W.contents (writer_inner output.new))))) }
+        (IsPlayedOn setting.now.config (outputs_of (W.contents output.old) (W.contents output.new)))) }
     ensures stopped { IfErr result (StopsScript setting.now.config (R.remaining input)) }
 {
     let Setting { alloc, config, .. } = *setting;
@@ -110,12 +100,11 @@ where
         phase,
     };
     let played = play_lines(setting, &mut reader, output, &mut session, merger);
-    let ended = end(output, played);
-    if let Err(Failure::Fault) = ended {
+    if let Err(Failure::Fault) = played {
         session.write_reason(alloc, faults);
     }
-    settle_seats(&store, session, &ended);
-    ended
+    settle_seats(&store, session, &played);
+    played
 }
 
 /// Settles the seats of a script that ended so, unless the world or a bad line stopped it. No audit
@@ -133,27 +122,11 @@ fn settle_seats<P: Pace>(store: &Store<P>, session: Session, ended: &Result<(), 
     }
 }
 
-/// Ends a play: flushes the answers that are held back, unless a device failed before. What is
-/// then still held back is lost.
-fn end<W: Write + Drop>(
-    answers: &mut BufWriter<W>,
-    played: Result<(), Failure>,
-) -> Result<(), Failure>
-    ensures ended { (result ≡ played) ⊎ (result ≡ Err Device) }
-    ensures given { result ≢ Err Device →
-        Keeps (writer_contents W.contents answers.old) (W.contents (writer_inner answers.new)) }
-{
-    if matches!(played, Err(Failure::Device)) {
-        return played;
-    }
-    flush_answers(answers)?;
-    played
-}
-
-fn play_lines<T: Wait, R: Read, W: Write + Drop, P: Pace + Drop>(
+/// Plays the lines that are left of the input.
+fn play_lines<T: Wait, R: Read, W: Write, P: Pace + Drop>(
     setting: &Setting<'_, T>,
     reader: &mut BufReader<R>,
-    answers: &mut BufWriter<W>,
+    output: &mut W,
     session: &mut Session,
     merger: Merger<'_, P>,
 ) -> Result<(), Failure>
@@ -161,7 +134,7 @@ fn play_lines<T: Wait, R: Read, W: Write + Drop, P: Pace + Drop>(
     ensures read { OnOk result (IfSome (reader_remaining R.remaining reader.old) IsScript) }
     ensures played { OnOk result (IfSome (reader_remaining R.remaining reader.old)
         (EndsPlay (stage_of session.old merger.entry.phase []) session.new
-        (outputs_of (writer_contents W.contents answers.old) (writer_contents W.contents answers.new)))) }
+        (outputs_of (W.contents output.old) (W.contents output.new)))) }
     ensures session { OnOk result (IsSession merger.entry.store.now session.new) }
     ensures stopped { IfErr result (StopsPlay merger.entry.store.now (reader_remaining R.remaining reader.old) session.new) }
 {
@@ -169,12 +142,12 @@ fn play_lines<T: Wait, R: Read, W: Write + Drop, P: Pace + Drop>(
     let Merger { store, mut phase } = merger;
     let host = Host { rt, alloc, store };
     let mut line = Vec::new(alloc);
+    let mut shown = Vec::new(alloc);
     for number in 1..u64::MAX {
         if let Some(call) = call_at_hand(reader) {
-            play_call(&host, session, answers, call)?;
+            play_call(&host, session, output, &mut shown, call)?;
             continue;
         }
-        flush_before_wait(reader, answers)?;
         if !read_line(reader, &mut line)? {
             return Ok(());
         }
@@ -186,60 +159,33 @@ fn play_lines<T: Wait, R: Read, W: Write + Drop, P: Pace + Drop>(
         // Most commands are calls, which leave the merger where it is.
         let command = match command {
             Command::Call(call) => {
-                play_call(&host, session, answers, call)?;
+                play_call(&host, session, output, &mut shown, call)?;
                 continue;
             }
             command => command,
         };
         let (next, answer) = command.play(rt, alloc, store, session, phase)?;
         phase = next;
-        write_answer(answers, &answer)?;
+        write_answer(output, &mut shown, &answer)?;
     }
     Err(Failure::Device)
 }
 
-/// Makes a call by the seat in use, and writes what it is answered.
+/// Makes a call by the seat in use, and writes what it is answered, by a room for one line.
 fn play_call<T: Wait, W: Write, P: Pace + Drop>(
     host: &Host<'_, T, P>,
     session: &mut Session,
-    answers: &mut W,
+    output: &mut W,
+    shown: &mut Vec<u8>,
     call: Call,
 ) -> Result<(), Failure>
     requires { IsSession host.now.store.now session.old }
-    ensures makes { OnOk result (PrintsCall call session.old session.new (W.contents answers.old) (W.contents answers.new)) }
+    ensures makes { OnOk result (PrintsCall call session.old session.new (W.contents output.old) (W.contents output.new)) }
     ensures session { OnOk result (IsSession host.now.store.now session.new) }
     ensures failed { IfErr result IsOutside }
 {
     let Host { rt, alloc, store } = *host;
     let answer = session.call(rt, alloc, store, &call)?;
-    write_call_answer(answers, &answer)?;
-    Ok(())
-}
-
-/// Flushes the answers that are held back, unless the next line is at hand: otherwise the input is
-/// waited for.
-fn flush_before_wait<R: Read, W: Write + Drop>(
-    reader: &BufReader<R>,
-    answers: &mut BufWriter<W>,
-) -> Result<(), Failure>
-    ensures given { OnOk result (Contains (reader_buffer reader.now) 10 ⊎ (writer_buffer answers.new ≡ [])) }
-    ensures kept { Keeps (writer_contents W.contents answers.old) (writer_contents W.contents answers.new) }
-    ensures failed { IfErr result IsOutside }
-{
-    if reader.buffer().contains(&b'\n') {
-        return Ok(());
-    }
-    flush_answers(answers)
-}
-
-/// Flushes the answers that are held back.
-fn flush_answers<W: Write + Drop>(answers: &mut BufWriter<W>) -> Result<(), Failure>
-    ensures given { OnOk result (writer_buffer answers.new ≡ []) }
-    ensures kept { Keeps (writer_contents W.contents answers.old) (writer_contents W.contents answers.new) }
-    ensures failed { IfErr result (λ failure. failure ≡ Device) }
-{
-    if !answers.buffer().is_empty() {
-        answers.flush()?;
-    }
+    write_call_answer(output, shown, &answer)?;
     Ok(())
 }

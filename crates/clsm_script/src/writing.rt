@@ -1,5 +1,5 @@
-//! The answers of a script as its lines.
-ghost use Rattle.std.specs.Prelude.{◌≡◌, ◌<◌, ◌∷◌, [], Err, IfErr, None, OnOk, Some, drop};
+//! The answers of a script as its lines, each of them written at once.
+ghost use Rattle.std.specs.Prelude.{◌≡◌, ◌<◌, ◌∷◌, [], Err, IfErr, OnOk, Some, drop};
 ghost use Rattle.std.specs.Io.KnownBytes.{Appends};
 ghost use Rattle.clsm_store.specs.Play.{WantsMemory as CallWantsMemory};
 ghost use Rattle.clsm_script.specs.Answer.{IsFault, WantsMemory};
@@ -11,104 +11,129 @@ ghost use Rattle.clsm_text.specs.declared.failure.Failure.TheVariants.{Fault, Me
 use crate::answer::{Answer, CallAnswer};
 use clsm_model::Time;
 use clsm_store::{Answer as Called, Got};
-use clsm_text::Failure;
+use clsm_text::{Failure, Reply};
 use itoa::write_digits;
 use std::io::{self, Write};
 
 /// The room for a line of two numbers.
 const LINE: usize = 48;
 
-/// Writes the answer as a line. It ends the script where memory ran out, which is not written, and
-/// after a fault.
-pub fn write_answer<W: Write>(answers: &mut W, answer: &Answer) -> Result<(), Failure>
+/// Writes the answer as a line, by a room for one line. It ends the script where memory ran out,
+/// which is not written, and after a fault.
+#[tactic(auto, using(crate::proofs::Puts::written))]
+pub fn write_answer<W: Write>(
+    output: &mut W,
+    shown: &mut Vec<u8>,
+    answer: &Answer,
+) -> Result<(), Failure>
     ensures stopped { IfErr result StopsLine }
     ensures memory { WantsMemory answer.now → result ≡ Err Memory }
+    ensures is_made { OnOk result (¬ WantsMemory answer.now) }
     ensures goes_on { OnOk result (¬ IsFault answer.now) }
     ensures fault { result ≡ Err Fault → IsFault answer.now }
     ensures prints { OnOk result
-        (Appends (W.contents answers.old) (W.contents answers.new) (line_of (answer_text answer.now))) }
+        (Appends (W.contents output.old) (W.contents output.new) (line_of (answer_text answer.now))) }
     ensures prints_fault { result ≡ Err Fault →
-        Appends (W.contents answers.old) (W.contents answers.new) (line_of (answer_text answer.now)) }
+        Appends (W.contents output.old) (W.contents output.new) (line_of (answer_text answer.now)) }
 {
     if answer.wants_memory() {
         return Err(Failure::Memory);
     }
-    writeln!(answers, "{answer}")?;
+    shown.clear();
+    let Ok(()) = writeln!(shown, "{answer}") else {
+        return Err(Failure::Memory);
+    };
+    write_line(output, shown)?;
     if answer.is_fault() {
         return Err(Failure::Fault);
     }
     Ok(())
 }
 
-/// Writes what a call is answered as a line. It ends the script where memory ran out, which is not
-/// written.
-pub fn write_call_answer<W: Write>(answers: &mut W, answer: &Called) -> Result<(), Failure>
+/// Writes what a call is answered as a line, by a room for one line. It ends the script where memory
+/// ran out, which is not written.
+#[tactic(auto, using(crate::proofs::Puts::written))]
+pub fn write_call_answer<W: Write>(
+    output: &mut W,
+    shown: &mut Vec<u8>,
+    answer: &Called,
+) -> Result<(), Failure>
     ensures failed { IfErr result IsOutside }
     ensures memory { CallWantsMemory answer.now → result ≡ Err Memory }
+    ensures is_made { OnOk result (¬ CallWantsMemory answer.now) }
     ensures prints { OnOk result
-        (Appends (W.contents answers.old) (W.contents answers.new) (line_of (call_text answer.now))) }
+        (Appends (W.contents output.old) (W.contents output.new) (line_of (call_text answer.now))) }
 {
-    if answer.wants_memory() {
+    let wanted = answer.wants_memory();
+    if wanted {
         return Err(Failure::Memory);
     }
     if let Called::Write(Ok(time)) = answer {
-        write_time(answers, *time)?;
+        write_time(output, *time)?;
         return Ok(());
     }
     if let Called::Read(got) = answer {
-        return write_got(answers, got);
+        return write_got(output, shown, got);
     }
-    let shown = CallAnswer(answer);
-    writeln!(answers, "{shown}")?;
+    shown.clear();
+    let called = CallAnswer(answer);
+    let Ok(()) = writeln!(shown, "{called}") else {
+        return Err(Failure::Memory);
+    };
+    write_line(output, shown)?;
     Ok(())
 }
 
 /// Writes what a read got as a line.
-fn write_got<W: Write>(answers: &mut W, got: &Got) -> Result<(), Failure>
+#[tactic(auto, using(crate::proofs::Puts::written))]
+fn write_got<W: Write>(output: &mut W, shown: &mut Vec<u8>, got: &Got) -> Result<(), Failure>
     ensures failed { IfErr result IsOutside }
-    ensures prints { OnOk result (Appends (W.contents answers.old) (W.contents answers.new)
+    ensures prints { OnOk result (Appends (W.contents output.old) (W.contents output.new)
         (line_of (read_text got.now.value got.now.time))) }
 {
-    let Some(value) = &got.value else {
-        write_none(answers, got.time)?;
-        return Ok(());
-    };
-    match value.words() {
-        [word] => write_word(answers, *word, got.time)?,
-        _ => writeln!(answers, "{value} @{}", got.time)?,
+    if let Some(value) = &got.value {
+        if let [word] = value.words() {
+            write_word(output, *word, got.time)?;
+            return Ok(());
+        }
     }
+    shown.clear();
+    let value = Reply(&got.value);
+    let Ok(()) = writeln!(shown, "{value} @{}", got.time) else {
+        return Err(Failure::Memory);
+    };
+    write_line(output, shown)?;
     Ok(())
 }
 
+/// Writes a line, which ends in a line feed, and flushes it.
+fn write_line<W: Write>(output: &mut W, line: &[u8]) -> io::Result<()>
+    ensures { OnOk result (Appends (W.contents output.old) (W.contents output.new) line.now) }
+{
+    output.write_all(line)?;
+    output.flush()
+}
+
 /// Writes a time as a line.
-fn write_time<W: Write>(answers: &mut W, time: Time) -> io::Result<()>
+fn write_time<W: Write>(output: &mut W, time: Time) -> io::Result<()>
     ensures { OnOk result
-        (Appends (W.contents answers.old) (W.contents answers.new) (line_of (time_text time))) }
+        (Appends (W.contents output.old) (W.contents output.new) (line_of (time_text time))) }
 {
     let mut line = [b'\n'; LINE];
     let start = put_time(&mut line, time);
-    answers.write_all(&line[start..])
-}
-
-/// Writes that there was no value, and the time at which it was looked for, as a line.
-fn write_none<W: Write>(answers: &mut W, time: Time) -> io::Result<()>
-    ensures { OnOk result
-        (Appends (W.contents answers.old) (W.contents answers.new) (line_of (read_text None time))) }
-{
-    answers.write_all(b"none ")?;
-    write_time(answers, time)
+    write_line(output, &line[start..])
 }
 
 /// Writes a word and the time at which it was read as a line.
-fn write_word<W: Write>(answers: &mut W, word: u64, time: Time) -> io::Result<()>
+fn write_word<W: Write>(output: &mut W, word: u64, time: Time) -> io::Result<()>
     ensures { OnOk result
-        (Appends (W.contents answers.old) (W.contents answers.new) (line_of (read_text (Some (word ∷ [])) time))) }
+        (Appends (W.contents output.old) (W.contents output.new) (line_of (read_text (Some (word ∷ [])) time))) }
 {
     let mut line = [b'\n'; LINE];
     let end = put_time(&mut line, time) - 1;
     line[end] = b' ';
     let start = write_digits(word, &mut line, end);
-    answers.write_all(&line[start..])
+    write_line(output, &line[start..])
 }
 
 /// Puts a time before the line feed that is the last byte of the line, and answers where it starts.

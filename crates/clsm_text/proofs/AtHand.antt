@@ -10,8 +10,9 @@ use Rattle.std.specs.Io.KnownBytes.{Consumes, prepend_known}
 use Rattle.std.specs.Prelude.{if◌then◌else◌}
 use Rattle.std.specs.Io.BufRead.{DropsConsumable}
 use Rattle.memchr.specs.Find.{IsFirstByte, is_byte}
-use Rattle.clsm_text.proofs.Lines.{line_to_feed}
-use Rattle.clsm_text.specs.Input.{BeginsWithLine, TakesLine}
+use Rattle.clsm_text.proofs.Taken.{line_to_feed}
+use Rattle.clsm_text.specs.Input.{BeginsWithLine}
+use Rattle.clsm_text.specs.Taken.{TakesLine}
 
 -- what stands before the first line feed of the first bytes is a line
 pub begins_with : (bytes : List ℕ) (most end : ℕ) → most ≤ 4097 →

@@ -8,26 +8,45 @@ use Rattle.std.proofs.lemmas.List.{drop_more, length-drop, length-take, take-app
 use Rattle.std.proofs.lemmas.List.Elements.{All-nil, All-cons, All-append, All-more}
 use Rattle.std.proofs.lemmas.List.Sums.{fails_before_first}
 use Rattle.std.proofs.lemmas.List.Splits.{slice_split_first, slice_split_none}
-use Rattle.std.proofs.lemmas.Str.{IsUtf8-nil}
 use Rattle.std.specs.List.{position_or_len, after_first}
 use Rattle.clsm_text.specs.Failure.{failure_at, StopsReading}
-use Rattle.clsm_text.specs.Input.{is_line_feed, first_line, TakesLine}
-use Rattle.clsm_text.specs.Line.{lines_of, IsGood, IsBad, AllGood, IsFirstBad}
+use Rattle.clsm_text.specs.Input.{is_line_feed, first_line}
+use Rattle.clsm_text.specs.Line.{lines_of, words_of, IsComment, IsText, IsGood, IsBad, AllGood, IsFirstBad}
+use Rattle.clsm_text.specs.Taken.{IsTakenWhole, StandsFor, TakesLine}
+use Rattle.clsm_text.proofs.Silence.{says_or_not}
 use Rattle.clsm_text.specs.declared.line.LineError.{LineError}
 use Rattle.clsm_text.specs.declared.line.LineError.TheVariants.{Bad, Memory}
 
--- a good line is not too long
-good_short : (K : List (List ℕ) → Type 0) (line : List ℕ) → IsGood K line → length line ≤ 4096
-good_short K line good = good.0.0
+-- what is kept of a line is good: the line is
+pub stands_good : (K : List (List ℕ) → Type 0) (whole line : List ℕ) → StandsFor whole line →
+    IsGood K line → IsGood K whole
+stands_good K whole line (inl same) good = subst (IsGood K) same good
+stands_good K whole line (inr long) (inl comment) = inl (long.silent.1 comment)
+stands_good K whole line (inr long) (inr (text, known)) =
+    elim (says_or_not whole) [
+      | inl comment ↦ inl comment
+      | inr says ↦ let more = long.too_long says in let short = text.0 in absurd (omega arith)
+    ]
 
--- a bad line is not good
-bad_not_good : (K : List (List ℕ) → Type 0) (line : List ℕ) → IsBad K line → ¬ IsGood K line
-bad_not_good K line bad (text, inl comment) = (bad text).0 comment
-bad_not_good K line bad (text, inr known) = (bad text).1 known
+-- what is kept of a line is bad: the line is not good
+stands_bad : (K : List (List ℕ) → Type 0) (whole line : List ℕ) → StandsFor whole line →
+    IsBad K line → ¬ IsGood K whole
+stands_bad K whole line (inl same) bad (inl comment) =
+    bad.0 (subst (λ (l : List ℕ). IsComment (words_of l)) (sym same) comment)
+stands_bad K whole line (inl same) bad (inr (text, known)) =
+    bad.1 (subst IsText (sym same) text) (subst (λ (l : List ℕ). K (words_of l)) (sym same) known)
+stands_bad K whole line (inr long) bad (inl comment) = bad.0 (long.silent.0 comment)
+stands_bad K whole line (inr long) bad (inr (text, known)) =
+    let more = long.long in let short = text.0 in absurd (omega arith)
+
+-- a good line is taken whole
+good_whole_taken : (K : List (List ℕ) → Type 0) (whole : List ℕ) → IsGood K whole → IsTakenWhole whole
+good_whole_taken K whole (inl comment) long = comment
+good_whole_taken K whole (inr (text, known)) long = let short = text.0 in absurd (omega arith)
 
 -- the empty line says nothing
 good_nil : (K : List (List ℕ) → Type 0) → IsGood K []
-good_nil K = ((omega arith, IsUtf8-nil), inl tt)
+good_nil K = inl tt
 
 -- where no line feed is left, the line is the whole
 whole_line : (bytes : List ℕ) → length bytes ≤ position_or_len is_line_feed bytes →
@@ -117,9 +136,9 @@ pub record IsSplit (K : List (List ℕ) → Type 0) (bytes rest : List ℕ) : Ty
   pub good_end : rest ≡ [] → All (IsGood K) more
   pub empty_end : rest ≡ [] → All IsEmpty more
 
-splits : (K : List (List ℕ) → Type 0) (bytes rest : List ℕ) → length (first_line bytes) ≤ 4096 →
-    rest ≡ drop (min (length (first_line bytes) + 1) 4097) bytes → IsSplit K bytes rest
-splits K bytes rest short left =
+splits : (K : List (List ℕ) → Type 0) (bytes rest : List ℕ) →
+    rest ≡ drop (length (first_line bytes) + 1) bytes → IsSplit K bytes rest
+splits K bytes rest left =
     let first = length-take (position_or_len is_line_feed bytes) bytes in
     elim (leb_tells (length bytes) (position_or_len is_line_feed bytes)) [
       | inl (_, far) ↦
@@ -132,8 +151,7 @@ splits K bytes rest short left =
             empty_end = λ _. All-nil IsEmpty;
           }
       | inr (_, near) ↦
-          let count : min (length (first_line bytes) + 1) 4097
-          ≡ position_or_len is_line_feed bytes + 1 =
+          let count : length (first_line bytes) + 1 ≡ position_or_len is_line_feed bytes + 1 =
           omega (arith, first) in
           let after : rest ≡ after_first is_line_feed bytes = left ∙ ap (λ n. drop n bytes) count in
           record {
@@ -145,14 +163,6 @@ splits K bytes rest short left =
             empty_end = λ empty. empty_none rest empty;
           }
     ]
-
--- a good line is read whole
-good_first : (bytes line : List ℕ) → line ≡ take 4097 (first_line bytes) → length line ≤ 4096 →
-    line ≡ first_line bytes
-good_first bytes line is short =
-    is
-    ∙ take_all 4097 (first_line bytes)
-    (omega (arith, ap length is, length-take 4097 (first_line bytes)))
 
 -- what `read_line` tells where it found a line, or none
 abbrev pub Tells : Option (List ℕ) → Bool → Type 0
@@ -167,16 +177,16 @@ pub leads_on : (K : List (List ℕ) → Type 0) (old now new : Option (List ℕ)
 leads_on K None now new line found count leads tells some takes good = tt
 leads_on K (Some bytes) None new line found count leads tells some takes good = absurd leads
 leads_on K (Some bytes) (Some now) None line found count leads tells some takes good =
-    cc (takes.rest_is)
+    let whole = good_whole_taken K (first_line now) (stands_good K (first_line now) line takes.stands good) in
+    cc (takes.whole whole)
 leads_on K (Some bytes) (Some now) (Some rest) line found count leads tells some takes good =
-    let is : line ≡ first_line now = good_first now line takes.line_is (good_short K line good) in
-    let short = subst (λ l. length l ≤ 4096) is (good_short K line good) in
-    let s = splits K now rest short (let left = takes.rest_is in cc) in
+    let is : IsGood K (first_line now) = stands_good K (first_line now) line takes.stands good in
+    let left = takes.whole (good_whole_taken K (first_line now) is) in
+    let s = splits K now rest (cc left) in
     let next : drop count (lines_of bytes) ≡ first_line now ∷ s.more =
     leads.left (tells.0 some) ∙ s.split in
     let front =
-    good_more K (lines_of bytes) count (first_line now) s.more next leads.good
-    (subst (IsGood K) is good) in
+    good_more K (lines_of bytes) count (first_line now) s.more next leads.good is in
     let after = more_left K (lines_of bytes) count (first_line now) s.more next in
     record {
       good = front;
@@ -187,16 +197,12 @@ leads_on K (Some bytes) (Some now) (Some rest) line found count leads tells some
       over = λ empty. subst (All IsEmpty) (sym after) (s.empty_end empty);
     }
 
--- the good line that is read comes next
-pub reads_next : (K : List (List ℕ) → Type 0) (bytes now : List ℕ) (new : Option (List ℕ)) (line : List ℕ)
-    (found : Bool) (count : ℕ) →
+-- the line that is read comes next
+pub reads_next : (K : List (List ℕ) → Type 0) (bytes now : List ℕ) (found : Bool) (count : ℕ) →
     LeadsTo K (Some bytes) (Some now) count → Tells (Some now) found → found ≡ true →
-    TakesLine now line new → IsGood K line →
-    (more : List (List ℕ)) × (drop count (lines_of bytes) ≡ line ∷ more)
-reads_next K bytes now new line found count leads tells some takes good =
-    let (more, split) = split_line now in
-    let is : line ≡ first_line now = good_first now line takes.line_is (good_short K line good) in
-    (more, leads.left (tells.0 some) ∙ split ∙ ap (λ l. l ∷ more) (sym is))
+    (more : List (List ℕ)) × (drop count (lines_of bytes) ≡ first_line now ∷ more)
+reads_next K bytes now found count leads tells some =
+    let (more, split) = split_line now in (more, leads.left (tells.0 some) ∙ split)
 
 -- at the end only empty lines are left
 pub leads_over : (K : List (List ℕ) → Type 0) (bytes now : List ℕ) (found : Bool) (count : ℕ) →
@@ -238,11 +244,7 @@ leads_to_bad K (Some bytes) (Some now) new line found count leads tells some tak
           let at : get_or (lines_of bytes) (count + 1 - 1) [] ≡ first_line now =
           ap (λ n. get_or (lines_of bytes) n []) same
           ∙ line_at K (lines_of bytes) count (first_line now) more next [] in
-          let first : IsGood K (first_line now) = subst (IsGood K) at good in
-          let short = good_short K (first_line now) first in
-          let is : line ≡ first_line now =
-          takes.line_is ∙ take_all 4097 (first_line now) (omega (arith, short)) in
-          bad_not_good K line bad (subst (IsGood K) (sym is) first);
+          stands_bad K (first_line now) line takes.stands bad (subst (IsGood K) at good);
     }
 
 -- a line is not read

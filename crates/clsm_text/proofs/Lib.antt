@@ -4,6 +4,7 @@ pub mod Inputs
 pub mod Lines
 pub mod Parts
 pub mod PlainLines
+pub mod Silence
 pub mod Taken
 pub mod Readings
 pub mod Zips

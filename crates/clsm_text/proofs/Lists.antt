@@ -24,8 +24,8 @@ use Rattle.clsm_text.proofs.Zips.{zip_push, get_seam}
 
 -- a line that is not good is bad
 pub bad_not_good : (timed : Bool) (line : List ℕ) → ReadsLine timed line (Err Bad) → ¬ IsGood timed line
-bad_not_good timed line bad (None, (text, comment)) = (bad text).0 comment
-bad_not_good timed line bad (Some r, (text, says)) = (bad text).1 r says
+bad_not_good timed line bad (None, comment) = bad.0 comment
+bad_not_good timed line bad (Some r, (text, says)) = bad.1 text r says
 
 -- lines that say records, or nothing, are good
 pub all_good : (timed : Bool) (lines : List (List ℕ)) (said : List (Option RecordLine)) → AreSaid timed lines said →

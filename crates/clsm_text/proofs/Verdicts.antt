@@ -2,8 +2,8 @@
 use Rattle.std.proofs.Common.{◌≡◌, ℕ, zero, suc, ◌<◌, List, [], ◌∷◌, length, get_or}
 use Rattle.std.proofs.Common.{IfSome, slice_get, Bool, true, Option, Some, None, ◌++◌, codes}
 use Rattle.std.specs.Io.KnownBytes.{Appends, Keeps}
-use Rattle.std.proofs.KnownBytes.{Appends-kept}
-use Rattle.std.proofs.Common.{sym, subst, arith, refl, ap, inl, inr, IsSomeAnd}
+use Rattle.std.proofs.KnownBytes.{Appends-kept, Appends-nil, Appends-trans}
+use Rattle.std.proofs.Common.{sym, subst, arith, refl, ap, inl, inr, append-nil, IsSomeAnd}
 use Rattle.std.proofs.lemmas.Bool.Decides.{leb_tells}
 use Rattle.std.proofs.lemmas.Option.{slice_get_past}
 use Rattle.std.proofs.lemmas.List.{get_or_read}
@@ -20,7 +20,7 @@ use Rattle.clsm_audit.specs.declared.order.OrderError.{OrderError}
 use Rattle.clsm_audit.specs.declared.order.OrderError.TheVariants.{Stale}
 use Rattle.clsm_audit.specs.declared.place.Moments.{Moments}
 use Rattle.clsm_text.specs.Line.{lines_of}
-use Rattle.clsm_text.specs.Audit.{HasFaultOn, IsListOf, IsStaleOn, IsVerdict, PrintsFault, PrintsVerdict, StandsOn}
+use Rattle.clsm_text.specs.Audit.{Grows, HasFaultOn, IsListOf, IsStaleOn, IsVerdict, PrintsFault, PrintsVerdict, StandsOn}
 use Rattle.clsm_text.specs.Audit.{records_of, status_of, verdict_text}
 use Rattle.clsm_text.specs.declared.verdict.Verdict.{Verdict}
 use Rattle.clsm_text.specs.declared.verdict.Verdict.TheVariants.{Lawful, Fault as VerdictFault, Stale as VerdictStale}
@@ -111,20 +111,39 @@ refused_order records moments error index earlier is refusal = subst (IsOrderErr
 -- the verdict alone
 pub prints_plain : (history : Bool) (before after : Option (List ℕ)) (verdict : Verdict) →
     Appends before after (verdict_text verdict ++ codes "\n") → PrintsVerdict history before after verdict
-prints_plain history before after Lawful printed = λ hidden. printed
+prints_plain history before after Lawful printed = (
+  (λ hidden. printed),
+  record { more = []; printed = subst (Appends before after) (sym (append-nil (verdict_text Lawful ++ codes "\n"))) printed },
+)
 prints_plain history before after (VerdictFault kind number) printed = printed
 prints_plain history before after (VerdictStale number) printed = printed
 
 -- and a history behind it
-pub prints_history : (history : Bool) (before after : Option (List ℕ)) → history ≡ true →
-    PrintsVerdict history before after Lawful
-prints_history history before after asked = λ hidden. absurd (cc)
+pub prints_history : (history : Bool) (before now after : Option (List ℕ)) → history ≡ true →
+    Appends before now (verdict_text Lawful ++ codes "\n") → Grows now after → PrintsVerdict history before after Lawful
+prints_history history before now after asked printed (more, grown) = (
+  (λ hidden. absurd (cc)),
+  record { more = more; printed = Appends-trans before now after (verdict_text Lawful ++ codes "\n") more printed grown },
+)
+
+-- known bytes grow by nothing, by a text, and further
+pub grows_start : (output : Option (List ℕ)) → Grows output output
+grows_start output = ([], Appends-nil output)
+
+pub grows_by : (before after : Option (List ℕ)) (text : List ℕ) → Appends before after text → Grows before after
+grows_by before after text printed = (text, printed)
+
+pub grows_on : (before now after : Option (List ℕ)) → Grows before now → Grows now after → Grows before after
+grows_on before now after (text, printed) (more, grown) =
+    (text ++ more, Appends-trans before now after text more printed grown)
 
 -- it is given out
 pub prints_kept : (history : Bool) (before after kept : Option (List ℕ)) (verdict : Verdict) →
     PrintsVerdict history before after verdict → Keeps after kept → PrintsVerdict history before kept verdict
-prints_kept history before after kept Lawful printed keeps =
-    λ hidden. Appends-kept before after kept _ (printed hidden) keeps
+prints_kept history before after kept Lawful printed keeps = (
+  (λ hidden. Appends-kept before after kept _ (printed.0 hidden) keeps),
+  record { more = printed.1.more; printed = Appends-kept before after kept _ printed.1.printed keeps },
+)
 prints_kept history before after kept (VerdictFault kind number) printed keeps =
     Appends-kept before after kept _ printed keeps
 prints_kept history before after kept (VerdictStale number) printed keeps =

@@ -109,9 +109,19 @@ verdict_text (Stale number) = codes "audit fault Stale " ++ decimal number
 abbrev pub PrintsLine : Option (List ℕ) → Option (List ℕ) → Verdict → Type 0
 PrintsLine before after verdict = Appends before after (verdict_text verdict ++ codes "\n")
 
+-- known bytes grow
+abbrev pub Grows : Option (List ℕ) → Option (List ℕ) → Type 0
+Grows before after = (more : List ℕ) × Appends before after more
+
+-- it is printed so, and something may stand behind it
+pub record PrintsFirst (before after : Option (List ℕ)) (verdict : Verdict) : Type 0 where
+  pub more : List ℕ
+  pub printed : Appends before after ((verdict_text verdict ++ codes "\n") ++ more)
+
 -- and behind `audit ok` a history stands if one is asked for
 abbrev pub PrintsVerdict : Bool → Option (List ℕ) → Option (List ℕ) → Verdict → Type 0
-PrintsVerdict history before after Lawful = history ≡ false → PrintsLine before after Lawful
+PrintsVerdict history before after Lawful =
+    (history ≡ false → PrintsLine before after Lawful) × PrintsFirst before after Lawful
 PrintsVerdict history before after verdict = PrintsLine before after verdict
 
 -- the exit status of a verdict

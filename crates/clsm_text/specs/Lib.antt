@@ -9,3 +9,4 @@ pub mod Audit
 pub mod Lines
 pub mod Record
 pub mod Written
+pub mod Taken

@@ -15,7 +15,8 @@ texts_of words = map (λ word. word.now) words
 abbrev pub words_of : List ℕ → List (List ℕ)
 words_of line = filter (λ word. not (length word == 0)) (slice_split (λ b. b == 32) line)
 
--- a line of no words, or whose first word begins with `#`, says nothing
+-- a line of no words, or whose first word begins with `#`, says nothing, however long it is and
+-- whatever bytes it has
 abbrev pub IsComment : List (List ℕ) → Type 0
 IsComment [] = ⊤
 IsComment (word ∷ _) = slice_index word 0 ≡ 35
@@ -34,14 +35,14 @@ IsText line = (length line ≤ 4096) × IsUtf8 line
 abbrev pub lines_of : List ℕ → List (List ℕ)
 lines_of bytes = slice_split is_line_feed bytes
 
--- the line is text, and says nothing, or its words say something that is known
+-- the line says nothing, or is text whose words say something that is known
 abbrev pub IsGood : (List (List ℕ) → Type 0) → List ℕ → Type 0
-IsGood IsKnown line = IsText line × (IsComment (words_of line) ⊎ IsKnown (words_of line))
+IsGood IsKnown line = IsComment (words_of line) ⊎ (IsText line × IsKnown (words_of line))
 
--- the line is no text, or its words say something that is not known
+-- the line says something, and is no text, or its words say something that is not known
 abbrev pub IsBad : (List (List ℕ) → Type 0) → List ℕ → Type 0
 IsBad IsKnown line =
-    IsText line → (¬ IsComment (words_of line)) × (¬ IsKnown (words_of line))
+    (¬ IsComment (words_of line)) × (IsText line → ¬ IsKnown (words_of line))
 
 -- each line of the bytes is good
 abbrev pub AllGood : (List (List ℕ) → Type 0) → List ℕ → Type 0

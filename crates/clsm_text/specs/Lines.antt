@@ -34,13 +34,13 @@ SayLine timed words line =
 
 -- ---- a line
 
--- what a line says whose words may say something: nothing, or that; it is bad where it is no text,
--- or says neither
+-- what a line says whose words may say something: nothing, or that; it is bad where it says neither,
+-- or says something and is no text
 abbrev pub ReadsBy : {A : Type 0} → (List (List ℕ) → A → Type 0) → List ℕ → Result (Option A) LineError → Type 0
-ReadsBy Says line (Ok None) = IsUtf8 line × IsComment (words_of line)
+ReadsBy Says line (Ok None) = IsComment (words_of line)
 ReadsBy Says line (Ok (Some x)) = IsUtf8 line × Says (words_of line) x
 ReadsBy {A} Says line (Err Bad) =
-    IsUtf8 line → (¬ IsComment (words_of line)) × ((x : A) → ¬ Says (words_of line) x)
+    (¬ IsComment (words_of line)) × (IsUtf8 line → (x : A) → ¬ Says (words_of line) x)
 ReadsBy Says line (Err Memory) = ⊤
 
 -- a record

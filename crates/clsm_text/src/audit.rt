@@ -102,7 +102,10 @@ fn write_verdict<W: Write>(
 {
     writeln!(output, "{verdict}")?;
     match verdict {
-        Verdict::Lawful if history => write_history(alloc, output, records),
+        Verdict::Lawful if history => {
+            write_history(alloc, output, records)?;
+            Ok(())
+        }
         _ => Ok(()),
     }
 }

@@ -1,10 +1,12 @@
-ghost use Rattle.std.specs.Prelude.{◌≡◌, ◌≢◌, ◌↔◌, ◌≤◌, [], IsTrue, vec_len};
+ghost use Rattle.std.specs.Prelude.{◌≡◌, ◌≢◌, ◌↔◌, ◌≤◌, [], IsTrue, false, true, vec_len};
 ghost use Rattle.std.specs.Prelude.{IfSome, IfOk, IfErr, OnOk};
 ghost use Rattle.clsm_text.specs.Failure.{IsOutside};
-ghost use Rattle.clsm_text.specs.Input.{BeginsWithLine, TakesLine, TakesPart};
+ghost use Rattle.clsm_text.specs.Input.{BeginsWithLine, TakesPart};
+ghost use Rattle.clsm_text.specs.Line.{words_of, IsComment};
+ghost use Rattle.clsm_text.specs.Taken.{IsShortened, TakesLine};
 
 use crate::failure::Failure;
-use crate::line::LONGEST_LINE;
+use crate::line::{LONGEST_LINE, first_said};
 use memchr::memchr;
 use std::io::{BufRead, ErrorKind};
 
@@ -20,8 +22,10 @@ pub(crate) enum Part {
 }
 
 /// Reads the next line of an input into `line`, without its line feed, and answers whether there
-/// was one: an input that ends begins no line. A line longer than 4,096 bytes is cut after 4,097,
-/// and the rest of it is left. After a failure part of the line may have been read.
+/// was one: an input that ends begins no line. Of a line that is longer than 4,096 bytes and says
+/// nothing (`plain_words`), a shorter one that says nothing is kept, and all of it is read. Any
+/// other that is so long is cut after 4,097 bytes, of which spaces at its front may be left out, and
+/// the rest of it is left. After a failure part of the line may have been read.
 pub fn read_line<R: BufRead>(reader: &mut R, line: &mut Vec<u8>) -> Result<bool, Failure>
     ensures bound { OnOk result (vec_len line.new ≤ 4097) }
     ensures found { IfOk result (λ found. IfSome (R.remaining reader.old)
@@ -34,7 +38,7 @@ pub fn read_line<R: BufRead>(reader: &mut R, line: &mut Vec<u8>) -> Result<bool,
     for _ in 0..u64::MAX {
         match take_part(reader, line)? {
             Part::Some => {
-                if line.len() > LONGEST_LINE {
+                if line.len() > LONGEST_LINE && !shorten(line) {
                     return Ok(true);
                 }
             }
@@ -43,6 +47,29 @@ pub fn read_line<R: BufRead>(reader: &mut R, line: &mut Vec<u8>) -> Result<bool,
         }
     }
     Err(Failure::Device)
+}
+
+/// Makes room in what is kept of a line that is too long, if that says nothing so far, and answers
+/// whether it does: of a comment its sign is kept, and of spaces as many as a line may have.
+fn shorten(line: &mut Vec<u8>) -> bool
+    requires { vec_len line.old ≡ 4097 }
+    ensures told { IsTrue result ↔ IsComment (words_of line.old.items) }
+    ensures kept { result ≡ false → line.new.items ≡ line.old.items }
+    ensures room { result ≡ true → vec_len line.new ≤ 4096 }
+    ensures shortened { result ≡ true → IsShortened line.old.items line.new.items }
+{
+    match first_said(line) {
+        None => {
+            line.truncate(LONGEST_LINE);
+            true
+        }
+        Some(b'#') => {
+            line.truncate(1);
+            line[0] = b'#';
+            true
+        }
+        Some(_) => false,
+    }
 }
 
 /// The line that stands at the beginning of the bytes, if its line feed is among them and it is no

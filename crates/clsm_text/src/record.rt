@@ -12,9 +12,9 @@ use clsm_model::CallRecord;
 use std::alloc::{AllocError, Global};
 
 /// What a line says, given without its line feed: a record, or `None` where it has no words or is
-/// a comment, which begins with `#`. It is refused as bad where it is not UTF-8 or says no record,
-/// and otherwise only if memory runs out. A line may be as long as memory allows, since a scan
-/// reads any number of rows.
+/// a comment, which begins with `#`, whatever bytes it has. Any other line is refused as bad where it
+/// is not UTF-8 or says no record, and otherwise only if memory runs out. A line may be as long as
+/// memory allows, since a scan reads any number of rows.
 pub fn parse_record(alloc: Global, line: &[u8]) -> Result<Option<CallRecord>, LineError>
     ensures { Reads line.now result }
 {

@@ -20,8 +20,9 @@ pub struct RecordLine {
 
 /// What a line says, given without its line feed: a record, behind which ` | BEGIN END` may stand,
 /// or has to if the line is to be timed; or `None` where it has no words or is a comment, which
-/// begins with `#`. `BEGIN` and `END` are numbers, the first not above the second. It is refused as
-/// bad where it is not UTF-8 or says no such record, and otherwise only if memory runs out.
+/// begins with `#`, whatever bytes it has. `BEGIN` and `END` are numbers, the first not above the
+/// second. Any other line is refused as bad where it is not UTF-8 or says no such record, and
+/// otherwise only if memory runs out.
 pub fn parse_record_line(
     alloc: Global,
     line: &[u8],

@@ -4,6 +4,6 @@ use Rattle.clsm_script.proofs.plain.call_at_hand.Goals as goal
 
 pub returns-clause-taken : goal.returns-clause-taken
 returns-clause-taken g c =
-    let (text, says) = c.in_ok-call.ensures in
+    let (is_said, text, says) = c.in_ok-call.ensures in
     takes_command _ _ _ _ _ _ c.buffer.ensures (at_hand _ _ _) c.in_ok-line.ensures
-    c.consume.ensures.bytes text says
+    c.consume.ensures.bytes is_said text says

@@ -3,7 +3,7 @@ use Rattle.clsm_script.specs.Command.{IsCommand}
 use Rattle.clsm_script.specs.Line.{Reads}
 use Rattle.std.specs.Io.Buffered.{reader_remaining}
 use Rattle.clsm_script.proofs.AtHand.{leads_kept, leads_taken, line_on, prints_taken}
-use Rattle.clsm_script.proofs.Chains.{fault_found, prints_call, prints_command, prints_kept, prints_nothing, prints_over}
+use Rattle.clsm_script.proofs.Chains.{fault_found, prints_call, prints_command, prints_nothing, prints_over}
 use Rattle.clsm_script.proofs.Chains.{stops_residual}
 use Rattle.clsm_text.proofs.Inputs.{leads_to_end}
 use Rattle.clsm_script.proofs.Readings.{stops_at_error}
@@ -19,7 +19,7 @@ pub returns-then-not-branch-clause-played : goal.returns-then-not-branch-clause-
 returns-then-not-branch-clause-played g c =
     let leads = leads_kept (reader_remaining g.R.Read.remaining) _ _ _ _ c.in_default.ensures.kept c.loop-number.invariant.leads in
     prints_over _ _ _ _ _ _ _ _ leads c.in_ok-read_line.ensures.found
-    c.if-not-branch.true (prints_kept _ _ _ _ _ _ _ _ c.in_ok-flush_before_wait.ensures.kept c.loop-number.invariant.prints)
+    c.if-not-branch.true c.loop-number.invariant.prints
 
 pub returns-in-Err-clause-stopped : goal.returns-in-Err-clause-stopped
 returns-in-Err-clause-stopped g c =
@@ -36,7 +36,7 @@ loop-number-preserved-in-Ok-None g c =
     let on =
     line_on _ _ _ _ _ _ _ _ _ _ _ _ _ _ _ _ leads c.in_ok-read_line.ensures.found c.if-not-branch.false c.in_ok-read_line.ensures.takes
     c.deref.ensures.value c.in-Ok-None.ensures
-    (prints_kept _ _ _ _ _ _ _ _ c.in_ok-flush_before_wait.ensures.kept c.loop-number.invariant.prints)
+    c.loop-number.invariant.prints
     (prints_nothing _ _ _ _ c.in-Ok-None.field-0-is) (c.loop-number.number + 1 - 1) (omega arith) in
     record { leads = on.leads; prints = on.prints; session = c.loop-number.invariant.session; merger = c.loop-number.invariant.merger }
 
@@ -46,9 +46,9 @@ loop-number-preserved g c =
     let on =
     line_on _ _ _ _ _ _ _ _ _ _ _ _ _ _ _ _ leads c.in_ok-read_line.ensures.found c.if-not-branch.false c.in_ok-read_line.ensures.takes
     c.deref.ensures.value c.in-Ok-Some.ensures
-    (prints_kept _ _ _ _ _ _ _ _ c.in_ok-flush_before_wait.ensures.kept c.loop-number.invariant.prints)
+    c.loop-number.invariant.prints
     (prints_command _ _ _ _ _ _ _ _ _ c.in_ok-next.ensures.plays c.in_ok-next.ensures.turns
-    c.in_ok-write_answer.ensures.goes_on c.in_ok-write_answer.ensures.prints (cc)) (c.loop-number.number + 1 - 1) (omega arith) in
+    c.in_ok-write_answer.ensures.goes_on c.in_ok-write_answer.ensures.is_made c.in_ok-write_answer.ensures.prints (cc)) (c.loop-number.number + 1 - 1) (omega arith) in
     record { leads = on.leads; prints = on.prints; session = c.in_ok-next.ensures.session; merger = c.in_ok-next.ensures.merger }
 
 pub loop-number-preserved-in-Call : goal.loop-number-preserved-in-Call
@@ -57,7 +57,7 @@ loop-number-preserved-in-Call g c =
     let on =
     line_on _ _ _ _ _ _ _ _ _ _ _ _ _ _ _ _ leads c.in_ok-read_line.ensures.found c.if-not-branch.false c.in_ok-read_line.ensures.takes
     c.deref.ensures.value c.in-Ok-Some.ensures
-    (prints_kept _ _ _ _ _ _ _ _ c.in_ok-flush_before_wait.ensures.kept c.loop-number.invariant.prints)
+    c.loop-number.invariant.prints
     (prints_call _ _ _ _ _ _ _ c.in_ok-play_call-in-Call.ensures.makes (cc)) (c.loop-number.number + 1 - 1) (omega arith) in
     record { leads = on.leads; prints = on.prints; session = c.in_ok-play_call-in-Call.ensures.session; merger = c.loop-number.invariant.merger }
 

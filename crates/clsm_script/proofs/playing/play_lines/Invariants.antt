@@ -1,5 +1,5 @@
 use Rattle.std.proofs.Common.{◌≡◌, ◌-◌, []}
-use Rattle.std.specs.Io.Buffered.{reader_remaining, writer_contents}
+use Rattle.std.specs.Io.Buffered.{reader_remaining}
 use Rattle.clsm_script.specs.Command.{IsCommand}
 use Rattle.clsm_script.specs.Lines.{outputs_of, stage_of}
 use Rattle.clsm_script.specs.Session.{IsSession}
@@ -14,8 +14,7 @@ invariant-loop-number g l = record {
       (reader_remaining g.R.Read.remaining l.reader) (l.number - 1);
   prints : PrintTo (reader_remaining g.R.Read.remaining l.initial.reader) (l.number - 1)
       (stage_of l.initial.session l.fn.merger.phase []) l.session l.phase
-      (outputs_of (writer_contents g.W.Write.contents l.initial.answers)
-      (writer_contents g.W.Write.contents l.answers));
+      (outputs_of (g.W.Write.contents l.initial.output) (g.W.Write.contents l.output));
   session : IsSession l.fn.merger.store.now l.session;
   merger : (merger_in l.phase).store ≡ l.fn.merger.store.now;
 }

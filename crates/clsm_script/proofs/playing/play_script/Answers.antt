@@ -1,7 +1,7 @@
 use Rattle.std.proofs.Common.{ap, refl, []}
 use Rattle.clsm_store.specs.declared.phase.Phase.TheVariants.{Clean}
 use Rattle.clsm_script.specs.Lines.{IsNewStage, stage_of}
-use Rattle.clsm_script.proofs.Chains.{ended_fault, ended_ok, ended_played, ended_stops, new_reader}
+use Rattle.clsm_script.proofs.Chains.{ended_played, ended_stops, new_reader, stopped_fault}
 use Rattle.clsm_script.proofs.playing.play_script.Goals as goal
 
 pub play_lines-played-requires : goal.play_lines-played-requires
@@ -11,11 +11,11 @@ play_lines-played-requires g c =
 
 pub settle_seats-requires-clause-ends : goal.settle_seats-requires-clause-ends
 settle_seats-requires-clause-ends g c =
-    ended_ok c.play_lines-played.result _ _ c.end-ended.ensures.ended c.play_lines-played.ensures.session
+    c.play_lines-played.ensures.session
 
 pub settle_seats-requires-clause-fault : goal.settle_seats-requires-clause-fault
 settle_seats-requires-clause-fault g c is =
-    ended_fault c.play_lines-played.result _ _ _ _ c.end-ended.ensures.ended c.play_lines-played.ensures.stopped is
+    stopped_fault c.play_lines-played.result _ _ _ c.play_lines-played.ensures.stopped is
 
 pub returns-clause-played : goal.returns-clause-played
 returns-clause-played g c =
@@ -30,13 +30,12 @@ returns-clause-played g c =
       phase_is = refl;
       printed_is = refl;
     } in
-    ended_played c.args.setting.now.config start _ _ _ _ _ _ c.end-ended.result new
+    ended_played c.args.setting.now.config start _ _ _ _ _ c.play_lines-played.result new
     (new_reader _ _ _ _ c.in-Ok.ensures.empty c.in-Ok.ensures.capacity (ap g.R.Read.remaining c.in-Ok.ensures.inner))
-    c.end-ended.ensures.given c.settle_seats.ensures.whole
-    (ended_ok c.play_lines-played.result _ c.end-ended.result c.end-ended.ensures.ended c.play_lines-played.ensures.played)
+    c.settle_seats.ensures.whole c.play_lines-played.ensures.played
 
 pub returns-clause-stopped : goal.returns-clause-stopped
 returns-clause-stopped g c =
     ended_stops c.play_lines-played.result _ c.args.setting.now.config _ _ _
     (new_reader _ _ _ _ c.in-Ok.ensures.empty c.in-Ok.ensures.capacity (ap g.R.Read.remaining c.in-Ok.ensures.inner))
-    c.in_ok-store.ensures.sizes c.play_lines-played.ensures.stopped c.end-ended.result c.end-ended.ensures.ended c.settle_seats.ensures.faultless
+    c.in_ok-store.ensures.sizes c.play_lines-played.ensures.stopped c.settle_seats.ensures.faultless

@@ -121,12 +121,8 @@ pub(super) fn play<T: Threads + Sync + Clock + Wait, R: Read + Drop>(
         faults: &mut faults,
     };
     let Ended { status, output } = command(rt, alloc, words, streams);
-    let shown = match output {
-        Some(screen) => screen.shown,
-        None => Vec::new(alloc),
-    };
     Ok(Played {
-        output: String::from_utf8(shown)?,
+        output: String::from_utf8(output.shown)?,
         faults: String::from_utf8(faults.shown)?,
         status,
     })

@@ -9,4 +9,4 @@ pub returns : goal.returns
 returns c =
     let says = subst (SaysWords c.args.line.now) c.in-Some.is c.in_ok-words.ensures.words in
     let found = subst (Finds (SayLine c.args.timed (texts_of c.deref.result.now))) c.in-None.is c.in_ok-line.ensures in
-    λ _. says_none (SayLine c.args.timed) c.args.line.now c.in-Some.words c.deref.result.now says c.deref.ensures found
+    let (some, none) = says_none (SayLine c.args.timed) c.args.line.now c.in-Some.words c.deref.result.now says c.deref.ensures found in (some, λ _. none)

@@ -5,11 +5,11 @@ use Rattle.clap.specs.declared.parser.matches.ArgMatches.{ArgMatches}
 use Rattle.clsm_command.proofs.Entered.{faults_of, known, met_as, refused_as, rows_met}
 use Rattle.clsm_command.specs.Answers.{IsAnswer, IsInRange, rows_in}
 use Rattle.clsm_model.specs.Config.{IsBetween}
-use Rattle.clsm_command.specs.declared.options.Options.{Options}
-use Rattle.clsm_command.specs.declared.options.Options.TheVariants.{Audit, Explore, Run, Script}
-use Rattle.clsm_command.specs.declared.options.RunOptions.{RunOptions}
+use Rattle.clsm_command.specs.declared.asked.Options.{Options}
+use Rattle.clsm_command.specs.declared.asked.Options.TheVariants.{Audit, Explore, Run, Script}
+use Rattle.clsm_command.specs.declared.asked.RunOptions.{RunOptions}
 use Rattle.clsm_command.proofs.Ranges.{AreRanged, in_range}
-use Rattle.clsm_command.proofs.command_line.parse.Goals as goal
+use Rattle.clsm_command.proofs.command_line.options.Goals as goal
 
 pub chosen-requires : goal.chosen-requires
 chosen-requires g c =
