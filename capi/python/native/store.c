@@ -1,6 +1,7 @@
 /* Stores. */
 #include "native.h"
 
+#include <sched.h>
 #include <string.h>
 #include <time.h>
 
@@ -209,6 +210,23 @@ static PyObject *stats(struct store *self, PyObject *none) {
         if (!number || PyTuple_SetItem(tuple, i, number)) Py_CLEAR(tuple);
     }
     return tuple;
+}
+
+/* Sweeps. While a read holds what a merge replaced, it lets handlers of signals in and asks again. */
+static PyObject *sweep(struct store *self, PyObject *none) {
+    (void)none;
+    for (;;) {
+        if (!check_open(self)) return NULL;
+        int code;
+        clsm_begin_call(self);
+        Py_BEGIN_ALLOW_THREADS
+        code = clsm_sweep(self->handle);
+        if (code == CLSM_PINNED) sched_yield();
+        Py_END_ALLOW_THREADS
+        clsm_end_call(self);
+        if (code != CLSM_PINNED) return none_or_refuse(self, code == CLSM_IDLE ? CLSM_OK : code);
+        if (PyErr_CheckSignals()) return NULL;
+    }
 }
 
 /* ---- Writes */
@@ -485,6 +503,7 @@ static PyMethodDef methods[] = {
     {"_has", METHOD(has), METH_O, NULL},
     {"_count", METHOD(count), METH_FASTCALL, NULL},
     {"_stats", METHOD(stats), METH_NOARGS, NULL},
+    {"_sweep", METHOD(sweep), METH_NOARGS, NULL},
     {"_put", METHOD(put), METH_FASTCALL, NULL},
     {"_remove", METHOD(remove_key), METH_O, NULL},
     {"_write_rows", METHOD(write_rows), METH_O, NULL},

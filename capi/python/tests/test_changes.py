@@ -93,7 +93,7 @@ class Comparing(unittest.TestCase):
         self.store[7] = 70
         with self.store.snapshot() as snapshot:
             self.store.add(7)
-            self.store.update(7, lambda old: (1, 2))
+            self.store.alter(7, lambda old: (1, 2))
             self.assertEqual(self.store.pop(7), (1, 2))
             self.store.setdefault(8, 80)
             self.assertEqual(list(snapshot.scan()), [(7, 70)])
@@ -169,10 +169,10 @@ class Between(unittest.TestCase):
             asked.append(old)
             if others:
                 other = others.pop(0)
-                in_threads([lambda: self.store.update(7, lambda _: other)])
+                in_threads([lambda: self.store.alter(7, lambda _: other)])
             return len(asked)
 
-        self.assertEqual(self.store.update(7, function), 4)
+        self.assertEqual(self.store.alter(7, function), 4)
         self.assertEqual(asked, [70, 71, None, (1, 2)])
         self.assertEqual(self.store[7], 4)
 
@@ -182,7 +182,7 @@ class Between(unittest.TestCase):
                 self.store.remove(7)
             return None
 
-        self.assertIsNone(self.store.update(7, function))
+        self.assertIsNone(self.store.alter(7, function))
         self.assertNotIn(7, self.store)
 
 
@@ -211,10 +211,10 @@ class Functions(unittest.TestCase):
         def function(old: Optional[Value]) -> Value:
             with self.store.snapshot() as snapshot:
                 self.assertEqual(snapshot[7], old)
-            self.store.update(8, one_more)
+            self.store.alter(8, one_more)
             return self.store.add(9, 5)
 
-        self.assertEqual(self.store.update(7, function), 5)
+        self.assertEqual(self.store.alter(7, function), 5)
         self.assertEqual(list(self.store.scan()), [(7, 5), (8, 1), (9, 5)])
 
     def test_nobody_waits_for_it(self) -> None:
@@ -235,7 +235,7 @@ class Functions(unittest.TestCase):
             self.assertTrue(in_child(child))
             return 71
 
-        self.assertEqual(self.store.update(7, function), 71)
+        self.assertEqual(self.store.alter(7, function), 71)
         self.assertEqual(self.store[7], 71)
 
 
@@ -271,7 +271,7 @@ class Threads(unittest.TestCase):
         self.check_sums(self.store, self.store.add)
 
     def test_updating(self) -> None:
-        self.check_sums(self.store, lambda key: self.store.update(key, one_more))
+        self.check_sums(self.store, lambda key: self.store.alter(key, one_more))
 
     def test_replacing(self) -> None:
         def add(key: int) -> Value:
@@ -286,7 +286,7 @@ class Threads(unittest.TestCase):
         with Store(keys=1_000, epoch=16, merge_in_calls=True) as store:
             self.check_sums(store, store.add)
         with Store(keys=1_000, epoch=16, merge_in_calls=True) as store:
-            self.check_sums(store, lambda key: store.update(key, one_more))
+            self.check_sums(store, lambda key: store.alter(key, one_more))
 
     def answers(self, call: Callable[[int, int], Any]) -> List[List[Any]]:
         """What each thread's calls answer, key by key."""

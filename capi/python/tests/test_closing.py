@@ -31,7 +31,7 @@ def calls_of(store: Store) -> List[Callable[[], object]]:
         lambda: store.add(7),
         lambda: store.replace(7, 7, 1),
         lambda: store.replace(7, None, None),
-        lambda: store.update(7, lambda old: old),
+        lambda: store.alter(7, lambda old: old),
         lambda: store.count(),
         lambda: store.count(5, 5),
         lambda: store.scan(),
@@ -129,7 +129,7 @@ class Closing(unittest.TestCase):
                     while True:
                         store[key % 500] = key
                         store.add(key % 500)
-                        store.update(key % 500, lambda old: old)
+                        store.alter(key % 500, lambda old: old)
                         with store.snapshot() as snapshot:
                             next(store.scan())
                             snapshot.count()

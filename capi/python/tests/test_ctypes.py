@@ -188,5 +188,5 @@ class Changes(unittest.TestCase):
         with Store(keys=1_000) as store:
             store[7] = 70
             with mock.patch.object(library, "replace", replace):
-                self.assertEqual(store.update(7, lambda _: 80), 80)
+                self.assertEqual(store.alter(7, lambda _: 80), 80)
         self.assertEqual(apart, [True] * 4)

@@ -93,7 +93,7 @@ def changes_of(store: Store, value: int) -> List[Callable[[], object]]:
         partial(store.setdefault, 8, 1),
         partial(store.add, 7),
         partial(store.replace, 7, value, 1),
-        partial(store.update, 7, lambda old: old),
+        partial(store.alter, 7, lambda old: old),
     ]
 
 

@@ -27,7 +27,6 @@ UNUSED_CALLS = {
     "clsm_snapshot_close",
     "clsm_snapshot_number",
     "clsm_store_snapshot",
-    "clsm_sweep",
     "clsm_time",
     "clsm_walk_close",
     "clsm_walk_next",
@@ -153,7 +152,7 @@ class Declarations(unittest.TestCase):
         keeping += [library.PUT.attempt, library.REMOVE.attempt, library.snapshot_time]
         keeping += [library.caller_close_at, library.snapshot_close_at]
         releasing = [library.count, library.snapshot_count, library.snapshot_page]
-        releasing += [library.PUT.wait, library.REMOVE.wait, library.batch, library.stats]
+        releasing += [library.PUT.wait, library.REMOVE.wait, library.batch, library.stats, library.sweep]
         releasing += [library.add, library.put_if_absent, library.replace]
         releasing += [library.store_open, library.store_close_at, library.snapshot_open]
         releasing += [library.caller_open]

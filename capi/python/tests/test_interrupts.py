@@ -115,7 +115,7 @@ def count(store: Store) -> None:
 
 
 def change(store: Store) -> None:
-    store.update(4, lambda old: 4)
+    store.alter(4, lambda old: 4)
 
 
 def walk(store: Store) -> None:

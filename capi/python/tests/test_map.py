@@ -2,13 +2,17 @@
 
 from __future__ import annotations
 
+import collections.abc
 import copy
 import pickle
 import unittest
+from functools import partial
 from random import Random
 from typing import Any, Callable, Dict, List, Optional, Tuple
 
-from cupolanettle import Snapshot, Store, Value
+from cupolanettle import Closed, Snapshot, Store, Value
+
+from .support import in_threads
 
 GREATEST = 2**64 - 1
 Row = Tuple[int, Value]
@@ -129,7 +133,7 @@ class RandomCalls:
             asked.append(old)
             return desired
 
-        self.test.assertEqual(self.store.update(key, function), desired)
+        self.test.assertEqual(self.store.alter(key, function), desired)
         self.test.assertEqual(asked, [self.model.get(key)])
         self.put(key, desired)
 
@@ -210,7 +214,7 @@ class Values(unittest.TestCase):
             lambda value: self.store.setdefault(6, value),
             lambda value: self.store.replace(5, value, 51),
             lambda value: self.store.replace(5, 50, value),
-            lambda value: self.store.update(5, lambda old: value),
+            lambda value: self.store.alter(5, lambda old: value),
         ]
 
     def test_they_come_back(self) -> None:
@@ -262,7 +266,7 @@ class Values(unittest.TestCase):
         answers = [
             self.store.add(seven, seven),
             self.store.setdefault(8, True),
-            self.store.update(9, lambda old: seven),
+            self.store.alter(9, lambda old: seven),
             self.store.pop(seven),
         ]
         self.assertEqual(answers, [14, 1, 7, 14])
@@ -284,7 +288,7 @@ class Keys(unittest.TestCase):
             self.store.add,
             lambda key: self.store.setdefault(key, 1),
             lambda key: self.store.replace(key, None, 1),
-            lambda key: self.store.update(key, lambda old: 1),
+            lambda key: self.store.alter(key, lambda old: 1),
             *self.reads_of_a_key(self.store),
             *self.reads_of_a_key(self.snapshot),
         ]
@@ -318,7 +322,7 @@ class Keys(unittest.TestCase):
 
     def test_ranges_of_other_types(self) -> None:
         for call in self.calls_of_a_range():
-            for start, stop in (None, 5), (1.0, 5), (0, "5"), (0, 5.0):
+            for start, stop in (1.0, 5), (0, "5"), (0, 5.0):
                 with self.subTest(call=call, range=(start, stop)):
                     self.assertRaises(TypeError, call, start, stop)
 
@@ -377,16 +381,82 @@ class Scans(unittest.TestCase):
 
 
 class Objects(unittest.TestCase):
-    def test_they_are_not_iterated_copied_or_pickled(self) -> None:
+    def test_they_are_not_copied_or_pickled(self) -> None:
         with Store() as store, store.snapshot() as snapshot:
             readers: List[Any] = [store, snapshot]
             for reader in readers:
                 with self.subTest(reader=reader):
-                    self.assertRaises(TypeError, iter, reader)
-                    self.assertRaises(TypeError, len, reader)
                     self.assertRaises(TypeError, copy.copy, reader)
                     self.assertRaises(TypeError, pickle.dumps, reader)
-                    self.assertTrue(reader)
+
+    def test_a_store_is_no_collection(self) -> None:
+        with Store() as store:
+            anything: Any = store
+            self.assertRaises(TypeError, iter, anything)
+            self.assertRaises(TypeError, len, anything)
+            self.assertTrue(store)
+
+    def test_a_snapshot_is_a_mapping(self) -> None:
+        with Store(keys=1_000, epoch=4) as store:
+            with store.snapshot() as empty:
+                self.assertFalse(empty)
+                self.assertEqual((len(empty), list(empty), dict(empty)), (0, [], {}))
+                self.assertEqual(empty, {})
+            wanted: Dict[int, Value] = {key: (key, 1) if key % 3 else key for key in range(200)}
+            store.update(wanted)
+            snapshot = store.snapshot()
+            store.update({key: 0 for key in range(300)})
+            self.assertIsInstance(snapshot, collections.abc.Mapping)
+            self.assertTrue(snapshot)
+            self.assertEqual(len(snapshot), 200)
+            self.assertEqual(list(snapshot), list(range(200)))
+            self.assertEqual(list(snapshot.keys()), list(range(200)))
+            self.assertEqual(dict(snapshot), wanted)
+            self.assertEqual(list(snapshot.items()), list(wanted.items()))
+            self.assertEqual(list(snapshot.values()), list(wanted.values()))
+            self.assertEqual(snapshot, wanted)
+            self.assertNotEqual(snapshot, {**wanted, 7: 0})
+            self.assertEqual(snapshot.keys() & {7, 999}, {7})
+            self.assertIn((3, 3), snapshot.items())
+            self.assertNotIn((3, 4), snapshot.items())
+            items = snapshot.items()
+            self.assertEqual(len(items), 200)
+            self.assertEqual(list(items), list(items))
+            with store.snapshot() as other:
+                self.assertNotEqual(snapshot, other)
+                self.assertEqual(other, other)
+                self.assertEqual(len({snapshot, other}), 2)
+            snapshot.close()
+            self.assertRaises(Closed, len, snapshot)
+            self.assertRaises(Closed, list, snapshot)
+            self.assertRaises(Closed, bool, snapshot)
+
+    def test_updates(self) -> None:
+        with Store(keys=1_000, epoch=4) as store:
+            store.update({7: 70, 8: (80, 81)})
+            store.update((key, key) for key in range(5))
+            store.update([(7, 71), (7, 72)])
+            rows = [(0, 0), (1, 1), (2, 2), (3, 3), (4, 4), (7, 72), (8, (80, 81))]
+            self.assertEqual(list(store.scan()), rows)
+            with store.snapshot() as snapshot:
+                store.update(snapshot)
+            self.assertEqual(list(store.scan()), rows)
+            bad: Any = {1: 10, 2: "two", 3: 30}
+            self.assertRaises(TypeError, store.update, bad)
+            self.assertEqual((store[1], store[2], store[3]), (10, 2, 3))
+
+    def test_sweeps(self) -> None:
+        with Store(keys=1_000, epoch=4) as store:
+            store.sweep()
+            store.update((key, key) for key in range(500))
+            store.sweep()
+            now = store.stats()
+            self.assertEqual(now.epoch_writes, 0)
+            self.assertGreaterEqual(now.merges, 500 // 4)
+            jobs: List[Callable[[], object]] = [store.sweep] * 4
+            in_threads(jobs + [partial(store.update, {1: 1, 2: 2})] * 4)
+            self.assertEqual(store.count(), 500)
+        self.assertRaises(Closed, store.sweep)
 
     def test_snapshots_have_times_and_stay_as_they_are(self) -> None:
         with Store(keys=1_000, epoch=4) as store:

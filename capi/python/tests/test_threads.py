@@ -85,7 +85,7 @@ class Threads(unittest.TestCase):
                 seen = [store.get(key, 0) for key in range(4)]
                 self.assertTrue(all(old <= new for old, new in zip(found, seen)))
                 self.assertEqual(store.count(number, number + 1), int(number < 4))
-                store.update(number % 4, lambda old: old)
+                store.alter(number % 4, lambda old: old)
 
         with Store(keys=1_000, epoch=64) as store:
             in_threads([partial(work, number) for number in range(20)])

@@ -24,6 +24,8 @@ installed in the system. ``CLSM_BACKEND`` chooses: ``extension`` or ``ctypes``.
 """
 
 from ._batch import Batch
+from ._codecs import KeyCodec, ValueCodec, floating, octets, pairs, signed, text
+from ._coded import CodedStore as _CodedStore
 from ._errors import Closed, Code, Error, NoSeat, OwnSnapshot, RunFull, VersionsFull
 from ._finding import VERSION as __version__
 from ._reading import Rows
@@ -37,6 +39,7 @@ __all__ = [
     "Closed",
     "Code",
     "Error",
+    "KeyCodec",
     "NoSeat",
     "OwnSnapshot",
     "Rows",
@@ -45,8 +48,14 @@ __all__ = [
     "Statistics",
     "Store",
     "Value",
+    "ValueCodec",
     "VersionsFull",
     "__version__",
+    "floating",
+    "octets",
+    "pairs",
+    "signed",
+    "text",
 ]
 
 # Users see these names, and not the files that they are written in.

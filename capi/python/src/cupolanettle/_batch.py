@@ -49,7 +49,7 @@ class Batch:
         """
         if value is None:
             raise TypeError("None is no value; remove removes a key")
-        self._rows.extend(core.pack(key, value))
+        self._rows.extend(self._store._pack(key, value))
 
     def remove(self, key: int) -> None:
         """Adds a removal of the key, whether or not that has a value.
@@ -59,7 +59,7 @@ class Batch:
         ...     len(batch)
         1
         """
-        self._rows.extend(core.pack(key, None))
+        self._rows.extend(self._store._pack(key, None))
 
     def __len__(self) -> int:
         """How many writes it has.

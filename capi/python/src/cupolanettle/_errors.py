@@ -56,6 +56,7 @@ class Code(enum.IntEnum):
 OK = int(Code.OK)
 NOT_FOUND = int(Code.NOT_FOUND)
 KEPT = int(Code.KEPT)
+IDLE = int(Code.IDLE)
 
 
 class Error(Exception):

@@ -33,7 +33,7 @@ from typing import (
 )
 
 from . import _library as library
-from ._errors import KEPT, NOT_FOUND, OK, Code, error_of
+from ._errors import IDLE, KEPT, NOT_FOUND, OK, Code, error_of
 from ._handles import Alarm, Caller, Handle, Lease, Silent, View, prune, switch_off, thread_number
 from ._values import Row, Value, key_of, word_of, words_of
 
@@ -271,6 +271,22 @@ class Store:
         for refused, name in _COUNTED.items():
             setattr(found, name, getattr(found, name) - self._tried_again[refused])
         return tuple(getattr(found, name) for name, _ in found._fields_)
+
+    # ---- Merging
+
+    def _sweep(self) -> None:
+        """Sweeps, with a caller lent to it, so that the store is closed after it. While a read
+        holds what a merge replaced, it asks again."""
+        code = self._call(_WRITERS, self._sweep_once)
+        while code == Code.PINNED:
+            time.sleep(_PAUSE)
+            code = self._call(_WRITERS, self._sweep_once)
+        if code != IDLE:
+            self._check(code)
+
+    def _sweep_once(self, _: object) -> int:
+        code: int = library.sweep(self._handle.pointer)
+        return code
 
     # ---- Writes
 

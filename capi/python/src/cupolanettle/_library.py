@@ -104,6 +104,7 @@ DECLARED: Dict[str, Tuple[Any, Sequence[Any]]] = {
     "clsm_open": (c_int, [POINTER(Options), POINTER(_HANDLE)]),
     "clsm_close_at": (c_int, [POINTER(_HANDLE)]),
     "clsm_stats": (c_int, [_HANDLE, POINTER(Statistics)]),
+    "clsm_sweep": (c_int, [_HANDLE]),
     "clsm_caller_open": (c_int, [_HANDLE, POINTER(_HANDLE)]),
     "clsm_caller_close_at": (None, [POINTER(_HANDLE)]),
     "clsm_seen": (c_uint64, [_HANDLE]),
@@ -187,6 +188,7 @@ class WriteCalls(NamedTuple):
 store_open: Call = _bind(_releasing, "clsm_open")
 store_close_at: Call = _bind(_releasing, "clsm_close_at")
 stats: Call = _bind(_releasing, "clsm_stats")
+sweep: Call = _bind(_releasing, "clsm_sweep")
 caller_open: Call = _bind(_releasing, "clsm_caller_open")
 caller_close_at: Call = _bind(_keeping, "clsm_caller_close_at")
 seen: Call = _bind(_keeping, "clsm_seen")

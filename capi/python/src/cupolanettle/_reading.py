@@ -2,7 +2,7 @@
 
 from __future__ import annotations
 
-from typing import Any, NoReturn, Optional, TypeVar, Union, overload
+from typing import Any, NoReturn, Optional, Tuple, TypeVar, Union, overload
 
 from . import _core as core
 from ._values import Value, range_of
@@ -42,9 +42,6 @@ class Rows(core.Rows):
 class Reader:
     """Reads by key and by range."""
 
-    # A class with __getitem__ would otherwise be asked for the keys 0, 1, 2 ..
-    __iter__: None = None
-
     def _get(self, key: int, default: object) -> Any:
         raise NotImplementedError
 
@@ -53,6 +50,13 @@ class Reader:
 
     def _count(self, first: int, last: int) -> int:
         raise NotImplementedError
+
+    def _range(self, start: Optional[int], stop: Optional[int]) -> Tuple[int, int]:
+        """The first and the last key of the range; the first is greater if it is empty."""
+        return range_of(0 if start is None else start, stop)
+
+    def _rows(self, *how: Any) -> Rows:
+        return Rows(*how)
 
     def __getitem__(self, key: int) -> Value:
         """The value of the key; ``KeyError`` if it has none.
@@ -93,10 +97,10 @@ class Reader:
         """
         return self._has(key)
 
-    def count(self, start: int = 0, stop: Optional[int] = None) -> int:
+    def count(self, start: Optional[int] = None, stop: Optional[int] = None) -> int:
         """How many keys from ``start`` on and below ``stop`` have a value; visits all of them.
 
-        Without ``stop`` there is no upper end. The greatest key is 2**64 - 1, so 2**64 is the
+        Without ``start`` it begins at the least key; without ``stop`` there is no upper end. The greatest key is 2**64 - 1, so 2**64 is the
         greatest bound.
 
         >>> with Store() as store:
@@ -105,7 +109,7 @@ class Reader:
         ...     store.count(), store.count(4), store.count(3, 20)
         (3, 2, 2)
         """
-        return self._count(*range_of(start, stop))
+        return self._count(*self._range(start, stop))
 
     def __reduce__(self) -> NoReturn:
         raise TypeError(f"a {type(self).__name__} cannot be copied or pickled")

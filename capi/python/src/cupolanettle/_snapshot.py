@@ -2,21 +2,41 @@
 
 from __future__ import annotations
 
-from typing import Optional
+from typing import ItemsView, Iterator, Mapping, Optional, ValuesView
 
 from . import _core as core
+from ._errors import Closed
 from ._reading import Reader, Rows
-from ._values import range_of
+from ._values import Row, Value
 
 # Short scans read little, long ones make few calls.
 FIRST_ROOM = 64
 GREATEST_ROOM = 1_024
 
 
-class Snapshot(core.Snapshot, Reader):
+class Items(ItemsView[int, Value]):
+    """The rows of a snapshot."""
+
+    _mapping: Snapshot
+
+    def __iter__(self) -> Iterator[Row]:
+        return self._mapping.scan()
+
+
+class Values(ValuesView[Value]):
+    """The values of a snapshot."""
+
+    _mapping: Snapshot
+
+    def __iter__(self) -> Iterator[Value]:
+        return (value for _, value in self._mapping.scan())
+
+
+class Snapshot(core.Snapshot, Reader, Mapping[int, Value]):
     """The map as it was when the snapshot was opened, by :meth:`Store.snapshot`.
 
-    It is read as a store is, by any thread, while threads write beside it. It keeps one of
+    It is a ``collections.abc.Mapping``, by rising key, which is read by any thread while threads
+    write beside it. ``len`` visits all keys, and ``==`` all rows. It keeps one of
     the store's 64 seats. Use it with ``with``, or close it: while it is open, the store keeps all
     versions that it may read. It is also closed with its store, or when nothing refers to it, nor
     to a scan of it.
@@ -25,9 +45,53 @@ class Snapshot(core.Snapshot, Reader):
     ...     store[7] = 70
     ...     with store.snapshot() as snapshot:
     ...         store[7] = 71
-    ...         snapshot[7], store[7]
-    (70, 71)
+    ...         snapshot[7], store[7], dict(snapshot), snapshot == {7: 70}
+    (70, 71, {7: 70}, True)
     """
+
+    __hash__ = object.__hash__
+
+    # ---- As a mapping
+
+    def __iter__(self) -> Iterator[int]:
+        """The keys, by rising key."""
+        return (key for key, _ in self.scan())
+
+    def __len__(self) -> int:
+        """How many keys have a value; visits all of them."""
+        return self.count()
+
+    def __bool__(self) -> bool:
+        """Whether a key has a value."""
+        return next(self.scan(), None) is not None
+
+    def items(self) -> ItemsView[int, Value]:
+        """The rows, by rising key: a view that can be gone over again.
+
+        >>> with Store() as store:
+        ...     store.update({7: 70, 3: 30})
+        ...     with store.snapshot() as snapshot:
+        ...         list(snapshot.items())
+        [(3, 30), (7, 70)]
+        """
+        return Items(self)
+
+    def values(self) -> ValuesView[Value]:
+        """The values, by rising key: a view that can be gone over again.
+
+        >>> with Store() as store:
+        ...     store.update({7: 70, 3: 30})
+        ...     with store.snapshot() as snapshot:
+        ...         sum(snapshot.values())
+        100
+        """
+        return Values(self)
+
+    def __repr__(self) -> str:
+        try:
+            return f"<Snapshot of time {self._time}>"
+        except Closed:
+            return "<Snapshot, closed>"
 
     @property
     def time(self) -> int:
@@ -43,7 +107,7 @@ class Snapshot(core.Snapshot, Reader):
         """
         return self._time
 
-    def scan(self, start: int = 0, stop: Optional[int] = None) -> Rows:
+    def scan(self, start: Optional[int] = None, stop: Optional[int] = None) -> Rows:
         """The snapshot's iterator: its rows from ``start`` on and below ``stop``, of its moment.
 
         A row is a key and its value; they come by rising key. Without ``stop`` there is no upper
@@ -56,7 +120,7 @@ class Snapshot(core.Snapshot, Reader):
         ...         list(snapshot.scan(3, 20))
         [(3, 30), (7, 70)]
         """
-        return Rows(self, *range_of(start, stop), FIRST_ROOM, GREATEST_ROOM, False)
+        return self._rows(self, *self._range(start, stop), FIRST_ROOM, GREATEST_ROOM, False)
 
     def close(self) -> None:
         """Closes the snapshot, after the calls that are running on it. Closes a closed one, too.

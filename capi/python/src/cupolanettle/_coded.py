@@ -1,0 +1,104 @@
+"""Stores whose keys and values are written by codecs, and what is read of them."""
+
+from __future__ import annotations
+
+from typing import Any, Optional, Tuple
+
+from . import _core as core
+from ._codecs import AnyKeyCodec, AnyValueCodec, plain
+from ._reading import Reader, Rows
+from ._snapshot import Snapshot
+from ._store import Store
+from ._values import range_of
+
+
+class CodedRows(Rows):
+    """Rows of a coded store."""
+
+    _keys: AnyKeyCodec
+    _values: AnyValueCodec
+
+    def __next__(self) -> Tuple[Any, Any]:
+        number, words = super().__next__()
+        return self._keys.of_key(number), self._values.of_value(words)
+
+
+class Coded(Reader):
+    """Reads by key and by range, of a reader of numbers and words."""
+
+    _keys: AnyKeyCodec
+    _values: AnyValueCodec
+
+    def _decoded(self, words: Any) -> Any:
+        """The value; ``None`` stands for no value."""
+        return None if words is None else self._values.of_value(words)
+
+    def _encoded(self, value: Any) -> Any:
+        """The words; ``None`` stands for no value."""
+        return None if value is None else self._values.value_of(value)
+
+    def _get(self, key: Any, default: object) -> Any:
+        words = super()._get(self._keys.key_of(key), None)
+        return default if words is None else self._values.of_value(words)
+
+    def _has(self, key: Any) -> bool:
+        return super()._has(self._keys.key_of(key))
+
+    def _range(self, start: Any, stop: Any) -> Tuple[int, int]:
+        first = 0 if start is None else self._keys.key_of(start)
+        return range_of(first, None if stop is None else self._keys.key_of(stop))
+
+    def _rows(self, *how: Any) -> Rows:
+        rows = CodedRows(*how)
+        rows._keys, rows._values = self._keys, self._values
+        return rows
+
+
+class CodedSnapshot(Coded, Snapshot):
+    """A snapshot of a coded store."""
+
+
+class CodedStore(Coded, Store):
+    """A store with codecs of keys and values."""
+
+    def __init__(
+        self,
+        *,
+        key: Optional[AnyKeyCodec] = None,
+        value: Optional[AnyValueCodec] = None,
+        **options: Any,
+    ) -> None:
+        self._keys = plain if key is None else key
+        self._values = plain if value is None else value
+        super().__init__(**options)
+
+    def _put(self, key: Any, value: Any) -> None:
+        super()._put(self._keys.key_of(key), self._values.value_of(value))
+
+    def _remove(self, key: Any) -> None:
+        super()._remove(self._keys.key_of(key))
+
+    def _add(self, key: Any, by: Any) -> Any:
+        return self.alter(key, lambda old: by if old is None else old + by)
+
+    def _put_if_absent(self, key: Any, value: Any) -> Any:
+        held = super()._put_if_absent(self._keys.key_of(key), self._values.value_of(value))
+        return self._decoded(held)
+
+    def _replace(
+        self, key: Any, expected: Any, desired: Any
+    ) -> Tuple[bool, Optional[Any], Optional[Any]]:
+        words = self._encoded(expected), self._encoded(desired)
+        is_written, before, after = super()._replace(self._keys.key_of(key), *words)
+        return is_written, self._decoded(before), self._decoded(after)
+
+    def _pack(self, key: Any, value: Any) -> bytes:
+        return core.pack(self._keys.key_of(key), self._encoded(value))
+
+    def snapshot(self) -> Snapshot:
+        snapshot = CodedSnapshot(self)
+        snapshot._keys, snapshot._values = self._keys, self._values
+        return snapshot
+
+
+Store._coded = CodedStore
