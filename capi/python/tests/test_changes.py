@@ -198,13 +198,13 @@ class Functions(unittest.TestCase):
         def function(_: Optional[Value]) -> Value:
             raise ZeroDivisionError
 
-        self.assertRaises(ZeroDivisionError, self.store.update, 7, function)
-        self.assertRaises(ZeroDivisionError, self.store.update, 8, function)
+        self.assertRaises(ZeroDivisionError, self.store.alter, 7, function)
+        self.assertRaises(ZeroDivisionError, self.store.alter, 8, function)
         self.assertEqual(list(self.store.scan()), [(7, 70)])
 
     def test_it_is_no_function(self) -> None:
-        update: Any = self.store.update
-        self.assertRaises(TypeError, update, 7, 71)
+        alter: Any = self.store.alter
+        self.assertRaises(TypeError, alter, 7, 71)
         self.assertEqual(list(self.store.scan()), [(7, 70)])
 
     def test_it_calls_the_store(self) -> None:
@@ -222,7 +222,7 @@ class Functions(unittest.TestCase):
             in_threads([self.store.close])
             return 71
 
-        self.assertRaises(Closed, self.store.update, 7, function)
+        self.assertRaises(Closed, self.store.alter, 7, function)
         self.assertRaises(Closed, self.store.get, 7)
 
     def test_it_forks(self) -> None:
