@@ -75,6 +75,7 @@ CountsCall _ _ _ _ = ⊥
 -- a read was answered at the clock as it looked at it, but under a snapshot
 abbrev pub ReadsAtClock : Call → SeatState → SeatState → Answer → Type 0
 ReadsAtClock (Get _) old new (Read got) = new.clock ≡ Some got.time
+ReadsAtClock Snap old new (Snapshot (Ok t)) = new.clock ≡ Some t
 ReadsAtClock (Scan _ _) old new (Scanned (Ok scan)) = IsAtClock old new scan.time
 ReadsAtClock (Page _ _ _) old new (Paged (Ok page)) = IsAtClock old new page.time
 ReadsAtClock _ _ _ _ = ⊤

@@ -151,6 +151,8 @@ pub record OpensSnapshot (old new : SeatState) (result : Result ℕ Open) : Type
   -- answered: one record more, and the snapshot is open at this time
   pub opened : IfOk result (λ time. Answers old new time Snapshot)
   -- as get
+  pub clock : IfOk result (λ time. new.clock ≡ Some time)
+  -- as get
   pub lock : IfOk result (λ time. TakesNoLock old.tally new.tally)
   -- refused: one was open, at this time, and nothing was done
   pub «open» : IfErr result (λ refusal. (new ≡ old) × (old.snapshot ≡ Some refusal.time))

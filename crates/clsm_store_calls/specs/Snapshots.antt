@@ -10,7 +10,8 @@ use Rattle.clsm_words.specs.Knowing.{known_of}
 use Rattle.clsm_store_calls.specs.Resting.{GoesOn}
 use Rattle.clsm_store_calls.specs.Tally.{TakesNoLock, tally_of}
 
--- it opened a snapshot at the time, which is recorded, and below which the seat knows all
+-- it opened a snapshot at the time, which is the clock as it looked at it last and below which the
+-- seat knows all, and that is recorded
 pub record OpensAt (old new : Known) (t : ℕ) : Type 0 where
   pub number : new.number ≡ old.number
   pub layout : new.layout ≡ old.layout
@@ -19,6 +20,7 @@ pub record OpensAt (old new : Known) (t : ℕ) : Type 0 where
   pub calls : new.view.calls ≡ old.view.calls ++ call_of old.number t Snapshot ∷ []
   pub due : new.view.due ≡ t
   pub above : old.view.due ≤ t
+  pub clock : new.view.clock ≡ Some t
   pub unlocked : TakesNoLock (tally_of old) (tally_of new)
 
 -- it read under the snapshot of this time, up to which it knows all, and the read is recorded there
