@@ -1,10 +1,10 @@
 -- Lines that say nothing: their first byte that is no space is `#`, or there is none.
-use Rattle.std.proofs.Common.{◌≡◌, ◌∙◌, ℕ, ◌==◌, Bool, true, false, not, List, [], ◌∷◌, ◌++◌, length, Option, Some, None}
+use Rattle.std.proofs.Common.{◌≡◌, ◌≢◌, ◌∙◌, ℕ, ◌==◌, Bool, true, false, not, List, [], ◌∷◌, ◌++◌, length, Option, Some, None}
 use Rattle.std.proofs.Common.{MatchOption, IsTrue, refl, ap, sym, subst, ◌⊎◌, inl, inr, arith, take, drop}
 use Rattle.std.proofs.lemmas.Bool.{cases_eq, ne_eqb}
 use Rattle.std.proofs.lemmas.List.{take-append-drop}
 use Rattle.std.specs.Prelude.{⊤}
-use Rattle.std.specs.List.{filter, onto_first, slice_split}
+use Rattle.std.specs.List.{AllByRecursion, filter, onto_first, slice_split}
 use Rattle.std.specs.Option.{option_or}
 use Rattle.std.proofs.lemmas.List.Folds.{find-append}
 use Rattle.clsm_text.specs.Line.{words_of, IsComment}
@@ -41,6 +41,19 @@ told_by_first (b ∷ line) = begins b line (told_by_first line) (b == 32) refl
 -- a line that begins with spaces begins as what follows them; any other as it begins
 pub said_append : (xs ys : List ℕ) → first_said (xs ++ ys) ≡ option_or (first_said xs) (first_said ys)
 said_append xs ys = find-append (λ b. not (b == 32)) xs ys
+
+-- no line feed is among spaces
+fed_after : (b : ℕ) (spaces : List ℕ) → (b ≡ 32) ⊎ (b ≢ 32) →
+    (first_said spaces ≡ None → AllByRecursion (λ c. c ≢ 10) spaces) → first_said (b ∷ spaces) ≡ None →
+    AllByRecursion (λ c. c ≢ 10) (b ∷ spaces)
+fed_after b spaces (inl space) rest blank =
+    ((λ feed. absurd (cc)), rest (subst (λ c. first_said (c ∷ spaces) ≡ None) space blank))
+fed_after b spaces (inr other) rest blank =
+    let wrong : Some b ≡ None = rw (ne_eqb b 32 other) at blank in absurd (cc)
+
+pub blank_fed : (spaces : List ℕ) → first_said spaces ≡ None → AllByRecursion (λ c. c ≢ 10) spaces
+blank_fed [] blank = tt
+blank_fed (b ∷ spaces) blank = fed_after b spaces (cases_eq b 32) (blank_fed spaces) blank
 
 or_kept : (first other : Option ℕ) → ¬ IsSilent first → option_or first other ≡ first
 or_kept None other says = absurd (says tt)

@@ -5,14 +5,14 @@ use Rattle.std.proofs.Common.{append_assoc, drop_of_length-le}
 use Rattle.std.proofs.KnownBytes.{Consumes-trans}
 use Rattle.std.proofs.Math.Seq.{take-append_seam, drop-append_seam}
 use Rattle.std.proofs.lemmas.List.{length-append, take-append-drop, take-take}
-use Rattle.std.proofs.lemmas.List.Elements.{All-nil, All-append, recursion_from_All}
+use Rattle.std.proofs.lemmas.List.Elements.{All-nil, All-append, All-from_recursion, recursion_from_All}
 use Rattle.std.specs.Io.KnownBytes.{Consumes, IsAtEnd, Keeps}
 use Rattle.std.specs.Option.{option_or}
 use Rattle.clsm_text.specs.Input.{first_line, TakesPart}
 use Rattle.clsm_text.specs.Line.{words_of, IsComment}
-use Rattle.clsm_text.specs.Taken.{first_said, IsShortened, IsTakenWhole, StandsFor, TakesLine}
+use Rattle.clsm_text.specs.Taken.{first_said, IsShortened, IsTakenWhole, StandsFor, TakesLine, TakesSpaces}
 use Rattle.clsm_text.proofs.Lines.{HasNoFeed, first_begins, first_ended, first_fed, inside_first, rest_fed}
-use Rattle.clsm_text.proofs.Silence.{IsSilent, said_append, said_kept, told_by_first}
+use Rattle.clsm_text.proofs.Silence.{IsSilent, blank_fed, said_append, said_kept, told_by_first}
 use Rattle.clsm_text.specs.declared.input.Part.TheVariants as parts
 
 -- nothing was left to take
@@ -69,16 +69,33 @@ kept_more taken kept (b ∷ more) (inr (long, inr (x, y, full))) short =
 
 -- more is taken, and what is kept is shortened
 kept_short : (taken kept more new : List ℕ) → IsKept taken kept → length (kept ++ more) ≡ 4097 →
-    IsShortened (kept ++ more) new → IsKept (taken ++ more) new
+    IsShortened (kept ++ more) new → (4096 < length (taken ++ more)) × IsShortened (taken ++ more) new
 kept_short taken kept more new is full short =
-    let same = same_said taken kept more is in
-    inr (
+    let same = same_said taken kept more is in (
       ⊎_elim (λ (e : kept ≡ taken). let whole = ap (λ (l : List ℕ). length (l ++ more)) e in omega arith)
           (λ (o : (4096 < length taken) × IsShortened taken kept). let long = o.0 in omega (arith, length-append taken more)) is,
       ⊎_elim
           (λ (o : (first_said (kept ++ more) ≡ Some 35) × (first_said new ≡ Some 35)). inl (same ∙ o.0, o.1))
           (λ (o : (first_said (kept ++ more) ≡ None) × (first_said new ≡ None) × (length new ≡ 4096)).
           inr (same ∙ o.0, o.1, o.2)) short,
+    )
+
+-- spaces are taken behind that, and not kept
+short_skipped : (taken spaces new : List ℕ) → first_said spaces ≡ None →
+    (4096 < length taken) × IsShortened taken new → IsKept (taken ++ spaces) new
+short_skipped taken spaces new blank (long, inl (a, b)) =
+    inr (
+      omega (arith, length-append taken spaces),
+      inl (said_append taken spaces ∙ ap (λ o. option_or o (first_said spaces)) a, b),
+    )
+short_skipped taken spaces new blank (long, inr (a, b, full)) =
+    inr (
+      omega (arith, length-append taken spaces),
+      inr (
+        said_append taken spaces ∙ ap (λ o. option_or o (first_said spaces)) a ∙ blank,
+        b,
+        full,
+      ),
     )
 
 -- shortened lines say nothing
@@ -274,15 +291,18 @@ module _ (old now new : Option (List ℕ)) (before after : List ℕ) (was : IsTa
         (kept_more was.taken before part.more was.kept_is (subst (λ l. length l ≤ 4096) part.grows short));
   }
 
-  -- and what is kept is shortened
-  pub taken_short : (kept : List ℕ) → TakesPart now new before after parts.Some → length after ≡ 4097 →
-      IsShortened after kept → IsTaken old new kept
-  taken_short kept part full short = record {
-    taken = was.taken ++ part.more;
-    takes = Consumes-trans _ _ _ was.taken part.more was.takes part.takes;
-    no_feed = plain_more part.more part.no_feed;
-    kept_is = kept_short was.taken before part.more kept was.kept_is (subst (λ l. length l ≡ 4097) part.grows full)
-        (subst (λ l. IsShortened l kept) part.grows short);
+  -- what is kept is shortened, and spaces behind it are not kept
+  pub taken_short : (newer : Option (List ℕ)) (kept : List ℕ) → TakesPart now new before after parts.Some →
+      length after ≡ 4097 → IsShortened after kept → TakesSpaces new newer → IsTaken old newer kept
+  taken_short newer kept part full short skips = record {
+    taken = (was.taken ++ part.more) ++ skips.spaces;
+    takes = Consumes-trans _ _ _ (was.taken ++ part.more) skips.spaces
+        (Consumes-trans _ _ _ was.taken part.more was.takes part.takes) skips.takes;
+    no_feed = All-append (λ b. b ≢ 10) _ _ (plain_more part.more part.no_feed)
+        (All-from_recursion (λ b. b ≢ 10) skips.spaces (blank_fed skips.spaces skips.blank));
+    kept_is = short_skipped (was.taken ++ part.more) skips.spaces kept skips.blank
+        (kept_short was.taken before part.more kept was.kept_is (subst (λ l. length l ≡ 4097) part.grows full)
+        (subst (λ l. IsShortened l kept) part.grows short));
   }
 
   -- the rest of it, with its line feed

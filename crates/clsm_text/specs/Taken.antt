@@ -1,6 +1,7 @@
 -- The lines of an input as they are taken one by one, of which no more is kept than 4,097 bytes.
 use Rattle.std.specs.Prelude.{◌≡◌, ℕ, ◌+◌, ◌-◌, ◌<◌, ◌≤◌, ◌==◌, ◌⊎◌, ◌↔◌, not, List, length, take, drop}
 use Rattle.std.specs.Prelude.{Option, Some, None}
+use Rattle.std.specs.Io.KnownBytes.{Consumes}
 use Rattle.std.specs.List.{find}
 use Rattle.clsm_text.specs.Input.{first_line}
 use Rattle.clsm_text.specs.Line.{words_of, IsComment}
@@ -44,3 +45,9 @@ pub record TakesLine (bytes line : List ℕ) (rest : Option (List ℕ)) : Type 0
 abbrev pub IsShortened : List ℕ → List ℕ → Type 0
 IsShortened old new = ((first_said old ≡ Some 35) × (first_said new ≡ Some 35))
     ⊎ ((first_said old ≡ None) × (first_said new ≡ None) × (length new ≡ 4096))
+
+-- spaces are taken, if any
+pub record TakesSpaces (old new : Option (List ℕ)) : Type 0 where
+  pub spaces : List ℕ
+  pub blank : first_said spaces ≡ None
+  pub takes : Consumes old new spaces

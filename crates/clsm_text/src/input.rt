@@ -3,7 +3,7 @@ ghost use Rattle.std.specs.Prelude.{IfSome, IfOk, IfErr, OnOk};
 ghost use Rattle.clsm_text.specs.Failure.{IsOutside};
 ghost use Rattle.clsm_text.specs.Input.{BeginsWithLine, TakesPart};
 ghost use Rattle.clsm_text.specs.Line.{words_of, IsComment};
-ghost use Rattle.clsm_text.specs.Taken.{IsShortened, TakesLine};
+ghost use Rattle.clsm_text.specs.Taken.{IsShortened, TakesLine, TakesSpaces};
 
 use crate::failure::Failure;
 use crate::line::{LONGEST_LINE, first_said};
@@ -38,8 +38,11 @@ pub fn read_line<R: BufRead>(reader: &mut R, line: &mut Vec<u8>) -> Result<bool,
     for _ in 0..u64::MAX {
         match take_part(reader, line)? {
             Part::Some => {
-                if line.len() > LONGEST_LINE && !shorten(line) {
-                    return Ok(true);
+                if line.len() > LONGEST_LINE {
+                    if !shorten(line) {
+                        return Ok(true);
+                    }
+                    skip_spaces(reader)?;
                 }
             }
             Part::Last => return Ok(true),
@@ -70,6 +73,24 @@ fn shorten(line: &mut Vec<u8>) -> bool
         }
         Some(_) => false,
     }
+}
+
+/// Takes what the input has at hand, or waits for some of it, if that is spaces, and keeps none.
+fn skip_spaces<R: BufRead>(reader: &mut R) -> Result<(), Failure>
+    ensures skips { OnOk result (TakesSpaces (R.remaining reader.old) (R.remaining reader.new)) }
+    ensures failed { IfErr result IsOutside }
+{
+    let available = match reader.fill_buf() {
+        Ok(available) => available,
+        Err(error) if error.kind() == ErrorKind::Interrupted => return Ok(()),
+        Err(_) => return Err(Failure::Device),
+    };
+    if first_said(available).is_some() {
+        return Ok(());
+    }
+    let spaces = available.len();
+    reader.consume(spaces);
+    Ok(())
 }
 
 /// The line that stands at the beginning of the bytes, if its line feed is among them and it is no

@@ -2,7 +2,7 @@ use Rattle.std.proofs.Common.{◌≡◌, length, IfSome, arith, subst, sym}
 use Rattle.clsm_text.specs.Input.{TakesPart}
 use Rattle.clsm_text.specs.Taken.{TakesLine}
 use Rattle.clsm_text.proofs.Taken.{taken_cut, taken_last, taken_none, taken_short, taken_some}
-use Rattle.clsm_text.proofs.input.read_line.Goals.{else-len-gt-LONGEST_LINE-via-then-len-gt-LONGEST_LINE+else-not-shorten, else-len-gt-LONGEST_LINE-via-else-len-gt-LONGEST_LINE}
+use Rattle.clsm_text.proofs.input.read_line.Goals.{else-len-gt-LONGEST_LINE, then-len-gt-LONGEST_LINE+else-not-shorten+in_ok-skip_spaces-in-Some}
 use Rattle.clsm_text.proofs.input.read_line.Goals as goal
 
 pub returns-then-not-shorten-clause-takes : goal.returns-then-not-shorten-clause-takes
@@ -28,19 +28,19 @@ returns-in-None-clause-takes g c =
 pub loop-preserved : goal.loop-preserved
 loop-preserved g c =
     let part = subst (TakesPart _ _ _ _) c.in-Some.is c.in_ok-take_part.ensures.takes in
-    elim c.else-len-gt-LONGEST_LINE.branch [
-      | else-len-gt-LONGEST_LINE-via-then-len-gt-LONGEST_LINE+else-not-shorten w ↦
+    elim c.if-len-gt-LONGEST_LINE.branch [
+      | then-len-gt-LONGEST_LINE+else-not-shorten+in_ok-skip_spaces-in-Some w ↦
           let full : length c.take_part.new.line.items ≡ 4097 =
           omega (arith, c.in_ok-take_part.ensures.bound, w.if-len-gt-LONGEST_LINE.true) in
-          rw w.line-is (record {
+          rw w.line-is (rw w.reader-is (record {
             short = w.shorten.ensures.room w.if-not-shorten.false;
-            taken = taken_short _ _ _ _ _ c.loop.invariant.taken _ part full
-                (w.shorten.ensures.shortened w.if-not-shorten.false);
-          })
-      | else-len-gt-LONGEST_LINE-via-else-len-gt-LONGEST_LINE w ↦
-          rw w.line-is (record {
+            taken = taken_short _ _ _ _ _ c.loop.invariant.taken _ _ part full
+                (w.shorten.ensures.shortened w.if-not-shorten.false) w.in_ok-skip_spaces-in-Some.ensures.skips;
+          }))
+      | else-len-gt-LONGEST_LINE w ↦
+          rw w.line-is (rw w.reader-is (record {
             short = omega (arith, w.if-len-gt-LONGEST_LINE.false);
             taken = taken_some _ _ _ _ _ c.loop.invariant.taken part
                 (omega (arith, w.if-len-gt-LONGEST_LINE.false));
-          })
+          }))
     ]
