@@ -3,7 +3,7 @@
 use clsm_audit::{AuditError, audit};
 use clsm_command::{Ended, command};
 use clsm_model::{CallRecord, Config};
-use clsm_text::{Streams, parse_record};
+use clsm_text::{LineError, Streams, parse_record};
 use std::alloc::{AllocError, Global};
 use std::rt::Clock;
 use std::sync::Wait;
@@ -101,7 +101,8 @@ fn records_of(alloc: Global, input: &[u8]) -> Result<Option<Vec<CallRecord>>, Al
         match parse_record(alloc, line) {
             Ok(Some(record)) => records.push(record)?,
             Ok(None) => {}
-            Err(_) => return Ok(None),
+            Err(LineError::Bad) => return Ok(None),
+            Err(LineError::Memory) => return Err(AllocError),
         }
     }
     Ok(Some(records))

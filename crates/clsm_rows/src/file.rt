@@ -33,7 +33,7 @@ struct Case<'a> {
 impl Case<'_> {
     /// Whether this is what the case is to answer.
     fn is_answered(&self, alloc: Global, played: &Played) -> Result<bool, AllocError> {
-        let (status, faults) = self.faults.split_once(' ').unwrap_or(("0", ""));
+        let (status, faults) = self.faults.split_once(' ').unwrap_or((self.faults, ""));
         if status.parse() != Ok(played.status) || bytes_of(alloc, self.output)? != played.output {
             return Ok(false);
         }
@@ -73,7 +73,7 @@ fn cases_of<'a>(alloc: Global, lines: &'a str) -> Result<Vec<Case<'a>>, AllocErr
                 call,
                 input: text,
                 output: "",
-                faults: "",
+                faults: "0",
             })?,
             ">" => {
                 if let Some(case) = cases.last_mut() {

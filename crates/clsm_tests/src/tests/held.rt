@@ -14,16 +14,16 @@ use std::sync::Wait;
 use std::test::*;
 use std::thread::Threads;
 
-const KEY: u64 = 7;
+const KEY: u64 = 1;
 
 /// The merger's number, behind those of three callers.
 const MERGER: u64 = 3;
 
-const PUT: Act = Act::Put(KEY, 1);
+const PUT: Act = Act::Put(KEY, 11);
 
-const PUT_TOO: Act = Act::Put(KEY, 2);
+const PUT_TOO: Act = Act::Put(KEY, 12);
 
-const TRY: Act = Act::TryPut(KEY, 1);
+const TRY: Act = Act::TryPut(KEY, 11);
 
 const GET: Act = Act::Get(KEY);
 
@@ -46,26 +46,26 @@ const PUT_AT_0: &[Step] = &[WAIT, (PUT_TOO, Answer::At(0)), LET_GO];
 
 const PUT_AT_1: &[Step] = &[WAIT, (PUT_TOO, Answer::At(1)), LET_GO];
 
-const TRY_AT_1: &[Step] = &[WAIT, (Act::TryPut(KEY, 2), Answer::At(1)), LET_GO];
+const TRY_AT_1: &[Step] = &[WAIT, (Act::TryPut(KEY, 12), Answer::At(1)), LET_GO];
 
 const NONE_AT_1: &[Step] = &[WAIT, (GET, Answer::None(1)), LET_GO];
 
 /// The call of seat 1, and its get.
-const PUT_FIRST: &[Step] = &[(PUT, Answer::At(0)), (GET, Answer::Got(2, 2))];
+const PUT_FIRST: &[Step] = &[(PUT, Answer::At(0)), (GET, Answer::Got(2, 12))];
 
-const PUT_LAST: &[Step] = &[(PUT, Answer::At(1)), (GET, Answer::Got(2, 1))];
+const PUT_LAST: &[Step] = &[(PUT, Answer::At(1)), (GET, Answer::Got(2, 11))];
 
-const TRY_FIRST: &[Step] = &[(TRY, Answer::At(0)), (GET, Answer::Got(2, 2))];
+const TRY_FIRST: &[Step] = &[(TRY, Answer::At(0)), (GET, Answer::Got(2, 12))];
 
 const TRY_OVERTAKEN: &[Step] = &[(TRY, OVERTAKEN), (GET, Answer::None(1))];
 
-const TRY_NOT_DRAWN: &[Step] = &[(TRY, RACED), (GET, Answer::Got(1, 2))];
+const TRY_NOT_DRAWN: &[Step] = &[(TRY, RACED), (GET, Answer::Got(1, 12))];
 
-const TRY_NOT_LINKED: &[Step] = &[(TRY, RACED), (GET, Answer::Got(2, 2))];
+const TRY_NOT_LINKED: &[Step] = &[(TRY, RACED), (GET, Answer::Got(2, 12))];
 
-const GOT: &[Step] = &[(GET, Answer::Got(1, 2)), (GET, Answer::Got(1, 2))];
+const GOT: &[Step] = &[(GET, Answer::Got(1, 12)), (GET, Answer::Got(1, 12))];
 
-const GOT_NONE: &[Step] = &[(GET, Answer::None(0)), (GET, Answer::Got(1, 2))];
+const GOT_NONE: &[Step] = &[(GET, Answer::None(0)), (GET, Answer::Got(1, 12))];
 
 /// The row in which seat 1 is held at these steps of the first acts, while seat 2 plays the others.
 macro_rules! row {
@@ -103,10 +103,10 @@ const OLD_AT_1: &[Step] = &[WAIT, (GET, Answer::Got(1, 10)), LET_GO];
 
 const OLD_AT_2: &[Step] = &[WAIT, (GET, Answer::Got(2, 10)), LET_GO];
 
-const NEW_AT_2: &[Step] = &[WAIT, (GET, Answer::Got(2, 1)), LET_GO];
+const NEW_AT_2: &[Step] = &[WAIT, (GET, Answer::Got(2, 11)), LET_GO];
 
 /// A put whose first time was cancelled.
-const PUT_AGAIN: &[Step] = &[(PUT, Answer::At(2)), (GET, Answer::Got(3, 1))];
+const PUT_AGAIN: &[Step] = &[(PUT, Answer::At(2)), (GET, Answer::Got(3, 11))];
 
 const TO_WRITE: &[Kind] = &[
     Kind::Fill,
@@ -233,7 +233,7 @@ pub(super) const CASES: &[Case] = &[
                 (Act::Freeze, Answer::Frozen(0)),
                 (Act::Merge, Answer::Merged(1)),
                 (Act::Reclaim, Answer::Clean),
-                (GET, Answer::Got(4, 2)),
+                (GET, Answer::Got(4, 12)),
                 (Act::Get(3), Answer::Got(4, 30)),
                 (Act::Scan(0), Answer::Rows(4, 2)),
             ]],
