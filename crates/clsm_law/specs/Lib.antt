@@ -18,3 +18,4 @@ pub mod SeatReads
 pub mod Deciding
 pub mod Same
 pub mod Raising
+pub mod Numbers

@@ -114,6 +114,20 @@ pub enum StepError {
     Memory,
 }
 
+impl StepError {
+    ghost use Rattle.clsm_law.specs.Numbers.{number_of};
+
+    /// The number of the refusal: 1 or 2.
+    pub fn number(self) -> u8
+        ensures { result ≡ number_of self }
+    {
+        match self {
+            StepError::NotAllowed => 1,
+            StepError::Memory => 2,
+        }
+    }
+}
+
 impl From<AllocError> for StepError {
     ghost use Rattle.clsm_law.specs.declared.step.StepError.TheVariants.{Memory};
 
