@@ -10,6 +10,7 @@ mod inserting;
 mod made;
 mod merger;
 mod place;
+mod planned;
 mod planner;
 mod reading;
 mod runs;

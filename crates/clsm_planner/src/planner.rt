@@ -4,7 +4,7 @@ use crate::place::Place;
 /// Why a next step cannot be told.
 #[derive(Clone, Copy, PartialEq, Eq, Debug)]
 pub enum PlanError {
-    /// Not all calls are played, and no step comes next.
+    /// Not all calls are played, and no step comes next, or one that is none of its part.
     Stuck,
     /// Memory ran out.
     Memory,
