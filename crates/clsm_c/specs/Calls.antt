@@ -11,7 +11,8 @@ use Rattle.clsm_model.specs.declared.config.OpenError.{OpenError}
 use Rattle.clsm_model.specs.declared.config.OpenError.TheVariants.{Cells, Seats, Shards, Run, Memory, Patience}
 use Rattle.clsm_model.specs.declared.record.Deed.TheVariants.{Batch as Group, Close, Get, GetAt, Put, Remove, Rmw as ChangeOf, Snapshot}
 use Rattle.clsm_model.specs.declared.record.Deed.{Deed}
-use Rattle.clsm_store.specs.Changes.{Replaces, added}
+use Rattle.clsm_model.specs.Changes.{added}
+use Rattle.clsm_store.specs.Changes.{Replaces}
 use Rattle.clsm_store.specs.Freezing.{TryFreezes}
 use Rattle.clsm_store.specs.Opening.{IsRefusal}
 use Rattle.clsm_store.specs.Phase.{CountsIfFrozen}

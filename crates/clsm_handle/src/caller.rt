@@ -10,7 +10,8 @@ ghost use Rattle.clsm_store_calls.specs.Seats.{Answers, Refuses};
 ghost use Rattle.clsm_store_calls.specs.Tally.{CountsTry, TakesNoLock};
 ghost use Rattle.clsm_store_calls.specs.Trying.{RefusesTry};
 ghost use Rattle.clsm_store_calls.specs.TryingChange.{CountsTryChange};
-ghost use Rattle.clsm_store.specs.Changes.{Replaces, added};
+ghost use Rattle.clsm_model.specs.Changes.{added};
+ghost use Rattle.clsm_store.specs.Changes.{Replaces};
 
 use clsm_model::Key;
 use clsm_store::{

@@ -1,3 +1,4 @@
+pub mod Changes
 pub mod Value
 pub mod Config
 pub mod History

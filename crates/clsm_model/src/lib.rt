@@ -3,6 +3,7 @@
 #![tactic(auto)]
 
 mod batch;
+mod changes;
 mod config;
 mod deal;
 mod members;
@@ -14,6 +15,7 @@ mod slot;
 mod value;
 
 pub use batch::Batch;
+pub use changes::{added, put_if_absent};
 pub use config::{Config, OpenError};
 pub use deal::Deal;
 pub use members::{Members, are_writes};

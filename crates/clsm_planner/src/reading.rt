@@ -6,7 +6,7 @@ use crate::place::{Place, Setting, Stage};
 use crate::runs::search;
 use crate::scanning::{Keys, rows_below};
 use clsm_law::{End, Layout, Step, Word};
-use clsm_model::{Change, Deal, Deed, Key, Time, Value};
+use clsm_model::{Change, Deal, Deed, Key, Time, Value, added, put_if_absent};
 use std::alloc::Global;
 
 /// The value of the key below the time: by the cells of the component's epochs, and else by its
@@ -30,28 +30,9 @@ fn value_below(
 /// What the call makes of the old value.
 fn change_of(deal: &Deal, old: Option<&Value>) -> Change {
     match deal {
-        Deal::Claim { value, .. } if old.is_none() => Change::Set(*value),
-        Deal::Add { by, .. } => sum_of(old, *by),
+        Deal::Claim { value, .. } => put_if_absent(old.copied(), *value),
+        Deal::Add { by, .. } => added(old.copied(), *by),
         _ => Change::Keep,
-    }
-}
-
-/// The sum of the old value's word, 0 where it is absent, and another; nothing where it has
-/// several words or the sum is too great.
-fn sum_of(old: Option<&Value>, by: u64) -> Change {
-    let word = match old {
-        None => Some(0),
-        Some(value) => match value.words() {
-            [word] => Some(*word),
-            _ => None,
-        },
-    };
-    let Some(sum) = word.and_then(|word: u64| word.checked_add(by)) else {
-        return Change::Keep;
-    };
-    match Value::new(&[sum]) {
-        Ok(value) => Change::Set(value),
-        Err(_) => Change::Keep,
     }
 }
 

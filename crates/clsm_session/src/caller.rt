@@ -1,7 +1,7 @@
 //! A caller of a session: the calls of the store, of which writes wait for room.
 ghost use Rattle.std.specs.Prelude.{◌≡◌};
 ghost use Rattle.clsm_model.specs.declared.record.Deed.TheVariants.{Put, Remove};
-ghost use Rattle.clsm_store.specs.Changes.{Adds, PutsIfAbsent};
+ghost use Rattle.clsm_model.specs.Changes.{Adds, PutsIfAbsent};
 ghost use Rattle.clsm_store.specs.Promises.{ClosesSnapshot, CountsRange, Gets, GetsAtIfOpen, GivesNextPage, GivesPage, Hears, OpensSnapshot, Scans, ScansAnew};
 ghost use Rattle.clsm_store.specs.Promises.{Tells, VisitsRange};
 ghost use Rattle.clsm_session.specs.Places.{HasPlace};

@@ -10,7 +10,7 @@ use Rattle.clsm_store_calls.specs.Batching.{CountsBatch, IsRefusedBatch}
 use Rattle.clsm_store_calls.specs.Scanning.{IsAtClock}
 use Rattle.clsm_store_calls.specs.Tally.{CancelsNone, CountsTry, TakesLockOnce, TakesNoLock}
 use Rattle.clsm_store_calls.specs.Trying.{RefusesTry}
-use Rattle.clsm_store.specs.Changes.{added, put_if_absent}
+use Rattle.clsm_model.specs.Changes.{added, put_if_absent}
 use Rattle.clsm_store.specs.declared.play.answer.Answer.{Answer}
 use Rattle.clsm_store.specs.declared.play.answer.Answer.TheVariants.{Write, Try as Tried, Batch as Batched}
 use Rattle.clsm_store.specs.declared.play.answer.Answer.TheVariants.{Change as Changed, Read, ReadAt}

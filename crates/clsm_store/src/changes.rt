@@ -1,51 +1,17 @@
 //! Read-modify-writes that most programs make: an addition to a counter, a first write, and the
 //! replacement of an expected value.
 ghost use Rattle.std.specs.Prelude.{◌≡◌};
-ghost use Rattle.clsm_store.specs.Changes.{Adds, PutsIfAbsent, Replaces, added, put_if_absent, word_sum};
+ghost use Rattle.clsm_model.specs.Changes.{Adds, PutsIfAbsent};
+ghost use Rattle.clsm_store.specs.Changes.{Replaces};
 ghost use Rattle.clsm_store.specs.Promises.{ChangesBy, TriesToChangeBy};
 
 use crate::caller::Caller;
 use crate::seat::Seat;
 use crate::store::Store;
-use clsm_model::{Change, Key, Value};
+use clsm_model::{Change, Key, Value, added, put_if_absent};
 use clsm_store_calls::{Full, Rmw, TryPutError};
 use clsm_words::Pace;
 use std::sync::Wait;
-
-/// The sum of a value's word and another, if it has one word and the sum fits in 64 bits; of no
-/// value, that other.
-fn word_sum(old: Option<Value>, by: u64) -> Option<u64>
-    ensures { result ≡ word_sum old by }
-{
-    match old {
-        None => Some(by),
-        Some(value) => match value.words() {
-            [word] => word.checked_add(by),
-            _ => None,
-        },
-    }
-}
-
-/// What `add` makes of the old value: the sum with its word, which is 0 if there is no value, or
-/// `Keep` if the sum passes 2^64 - 1 or the value has several words.
-pub fn added(old: Option<Value>, by: u64) -> Change
-    ensures { result ≡ added old by }
-{
-    match word_sum(old, by) {
-        Some(word) => Change::Set(Value::from(word)),
-        None => Change::Keep,
-    }
-}
-
-/// What `put_if_absent` makes of the old value: the new one if there was none, else `Keep`.
-pub fn put_if_absent(old: Option<Value>, value: Value) -> Change
-    ensures { result ≡ put_if_absent old value }
-{
-    match old {
-        None => Change::Set(value),
-        Some(_) => Change::Keep,
-    }
-}
 
 /// What `try_replace` makes of the old value: the desired one, or with `None` a removal, if the old
 /// one is the expected one; else `Keep`.

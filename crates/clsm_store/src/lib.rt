@@ -22,11 +22,11 @@ mod telling;
 
 pub use binding::Bound;
 pub use caller::Caller;
-pub use changes::{added, put_if_absent, replaced};
+pub use changes::replaced;
 pub use clsm_law::{Part, Word};
 pub use clsm_model::{
     CallRecord, Change, Config, Deal, Deed, Length, Members, Memory, OpenError, PageRange, Rows,
-    Time, Value,
+    Time, Value, added, put_if_absent,
 };
 pub use clsm_runs::RunFull;
 pub use clsm_store_calls::{
