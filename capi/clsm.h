@@ -219,13 +219,15 @@ int clsm_follow(clsm_caller *caller, uint64_t seen);
 /* ---- Writes
  *
  * A write that was not fast enough is made again: up to seven times after a short pause, and then
- * with sched_yield in between. A write that finds the epoch full sleeps until the store's thread
- * has begun the next epoch, which that does as soon as the merge before is done. In a store with
- * CLSM_MERGE_IN_CALLS, one of the writes that found it full merges, and the others sleep until it
- * has begun the next epoch.
+ * with sched_yield in between; a batch sleeps for 50 microseconds each time. A write that finds the
+ * epoch full sleeps until the store's thread has begun the next epoch, which that does as soon as
+ * the merge before is done. In a store with CLSM_MERGE_IN_CALLS, one of the writes that found it
+ * full merges, and the others sleep until it has begun the next epoch.
  *
  * While a long merge runs, writes sleep now and then, a millisecond at most, so that they do not
- * fill the epoch long before it ends. They let a batch in that has lost some tries.
+ * fill the epoch long before it ends. They let a batch in that has lost some tries. Where batches
+ * were written lately, other writes take the last thirty-second of an epoch for full while the
+ * merge before is running: that is left to batches.
  *
  * A write that is refused has written nothing:
  *

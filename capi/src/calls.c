@@ -38,6 +38,7 @@ static inline int wrote(struct clsm_seat *seat, const struct write *write) {
     const uint64_t end = *time + write->members;
     seat->time = *time;
     if (seat->seen < end) seat->seen = end;
+    if (write->entry.is_batch) clsm_note_batch(seat->store, *time);
     if (end > seat->tell_at) clsm_board_tell(seat, end - 1);
     return CLSM_OK;
 }

@@ -35,13 +35,20 @@ static uint64_t step_of_telling(const clsm_store *store) {
     return store->cells / STEPS_OF_EPOCH + 1;
 }
 
+/* Has the seat tell by this time, if it is after that one. */
+static void tell_soon(struct clsm_seat *seat, uint64_t time, uint64_t by) {
+    if (time < by && by < seat->tell_at) seat->tell_at = by;
+}
+
 void clsm_board_tell(struct clsm_seat *seat, uint64_t time) {
     clsm_store *store = seat->store;
     const uint64_t epoch = time / store->cells, drawn = time % store->cells + 1;
-    const uint64_t half = epoch * store->cells + half_of_epoch(store) - 1;
+    const uint64_t first = epoch * store->cells;
     seat->tell_at = time + step_of_telling(store);
-    if (time < half && half < seat->tell_at) seat->tell_at = half;
-    if (time >= half) tell_half(store, epoch);
+    tell_soon(seat, time, first + half_of_epoch(store) - 1);
+    tell_soon(seat, time, first + clsm_open_writes(store) - 1);
+    if (drawn >= half_of_epoch(store)) tell_half(store, epoch);
+    if (drawn >= clsm_open_writes(store)) clsm_reserve(store, epoch);
     clsm_keep_pace(store, drawn);
 }
 
@@ -108,6 +115,7 @@ static int freeze(clsm_store *store, uint64_t used) {
     note_entries(store, board->frozen);
     pthread_mutex_lock(&board->lock);
     board->frozen++;
+    clsm_check_reserve(store);
     clsm_let_batches_in(store);
     clsm_tell_news(store);
     pthread_mutex_unlock(&board->lock);
@@ -204,6 +212,7 @@ static void note(clsm_store *store, int code, uint64_t calls) {
     if (is_refusal(code)) {
         board->refused = calls;
         board->refusal_of_calls = code;
+        clsm_end_reserve(store);
         clsm_tell_news(store);
     } else if (code != CLSM_PINNED
                && (is_waited_for(store) || atomic_load(&board->told) > board->frozen)) {

@@ -36,6 +36,10 @@ static void pause_for(unsigned pauses) {
     for (unsigned i = 0; i < pauses; i++) pause_once();
 }
 
+static void sleep_once(void) {
+    nanosleep(&(struct timespec){.tv_nsec = NANOSECONDS_OF_SLEEP}, NULL);
+}
+
 void clsm_be_patient(struct clsm_patience *patience) {
     if (patience->pauses > MOST_PAUSES) {
         sched_yield();
@@ -45,12 +49,15 @@ void clsm_be_patient(struct clsm_patience *patience) {
     patience->pauses *= 2;
 }
 
+/* Where the one that wants in yielded, those that stopped within a write would wait with it for a
+ * merge that has the processor, while another one is free. */
 void clsm_lose(clsm_store *store, bool wants_in, struct clsm_patience *patience) {
     if (wants_in && !patience->is_eager && ++patience->losses == EAGER_LOSSES) {
         patience->is_eager = true;
         atomic_fetch_add(&store->gate, CLSM_EAGER);
     }
-    clsm_be_patient(patience);
+    if (patience->is_eager && patience->pauses > MOST_PAUSES) sleep_once();
+    else clsm_be_patient(patience);
 }
 
 void clsm_end_patience(clsm_store *store, struct clsm_patience *patience) {
@@ -69,8 +76,7 @@ static bool is_anyone_eager(clsm_store *store) {
 static void let_in(clsm_store *store) {
     for (int turn = 0; turn < ROUNDS_FOR_EAGER && is_anyone_eager(store); turn++)
         pause_for(MOST_PAUSES);
-    for (int turn = 0; turn < SLEEPS_FOR_EAGER && is_anyone_eager(store); turn++)
-        nanosleep(&(struct timespec){.tv_nsec = NANOSECONDS_OF_SLEEP}, NULL);
+    for (int turn = 0; turn < SLEEPS_FOR_EAGER && is_anyone_eager(store); turn++) sleep_once();
 }
 
 /* ---- Sleeping on the board, for who holds it */
@@ -206,6 +212,12 @@ static int wait_for_merge(clsm_store *store, uint64_t end, struct clsm_patience 
     return clsm_limit(store) > end ? CLSM_OK : board->refusal_of_calls;
 }
 
+/* Notes a wait for room that began then. */
+static void note_wait(clsm_store *store, uint64_t began) {
+    clsm_count_one(&store->counts.waits);
+    clsm_raise(&store->counts.longest_wait, clsm_now() - began);
+}
+
 int clsm_make_room(struct clsm_seat *seat, uint64_t time, struct clsm_patience *patience) {
     clsm_store *store = seat->store;
     const uint64_t end = end_of_epoch(store, time), began = clsm_now();
@@ -219,8 +231,7 @@ int clsm_make_room(struct clsm_seat *seat, uint64_t time, struct clsm_patience *
         code = wait_for_close(seat, patience);
     } while (code == CLSM_OK);
     pthread_mutex_unlock(&store->board.lock);
-    clsm_count_one(&store->counts.waits);
-    clsm_raise(&store->counts.longest_wait, clsm_now() - began);
+    note_wait(store, began);
     return code;
 }
 
@@ -228,6 +239,65 @@ int clsm_find_full(clsm_store *store) {
     int refusal = atomic_load(&store->board.refusal);
     clsm_merger_call(store);
     return refusal ? refusal : CLSM_FULL;
+}
+
+/* ---- Room for batches
+ *
+ * Writes that fill an epoch before the merge of the last one is done wait for that merge, and so
+ * would batches. Where there were some of late, other writes leave them the last part of the epoch:
+ * then only the others wait. If the merge comes to nothing, all have it. */
+
+enum {
+    EPOCHS_OF_BATCHES = 64 /* so many epochs ago is of late */
+};
+
+uint64_t clsm_open_writes(const clsm_store *store) {
+    return store->cells - store->cells / CLSM_PARTS_OF_EPOCH;
+}
+
+void clsm_note_batch(clsm_store *store, uint64_t time) {
+    clsm_raise(&store->board.batched, time / store->cells + EPOCHS_OF_BATCHES);
+}
+
+static bool is_for_batches(clsm_store *store) {
+    return atomic_load_explicit(&store->gate, memory_order_relaxed) & CLSM_RESERVED;
+}
+
+void clsm_reserve(clsm_store *store, uint64_t epoch) {
+    struct clsm_board *board = &store->board;
+    if (atomic_load_explicit(&board->batched, memory_order_relaxed) <= epoch) return;
+    if (is_for_batches(store) || atomic_load(&board->refusal) != CLSM_OK) return;
+    clsm_raise(&board->reserved, epoch + 1);
+    atomic_fetch_or(&store->gate, CLSM_RESERVED);
+}
+
+void clsm_end_reserve(clsm_store *store) {
+    atomic_store(&store->board.reserved, 0);
+    atomic_fetch_and(&store->gate, ~(unsigned)CLSM_RESERVED);
+}
+
+bool clsm_check_reserve(clsm_store *store) {
+    const bool is_current = atomic_load(&store->board.reserved) > store->board.frozen;
+    if (!is_current) clsm_end_reserve(store);
+    return is_current;
+}
+
+/* Waits for the next epoch, or until this one is open to all: OK. */
+static int wait_beside_batches(clsm_store *store, struct clsm_patience *patience) {
+    const uint64_t began = clsm_now();
+    pthread_mutex_lock(&store->board.lock);
+    if (clsm_check_reserve(store)) wait_for_merge(store, clsm_limit(store), patience);
+    pthread_mutex_unlock(&store->board.lock);
+    note_wait(store, began);
+    return CLSM_OK;
+}
+
+/* The same of a write that does not wait: OK, FULL, or BUSY if another one has the board. */
+static int try_beside_batches(clsm_store *store) {
+    if (pthread_mutex_trylock(&store->board.lock)) return CLSM_BUSY;
+    const bool is_current = clsm_check_reserve(store);
+    pthread_mutex_unlock(&store->board.lock);
+    return is_current ? CLSM_FULL : CLSM_OK;
 }
 
 /* ---- The pace of writes beside a long merge */
@@ -351,6 +421,10 @@ int clsm_pass_gate(struct clsm_seat *seat, const struct clsm_entry *entry,
     if (is_anyone_eager(store) && !entry->is_batch && !patience->is_eager) {
         if (!may_wait) return CLSM_BUSY;
         let_in(store);
+    }
+    if (is_for_batches(store) && !entry->is_batch) {
+        int refused = may_wait ? wait_beside_batches(store, patience) : try_beside_batches(store);
+        if (refused) return refused;
     }
     if (!is_crowded(store) || !grows(seat, entry)) return CLSM_OK;
     return admit(seat, may_wait);

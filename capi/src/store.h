@@ -32,6 +32,10 @@ enum { CLSM_LINE = 64, CLSM_SCAN_ROWS = 64 };
 #ifndef CLSM_COUNT_ROWS
 #define CLSM_COUNT_ROWS CLSM_SCAN_ROWS /* at most */
 #endif
+/* Of so many parts of an epoch the last one may be reserved for batches. */
+#ifndef CLSM_PARTS_OF_EPOCH
+#define CLSM_PARTS_OF_EPOCH 32
+#endif
 enum { CLSM_NANOSECONDS = 1000000000 }; /* of a second */
 enum { CLSM_MERGES_OF_LEVELS = 4 };     /* of so many merges the last one is into level 1 */
 
@@ -110,9 +114,11 @@ struct clsm_board {
     sem_t work;             /* wakes the thread: posted by whoever finds is_called false */
     atomic_bool is_called;  /* the thread may have something to do */
     _Atomic(uint64_t) told; /* the number of the last epoch that was told to be half full, plus 1 */
-    _Atomic(int) refusal;   /* why the last merge came to nothing, or OK */
-    _Atomic(uint64_t) held; /* the view that was in its way, if that is why, or 0 */
-    atomic_bool is_over;    /* the store is being closed */
+    _Atomic(uint64_t) reserved; /* of the last one whose end was reserved for batches, plus 1 */
+    _Atomic(uint64_t) batched;  /* there were batches of late as long as epochs are below this */
+    _Atomic(int) refusal;       /* why the last merge came to nothing, or OK */
+    _Atomic(uint64_t) held;     /* the view that was in its way, if that is why, or 0 */
+    atomic_bool is_over;        /* the store is being closed */
     /* Under the lock. */
     pthread_mutex_t lock;
     pthread_cond_t room;  /* wakes those who wait for room: there is some, or it was refused */
@@ -158,7 +164,11 @@ struct clsm_pace {
 };
 
 /* The gate of writes, a word that hardly ever changes: writes pass where it is 0. */
-enum { CLSM_CROWDED = 1, CLSM_EAGER = 2 }; /* too many keys; so many batches and freezes want in */
+enum {
+    CLSM_CROWDED = 1,  /* there are too many keys */
+    CLSM_RESERVED = 2, /* what is left of the epoch is for batches */
+    CLSM_EAGER = 4     /* so many batches and freezes want in */
+};
 
 struct clsm_store {
     union clsm_handle handles[CLSM_SEATS];
@@ -268,12 +278,24 @@ int clsm_find_full(clsm_store *store);
 /* Waits for room behind the epoch that a write found full at this time: OK, VERSIONS_FULL,
  * OWN_SNAPSHOT, RUN_FULL, WORN. */
 int clsm_make_room(struct clsm_seat *seat, uint64_t time, struct clsm_patience *patience);
-/* Lets those in that have lost some tries, and asks whether there may be more keys: OK, RUN_FULL.
- * A write that may not wait is answered BUSY. */
+/* Lets those in that have lost some tries, leaves batches what is reserved for them, and asks
+ * whether there may be more keys: OK, RUN_FULL. A write that may not wait is answered BUSY, FULL.
+ */
 int clsm_pass_gate(struct clsm_seat *seat, const struct clsm_entry *entry,
                    struct clsm_patience *patience, bool may_wait);
 /* Notes a try that was lost to another thread, and pauses; a batch wants in behind some. */
 void clsm_lose(clsm_store *store, bool wants_in, struct clsm_patience *patience);
+/* Notes a batch that was written at this time. */
+void clsm_note_batch(clsm_store *store, uint64_t time);
+/* How many writes of an epoch are open to all; the rest may be reserved for batches. */
+uint64_t clsm_open_writes(const clsm_store *store);
+/* Reserves that rest, if there were batches of late. Never waits. */
+void clsm_reserve(clsm_store *store, uint64_t epoch);
+/* Lets all writes have it. For who holds the board. */
+void clsm_end_reserve(clsm_store *store);
+/* Whether it is of the current epoch; else that is what it does: who reserved it may have been so
+ * late that the epoch was frozen. For who holds the board. */
+bool clsm_check_reserve(clsm_store *store);
 /* Ends a wait, of whatever came of it. */
 void clsm_end_patience(clsm_store *store, struct clsm_patience *patience);
 /* Notes removals of a write that was made. */

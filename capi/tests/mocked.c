@@ -60,7 +60,8 @@ static void lose(enum clsm_code code) {
     const clsm_row rows[] = {{2, {1, {20}}}, {3, {1, {30}}}};
     mock_core_refuse(MOCK_BATCH, (uint32_t)code, LOST);
     OK(clsm_batch(caller, rows, 2));
-    CHECK(between_yields() - yields == 4 * (LOST - PAUSED));
+    /* A batch that others are to let in sleeps. */
+    CHECK(between_yields() - yields == 3 * (LOST - PAUSED));
     CHECK(clsm_seen(caller) == clsm_time(caller) + 2);
     closed(store, caller);
 }
@@ -131,6 +132,82 @@ static void let_freezes_in(void) {
     ANSWERS(CLSM_BUSY, clsm_try_put(caller, 1, &WORD, 1));
     mock_core_refuse(MOCK_FREEZE, CLSM_OK, 0);
     for (uint64_t key = 0; key < 100; key++) OK(clsm_put(caller, key, &WORD, 1));
+    closed(store, caller);
+}
+
+/* ---- The end of an epoch, which is left to batches while the merge before is not done */
+
+enum { BATCHES_EPOCH = 64, OPEN_WRITES = BATCHES_EPOCH - BATCHES_EPOCH / 32 };
+
+/* An epoch of which all is drawn that is not for batches, behind a merge that is not done yet. */
+static void fill_open_writes(clsm_store *store, clsm_caller *caller, bool has_batch) {
+    const unsigned made = mock_core_count(MOCK_FREEZE);
+    mock_core_refuse(MOCK_SWEEP, CLSM_PINNED, UINT_MAX);
+    if (has_batch) OK(clsm_batch(caller, &(clsm_row){.key = 1}, 1));
+    else OK(clsm_remove(caller, 1));
+    for (int i = 1; i < BATCHES_EPOCH / 2; i++) OK(clsm_put(caller, 1, &WORD, 1));
+    mock_core_await(MOCK_FREEZE, made + 1);
+    while (clsm_sweep(store) != CLSM_PINNED) continue;
+    for (int i = 0; i < OPEN_WRITES; i++) OK(clsm_try_put(caller, 1, &WORD, 1));
+}
+
+/* A batch finds room there, which a put waits for. */
+static void leave_room_to_batches(void) {
+    clsm_store *store = opened(BATCHES_EPOCH, 0);
+    clsm_caller *caller = caller_of(store), *other = caller_of(store);
+    clsm_statistics before, now;
+    pthread_t put;
+    fill_open_writes(store, caller, true);
+    ANSWERS(CLSM_FULL, clsm_try_put(caller, 1, &WORD, 1));
+    ANSWERS(CLSM_FULL, clsm_try_remove(caller, 1));
+    OK(clsm_stats(store, &before));
+    CHECK(pthread_create(&put, NULL, put_once, other) == 0);
+    between_await_sleepers(1);
+    write_batch(caller);
+    OK(clsm_get(caller, 3, NULL));
+    ANSWERS(CLSM_NOT_FOUND, clsm_get(caller, 4, NULL));
+    mock_core_refuse(MOCK_SWEEP, CLSM_OK, 0);
+    CHECK(pthread_join(put, NULL) == 0);
+    OK(clsm_get(caller, 4, NULL));
+    OK(clsm_stats(store, &now));
+    CHECK(now.waits == before.waits + 1 && now.clock == before.clock + 3);
+    clsm_caller_close(other);
+    closed(store, caller);
+}
+
+/* All writes find it where there were no batches of late. */
+static void leave_no_room_to_nobody(void) {
+    enum { MANY_EPOCHS = 70 };
+    clsm_store *store = opened(BATCHES_EPOCH, 0);
+    clsm_caller *caller = caller_of(store);
+    for (int i = 0; i < 2; i++) {
+        fill_open_writes(store, caller, false);
+        OK(clsm_try_put(caller, 1, &WORD, 1));
+        OK(clsm_try_put(caller, 1, &WORD, 1));
+        ANSWERS(CLSM_FULL, clsm_try_put(caller, 1, &WORD, 1));
+        mock_core_refuse(MOCK_SWEEP, CLSM_OK, 0);
+        while (clsm_sweep(store) != CLSM_IDLE) continue;
+        OK(clsm_batch(caller, &(clsm_row){.key = 1}, 1));
+        for (int j = 0; j < MANY_EPOCHS * BATCHES_EPOCH; j++) OK(clsm_put(caller, 1, &WORD, 1));
+        while (clsm_sweep(store) != CLSM_IDLE) continue;
+    }
+    closed(store, caller);
+}
+
+/* So do they once the merge came to nothing: also one that waits. */
+static void leave_no_room_behind_refusal(void) {
+    clsm_store *store = opened(BATCHES_EPOCH, 0);
+    clsm_caller *caller = caller_of(store), *other = caller_of(store);
+    pthread_t put;
+    fill_open_writes(store, caller, true);
+    CHECK(pthread_create(&put, NULL, put_once, other) == 0);
+    between_await_sleepers(1);
+    mock_core_refuse(MOCK_SWEEP, CLSM_RUN_FULL, UINT_MAX);
+    CHECK(pthread_join(put, NULL) == 0);
+    OK(clsm_try_put(caller, 1, &WORD, 1));
+    ANSWERS(CLSM_RUN_FULL, clsm_put(caller, 1, &WORD, 1));
+    mock_core_refuse(MOCK_SWEEP, CLSM_OK, 0);
+    clsm_caller_close(other);
     closed(store, caller);
 }
 
@@ -506,6 +583,9 @@ int main(void) {
     merge_for_batches();
     merge_on();
     call_again();
+    leave_room_to_batches();
+    leave_no_room_to_nobody();
+    leave_no_room_behind_refusal();
     wear_out(0);
     wear_out(CLSM_MERGE_IN_CALLS);
     run_back();

@@ -42,6 +42,7 @@ static void try_put_twice(uint64_t who) {
     try_put((unsigned)who, 5, OR(FULL) | OR(BUSY));
 }
 
+static void batch_of_one(uint64_t who) { batch((unsigned)who, 4, 1, 0); }
 static void batch_of_two(uint64_t who) { batch((unsigned)who, 4, 2, 0); }
 static void batch_of_old(uint64_t who) { batch((unsigned)who, 1, 3, 0); }
 static void batch_of_all(uint64_t who) { batch((unsigned)who, 4, EPOCH, 0); }
@@ -86,6 +87,12 @@ static void fill_one(void) { fill(1); }
 static void fill_half(void) { fill(EPOCH / 2); }
 static void fill_epoch(void) { fill(EPOCH); }
 
+/* There was a batch of late, for which the last write of an epoch is kept while a merge runs. */
+static void batch_and_merge(void) {
+    batch_of_two(0);
+    scheduler_settle();
+}
+
 /* The merge of the next epoch is a long one, of which it is known how long it takes. */
 static void fill_at_pace(void) {
     enum { MERGES = 2 * MERGES_OF_LEVELS - 1, MILLISECOND = 1000000 };
@@ -99,6 +106,14 @@ static void fill_at_pace(void) {
 
 /* A merge that was refused is tried again once a write calls for it. */
 static void try_again(void) { try_put(0, 1, OR(FULL) | OR(WORN) | OR(RUN_FULL)); }
+
+/* So is one that nobody waits for, once a write finds the epoch full. */
+static void try_till_full(void) {
+    while (try_put(0, 1, OR(FULL) | OR(RUN_FULL)) == CLSM_OK) continue;
+}
+
+/* Nothing is left to merge, so there is room for any write. */
+static void try_surely(void) { try_put(0, 1, 0); }
 
 /* ---- Snapshots that are in the way of a merge */
 
@@ -171,9 +186,19 @@ static void try_put_once(uint64_t who) { try_put((unsigned)who, 1, OR(FULL) | OR
 /* A try is not refused for a snapshot that was closed before. */
 static void try_behind(void) { try_put(0, 1, OR(FULL)); }
 
+static void batch_and_put(uint64_t who) {
+    batch_of_one(who);
+    put_twice(who);
+}
+
 /* As many writes as there is room for versions, beside a snapshot. */
 static void put_all(uint64_t who) {
     for (uint64_t i = 0; i < 13 * EPOCH; i++) put((unsigned)who, i % EPOCH, 0);
+}
+
+static void put_all_and_batch(uint64_t who) {
+    batch_of_one(who);
+    put_all(who);
 }
 
 /* ---- The end of a store */
@@ -444,6 +469,18 @@ static const struct scenario {
              BY(batch_of_all, 1), BY(put_twice, 2)),
     SCENARIO(full_and_busy, BOTH, FEWER, 1, fill_epoch, AS_IT_IS, NULL, BY(batch_of_two, 0),
              BY(lose_batches, 6)),
+    SCENARIO(reserved, BESIDE, FEWER, 2, batch_and_merge, TOLD(SWEEP, PINNED, -1U), try_surely,
+             BY(put_thrice, 0), BY(batch_of_one, 1), BY(relent, MOCK_SWEEP)),
+    SCENARIO(reserved_three, BESIDE, FEWER, 3, batch_and_merge, AS_IT_IS, try_surely,
+             BY(put_thrice, 0), BY(put_thrice, 1), BY(batch_and_put, 2)),
+    SCENARIO(reserved_late, BESIDE, FEWER, 2, batch_and_merge, AS_IT_IS, try_surely,
+             BY(put_thrice, 0), BY(put_all, 1)),
+    SCENARIO(reserved_tries, BESIDE, USUAL, 2, batch_and_merge, TOLD(SWEEP, PINNED, 3), try_surely,
+             BY(put_thrice, 0), BY(try_put_twice, 1)),
+    SCENARIO(reserved_and_refused, BESIDE, USUAL, 2, batch_and_merge, TOLD(SWEEP, RUN_FULL, 2),
+             try_till_full, BY(put_or_not, 0), BY(put_or_not, 1)),
+    SCENARIO(reserved_and_held, BESIDE, FEW, 1, NULL, AS_IT_IS, NULL, BY(open_and_close, 0),
+             BY(put_all_and_batch, 0)),
     SCENARIO(long_batch, BOTH, USUAL, 2, fill_one, AS_IT_IS, NULL, BY(batch_of_all, 0),
              BY(put_once, 1)),
     SCENARIO(sweeps, BOTH, FEWER, 1, fill_half, AS_IT_IS, NULL, BY(sweep_once, OR(IDLE)),

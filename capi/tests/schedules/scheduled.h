@@ -1,7 +1,7 @@
 /* Stands before each file of src/ in the build for schedules (-include): what threads share goes
- * through the scheduler, one step at a time, a store has few seats, and a long
- * read has few rows in a part. As one thread runs at a
- * time, and only changes to another one at a point, an atomic step is its point and plain code. */
+ * through the scheduler, one step at a time, a store has few seats, a long read has few rows in a
+ * part, and the last one of an epoch's writes is for batches. As one thread runs at a time, and
+ * only changes to another one at a point, an atomic step is its point and plain code. */
 #ifndef SCHEDULED_H
 #define SCHEDULED_H
 
@@ -25,9 +25,10 @@
 #include <string.h>
 
 #undef CLSM_SEATS
-#define CLSM_SEATS      4
-#define CLSM_PART_ROWS  2
-#define CLSM_COUNT_ROWS 2
+#define CLSM_SEATS          4
+#define CLSM_PART_ROWS      2
+#define CLSM_COUNT_ROWS     2
+#define CLSM_PARTS_OF_EPOCH 4
 
 #define SCHEDULED_TEXT_OF(number) #number
 #define SCHEDULED_TEXT(number)    SCHEDULED_TEXT_OF(number)
