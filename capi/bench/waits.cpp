@@ -31,6 +31,7 @@ struct Close {
     void operator()(clsm_store *store) const { clsm_close(store); }
     void operator()(clsm_caller *caller) const { clsm_caller_close(caller); }
     void operator()(clsm_snapshot *snapshot) const { clsm_snapshot_close(snapshot); }
+    void operator()(clsm_scan *scan) const { clsm_scan_close(scan); }
 };
 
 template <typename Handle> using Owned = std::unique_ptr<Handle, Close>;
@@ -161,6 +162,20 @@ void count_all(clsm_store *store, const std::atomic<bool> &over, Latencies &took
     while (!over) took.time([&] { check(clsm_count(caller.get(), 0, UINT64_MAX, &keys)); });
 }
 
+void scan_all(clsm_store *store, const std::atomic<bool> &over, Latencies &took) {
+    const auto caller = open_caller(store);
+    while (!over)
+        took.time([&] {
+            clsm_scan *opened = nullptr;
+            clsm_row row;
+            check(clsm_scan_open(caller.get(), 0, UINT64_MAX, &opened));
+            const Owned<clsm_scan> scan(opened);
+            int code = CLSM_OK;
+            while (code == CLSM_OK) code = clsm_scan_next(scan.get(), &row);
+            if (code != CLSM_DONE) check(code);
+        });
+}
+
 } // namespace
 
 void measure_waits(const Options &options, std::ostream &out) {
@@ -172,6 +187,7 @@ void measure_waits(const Options &options, std::ostream &out) {
         {"no batches, epochs of 65,536", small_keys, large_epoch, nullptr},
         {"hot keys, snapshots of 40 ms", hot_keys, 0, hold_snapshots},
         {"counts of all keys", options.keys, 0, count_all},
+        {"scans of all keys", options.keys, 0, scan_all},
     };
     out << "\n";
     for (const Scene &scene : scenes)
