@@ -118,7 +118,7 @@ enum {
 
 /* The core defines this name, which changes with this header: with a core of another
  * interface, a program does not link. */
-#define CLSM_CORE_INTERFACE clsm_core_interface_52c5c70137d3
+#define CLSM_CORE_INTERFACE clsm_core_interface_fd96fdf8ce5b
 extern const char CLSM_CORE_INTERFACE;
 
 /* The handle of a store: the callers and the merger that nobody has taken yet. */
@@ -325,15 +325,12 @@ uint32_t clsm_core_try_replace(clsm_core_caller *caller, const clsm_core_replaci
 uint32_t clsm_core_get(clsm_core_caller *caller, const clsm_core_key *ask, clsm_core_got *answer);
 
 /* Opens the caller's snapshot at a time of its own, which is the clock's, and answers CLSM_CORE_OK
- * and that time. Refused with CLSM_CORE_OPEN and the time of the one that is open. The key is not
- * looked at. */
-uint32_t clsm_core_snapshot(clsm_core_caller *caller, const clsm_core_key *ask,
-                            clsm_core_time *answer);
+ * and that time. Refused with CLSM_CORE_OPEN and the time of the one that is open. */
+uint32_t clsm_core_snapshot(clsm_core_caller *caller, clsm_core_time *answer);
 
 /* Closes the caller's snapshot, and answers CLSM_CORE_OK and its time. Refused with
- * CLSM_CORE_NO_SNAPSHOT. The key is not looked at. */
-uint32_t clsm_core_close_snapshot(clsm_core_caller *caller, const clsm_core_key *ask,
-                                  clsm_core_time *answer);
+ * CLSM_CORE_NO_SNAPSHOT. */
+uint32_t clsm_core_close_snapshot(clsm_core_caller *caller, clsm_core_time *answer);
 
 /* Reads the key below the time of the caller's open snapshot, as clsm_core_get. Refused with
  * CLSM_CORE_NO_SNAPSHOT. */
@@ -358,9 +355,8 @@ uint32_t clsm_core_page(clsm_core_caller *caller, const clsm_core_range *ask, cl
 /* Freezes the epoch, if used of its timestamps are drawn, or all, so that writes find room again.
  * It never merges. Answers CLSM_CORE_OK where an epoch is frozen or retired, by this call or before
  * it; CLSM_CORE_IDLE if too few timestamps were drawn; CLSM_CORE_BUSY if a caller held the lock;
- * CLSM_CORE_WORN at the end of times, 2^62. The time is not written. */
-uint32_t clsm_core_try_freeze(clsm_core_merger *merger, const clsm_core_used *ask,
-                              clsm_core_time *answer);
+ * CLSM_CORE_WORN at the end of times, 2^62. */
+uint32_t clsm_core_try_freeze(clsm_core_merger *merger, const clsm_core_used *ask);
 
 /* Freezes the epoch as clsm_core_try_freeze, merges it, and reclaims what that retired; goes on
  * where the last sweep stopped. Answers CLSM_CORE_OK once nothing is frozen or retired;

@@ -105,9 +105,8 @@ static int freeze(clsm_store *store, uint64_t used) {
     struct clsm_board *board = &store->board;
     struct clsm_patience patience = CLSM_PATIENCE;
     const clsm_core_used ask = {used};
-    clsm_core_time answer;
     int code;
-    while ((code = (int)clsm_core_try_freeze(&store->merger, &ask, &answer)) == CLSM_BUSY)
+    while ((code = (int)clsm_core_try_freeze(&store->merger, &ask)) == CLSM_BUSY)
         clsm_lose(store, true, &patience);
     clsm_end_patience(store, &patience);
     if (code != CLSM_OK) return code;

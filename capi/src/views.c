@@ -3,8 +3,6 @@
 
 #include <stdlib.h>
 
-static const clsm_core_key ANY = {0};
-
 /* ---- What callers, snapshots and scans have in common */
 
 /* Opens the snapshot of a seat, at a time that is not below what was seen: contracts of the core
@@ -14,9 +12,9 @@ static void open_view(struct clsm_seat *seat, uint64_t seen) {
     struct clsm_patience patience = CLSM_PATIENCE;
     atomic_store_explicit(&seat->view, CLSM_OPENING, memory_order_relaxed);
     for (;;) {
-        clsm_core_snapshot(&seat->core, &ANY, &answer);
+        clsm_core_snapshot(&seat->core, &answer);
         if (answer.time >= seen) break;
-        clsm_core_close_snapshot(&seat->core, &ANY, &answer);
+        clsm_core_close_snapshot(&seat->core, &answer);
         clsm_be_patient(&patience);
     }
     seat->seen = answer.time;
@@ -34,7 +32,7 @@ static void open_view_of(struct clsm_seat *seat, struct clsm_seat *caller) {
 
 static void close_view(struct clsm_seat *seat) {
     clsm_core_time answer;
-    clsm_core_close_snapshot(&seat->core, &ANY, &answer);
+    clsm_core_close_snapshot(&seat->core, &answer);
     const uint64_t view = atomic_exchange(&seat->view, 0);
     clsm_tell_closed(seat->store, view);
 }

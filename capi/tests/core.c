@@ -47,8 +47,8 @@ static void call_empty_caller(clsm_core_caller *caller) {
     CORE(NO_HANDLE, clsm_core_try_add(caller, &(clsm_core_adding){7, 1}, &changed));
     CORE(NO_HANDLE, clsm_core_try_replace(caller, &(clsm_core_replacing){.key = 7}, &changed));
     CORE(NO_HANDLE, clsm_core_get(caller, &KEY, &got));
-    CORE(NO_HANDLE, clsm_core_snapshot(caller, &KEY, &time));
-    CORE(NO_HANDLE, clsm_core_close_snapshot(caller, &KEY, &time));
+    CORE(NO_HANDLE, clsm_core_snapshot(caller, &time));
+    CORE(NO_HANDLE, clsm_core_close_snapshot(caller, &time));
     CORE(NO_HANDLE, clsm_core_get_at(caller, &KEY, &got));
     CORE(NO_HANDLE, clsm_core_count(caller, &ALL, &counted));
     CORE(NO_HANDLE, clsm_core_page(caller, &ALL, rows, 2, &paged));
@@ -58,7 +58,7 @@ static void call_empty_caller(clsm_core_caller *caller) {
 
 static void call_empty_merger(clsm_core_merger *merger) {
     clsm_core_time time;
-    CORE(NO_HANDLE, clsm_core_try_freeze(merger, &ONE, &time));
+    CORE(NO_HANDLE, clsm_core_try_freeze(merger, &ONE));
     CORE(NO_HANDLE, clsm_core_try_sweep(merger, &ONE, &time));
     clsm_core_drop_merger(merger);
 }
@@ -131,13 +131,13 @@ static void read_snapshot(clsm_core_caller *caller) {
     clsm_core_time time, again;
     clsm_core_got got;
     CORE(NO_SNAPSHOT, clsm_core_get_at(caller, &KEY, &got));
-    CORE(NO_SNAPSHOT, clsm_core_close_snapshot(caller, &KEY, &time));
-    CORE(OK, clsm_core_snapshot(caller, &KEY, &time));
-    CORE(OPEN, clsm_core_snapshot(caller, &KEY, &again));
+    CORE(NO_SNAPSHOT, clsm_core_close_snapshot(caller, &time));
+    CORE(OK, clsm_core_snapshot(caller, &time));
+    CORE(OPEN, clsm_core_snapshot(caller, &again));
     CHECK(again.time == time.time);
     CORE(NOT_FOUND, clsm_core_get_at(caller, &KEY, &got));
     CHECK(got.time == time.time && got.value.length == 0);
-    CORE(OK, clsm_core_close_snapshot(caller, &KEY, &again));
+    CORE(OK, clsm_core_close_snapshot(caller, &again));
     CHECK(again.time == time.time);
 }
 
@@ -181,7 +181,7 @@ static void answer_codes(void) {
     read_snapshot(&caller);
     refuse_values(&caller);
     refuse_batches(&caller);
-    CORE(IDLE, clsm_core_try_freeze(&merger, &ONE, &time));
+    CORE(IDLE, clsm_core_try_freeze(&merger, &ONE));
     const clsm_core_row rows[] = {ROW, {.key = 7}, ROW};
     clsm_core_time batch;
     for (int i = 0; i < 6; i++) CORE(OK, clsm_core_try_put(&caller, &ROW, &time));
@@ -191,8 +191,8 @@ static void answer_codes(void) {
     CHECK(batch.time == time.time + 1);
     CORE(FULL, clsm_core_try_put(&caller, &ROW, &time));
     CHECK(time.time == batch.time + 2);
-    CORE(OK, clsm_core_try_freeze(&merger, &ONE, &time));
-    CORE(OK, clsm_core_try_freeze(&merger, &ONE, &time));
+    CORE(OK, clsm_core_try_freeze(&merger, &ONE));
+    CORE(OK, clsm_core_try_freeze(&merger, &ONE));
     CORE(OK, clsm_core_try_remove(&caller, &KEY, &time));
     CORE(OK, clsm_core_try_sweep(&merger, &ONE, &time));
     clsm_core_drop_merger(&merger);

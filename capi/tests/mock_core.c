@@ -433,10 +433,8 @@ uint32_t clsm_core_get_at(clsm_core_caller *at, const clsm_core_key *ask, clsm_c
     return code;
 }
 
-uint32_t clsm_core_snapshot(clsm_core_caller *at, const clsm_core_key *ask,
-                            clsm_core_time *answer) {
+uint32_t clsm_core_snapshot(clsm_core_caller *at, clsm_core_time *answer) {
     struct seat seat = seat_of(at);
-    (void)ask;
     if (!seat.store) return CLSM_CORE_NO_HANDLE;
     pthread_mutex_lock(&lock);
     uint64_t *noted = &seat.store->snapshots[seat.number];
@@ -447,10 +445,8 @@ uint32_t clsm_core_snapshot(clsm_core_caller *at, const clsm_core_key *ask,
     return code;
 }
 
-uint32_t clsm_core_close_snapshot(clsm_core_caller *at, const clsm_core_key *ask,
-                                  clsm_core_time *answer) {
+uint32_t clsm_core_close_snapshot(clsm_core_caller *at, clsm_core_time *answer) {
     struct seat seat = seat_of(at);
-    (void)ask;
     if (!seat.store) return CLSM_CORE_NO_HANDLE;
     pthread_mutex_lock(&lock);
     uint64_t *noted = &seat.store->snapshots[seat.number];
@@ -611,10 +607,8 @@ uint32_t clsm_core_count_entries(clsm_core_merger *at, const clsm_core_turn *ask
     return is_frozen ? CLSM_CORE_OK : CLSM_CORE_IDLE;
 }
 
-uint32_t clsm_core_try_freeze(clsm_core_merger *at, const clsm_core_used *ask,
-                              clsm_core_time *answer) {
+uint32_t clsm_core_try_freeze(clsm_core_merger *at, const clsm_core_used *ask) {
     struct store *store = store_of(at);
-    (void)answer;
     if (!store) return CLSM_CORE_NO_HANDLE;
     pthread_mutex_lock(&lock);
     uint32_t code = freeze(store, ask->used);

@@ -5,6 +5,7 @@ mod GivenBack
 mod HandedOut
 mod Handles
 mod Lent
+mod LentOne
 mod Members
-mod Question
+mod Passed
 mod Rows

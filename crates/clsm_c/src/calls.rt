@@ -1,11 +1,14 @@
 //! The calls for C, on slots: safe functions, one for each export, of its name.
 ghost use Rattle.std.specs.Prelude.{◌≡◌, ◌<◌, IfErr, IfNone, IfOk, IfSome};
-ghost use Rattle.clsm_c.specs.Calls.{Adds, AreMembers, Batches, Closes, Counts, Fills, FreezesIf, Gets, GetsAt, IsNext, IsPinnedBy, IsRefusedAt, IsTimeOf};
-ghost use Rattle.clsm_c.specs.Calls.{CountsEntries, Opens, Pages};
-ghost use Rattle.clsm_c.specs.Calls.{HasLong, IsBatchTime, IsMember, Puts, Removes, ReplacesBy, Snaps, Sweeps, TakesCaller, TakesMerger, TellsChange};
-ghost use Rattle.clsm_c.specs.Calls.{batch_code, change_code, found_code, freeze_code, kept_code, refusal_code, refused_code, sweep_code, try_code};
-ghost use Rattle.clsm_c.specs.Calls.{value_after};
-ghost use Rattle.clsm_c.specs.Values.{TellsValue};
+ghost use Rattle.clsm_model.specs.declared.record.Deed.TheVariants.{Remove};
+ghost use Rattle.clsm_store.specs.Changes.{Adds};
+ghost use Rattle.clsm_store.specs.Freezing.{TryFreezes};
+ghost use Rattle.clsm_store.specs.Phase.{CountsIfFrozen};
+ghost use Rattle.clsm_store.specs.Promises.{ClosesSnapshot, CountsRange, Gets, GetsAtIfOpen, OpensSnapshot, TriesToChangeBy, TriesToWrite};
+ghost use Rattle.clsm_store.specs.Sweeping.{TrySweeps};
+ghost use Rattle.clsm_c.specs.Calls.{AreMembers, BatchesRows, ByCaller, ByMerger, Fills, HasLong, IsMember, IsNext, Opens, Pages, PutsRow, ReplacesValue};
+ghost use Rattle.clsm_c.specs.Calls.{TakesCaller, TakesMerger, TellsBatch, TellsChange, TellsClosed, TellsCounted, TellsEntries, TellsFreeze, TellsGot, TellsGotAt};
+ghost use Rattle.clsm_c.specs.Calls.{TellsOpened, TellsRefused, TellsSweep, TellsTry, Told, kept_code, refusal_code, value_after};
 
 use crate::codes::{
     BAD_BATCH, BAD_EPOCH, BAD_KEYS, BAD_PATIENCE, BAD_SEATS, BAD_SHARDS, BAD_VALUE, BUSY, Code,
@@ -116,8 +119,7 @@ pub(crate) fn drop_merger(slot: MergerSlot) {
 
 /// Tells why a try was refused, and the time of that, if it has one.
 fn tell_refused(error: TryPutError, answer: &mut u64) -> Code
-    ensures code { result ≡ refused_code error }
-    ensures time { IsRefusedAt answer.new error }
+    ensures { TellsRefused answer.new result error }
 {
     match error {
         TryPutError::Full { time } => {
@@ -132,8 +134,7 @@ fn tell_refused(error: TryPutError, answer: &mut u64) -> Code
 
 /// Tells what a try came to, and its time, if it has one.
 fn tell_try(came: Result<Time, TryPutError>, answer: &mut CoreTime) -> Code
-    ensures code { result ≡ try_code came }
-    ensures time { IsTimeOf answer.new.time came }
+    ensures { TellsTry answer.new result came }
 {
     match came {
         Ok(time) => {
@@ -145,7 +146,7 @@ fn tell_try(came: Result<Time, TryPutError>, answer: &mut CoreTime) -> Code
 }
 
 pub(crate) fn try_put(slot: &mut CallerSlot, ask: &CoreRow, answer: &mut CoreTime) -> Code
-    ensures { Puts slot.old.caller ask.now slot.new.caller answer.new result }
+    ensures { ByCaller (PutsRow ask.now answer.new result) slot.old.caller slot.new.caller result }
 {
     let Some(caller) = &mut slot.caller else {
         return NO_HANDLE;
@@ -158,7 +159,8 @@ pub(crate) fn try_put(slot: &mut CallerSlot, ask: &CoreRow, answer: &mut CoreTim
 }
 
 pub(crate) fn try_remove(slot: &mut CallerSlot, ask: &CoreKey, answer: &mut CoreTime) -> Code
-    ensures { Removes slot.old.caller ask.now slot.new.caller answer.new result }
+    ensures { ByCaller (λ before after. Told (TriesToWrite before after (Remove ask.now.key))
+        (TellsTry answer.new result)) slot.old.caller slot.new.caller result }
 {
     let Some(caller) = &mut slot.caller else {
         return NO_HANDLE;
@@ -192,8 +194,7 @@ fn kept_code(change: &Change) -> Code
 
 /// Tells what a try to change a key came to.
 fn tell_change(came: Result<Rmw, TryPutError>, answer: &mut CoreChanged) -> Code
-    ensures code { result ≡ change_code came }
-    ensures tells { TellsChange answer.new came }
+    ensures { TellsChange answer.new result came }
 {
     match came {
         Ok(rmw) => {
@@ -209,7 +210,8 @@ fn tell_change(came: Result<Rmw, TryPutError>, answer: &mut CoreChanged) -> Code
 }
 
 pub(crate) fn try_add(slot: &mut CallerSlot, ask: &CoreAdding, answer: &mut CoreChanged) -> Code
-    ensures { Adds slot.old.caller ask.now slot.new.caller answer.new result }
+    ensures { ByCaller (λ before after. Told (TriesToChangeBy before after ask.now.key (Adds ask.now.by))
+        (TellsChange answer.new result)) slot.old.caller slot.new.caller result }
 {
     let Some(caller) = &mut slot.caller else {
         return NO_HANDLE;
@@ -223,7 +225,7 @@ pub(crate) fn try_replace(
     ask: &CoreReplacing,
     answer: &mut CoreChanged,
 ) -> Code
-    ensures { ReplacesBy slot.old.caller ask.now slot.new.caller answer.new result }
+    ensures { ByCaller (ReplacesValue ask.now answer.new result) slot.old.caller slot.new.caller result }
 {
     let Some(caller) = &mut slot.caller else {
         return NO_HANDLE;
@@ -278,8 +280,7 @@ fn to_members(alloc: Global, rows: &[CoreRow]) -> Result<Vec<(u64, Change)>, NoM
 
 /// Tells what a try of a batch came to, and its time, if it has one.
 fn tell_batch(came: Result<Time, TryBatchError>, answer: &mut CoreTime) -> Code
-    ensures code { result ≡ batch_code came }
-    ensures time { IsBatchTime answer.new.time came }
+    ensures { TellsBatch answer.new result came }
 {
     match came {
         Ok(time) => {
@@ -296,7 +297,7 @@ fn tell_batch(came: Result<Time, TryBatchError>, answer: &mut CoreTime) -> Code
 }
 
 pub(crate) fn try_batch(slot: &mut CallerSlot, rows: &[CoreRow], answer: &mut CoreTime) -> Code
-    ensures { Batches slot.old.caller rows.now slot.new.caller answer.new result }
+    ensures { ByCaller (BatchesRows rows.now answer.new result) slot.old.caller slot.new.caller result }
 {
     let Some(caller) = &mut slot.caller else {
         return NO_HANDLE;
@@ -315,9 +316,7 @@ pub(crate) fn try_batch(slot: &mut CallerSlot, rows: &[CoreRow], answer: &mut Co
 
 /// Tells what a read found, and its time.
 fn tell_got(got: Got, answer: &mut CoreGot) -> Code
-    ensures code { result ≡ found_code got.value }
-    ensures time { answer.new.time ≡ got.time }
-    ensures value { TellsValue answer.new.value got.value }
+    ensures { TellsGot answer.new result got }
 {
     let Got { time, value } = got;
     answer.time = time;
@@ -329,7 +328,8 @@ fn tell_got(got: Got, answer: &mut CoreGot) -> Code
 }
 
 pub(crate) fn get(slot: &mut CallerSlot, ask: &CoreKey, answer: &mut CoreGot) -> Code
-    ensures { Gets slot.old.caller ask.now slot.new.caller answer.new result }
+    ensures { ByCaller (λ before after. Told (Gets before after ask.now.key)
+        (TellsGot answer.new result)) slot.old.caller slot.new.caller result }
 {
     let Some(caller) = &mut slot.caller else {
         return NO_HANDLE;
@@ -339,7 +339,8 @@ pub(crate) fn get(slot: &mut CallerSlot, ask: &CoreKey, answer: &mut CoreGot) ->
 }
 
 pub(crate) fn get_at(slot: &mut CallerSlot, ask: &CoreKey, answer: &mut CoreGot) -> Code
-    ensures { GetsAt slot.old.caller ask.now slot.new.caller answer.new result }
+    ensures { ByCaller (λ before after. Told (GetsAtIfOpen before after ask.now.key)
+        (TellsGotAt answer.new result)) slot.old.caller slot.new.caller result }
 {
     let Some(caller) = &mut slot.caller else {
         return NO_HANDLE;
@@ -350,8 +351,9 @@ pub(crate) fn get_at(slot: &mut CallerSlot, ask: &CoreKey, answer: &mut CoreGot)
     tell_got(got, answer)
 }
 
-pub(crate) fn snapshot(slot: &mut CallerSlot, _ask: &CoreKey, answer: &mut CoreTime) -> Code
-    ensures { Snaps slot.old.caller slot.new.caller answer.new result }
+pub(crate) fn snapshot(slot: &mut CallerSlot, answer: &mut CoreTime) -> Code
+    ensures { ByCaller (λ before after. Told (OpensSnapshot before after)
+        (TellsOpened answer.new result)) slot.old.caller slot.new.caller result }
 {
     let Some(caller) = &mut slot.caller else {
         return NO_HANDLE;
@@ -368,8 +370,9 @@ pub(crate) fn snapshot(slot: &mut CallerSlot, _ask: &CoreKey, answer: &mut CoreT
     }
 }
 
-pub(crate) fn close_snapshot(slot: &mut CallerSlot, _ask: &CoreKey, answer: &mut CoreTime) -> Code
-    ensures { Closes slot.old.caller slot.new.caller answer.new result }
+pub(crate) fn close_snapshot(slot: &mut CallerSlot, answer: &mut CoreTime) -> Code
+    ensures { ByCaller (λ before after. Told (ClosesSnapshot before after)
+        (TellsClosed answer.new result)) slot.old.caller slot.new.caller result }
 {
     let Some(caller) = &mut slot.caller else {
         return NO_HANDLE;
@@ -382,7 +385,8 @@ pub(crate) fn close_snapshot(slot: &mut CallerSlot, _ask: &CoreKey, answer: &mut
 }
 
 pub(crate) fn count(slot: &mut CallerSlot, ask: &CoreRange, answer: &mut CoreCounted) -> Code
-    ensures { Counts slot.old.caller ask.now slot.new.caller answer.new result }
+    ensures { ByCaller (λ before after. Told (CountsRange before after ask.now.first ask.now.last)
+        (TellsCounted answer.new result)) slot.old.caller slot.new.caller result }
 {
     let Some(caller) = &mut slot.caller else {
         return NO_HANDLE;
@@ -442,7 +446,7 @@ pub(crate) fn page(
 
 /// The code of what a freeze came to.
 fn freeze_code(came: Result<TryFroze, Worn>) -> Code
-    ensures { result ≡ freeze_code came }
+    ensures { TellsFreeze result came }
 {
     match came {
         Ok(TryFroze::Done) => OK,
@@ -452,8 +456,9 @@ fn freeze_code(came: Result<TryFroze, Worn>) -> Code
     }
 }
 
-pub(crate) fn try_freeze(slot: &mut MergerSlot, ask: &CoreUsed, _answer: &mut CoreTime) -> Code
-    ensures { FreezesIf slot.old.merger ask.now slot.new.merger result }
+pub(crate) fn try_freeze(slot: &mut MergerSlot, ask: &CoreUsed) -> Code
+    ensures { ByMerger (λ before after. Told (TryFreezes ask.now.used before after)
+        (TellsFreeze result)) slot.old.merger slot.new.merger result }
 {
     let Some(merger) = slot.merger.take() else {
         return NO_HANDLE;
@@ -465,8 +470,7 @@ pub(crate) fn try_freeze(slot: &mut MergerSlot, ask: &CoreUsed, _answer: &mut Co
 
 /// Tells what a sweep came to, and which caller stopped it, if one did.
 fn tell_sweep(came: Result<TrySwept, Stopped>, answer: &mut CoreTime) -> Code
-    ensures code { result ≡ sweep_code came }
-    ensures caller { IsPinnedBy answer.new.time came }
+    ensures { TellsSweep answer.new result came }
 {
     match came {
         Ok(TrySwept::Done) => OK,
@@ -482,7 +486,8 @@ fn tell_sweep(came: Result<TrySwept, Stopped>, answer: &mut CoreTime) -> Code
 }
 
 pub(crate) fn try_sweep(slot: &mut MergerSlot, ask: &CoreUsed, answer: &mut CoreTime) -> Code
-    ensures { Sweeps slot.old.merger ask.now slot.new.merger answer.new result }
+    ensures { ByMerger (λ before after. Told (TrySweeps ask.now.used before after)
+        (TellsSweep answer.new result)) slot.old.merger slot.new.merger result }
 {
     let Some(merger) = slot.merger.take() else {
         return NO_HANDLE;
@@ -493,7 +498,8 @@ pub(crate) fn try_sweep(slot: &mut MergerSlot, ask: &CoreUsed, answer: &mut Core
 }
 
 pub(crate) fn count_entries(slot: &mut MergerSlot, ask: &CoreTurn, answer: &mut CoreEntries) -> Code
-    ensures { CountsEntries slot.old.merger ask.now slot.new.merger answer.new result }
+    ensures { ByMerger (λ before after. Told (CountsIfFrozen before after ask.now.turn)
+        (TellsEntries answer.new result)) slot.old.merger slot.new.merger result }
 {
     answer.entries = 0;
     let Some(merger) = &mut slot.merger else {

@@ -7,8 +7,14 @@
 
 ghost use Rattle.std.specs.Prelude.{◌≡◌};
 ghost use Rattle.std.specs.Ptr.{room_at};
-ghost use Rattle.clsm_c.specs.Calls.{Adds, Batches, Closes, Counts, CountsEntries, FreezesIf, Gets, GetsAt, Opens, Pages, Puts, Removes, ReplacesBy, Snaps, Sweeps};
-ghost use Rattle.clsm_c.specs.Calls.{TakesCaller, TakesMerger};
+ghost use Rattle.clsm_model.specs.declared.record.Deed.TheVariants.{Remove};
+ghost use Rattle.clsm_store.specs.Changes.{Adds};
+ghost use Rattle.clsm_store.specs.Freezing.{TryFreezes};
+ghost use Rattle.clsm_store.specs.Phase.{CountsIfFrozen};
+ghost use Rattle.clsm_store.specs.Promises.{ClosesSnapshot, CountsRange, Gets, GetsAtIfOpen, OpensSnapshot, TriesToChangeBy, TriesToWrite};
+ghost use Rattle.clsm_store.specs.Sweeping.{TrySweeps};
+ghost use Rattle.clsm_c.specs.Calls.{BatchesRows, ByCaller, ByMerger, Opens, Pages, PutsRow, ReplacesValue, TakesCaller, TakesMerger};
+ghost use Rattle.clsm_c.specs.Calls.{TellsChange, TellsClosed, TellsCounted, TellsEntries, TellsFreeze, TellsGot, TellsGotAt, TellsOpened, TellsSweep, TellsTry, Told};
 ghost use Rattle.clsm_c.specs.Lent.{both, bytes_of, left, lies};
 ghost use Rattle.clsm_c.specs.contracts.slots.CallerSlot.{the_row as caller_row};
 ghost use Rattle.clsm_c.specs.contracts.slots.MergerSlot.{the_row as merger_row};
@@ -141,7 +147,7 @@ pub unsafe extern "C" fn clsm_core_try_put(
 ) -> u32
     ghost old: { CallerSlot }
     requires* { sem 𝓛 (lies caller_row caller old) }
-    ensures* { sem 𝓛 (left caller_row caller (λ new. Puts old.caller ask.now new.caller answer.new result)) }
+    ensures* { sem 𝓛 (left caller_row caller (λ new. ByCaller (PutsRow ask.now answer.new result) old.caller new.caller result)) }
 {
     calls::try_put(unsafe { &mut *caller.cast::<CallerSlot>() }, ask, answer)
 }
@@ -156,7 +162,8 @@ pub unsafe extern "C" fn clsm_core_try_remove(
 ) -> u32
     ghost old: { CallerSlot }
     requires* { sem 𝓛 (lies caller_row caller old) }
-    ensures* { sem 𝓛 (left caller_row caller (λ new. Removes old.caller ask.now new.caller answer.new result)) }
+    ensures* { sem 𝓛 (left caller_row caller (λ new. ByCaller (λ before after.
+        Told (TriesToWrite before after (Remove ask.now.key)) (TellsTry answer.new result)) old.caller new.caller result)) }
 {
     calls::try_remove(unsafe { &mut *caller.cast::<CallerSlot>() }, ask, answer)
 }
@@ -176,7 +183,7 @@ pub unsafe extern "C" fn clsm_core_try_batch(
 ) -> u32
     ghost old: { CallerSlot }
     requires* { sem 𝓛 (lies caller_row caller old) }
-    ensures* { sem 𝓛 (left caller_row caller (λ new. Batches old.caller rows.now new.caller answer.new result)) }
+    ensures* { sem 𝓛 (left caller_row caller (λ new. ByCaller (BatchesRows rows.now answer.new result) old.caller new.caller result)) }
 {
     calls::try_batch(unsafe { &mut *caller.cast::<CallerSlot>() }, rows, answer)
 }
@@ -195,7 +202,8 @@ pub unsafe extern "C" fn clsm_core_try_add(
 ) -> u32
     ghost old: { CallerSlot }
     requires* { sem 𝓛 (lies caller_row caller old) }
-    ensures* { sem 𝓛 (left caller_row caller (λ new. Adds old.caller ask.now new.caller answer.new result)) }
+    ensures* { sem 𝓛 (left caller_row caller (λ new. ByCaller (λ before after.
+        Told (TriesToChangeBy before after ask.now.key (Adds ask.now.by)) (TellsChange answer.new result)) old.caller new.caller result)) }
 {
     calls::try_add(unsafe { &mut *caller.cast::<CallerSlot>() }, ask, answer)
 }
@@ -211,7 +219,7 @@ pub unsafe extern "C" fn clsm_core_try_replace(
 ) -> u32
     ghost old: { CallerSlot }
     requires* { sem 𝓛 (lies caller_row caller old) }
-    ensures* { sem 𝓛 (left caller_row caller (λ new. ReplacesBy old.caller ask.now new.caller answer.new result)) }
+    ensures* { sem 𝓛 (left caller_row caller (λ new. ByCaller (ReplacesValue ask.now answer.new result) old.caller new.caller result)) }
 {
     calls::try_replace(unsafe { &mut *caller.cast::<CallerSlot>() }, ask, answer)
 }
@@ -224,39 +232,33 @@ pub unsafe extern "C" fn clsm_core_try_replace(
 pub unsafe extern "C" fn clsm_core_get(caller: *mut u8, ask: &CoreKey, answer: &mut CoreGot) -> u32
     ghost old: { CallerSlot }
     requires* { sem 𝓛 (lies caller_row caller old) }
-    ensures* { sem 𝓛 (left caller_row caller (λ new. Gets old.caller ask.now new.caller answer.new result)) }
+    ensures* { sem 𝓛 (left caller_row caller (λ new. ByCaller (λ before after.
+        Told (Gets before after ask.now.key) (TellsGot answer.new result)) old.caller new.caller result)) }
 {
     calls::get(unsafe { &mut *caller.cast::<CallerSlot>() }, ask, answer)
 }
 
 /// Opens the caller's snapshot at a time of its own, which is the clock's, and answers `OK` and
-/// that time. Refused with `OPEN` and the time of the one that is open. The key is not looked at.
+/// that time. Refused with `OPEN` and the time of the one that is open.
 #[unsafe(no_mangle)]
-pub unsafe extern "C" fn clsm_core_snapshot(
-    caller: *mut u8,
-    ask: &CoreKey,
-    answer: &mut CoreTime,
-) -> u32
+pub unsafe extern "C" fn clsm_core_snapshot(caller: *mut u8, answer: &mut CoreTime) -> u32
     ghost old: { CallerSlot }
     requires* { sem 𝓛 (lies caller_row caller old) }
-    ensures* { sem 𝓛 (left caller_row caller (λ new. Snaps old.caller new.caller answer.new result)) }
+    ensures* { sem 𝓛 (left caller_row caller (λ new. ByCaller (λ before after.
+        Told (OpensSnapshot before after) (TellsOpened answer.new result)) old.caller new.caller result)) }
 {
-    calls::snapshot(unsafe { &mut *caller.cast::<CallerSlot>() }, ask, answer)
+    calls::snapshot(unsafe { &mut *caller.cast::<CallerSlot>() }, answer)
 }
 
-/// Closes the caller's snapshot, and answers `OK` and its time. Refused with `NO_SNAPSHOT`. The key
-/// is not looked at.
+/// Closes the caller's snapshot, and answers `OK` and its time. Refused with `NO_SNAPSHOT`.
 #[unsafe(no_mangle)]
-pub unsafe extern "C" fn clsm_core_close_snapshot(
-    caller: *mut u8,
-    ask: &CoreKey,
-    answer: &mut CoreTime,
-) -> u32
+pub unsafe extern "C" fn clsm_core_close_snapshot(caller: *mut u8, answer: &mut CoreTime) -> u32
     ghost old: { CallerSlot }
     requires* { sem 𝓛 (lies caller_row caller old) }
-    ensures* { sem 𝓛 (left caller_row caller (λ new. Closes old.caller new.caller answer.new result)) }
+    ensures* { sem 𝓛 (left caller_row caller (λ new. ByCaller (λ before after.
+        Told (ClosesSnapshot before after) (TellsClosed answer.new result)) old.caller new.caller result)) }
 {
-    calls::close_snapshot(unsafe { &mut *caller.cast::<CallerSlot>() }, ask, answer)
+    calls::close_snapshot(unsafe { &mut *caller.cast::<CallerSlot>() }, answer)
 }
 
 /// Reads the key below the time of the caller's open snapshot, as `clsm_core_get`. Refused with
@@ -269,7 +271,8 @@ pub unsafe extern "C" fn clsm_core_get_at(
 ) -> u32
     ghost old: { CallerSlot }
     requires* { sem 𝓛 (lies caller_row caller old) }
-    ensures* { sem 𝓛 (left caller_row caller (λ new. GetsAt old.caller ask.now new.caller answer.new result)) }
+    ensures* { sem 𝓛 (left caller_row caller (λ new. ByCaller (λ before after.
+        Told (GetsAtIfOpen before after ask.now.key) (TellsGotAt answer.new result)) old.caller new.caller result)) }
 {
     calls::get_at(unsafe { &mut *caller.cast::<CallerSlot>() }, ask, answer)
 }
@@ -285,7 +288,8 @@ pub unsafe extern "C" fn clsm_core_count(
 ) -> u32
     ghost old: { CallerSlot }
     requires* { sem 𝓛 (lies caller_row caller old) }
-    ensures* { sem 𝓛 (left caller_row caller (λ new. Counts old.caller ask.now new.caller answer.new result)) }
+    ensures* { sem 𝓛 (left caller_row caller (λ new. ByCaller (λ before after.
+        Told (CountsRange before after ask.now.first ask.now.last) (TellsCounted answer.new result)) old.caller new.caller result)) }
 {
     calls::count(unsafe { &mut *caller.cast::<CallerSlot>() }, ask, answer)
 }
@@ -318,18 +322,15 @@ pub unsafe extern "C" fn clsm_core_page(
 /// Freezes the epoch, if `used` of its timestamps are drawn, or all, so that writes find room
 /// again. It never merges. Answers `OK` where an epoch is frozen or retired, by this call or before
 /// it; `IDLE` if too few timestamps were drawn; `BUSY` if a caller held the lock; `WORN` at the end
-/// of times, 2^62. The time is not written.
+/// of times, 2^62.
 #[unsafe(no_mangle)]
-pub unsafe extern "C" fn clsm_core_try_freeze(
-    merger: *mut u8,
-    ask: &CoreUsed,
-    answer: &mut CoreTime,
-) -> u32
+pub unsafe extern "C" fn clsm_core_try_freeze(merger: *mut u8, ask: &CoreUsed) -> u32
     ghost old: { MergerSlot }
     requires* { sem 𝓛 (lies merger_row merger old) }
-    ensures* { sem 𝓛 (left merger_row merger (λ new. FreezesIf old.merger ask.now new.merger result)) }
+    ensures* { sem 𝓛 (left merger_row merger (λ new. ByMerger (λ before after.
+        Told (TryFreezes ask.now.used before after) (TellsFreeze result)) old.merger new.merger result)) }
 {
-    calls::try_freeze(unsafe { &mut *merger.cast::<MergerSlot>() }, ask, answer)
+    calls::try_freeze(unsafe { &mut *merger.cast::<MergerSlot>() }, ask)
 }
 
 /// Freezes the epoch as `clsm_core_try_freeze`, merges it, and reclaims what that retired; goes on
@@ -344,7 +345,8 @@ pub unsafe extern "C" fn clsm_core_try_sweep(
 ) -> u32
     ghost old: { MergerSlot }
     requires* { sem 𝓛 (lies merger_row merger old) }
-    ensures* { sem 𝓛 (left merger_row merger (λ new. Sweeps old.merger ask.now new.merger answer.new result)) }
+    ensures* { sem 𝓛 (left merger_row merger (λ new. ByMerger (λ before after.
+        Told (TrySweeps ask.now.used before after) (TellsSweep answer.new result)) old.merger new.merger result)) }
 {
     calls::try_sweep(unsafe { &mut *merger.cast::<MergerSlot>() }, ask, answer)
 }
@@ -360,7 +362,8 @@ pub unsafe extern "C" fn clsm_core_count_entries(
 ) -> u32
     ghost old: { MergerSlot }
     requires* { sem 𝓛 (lies merger_row merger old) }
-    ensures* { sem 𝓛 (left merger_row merger (λ new. CountsEntries old.merger ask.now new.merger answer.new result)) }
+    ensures* { sem 𝓛 (left merger_row merger (λ new. ByMerger (λ before after.
+        Told (CountsIfFrozen before after ask.now.turn) (TellsEntries answer.new result)) old.merger new.merger result)) }
 {
     calls::count_entries(unsafe { &mut *merger.cast::<MergerSlot>() }, ask, answer)
 }

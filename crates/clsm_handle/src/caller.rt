@@ -1,17 +1,10 @@
 //! A caller that keeps its store.
-ghost use Rattle.std.specs.Prelude.{◌≡◌, None, Some, IfErr, IfNone, IfOk, IfSome};
+ghost use Rattle.std.specs.Prelude.{◌≡◌};
 ghost use Rattle.std.specs.Arc.{arc_value};
-ghost use Rattle.clsm_model.specs.declared.record.Deed.TheVariants.{Batch as Group, Close, Get, GetAt, Put, Remove, Rmw as ChangeOf, Snapshot};
-ghost use Rattle.clsm_model.specs.Right.{page_deed};
-ghost use Rattle.clsm_model.specs.Seats.{FitsDeed};
-ghost use Rattle.clsm_store_calls.specs.Batching.{CountsTryBatch, IsRefusedTryBatch};
-ghost use Rattle.clsm_store_calls.specs.Scanning.{CountsKeys, IsAtClock};
-ghost use Rattle.clsm_store_calls.specs.Seats.{Answers, Refuses};
-ghost use Rattle.clsm_store_calls.specs.Tally.{CountsTry, TakesNoLock};
-ghost use Rattle.clsm_store_calls.specs.Trying.{RefusesTry};
-ghost use Rattle.clsm_store_calls.specs.TryingChange.{CountsTryChange};
-ghost use Rattle.clsm_model.specs.Changes.{added};
-ghost use Rattle.clsm_store.specs.Changes.{Replaces};
+ghost use Rattle.clsm_model.specs.declared.record.Deed.TheVariants.{Put, Remove};
+ghost use Rattle.clsm_store.specs.Changes.{Adds, Replaces};
+ghost use Rattle.clsm_store.specs.Promises.{ClosesSnapshot, CountsRange, Gets, GetsAtIfOpen, GivesPage, OpensSnapshot, TriesToChangeBy, TriesToWrite};
+ghost use Rattle.clsm_store.specs.Promises.{TriesToWriteBatch};
 
 use clsm_model::Key;
 use clsm_store::{
@@ -34,28 +27,21 @@ pub struct OwnCaller {
 impl OwnCaller {
     /// As `Store::try_put`.
     pub fn try_put(&mut self, key: Key, value: Value) -> Result<Time, TryPutError>
-        ensures written { IfOk result (λ time. Answers self.old.seat self.new.seat time (Put key value)) }
-        ensures counts { CountsTry self.old.seat.tally self.new.seat.tally result }
-        ensures refused { IfErr result (RefusesTry self.old.seat self.new.seat) }
+        ensures { TriesToWrite self.old.seat self.new.seat (Put key value) result }
     {
         self.store.try_put(&mut self.seat, key, value)
     }
 
     /// As `Store::try_remove`.
     pub fn try_remove(&mut self, key: Key) -> Result<Time, TryPutError>
-        ensures written { IfOk result (λ time. Answers self.old.seat self.new.seat time (Remove key)) }
-        ensures counts { CountsTry self.old.seat.tally self.new.seat.tally result }
-        ensures refused { IfErr result (RefusesTry self.old.seat self.new.seat) }
+        ensures { TriesToWrite self.old.seat self.new.seat (Remove key) result }
     {
         self.store.try_remove(&mut self.seat, key)
     }
 
     /// As `Store::try_add`.
     pub fn try_add(&mut self, key: Key, by: u64) -> Result<Rmw, TryPutError>
-        ensures changed { IfOk result (λ rmw. Answers self.old.seat self.new.seat rmw.time (ChangeOf key rmw.old rmw.change)) }
-        ensures added { IfOk result (λ rmw. rmw.change ≡ added rmw.old by) }
-        ensures counts { CountsTryChange self.old.seat self.new.seat key result }
-        ensures refused { IfErr result (RefusesTry self.old.seat self.new.seat) }
+        ensures { TriesToChangeBy self.old.seat self.new.seat key (Adds by) result }
     {
         self.store.try_add(&mut self.seat, key, by)
     }
@@ -67,10 +53,7 @@ impl OwnCaller {
         expected: Option<Value>,
         desired: Option<Value>,
     ) -> Result<Rmw, TryPutError>
-        ensures changed { IfOk result (λ rmw. Answers self.old.seat self.new.seat rmw.time (ChangeOf key rmw.old rmw.change)) }
-        ensures replaced { IfOk result (λ rmw. Replaces rmw.old expected desired rmw.change) }
-        ensures counts { CountsTryChange self.old.seat self.new.seat key result }
-        ensures refused { IfErr result (RefusesTry self.old.seat self.new.seat) }
+        ensures { TriesToChangeBy self.old.seat self.new.seat key (λ value change. Replaces value expected desired change) result }
     {
         self.store
             .try_replace(&mut self.seat, key, expected, desired)
@@ -78,10 +61,7 @@ impl OwnCaller {
 
     /// As `Store::try_batch`.
     pub fn try_batch(&mut self, members: &[(u64, Change)]) -> Result<Time, TryBatchError>
-        ensures written { IfOk result (λ time. Answers self.old.seat self.new.seat time (Group members.now)) }
-        ensures fits { IfOk result (λ time. FitsDeed self.old.seat.store.layout.cells (Group members.now)) }
-        ensures counts { CountsTryBatch self.old.seat.tally self.new.seat.tally result }
-        ensures refused { IfErr result (IsRefusedTryBatch self.old.seat self.new.seat members.now) }
+        ensures { TriesToWriteBatch self.old.seat self.new.seat members.now result }
     {
         self.store.try_batch(&mut self.seat, members)
     }
@@ -94,36 +74,28 @@ impl OwnCaller {
     /// As `Store::get`.
     #[inline(always)]
     pub fn get(&mut self, key: Key) -> Got
-        ensures answers { Answers self.old.seat self.new.seat result.time (Get key result.value) }
-        ensures clock { self.new.seat.clock ≡ Some result.time }
-        ensures lock { TakesNoLock self.old.seat.tally self.new.seat.tally }
+        ensures { Gets self.old.seat self.new.seat key result }
     {
         self.store.get(&mut self.seat, key)
     }
 
     /// As `Store::snapshot`.
     pub fn snapshot(&mut self) -> Result<Time, Open>
-        ensures opened { IfOk result (λ time. Answers self.old.seat self.new.seat time Snapshot) }
-        ensures lock { IfOk result (λ time. TakesNoLock self.old.seat.tally self.new.seat.tally) }
-        ensures open { IfErr result (λ refusal. (self.new.seat ≡ self.old.seat) × (self.old.seat.snapshot ≡ Some refusal.time)) }
+        ensures { OpensSnapshot self.old.seat self.new.seat result }
     {
         self.store.snapshot(&mut self.seat)
     }
 
     /// As `Store::close_snapshot`.
     pub fn close_snapshot(&mut self) -> Option<Time>
-        ensures closed { IfSome result (λ time. Answers self.old.seat self.new.seat time Close) }
-        ensures none { IfNone result ((self.new.seat ≡ self.old.seat) × (self.old.seat.snapshot ≡ None)) }
-        ensures lock { self.new.seat.tally ≡ self.old.seat.tally }
+        ensures { ClosesSnapshot self.old.seat self.new.seat result }
     {
         self.store.close_snapshot(&mut self.seat)
     }
 
     /// As `Store::get_at`, or `None` if no snapshot is open.
     pub fn get_at(&mut self, key: Key) -> Option<Got>
-        ensures answers { IfSome result (λ got. Answers self.old.seat self.new.seat got.time (GetAt key got.value)) }
-        ensures none { IfNone result ((self.new.seat ≡ self.old.seat) × (self.old.seat.snapshot ≡ None)) }
-        ensures lock { self.new.seat.tally ≡ self.old.seat.tally }
+        ensures { GetsAtIfOpen self.old.seat self.new.seat key result }
     {
         self.seat.snapshot_time()?;
         Some(self.store.get_at(&mut self.seat, key))
@@ -131,18 +103,14 @@ impl OwnCaller {
 
     /// As `Store::page`.
     pub fn page(&mut self, from: u64, hi: Key, max: usize) -> Result<Page, Memory>
-        ensures answers { IfOk result (λ page. Answers self.old.seat self.new.seat page.time (page_deed from hi max page.rows page.more)) }
-        ensures clock { IfOk result (λ page. IsAtClock self.old.seat self.new.seat page.time) }
-        ensures lock { TakesNoLock self.old.seat.tally self.new.seat.tally }
-        ensures refused { IfErr result (λ refusal. Refuses self.old.seat self.new.seat) }
+        ensures { GivesPage self.old.seat self.new.seat from hi max result }
     {
         self.store.page(self.alloc, &mut self.seat, from, hi, max)
     }
 
     /// As `Store::count`.
     pub fn count(&mut self, lo: Key, hi: Key) -> Counted
-        ensures counts { CountsKeys self.old.seat self.new.seat result.time lo hi result.keys result.first }
-        ensures lock { TakesNoLock self.old.seat.tally self.new.seat.tally }
+        ensures { CountsRange self.old.seat self.new.seat lo hi result }
     {
         self.store.count(self.alloc, &mut self.seat, lo, hi)
     }

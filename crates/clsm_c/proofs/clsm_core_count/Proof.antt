@@ -1,11 +1,12 @@
 -- `clsm_core_count` meets its contract: a call by a handle.
-use Rattle.clsm_c.specs.Calls.{Counts}
+use Rattle.clsm_store.specs.Promises.{CountsRange}
+use Rattle.clsm_c.specs.Calls.{ByCaller, TellsCounted, Told}
 use Rattle.clsm_c.specs.contracts.slots.CallerSlot as handle
 use Rattle.clsm_c.specs.contracts.types.CoreRange as asked
 use Rattle.clsm_c.specs.contracts.types.CoreCounted as answered
 use Rattle.clsm_c.proofs.Exporting.{single}
 use Rattle.clsm_c.proofs.Lent.{lent}
-use Rattle.clsm_c.proofs.Question.{value}
+use Rattle.clsm_c.proofs.Passed.{answer, value}
 use Rattle.clsm_c.proofs.calls.count.Symbol.{name as safe}
 use Rattle.clsm_c.proofs.calls.count.Met as of_thm
 use Rattle.clsm_c.specs.contracts.clsm_core_count.Key.{name as key}
@@ -14,6 +15,7 @@ use Rattle.clsm_c.proofs.clsm_core_count.Code as code
 
 pub clsm_core_count_spec : {M : Type 1} → statement M
 clsm_core_count_spec 𝓤 𝓛 𝓜 𝓡 wired =
-    lent (single handle.the_row tt) (value asked.the_row) (single answered.the_row tt)
-    (λ old ask new answer result. Counts old.caller ask new.caller answer result)
+    lent (single handle.the_row tt) (value asked.the_row) (answer answered.the_row)
+    (λ old ask new answer code. ByCaller (λ before after. Told (CountsRange before after ask.first ask.last) (TellsCounted answer code))
+    old.caller new.caller code)
     safe 𝓛 𝓜 𝓡 key (code.unfolded 𝓤 𝓛.H 𝓜 𝓡 wired) (of_thm.met 𝓤 𝓛 𝓜 𝓡 (code.calls-clsm_c::calls::count 𝓡.env wired))

@@ -1,11 +1,12 @@
 -- `clsm_core_get_at` meets its contract: a call by a handle.
-use Rattle.clsm_c.specs.Calls.{GetsAt}
+use Rattle.clsm_store.specs.Promises.{GetsAtIfOpen}
+use Rattle.clsm_c.specs.Calls.{ByCaller, TellsGotAt, Told}
 use Rattle.clsm_c.specs.contracts.slots.CallerSlot as handle
 use Rattle.clsm_c.specs.contracts.types.CoreKey as asked
 use Rattle.clsm_c.specs.contracts.types.CoreGot as answered
 use Rattle.clsm_c.proofs.Exporting.{single}
 use Rattle.clsm_c.proofs.Lent.{lent}
-use Rattle.clsm_c.proofs.Question.{value}
+use Rattle.clsm_c.proofs.Passed.{answer, value}
 use Rattle.clsm_c.proofs.calls.get_at.Symbol.{name as safe}
 use Rattle.clsm_c.proofs.calls.get_at.Met as of_thm
 use Rattle.clsm_c.specs.contracts.clsm_core_get_at.Key.{name as key}
@@ -14,6 +15,7 @@ use Rattle.clsm_c.proofs.clsm_core_get_at.Code as code
 
 pub clsm_core_get_at_spec : {M : Type 1} → statement M
 clsm_core_get_at_spec 𝓤 𝓛 𝓜 𝓡 wired =
-    lent (single handle.the_row tt) (value asked.the_row) (single answered.the_row tt)
-    (λ old ask new answer result. GetsAt old.caller ask new.caller answer result)
+    lent (single handle.the_row tt) (value asked.the_row) (answer answered.the_row)
+    (λ old ask new answer code. ByCaller (λ before after. Told (GetsAtIfOpen before after ask.key) (TellsGotAt answer code))
+    old.caller new.caller code)
     safe 𝓛 𝓜 𝓡 key (code.unfolded 𝓤 𝓛.H 𝓜 𝓡 wired) (of_thm.met 𝓤 𝓛 𝓜 𝓡 (code.calls-clsm_c::calls::get_at 𝓡.env wired))

@@ -1,11 +1,11 @@
 -- `clsm_core_try_batch` meets its contract: a call by a handle.
-use Rattle.clsm_c.specs.Calls.{Batches}
+use Rattle.clsm_c.specs.Calls.{BatchesRows, ByCaller}
 use Rattle.clsm_c.specs.contracts.slots.CallerSlot as handle
 use Rattle.clsm_c.specs.contracts.types.CoreRow as asked
 use Rattle.clsm_c.specs.contracts.types.CoreTime as answered
 use Rattle.clsm_c.proofs.Exporting.{single}
 use Rattle.clsm_c.proofs.Lent.{lent}
-use Rattle.clsm_c.proofs.Question.{rows}
+use Rattle.clsm_c.proofs.Passed.{answer, rows}
 use Rattle.clsm_c.proofs.calls.try_batch.Symbol.{name as safe}
 use Rattle.clsm_c.proofs.calls.try_batch.Met as of_thm
 use Rattle.clsm_c.specs.contracts.clsm_core_try_batch.Key.{name as key}
@@ -14,6 +14,7 @@ use Rattle.clsm_c.proofs.clsm_core_try_batch.Code as code
 
 pub clsm_core_try_batch_spec : {M : Type 1} → statement M
 clsm_core_try_batch_spec 𝓤 𝓛 𝓜 𝓡 wired =
-    lent (single handle.the_row tt) (rows asked.the_row) (single answered.the_row tt)
-    (λ old ask new answer result. Batches old.caller ask new.caller answer result)
+    lent (single handle.the_row tt) (rows asked.the_row) (answer answered.the_row)
+    (λ old ask new answer code. ByCaller (BatchesRows ask answer code)
+    old.caller new.caller code)
     safe 𝓛 𝓜 𝓡 key (code.unfolded 𝓤 𝓛.H 𝓜 𝓡 wired) (of_thm.met 𝓤 𝓛 𝓜 𝓡 (code.calls-clsm_c::calls::try_batch 𝓡.env wired))
