@@ -1,7 +1,7 @@
 //! The calls for C, on slots: safe functions, one for each export, of its name.
 ghost use Rattle.std.specs.Prelude.{◌≡◌, ◌<◌, IfErr, IfNone, IfOk, IfSome};
 ghost use Rattle.clsm_model.specs.declared.record.Deed.TheVariants.{Remove};
-ghost use Rattle.clsm_store.specs.Changes.{Adds};
+ghost use Rattle.clsm_model.specs.Changes.{Adds};
 ghost use Rattle.clsm_store.specs.Freezing.{TryFreezes};
 ghost use Rattle.clsm_store.specs.Phase.{CountsIfFrozen};
 ghost use Rattle.clsm_store.specs.Promises.{ClosesSnapshot, CountsRange, Gets, GetsAtIfOpen, OpensSnapshot, TriesToChangeBy, TriesToWrite};

@@ -8,7 +8,7 @@
 ghost use Rattle.std.specs.Prelude.{◌≡◌};
 ghost use Rattle.std.specs.Ptr.{room_at};
 ghost use Rattle.clsm_model.specs.declared.record.Deed.TheVariants.{Remove};
-ghost use Rattle.clsm_store.specs.Changes.{Adds};
+ghost use Rattle.clsm_model.specs.Changes.{Adds};
 ghost use Rattle.clsm_store.specs.Freezing.{TryFreezes};
 ghost use Rattle.clsm_store.specs.Phase.{CountsIfFrozen};
 ghost use Rattle.clsm_store.specs.Promises.{ClosesSnapshot, CountsRange, Gets, GetsAtIfOpen, OpensSnapshot, TriesToChangeBy, TriesToWrite};

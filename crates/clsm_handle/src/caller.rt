@@ -2,7 +2,8 @@
 ghost use Rattle.std.specs.Prelude.{◌≡◌};
 ghost use Rattle.std.specs.Arc.{arc_value};
 ghost use Rattle.clsm_model.specs.declared.record.Deed.TheVariants.{Put, Remove};
-ghost use Rattle.clsm_store.specs.Changes.{Adds, Replaces};
+ghost use Rattle.clsm_model.specs.Changes.{Adds};
+ghost use Rattle.clsm_store.specs.Changes.{Replaces};
 ghost use Rattle.clsm_store.specs.Promises.{ClosesSnapshot, CountsRange, Gets, GetsAtIfOpen, GivesPage, OpensSnapshot, TriesToChangeBy, TriesToWrite};
 ghost use Rattle.clsm_store.specs.Promises.{TriesToWriteBatch};
 

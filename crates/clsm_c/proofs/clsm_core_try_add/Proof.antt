@@ -1,5 +1,5 @@
 -- `clsm_core_try_add` meets its contract: a call by a handle.
-use Rattle.clsm_store.specs.Changes.{Adds}
+use Rattle.clsm_model.specs.Changes.{Adds}
 use Rattle.clsm_store.specs.Promises.{TriesToChangeBy}
 use Rattle.clsm_c.specs.Calls.{ByCaller, TellsChange, Told}
 use Rattle.clsm_c.specs.contracts.slots.CallerSlot as handle
