@@ -118,7 +118,7 @@ enum {
 
 /* The core defines this name, which changes with this header: with a core of another
  * interface, a program does not link. */
-#define CLSM_CORE_INTERFACE clsm_core_interface_fd96fdf8ce5b
+#define CLSM_CORE_INTERFACE clsm_core_interface_150b509f2bb1
 extern const char CLSM_CORE_INTERFACE;
 
 /* The handle of a store: the callers and the merger that nobody has taken yet. */
@@ -229,6 +229,12 @@ typedef struct clsm_core_counted {
     uint64_t time;
     uint64_t keys;
 } clsm_core_counted;
+
+/* The merger's phase: an epoch is frozen, or a component is retired, or neither. */
+typedef struct clsm_core_phase {
+    bool frozen;
+    bool retired;
+} clsm_core_phase;
 
 /* How many entries a run has. */
 typedef struct clsm_core_entries {
@@ -352,6 +358,9 @@ uint32_t clsm_core_page(clsm_core_caller *caller, const clsm_core_range *ask, cl
 
 /* ---- the merger's */
 
+/* Answers the phase that the merger is in, and CLSM_CORE_OK. */
+uint32_t clsm_core_phase_of(clsm_core_merger *merger, clsm_core_phase *answer);
+
 /* Freezes the epoch, if used of its timestamps are drawn, or all, so that writes find room again.
  * It never merges. Answers CLSM_CORE_OK where an epoch is frozen or retired, by this call or before
  * it; CLSM_CORE_IDLE if too few timestamps were drawn; CLSM_CORE_BUSY if a caller held the lock;
@@ -435,6 +444,10 @@ static_assert(sizeof(clsm_core_counted) == 16
                   && offsetof(clsm_core_counted, time) == 0
                   && offsetof(clsm_core_counted, keys) == 8,
               "clsm_core_counted as the library has it");
+static_assert(sizeof(clsm_core_phase) == 2
+                  && offsetof(clsm_core_phase, frozen) == 0
+                  && offsetof(clsm_core_phase, retired) == 1,
+              "clsm_core_phase as the library has it");
 static_assert(sizeof(clsm_core_entries) == 8
                   && offsetof(clsm_core_entries, entries) == 0,
               "clsm_core_entries as the library has it");

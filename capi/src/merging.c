@@ -85,6 +85,19 @@ void clsm_merger_give(clsm_store *store, int code) {
 
 /* ---- Steps of whoever has the merger, which do not hold the board */
 
+/* The merger's phase, which the core keeps: an epoch is frozen, or it is merged and a read is in
+ * the way of reclaiming what that replaced, or neither. */
+static clsm_core_phase phase_of(clsm_store *store) {
+    clsm_core_phase phase;
+    clsm_core_phase_of(&store->merger, &phase);
+    return phase;
+}
+
+static bool is_clean(clsm_store *store) {
+    const clsm_core_phase phase = phase_of(store);
+    return !phase.frozen && !phase.retired;
+}
+
 /* Notes how many entries the runs have, behind so many merges. */
 static void note_entries(clsm_store *store, uint64_t merges) {
     const uint64_t young = merges % CLSM_MERGES_OF_LEVELS;
@@ -110,7 +123,6 @@ static int freeze(clsm_store *store, uint64_t used) {
         clsm_lose(store, true, &patience);
     clsm_end_patience(store, &patience);
     if (code != CLSM_OK) return code;
-    store->is_frozen = true;
     note_entries(store, board->frozen);
     pthread_mutex_lock(&board->lock);
     board->frozen++;
@@ -142,25 +154,24 @@ static int try_finish(clsm_store *store) {
 static int finish(clsm_store *store) {
     struct clsm_counts *counts = &store->counts;
     const uint64_t began = clsm_now();
-    if (!store->is_merged) clsm_begin_merge(store, began);
+    const bool was_merged = phase_of(store).retired;
+    if (!was_merged) clsm_begin_merge(store, began);
     int code = try_finish(store);
     const uint64_t took = clsm_now() - began;
     const bool is_done = code == CLSM_OK || code == CLSM_PINNED;
-    if (!store->is_merged) clsm_end_merge(store, is_done ? took : 0);
+    if (!was_merged) clsm_end_merge(store, is_done ? took : 0);
     if (code != CLSM_VERSIONS_FULL) clsm_tell_unheld(store);
-    if (is_done && !store->is_merged) {
+    if (is_done && !was_merged) {
         clsm_count_one(&counts->merges);
         atomic_store(&counts->last_merge, took);
         clsm_raise(&counts->longest_merge, took);
     }
-    store->is_merged = code == CLSM_PINNED;
-    if (code == CLSM_OK) store->is_frozen = false;
     return code;
 }
 
 /* Merges what is frozen, or else the epoch if so many of its times are drawn. */
 static int serve(clsm_store *store, uint64_t used) {
-    int code = store->is_frozen ? CLSM_OK : freeze(store, used);
+    int code = is_clean(store) ? freeze(store, used) : CLSM_OK;
     return code == CLSM_OK ? finish(store) : code;
 }
 
@@ -191,11 +202,11 @@ int clsm_sweep(clsm_store *store) {
     pthread_mutex_lock(lock);
     clsm_merger_take(store);
     pthread_mutex_unlock(lock);
-    const bool was_frozen = store->is_frozen;
-    int code = was_frozen ? finish(store) : CLSM_OK;
+    const bool was_clean = is_clean(store);
+    int code = was_clean ? CLSM_OK : finish(store);
     if (code == CLSM_OK) code = freeze(store, 1);
     if (code == CLSM_OK) code = finish_or_leave(store);
-    else if (code == CLSM_IDLE && was_frozen) code = CLSM_OK;
+    else if (code == CLSM_IDLE && !was_clean) code = CLSM_OK;
     pthread_mutex_lock(lock);
     clsm_merger_give(store, code);
     pthread_mutex_unlock(lock);

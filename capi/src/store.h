@@ -188,8 +188,6 @@ struct clsm_store {
     struct clsm_counts counts;
     /* For whoever has the merger. */
     clsm_core_merger merger;
-    bool is_frozen; /* an epoch is frozen, and what its merge replaces not yet reclaimed */
-    bool is_merged; /* and it is merged: a read is in the way of the rest */
 };
 
 /* ---- seats.c */

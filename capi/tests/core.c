@@ -58,6 +58,8 @@ static void call_empty_caller(clsm_core_caller *caller) {
 
 static void call_empty_merger(clsm_core_merger *merger) {
     clsm_core_time time;
+    clsm_core_phase phase;
+    CORE(NO_HANDLE, clsm_core_phase_of(merger, &phase));
     CORE(NO_HANDLE, clsm_core_try_freeze(merger, &ONE));
     CORE(NO_HANDLE, clsm_core_try_sweep(merger, &ONE, &time));
     clsm_core_drop_merger(merger);
@@ -127,6 +129,12 @@ static void take_all(void) {
 
 /* ---- Codes that clsm.h hides */
 
+static void expect_phase(clsm_core_merger *merger, bool frozen, bool retired) {
+    clsm_core_phase phase;
+    CORE(OK, clsm_core_phase_of(merger, &phase));
+    CHECK(phase.frozen == frozen && phase.retired == retired);
+}
+
 static void read_snapshot(clsm_core_caller *caller) {
     clsm_core_time time, again;
     clsm_core_got got;
@@ -182,6 +190,7 @@ static void answer_codes(void) {
     refuse_values(&caller);
     refuse_batches(&caller);
     CORE(IDLE, clsm_core_try_freeze(&merger, &ONE));
+    expect_phase(&merger, false, false);
     const clsm_core_row rows[] = {ROW, {.key = 7}, ROW};
     clsm_core_time batch;
     for (int i = 0; i < 6; i++) CORE(OK, clsm_core_try_put(&caller, &ROW, &time));
@@ -193,8 +202,10 @@ static void answer_codes(void) {
     CHECK(time.time == batch.time + 2);
     CORE(OK, clsm_core_try_freeze(&merger, &ONE));
     CORE(OK, clsm_core_try_freeze(&merger, &ONE));
+    expect_phase(&merger, true, false);
     CORE(OK, clsm_core_try_remove(&caller, &KEY, &time));
     CORE(OK, clsm_core_try_sweep(&merger, &ONE, &time));
+    expect_phase(&merger, false, false);
     clsm_core_drop_merger(&merger);
     clsm_core_drop_caller(&caller);
     clsm_core_close(&store);

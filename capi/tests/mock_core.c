@@ -607,6 +607,13 @@ uint32_t clsm_core_count_entries(clsm_core_merger *at, const clsm_core_turn *ask
     return is_frozen ? CLSM_CORE_OK : CLSM_CORE_IDLE;
 }
 
+uint32_t clsm_core_phase_of(clsm_core_merger *at, clsm_core_phase *answer) {
+    const struct store *store = store_of(at);
+    if (!store) return CLSM_CORE_NO_HANDLE;
+    *answer = (clsm_core_phase){store->phase == FROZEN, store->phase == RETIRED};
+    return CLSM_CORE_OK;
+}
+
 uint32_t clsm_core_try_freeze(clsm_core_merger *at, const clsm_core_used *ask) {
     struct store *store = store_of(at);
     if (!store) return CLSM_CORE_NO_HANDLE;

@@ -249,7 +249,10 @@ void check_quiet(void) {
     expect(the_store->pace.began == 0, "no merge is running");
     expect(the_store->counts.clock >= clock_seen, "the clock does not run back");
     if (the_store->merges_in_calls) return;
-    expect(!the_store->is_frozen && clock / cells == board->frozen && clock % cells < cells / 2,
+    clsm_core_phase phase;
+    clsm_core_phase_of(&the_store->merger, &phase);
+    expect(!phase.frozen && !phase.retired && clock / cells == board->frozen
+               && clock % cells < cells / 2,
            "an epoch is merged from half full on");
 }
 

@@ -147,5 +147,6 @@ static inline uint32_t of_a_handle(uint32_t code) {
 #define clsm_core_try_freeze(...)     AT_CORE("freeze", clsm_core_try_freeze(__VA_ARGS__))
 #define clsm_core_try_sweep(...)      AT_CORE("sweep", clsm_core_try_sweep(__VA_ARGS__))
 #define clsm_core_count_entries(...)  of_a_handle(clsm_core_count_entries(__VA_ARGS__))
+#define clsm_core_phase_of(...)       of_a_handle(clsm_core_phase_of(__VA_ARGS__))
 
 #endif

@@ -38,12 +38,15 @@ use Rattle.clsm_c.proofs.Exporting.{at_blocks, calls_safe, ended_of, export, exp
 
 -- the type of the handle, what is asked, and the type of the answer
 module _ (R : Handle) (A B : Single) where
+  abbrev asked : Slot 2
+  asked = RefOf (0 ∷ []) tt (plain (λ _. A.row)) (λ _. A.one)
+
   abbrev inner : Ended
-  inner = ended_of 2 (plain (λ _. heap.the_row) ∷ RefOf (0 ∷ []) tt (plain (λ _. A.row)) (λ _. A.one) ∷ RefMutOf (1 ∷ []) tt (plain (λ _. B.row)) (λ _. B.one) ∷ []) (yes, (yes, (yes, tt))) R.row
+  inner = ended_of 2 (plain (λ _. heap.the_row) ∷ asked ∷ RefMutOf (1 ∷ []) tt (plain (λ _. B.row)) (λ _. B.one) ∷ []) (yes, (yes, (yes, tt))) R.row
 
   -- the export: a pointer in the place of the result
   abbrev params : List (Slot 2)
-  params = plain (λ _. heap.the_row) ∷ RefOf (0 ∷ []) tt (plain (λ _. A.row)) (λ _. A.one) ∷ RefMutOf (1 ∷ []) tt (plain (λ _. B.row)) (λ _. B.one) ∷ plain (λ _. RawPtr) ∷ []
+  params = plain (λ _. heap.the_row) ∷ asked ∷ RefMutOf (1 ∷ []) tt (plain (λ _. B.row)) (λ _. B.one) ∷ plain (λ _. RawPtr) ∷ []
 
   abbrev outer : Ended
   outer = ended_of 2 params (yes, (yes, (yes, (yes, tt)))) unit
@@ -51,14 +54,14 @@ module _ (R : Handle) (A B : Single) where
   abbrev stayed : Stays (outer).signature.params (outer).kept
   stayed = (
     stay_dropped (plain (λ _. heap.the_row)) yes,
-    (stay_dropped (RefOf (0 ∷ []) tt (plain (λ _. A.row)) (λ _. A.one)) yes, (gave_ref (1 ∷ []) tt (plain (λ _. B.row)), (stay_dropped (plain (λ _. RawPtr)) yes, tt))),
+    (stay_dropped asked yes, (gave_ref (1 ∷ []) tt (plain (λ _. B.row)), (stay_dropped (plain (λ _. RawPtr)) yes, tt))),
   )
 
   goes : {M : Type 1} {𝓤 : Ura M} (𝓛 : Logic 𝓤) → AllGo 𝓛 2 (outer).signature.params (outer).kept stayed
   goes 𝓛 = (
     Goes-dropped 𝓛 2 (plain (λ _. heap.the_row)) yes (λ κs x g. refl),
     (
-      Goes-dropped 𝓛 2 (RefOf (0 ∷ []) tt (plain (λ _. A.row)) (λ _. A.one)) yes (λ κs x g. refl),
+      Goes-dropped 𝓛 2 asked yes (λ κs x g. refl),
       (Goes-gave_ref 𝓛 2 1 tt (plain (λ _. B.row)), (Goes-dropped 𝓛 2 (plain (λ _. RawPtr)) yes (λ κs x g. refl), tt)),
     ),
   )

@@ -20,6 +20,7 @@ use Rattle.clsm_store.specs.declared.freezing.TryFroze.{TryFroze}
 use Rattle.clsm_store.specs.declared.freezing.TryFroze.TheVariants.{Busy as FreezeBusy, Done as FreezeDone, Waited as FreezeWaited}
 use Rattle.clsm_store.specs.declared.phase.NotFrozen.{NotFrozen}
 use Rattle.clsm_store.specs.declared.phase.Phase.{Phase}
+use Rattle.clsm_store.specs.declared.phase.Phase.TheVariants.{Clean, Frozen, Retired}
 use Rattle.clsm_store.specs.declared.sweeping.Stopped.{Stopped}
 use Rattle.clsm_store.specs.declared.sweeping.Stopped.TheVariants.{Worn as SweepWorn, RunFull, Pinned}
 use Rattle.clsm_store.specs.declared.sweeping.TrySwept.{TrySwept}
@@ -36,33 +37,34 @@ use Rattle.clsm_store_calls.specs.declared.refusal.TryBatchError.TheVariants.{Bu
 use Rattle.clsm_store_calls.specs.declared.refusal.TryPutError.{TryPutError}
 use Rattle.clsm_store_calls.specs.declared.refusal.TryPutError.TheVariants.{Full, Busy, Raced, Overtaken}
 use Rattle.clsm_store_calls.specs.declared.refusal.Worn.{Worn}
-use Rattle.clsm_handle.specs.Opening.{AreHandles}
-use Rattle.clsm_handle.specs.declared.caller.OwnCaller.{OwnCaller}
-use Rattle.clsm_handle.specs.declared.merger.OwnMerger.{OwnMerger}
-use Rattle.clsm_handle.specs.declared.opening.Handles.{Handles}
 use Rattle.clsm_c.specs.declared.codes.TheConstants.{BAD_BATCH, BAD_EPOCH, BAD_KEYS, BAD_PATIENCE, BAD_SEATS, BAD_SHARDS, BAD_VALUE, BUSY, FULL, IDLE, MEMORY}
 use Rattle.clsm_c.specs.declared.codes.TheConstants.{KEPT, NO_HANDLE, NO_SNAPSHOT, NOT_FOUND, OK, OPEN, OVERTAKEN, PINNED, RACED, RUN_FULL, WORN}
+use Rattle.clsm_c.specs.declared.opening.Handles.{Handles}
+use Rattle.clsm_c.specs.declared.shared.SharedCaller.{SharedCaller}
+use Rattle.clsm_c.specs.declared.shared.SharedMerger.{SharedMerger}
 use Rattle.clsm_c.specs.declared.types.CoreChanged.{CoreChanged}
 use Rattle.clsm_c.specs.declared.types.CoreCode.{CoreCode}
 use Rattle.clsm_c.specs.declared.types.CoreCounted.{CoreCounted}
 use Rattle.clsm_c.specs.declared.types.CoreEntries.{CoreEntries}
 use Rattle.clsm_c.specs.declared.types.CoreGot.{CoreGot}
 use Rattle.clsm_c.specs.declared.types.CorePaged.{CorePaged}
+use Rattle.clsm_c.specs.declared.types.CorePhase.{CorePhase}
 use Rattle.clsm_c.specs.declared.types.CoreRange.{CoreRange}
 use Rattle.clsm_c.specs.declared.types.CoreReplacing.{CoreReplacing}
 use Rattle.clsm_c.specs.declared.types.CoreRow.{CoreRow}
 use Rattle.clsm_c.specs.declared.types.CoreSizes.{CoreSizes}
 use Rattle.clsm_c.specs.declared.types.CoreTime.{CoreTime}
+use Rattle.clsm_c.specs.Opening.{AreHandles}
 use Rattle.clsm_c.specs.Values.{IsValue, TellsValue}
 
 -- the call did this with the caller's seat, and the caller is there still; or there is none
-abbrev pub ByCaller : (SeatState → SeatState → Type 0) → Option OwnCaller → Option OwnCaller → ℕ → Type 0
+abbrev pub ByCaller : (SeatState → SeatState → Type 0) → Option SharedCaller → Option SharedCaller → ℕ → Type 0
 ByCaller Does (Some old) (Some new) code = Does old.seat new.seat
 ByCaller Does None None code = code ≡ NO_HANDLE
 ByCaller Does _ _ code = ⊥
 
 -- the same with the merger's token
-abbrev pub ByMerger : (Phase → Phase → Type 0) → Option OwnMerger → Option OwnMerger → ℕ → Type 0
+abbrev pub ByMerger : (Phase → Phase → Type 0) → Option SharedMerger → Option SharedMerger → ℕ → Type 0
 ByMerger Does (Some old) (Some new) code = Does old.phase new.phase
 ByMerger Does None None code = code ≡ NO_HANDLE
 ByMerger Does _ _ code = ⊥
@@ -204,7 +206,7 @@ TellsPage before after answer code (Ok page) =
 TellsPage before after answer code (Err refusal) = (code ≡ MEMORY) × (after ≡ before)
 
 -- page, of as many rows as there is room for; where there is no caller, they are as before
-abbrev pub Pages : Option OwnCaller → CoreRange → List CoreRow → Option OwnCaller → List CoreRow → CorePaged → ℕ → Type 0
+abbrev pub Pages : Option SharedCaller → CoreRange → List CoreRow → Option SharedCaller → List CoreRow → CorePaged → ℕ → Type 0
 Pages (Some old) ask before (Some new) after answer code =
     Told (GivesPage old.seat new.seat ask.first ask.last (length before)) (TellsPage before after answer code)
 Pages None ask before None after answer code = (code ≡ NO_HANDLE) × (after ≡ before)
@@ -230,7 +232,7 @@ Opens ask answer (Some handles) = (answer.code ≡ OK) × IsSound (config_of ask
 Opens ask answer None = (refusal : OpenError) × (answer.code ≡ refusal_code refusal) × IsRefusal (config_of ask) refusal
 
 -- the last caller that was left is taken
-abbrev pub TakesCaller : Option Handles → Option Handles → CoreCode → Option OwnCaller → Type 0
+abbrev pub TakesCaller : Option Handles → Option Handles → CoreCode → Option SharedCaller → Type 0
 TakesCaller (Some old) (Some new) answer (Some caller) =
     (answer.code ≡ OK) × (old.callers.items ≡ new.callers.items ++ caller ∷ []) × (new.merger ≡ old.merger)
 TakesCaller (Some old) (Some new) answer None =
@@ -239,16 +241,26 @@ TakesCaller None None answer None = answer.code ≡ NO_HANDLE
 TakesCaller _ _ answer _ = ⊥
 
 -- the merger is taken, if it was left
-abbrev pub IsTaken : CoreCode → Option OwnMerger → Type 0
+abbrev pub IsTaken : CoreCode → Option SharedMerger → Type 0
 IsTaken answer (Some merger) = answer.code ≡ OK
 IsTaken answer None = answer.code ≡ NO_HANDLE
 
-abbrev pub TakesMerger : Option Handles → Option Handles → CoreCode → Option OwnMerger → Type 0
+abbrev pub TakesMerger : Option Handles → Option Handles → CoreCode → Option SharedMerger → Type 0
 TakesMerger (Some old) (Some new) answer made = (made ≡ old.merger) × (new.merger ≡ None) × (new.callers ≡ old.callers) × IsTaken answer made
 TakesMerger None None answer None = answer.code ≡ NO_HANDLE
 TakesMerger _ _ answer _ = ⊥
 
 -- ---- the merger
+
+-- the phase in which the merger is
+abbrev pub TellsPhase : CorePhase → Phase → Type 0
+TellsPhase answer (Clean _) = (answer.frozen ≡ false) × (answer.retired ≡ false)
+TellsPhase answer (Frozen _) = (answer.frozen ≡ true) × (answer.retired ≡ false)
+TellsPhase answer (Retired _) = (answer.frozen ≡ false) × (answer.retired ≡ true)
+
+-- phase_of: it leaves the token as it was
+abbrev pub LooksAtPhase : CorePhase → ℕ → Phase → Phase → Type 0
+LooksAtPhase answer code old new = (code ≡ OK) × (new ≡ old) × TellsPhase answer old
 
 -- a freeze
 abbrev pub TellsFreeze : ℕ → Result TryFroze Worn → Type 0

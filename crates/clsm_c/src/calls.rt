@@ -6,24 +6,27 @@ ghost use Rattle.clsm_store.specs.Freezing.{TryFreezes};
 ghost use Rattle.clsm_store.specs.Phase.{CountsIfFrozen};
 ghost use Rattle.clsm_store.specs.Promises.{ClosesSnapshot, CountsRange, Gets, GetsAtIfOpen, OpensSnapshot, TriesToChangeBy, TriesToWrite};
 ghost use Rattle.clsm_store.specs.Sweeping.{TrySweeps};
-ghost use Rattle.clsm_c.specs.Calls.{AreMembers, BatchesRows, ByCaller, ByMerger, Fills, HasLong, IsMember, IsNext, Opens, Pages, PutsRow, ReplacesValue};
-ghost use Rattle.clsm_c.specs.Calls.{TakesCaller, TakesMerger, TellsBatch, TellsChange, TellsClosed, TellsCounted, TellsEntries, TellsFreeze, TellsGot, TellsGotAt};
-ghost use Rattle.clsm_c.specs.Calls.{TellsOpened, TellsRefused, TellsSweep, TellsTry, Told, kept_code, refusal_code, value_after};
+ghost use Rattle.clsm_c.specs.Calls.{AreMembers, BatchesRows, ByCaller, ByMerger, Fills, HasLong, IsMember, IsNext, LooksAtPhase, Opens, Pages};
+ghost use Rattle.clsm_c.specs.Calls.{PutsRow, ReplacesValue, TakesCaller, TakesMerger, TellsBatch, TellsChange, TellsClosed, TellsCounted};
+ghost use Rattle.clsm_c.specs.Calls.{TellsEntries, TellsFreeze, TellsGot, TellsGotAt, TellsOpened, TellsRefused, TellsSweep, TellsTry, Told};
+ghost use Rattle.clsm_c.specs.Calls.{kept_code, refusal_code, value_after};
 
 use crate::codes::{
     BAD_BATCH, BAD_EPOCH, BAD_KEYS, BAD_PATIENCE, BAD_SEATS, BAD_SHARDS, BAD_VALUE, BUSY, Code,
     FULL, IDLE, KEPT, MEMORY, NO_HANDLE, NO_SNAPSHOT, NOT_FOUND, OK, OPEN, OVERTAKEN, PINNED,
     RACED, RUN_FULL, WORN,
 };
+use crate::opening;
+use crate::shared::{SharedCaller, SharedMerger};
 use crate::slots::{CallerSlot, MergerSlot, StoreSlot};
 use crate::types::{
     CoreAdding, CoreChanged, CoreCode, CoreCounted, CoreEntries, CoreGot, CoreKey, CorePaged,
-    CoreRange, CoreReplacing, CoreRow, CoreSizes, CoreTime, CoreTurn, CoreUsed, TooLong, from_core,
-    to_core, value_or_none,
+    CorePhase, CoreRange, CoreReplacing, CoreRow, CoreSizes, CoreTime, CoreTurn, CoreUsed, TooLong,
+    from_core, to_core, value_or_none,
 };
-use clsm_handle::{
-    BatchError, Change, Config, Got, OpenError, Rmw, Stopped, Time, TryBatchError, TryFroze,
-    TryPutError, TrySwept, Value, Worn,
+use clsm_store::{
+    BatchError, Change, Config, Got, Merger, OpenError, Phase, Rmw, Stopped, Time, TryBatchError,
+    TryFroze, TryPutError, TrySwept, Value, Worn,
 };
 use std::alloc::Global;
 
@@ -53,7 +56,7 @@ pub(crate) fn open(alloc: Global, ask: &CoreSizes, answer: &mut CoreCode) -> Sto
         run: ask.run,
         patience: ask.patience,
     };
-    match clsm_handle::open(alloc, config) {
+    match opening::open(alloc, config) {
         Ok(handles) => {
             answer.code = OK;
             StoreSlot {
@@ -154,7 +157,7 @@ pub(crate) fn try_put(slot: &mut CallerSlot, ask: &CoreRow, answer: &mut CoreTim
     let Some(value) = from_core(&ask.value) else {
         return BAD_VALUE;
     };
-    let came = caller.try_put(ask.key, value);
+    let came = caller.store.try_put(&mut caller.seat, ask.key, value);
     tell_try(came, answer)
 }
 
@@ -165,7 +168,7 @@ pub(crate) fn try_remove(slot: &mut CallerSlot, ask: &CoreKey, answer: &mut Core
     let Some(caller) = &mut slot.caller else {
         return NO_HANDLE;
     };
-    let came = caller.try_remove(ask.key);
+    let came = caller.store.try_remove(&mut caller.seat, ask.key);
     tell_try(came, answer)
 }
 
@@ -216,7 +219,7 @@ pub(crate) fn try_add(slot: &mut CallerSlot, ask: &CoreAdding, answer: &mut Core
     let Some(caller) = &mut slot.caller else {
         return NO_HANDLE;
     };
-    let came = caller.try_add(ask.key, ask.by);
+    let came = caller.store.try_add(&mut caller.seat, ask.key, ask.by);
     tell_change(came, answer)
 }
 
@@ -236,7 +239,9 @@ pub(crate) fn try_replace(
     let Ok(desired) = value_or_none(&ask.desired) else {
         return BAD_VALUE;
     };
-    let came = caller.try_replace(ask.key, expected, desired);
+    let came = caller
+        .store
+        .try_replace(&mut caller.seat, ask.key, expected, desired);
     tell_change(came, answer)
 }
 
@@ -302,9 +307,9 @@ pub(crate) fn try_batch(slot: &mut CallerSlot, rows: &[CoreRow], answer: &mut Co
     let Some(caller) = &mut slot.caller else {
         return NO_HANDLE;
     };
-    match to_members(caller.allocator(), rows) {
+    match to_members(caller.alloc, rows) {
         Ok(members) => {
-            let came = caller.try_batch(&members);
+            let came = caller.store.try_batch(&mut caller.seat, &members);
             tell_batch(came, answer)
         }
         Err(NoMembers::TooLong) => BAD_VALUE,
@@ -334,8 +339,16 @@ pub(crate) fn get(slot: &mut CallerSlot, ask: &CoreKey, answer: &mut CoreGot) ->
     let Some(caller) = &mut slot.caller else {
         return NO_HANDLE;
     };
-    let got = caller.get(ask.key);
+    let got = caller.store.get(&mut caller.seat, ask.key);
     tell_got(got, answer)
+}
+
+/// Reads the key under the caller's snapshot, or answers `None`, with nothing done, if none is open.
+fn get_at_if_open(caller: &mut SharedCaller, key: u64) -> Option<Got>
+    ensures { GetsAtIfOpen caller.old.seat caller.new.seat key result }
+{
+    caller.seat.snapshot_time()?;
+    Some(caller.store.get_at(&mut caller.seat, key))
 }
 
 pub(crate) fn get_at(slot: &mut CallerSlot, ask: &CoreKey, answer: &mut CoreGot) -> Code
@@ -345,7 +358,7 @@ pub(crate) fn get_at(slot: &mut CallerSlot, ask: &CoreKey, answer: &mut CoreGot)
     let Some(caller) = &mut slot.caller else {
         return NO_HANDLE;
     };
-    let Some(got) = caller.get_at(ask.key) else {
+    let Some(got) = get_at_if_open(caller, ask.key) else {
         return NO_SNAPSHOT;
     };
     tell_got(got, answer)
@@ -358,7 +371,7 @@ pub(crate) fn snapshot(slot: &mut CallerSlot, answer: &mut CoreTime) -> Code
     let Some(caller) = &mut slot.caller else {
         return NO_HANDLE;
     };
-    match caller.snapshot() {
+    match caller.store.snapshot(&mut caller.seat) {
         Ok(time) => {
             answer.time = time;
             OK
@@ -377,7 +390,7 @@ pub(crate) fn close_snapshot(slot: &mut CallerSlot, answer: &mut CoreTime) -> Co
     let Some(caller) = &mut slot.caller else {
         return NO_HANDLE;
     };
-    let Some(time) = caller.close_snapshot() else {
+    let Some(time) = caller.store.close_snapshot(&mut caller.seat) else {
         return NO_SNAPSHOT;
     };
     answer.time = time;
@@ -391,7 +404,9 @@ pub(crate) fn count(slot: &mut CallerSlot, ask: &CoreRange, answer: &mut CoreCou
     let Some(caller) = &mut slot.caller else {
         return NO_HANDLE;
     };
-    let counted = caller.count(ask.first, ask.last);
+    let counted = caller
+        .store
+        .count(caller.alloc, &mut caller.seat, ask.first, ask.last);
     answer.time = counted.time;
     answer.keys = counted.keys;
     OK
@@ -433,7 +448,14 @@ pub(crate) fn page(
     let Some(caller) = &mut slot.caller else {
         return NO_HANDLE;
     };
-    let Ok(found) = caller.page(ask.first, ask.last, rows.len()) else {
+    let Ok(found) = caller.store.page(
+        caller.alloc,
+        &mut caller.seat,
+        ask.first,
+        ask.last,
+        rows.len(),
+    )
+    else {
         return MEMORY;
     };
     answer.time = found.time;
@@ -443,6 +465,17 @@ pub(crate) fn page(
 }
 
 // ---- the merger's
+
+pub(crate) fn phase_of(slot: &mut MergerSlot, answer: &mut CorePhase) -> Code
+    ensures { ByMerger (LooksAtPhase answer.new result) slot.old.merger slot.new.merger result }
+{
+    let Some(merger) = &slot.merger else {
+        return NO_HANDLE;
+    };
+    answer.frozen = matches!(merger.phase, Phase::Frozen(_));
+    answer.retired = matches!(merger.phase, Phase::Retired(_));
+    OK
+}
 
 /// The code of what a freeze came to.
 fn freeze_code(came: Result<TryFroze, Worn>) -> Code
@@ -460,11 +493,15 @@ pub(crate) fn try_freeze(slot: &mut MergerSlot, ask: &CoreUsed) -> Code
     ensures { ByMerger (λ before after. Told (TryFreezes ask.now.used before after)
         (TellsFreeze result)) slot.old.merger slot.new.merger result }
 {
-    let Some(merger) = slot.merger.take() else {
+    let Some(SharedMerger { store, phase }) = slot.merger.take() else {
         return NO_HANDLE;
     };
-    let (merger, came) = merger.try_freeze_if_used(ask.used);
-    slot.merger = Some(merger);
+    let merger = Merger {
+        store: &store,
+        phase,
+    };
+    let (Merger { phase, .. }, came) = merger.try_freeze_if_used(ask.used);
+    slot.merger = Some(SharedMerger { store, phase });
     freeze_code(came)
 }
 
@@ -489,11 +526,15 @@ pub(crate) fn try_sweep(slot: &mut MergerSlot, ask: &CoreUsed, answer: &mut Core
     ensures { ByMerger (λ before after. Told (TrySweeps ask.now.used before after)
         (TellsSweep answer.new result)) slot.old.merger slot.new.merger result }
 {
-    let Some(merger) = slot.merger.take() else {
+    let Some(SharedMerger { store, phase }) = slot.merger.take() else {
         return NO_HANDLE;
     };
-    let (merger, came) = merger.try_sweep_if_used(ask.used);
-    slot.merger = Some(merger);
+    let merger = Merger {
+        store: &store,
+        phase,
+    };
+    let (Merger { phase, .. }, came) = merger.try_sweep_if_used(ask.used);
+    slot.merger = Some(SharedMerger { store, phase });
     tell_sweep(came, answer)
 }
 
@@ -505,7 +546,7 @@ pub(crate) fn count_entries(slot: &mut MergerSlot, ask: &CoreTurn, answer: &mut 
     let Some(merger) = &mut slot.merger else {
         return NO_HANDLE;
     };
-    let Ok(entries) = merger.entries(ask.turn) else {
+    let Ok(entries) = merger.phase.entries(&*merger.store, ask.turn) else {
         return IDLE;
     };
     answer.entries = entries;

@@ -13,8 +13,9 @@ ghost use Rattle.clsm_store.specs.Freezing.{TryFreezes};
 ghost use Rattle.clsm_store.specs.Phase.{CountsIfFrozen};
 ghost use Rattle.clsm_store.specs.Promises.{ClosesSnapshot, CountsRange, Gets, GetsAtIfOpen, OpensSnapshot, TriesToChangeBy, TriesToWrite};
 ghost use Rattle.clsm_store.specs.Sweeping.{TrySweeps};
-ghost use Rattle.clsm_c.specs.Calls.{BatchesRows, ByCaller, ByMerger, Opens, Pages, PutsRow, ReplacesValue, TakesCaller, TakesMerger};
-ghost use Rattle.clsm_c.specs.Calls.{TellsChange, TellsClosed, TellsCounted, TellsEntries, TellsFreeze, TellsGot, TellsGotAt, TellsOpened, TellsSweep, TellsTry, Told};
+ghost use Rattle.clsm_c.specs.Calls.{BatchesRows, ByCaller, ByMerger, LooksAtPhase, Opens, Pages, PutsRow, ReplacesValue, TakesCaller, TakesMerger};
+ghost use Rattle.clsm_c.specs.Calls.{TellsChange, TellsClosed, TellsCounted, TellsEntries, TellsFreeze, TellsGot, TellsGotAt, TellsOpened};
+ghost use Rattle.clsm_c.specs.Calls.{TellsSweep, TellsTry, Told};
 ghost use Rattle.clsm_c.specs.Lent.{both, bytes_of, left, lies};
 ghost use Rattle.clsm_c.specs.contracts.slots.CallerSlot.{the_row as caller_row};
 ghost use Rattle.clsm_c.specs.contracts.slots.MergerSlot.{the_row as merger_row};
@@ -23,6 +24,8 @@ ghost use types.Logic.{sem};
 
 mod calls;
 pub mod codes;
+mod opening;
+mod shared;
 mod slots;
 mod types;
 
@@ -31,8 +34,8 @@ pub use slots::{CALLER_WORDS, MERGER_WORDS, STORE_WORDS};
 use std::alloc::Global;
 pub use types::{
     CoreAdding, CoreChanged, CoreCode, CoreCounted, CoreEntries, CoreGot, CoreKey, CorePaged,
-    CoreRange, CoreReplacing, CoreRooms, CoreRow, CoreSizes, CoreTime, CoreTurn, CoreUsed,
-    CoreValue,
+    CorePhase, CoreRange, CoreReplacing, CoreRooms, CoreRow, CoreSizes, CoreTime, CoreTurn,
+    CoreUsed, CoreValue,
 };
 
 // ---- stores
@@ -318,6 +321,16 @@ pub unsafe extern "C" fn clsm_core_page(
 }
 
 // ---- the merger's
+
+/// Answers the phase that the merger is in, and `OK`.
+#[unsafe(no_mangle)]
+pub unsafe extern "C" fn clsm_core_phase_of(merger: *mut u8, answer: &mut CorePhase) -> u32
+    ghost old: { MergerSlot }
+    requires* { sem 𝓛 (lies merger_row merger old) }
+    ensures* { sem 𝓛 (left merger_row merger (λ new. ByMerger (LooksAtPhase answer.new result) old.merger new.merger result)) }
+{
+    calls::phase_of(unsafe { &mut *merger.cast::<MergerSlot>() }, answer)
+}
 
 /// Freezes the epoch, if `used` of its timestamps are drawn, or all, so that writes find room
 /// again. It never merges. Answers `OK` where an epoch is frozen or retired, by this call or before

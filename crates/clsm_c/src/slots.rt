@@ -5,8 +5,9 @@ ghost use Rattle.clsm_c.specs.contracts.slots.CallerSlot.{the_row as caller_row}
 ghost use Rattle.clsm_c.specs.contracts.slots.MergerSlot.{the_row as merger_row};
 ghost use Rattle.clsm_c.specs.contracts.slots.StoreSlot.{the_row as store_row};
 
+use crate::opening::Handles;
+use crate::shared::{SharedCaller, SharedMerger};
 use crate::types::CoreRooms;
-use clsm_handle::{Handles, OwnCaller, OwnMerger};
 use std::mem::size_of;
 
 /// The words that `capi/core/clsm_core.h` reserves for each kind of handle.
@@ -31,13 +32,13 @@ pub struct StoreSlot {
 /// The handle of a caller, and its seat.
 #[derive(Drop)]
 pub struct CallerSlot {
-    pub(crate) caller: Option<OwnCaller>,
+    pub(crate) caller: Option<SharedCaller>,
 }
 
 /// The handle of the merger.
 #[derive(Drop)]
 pub struct MergerSlot {
-    pub(crate) merger: Option<OwnMerger>,
+    pub(crate) merger: Option<SharedMerger>,
 }
 
 /// Only for types that may be moved to another thread: C moves its handles so.

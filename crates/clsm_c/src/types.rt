@@ -3,7 +3,7 @@
 ghost use Rattle.std.specs.Prelude.{◌≡◌, ◌⊎◌, ◌<◌, IfNone, IfOk, IfSome, OnErr, Some};
 ghost use Rattle.clsm_c.specs.Values.{IsValue, TellsValue};
 
-use clsm_handle::Value;
+use clsm_store::Value;
 
 /// A value: the first `length` of the words, of which there are one to eight; or no value, where
 /// that is 0. In an answer the words behind the length are 0.
@@ -127,6 +127,14 @@ pub struct CoreChanged {
 pub struct CoreCounted {
     pub time: u64,
     pub keys: u64,
+}
+
+/// The merger's phase: an epoch is frozen, or a component is retired, or neither.
+#[repr(C)]
+#[derive(Clone, Copy)]
+pub struct CorePhase {
+    pub frozen: bool,
+    pub retired: bool,
 }
 
 /// How many entries a run has.

@@ -1,7 +1,7 @@
 use Rattle.std.proofs.Common.{◌≡◌, ◌++◌, map}
 use Rattle.std.specs.Prelude.{All}
 use Rattle.std.specs.Arc.{arc_value}
-use Rattle.clsm_handle.proofs.opening.callers_of.Given as goal
+use Rattle.clsm_c.proofs.opening.callers_of.Given as goal
 
 -- the seats of the callers so far and those still to come are all of them
 abbrev pub invariant-loop-seat : goal.invariant-loop-seat

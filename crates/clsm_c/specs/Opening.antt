@@ -4,15 +4,15 @@ use Rattle.clsm_model.specs.declared.config.Config.{Config}
 use Rattle.clsm_store_calls.specs.Seats.{AreNew, HasSizes, IsNewMerger, StoreId}
 use Rattle.clsm_store.specs.declared.phase.Phase.{Phase}
 use Rattle.clsm_store.specs.declared.phase.Phase.TheVariants.{Clean, Frozen, Retired}
-use Rattle.clsm_handle.specs.declared.merger.OwnMerger.{OwnMerger}
-use Rattle.clsm_handle.specs.declared.opening.Handles.{Handles}
+use Rattle.clsm_c.specs.declared.shared.SharedMerger.{SharedMerger}
+use Rattle.clsm_c.specs.declared.opening.Handles.{Handles}
 
 -- the store's merger, which did nothing yet
 abbrev pub IsNewIn : StoreId → Phase → Type 0
 IsNewIn store (Clean clean) = IsNewMerger store clean
 IsNewIn store _ = ⊥
 
-abbrev pub IsNew : StoreId → Option OwnMerger → Type 0
+abbrev pub IsNew : StoreId → Option SharedMerger → Type 0
 IsNew store (Some merger) = IsNewIn store merger.phase
 IsNew store None = ⊥
 

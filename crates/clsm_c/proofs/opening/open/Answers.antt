@@ -1,6 +1,6 @@
 use Rattle.std.proofs.Common.{List, subst, sym}
 use Rattle.clsm_store_calls.specs.Seats.{AreNew, SeatState}
-use Rattle.clsm_handle.proofs.opening.open.Goals as goal
+use Rattle.clsm_c.proofs.opening.open.Goals as goal
 
 pub returns-clause-handles : goal.returns-clause-handles
 returns-clause-handles c =

@@ -3,24 +3,23 @@ ghost use Rattle.std.specs.Prelude.{◌≡◌, ◌++◌, ◌∷◌, [], All, IfE
 ghost use Rattle.std.specs.Arc.{arc_value};
 ghost use Rattle.clsm_model.specs.Config.{IsSound};
 ghost use Rattle.clsm_store.specs.Opening.{IsRefusal};
-ghost use Rattle.clsm_handle.specs.Opening.{AreHandles};
+ghost use Rattle.clsm_c.specs.Opening.{AreHandles};
 
-use crate::caller::OwnCaller;
-use crate::merger::OwnMerger;
-use clsm_store::{Config, Free, OpenError, Opened, Phase, Seat, Store};
+use crate::shared::{Shared, SharedCaller, SharedMerger};
+use clsm_store::{Config, OpenError, Opened, Phase, Seat};
 use std::alloc::{AllocError, Global};
 use std::sync::Arc;
 
 /// The handles of a store that nobody has taken yet.
 #[derive(Drop)]
 pub struct Handles {
-    pub callers: Vec<OwnCaller>,
-    pub merger: Option<OwnMerger>,
+    pub callers: Vec<SharedCaller>,
+    pub merger: Option<SharedMerger>,
 }
 
 impl Handles {
     /// Takes the last caller that is left.
-    pub fn take_caller(&mut self) -> Option<OwnCaller>
+    pub fn take_caller(&mut self) -> Option<SharedCaller>
         ensures taken { IfSome result (λ caller. self.old.callers.items ≡ self.new.callers.items ++ caller ∷ []) }
         ensures none { IfNone result ((self.old.callers.items ≡ []) × (self.new.callers.items ≡ [])) }
         ensures merger { self.new.merger ≡ self.old.merger }
@@ -29,7 +28,7 @@ impl Handles {
     }
 
     /// Takes the merger, if it is left.
-    pub fn take_merger(&mut self) -> Option<OwnMerger>
+    pub fn take_merger(&mut self) -> Option<SharedMerger>
         ensures { (result ≡ self.old.merger) × (self.new.merger ≡ None) × (self.new.callers ≡ self.old.callers) }
     {
         self.merger.take()
@@ -39,16 +38,16 @@ impl Handles {
 /// The callers that have these seats, in their order.
 fn callers_of(
     alloc: Global,
-    store: &Arc<Store<Free>, Global>,
+    store: &Shared,
     seats: Vec<Seat>,
-) -> Result<Vec<OwnCaller>, AllocError>
+) -> Result<Vec<SharedCaller>, AllocError>
     requires { All (λ seat. seat.store ≡ arc_value store.now) seats.items }
     ensures { IfOk result (λ callers. map (λ caller. caller.seat) callers.items ≡ seats.items) }
 {
     let mut callers = Vec::with_capacity(alloc, seats.len())?;
     for seat in seats {
         let own = Arc::try_clone(store)?;
-        callers.push(OwnCaller {
+        callers.push(SharedCaller {
             store: own,
             alloc,
             seat,
@@ -76,6 +75,6 @@ pub fn open(alloc: Global, config: Config) -> Result<Handles, OpenError>
         return Err(OpenError::Memory);
     };
     let phase = Phase::Clean(merger);
-    let merger = Some(OwnMerger { store, phase });
+    let merger = Some(SharedMerger { store, phase });
     Ok(Handles { callers, merger })
 }

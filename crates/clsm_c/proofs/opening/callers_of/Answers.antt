@@ -4,7 +4,7 @@ use Rattle.std.specs.Arc.{arc_value}
 use Rattle.std.specs.Prelude.{All}
 use Rattle.clsm_store_calls.specs.Seats.{SeatState}
 use Rattle.clsm_store.proofs.InOrder.{one_more}
-use Rattle.clsm_handle.proofs.opening.callers_of.Goals as goal
+use Rattle.clsm_c.proofs.opening.callers_of.Goals as goal
 
 pub loop-seat-preserved : goal.loop-seat-preserved
 loop-seat-preserved c =
