@@ -1,12 +1,14 @@
 -- Writes that were refused because there was no room, and tried again.
-use Rattle.std.proofs.Common.{◌≡◌, ◌+◌, ◌-◌, ◌*◌, ◌/◌, ◌%◌, ◌^◌, min, ◌<◌, ◌≤◌, ◌⊎◌, inl, inr, ℕ, suc, List, [], ◌∷◌, ◌++◌, Option, Result, Ok, Err, refl, sym}
+use Rattle.std.proofs.Common.{◌≡◌, ◌+◌, ◌-◌, ◌*◌, ◌/◌, ◌%◌, ◌^◌, min, ◌<◌, ◌≤◌, ◌⊎◌, inl, inr, ℕ, zero, suc, max, List, [], ◌∷◌, ◌++◌, length, take, drop, Option, Result, Ok, Err, refl, sym}
 use Rattle.std.proofs.Common.{ap, ◌∙◌, subst, arith}
 use Rattle.std.proofs.lemmas.Grind.{div_ceil_times}
+use Rattle.std.proofs.lemmas.List.{length-take-le, take-append-drop}
 use Rattle.std.specs.Fn.{iterate}
 use Rattle.std.specs.Result.{IsErrAnd}
 use Rattle.clsm_model.specs.declared.record.CallRecord.{CallRecord}
 use Rattle.clsm_model.specs.declared.record.Deed.{Deed}
 use Rattle.clsm_model.specs.declared.record.Deed.TheVariants.{Batch as Group}
+use Rattle.clsm_model.specs.declared.slot.Slot.{Slot}
 use Rattle.clsm_model.specs.Right.{Member}
 use Rattle.clsm_model.specs.Seats.{FitsDeed, IsNext, due_after, open_after}
 use Rattle.clsm_model.proofs.Batches.{begins_self, begins_trans, prefix_length}
@@ -22,7 +24,7 @@ use Rattle.clsm_store_calls.specs.declared.refusal.BatchError.TheVariants as err
 use Rattle.clsm_store.specs.declared.play.answer.Answer.{Answer}
 use Rattle.clsm_store.specs.declared.play.call.Call.{Call}
 use Rattle.clsm_session.specs.Promises.{WaitsToPlay}
-use Rattle.clsm_session.specs.Waiting.{CountsTries, EndsAt, GivesUpOver, HasEntered, IsFullAtLast, IsNoRoomAtLast, IsReason, RefusesCall}
+use Rattle.clsm_session.specs.Waiting.{CountsTries, EndsAt, GivesUpBetween, GivesUpOver, HasEntered, IsFullAtLast, IsNoRoomAtLast, IsReason, RefusesCall}
 use Rattle.clsm_session.specs.declared.refusal.Refused.{Refused}
 use Rattle.clsm_session.specs.declared.refusal.Refused.TheVariants.{RunFull, Worn}
 use Rattle.clsm_session.specs.declared.refusal.BatchRefused.{BatchRefused}
@@ -142,40 +144,72 @@ full_cancels a b c e t is h counts = batch_cancels a b c h (subst (λ (e : Batch
 pub refused_as : (a b : SeatState) (members : List Member) (e e' : BatchError) → e ≡ e' → IsRefusedBatch a b members e → IsRefusedBatch a b members e'
 refused_as a b members e e' is refused = subst (λ (e : BatchError). IsRefusedBatch a b members e) is refused
 
+-- so often, as a sum
+words_on : (n x : ℕ) → iterate next_word (suc n) x ≡ (x + suc n) % 2 ^ 64
+words_on zero x = refl
+words_on (suc n) x = let e = once_more (suc n) x in let h = words_on n x in let s = ap next_word h in omega arith
+
+-- one hold more than so many is one hold only if there was none before
+once_alone : (n x : ℕ) → n < 2 ^ 64 - 1 → iterate next_word (n + 1) x ≡ next_word x → n ≡ 0
+once_alone zero x few same = refl
+once_alone (suc n) x few same = let e : suc (suc n) ≡ suc n + 1 = omega arith in
+    let w = words_on (suc n) x in let same' = ap (λ (k : ℕ). iterate next_word k x) e in omega arith
+
+-- writes from a time on stand also from an earlier one on
+beside_earlier : (a : List Slot) (number key first first' last : ℕ) → first ≤ first' → first' ≤ length a → first' ≤ last
+    → writes_beside a number key first' last ≤ writes_beside a number key first last
+beside_earlier a number key first first' last le within until =
+    let n = length-take-le first' a within in
+    let more = beside_apart (take first' a) a number key first 0 first' last (drop first' a, take-append-drop first' a) (omega arith) (omega arith) until in
+    omega arith
+
+-- the least time from which a call of this seat gives up times
+abbrev pub seen : SeatState → ℕ
+seen a = max a.due (length a.past)
+
 -- times that are given up in the tries so far: none, or so many as these times allow
 abbrev pub GaveUp : SeatState → SeatState → ℕ → Type 0
-GaveUp a b key = (b.tally.gave_up ≡ a.tally.gave_up) ⊎ ((last : ℕ) × GivesUpOver a b key last)
+GaveUp a b key = (b.tally.gave_up ≡ a.tally.gave_up) ⊎ ((last : ℕ) × GivesUpBetween (seen a) last a b key)
 
 -- and in one try more
-pub spared_next : (a b c : SeatState) (key last : ℕ) → Refuses a b → IsSameSeat b c → GaveUp a b key → GivesUpForWrites b c key last → GivesUpOver a c key last
-spared_next a b c key last h same (inl none) g = record {
-  first = g.first;
-  due = let e = g.due in let f = h.due in omega arith;
-  known = let e = g.known in let more = prefix_length a.past b.past h.same.longer.slots in omega arith;
-  reached = g.reached;
-  until = g.until;
-  counts = record {
-    times = g.counts.times;
-    counted = g.counts.counted ∙ ap (iterate next_word g.counts.times) none;
-    within = subst (λ (n : ℕ). g.counts.times ≤ writes_beside c.past n key g.first last) h.same.number g.counts.within;
-  };
-}
-spared_next a b c key last h same (inr (before, o)) g = let more = prefix_length b.past c.past same.longer.slots in let on = g.known in
-    let within = o.reached in let until = g.until in record {
-      first = o.first;
-      due = o.due;
-      known = o.known;
+pub spared_next : (a b c : SeatState) (key last : ℕ) → Refuses a b → IsSameSeat b c → GaveUp a b key → GivesUpForWrites b c key last
+    → GivesUpBetween (seen a) last a c key
+spared_next a b c key last h same (inl none) g = let due = g.due in let before = h.due in
+    let known = g.known in let more = prefix_length a.past b.past h.same.longer.slots in
+    let reached = g.reached in let until = g.until in
+    let early : seen a ≤ g.first = omega arith in record {
       reached = omega arith;
       until = omega arith;
-      counts = counts_both (writes_beside b.past a.number key o.first before) (writes_beside c.past a.number key g.first last)
-          (writes_beside c.past a.number key o.first last) a.tally.gave_up b.tally.gave_up c.tally.gave_up
-          (beside_apart b.past c.past a.number key o.first before g.first last same.longer.slots o.reached g.known g.until) o.counts
+      counts = record {
+        times = g.counts.times;
+        counted = g.counts.counted ∙ ap (iterate next_word g.counts.times) none;
+        within = let within = subst (λ (n : ℕ). g.counts.times ≤ writes_beside c.past n key g.first last) h.same.number g.counts.within in
+            let fewer = beside_earlier c.past a.number key (seen a) g.first last early reached until in omega arith;
+      };
+    }
+spared_next a b c key last h same (inr (before, o)) g = let more = prefix_length b.past c.past same.longer.slots in let on = g.known in
+    let within = o.reached in let until = g.until in record {
+      reached = omega arith;
+      until = omega arith;
+      counts = counts_both (writes_beside b.past a.number key (seen a) before) (writes_beside c.past a.number key g.first last)
+          (writes_beside c.past a.number key (seen a) last) a.tally.gave_up b.tally.gave_up c.tally.gave_up
+          (beside_apart b.past c.past a.number key (seen a) before g.first last same.longer.slots o.reached g.known g.until) o.counts
           (record {
             times = g.counts.times;
             counted = g.counts.counted;
             within = subst (λ (n : ℕ). g.counts.times ≤ writes_beside c.past n key g.first last) h.same.number g.counts.within;
           });
     }
+
+-- and in all of them, where so many found the epoch full before: none, if that was the only hold
+pub spared_over : (a b c : SeatState) (key last times : ℕ) → times < 2 ^ 64 - 1 → (times ≡ 0 → b ≡ a) → Holds times a.tally b.tally
+    → c.tally.entries ≡ next_word b.tally.entries → Refuses a b → IsSameSeat b c → GaveUp a b key → GivesUpForWrites b c key last
+    → GivesUpOver a c key last
+spared_over a b c key last times few alone holds entered h same gave g = record {
+  once = λ one. let all = holds_more times a.tally b.tally c.tally holds entered in
+      subst (λ (s : SeatState). GivesUpForWrites s c key last) (alone (once_alone times a.tally.entries few (sym all ∙ one))) g;
+  all = spared_next a b c key last h same gave g;
+}
 
 -- the result is this refusal
 pub is_refusal : {A E : Type 0} (r : Result A E) (e : E) → IsErrAnd r (λ x. x ≡ e) → r ≡ Err e

@@ -1,13 +1,13 @@
 -- What writes that wait for room leave of the seat. Each try that found no room left it as it was,
 -- but for its tally.
-use Rattle.std.specs.Prelude.{◌≡◌, ℕ, ◌+◌, ◌*◌, ◌^◌, ◌<◌, ◌≤◌, List, length, Some, Result, Ok, Err, ⊤}
+use Rattle.std.specs.Prelude.{◌≡◌, ℕ, ◌+◌, ◌*◌, ◌^◌, ◌<◌, ◌≤◌, List, length, max, Some, Result, Ok, Err, ⊤}
 use Rattle.std.specs.Fn.{iterate}
 use Rattle.clsm_model.specs.declared.record.Deed.TheVariants.{Batch as Group}
 use Rattle.clsm_model.specs.Right.{Member}
 use Rattle.clsm_model.specs.Seats.{FitsDeed}
 use Rattle.clsm_law.specs.Views.{next_word}
 use Rattle.clsm_store_calls.specs.Batching.{IsNoBatch}
-use Rattle.clsm_store_calls.specs.Seats.{CountsUpTo, Refuses, SeatState, writes_beside}
+use Rattle.clsm_store_calls.specs.Seats.{CountsUpTo, GivesUpForWrites, Refuses, SeatState, writes_beside}
 use Rattle.clsm_store_calls.specs.declared.got.Rmw.{Rmw as Answered}
 use Rattle.clsm_store_calls.specs.Tally.{CancelsNone, Tally}
 use Rattle.clsm_store_calls.specs.declared.refusal.BatchError.TheVariants as errors
@@ -25,16 +25,19 @@ use Rattle.clsm_session.specs.declared.refusal.BatchRefused.TheVariants.{Empty, 
 abbrev pub IsPatient : SeatState → SeatState → Type 0
 IsPatient old new = new.tally.hasty ≡ old.tally.hasty
 
--- The tries gave up at most one time for each write of the key by another seat that stands at or
--- above the time of the first read, and below this time: not below the due, and above all that the
--- seat knew before
-pub record GivesUpOver (old new : SeatState) (key last : ℕ) : Type 0 where
-  pub first : ℕ
-  pub due : old.due ≤ first
-  pub known : length old.past ≤ first
+-- the tries gave up at most one time for each write of the key by another seat that stands at or
+-- above the first of these times, and below the last
+pub record GivesUpBetween (first last : ℕ) (old new : SeatState) (key : ℕ) : Type 0 where
   pub reached : first ≤ length new.past
   pub until : first ≤ last
   pub counts : CountsUpTo (writes_beside new.past old.number key first last) old.tally.gave_up new.tally.gave_up
+
+-- What the tries gave up, for writes that stand below this time. A call that held the lock once
+-- gave up what the store's does, for writes that stand at or above its first read. All tries of any
+-- call did so for writes at or above its due, of which the seat did not know before
+pub record GivesUpOver (old new : SeatState) (key last : ℕ) : Type 0 where
+  pub once : new.tally.entries ≡ next_word old.tally.entries → GivesUpForWrites old new key last
+  pub all : GivesUpBetween (max old.due (length old.past)) last old new key
 
 -- by the answer: below the time at which the key was changed, or at which the clock stood at the
 -- limit in the last hold

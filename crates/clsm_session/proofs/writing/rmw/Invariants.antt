@@ -1,3 +1,4 @@
+use Rattle.std.specs.Prelude.{◌≡◌}
 use Rattle.clsm_store_calls.specs.Seats.{Refuses}
 use Rattle.clsm_session.proofs.Waiting.{GaveUp, Holds}
 use Rattle.clsm_session.specs.Waiting.{IsPatient}
@@ -10,5 +11,6 @@ invariant-loop g l = record {
   patient : IsPatient l.initial.caller.seat l.caller.seat;
   spared : GaveUp l.initial.caller.seat l.caller.seat l.fn.key;
   more : (goal.iterator-loop g).can_next l.iterator' × (goal.iterator-loop g).is_finite l.iterator';
+  alone : l.tries ≡ 0 → l.caller.seat ≡ l.initial.caller.seat;
   holds : Holds l.tries l.initial.caller.seat.tally l.caller.seat.tally;
 }
