@@ -30,7 +30,9 @@ mod slots;
 mod types;
 
 use slots::{CallerSlot, MergerSlot, StoreSlot};
-pub use slots::{CALLER_WORDS, MERGER_WORDS, STORE_WORDS};
+pub use slots::{
+    CALLER_ALIGNMENT, CALLER_WORDS, MERGER_ALIGNMENT, MERGER_WORDS, STORE_ALIGNMENT, STORE_WORDS,
+};
 use std::alloc::Global;
 pub use types::{
     CoreAdding, CoreChanged, CoreCode, CoreCounted, CoreEntries, CoreGot, CoreKey, CorePaged,

@@ -8,7 +8,7 @@ ghost use Rattle.clsm_c.specs.contracts.slots.StoreSlot.{the_row as store_row};
 use crate::opening::Handles;
 use crate::shared::{SharedCaller, SharedMerger};
 use crate::types::CoreRooms;
-use std::mem::size_of;
+use std::mem::{align_of, size_of};
 
 /// The words that `capi/core/clsm_core.h` reserves for each kind of handle.
 pub const STORE_WORDS: usize = 24;
@@ -17,11 +17,24 @@ pub const CALLER_WORDS: usize = 32;
 
 pub const MERGER_WORDS: usize = 24;
 
+/// The bytes to which it aligns these words: powers of two. A caller has cache lines of its own.
+pub const STORE_ALIGNMENT: usize = 16;
+
+pub const CALLER_ALIGNMENT: usize = 64;
+
+pub const MERGER_ALIGNMENT: usize = 16;
+
 const _: () = prove!(size_of::<StoreSlot>() <= 8 * STORE_WORDS);
 
 const _: () = prove!(size_of::<CallerSlot>() <= 8 * CALLER_WORDS);
 
 const _: () = prove!(size_of::<MergerSlot>() <= 8 * MERGER_WORDS);
+
+const _: () = prove!(STORE_ALIGNMENT % align_of::<StoreSlot>() == 0);
+
+const _: () = prove!(CALLER_ALIGNMENT % align_of::<CallerSlot>() == 0);
+
+const _: () = prove!(MERGER_ALIGNMENT % align_of::<MergerSlot>() == 0);
 
 /// The handle of a store: the callers and the merger that nobody has taken yet.
 #[derive(Drop)]
