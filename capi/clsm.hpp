@@ -222,6 +222,17 @@ public:
     using pointer = const row *;
     using reference = const row &;
 
+    // The row that `at++` was at.
+    class kept {
+    public:
+        const row &operator*() const noexcept { return row_; }
+
+    private:
+        friend class iterator;
+        explicit kept(row row) noexcept : row_(row) {}
+        row row_;
+    };
+
     iterator() = default;
     explicit iterator(Source &source) : source_(&source) { read(); }
 
@@ -231,7 +242,11 @@ public:
         read();
         return *this;
     }
-    void operator++(int) { read(); }
+    kept operator++(int) {
+        kept before(*row_);
+        read();
+        return before;
+    }
 
     // All that have come to the end are equal.
     friend bool operator==(const iterator &one, const iterator &other) noexcept {
@@ -369,9 +384,11 @@ public:
         std::array<clsm_row, 64> read_;
     };
 
-    rows range(std::uint64_t first = 0, std::uint64_t last = detail::greatest_key) const {
+    rows range(std::uint64_t first = 0, std::uint64_t last = detail::greatest_key) const & {
         return {raw(), first, last};
     }
+    // One that is a temporary would be closed before the first row: give it a name.
+    rows range(std::uint64_t first = 0, std::uint64_t last = detail::greatest_key) const && = delete;
 
     // The time at which it reads.
     std::uint64_t time() const noexcept { return clsm_snapshot_time(raw()); }
@@ -473,8 +490,8 @@ public:
         detail::thrower()(clsm_scan_open(raw(), first, last, &opened));
         return scan({handle_.store, opened});
     }
-    // Page by page, each of its own moment.
-    clsm::walk walk(std::uint64_t first = 0, std::uint64_t last = detail::greatest_key) {
+    // Page by page, each of its own moment. Not of a temporary, which would be closed before it.
+    clsm::walk walk(std::uint64_t first = 0, std::uint64_t last = detail::greatest_key) & {
         clsm_walk *opened = nullptr;
         detail::thrower()(clsm_walk_open(raw(), first, last, &opened));
         return clsm::walk(detail::owned<clsm_walk>(opened));

@@ -8,6 +8,7 @@
 #include <numeric>
 #include <thread>
 #include <type_traits>
+#include <vector>
 
 #define CHECK(holds)                                                                               \
     do {                                                                                           \
@@ -49,6 +50,31 @@ void values() {
     }
     CHECK(lengths == 2 && value(words, 8).size() == 8);
     CHECK(!value::from(clsm_value{}) && value::from(two.raw()) == two);
+}
+
+// A loop over rows that need their snapshot or caller does not compile for one that is a temporary:
+// `for (auto &row : store.snapshot().range())` would close it before the first row.
+template <class Handle, class = void> struct has_range : std::false_type {};
+template <class Handle> struct has_range<Handle, std::void_t<decltype(std::declval<Handle>().range())>> : std::true_type {};
+template <class Handle, class = void> struct has_walk : std::false_type {};
+template <class Handle> struct has_walk<Handle, std::void_t<decltype(std::declval<Handle>().walk())>> : std::true_type {};
+static_assert(has_range<const clsm::snapshot &>() && !has_range<clsm::snapshot>() && !has_range<const clsm::snapshot>());
+static_assert(has_walk<clsm::caller &>() && !has_walk<clsm::caller>());
+static_assert(has_range<clsm::caller>(), "a scan outlives its caller");
+
+// Iterators are those of the named requirement: what `*at++` answers outlives the next read.
+void iterators(clsm::caller &caller) {
+    static_assert(std::is_same_v<std::iterator_traits<clsm::scan::iterator>::value_type, clsm::row>);
+    for (std::uint64_t key = 10; key < 13; key++) caller.put(key, 2 * key);
+    clsm::scan scan = caller.range(10, 12);
+    clsm::scan::iterator at = scan.begin();
+    CHECK((*at++).key == 10 && at->key == 11);
+    const clsm::row second = *at++;
+    CHECK(second == (clsm::row{11, 22}) && at->key == 12 && ++at == scan.end());
+    clsm::walk walk = caller.walk(10, 12);
+    const std::vector<clsm::row> rows(walk.begin(), walk.end());
+    CHECK(rows.size() == 3 && rows.back() == (clsm::row{12, 24}));
+    for (const clsm::row &row : rows) caller.remove(row.key);
 }
 
 // The functions of clsm_codec.h are C++'s, too.
@@ -190,6 +216,7 @@ int main() {
     {
         const clsm::store store;
         clsm::caller caller = store.caller();
+        iterators(caller);
         codecs(caller);
         keys(caller);
         changes(caller);
