@@ -2,3 +2,4 @@ pub mod Settled
 pub mod Filling
 pub mod Writing
 pub mod Inserting
+pub mod Entering

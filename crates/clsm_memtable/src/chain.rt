@@ -8,7 +8,6 @@ ghost use Rattle.clsm_memtable.specs.Filling.{Links, StaysUnlinked};
 use crate::inserting::DrawnCell;
 use clsm_law::{Answer, Part};
 use clsm_words::{Pace, RawSeat, Words};
-use std::sync::Wait;
 use thiserror::Error;
 
 /// Why a seat did not link its cell: another cell was linked in the chain between the look and the
@@ -48,24 +47,4 @@ pub(crate) fn try_link<P: Pace>(
         Answer::Done => Ok(()),
         _ => Err(Raced),
     }
-}
-
-/// Links the drawn cell, and tries until it is linked, as long as that takes. Each try that lost
-/// has moved the seat's count of such refusals by one: another cell was linked, so it tries again
-/// at once. A walk of a chain that the seat had begun is ended.
-#[inline(always)]
-pub(crate) fn link<P: Pace, R: Wait>(rt: &R, words: &Words<P>, seat: &mut RawSeat, cell: DrawnCell)
-    requires of { IsSeatOf words.now seat.old }
-    requires holds { seat.old.knows.view.mode ≢ Free }
-    requires limit { seat.old.knows.view.hold_limit ≢ None }
-    requires filled { IsFilled seat.old.knows.view cell.time cell.key }
-    ensures of { IsSeatOf words.now seat.new }
-    ensures linked { Links seat.old.knows seat.new.knows }
-{
-    for _ in rt.forever() {
-        if try_link(words, seat, cell).is_ok() {
-            return;
-        }
-    }
-    unreachable!()
 }

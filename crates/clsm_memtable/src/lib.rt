@@ -13,11 +13,10 @@ mod settling;
 mod staging;
 
 pub use cell_state::{Decided, decide, give_up};
-pub use chain::Raced;
 pub use clock::{DrawError, Room, draw, look_room};
-pub use entering::{look_ahead, prefetch};
+pub use entering::{EntryState, look_ahead, prefetch};
 pub use filling::fill;
 pub use foreseeing::Lookahead;
-pub use inserting::{DrawnCell, Start};
+pub use inserting::{DrawnCell, Placement, Start, look_back};
 pub use settling::settle_below;
 pub use staging::{commit, decide_member, stage};

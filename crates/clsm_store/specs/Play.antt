@@ -9,7 +9,7 @@ use Rattle.clsm_store_calls.specs.Seats.{SeatState, Answers, GivesUpForWrites, I
 use Rattle.clsm_store_calls.specs.Batching.{CountsBatch, IsRefusedBatch}
 use Rattle.clsm_store_calls.specs.Scanning.{IsAtClock}
 use Rattle.clsm_store_calls.specs.Tally.{CancelsNone, CountsTry, TakesLockOnce, TakesNoLock}
-use Rattle.clsm_store_calls.specs.Trying.{RefusesTry}
+use Rattle.clsm_store_calls.specs.Writing.{RefusesTry}
 use Rattle.clsm_model.specs.Changes.{added, put_if_absent}
 use Rattle.clsm_store.specs.declared.play.answer.Answer.{Answer}
 use Rattle.clsm_store.specs.declared.play.answer.Answer.TheVariants.{Write, Try as Tried, Batch as Batched}
@@ -57,7 +57,7 @@ PlaysCall _ _ _ _ = ⊥
 abbrev pub CountsCall : Call → SeatState → SeatState → Answer → Type 0
 CountsCall (Put _ _) old new (Write _) = TakesLockOnce old.tally new.tally × CancelsNone old.tally new.tally
 CountsCall (Remove _) old new (Write _) = TakesLockOnce old.tally new.tally × CancelsNone old.tally new.tally
-CountsCall (Try _ _) old new (Tried answer) = CountsTry old.tally new.tally answer
+CountsCall (Try _ _) old new (Tried answer) = CountsTry 1 old.tally new.tally answer
 CountsCall (Add key _) old new (Changed answer) =
     TakesLockOnce old.tally new.tally × GivesUpForWrites old new key (changed_at answer)
 CountsCall (Claim key _) old new (Changed answer) =

@@ -41,7 +41,7 @@ use Rattle.clsm_store_calls.specs.Scanning.{CountsKeys, IsAtClock, ScansNow, Vis
 use Rattle.clsm_store_calls.specs.Seats.{Answers, GivesUpForWrites, IsFull, IsSameSeat, Refuses, SeatState, StoreId, known_by}
 use Rattle.clsm_store_calls.specs.Seats.{CleanState, FrozenState, RetiredState}
 use Rattle.clsm_store_calls.specs.Tally.{CancelsNone, CountsTry, TakesLockOnce, TakesNoLock}
-use Rattle.clsm_store_calls.specs.Trying.{RefusesTry}
+use Rattle.clsm_store_calls.specs.Writing.{RefusesTry}
 use Rattle.clsm_store_calls.specs.TryingChange.{CountsTryChange}
 use Rattle.clsm_store.specs.declared.pages.Pages.{Pages}
 use Rattle.clsm_store.specs.declared.phase.TryFreezeError.{TryFreezeError}
@@ -69,8 +69,8 @@ pub record Writes (old new : SeatState) (deed : Deed) (result : Result ℕ Full)
 pub record TriesToWrite (old new : SeatState) (deed : Deed) (result : Result ℕ TryPutError) : Type 0 where
   -- as put
   pub written : IfOk result (λ time. Answers old new time deed)
-  -- it entered the lock once, or was refused it; and each other refusal is counted
-  pub counts : CountsTry old.tally new.tally result
+  -- it entered the lock once, or was refused it; it made one try there, which is counted if lost
+  pub counts : CountsTry 1 old.tally new.tally result
   -- refused: no record more, and with `Full` as put
   pub refused : IfErr result (RefusesTry old new)
 

@@ -17,6 +17,9 @@ use clsm_store_calls::{
 use clsm_words::Pace;
 use std::sync::Wait;
 
+/// A write that never waits makes so many tries in its hold of the lock.
+const ONE_TRY: u64 = 1;
+
 impl<P: Pace> Store<P> {
     /// Writes the value at the key, and answers the write's time. It waits while a freeze or a
     /// batch holds the lock, and tries again if another seat was faster or a reader overtook it.
@@ -75,7 +78,7 @@ impl<P: Pace> Store<P> {
         requires { seat.old.store ≡ self.now }
         ensures { TriesToWrite seat.old seat.new (Put key value) result }
     {
-        try_write(&self.words, &mut seat.raw, key, &Some(value))
+        try_write(&self.words, &mut seat.raw, key, &Some(value), ONE_TRY)
     }
 
     /// Removes the key as `remove`, but tries each exchange once and never waits. Refused as
@@ -84,7 +87,7 @@ impl<P: Pace> Store<P> {
         requires { seat.old.store ≡ self.now }
         ensures { TriesToWrite seat.old seat.new (Remove key) result }
     {
-        try_write(&self.words, &mut seat.raw, key, &None)
+        try_write(&self.words, &mut seat.raw, key, &None, ONE_TRY)
     }
 
     /// Writes all members as one batch as `batch`, but tries the lock once and never waits. Refused

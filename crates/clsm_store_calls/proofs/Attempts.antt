@@ -14,7 +14,7 @@ use Rattle.clsm_store_calls.specs.declared.refusal.TryPutError.{TryPutError}
 use Rattle.clsm_store_calls.specs.declared.refusal.TryPutError.TheVariants.{Full as TryFull, Busy, Raced, Overtaken}
 use Rattle.clsm_store_calls.specs.Changing.{Does, TriesChange, WritesLater, deed_by, is_keep}
 use Rattle.clsm_store_calls.specs.Resting.{Records, Still}
-use Rattle.clsm_store_calls.specs.Trying.{Fails}
+use Rattle.clsm_store_calls.specs.Writing.{Fails}
 use Rattle.clsm_store_calls.specs.TryingChange.{WritesChange}
 use Rattle.clsm_store_calls.proofs.Rest.{full_later, records_later, still_reads, still_trans}
 

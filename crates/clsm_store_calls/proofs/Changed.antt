@@ -26,7 +26,7 @@ use Rattle.clsm_store_calls.specs.declared.refusal.TryPutError.TheVariants.{Full
 use Rattle.clsm_store_calls.specs.Resting.{FindsFull, IsAtRest, Keeps, Records, Still}
 use Rattle.clsm_store_calls.specs.Changing.{ChangesAt, Does, EndsFull, IsSameSeat, IsWrittenFrom, read_end}
 use Rattle.clsm_store_calls.specs.Tally.{HasRead, Tally, counted, looked, tally_of}
-use Rattle.clsm_store_calls.specs.Trying.{Fails}
+use Rattle.clsm_store_calls.specs.Writing.{Fails}
 use Rattle.clsm_store_calls.specs.TryingChange.{CountsChange, CountsChangeInHold, EndsRefused, EndsUnmade, IsWrittenSince}
 use Rattle.clsm_store_calls.proofs.TriedChange.{counts_later, counts_whole}
 use Rattle.clsm_store_calls.proofs.Rest.{same_past, stays_open}

@@ -1,5 +1,5 @@
 pub mod Rest
-pub mod Ahead
+pub mod Losses
 pub mod Retries
 pub mod Found
 pub mod Unchanged

@@ -13,9 +13,9 @@ use Rattle.clsm_store_calls.specs.declared.refusal.TryPutError.{TryPutError}
 use Rattle.clsm_store_calls.specs.declared.refusal.TryPutError.TheVariants.{Full, Busy, Raced, Overtaken}
 use Rattle.clsm_store_calls.specs.Changing.{Does, deed_by, is_keep}
 use Rattle.clsm_store_calls.specs.Resting.{Records, Still}
-use Rattle.clsm_store_calls.specs.Tally.{HasRead, Tally, counted, looked, tally_of}
-use Rattle.clsm_store_calls.specs.Trying.{Fails}
-use Rattle.clsm_store_calls.specs.TryingChange.{CountsChange, CountsChangeInHold, LosesDrawn, LosesNoTime, LosesTime, WritesChange, pin_after}
+use Rattle.clsm_store_calls.specs.Tally.{HasRead, LosesNoTime, LosesTime, Tally, counted, looked, tally_of}
+use Rattle.clsm_store_calls.specs.Writing.{Fails}
+use Rattle.clsm_store_calls.specs.TryingChange.{CountsChange, CountsChangeInHold, LosesDrawn, WritesChange, pin_after}
 use Rattle.clsm_store_calls.proofs.Attempts.{does_by, fails_later}
 use Rattle.clsm_store_calls.proofs.Rest.{records_later, still_trans}
 

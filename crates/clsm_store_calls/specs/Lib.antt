@@ -12,7 +12,6 @@ pub mod Freezing
 pub mod Looking
 pub mod Merging
 pub mod Reclaiming
-pub mod Trying
 pub mod TryingChange
 pub mod Batching
 pub mod Agreeing

@@ -1,5 +1,5 @@
 -- A seat at the words between two calls, and what parts of a call leave of it.
-use Rattle.std.specs.Prelude.{◌≡◌, ℕ, ◌+◌, ◌≤◌, ◌++◌, ◌∷◌, [], List, Option, false, Some, None}
+use Rattle.std.specs.Prelude.{◌≡◌, ℕ, ◌+◌, ◌≤◌, ◌++◌, ◌∷◌, [], Bool, List, Option, false, true, Some, None}
 use Rattle.clsm_model.specs.History.{IsBeginning}
 use Rattle.clsm_model.specs.declared.record.Deed.{Deed}
 use Rattle.clsm_model.specs.declared.record.Deed.TheVariants.{Put, Remove}
@@ -17,7 +17,7 @@ use Rattle.clsm_words.specs.Seats.{RawState as RawState}
 use Rattle.clsm_store_calls.specs.Seats.{SeatState, StoreId}
 use Rattle.clsm_store_calls.specs.Tally.{counted}
 use Rattle.clsm_store_calls.specs.declared.writing.Attempt.{Attempt}
-use Rattle.clsm_store_calls.specs.declared.writing.Attempt.TheVariants.{Written, Full, Lost}
+use Rattle.clsm_store_calls.specs.declared.writing.Attempt.TheVariants.{Written, Full}
 
 -- what contracts see of a seat at the words that has this view
 abbrev pub seat_with : RawState → View → SeatState
@@ -118,10 +118,16 @@ abbrev pub deed_of : ℕ → Option (List ℕ) → Deed
 deed_of key None = Remove key
 deed_of key (Some words) = Put key words
 
--- ---- one try in a hold
+-- ---- tries in a hold
 
--- what came of one try to write: the write at its time, a clock at the limit, or nothing
+-- what came of tries to write: the write at its time, a clock at the limit, or nothing
 abbrev pub Tries : Known → Known → Deed → Attempt → Type 0
 Tries old new deed (Written t) = Records old new t deed
 Tries old new deed (Full t) = FindsFull old new t
-Tries old new deed Lost = Still old new
+Tries old new deed _ = Still old new
+
+-- the write was made, or is refused for good
+abbrev pub is_answer : Attempt → Bool
+is_answer (Written t) = true
+is_answer (Full t) = true
+is_answer _ = false

@@ -1,5 +1,6 @@
 -- What a seat counts, and what calls make of its counts.
-use Rattle.std.specs.Prelude.{◌≡◌, ℕ, ◌⊎◌, Option, Result, Ok, Err}
+use Rattle.std.specs.Prelude.{◌≡◌, ℕ, ◌+◌, ◌<◌, ◌⊎◌, Option, Result, Ok, Err}
+use Rattle.std.specs.Fn.{iterate}
 use Rattle.clsm_law.specs.declared.view.View.{View}
 use Rattle.clsm_law.specs.Views.{next_word}
 use Rattle.clsm_words.specs.declared.known.Known.{Known}
@@ -63,7 +64,7 @@ pub record CancelsNone (old new : Tally) : Type 0 where
 abbrev pub tally_of : Known → Tally
 tally_of k = counted k.view
 
--- ---- a try
+-- ---- tries
 
 -- the counts as they were, with what it looked at last in a hold of the lock
 abbrev pub looked : Tally → Tally → Tally
@@ -74,22 +75,69 @@ looked old new = record old { limit = new.limit; first = new.first; clock = new.
 abbrev pub HasRead : Tally → Tally → Type 0
 HasRead old new = new ≡ record (looked old new) { cancelled = new.cancelled }
 
--- it lost a race, and gave up its time where it had drawn one, unless a reader had cancelled that
--- first
-pub record IsRaced (old new : Tally) : Type 0 where
-  pub counts : new ≡ record (looked old new) { raced = next_word old.raced; overtaken = new.overtaken; gave_up = new.gave_up }
-  pub once : (new.gave_up ≡ old.gave_up) ⊎ (new.gave_up ≡ next_word old.gave_up)
+-- it lost tries, and counted nothing else
+abbrev pub OnlyLoses : Tally → Tally → Type 0
+OnlyLoses old new = new ≡ record (looked old new) { raced = new.raced; overtaken = new.overtaken }
 
--- what a try in a hold of the lock counts
-abbrev pub CountsInHold : Tally → Tally → Result ℕ TryPutError → Type 0
-CountsInHold old new (Ok t) = new ≡ looked old new
-CountsInHold old new (Err (Full t)) = new ≡ looked old new
-CountsInHold old new (Err Busy) = ⊥
-CountsInHold old new (Err Raced) = IsRaced old new
-CountsInHold old new (Err Overtaken) = new ≡ record (looked old new) { overtaken = next_word old.overtaken }
+-- the counts after so many exchanges that it lost to other seats, and so many times of its own that
+-- it lost to readers
+abbrev pub after_losses : Tally → Tally → ℕ → ℕ → Tally
+after_losses old new raced overtaken =
+    record (looked old new) { raced = iterate next_word raced old.raced; overtaken = iterate next_word overtaken old.overtaken }
 
--- what a try counts: with `Busy` that alone, else the one time that it entered the lock, and what
--- came of it there
-abbrev pub CountsTry : Tally → Tally → Result ℕ TryPutError → Type 0
-CountsTry old new (Err Busy) = new ≡ record old { busy = next_word old.busy }
-CountsTry old new answer = CountsInHold (record old { entries = next_word old.entries }) new answer
+-- it lost fewer tries than these
+pub record LosesFewer (tries : ℕ) (old new : Tally) : Type 0 where
+  pub raced : ℕ
+  pub overtaken : ℕ
+  pub fewer : raced + overtaken < tries
+  pub counts : new ≡ after_losses old new raced overtaken
+
+-- it lost all these tries, the last one to a reader
+pub record IsOvertaken (tries : ℕ) (old new : Tally) : Type 0 where
+  pub raced : ℕ
+  pub overtaken : ℕ
+  pub all : raced + overtaken ≡ tries
+  pub last : 0 < overtaken
+  pub counts : new ≡ after_losses old new raced overtaken
+
+-- it lost all of them, the last one to another seat
+pub record LosesToSeats (tries : ℕ) (old new : Tally) : Type 0 where
+  pub raced : ℕ
+  pub overtaken : ℕ
+  pub all : raced + overtaken ≡ tries
+  pub last : 0 < raced
+  pub counts : new ≡ after_losses old new raced overtaken
+
+-- the time that it had drawn is lost: it gave that up, or a reader had cancelled it first
+abbrev pub LosesTime : Tally → Tally → Type 0
+LosesTime old new =
+    ((new.gave_up ≡ next_word old.gave_up) × (new.overtaken ≡ old.overtaken))
+    ⊎ ((new.gave_up ≡ old.gave_up) × (new.overtaken ≡ next_word old.overtaken))
+
+-- it had drawn no time that it could lose
+abbrev pub LosesNoTime : Tally → Tally → Type 0
+LosesNoTime old new = (new.gave_up ≡ old.gave_up) × (new.overtaken ≡ old.overtaken)
+
+-- and then, where it had drawn a time, it gave that up, unless a reader had cancelled it first
+pub record IsRaced (tries : ℕ) (old new : Tally) : Type 0 where
+  pub raced : ℕ
+  pub overtaken : ℕ
+  pub all : raced + overtaken ≡ tries
+  pub last : 0 < raced
+  pub counts : new ≡ record (after_losses old new raced overtaken) { overtaken = new.overtaken; gave_up = new.gave_up }
+  pub time : LosesNoTime (after_losses old new raced overtaken) new ⊎ LosesTime (after_losses old new raced overtaken) new
+
+-- what at most so many tries in a hold of the lock count: each that is lost, and no more of them
+-- than these
+abbrev pub CountsInHold : ℕ → Tally → Tally → Result ℕ TryPutError → Type 0
+CountsInHold tries old new (Ok t) = LosesFewer tries old new
+CountsInHold tries old new (Err (Full t)) = LosesFewer tries old new
+CountsInHold tries old new (Err Busy) = ⊥
+CountsInHold tries old new (Err Raced) = IsRaced tries old new
+CountsInHold tries old new (Err Overtaken) = IsOvertaken tries old new
+
+-- what a call counts that makes at most so many tries: with `Busy` that alone, else the one time
+-- that it entered the lock, and what came of its tries there
+abbrev pub CountsTry : ℕ → Tally → Tally → Result ℕ TryPutError → Type 0
+CountsTry tries old new (Err Busy) = new ≡ record old { busy = next_word old.busy }
+CountsTry tries old new answer = CountsInHold tries (record old { entries = next_word old.entries }) new answer

@@ -10,19 +10,9 @@ use Rattle.clsm_store_calls.specs.declared.refusal.TryPutError.TheVariants.{Full
 use Rattle.clsm_store_calls.specs.Changing.{EndsFull, IsSameSeat, IsWrittenFrom, deed_by}
 use Rattle.clsm_store_calls.specs.Resting.{Records, Still}
 use Rattle.clsm_store_calls.specs.Seats.{SeatState}
-use Rattle.clsm_store_calls.specs.Tally.{HasRead, Tally, looked, tally_of}
+use Rattle.clsm_store_calls.specs.Tally.{HasRead, LosesNoTime, LosesTime, Tally, looked, tally_of}
 
 -- ---- what it counts
-
--- the time that it had drawn is lost: it gave that up, or a reader had cancelled it first
-abbrev pub LosesTime : Tally → Tally → Type 0
-LosesTime old new =
-    ((new.gave_up ≡ next_word old.gave_up) × (new.overtaken ≡ old.overtaken))
-    ⊎ ((new.gave_up ≡ old.gave_up) × (new.overtaken ≡ next_word old.overtaken))
-
--- it had drawn no time that it could lose
-abbrev pub LosesNoTime : Tally → Tally → Type 0
-LosesNoTime old new = (new.gave_up ≡ old.gave_up) × (new.overtaken ≡ old.overtaken)
 
 -- another seat was faster: it won an exchange, which is counted, at the draw or with the drawn time
 -- lost; or it had written the key, and the drawn time is lost

@@ -15,7 +15,9 @@ use crate::changing::value_set;
 use crate::refusal::{BatchError, TryBatchError};
 use crate::writing::deed_of;
 use clsm_lock::{lock_exclusive, try_lock_exclusive, unlock_exclusive};
-use clsm_memtable::{DrawnCell, Lookahead, commit, decide_member, look_room, stage};
+use clsm_memtable::{
+    DrawnCell, EntryState, Lookahead, Start, commit, decide_member, look_room, stage,
+};
 use clsm_model::{Change, Time, are_writes};
 use clsm_search::leave_hints;
 use clsm_words::{Pace, RawSeat, Words};
@@ -67,10 +69,12 @@ fn stage_member<P: Pace>(
     seat.show_invariant();
     let guess = lookahead.next(words, seat, time);
     seat.show_invariant();
-    let trace = cell.enter_alone(words, seat, &guess);
+    let Ok(placement) = cell.enter(words, seat, &Start::hinted(guess), EntryState::Unlinked) else {
+        unreachable!()
+    };
     decide_member(words, seat, time, &deed_of(key, &value));
     seat.show_invariant();
-    leave_hints(words, seat, time, &trace);
+    leave_hints(words, seat, time, &placement.trace);
     seat.show_invariant();
 }
 

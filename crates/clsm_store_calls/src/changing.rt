@@ -14,6 +14,8 @@ ghost use Rattle.clsm_words.specs.Plays.{IsSeatOf};
 ghost use Rattle.clsm_store_calls.specs.Resting.{FindsFull, RestsAt, Still, seat_of};
 ghost use Rattle.clsm_store_calls.specs.Seats.{GivesUpForWrites};
 ghost use Rattle.clsm_store_calls.specs.Tally.{HasRead, tally_of};
+ghost use Rattle.clsm_search.specs.Seeking.{MayLeaveHints};
+ghost use Rattle.clsm_memtable.specs.Inserting.{Enters, MayEnter};
 ghost use Rattle.clsm_memtable.specs.Settled.{MaySettleBelow};
 ghost use Rattle.clsm_memtable.specs.Writing.{IsUnnoted};
 ghost use Rattle.clsm_store_calls.specs.Changing.{TriesChange, ChangesAt, Does, DrawsAtLast, EndsDraw, EndsFull, GivesInTry, GivesLater, GivesUpFor};
@@ -28,12 +30,13 @@ use crate::site::Site;
 use clsm_law::{End, Word};
 use clsm_lock::{lock_shared, unlock_shared};
 use clsm_memtable::{
-    Decided, DrawError, DrawnCell, decide, draw, fill, give_up, prefetch, settle_below,
+    Decided, DrawError, DrawnCell, EntryState, Start, decide, draw, fill, give_up, prefetch,
+    settle_below,
 };
 use clsm_model::{Change, Deed, Key, Time, Value};
 use clsm_pins::{pin, unpin};
 use clsm_scan::ReadPoint;
-use clsm_search::{Span, is_written_in, newest};
+use clsm_search::{Guess, Span, Trace, is_written_in, newest};
 use clsm_words::{Pace, RawSeat, Words};
 use std::sync::Wait;
 
@@ -157,6 +160,24 @@ impl Modified {
 }
 
 impl<'a, P: Pace, R: Wait> Site<'a, P, R> {
+    /// Enters the drawn cell, and tries until that is done, as long as it takes.
+    fn enter_at_last(&self, seat: &mut RawSeat, cell: DrawnCell, guess: &Guess) -> Trace
+        requires { MayEnter self.now.words.now seat.old cell.time cell.key }
+        ensures of { IsSeatOf self.now.words.now seat.new }
+        ensures entered { Enters seat.old.knows seat.new.knows }
+        ensures hints { MayLeaveHints seat.new.knows result }
+    {
+        let start = Start::hinted(*guess);
+        let mut state = EntryState::Unlinked;
+        for _ in self.rt.forever() {
+            match cell.enter(self.words, seat, &start, state) {
+                Ok(placement) => return placement.trace,
+                Err(after) => state = after,
+            }
+        }
+        unreachable!()
+    }
+
     /// Fills the drawn cell, enters it and decides it.
     fn write_drawn(&self, seat: &mut RawSeat, time: Time, modified: &Modified) -> Decided
         requires of { IsSeatOf self.now.words.now seat.old }
@@ -172,7 +193,7 @@ impl<'a, P: Pace, R: Wait> Site<'a, P, R> {
         let guess = prefetch(words, seat, time, key);
         seat.show_invariant();
         fill(words, seat, time, key, modified.value.as_ref());
-        let trace = DrawnCell { time, key }.enter(self.rt, words, seat, &guess);
+        let trace = self.enter_at_last(seat, DrawnCell { time, key }, &guess);
         decide(words, seat, time, &deed_of(key, &modified.read), &trace)
     }
 

@@ -8,7 +8,7 @@ ghost use Rattle.clsm_words.specs.Plays.{IsSeatOf};
 ghost use Rattle.clsm_store_calls.specs.Changing.{ChangesAt, Does, HasDrawnNow, IsPinnedInHold, IsWrittenFrom, ReadsNow, StaysPinned, deed_by};
 ghost use Rattle.clsm_store_calls.specs.Resting.{Records, RestsAt};
 ghost use Rattle.clsm_store_calls.specs.Tally.{tally_of};
-ghost use Rattle.clsm_store_calls.specs.Trying.{Fails};
+ghost use Rattle.clsm_store_calls.specs.Writing.{Fails};
 ghost use Rattle.clsm_store_calls.specs.TryingChange.{CountsChange, CountsChangeInHold, EndsRefused, EndsTime, IsWrittenSince, LosesDrawn, WritesChange};
 ghost use Rattle.clsm_store_calls.specs.TryingChange.{pin_after};
 
@@ -16,7 +16,9 @@ use crate::changing::{Modification, Modified, ask, deed_of, is_keep, latest, rea
 use crate::got::Rmw;
 use crate::refusal::TryPutError;
 use clsm_lock::{try_lock_shared, unlock_shared};
-use clsm_memtable::{Decided, DrawError, DrawnCell, decide, draw, fill, give_up, prefetch};
+use clsm_memtable::{
+    Decided, DrawError, DrawnCell, EntryState, Start, decide, draw, fill, give_up, prefetch,
+};
 use clsm_model::{Change, Time, Value};
 use clsm_pins::{pin, unpin};
 use clsm_words::{Pace, RawSeat, Words};
@@ -47,11 +49,17 @@ fn try_write_drawn<P: Pace>(
     seat.show_invariant();
     fill(words, seat, time, key, modified.value.as_ref());
     let cell = DrawnCell { time, key };
-    let Ok(trace) = cell.try_enter(words, seat, &guess) else {
+    let Ok(placement) = cell.enter(words, seat, &Start::hinted(guess), EntryState::Unlinked) else {
         give_up(words, seat, time);
         return Err(TryPutError::Raced);
     };
-    match decide(words, seat, time, &deed_of(key, &modified.read), &trace) {
+    match decide(
+        words,
+        seat,
+        time,
+        &deed_of(key, &modified.read),
+        &placement.trace,
+    ) {
         Decided::Done => Ok(()),
         Decided::Overtaken => Err(TryPutError::Overtaken),
     }

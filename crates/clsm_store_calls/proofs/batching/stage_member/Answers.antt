@@ -17,7 +17,7 @@ returns-clause-staged g c =
     let hints = looks_out e f c.show_invariant-3.ensures c.show_invariant-4.ensures c.leave_hints.ensures.looks.looks in
     let deed = c.deed_of.ensures ∙ ap (deed_of m.0) c.value_set-value.ensures in
     let is : member_of c.deed_of.result ≡ m ∷ [] = ap member_of deed ∙ one_member m c.requires.writes in
-    staged_one c.args.seat.now.knows b k c.enter_alone-trace.new.seat.knows e f c.args.turn.now.time m.0 _ c.deed_of.result m
+    staged_one c.args.seat.now.knows b k c.enter.new.seat.knows e f c.args.turn.now.time m.0 _ c.deed_of.result m
     c.stage.ensures.staged looks (ap (λ (v : View). v.raced) c.next-guess.ensures.looks.reads.view)
-    c.enter_alone-trace.ensures.entered c.enter_alone-trace.ensures.uncounted c.decide_member.ensures.decided
+    c.in-Ok.ensures.entered c.in-Ok.ensures.uncounted c.decide_member.ensures.decided
     hints (ap (λ (v : View). v.raced) c.leave_hints.ensures.looks.looks.reads.view) is

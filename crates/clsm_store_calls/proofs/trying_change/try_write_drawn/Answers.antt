@@ -4,7 +4,7 @@ use Rattle.clsm_store_calls.proofs.trying_change.try_write_drawn.Goals as goal
 
 pub decide-requires-clause-opens : goal.decide-requires-clause-opens
 decide-requires-clause-opens g c = (
-  c.try_enter.ensures.of,
+  c.enter.ensures.of,
   opens_decide c.args.modified.now c.deed_of.ensures c.show_invariant.ensures
       c.show_invariant-2.ensures c.prefetch-guess.ensures.looks c.fill.ensures.filled c.in-Ok.ensures.entered (search rules) c.requires.drawn.drawn
       c.requires.writes c.requires.read,

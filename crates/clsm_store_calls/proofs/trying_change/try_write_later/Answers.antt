@@ -1,7 +1,7 @@
 use Rattle.std.proofs.Common.{List, arith, refl, rules, subst, sym}
 use Rattle.clsm_model.specs.declared.slot.Slot.{Slot}
 use Rattle.clsm_store_calls.specs.Changing.{IsWrittenFrom}
-use Rattle.clsm_store_calls.specs.Trying.{Fails}
+use Rattle.clsm_store_calls.specs.Writing.{Fails}
 use Rattle.clsm_store_calls.proofs.Attempts.{wrote_later}
 use Rattle.clsm_store_calls.proofs.Rest.{still_drawn, still_reads, still_trans}
 use Rattle.clsm_store_calls.proofs.TriedChange.{drawn_read, lost_fails, outdated}
