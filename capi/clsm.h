@@ -1,5 +1,6 @@
 /* Cupolanettle: an ordered map in memory for many threads, from 64-bit keys to values of one to
- * eight 64-bit words. Reads take no lock and never wait. A thread of the store merges old versions.
+ * eight 64-bit words. No read waits for a write or a merge. A thread of the store merges old
+ * versions.
  *
  *     clsm_store *store;
  *     clsm_caller *caller;
@@ -58,7 +59,7 @@ enum clsm_code {
     CLSM_FULL = 8,       /* the epoch has no room for this write: a merge must begin first */
     CLSM_BUSY = 9,       /* another thread entered or held the lock of writers just then */
     CLSM_RACED = 10,     /* another write was faster */
-    CLSM_OVERTAKEN = 11, /* a reader did not wait for this write, and cancelled it */
+    CLSM_OVERTAKEN = 11, /* a reader found it unfinished for too long, and cancelled it */
     CLSM_PINNED = 12,    /* a read that is running still holds what a merge replaced */
 
     CLSM_MEMORY = 16,    /* memory ran out */
@@ -121,17 +122,16 @@ typedef struct {
 
 #define CLSM_MERGE_IN_CALLS 1
 
-/* How to open a store. 0 is a good choice for each field; all of them 0 make a store of 37 MiB: 176
- * bytes for each of the keys and versions, 544 for each write of an epoch, and 64 KiB. */
+/* How to open a store. 0 is a good choice for each field; all of them 0 make a store of 37 MiB.
+ * docs/C.md, "Options and sizes", has the ranges, what they cost, and how to choose. */
 typedef struct {
-    size_t keys;  /* most keys with a value: 1 to 4,194,304 - versions; 0: 100,000 */
-    size_t epoch; /* most writes between two merges: 4 to 65,536; 0: a sixteenth of the keys, but at
-                     least 4,096 */
-    int patience; /* how often a read looks again at an unfinished write before it cancels
-                     that: 1 to 64; 0: 64; -1: never */
+    size_t keys;  /* most keys with a value; 0: 100,000 */
+    size_t epoch; /* most writes between two merges; 0: by the number of keys */
+    int patience; /* how often a read looks again at an unfinished write before it cancels that; 0:
+                     64 times, which is the most; -1: not at all */
     int merge;    /* 0: a thread of the store merges; CLSM_MERGE_IN_CALLS: writes do */
-    size_t versions; /* room for old versions that open snapshots keep, beside keys: from 6 * epoch
-                        + 64 on; 0: as many as keys, but not over 100,000 if that is enough */
+    size_t versions; /* room for old versions that open snapshots keep, beside keys; 0: by the
+                        number of keys */
     int64_t wait; /* for how many milliseconds a write waits for a snapshot to be closed that keeps
                      it from finding room; 0: 1,000; -1: not at all */
     uint64_t zero[2]; /* 0: later options */
@@ -145,15 +145,18 @@ typedef struct {
                                          and for how many nanoseconds it is open, or 0 */
     uint64_t clock;                   /* the time of the next write; while all seats are in use, as
                                          it was found last */
-    uint64_t epoch_writes;            /* writes of the current epoch */
+    uint64_t epoch_writes;            /* writes of the current epoch, by that clock */
     uint64_t level_zero, level_one;   /* entries of the runs, keys and old versions, before the last
                                          merge */
-    uint64_t room_for_keys;           /* so many more keys, at least, may have a value */
+    uint64_t room_for_keys;           /* so many more keys than level one has entries may have a
+                                         value */
     uint64_t room_for_versions;       /* so many more entries fit into level one */
     uint64_t merges;                  /* that were made */
     uint64_t last_merge, longest_merge;        /* how many nanoseconds they took */
-    uint64_t waits, longest_wait;              /* how often writes waited for room, and how long */
-    uint64_t run_full, versions_full, no_seat; /* how often calls were refused with these codes */
+    uint64_t waits, longest_wait;              /* how often writes waited for room, and how long at
+                                                  most */
+    uint64_t run_full, versions_full, no_seat; /* how often writes, and opens of handles, were
+                                                  refused so: OWN_SNAPSHOT is VERSIONS_FULL here */
 } clsm_statistics;
 
 /* ---- Stores */
@@ -251,7 +254,7 @@ int clsm_remove(clsm_caller *caller, uint64_t key);
 /* As clsm_put and clsm_remove, but they are made once and never wait: also FULL, BUSY, RACED,
  * OVERTAKEN, and VERSIONS_FULL at once. FULL has called the store's thread, if it has one: the
  * epoch before may still be merged. VERSIONS_FULL and WORN have called it too: the last merge came
- * to that. Without a thread, they wait for clsm_sweep. */
+ * to that. Without a thread, nothing merges until a write that waits does, or clsm_sweep. */
 int clsm_try_put(clsm_caller *caller, uint64_t key, const uint64_t *words, size_t count);
 int clsm_try_remove(clsm_caller *caller, uint64_t key);
 
@@ -293,8 +296,12 @@ int clsm_replace(clsm_caller *caller, uint64_t key, const clsm_value *expected_o
 
 /* ---- Reads
  *
- * Reads never wait. Each reads the map as it is at one moment. A range has all keys from first to
- * last, both included, and none if first > last. */
+ * A read gives the map as it is at one moment. It blocks for no write and no merge: where it finds
+ * a write that has begun and not ended, it looks again, as often as the option patience says, and
+ * then cancels that write, which is made again. So a get is wait-free, and so is a read of many
+ * rows but for two things: malloc may lock, where it takes memory, and clsm_count and a page of
+ * more than 512 rows may take a mutex for a moment. A range has all keys from first to last, both
+ * included, and none if first > last. */
 
 /* The value of the key. OK; NOT_FOUND, with length 0. BAD_POINTER. */
 int clsm_get(clsm_caller *caller, uint64_t key, clsm_value *value_or_null);
@@ -305,10 +312,10 @@ int clsm_count(clsm_caller *caller, uint64_t first, uint64_t last, uint64_t *key
 
 /* The first rows of the range by rising key, as many as there is room for. If end->more, the next
  * page begins at end->next: it is another read, so take a snapshot or a scan for pages of one map.
- * Takes memory for the rows while it runs, and for 512 at most; if there is room for more, it is a
- * snapshot meanwhile. The pointer to the rows may be null if room is 0.
+ * Takes no memory. If there is room for more than 512 rows, it is a snapshot while it runs. Rows
+ * behind those of the page stay as they are. The pointer to the rows may be null if room is 0.
  *
- * OK. MEMORY, BAD_POINTER: end is as before, and rows means nothing. */
+ * OK. BAD_POINTER: end and rows are as before. */
 int clsm_page(clsm_caller *caller, uint64_t first, uint64_t last, clsm_row *rows, size_t room,
               clsm_page_end *end);
 
@@ -358,7 +365,7 @@ int clsm_snapshot_page(clsm_snapshot *snapshot, uint64_t first, uint64_t last, c
  * OK. NO_SEAT, MEMORY, BAD_POINTER: *scan is null then. */
 int clsm_scan_open(clsm_caller *caller, uint64_t first, uint64_t last, clsm_scan **scan);
 
-/* The next row, by rising key. OK; DONE, and so again. MEMORY, BAD_POINTER: it is next still. */
+/* The next row, by rising key. OK; DONE, and so again. BAD_POINTER: it is next still. */
 int clsm_scan_next(clsm_scan *scan, clsm_row *row);
 
 /* Closes a scan, wherever it is. Null is allowed. */
@@ -377,7 +384,7 @@ void clsm_scan_close(clsm_scan *scan);
  * OK. MEMORY, BAD_POINTER: *walk is null then. */
 int clsm_walk_open(clsm_caller *caller, uint64_t first, uint64_t last, clsm_walk **walk);
 
-/* The next row, by rising key. OK; DONE, and so again. MEMORY, BAD_POINTER: it is next still. */
+/* The next row, by rising key. OK; DONE, and so again. BAD_POINTER: it is next still. */
 int clsm_walk_next(clsm_walk *walk, clsm_row *row);
 
 /* Ends a walk, wherever it is. Null is allowed. */

@@ -8,12 +8,14 @@ bytes, an input with no end, and what differs from one run to the next.
 import contextlib
 import os
 import pathlib
+import re
 import subprocess
 import sys
 import unittest
 from typing import NamedTuple
 
-BUILT = pathlib.Path(__file__).resolve().parent.parent / "crates" / "clsm_driver" / "out"
+ROOT = pathlib.Path(__file__).resolve().parent.parent
+BUILT = ROOT / "crates" / "clsm_driver" / "out"
 PROGRAMS = [BUILT / "clsm_driver", BUILT / "clsm_driver.by-rattle"]
 MOST_SECONDS = 600
 
@@ -106,9 +108,9 @@ class Tests(unittest.TestCase):
         plain = ["run", "--threads", "2", "--ops", "100"]
         shown = ["--stats", "--progress"]
         for more, parts in [
-            (["--batch"], [b"\nput answered ", b"\nbatch answered ", b"\nrefused full 0\nmerges "]),
+            (["--batch"], [b"\nput answered ", b"\nbatch answered ", b"\nrefused full 0\n", b"\nmerges "]),
             # Writes find the epoch full again and again.
-            (["--wait", "--cells", "4"], [b"\nrefused full 0\nmilliseconds "]),
+            (["--wait", "--cells", "4"], [b"\nrefused full 0\n", b"\ncallers 2\n", b"\nmilliseconds "]),
         ]:
             for program in PROGRAMS:
                 with self.subTest(program=program.name, more=more):
@@ -117,6 +119,25 @@ class Tests(unittest.TestCase):
                     self.assertTrue(played.faults.startswith(b"\rcalls "), played.faults)
                     for part in parts:
                         self.assertIn(part, played.faults)
+
+    def test_figures_have_the_names_of_the_library(self) -> None:
+        members = (ROOT / "capi" / "clsm.h").read_text().split("} clsm_statistics;")[0].rsplit("typedef struct {")[-1]
+        names = re.findall(r"\b([a-z_]+)[,;]", re.sub(r"/\*.*?\*/", "", members, flags=re.DOTALL))
+        words = ["run", "--threads", "2", "--ops", "500", "--cells", "16", "--run", "1000", "--stats"]
+        for program in PROGRAMS:
+            with self.subTest(program=program.name):
+                lines = play(program, words).faults.decode()
+                figures = {name: int(value) for name, value in re.findall(r"^([a-z_]+) (\d+)$", lines, re.MULTILINE)}
+                self.assertEqual(list(figures), [name for name in names if name in figures])
+                self.assertEqual(figures["callers"], 2)
+                self.assertEqual(figures["clock"], 16 * figures["merges"] + figures["epoch_writes"])
+                self.assertEqual(figures["room_for_versions"], 1000 - figures["level_one"])
+                self.assertLessEqual(figures["level_zero"], 3 * 16)
+                self.assertLessEqual(figures["last_merge"], figures["longest_merge"])
+                self.assertEqual("oldest_time" in figures, figures["snapshots"] > 0)
+                lines = play(program, [*words, "--wait"]).faults.decode()
+                waiting = dict(re.findall(r"^([a-z_]+) (\d+)$", lines, re.MULTILINE))
+                self.assertEqual({*waiting} - {"oldest_time"}, {"callers", "snapshots"})
 
     def test_records_pass_the_audit_of_lines(self) -> None:
         for program in PROGRAMS:

@@ -118,7 +118,7 @@ enum {
 
 /* The core defines this name, which changes with this header: with a core of another
  * interface, a program does not link. */
-#define CLSM_CORE_INTERFACE clsm_core_interface_150b509f2bb1
+#define CLSM_CORE_INTERFACE clsm_core_interface_16905e9960f1
 extern const char CLSM_CORE_INTERFACE;
 
 /* The handle of a store: the callers and the merger that nobody has taken yet. */
@@ -261,7 +261,7 @@ void clsm_core_room(clsm_core_rooms *answer);
 void clsm_core_open(const clsm_core_sizes *ask, clsm_core_code *answer, clsm_core_store *store);
 
 /* Gives the handle of a store back. Its memory is given back with the last of its handles, callers
- * and the merger among them. */
+ * and the merger among them: this is tested, and not proved. */
 void clsm_core_close(clsm_core_store *store);
 
 /* Makes the handle of a caller: of the last seat of the store that is not taken. Answers
@@ -350,9 +350,9 @@ uint32_t clsm_core_count(clsm_core_caller *caller, const clsm_core_range *ask,
                          clsm_core_counted *answer);
 
 /* Fills rows by rising key: the first ones of the range that have a value, as many as there is room
- * for. It reads at the time that clsm_core_count would. Answers CLSM_CORE_OK, that time, the number
- * of rows, and where the next page begins, if there are more. Refused with CLSM_CORE_MEMORY: the
- * rows are as before. */
+ * for. The rows behind these stay as they are. It reads at the time that clsm_core_count would, and
+ * takes no memory. Answers CLSM_CORE_OK, that time, the number of rows filled, and where the next
+ * page begins, if there are more. */
 uint32_t clsm_core_page(clsm_core_caller *caller, const clsm_core_range *ask, clsm_core_row *rows,
                         size_t count, clsm_core_paged *answer);
 

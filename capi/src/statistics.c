@@ -42,6 +42,13 @@ static void count_handles(clsm_store *store, clsm_statistics *statistics) {
     }
 }
 
+/* Whether the oldest one that was found is older than the one of this time and age. */
+static bool has_older(const clsm_statistics *statistics, uint64_t time, uint64_t age) {
+    if (statistics->oldest_age == 0) return false;
+    if (statistics->oldest_time != time) return statistics->oldest_time < time;
+    return statistics->oldest_age >= age;
+}
+
 /* The oldest snapshot or scan that is open, if there is one. */
 static void find_oldest(clsm_store *store, clsm_statistics *statistics) {
     const uint64_t now = clsm_now();
@@ -49,13 +56,21 @@ static void find_oldest(clsm_store *store, clsm_statistics *statistics) {
         struct clsm_seat *seat = &store->handles[i].seat;
         const uint64_t view = atomic_load(&seat->view), since = atomic_load(&seat->since);
         if (view < CLSM_VIEWS || since > now) continue;
-        if (statistics->oldest_age > 0 && view - CLSM_VIEWS >= statistics->oldest_time) continue;
-        statistics->oldest_time = view - CLSM_VIEWS;
-        statistics->oldest_age = now - since + 1;
+        const uint64_t time = view - CLSM_VIEWS, age = now - since + 1;
+        if (has_older(statistics, time, age)) continue;
+        statistics->oldest_time = time;
+        statistics->oldest_age = age;
     }
 }
 
 static uint64_t less(uint64_t number, uint64_t by) { return number > by ? number - by : 0; }
+
+/* How many writes the current epoch has, by the clock: all that it takes, where it is full. It may
+ * be found before it is noted that the epoch before was frozen. */
+static uint64_t writes_of_epoch(clsm_store *store, uint64_t clock) {
+    const uint64_t writes = less(clock, atomic_load(&store->board.frozen) * store->cells);
+    return writes > store->cells ? writes - store->cells : writes;
+}
 
 int clsm_stats(clsm_store *store, clsm_statistics *statistics) {
     if (!store || !statistics) return CLSM_BAD_POINTER;
@@ -65,7 +80,7 @@ int clsm_stats(clsm_store *store, clsm_statistics *statistics) {
     find_oldest(store, statistics);
     clsm_raise(&counts->clock, clsm_read_clock(store));
     statistics->clock = atomic_load(&counts->clock);
-    statistics->epoch_writes = statistics->clock % store->cells;
+    statistics->epoch_writes = writes_of_epoch(store, statistics->clock);
     statistics->level_zero = atomic_load(&counts->level_zero);
     statistics->level_one = atomic_load(&counts->level_one);
     statistics->room_for_keys = less(store->keys, statistics->level_one);

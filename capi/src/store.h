@@ -119,14 +119,14 @@ struct clsm_board {
     _Atomic(int) refusal;       /* why the last merge came to nothing, or OK */
     _Atomic(uint64_t) held;     /* the view that was in its way, if that is why, or 0 */
     atomic_bool is_over;        /* the store is being closed */
-    /* Under the lock. */
+    /* Under the lock; clsm_stats reads the first without it. */
+    _Atomic(uint64_t) frozen; /* so many epochs were frozen: the number of the current one */
     pthread_mutex_t lock;
     pthread_cond_t room;  /* wakes those who wait for room: there is some, or it was refused */
     pthread_cond_t turn;  /* wakes those who wait for the merger */
     unsigned waiting;     /* so many wait for room */
     unsigned batches;     /* so many of them are batches that wait for the next freeze */
     unsigned let_in;      /* and so many of those were let in by one */
-    uint64_t frozen;      /* so many epochs were frozen: the number of the current one */
     uint64_t full;        /* the greatest end of an epoch that a write found full, or 0 */
     uint64_t calls;       /* how often writes called for room */
     uint64_t refused;     /* so many of these calls were refused or served */
@@ -332,7 +332,7 @@ bool clsm_has_view(struct clsm_seat *caller);
 /* Counts the keys of a range that have a value, at the snapshot of the seat, or else at one of its
  * own: the time of the last call is that of the snapshot then. */
 uint64_t clsm_count_keys(struct clsm_seat *seat, uint64_t first, uint64_t last);
-/* Reads a page, at the snapshot of the seat if it has one: OK, MEMORY, BAD_POINTER. */
+/* Reads a page, at the snapshot of the seat if it has one: OK, BAD_POINTER. */
 int clsm_read_page(struct clsm_seat *seat, uint64_t first, uint64_t last, clsm_row *rows,
                    size_t room, clsm_core_paged *answer, clsm_page_end *end);
 

@@ -48,49 +48,43 @@ static void close_handle(struct clsm_seat *seat, enum clsm_use use) {
  * A read of the core holds its pin throughout, and a merge that is done waits for that. So a long
  * one is made of short ones, all below one snapshot. */
 
-static int read_part(struct clsm_seat *seat, uint64_t first, uint64_t last, clsm_row *rows,
-                     size_t room, clsm_core_paged *answer) {
+static void read_part(struct clsm_seat *seat, uint64_t first, uint64_t last, clsm_row *rows,
+                      size_t room, clsm_core_paged *answer) {
     const clsm_core_range ask = {first, last};
-    return (int)clsm_core_page(&seat->core, &ask, (clsm_core_row *)(void *)rows, room, answer);
+    clsm_core_page(&seat->core, &ask, (clsm_core_row *)(void *)rows, room, answer);
 }
 
-/* Reads a page at the snapshot of the seat: OK, MEMORY. */
-static int read_parts(struct clsm_seat *seat, uint64_t first, uint64_t last, clsm_row *rows,
-                      size_t room, clsm_core_paged *answer) {
+/* Reads a page at the snapshot of the seat. */
+static void read_parts(struct clsm_seat *seat, uint64_t first, uint64_t last, clsm_row *rows,
+                       size_t room, clsm_core_paged *answer) {
     uint64_t count = 0;
-    for (;;) {
+    do {
         const size_t left = room - (size_t)count;
         const size_t part = left < CLSM_PART_ROWS ? left : CLSM_PART_ROWS;
-        int code = read_part(seat, first, last, rows + count, part, answer);
-        if (code != CLSM_OK) return code;
+        read_part(seat, first, last, rows + count, part, answer);
         count += answer->rows;
         first = answer->next;
-        answer->rows = count;
-        if (!answer->more || count == room) return CLSM_OK;
-    }
+    } while (answer->more && count < room);
+    answer->rows = count;
 }
 
 /* Reads a page at the snapshot of the seat, or, if it has none, at one of its own. */
-static int read_long(struct clsm_seat *seat, uint64_t first, uint64_t last, clsm_row *rows,
-                     size_t room, clsm_core_paged *answer) {
+static void read_long(struct clsm_seat *seat, uint64_t first, uint64_t last, clsm_row *rows,
+                      size_t room, clsm_core_paged *answer) {
     const bool has_view = atomic_load(&seat->view) > 0;
-    const uint64_t time = seat->time;
     if (!has_view) open_view(seat, seat->seen);
-    int code = read_parts(seat, first, last, rows, room, answer);
+    read_parts(seat, first, last, rows, room, answer);
     if (!has_view) close_view(seat);
-    if (code != CLSM_OK) seat->time = time;
-    return code;
 }
 
 int clsm_read_page(struct clsm_seat *seat, uint64_t first, uint64_t last, clsm_row *rows,
                    size_t room, clsm_core_paged *answer, clsm_page_end *end) {
     clsm_row none = {.key = 0};
     if (!end || (!rows && room > 0)) return CLSM_BAD_POINTER;
-    int code = room > CLSM_PART_ROWS
-                   ? read_long(seat, first, last, rows, room, answer)
-                   : read_part(seat, first, last, rows ? rows : &none, room, answer);
-    if (code == CLSM_OK) *end = (clsm_page_end){answer->rows, answer->next, answer->more};
-    return code;
+    if (room > CLSM_PART_ROWS) read_long(seat, first, last, rows, room, answer);
+    else read_part(seat, first, last, rows ? rows : &none, room, answer);
+    *end = (clsm_page_end){answer->rows, answer->next, answer->more};
+    return CLSM_OK;
 }
 
 /* Room for the rows of a scan, or a part of a count, or null. The seat keeps it. */
@@ -105,7 +99,7 @@ static uint64_t count_parts(struct clsm_seat *seat, uint64_t first, uint64_t las
     clsm_core_paged part = {.more = true, .next = first};
     uint64_t keys = 0;
     while (rows && part.more) {
-        if (read_part(seat, part.next, last, rows, CLSM_COUNT_ROWS, &part) != CLSM_OK) break;
+        read_part(seat, part.next, last, rows, CLSM_COUNT_ROWS, &part);
         keys += part.rows;
     }
     if (!part.more) return keys;
@@ -254,18 +248,15 @@ int clsm_scan_open(clsm_caller *caller, uint64_t first, uint64_t last, clsm_scan
 
 void clsm_scan_close(clsm_scan *scan) { close_handle((struct clsm_seat *)scan, CLSM_AS_SCAN); }
 
-/* Reads the next rows of the scan: OK; DONE if there is none; MEMORY. */
+/* Reads the next rows of the scan: OK; DONE if there is none. */
 static int read_on(struct clsm_seat *seat, struct clsm_place *place) {
     clsm_core_paged answer;
-    clsm_page_end end;
     if (!place->more) return CLSM_DONE;
-    int code =
-        clsm_read_page(seat, place->next, place->last, place->rows, CLSM_SCAN_ROWS, &answer, &end);
-    if (code != CLSM_OK) return code;
+    read_part(seat, place->next, place->last, place->rows, CLSM_SCAN_ROWS, &answer);
     place->at = 0;
-    place->count = (size_t)end.rows;
-    place->next = end.next;
-    place->more = end.more;
+    place->count = (size_t)answer.rows;
+    place->next = answer.next;
+    place->more = answer.more;
     return place->count > 0 ? CLSM_OK : CLSM_DONE;
 }
 

@@ -4,6 +4,7 @@
 #include "check.h"
 
 #include <pthread.h>
+#include <time.h>
 
 static const uint64_t WORD = 5;
 
@@ -234,6 +235,46 @@ static void tell(void) {
     closed(store, caller);
 }
 
+/* A full epoch has all its writes, until it is frozen. */
+static void tell_of_full_epoch(void) {
+    enum { EPOCH = 4 };
+    clsm_store *store =
+        opened((clsm_options){.keys = 100, .epoch = EPOCH, .merge = CLSM_MERGE_IN_CALLS});
+    clsm_caller *caller = caller_of(store);
+    clsm_statistics now;
+    for (uint64_t writes = 1; writes <= 3 * EPOCH; writes++) {
+        OK(clsm_put(caller, writes, &WORD, 1));
+        OK(clsm_stats(store, &now));
+        CHECK(now.epoch_writes == (writes - 1) % EPOCH + 1 && now.clock == writes);
+        CHECK(now.merges == (writes - 1) / EPOCH);
+    }
+    OK(clsm_sweep(store));
+    OK(clsm_stats(store, &now));
+    CHECK(now.epoch_writes == 0);
+    closed(store, caller);
+}
+
+/* Of snapshots of one time the oldest is the one that was opened first, whichever seats they have.
+ */
+static void tell_of_one_time(void) {
+    enum { NANOSECONDS = 1000000 };
+    clsm_store *store = opened((clsm_options){.keys = 100, .epoch = 4});
+    clsm_caller *caller = caller_of(store);
+    clsm_snapshot *first, *second, *third;
+    clsm_statistics now;
+    OK(clsm_snapshot_open(caller, &first));
+    OK(clsm_snapshot_open(caller, &second));
+    clsm_snapshot_close(first);
+    nanosleep(&(struct timespec){.tv_nsec = NANOSECONDS}, NULL);
+    OK(clsm_snapshot_open(caller, &third));
+    CHECK(clsm_snapshot_number(third) < clsm_snapshot_number(second));
+    OK(clsm_stats(store, &now));
+    CHECK(now.oldest_time == clsm_snapshot_time(third) && now.oldest_age >= NANOSECONDS);
+    clsm_snapshot_close(second);
+    clsm_snapshot_close(third);
+    closed(store, caller);
+}
+
 int main(void) {
     brim(1, 4, 0);
     brim(10, 4, CLSM_MERGE_IN_CALLS);
@@ -252,5 +293,7 @@ int main(void) {
     wait_for_close(0, INT64_MAX);
     wait_for_close(CLSM_MERGE_IN_CALLS, INT64_C(18446744073710));
     tell();
+    tell_of_full_epoch();
+    tell_of_one_time();
     return passed("full");
 }

@@ -96,34 +96,26 @@ static void read_pages(clsm_caller *caller, uint64_t keys) {
     clsm_row rows[100];
     clsm_page_end end;
     clsm_snapshot *snapshot;
-    rows[0].key = 77;
-    int code = clsm_page(caller, 0, UINT64_MAX, rows, 100, &end);
-    if (is_again(code)) {
-        CHECK(rows[0].key == 77);
-        code = clsm_page(caller, 0, UINT64_MAX, rows, 100, &end);
-    }
-    ANSWERS(CLSM_OK, code);
+    const long before = atomic_load(&requests);
+    OK(clsm_page(caller, 0, UINT64_MAX, rows, 100, &end));
+    CHECK(atomic_load(&requests) == before);
     CHECK(end.rows == 100 && end.more && end.next == 100);
     CHECK(counted(caller, 0) == keys);
     OK(clsm_snapshot_open(caller, &snapshot));
-    AGAIN(CLSM_OK, clsm_snapshot_page(snapshot, 50, UINT64_MAX, rows, 100, &end));
+    OK(clsm_snapshot_page(snapshot, 50, UINT64_MAX, rows, 100, &end));
     CHECK(end.rows == 100 && end.more && end.next == 150);
     clsm_snapshot_close(snapshot);
 }
 
-/* Pages that are read in parts, each of which takes memory. */
+/* Pages that are read in parts. */
 static void read_long_pages(clsm_caller *caller, uint64_t keys) {
     static clsm_row rows[1000];
-    clsm_page_end end = {.rows = 77};
+    clsm_page_end end;
     const uint64_t none = 0;
     OK(clsm_put(caller, none, &none, 1));
-    const uint64_t time = clsm_time(caller);
-    int code = clsm_page(caller, 0, UINT64_MAX, rows, 1000, &end);
-    if (is_again(code)) {
-        CHECK(end.rows == 77 && clsm_time(caller) == time);
-        code = clsm_page(caller, 0, UINT64_MAX, rows, 1000, &end);
-    }
-    ANSWERS(CLSM_OK, code);
+    const long before = atomic_load(&requests);
+    OK(clsm_page(caller, 0, UINT64_MAX, rows, 1000, &end));
+    CHECK(atomic_load(&requests) == before);
     CHECK(end.rows == keys && !end.more);
     for (uint64_t key = 0; key < keys; key++)
         CHECK(rows[key].key == key && rows[key].value.words[0] == key);
@@ -139,10 +131,10 @@ static void read_scan(clsm_caller *caller, uint64_t keys) {
     }
     ANSWERS(CLSM_OK, code);
     for (uint64_t key = 0; key < keys; key++) {
-        AGAIN(CLSM_OK, clsm_scan_next(scan, &row));
+        OK(clsm_scan_next(scan, &row));
         CHECK(row.key == key && row.value.words[0] == key);
     }
-    AGAIN(CLSM_DONE, clsm_scan_next(scan, &row));
+    ANSWERS(CLSM_DONE, clsm_scan_next(scan, &row));
     clsm_scan_close(scan);
 }
 

@@ -497,12 +497,9 @@ uint32_t clsm_core_page(clsm_core_caller *at, const clsm_core_range *ask, clsm_c
                         size_t count, clsm_core_paged *answer) {
     struct seat seat = seat_of(at);
     if (!seat.store) return CLSM_CORE_NO_HANDLE;
-    void *found = allocate(sizeof *rows);
-    if (!found) return CLSM_CORE_MEMORY;
     pthread_mutex_lock(&lock);
     fill(seat, ask, rows, count, answer);
     pthread_mutex_unlock(&lock);
-    free(found);
     return CLSM_CORE_OK;
 }
 

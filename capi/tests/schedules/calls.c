@@ -214,6 +214,7 @@ void look(void) {
     const clsm_statistics now = statistics();
     expect(now.callers + now.snapshots + now.scans <= CLSM_SEATS, "no more are open than seats");
     expect(now.clock >= before, "the clock does not run back");
+    expect(now.epoch_writes <= the_store->cells, "an epoch has no more writes than it takes");
     if (clock_seen < now.clock) clock_seen = now.clock;
 }
 

@@ -8,4 +8,3 @@ mod Lent
 mod LentOne
 mod Members
 mod Passed
-mod Rows

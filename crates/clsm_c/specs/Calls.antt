@@ -2,20 +2,18 @@
 -- of a caller does is said once, in `Promises.antt` of clsm_store: each contract here cites the
 -- promise of the caller's call, and says how C is told what came of that. A slot that is empty
 -- stays so, and its call answers `NO_HANDLE`.
-use Rattle.std.specs.Prelude.{◌≡◌, ℕ, ◌⊎◌, ◌<◌, ◌++◌, ◌∷◌, [], ⊤, true, false, List, Option, Some, None, Result, Ok, Err, drop, length, min, take}
+use Rattle.std.specs.Prelude.{◌≡◌, ℕ, ◌⊎◌, ◌<◌, ◌++◌, ◌∷◌, [], ⊤, true, false, List, Option, Some, None, Result, Ok, Err}
 use Rattle.clsm_model.specs.declared.config.Config.{Config}
 use Rattle.clsm_model.specs.declared.config.OpenError.{OpenError}
 use Rattle.clsm_model.specs.declared.config.OpenError.TheVariants.{Cells, Seats, Shards, Run, Memory, Patience}
-use Rattle.clsm_model.specs.declared.plain_map.Memory.{Memory as NoMemory}
 use Rattle.clsm_model.specs.declared.record.Deed.TheVariants.{Put}
 use Rattle.clsm_model.specs.declared.slot.Change.{Change}
 use Rattle.clsm_model.specs.declared.slot.Change.TheVariants.{Keep, Set, Remove as Removal}
 use Rattle.clsm_model.specs.Config.{IsSound}
-use Rattle.clsm_model.specs.Map.{Pair}
 use Rattle.clsm_model.specs.Right.{Member}
 use Rattle.clsm_store.specs.Changes.{Replaces}
 use Rattle.clsm_store.specs.Opening.{IsRefusal}
-use Rattle.clsm_store.specs.Promises.{GivesPage, TriesToChangeBy, TriesToWrite, TriesToWriteBatch}
+use Rattle.clsm_store.specs.Promises.{FillsPage, TriesToChangeBy, TriesToWrite, TriesToWriteBatch}
 use Rattle.clsm_store.specs.declared.freezing.TryFroze.{TryFroze}
 use Rattle.clsm_store.specs.declared.freezing.TryFroze.TheVariants.{Busy as FreezeBusy, Done as FreezeDone, Waited as FreezeWaited}
 use Rattle.clsm_store.specs.declared.phase.NotFrozen.{NotFrozen}
@@ -27,8 +25,8 @@ use Rattle.clsm_store.specs.declared.sweeping.TrySwept.{TrySwept}
 use Rattle.clsm_store.specs.declared.sweeping.TrySwept.TheVariants.{Busy as SweepBusy, Done as SweepDone, Waited as SweepWaited}
 use Rattle.clsm_store_calls.specs.Seats.{SeatState}
 use Rattle.clsm_store_calls.specs.declared.got.Counted.{Counted}
+use Rattle.clsm_store_calls.specs.declared.got.Filled.{Filled}
 use Rattle.clsm_store_calls.specs.declared.got.Got.{Got}
-use Rattle.clsm_store_calls.specs.declared.got.Page.{Page}
 use Rattle.clsm_store_calls.specs.declared.got.Rmw.{Rmw}
 use Rattle.clsm_store_calls.specs.declared.refusal.BatchError.TheVariants.{Full as NoRoom}
 use Rattle.clsm_store_calls.specs.declared.refusal.Open.{Open}
@@ -55,7 +53,7 @@ use Rattle.clsm_c.specs.declared.types.CoreRow.{CoreRow}
 use Rattle.clsm_c.specs.declared.types.CoreSizes.{CoreSizes}
 use Rattle.clsm_c.specs.declared.types.CoreTime.{CoreTime}
 use Rattle.clsm_c.specs.Opening.{AreHandles}
-use Rattle.clsm_c.specs.Values.{IsValue, TellsValue}
+use Rattle.clsm_c.specs.Values.{IsValue, TellsRow, TellsValue, row_pair}
 
 -- the call did this with the caller's seat, and the caller is there still; or there is none
 abbrev pub ByCaller : (SeatState → SeatState → Type 0) → Option SharedCaller → Option SharedCaller → ℕ → Type 0
@@ -182,33 +180,19 @@ TellsClosed answer code None = code ≡ NO_SNAPSHOT
 abbrev pub TellsCounted : CoreCounted → ℕ → Counted → Type 0
 TellsCounted answer code counted = (code ≡ OK) × (answer.time ≡ counted.time) × (answer.keys ≡ counted.keys)
 
--- each row is the pair at its place
-abbrev pub AreRows : List CoreRow → List Pair → Type 0
-AreRows [] [] = ⊤
-AreRows (row ∷ rows) (pair ∷ pairs) = (row.key ≡ pair.0) × TellsValue row.value (Some pair.1) × AreRows rows pairs
-AreRows _ _ = ⊥
-
--- as many rows as there is room for are the pairs, and the others are as before
-pub record Fills (before : List CoreRow) (found : List Pair) (after : List CoreRow) (count : ℕ) : Type 0 where
-  pub most : count ≡ min (length found) (length before)
-  pub rows : AreRows (take count after) (take count found)
-  pub rest : drop count after ≡ drop count before
-
 -- the answer tells where the next page begins
 abbrev pub IsNext : CorePaged → Option ℕ → Type 0
 IsNext answer None = answer.more ≡ false
 IsNext answer (Some key) = (answer.more ≡ true) × (answer.next ≡ key)
 
--- a page, with its time: the rows are filled; or memory ran out, and they are as before
-abbrev pub TellsPage : List CoreRow → List CoreRow → CorePaged → ℕ → Result Page NoMemory → Type 0
-TellsPage before after answer code (Ok page) =
-    (code ≡ OK) × (answer.time ≡ page.time) × Fills before page.rows after answer.rows × IsNext answer page.more
-TellsPage before after answer code (Err refusal) = (code ≡ MEMORY) × (after ≡ before)
+-- a page, with its time: how many rows are filled, and where the next page begins
+abbrev pub TellsPage : CorePaged → ℕ → Filled → Type 0
+TellsPage answer code filled = (code ≡ OK) × (answer.time ≡ filled.time) × (answer.rows ≡ filled.rows) × IsNext answer filled.more
 
--- page, of as many rows as there is room for; where there is no caller, they are as before
+-- page_into the rows; where there is no caller, they are as before
 abbrev pub Pages : Option SharedCaller → CoreRange → List CoreRow → Option SharedCaller → List CoreRow → CorePaged → ℕ → Type 0
 Pages (Some old) ask before (Some new) after answer code =
-    Told (GivesPage old.seat new.seat ask.first ask.last (length before)) (TellsPage before after answer code)
+    Told (FillsPage row_pair TellsRow old.seat new.seat ask.first ask.last before after) (TellsPage answer code)
 Pages None ask before None after answer code = (code ≡ NO_HANDLE) × (after ≡ before)
 Pages _ ask before _ after answer code = ⊥
 

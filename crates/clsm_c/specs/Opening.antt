@@ -1,9 +1,9 @@
 -- What handles of a new store are.
-use Rattle.std.specs.Prelude.{◌≡◌, List, Option, Some, None, map}
+use Rattle.std.specs.Prelude.{Option, Some, None, map}
 use Rattle.clsm_model.specs.declared.config.Config.{Config}
 use Rattle.clsm_store_calls.specs.Seats.{AreNew, HasSizes, IsNewMerger, StoreId}
 use Rattle.clsm_store.specs.declared.phase.Phase.{Phase}
-use Rattle.clsm_store.specs.declared.phase.Phase.TheVariants.{Clean, Frozen, Retired}
+use Rattle.clsm_store.specs.declared.phase.Phase.TheVariants.{Clean}
 use Rattle.clsm_c.specs.declared.shared.SharedMerger.{SharedMerger}
 use Rattle.clsm_c.specs.declared.opening.Handles.{Handles}
 

@@ -6,7 +6,7 @@ ghost use Rattle.clsm_store.specs.Freezing.{TryFreezes};
 ghost use Rattle.clsm_store.specs.Phase.{CountsIfFrozen};
 ghost use Rattle.clsm_store.specs.Promises.{ClosesSnapshot, CountsRange, Gets, GetsAtIfOpen, OpensSnapshot, TriesToChangeBy, TriesToWrite};
 ghost use Rattle.clsm_store.specs.Sweeping.{TrySweeps};
-ghost use Rattle.clsm_c.specs.Calls.{AreMembers, BatchesRows, ByCaller, ByMerger, Fills, HasLong, IsMember, IsNext, LooksAtPhase, Opens, Pages};
+ghost use Rattle.clsm_c.specs.Calls.{AreMembers, BatchesRows, ByCaller, ByMerger, HasLong, IsMember, IsNext, LooksAtPhase, Opens, Pages};
 ghost use Rattle.clsm_c.specs.Calls.{PutsRow, ReplacesValue, TakesCaller, TakesMerger, TellsBatch, TellsChange, TellsClosed, TellsCounted};
 ghost use Rattle.clsm_c.specs.Calls.{TellsEntries, TellsFreeze, TellsGot, TellsGotAt, TellsOpened, TellsRefused, TellsSweep, TellsTry, Told};
 ghost use Rattle.clsm_c.specs.Calls.{kept_code, refusal_code, value_after};
@@ -412,21 +412,6 @@ pub(crate) fn count(slot: &mut CallerSlot, ask: &CoreRange, answer: &mut CoreCou
     OK
 }
 
-/// Fills as many rows as there are, or as there is room for, and answers how many.
-fn fill(rows: &mut [CoreRow], found: &[(u64, Value)]) -> u64
-    ensures { Fills rows.old found.now rows.new result }
-{
-    let count = found.len().min(rows.len());
-    for at in 0..count {
-        let pair = found[at];
-        rows[at] = CoreRow {
-            key: pair.0,
-            value: to_core(&Some(pair.1)),
-        };
-    }
-    count as u64
-}
-
 /// Tells where the next page begins, if there is one.
 fn tell_next(more: Option<u64>, answer: &mut CorePaged)
     ensures next { IsNext answer.new more }
@@ -448,19 +433,12 @@ pub(crate) fn page(
     let Some(caller) = &mut slot.caller else {
         return NO_HANDLE;
     };
-    let Ok(found) = caller.store.page(
-        caller.alloc,
-        &mut caller.seat,
-        ask.first,
-        ask.last,
-        rows.len(),
-    )
-    else {
-        return MEMORY;
-    };
-    answer.time = found.time;
-    answer.rows = fill(rows, found.rows.as_slice());
-    tell_next(found.more, answer);
+    let filled = caller
+        .store
+        .page_into(&mut caller.seat, ask.first, ask.last, rows);
+    answer.time = filled.time;
+    answer.rows = filled.rows as u64;
+    tell_next(filled.more, answer);
     OK
 }
 

@@ -73,7 +73,7 @@ pub unsafe extern "C" fn clsm_core_open(
 }
 
 /// Gives the handle of a store back. Its memory is given back with the last of its handles, callers
-/// and the merger among them.
+/// and the merger among them: this is tested, and not proved.
 #[unsafe(no_mangle)]
 pub unsafe extern "C" fn clsm_core_close(store: *mut u8)
     ghost old: { StoreSlot }
@@ -300,9 +300,9 @@ pub unsafe extern "C" fn clsm_core_count(
 }
 
 /// Fills rows by rising key: the first ones of the range that have a value, as many as there is
-/// room for. It reads at the time that `clsm_core_count` would. Answers `OK`, that time, the number
-/// of rows, and where the next page begins, if there are more. Refused with `MEMORY`: the rows are
-/// as before.
+/// room for. The rows behind these stay as they are. It reads at the time that `clsm_core_count`
+/// would, and takes no memory. Answers `OK`, that time, the number of rows filled, and where the
+/// next page begins, if there are more.
 #[unsafe(no_mangle)]
 pub unsafe extern "C" fn clsm_core_page(
     caller: *mut u8,

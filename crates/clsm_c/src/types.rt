@@ -1,9 +1,9 @@
 //! What crosses: plain structs, which `capi/core/clsm_core.h` declares, as `clsm_core_value` for
 //! `CoreValue`.
 ghost use Rattle.std.specs.Prelude.{◌≡◌, ◌⊎◌, ◌<◌, IfNone, IfOk, IfSome, OnErr, Some};
-ghost use Rattle.clsm_c.specs.Values.{IsValue, TellsValue};
+ghost use Rattle.clsm_c.specs.Values.{IsValue, TellsRow, TellsValue, row_pair, row_told};
 
-use clsm_store::Value;
+use clsm_store::{Row, Sink, Value};
 
 /// A value: the first `length` of the words, of which there are one to eight; or no value, where
 /// that is 0. In an answer the words behind the length are 0.
@@ -154,11 +154,37 @@ pub struct CorePaged {
     pub more: bool,
 }
 
+/// A page fills the row in its place, which is C's.
+impl Sink for CoreRow {
+    type Reply = ();
+
+    ghost takes = { λ before row reply after. (after.key ≡ row.0) × TellsValue after.value (Some row.1) };
+
+    ghost is_ready = { λ row. Unit {0} };
+
+    #[inline(always)]
+    fn take(&mut self, key: u64, value: Value) {
+        self.key = key;
+        self.value = to_core(&Some(value));
+    }
+}
+
+impl Row for CoreRow {
+    ghost pair = { row_pair };
+
+    ghost is_row = { TellsRow };
+
+    ghost always_ready = { λ row. tt };
+
+    ghost is_taken = { λ before after pair reply taken. row_told after pair taken.0 taken.1 };
+}
+
 /// A value that C passed has more than eight words.
 #[derive(Clone, Copy)]
 pub(crate) struct TooLong;
 
 /// The value as C has it.
+#[inline(always)]
 pub(crate) fn to_core(value: &Option<Value>) -> CoreValue
     ensures { TellsValue result value.now }
 {

@@ -116,7 +116,7 @@ pub(crate) const BATCH: &str = "Draw batches of two writes, too: one call in six
 pub(crate) const WAIT: &str = "Let a write wait for room, in place of refusing it";
 
 pub(crate) const STATS: &str =
-    "Print rates and times of the calls to the standard error, at the end";
+    "Print rates, times and figures of the store to the standard error, at the end";
 
 pub(crate) const RUN_PROGRESS: &str = "Show on the standard error how far the run has come";
 

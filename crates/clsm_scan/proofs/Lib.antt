@@ -1,6 +1,7 @@
 pub mod ReadOn
 pub mod Rows
 pub mod Counts
+pub mod Filled
 pub mod ComponentCursors
 pub mod EpochCursors
 pub mod Places

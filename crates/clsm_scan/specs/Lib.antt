@@ -1,4 +1,5 @@
 pub mod Heads
+pub mod Filling
 pub mod Collected
 pub mod Optional
 pub mod Walking

@@ -1,31 +1,20 @@
-//! The rows of a range of keys, by a cursor.
-ghost use Rattle.std.specs.Prelude.{◌≡◌, ◌+◌, IfOk, IfSome};
+//! The rows of a range of keys, by a cursor, one behind the other.
+ghost use Rattle.std.specs.Prelude.{◌≡◌, ◌+◌, [], IfOk, IfSome};
 ghost use Rattle.clsm_words.specs.Keeping.{LooksAside};
 ghost use Rattle.clsm_words.specs.Plays.{IsSeatOf};
-ghost use Rattle.clsm_scan.specs.Collected.{IsCollected, IsNextKey, is_full, left_at};
+ghost use Rattle.clsm_scan.specs.Collected.{IsCollected, IsNextKey, left_at};
 ghost use Rattle.clsm_scan.specs.Reading.{HasReadTo, MayReadFrom};
 
+use crate::collector::Collector;
 use crate::cursor::Cursor;
-use clsm_model::{Key, Memory, Value};
+use clsm_model::Key;
 use clsm_words::{Pace, RawSeat, Words};
-use std::alloc::Global;
 
-/// The most rows for which a scan takes memory at first.
-const FEW: usize = 16;
-
-/// The keys from `lo` to `hi`, and how many pairs of them at most, where that is given.
+/// The keys from `lo` to `hi`.
 #[derive(Clone, Copy)]
-pub struct KeyRange {
+pub struct Bounds {
     pub lo: Key,
     pub hi: Key,
-    pub max: Option<usize>,
-}
-
-/// Rows by rising key, and the key of the next one, if the rows were stopped before it.
-#[derive(Drop)]
-pub struct Collected {
-    pub rows: Vec<(u64, Value)>,
-    pub more: Option<u64>,
 }
 
 /// The next key from `from` to `hi` that has a value, if there is one: the cursor has read it, but
@@ -63,47 +52,37 @@ pub(crate) fn next_key<C: Cursor, P: Pace>(
     None
 }
 
-/// The rows for which memory is taken at once: as many as may come, or a few.
-fn first_room(max: Option<usize>) -> usize {
-    max.unwrap_or(FEW).min(FEW)
-}
-
-/// Whether there are as many rows as there may be.
-fn is_full(max: Option<usize>, count: usize) -> bool
-    ensures { result ≡ is_full max count }
-{
-    match max {
-        Some(max) => max <= count,
-        None => false,
-    }
-}
-
-/// The rows of all keys of the range, by rising key: no more than it gives. Refused if memory runs
-/// out.
-pub fn collect<C: Cursor, P: Pace>(
+/// Collects the rows of the keys within the bounds, by rising key: all of them, and answers `None`,
+/// or as many as there may be, and answers the key of the next one. Refused as the collector
+/// refuses a row.
+pub fn collect<C: Cursor, P: Pace, R: Collector>(
     words: &Words<P>,
     seat: &mut RawSeat,
-    alloc: Global,
     cursor: &mut C,
-    range: KeyRange,
-) -> Result<Collected, Memory>
-    requires stands { MayReadFrom C.is_over C.stands words.now seat.old cursor.old range.lo }
+    bounds: Bounds,
+    rows: &mut R,
+) -> Result<Option<u64>, R::Refusal>
+    requires stands { MayReadFrom C.is_over C.stands words.now seat.old cursor.old bounds.lo }
+    requires ready { R.is_ready rows.old }
+    requires none { R.rows rows.old ≡ [] }
     ensures of { IsSeatOf words.now seat.new }
     ensures looks { LooksAside seat.old.knows seat.new.knows }
-    ensures rows { IfOk result (λ all. IsCollected (left_at (C.found seat.old.knows cursor.old)) range.lo range.hi range.max all.rows.items all.more) }
+    ensures ready { R.is_ready rows.new }
+    ensures most { R.most rows.new ≡ R.most rows.old }
+    ensures goes_on { R.goes_on rows.old rows.new }
+    ensures rows { IfOk result (λ more. IsCollected (left_at (C.found seat.old.knows cursor.old)) bounds.lo bounds.hi
+        (R.most rows.old) (R.rows rows.new) more) }
 {
-    let mut rows = Vec::with_capacity(alloc, first_room(range.max))?;
-    let mut from = range.lo;
-    while let Some(key) = next_key(words, seat, cursor, from, range.hi) {
-        if is_full(range.max, rows.len()) {
-            let more = Some(key);
-            return Ok(Collected { rows, more });
+    let mut from = bounds.lo;
+    while let Some(key) = next_key(words, seat, cursor, from, bounds.hi) {
+        if rows.is_full() {
+            return Ok(Some(key));
         }
-        cursor.give(words, seat, &mut rows)?;
+        rows.collect(words, seat, cursor)?;
         let Some(behind) = key.checked_add(1) else {
-            return Ok(Collected { rows, more: None });
+            return Ok(None);
         };
         from = behind;
     }
-    Ok(Collected { rows, more: None })
+    Ok(None)
 }

@@ -4,9 +4,11 @@
 
 mod any_walk;
 mod collecting;
+mod collector;
 mod cursor;
 mod epoch_cursor;
 mod merged;
+mod row;
 mod run_cursor;
 mod scanning;
 mod sink;
@@ -15,13 +17,15 @@ mod visiting;
 mod walk;
 
 pub use any_walk::AnyWalk;
-pub use collecting::{Collected, KeyRange, collect};
+pub use collecting::{Bounds, collect};
+pub use collector::{Collector, Filling, Listed};
 pub use cursor::Cursor;
 pub use epoch_cursor::EpochCursor;
 pub use merged::{Merged, Stream};
+pub use row::Row;
 pub use run_cursor::RunCursor;
 pub use scanning::{ReadPoint, scan, visit};
 pub use sink::Sink;
 pub use source::Source;
-pub use visiting::{Bounds, Calling, KeyCount, Passing, Visitor, visit_keys};
+pub use visiting::{Calling, KeyCount, Passing, Visitor, visit_keys};
 pub use walk::Walk;

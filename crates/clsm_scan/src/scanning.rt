@@ -7,18 +7,18 @@ ghost use Rattle.clsm_scan.specs.Sources.{MayScan, epoch_walk, found_in_componen
 ghost use Rattle.clsm_scan.specs.Streams.{HasAdded, IsMerging};
 
 use crate::any_walk::AnyWalk;
-use crate::collecting::{Collected, KeyRange, collect};
+use crate::collecting::{Bounds, collect};
+use crate::collector::Collector;
 use crate::epoch_cursor::EpochCursor;
 use crate::merged::Merged;
 use crate::run_cursor::RunCursor;
-use crate::visiting::{Bounds, KeyCount, Visitor, visit_keys};
+use crate::visiting::{KeyCount, Visitor, visit_keys};
 use clsm_law::level_one_place;
 use clsm_levels::level_zero_runs;
-use clsm_model::{Key, Memory, Time};
+use clsm_model::{Key, Time};
 use clsm_runs::HeldRun;
 use clsm_search::Epoch;
 use clsm_words::{Pace, RawSeat, Words};
-use std::alloc::Global;
 
 /// The walk along the epoch's writes below the time, if it begins below that.
 #[inline(always)]
@@ -118,26 +118,32 @@ impl Merged {
     }
 }
 
-/// The rows of all keys of the range at the point, by rising key: no more than the range gives. It
-/// goes along the ordered lists of the epochs and the runs, and takes memory for the rows alone; if
-/// memory runs out, the seat is as after looks. It never waits.
-pub fn scan<P: Pace>(
+/// Collects the rows of the keys within the bounds at the point, by rising key: all of them, and
+/// answers `None`, or as many as the collector may have, and answers the key of the next one. It
+/// goes along the ordered lists of the epochs and the runs, and takes no memory but what the
+/// collector takes; if a row is refused, the seat is as after looks. It never waits.
+pub fn scan<P: Pace, R: Collector>(
     words: &Words<P>,
     seat: &mut RawSeat,
-    alloc: Global,
     point: ReadPoint,
-    range: KeyRange,
-) -> Result<Collected, Memory>
+    bounds: Bounds,
+    rows: &mut R,
+) -> Result<Option<u64>, R::Refusal>
     requires of { IsSeatOf words.now seat.old }
     requires may { MayScan seat.old.knows point.component point.until }
+    requires ready { R.is_ready rows.old }
+    requires none { R.rows rows.old ≡ [] }
     ensures of { IsSeatOf words.now seat.new }
     ensures looks { LooksAside seat.old.knows seat.new.knows }
-    ensures rows { IfOk result (λ all. IsCollected (left_at (found_in_component seat.old.knows point.component point.until))
-        range.lo range.hi range.max all.rows.items all.more) }
+    ensures ready { R.is_ready rows.new }
+    ensures most { R.most rows.new ≡ R.most rows.old }
+    ensures goes_on { R.goes_on rows.old rows.new }
+    ensures rows { IfOk result (λ more. IsCollected (left_at (found_in_component seat.old.knows point.component point.until))
+        bounds.lo bounds.hi (R.most rows.old) (R.rows rows.new) more) }
 {
-    let mut merged = Merged::new(range.hi);
-    merged.add_all(words, seat, point, range.lo);
-    collect(words, seat, alloc, &mut merged, range)
+    let mut merged = Merged::new(bounds.hi);
+    merged.add_all(words, seat, point, bounds.lo);
+    collect(words, seat, &mut merged, bounds, rows)
 }
 
 /// Has the visitor take the rows of all keys within the bounds at the point, by rising key. It

@@ -7,19 +7,12 @@ ghost use Rattle.clsm_scan.specs.Collected.{IsVisit, StepsBehind, left_at};
 ghost use Rattle.clsm_scan.specs.Heads.{has_value, rows_of};
 ghost use Rattle.clsm_scan.specs.Reading.{MayReadFrom};
 
-use crate::collecting::next_key;
+use crate::collecting::{Bounds, next_key};
 use crate::cursor::Cursor;
 use crate::sink::Sink;
 use crate::source::Source;
 use clsm_model::{Key, Value};
 use clsm_words::{Pace, RawSeat, Words};
-
-/// The keys from `lo` to `hi`.
-#[derive(Clone, Copy)]
-pub struct Bounds {
-    pub lo: Key,
-    pub hi: Key,
-}
 
 /// How many keys of a range have a value, and the first of them.
 #[derive(Clone, Copy)]

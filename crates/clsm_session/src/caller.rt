@@ -2,8 +2,8 @@
 ghost use Rattle.std.specs.Prelude.{◌≡◌};
 ghost use Rattle.clsm_model.specs.declared.record.Deed.TheVariants.{Put, Remove};
 ghost use Rattle.clsm_model.specs.Changes.{Adds, PutsIfAbsent};
-ghost use Rattle.clsm_store.specs.Promises.{ClosesSnapshot, CountsRange, Gets, GetsAtIfOpen, GivesNextPage, GivesPage, Hears, OpensSnapshot, Scans, ScansAnew};
-ghost use Rattle.clsm_store.specs.Promises.{Tells, VisitsRange};
+ghost use Rattle.clsm_store.specs.Promises.{ClosesSnapshot, CountsRange, FillsPage, Gets, GetsAtIfOpen, GivesNextPage, GivesPage, Hears, OpensSnapshot};
+ghost use Rattle.clsm_store.specs.Promises.{Scans, ScansAnew, Tells, VisitsRange};
 ghost use Rattle.clsm_session.specs.Places.{HasPlace};
 ghost use Rattle.clsm_session.specs.Promises.{WaitsToChangeBy, WaitsToPlay, WaitsToWrite, WaitsToWriteBatch};
 
@@ -13,8 +13,8 @@ use crate::refusal::{BatchRefused, Refused};
 use crate::writing;
 use clsm_model::Key;
 use clsm_store::{
-    Answer, Call, Caller, Change, Counted, Free, Got, Memory, Message, Open, Page, Pages, Rmw,
-    Scan, Seat, Time, Value, added, put_if_absent,
+    Answer, Call, Caller, Change, Counted, Filled, Free, Got, Memory, Message, Open, Page, Pages,
+    Rmw, Row, Scan, Seat, Time, Value, added, put_if_absent,
 };
 use std::alloc::Global;
 use std::marker::{Model, PhantomData};
@@ -182,6 +182,13 @@ impl<'a, R: Wait, P: Place> SessionCaller<'a, R, P> {
         ensures { GivesPage self.old self.new from hi max result }
     {
         self.caller.page(self.alloc, from, hi, max)
+    }
+
+    /// As `Store::page_into`.
+    pub fn page_into<T: Row>(&mut self, from: u64, hi: Key, rows: &mut [T]) -> Filled
+        ensures { FillsPage T.pair T.is_row self.old self.new from hi rows.old rows.new result }
+    {
+        self.caller.page_into(from, hi, rows)
     }
 
     /// As `Caller::next_page`.

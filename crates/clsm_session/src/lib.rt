@@ -14,8 +14,8 @@ mod writing;
 
 pub use caller::SessionCaller;
 pub use clsm_store::{
-    Answer, Call, Caller, Change, Config, Counted, Got, Memory, Message, Open, OpenError, Page,
-    Pages, Rmw, Rows, Scan, Seat, Store, Time, Value,
+    Answer, Call, Caller, Change, Config, Counted, Filled, Got, Memory, Message, Open, OpenError,
+    Page, Pages, Rmw, Row, Rows, Scan, Seat, Sink, Store, Time, Value,
 };
 pub use job::{Job, Place};
 pub use refusal::{BatchRefused, Refused, SessionError};

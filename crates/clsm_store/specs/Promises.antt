@@ -4,7 +4,7 @@
 -- seat of its store; `get_at` also for an open snapshot, `rmw` and `visit` for a function that may
 -- be called with any value, `hear` for a message of the store. At the end stand the merger's calls:
 -- each asks for its store's token in one phase, `old`, and hands one back.
-use Rattle.std.specs.Prelude.{◌≡◌, ℕ, ◌+◌, ◌*◌, ◌^◌, ◌<◌, ◌≤◌, List, length, replicate}
+use Rattle.std.specs.Prelude.{◌≡◌, ℕ, ◌+◌, ◌*◌, ◌^◌, ◌<◌, ◌≤◌, List, drop, length, map, replicate, take}
 use Rattle.std.specs.Prelude.{Option, None, Some, IfNone, IfSome, Result, IfErr, IfOk}
 use Rattle.clsm_law.specs.Merging.{unseen}
 use Rattle.clsm_levels.specs.Cursors.{row_at}
@@ -18,8 +18,10 @@ use Rattle.clsm_model.specs.Map.{Pair}
 use Rattle.clsm_model.specs.Right.{Member, page_deed}
 use Rattle.clsm_model.specs.Seats.{FitsDeed}
 use Rattle.clsm_runs.specs.declared.merging.RunFull.{RunFull}
+use Rattle.clsm_scan.specs.Filling.{AreFilled}
 use Rattle.clsm_words.specs.Seats.{MessageState}
 use Rattle.clsm_store_calls.specs.declared.got.Counted.{Counted}
+use Rattle.clsm_store_calls.specs.declared.got.Filled.{Filled}
 use Rattle.clsm_store_calls.specs.declared.got.Got.{Got}
 use Rattle.clsm_store_calls.specs.declared.got.Page.{Page}
 use Rattle.clsm_store_calls.specs.declared.got.Rmw.{Rmw}
@@ -33,7 +35,7 @@ use Rattle.clsm_store_calls.specs.declared.refusal.TryPutError.{TryPutError}
 use Rattle.clsm_store_calls.specs.declared.refusal.Worn.{Worn}
 use Rattle.clsm_store_calls.specs.Agreeing.{AgreesWith}
 use Rattle.clsm_store_calls.specs.Batching.{CountsBatch, CountsTryBatch, IsRefusedBatch, IsRefusedTryBatch}
-use Rattle.clsm_store_calls.specs.Changing.{changed_at}
+use Rattle.clsm_store_calls.specs.Changing.{CountsTryChange, changed_at}
 use Rattle.clsm_store_calls.specs.Looking.{IsKeptOut}
 use Rattle.clsm_store_calls.specs.Merging.{IsRunFull, TakesFloor}
 use Rattle.clsm_store_calls.specs.Reclaiming.{AreAllQuiet, IsLowestLoud}
@@ -42,7 +44,6 @@ use Rattle.clsm_store_calls.specs.Seats.{Answers, GivesUpForWrites, IsFull, IsSa
 use Rattle.clsm_store_calls.specs.Seats.{CleanState, FrozenState, RetiredState}
 use Rattle.clsm_store_calls.specs.Tally.{CancelsNone, CountsTry, TakesLockOnce, TakesNoLock}
 use Rattle.clsm_store_calls.specs.Writing.{RefusesTry}
-use Rattle.clsm_store_calls.specs.TryingChange.{CountsTryChange}
 use Rattle.clsm_store.specs.declared.pages.Pages.{Pages}
 use Rattle.clsm_store.specs.declared.phase.TryFreezeError.{TryFreezeError}
 use Rattle.clsm_store.specs.declared.phase.TryFreezeError.TheVariants.{Busy, Worn as WornToo}
@@ -126,8 +127,9 @@ ChangesBy old new key Makes result = MakesChange (Changes old new key) Makes res
 pub record TriesToChange (old new : SeatState) (key : ℕ) (result : Result Rmw TryPutError) : Type 0 where
   -- as rmw
   pub changed : IfOk result (λ rmw. Answers old new rmw.time (ChangeOf key rmw.old rmw.change))
-  -- it entered the lock once, or was refused it; it gave up at most one time if refused, else none
-  pub counts : CountsTryChange old new key result
+  -- it entered the lock once, or was refused it; it made one try there, which is counted if lost,
+  -- and gave up at most one time then, else none
+  pub counts : CountsTryChange 1 old new key result
   -- refused: as try_put
   pub refused : IfErr result (RefusesTry old new)
 
@@ -196,6 +198,20 @@ pub record GivesPage (old new : SeatState) (from hi max : ℕ) (result : Result 
   pub lock : TakesNoLock old.tally new.tally
   -- as scan
   pub refused : IfErr result (λ refusal. Refuses old new)
+
+-- page_into; `pair` is what a row holds that is filled, and `IsRow` what else is said of it
+pub record FillsPage {R : Type 0} (pair : R → Pair) (IsRow : R → Type 0) (old new : SeatState) (from hi : ℕ) (before after : List R)
+    (result : Filled) : Type 0 where
+  -- one record more, of the page of as many pairs as there are rows: those of the filled ones
+  pub answers : Answers old new result.time (page_deed from hi (length before) (map pair (take result.rows after)) result.more)
+  -- as scan
+  pub clock : IsAtClock old new result.time
+  -- as get
+  pub lock : TakesNoLock old.tally new.tally
+  -- so many rows are filled
+  pub filled : AreFilled IsRow after result.rows
+  -- and the others are as before
+  pub rest : drop result.rows after ≡ drop result.rows before
 
 -- next_page, of `Caller` alone; it takes the pages from `before` to `after`
 pub record GivesNextPage (old new : SeatState) (before after : Pages) (result : Result (Option Page) Memory) : Type 0 where

@@ -3,14 +3,15 @@ ghost use Rattle.std.specs.Prelude.{◌≡◌, ◌≢◌, None};
 ghost use Rattle.clsm_model.specs.declared.record.Deed.TheVariants.{Put, Remove};
 ghost use Rattle.clsm_law.specs.Relation.{call_of};
 ghost use Rattle.clsm_store_calls.specs.Looking.{FindsRoom};
-ghost use Rattle.clsm_store.specs.Promises.{ChangesBy, ClosesSnapshot, CountsRange, Gets, GetsAt, OpensSnapshot, GivesPage, Scans, ScansAnew, TriesToChangeBy};
-ghost use Rattle.clsm_store.specs.Promises.{TriesToWrite, TriesToWriteBatch, VisitsRange, Writes, WritesBatch};
+ghost use Rattle.clsm_store.specs.Promises.{ChangesBy, ClosesSnapshot, CountsRange, FillsPage, Gets, GetsAt, OpensSnapshot, GivesPage, Scans, ScansAnew};
+ghost use Rattle.clsm_store.specs.Promises.{TriesToChangeBy, TriesToWrite, TriesToWriteBatch, VisitsRange, Writes, WritesBatch};
 
 use crate::seat::Seat;
 use crate::store::Store;
 use clsm_model::{CallRecord, Change, Deed, Key, Memory, Time, Value};
+use clsm_scan::Row;
 use clsm_store_calls::{
-    BatchError, Counted, Full, Got, Open, Page, Rmw, Scan, TryBatchError, TryPutError,
+    BatchError, Counted, Filled, Full, Got, Open, Page, Rmw, Scan, TryBatchError, TryPutError,
 };
 use clsm_words::Pace;
 use std::alloc::Global;
@@ -143,6 +144,13 @@ impl<'a, P: Pace> Caller<'a, P> {
         ensures { GivesPage self.old.seat self.new.seat from hi max result }
     {
         self.store.page(alloc, &mut self.seat, from, hi, max)
+    }
+
+    /// As `Store::page_into`.
+    pub fn page_into<R: Row>(&mut self, from: u64, hi: Key, rows: &mut [R]) -> Filled
+        ensures { FillsPage R.pair R.is_row self.old.seat self.new.seat from hi rows.old rows.new result }
+    {
+        self.store.page_into(&mut self.seat, from, hi, rows)
     }
 
     /// As `Store::count`.

@@ -163,7 +163,7 @@ impl<P: Pace> Store<P> {
         ensures { TriesToChangeBy seat.old seat.new key (F.post f.now) result }
     {
         let modification = Modification { key, f };
-        let answer = try_change(&self.words, &mut seat.raw, seat.pin, &modification);
+        let answer = try_change(&self.words, &mut seat.raw, seat.pin, &modification, ONE_TRY);
         seat.pin = pin_after(seat.pin, &answer);
         answer
     }

@@ -29,8 +29,10 @@ pub use clsm_model::{
     Time, Value, added, put_if_absent,
 };
 pub use clsm_runs::RunFull;
+pub use clsm_scan::{Row, Sink};
 pub use clsm_store_calls::{
-    BatchError, Counted, Full, Got, Open, Page, Pinned, Rmw, Scan, TryBatchError, TryPutError, Worn,
+    BatchError, Counted, Filled, Full, Got, Open, Page, Pinned, Rmw, Scan, TryBatchError,
+    TryPutError, Worn,
 };
 pub use clsm_words::{Free, Kind, Pace};
 pub use freezing::TryFroze;

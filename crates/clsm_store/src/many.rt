@@ -1,40 +1,45 @@
 //! The calls that read many keys at one time.
-ghost use Rattle.std.specs.Prelude.{◌≡◌, IfErr, IfOk};
-ghost use Rattle.clsm_store_calls.specs.Scanning.{CountsKeys, IsAnswerTo, IsAtClock, IsKeyVisit, VisitsKeys};
+ghost use Rattle.std.specs.Prelude.{◌≡◌, [], IfErr, IfOk};
+ghost use Rattle.clsm_store_calls.specs.Scanning.{CountsKeys, IsAtClock, IsKeyVisit, VisitsKeys, rows_deed};
 ghost use Rattle.clsm_store_calls.specs.Seats.{Answers, Refuses, known_by};
 ghost use Rattle.clsm_store_calls.specs.Tally.{TakesNoLock};
-ghost use Rattle.clsm_store.specs.Promises.{CountsRange, GivesPage, Scans, ScansAnew, VisitsRange};
+ghost use Rattle.clsm_store.specs.Promises.{CountsRange, FillsPage, GivesPage, Scans, ScansAnew, VisitsRange};
 
 use crate::seat::{Seat, pass_read, under};
 use crate::store::Store;
-use clsm_model::{Deed, Key, Memory, Time, Value};
-use clsm_scan::{Bounds, Calling, Passing, Visitor};
+use clsm_model::{Key, Memory, Rows, Value};
+use clsm_scan::{Bounds, Calling, Collector, Filling, Listed, Passing, Row, Visitor};
 use clsm_store_calls::{
-    Asked, Counted, Page, Request, Scan, Visit, scan_at, scan_now, scan_under, visit_at,
+    Collected, Counted, Filled, Page, Scan, Visit, scan_at, scan_now, scan_under, visit_at,
     visit_under,
 };
 use clsm_words::Pace;
 use std::alloc::Global;
 
 impl<P: Pace> Store<P> {
-    /// What was asked, at the time of the seat's open snapshot, or else at one of its own.
-    fn read_many(
+    /// Collects the rows within the bounds, at the time of the seat's open snapshot, or else at one
+    /// of its own.
+    fn read_many<R: Collector>(
         &self,
-        alloc: Global,
         seat: &mut Seat,
-        asked: Asked,
-    ) -> Result<(Time, Deed), Memory>
-        requires { seat.old.store ≡ self.now }
-        ensures answers { IfOk result (λ read. Answers seat.old seat.new read.0 read.1) }
-        ensures asked { IfOk result (λ read. IsAnswerTo asked read.1) }
-        ensures clock { IfOk result (λ read. IsAtClock seat.old seat.new read.0) }
+        bounds: Bounds,
+        rows: &mut R,
+    ) -> Result<Collected, R::Refusal>
+        requires of { seat.old.store ≡ self.now }
+        requires ready { R.is_ready rows.old }
+        requires none { R.rows rows.old ≡ [] }
+        ensures answers { IfOk result (λ read. Answers seat.old seat.new read.time
+            (rows_deed (R.most rows.new) bounds.lo bounds.hi (R.rows rows.new) read.more)) }
+        ensures clock { IfOk result (λ read. IsAtClock seat.old seat.new read.time) }
         ensures lock { TakesNoLock seat.old.tally seat.new.tally }
         ensures refused { IfErr result (λ refusal. Refuses seat.old seat.new) }
+        ensures ready { R.is_ready rows.new }
+        ensures most { R.most rows.new ≡ R.most rows.old }
+        ensures goes_on { R.goes_on rows.old rows.new }
     {
-        let wanted = Request { alloc, asked };
         let read = match under(seat.pin, seat.snapshot) {
-            None => scan_at(&self.words, &mut seat.raw, seat.pin, wanted),
-            Some(open) => scan_under(&self.words, &mut seat.raw, open, wanted),
+            None => scan_at(&self.words, &mut seat.raw, seat.pin, bounds, rows),
+            Some(open) => scan_under(&self.words, &mut seat.raw, open, bounds, rows),
         };
         pass_read(&mut seat.pin);
         read
@@ -49,11 +54,10 @@ impl<P: Pace> Store<P> {
         requires { seat.old.store ≡ self.now }
         ensures { Scans seat.old seat.new lo hi result }
     {
-        let (time, deed) = self.read_many(alloc, seat, Asked::All(lo, hi))?;
-        match deed {
-            Deed::Scan { rows, .. } => Ok(Scan { time, rows }),
-            _ => unreachable!(),
-        }
+        let mut listed = Listed::new(alloc, None)?;
+        let Collected { time, .. } = self.read_many(seat, Bounds { lo, hi }, &mut listed)?;
+        let rows = Rows::new(listed.rows);
+        Ok(Scan { time, rows })
     }
 
     /// The first `max` of the pairs with `from <= key <= hi` by rising key, and the key of the
@@ -71,11 +75,35 @@ impl<P: Pace> Store<P> {
         requires { seat.old.store ≡ self.now }
         ensures { GivesPage seat.old seat.new from hi max result }
     {
-        let (time, deed) = self.read_many(alloc, seat, Asked::First(from, hi, max))?;
-        match deed {
-            Deed::Page { rows, more, .. } => Ok(Page { time, rows, more }),
-            _ => unreachable!(),
-        }
+        let mut listed = Listed::new(alloc, Some(max))?;
+        let bounds = Bounds { lo: from, hi };
+        let Collected { time, more } = self.read_many(seat, bounds, &mut listed)?;
+        let rows = Rows::new(listed.rows);
+        Ok(Page { time, rows, more })
+    }
+
+    /// The page that fills the rows behind a reference.
+    fn fill<R: Row>(&self, seat: &mut Seat, bounds: Bounds, filling: &mut Filling<'_, R>) -> Filled
+        requires of { seat.old.store ≡ self.now }
+        requires none { filling.old.count ≡ 0 }
+        ensures page { FillsPage R.pair R.is_row seat.old seat.new bounds.lo bounds.hi filling.old.rows.now filling.new.rows.now result }
+        ensures same_reference { filling.new.rows.ghost_name ≡ filling.old.rows.ghost_name }
+    {
+        let Ok(Collected { time, more }) = self.read_many(seat, bounds, filling);
+        let rows = filling.count;
+        Filled { time, rows, more }
+    }
+
+    /// As many of the first pairs with `from <= key <= hi` by rising key as there are rows, which
+    /// it fills from the first one on, and the key of the first pair that is left out, where the
+    /// next page begins. The rows behind those stay as they are. It reads as `page`, but takes no
+    /// memory, and is never refused.
+    pub fn page_into<R: Row>(&self, seat: &mut Seat, from: u64, hi: Key, rows: &mut [R]) -> Filled
+        requires { seat.old.store ≡ self.now }
+        ensures { FillsPage R.pair R.is_row seat.old seat.new from hi rows.old rows.new result }
+    {
+        let mut filling = Filling { rows, count: 0 };
+        self.fill(seat, Bounds { lo: from, hi }, &mut filling)
     }
 
     /// All pairs with `lo <= key <= hi` by rising key, as one read at a time of its own, also while
@@ -86,14 +114,13 @@ impl<P: Pace> Store<P> {
         requires { seat.old.store ≡ self.now }
         ensures { ScansAnew seat.old seat.new lo hi result }
     {
+        let mut listed = Listed::new(alloc, None)?;
         let bounds = Bounds { lo, hi };
-        let wanted = Request {
-            alloc,
-            asked: bounds,
-        };
-        let scan = scan_now(&self.words, &mut seat.raw, seat.pin, wanted);
+        let read = scan_now(&self.words, &mut seat.raw, seat.pin, bounds, &mut listed);
         pass_read(&mut seat.pin);
-        scan
+        let Collected { time, .. } = read?;
+        let rows = Rows::new(listed.rows);
+        Ok(Scan { time, rows })
     }
 
     /// The visit at the time of the seat's open snapshot, or else at one of its own.

@@ -1,29 +1,19 @@
--- Tries to write or to change a key, one after another.
-use Rattle.std.proofs.Common.{◌≡◌, ◌≤◌, ◌∙◌, ◌⊎◌, inl, inr, ℕ, List, ap, arith, sym, subst, false, Option}
+-- Tries to change a key, one after another.
+use Rattle.std.proofs.Common.{◌≡◌, ℕ, List, false, refl, Option}
 use Rattle.clsm_model.specs.declared.slot.Change.{Change}
 use Rattle.clsm_model.specs.declared.slot.Change.TheVariants.{Keep, Set, Remove}
 use Rattle.clsm_model.specs.declared.record.Deed.TheVariants.{Rmw}
-use Rattle.clsm_law.specs.Views.{next_word}
 use Rattle.clsm_words.specs.declared.known.Known.{Known}
-use Rattle.clsm_words.specs.Keeping.{OnlyReads}
+use Rattle.clsm_words.specs.declared.words.WordTable.{WordTable}
+use Rattle.clsm_words.specs.Seats.{RawState}
 use Rattle.clsm_store_calls.specs.declared.got.Rmw.{Rmw as Answered}
-use Rattle.clsm_store_calls.specs.declared.changing.Modified.{Modified}
 use Rattle.clsm_store_calls.specs.declared.changing.ChangeAttempt.{ChangeAttempt}
-use Rattle.clsm_store_calls.specs.declared.changing.ChangeAttempt.TheVariants.{Done as Finished, Full, Lost}
-use Rattle.clsm_store_calls.specs.declared.refusal.TryPutError.{TryPutError}
-use Rattle.clsm_store_calls.specs.declared.refusal.TryPutError.TheVariants.{Full as TryFull, Busy, Raced, Overtaken}
-use Rattle.clsm_store_calls.specs.Changing.{Does, TriesChange, WritesLater, deed_by, is_keep}
-use Rattle.clsm_store_calls.specs.Resting.{Records, Still}
-use Rattle.clsm_store_calls.specs.Writing.{Fails}
-use Rattle.clsm_store_calls.specs.TryingChange.{WritesChange}
-use Rattle.clsm_store_calls.proofs.Rest.{full_later, records_later, still_reads, still_trans}
-
--- a try that fails behind calls that changed nothing
-pub fails_later : (a b c : Known) → Still a b → (error : TryPutError) → Fails b c error → Fails a c error
-fails_later a b c h (TryFull t) fails = full_later a b c t h fails
-fails_later a b c h Busy fails = still_trans a b c h fails
-fails_later a b c h Raced fails = still_trans a b c h fails
-fails_later a b c h Overtaken fails = still_trans a b c h fails
+use Rattle.clsm_store_calls.specs.declared.changing.ChangeAttempt.TheVariants.{Done, Full, Raced, Outdated, Overtaken}
+use Rattle.clsm_store_calls.specs.declared.changing.ChangeProgress.{ChangeProgress}
+use Rattle.clsm_store_calls.specs.declared.changing.ChangeProgress.TheVariants.{Unread, Read, Drawn}
+use Rattle.clsm_store_calls.specs.Changing.{Does, HasComeSoFar, IsAnsweredBy, IsAskedBy, LeavesPinned, TriesChange, is_last, progress_of}
+use Rattle.clsm_store_calls.specs.Resting.{Still}
+use Rattle.clsm_store_calls.proofs.Rest.{full_later, records_later, still_trans}
 
 -- a change behind calls that changed nothing
 pub does_later : (a b c : Known) (component key t : ℕ) (o : Option (List ℕ)) (change : Change) → Still a b → Does change b c component key t o
@@ -32,36 +22,54 @@ does_later a b c component key t o Keep h does = (still_trans a b c h does.0, do
 does_later a b c component key t o (Set words) h does = records_later a b c t (Rmw key o (Set words)) h does
 does_later a b c component key t o Remove h does = records_later a b c t (Rmw key o Remove) h does
 
--- a record of a change that keeps nothing is that change
-pub does_by : (a c : Known) (component key t : ℕ) (o : Option (List ℕ)) (change : Change) → is_keep change ≡ false → Records a c t (Rmw key o change)
-    → Does change a c component key t o
-does_by a c component key t o Keep ne records = absurd cc
-does_by a c component key t o (Set words) ne records = records
-does_by a c component key t o Remove ne records = records
+-- tries behind calls that changed nothing
+pub tries_behind : (a b c : Known) (component key : ℕ) (attempt : ChangeAttempt) → Still a b → TriesChange b c component key attempt
+    → TriesChange a c component key attempt
+tries_behind a b c component key (Done rmw) still tries = does_later a b c component key rmw.time rmw.old rmw.change still tries
+tries_behind a b c component key (Full t) still tries = full_later a b c t still tries
+tries_behind a b c component key (Raced progress) still tries = still_trans a b c still tries
+tries_behind a b c component key Outdated still tries = still_trans a b c still tries
+tries_behind a b c component key Overtaken still tries = still_trans a b c still tries
 
--- a try that read first, which gave up no time and lost none
-pub tries_later : (a b c : Known) (component key : ℕ) (o : Option (List ℕ)) (change : Change) (attempt : ChangeAttempt) → is_keep change ≡ false → Still a b
-    → b.view.gave_up ≡ a.view.gave_up → b.view.overtaken ≡ a.view.overtaken
-    → WritesLater b c key o change attempt → TriesChange a c component key attempt
-tries_later a b c component key o change (Finished rmw) ne h gave over writes =
-    does_by a c component key rmw.time rmw.old rmw.change (ap is_keep writes.1 ∙ ne)
-    (subst (λ (y : Option (List ℕ) × Change). Records a c rmw.time (Rmw key y.0 y.1)) (λ i. (sym writes.0 i, sym writes.1 i))
-    (records_later a b c rmw.time (Rmw key o change) h writes.2))
-tries_later a b c component key o change (Full t) ne h gave over writes = full_later a b c t h writes
-tries_later a b c component key o change Lost ne h gave over writes = record { still = still_trans a b c h writes.still; lost = lost writes.lost } where
-  lost : (c.view.gave_up ≡ next_word b.view.gave_up) ⊎ (c.view.overtaken ≡ next_word b.view.overtaken) → (c.view.gave_up ≡ next_word a.view.gave_up)
-      ⊎ (c.view.overtaken ≡ next_word a.view.overtaken)
-  lost (inl e) = inl (e ∙ ap next_word gave)
-  lost (inr e) = inr (e ∙ ap next_word over)
+-- ---- a try that is lost
 
--- a change whose time was drawn, and behind which only reads were made, stands at that time
-pub wrote_later : {k k' k'' end : Known} {rmw : Answered} (t : ℕ) (m : Modified) → rmw ≡ record { time = t; old = m.read.old; change = m.read.change }
-    → Still k k' → OnlyReads k' k'' → k.view.due ≤ t → (k''.view.due ≤ t → Records k'' end t (deed_by m)) → WritesChange k end m rmw
-wrote_later {k} {k'} {k''} {end} t m is drawn reads above records =
-    let still : Still k k'' = still_trans k k' k'' drawn (still_reads k' k'' reads) in
-    let recorded = records_later k k'' end t (deed_by m) still (records (let due = still.due in omega arith)) in
-    record {
-      same = ap (λ (r : Answered). r.old) is;
-      change = ap (λ (r : Answered). r.change) is;
-      records = subst (λ (n : ℕ). Records k end n (deed_by m)) (sym (ap (λ (r : Answered). r.time) is)) recorded;
-    }
+-- it is neither answered nor refused
+pub is_lost : (attempt : ChangeAttempt) → ((rmw : Answered) → attempt ≡ Done rmw → ⊥) → ((t : ℕ) → attempt ≡ Full t → ⊥) → is_last attempt ≡ false
+is_lost (Done rmw) done full = absurd (done rmw refl)
+is_lost (Full t) done full = absurd (full t refl)
+is_lost (Raced progress) done full = refl
+is_lost Outdated done full = refl
+is_lost Overtaken done full = refl
+
+-- it makes no call
+pub change_still : (a b : Known) (component key : ℕ) (attempt : ChangeAttempt) → is_last attempt ≡ false → TriesChange a b component key attempt → Still a b
+change_still a b component key (Done rmw) lost tries = absurd cc
+change_still a b component key (Full t) lost tries = absurd cc
+change_still a b component key (Raced progress) lost tries = tries
+change_still a b component key Outdated lost tries = tries
+change_still a b component key Overtaken lost tries = tries
+
+-- where it lost an exchange
+pub comes_on : (words : WordTable) (seat : RawState) (component key : ℕ) (progress : ChangeProgress) → LeavesPinned words seat component key (Raced progress)
+    → HasComeSoFar words seat component key progress
+comes_on words seat component key Unread leaves = absurd leaves
+comes_on words seat component key (Read modified) leaves = leaves
+comes_on words seat component key (Drawn drawn) leaves = leaves
+
+-- and the change may go on
+pub comes_again : (words : WordTable) (seat : RawState) (component key : ℕ) (attempt : ChangeAttempt) → is_last attempt ≡ false
+    → LeavesPinned words seat component key attempt → HasComeSoFar words seat component key (progress_of attempt)
+comes_again words seat component key (Done rmw) lost leaves = absurd cc
+comes_again words seat component key (Full t) lost leaves = absurd cc
+comes_again words seat component key (Raced progress) lost leaves = comes_on words seat component key progress leaves
+comes_again words seat component key Outdated lost leaves = leaves
+comes_again words seat component key Overtaken lost leaves = leaves
+
+-- with the answer of the function that is kept
+pub asked_again : (post : Option (List ℕ) → Change → Type 0) (attempt : ChangeAttempt) → is_last attempt ≡ false → IsAnsweredBy post attempt
+    → IsAskedBy post (progress_of attempt)
+asked_again post (Done rmw) lost answered = absurd cc
+asked_again post (Full t) lost answered = absurd cc
+asked_again post (Raced progress) lost answered = answered
+asked_again post Outdated lost answered = tt
+asked_again post Overtaken lost answered = tt

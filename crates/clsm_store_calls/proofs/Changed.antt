@@ -24,11 +24,11 @@ use Rattle.clsm_store_calls.specs.declared.refusal.Full.{Full as Refusal}
 use Rattle.clsm_store_calls.specs.declared.refusal.TryPutError.{TryPutError}
 use Rattle.clsm_store_calls.specs.declared.refusal.TryPutError.TheVariants.{Full, Busy, Raced, Overtaken}
 use Rattle.clsm_store_calls.specs.Resting.{FindsFull, IsAtRest, Keeps, Records, Still}
-use Rattle.clsm_store_calls.specs.Changing.{ChangesAt, Does, EndsFull, IsSameSeat, IsWrittenFrom, read_end}
+use Rattle.clsm_store_calls.specs.Changing.{ChangesAt, CountsChange, CountsChangeInHold, Does, EndsFull, EndsRefused, EndsUnmade, IsSameSeat, IsWrittenFrom}
+use Rattle.clsm_store_calls.specs.Changing.{IsWrittenSince, pin_after, read_end}
 use Rattle.clsm_store_calls.specs.Tally.{HasRead, Tally, counted, looked, tally_of}
 use Rattle.clsm_store_calls.specs.Writing.{Fails}
-use Rattle.clsm_store_calls.specs.TryingChange.{CountsChange, CountsChangeInHold, EndsRefused, EndsUnmade, IsWrittenSince}
-use Rattle.clsm_store_calls.proofs.TriedChange.{counts_later, counts_whole}
+use Rattle.clsm_store_calls.proofs.ChangeLosses.{counts_later, counts_whole}
 use Rattle.clsm_store_calls.proofs.Rest.{same_past, stays_open}
 
 -- what the seat counts once it has entered the lock
@@ -157,15 +157,40 @@ module _ {a b c e f : Known} {component busy : ℕ} (rests : IsAtRest a) (enters
     refused_if (Ok rmw) end is unpins entries fails = tt
     refused_if (Err error) end is unpins entries fails = refused error entries fails (ended_by (Err error) end is unpins)
 
-    -- what a try counts
-    pub counts_if : (answer : Result Answered TryPutError) → (end : End) → Unpins d e end → busy ≡ a.view.busy
-        → CountsChangeInHold (IsWrittenSince c d key) (tally_of c) (tally_of d) answer → CountsChange (IsWrittenSince a f key) (tally_of a) (tally_of f) answer
-    counts_if answer end unpins uncounted counts =
+    -- what its tries count
+    pub counts_if : (tries : ℕ) (answer : Result Answered TryPutError) → (end : End) → Unpins d e end → busy ≡ a.view.busy
+        → CountsChangeInHold tries (IsWrittenSince c d key) (tally_of c) (tally_of d) answer
+        → CountsChange tries (IsWrittenSince a f key) (tally_of a) (tally_of f) answer
+    counts_if tries answer end unpins uncounted counts =
         let same : tally_of f ≡ tally_of d = ap counted leaves.view ∙ ap counted unpins.view in
         let told : c.past ≡ a.past = pins.keeps.past ∙ enters.place.past in
         let behind : f.past ≡ d.past = leaves.place.past ∙ unpins.keeps.past in
         let more : IsWrittenSince c d key → IsWrittenSince a f key =
         subst (λ (y : List Slot × List Slot × ℕ). IsWrittenFrom y.0 key (max y.2 (length y.1))) (λ i. (sym behind i, told i, due i)) in
-        counts_whole (IsWrittenSince a f key) (tally_of a) (tally_of f) answer
-        (subst (λ (t : Tally). CountsChangeInHold (IsWrittenSince a f key) (entered a) t answer) (sym same)
-        (counts_later (IsWrittenSince c d key) (IsWrittenSince a f key) (entered a) (tally_of c) (tally_of d) (has_read uncounted) more answer counts))
+        counts_whole tries (IsWrittenSince a f key) (tally_of a) (tally_of f) answer
+        (subst (λ (t : Tally). CountsChangeInHold tries (IsWrittenSince a f key) (entered a) t answer) (sym same)
+        (counts_later tries (IsWrittenSince c d key) (IsWrittenSince a f key) (entered a) (tally_of c) (tally_of d) (has_read uncounted) more answer counts))
+
+-- ---- the pin word
+
+-- it moved twice, unless the lock was not entered
+pub pin_twice : (tries : ℕ) (P : Type 0) (a f : Tally) (pin : ℕ) (answer : Result Answered TryPutError) → CountsChangeInHold tries P a f answer
+    → next_word (next_word pin) ≡ pin_after pin answer
+pin_twice tries P a f pin (Ok rmw) counts = refl
+pin_twice tries P a f pin (Err (Full t)) counts = refl
+pin_twice tries P a f pin (Err Busy) counts = absurd counts
+pin_twice tries P a f pin (Err Raced) counts = refl
+pin_twice tries P a f pin (Err Overtaken) counts = refl
+
+-- what was done in its hold left it
+pub pin_stays : (c d : Known) (component key : ℕ) (answer : Result Answered TryPutError)
+    → IfOk answer (λ rmw. Does rmw.change c d component key rmw.time rmw.old) → IfErr answer (Fails c d) → d.view.pin ≡ c.view.pin
+pin_stays c d component key (Ok rmw) does fails = done rmw.change does where
+  done : (change : Change) → Does change c d component key rmw.time rmw.old → d.view.pin ≡ c.view.pin
+  done Keep does = does.0.keeps.pin
+  done (Set words) does = does.keeps.pin
+  done Remove does = does.keeps.pin
+pin_stays c d component key (Err (Full t)) does fails = fails.still.keeps.pin
+pin_stays c d component key (Err Busy) does fails = fails.keeps.pin
+pin_stays c d component key (Err Raced) does fails = fails.keeps.pin
+pin_stays c d component key (Err Overtaken) does fails = fails.keeps.pin

@@ -1,8 +1,10 @@
 -- Why a read-modify-write gives up a time: a write of the key that it found.
-use Rattle.std.proofs.Common.{◌≡◌, ℕ, zero, suc, ◌≤◌, ◌==◌, ◌⊎◌, List, length, take, refl, sym, subst, ap, ◌∙◌, arith, inl, inr, Option, Some}
-use Rattle.std.proofs.Common.{None}
+use Rattle.std.proofs.Common.{◌≡◌, ℕ, zero, suc, ◌≤◌, ◌==◌, ◌++◌, ◌⊎◌, List, [], append-nil, append_assoc, drop, length, max, take, refl, sym, subst}
+use Rattle.std.proofs.Common.{ap, ◌∙◌, arith, inl, inr}
+use Rattle.std.proofs.Common.{false, Option, Some, None}
 use Rattle.std.specs.Fn.{iterate}
 use Rattle.std.proofs.lemmas.Bool.{eqb-true}
+use Rattle.std.proofs.lemmas.List.{length-take, take-append-drop}
 use Rattle.std.proofs.lemmas.Option.{cond_some}
 use mathlib.Core.List.{IsPrefix}
 use Rattle.clsm_model.specs.declared.slot.Slot.{Slot}
@@ -14,16 +16,14 @@ use Rattle.clsm_law.specs.Relation.{first_of}
 use Rattle.clsm_words.specs.declared.known.Known.{Known}
 use Rattle.clsm_words.specs.Keeping.{Looks}
 use Rattle.clsm_search.specs.Searching.{IsNewest, slot_in, value_in}
-use Rattle.clsm_store_calls.specs.Seats.{CountsUpTo}
-use Rattle.clsm_model.specs.declared.slot.Change.{Change}
-use Rattle.clsm_model.specs.declared.slot.Change.TheVariants.{Keep, Set, Remove}
-use Rattle.clsm_store_calls.specs.declared.got.Rmw.{Rmw as Answered}
 use Rattle.clsm_store_calls.specs.declared.changing.ChangeAttempt.{ChangeAttempt}
-use Rattle.clsm_store_calls.specs.declared.changing.ChangeAttempt.TheVariants.{Done as Finished, Full, Lost}
+use Rattle.clsm_store_calls.specs.declared.changing.ChangeAttempt.TheVariants.{Done, Full, Raced, Outdated, Overtaken}
+use Rattle.clsm_store_calls.specs.declared.changing.ChangeProgress.TheVariants.{Unread}
+use Rattle.clsm_store_calls.specs.Seats.{CountsUpTo}
 use Rattle.clsm_store_calls.specs.Resting.{Still}
-use Rattle.clsm_store_calls.specs.Changing.{Does, GaveUp, GivesInTry, GivesLater, GivesUpFor, GivesUpOnce, IsWrittenFrom, KeepsFirst, ReadsNow}
-use Rattle.clsm_store_calls.specs.Changing.{TriesChange, WritesLater, writes_from}
-use Rattle.clsm_store_calls.proofs.Counting.{counts_more, counts_none, counts_on, prefix_take, writes_more, writes_on as counts_writes_on}
+use Rattle.clsm_store_calls.specs.Changing.{GaveUp, GivesUpFor, IsWrittenFrom, IsWrittenSince, Spared, SparedBy, is_last, progress_of, writes_from}
+use Rattle.clsm_store_calls.proofs.Counting.{counts_more, counts_none, counts_on, prefix_take, writes_more, writes_on}
+use Rattle.clsm_store_calls.proofs.Rest.{still_trans}
 
 -- the slot that is a write of the key
 is_wrote : (key t : ℕ) (slot : Slot) (w : Write) → write_of key t slot ≡ Some w → (seat : ℕ) × ((w.time ≡ t) × (slot ≡ Wrote seat key w.value))
@@ -61,18 +61,20 @@ written_found k k' component key from until looks t is above =
     written_by k'.past key until from (record { time = t; value = value_in (slot_in k t) })
     (ap (λ (slots : List Slot). newest (plain slots) key until) looks.past ∙ is) above
 
--- ---- one try after another
+-- ---- a hold of the lock, from its beginning o
 
--- a time given up where a write of the key was found
-pub given_up_once : (a b c : Known) (key from : ℕ) → b.view.gave_up ≡ a.view.gave_up → c.past ≡ b.past
-    → ((c.view.gave_up ≡ next_word b.view.gave_up) × (c.view.overtaken ≡ b.view.overtaken))
-    ⊎ ((c.view.gave_up ≡ b.view.gave_up) × (c.view.overtaken ≡ next_word b.view.overtaken))
-    → IsWrittenFrom b.past key from → GivesUpOnce a c key from
-given_up_once a b c key from same past (inl both) is = inr (both.0 ∙ ap next_word same, subst (λ (l : List Slot). IsWrittenFrom l key from) (sym past) is)
-given_up_once a b c key from same past (inr both) is = inl (both.0 ∙ same)
+-- the first look of the hold stays
+abbrev pub KeepsFirst : Known → Known → Type 0
+KeepsFirst old new = (first : ℕ) → old.view.hold_first ≡ Some first → new.view.hold_first ≡ Some first
+
+pub first_stays : (a b : Known) → b.view.hold_first ≡ a.view.hold_first → KeepsFirst a b
+first_stays a b same first is = same ∙ is
+
+pub first_looked : (a b : Known) (t : ℕ) → b.view.hold_first ≡ first_of a.view.hold_first t → KeepsFirst a b
+first_looked a b t e first is = e ∙ ap (λ (o : Option ℕ). first_of o t) is
 
 -- what stands from a time on stands from an earlier one on
-pub earlier : (slots : List Slot) (key from below : ℕ) → below ≤ from → IsWrittenFrom slots key from → IsWrittenFrom slots key below
+earlier : (slots : List Slot) (key from below : ℕ) → below ≤ from → IsWrittenFrom slots key from → IsWrittenFrom slots key below
 earlier slots key from below le is = record {
   time = is.time;
   above = let x = is.above in omega arith;
@@ -81,118 +83,133 @@ earlier slots key from below le is = record {
   stands = is.stands;
 }
 
--- it forgets nothing
-longer : (b c : Known) (component key : ℕ) (attempt : ChangeAttempt) → TriesChange b c component key attempt → IsPrefix b.past c.past
-longer b c component key (Finished rmw) tries = done rmw.change tries where
-  done : (change : Change) → Does change b c component key rmw.time rmw.old → IsPrefix b.past c.past
-  done Keep does = does.0.keeps.past.slots
-  done (Set words) does = does.keeps.past.slots
-  done Remove does = does.keeps.past.slots
-longer b c component key (Full t) tries = tries.still.keeps.past.slots
-longer b c component key Lost tries = tries.still.keeps.past.slots
+-- the time that it gave up is counted so, or as one that a reader had cancelled
+pub gave_once : (a b c : Known) → b.view.gave_up ≡ a.view.gave_up
+    → ((c.view.gave_up ≡ next_word b.view.gave_up) × (c.view.overtaken ≡ b.view.overtaken))
+    ⊎ ((c.view.gave_up ≡ b.view.gave_up) × (c.view.overtaken ≡ next_word b.view.overtaken))
+    → (c.view.gave_up ≡ next_word a.view.gave_up) ⊎ (c.view.gave_up ≡ a.view.gave_up)
+gave_once a b c same (inl own) = inl (own.0 ∙ ap next_word same)
+gave_once a b c same (inr lost) = inr (lost.0 ∙ same)
 
-pub writes_on : (b c : Known) (key : ℕ) (o : Option (List ℕ)) (change : Change) (attempt : ChangeAttempt) → WritesLater b c key o change attempt
-    → IsPrefix b.past c.past
-writes_on b c key o change (Finished rmw) writes = writes.2.keeps.past.slots
-writes_on b c key o change (Full t) writes = writes.still.keeps.past.slots
-writes_on b c key o change Lost writes = writes.still.keeps.past.slots
+-- what stayed is a beginning
+pub same_begins : (a b : List Slot) → b ≡ a → IsPrefix a b
+same_begins a b same = ([], append-nil a ∙ sym same)
 
--- a try behind its read, which gave up nothing
-later_on : (a b c : Known) (key read : ℕ) (attempt : ChangeAttempt) → b.view.gave_up ≡ a.view.gave_up → GivesLater b c key read attempt
-    → GivesLater a c key read attempt
-later_on a b c key read (Finished rmw) same h = (h.0 ∙ same, h.1)
-later_on a b c key read (Full t) same h = (h.0 ∙ same, h.1)
-later_on a b c key read Lost same (inl e) = inl (e ∙ same)
-later_on a b c key read Lost same (inr both) = inr (both.0 ∙ ap next_word same, both.1)
+-- the first slots of a beginning are the first ones of the whole
+take_begins : (a b : List Slot) (n : ℕ) → IsPrefix a b → IsPrefix (take n a) b
+take_begins a b n begins = (
+  drop n a ++ begins.0,
+  sym (append_assoc (take n a) (drop n a) begins.0) ∙ ap (λ (l : List Slot). l ++ begins.0) (take-append-drop n a) ∙ begins.1,
+)
 
-pub gives_in_try : (a b c : Known) (component key t : ℕ) (reply : Option (List ℕ)) (attempt : ChangeAttempt) → b.view.gave_up ≡ a.view.gave_up
-    → b.view.hold_first ≡ first_of a.view.hold_first t → a.view.due ≤ t → length a.past ≤ t → ReadsNow b component key t reply → IsPrefix b.past c.past
-    → KeepsFirst b c → GivesLater b c key t attempt → GivesInTry a c key attempt
-gives_in_try a b c component key t reply attempt same first due known reads longer keeps later = record {
-  read = t;
-  first = is_first a.view.hold_first first;
-  due = due;
-  known = known;
-  settled = let settled = reads.settled in let more = prefix_length b.past c.past longer in omega arith;
-  gave = later_on a b c key t attempt same later;
-} where
-  is_first : (o : Option ℕ) → b.view.hold_first ≡ first_of o t → c.view.hold_first ≡ first_of o t
-  is_first None e = keeps t e
-  is_first (Some f) e = keeps f e
+-- it read the key: for the first time in the hold, if there was no look yet
+pub spares_read : (a b : Known) (key t : ℕ) → Still a b → b.view.hold_first ≡ first_of a.view.hold_first t → b.view.gave_up ≡ a.view.gave_up
+    → a.view.due ≤ t → length a.past ≤ t → t ≤ length b.past → (o : Known) → Spared o a key Unread → Still o b × GivesUpFor o b key t
+spares_read a b key t still first gave due known settled o so_far =
+    (still_trans o a b so_far.0 still, by a.view.hold_first first so_far.1)
+  where
+    by : (f : Option ℕ) → b.view.hold_first ≡ first_of f t → GaveUp o a key f → GivesUpFor o b key t
+    by None e none = record {
+      first = t;
+      looked = e;
+      due = let same = so_far.0.due in omega arith;
+      known = let more = prefix_length o.past a.past so_far.0.keeps.past.slots in omega arith;
+      reached = settled;
+      until = omega arith;
+      counts = counts_none _ o.view.gave_up b.view.gave_up (gave ∙ none);
+    }
+    by (Some f) e (due', known', within, h) = record {
+      first = f;
+      looked = e;
+      due = due';
+      known = known';
+      reached = let more = prefix_length a.past b.past still.keeps.past.slots in omega arith;
+      until = omega arith;
+      counts = counts_on (writes_from a.past key f) (writes_from (take t b.past) key f) o.view.gave_up a.view.gave_up b.view.gave_up
+          (writes_on a.past (take t b.past) key f (prefix_take a.past b.past t still.keeps.past.slots known)) h gave;
+    }
+
+-- behind a read at the time r, whose value is kept
+module _ (a b : Known) (key r : ℕ) (keeps : KeepsFirst a b) where
+  -- what was spared below it, seen from a longer past
+  counts_below : (o : Known) (later : List Slot) → IsPrefix (take r a.past) later → b.view.gave_up ≡ a.view.gave_up → (h : GivesUpFor o a key r)
+      → CountsUpTo (writes_from later key h.first) o.view.gave_up b.view.gave_up
+  counts_below o later begins gave h =
+      counts_on (writes_from (take r a.past) key h.first) (writes_from later key h.first) o.view.gave_up a.view.gave_up b.view.gave_up
+      (writes_on (take r a.past) later key h.first begins) h.counts gave
+
+  short : length (take r a.past) ≤ r
+  short = let long = length-take r a.past in omega arith
+
+  -- it is answered, or goes on, at a time from there on, and gave up nothing more
+  pub spares_until : IsPrefix a.past b.past → b.view.gave_up ≡ a.view.gave_up → (last : ℕ) → r ≤ last → (o : Known) → GivesUpFor o a key r
+      → GivesUpFor o b key last
+  spares_until on gave last le o h = record {
+    first = h.first;
+    looked = keeps h.first h.looked;
+    due = h.due;
+    known = h.known;
+    reached = let within = h.reached in let more = prefix_length a.past b.past on in omega arith;
+    until = let until = h.until in omega arith;
+    counts = counts_below o (take last b.past)
+        (prefix_take (take r a.past) b.past last (take_begins a.past b.past r on) (let few = short in omega arith)) gave h;
+  }
+
+  pub spares_ended : IsPrefix a.past b.past → b.view.gave_up ≡ a.view.gave_up → (last : ℕ) → r ≤ last → (o : Known) → Still o a × GivesUpFor o a key r
+      → GivesUpFor o b key last
+  spares_ended on gave last le o so_far = spares_until on gave last le o so_far.1
+
+  module _ (still : Still a b) where
+    pub spares_raced : b.view.gave_up ≡ a.view.gave_up → (o : Known) → Still o a × GivesUpFor o a key r → Still o b × GivesUpFor o b key r
+    spares_raced gave o so_far = (still_trans o a b so_far.0 still, spares_until still.keeps.past.slots gave r (omega arith) o so_far.1)
+
+    gave_for : (o : Known) (h : GivesUpFor o a key r) → CountsUpTo (writes_from b.past key h.first) o.view.gave_up b.view.gave_up
+        → GaveUp o b key b.view.hold_first
+    gave_for o h counts = subst (GaveUp o b key) (sym (keeps h.first h.looked)) (
+      h.due,
+      h.known,
+      let within = h.reached in let more = prefix_length a.past b.past still.keeps.past.slots in omega arith,
+      counts,
+    )
+
+    -- it lost its time to a reader
+    pub spares_overtaken : b.view.gave_up ≡ a.view.gave_up → (o : Known) → Still o a × GivesUpFor o a key r → Spared o b key Unread
+    spares_overtaken gave o so_far = (
+      still_trans o a b so_far.0 still,
+      gave_for o so_far.1 (counts_below o b.past (take_begins a.past b.past r still.keeps.past.slots) gave so_far.1),
+    )
+
+    -- it gave its time up for a write of the key
+    module _ (is : IsWrittenFrom b.past key r) where
+      counts_given : (o : Known) (h : GivesUpFor o a key r) → (b.view.gave_up ≡ next_word a.view.gave_up) ⊎ (b.view.gave_up ≡ a.view.gave_up)
+          → CountsUpTo (writes_from b.past key h.first) o.view.gave_up b.view.gave_up
+      counts_given o h (inl more) =
+          let above = is.above in
+          let until = h.until in
+          let few = short in
+          counts_more (writes_from (take r a.past) key h.first) (writes_from b.past key h.first) o.view.gave_up a.view.gave_up b.view.gave_up
+          (writes_more (take r a.past) b.past key h.first is.time is.seat is.written (take_begins a.past b.past r still.keeps.past.slots)
+          (omega arith) (omega arith) is.stands) h.counts more
+      counts_given o h (inr same) = counts_below o b.past (take_begins a.past b.past r still.keeps.past.slots) same h
+
+      pub spares_outdated : (b.view.gave_up ≡ next_word a.view.gave_up) ⊎ (b.view.gave_up ≡ a.view.gave_up) → (o : Known)
+          → Still o a × GivesUpFor o a key r → Spared o b key Unread × IsWrittenSince o b key
+      spares_outdated gave o so_far = (
+        (still_trans o a b so_far.0 still, gave_for o so_far.1 (counts_given o so_far.1 gave)),
+        earlier b.past key r (max o.view.due (length o.past))
+            (let due = so_far.1.due in let known = so_far.1.known in let until = so_far.1.until in omega arith) is,
+      )
 
 -- ---- one try after another
 
--- nothing is given up before the first
-pub gave_none : (k : Known) (key : ℕ) → k.view.hold_first ≡ None → GaveUp k k key k.view.hold_first
-gave_none k key e = subst (GaveUp k k key) (sym e) refl
-
-module _ (a b c : Known) (component key : ℕ) (attempt : ChangeAttempt) (still : Still a b) (tries : TriesChange b c component key attempt)
-    (once : GivesInTry b c key attempt) where
-  on : IsPrefix b.past c.past
-  on = longer b c component key attempt tries
-
-  due_on : a.view.due ≤ once.read
-  due_on = let due = once.due in let same = still.due in omega arith
-
-  known_on : length a.past ≤ once.read
-  known_on = let known = once.known in let more = prefix_length a.past b.past still.keeps.past.slots in omega arith
-
-  -- a try that is lost joins those before it
-  pub gave_again : attempt ≡ Lost → GaveUp a b key b.view.hold_first → GaveUp a c key c.view.hold_first
-  gave_again is so_far = subst (GaveUp a c key) (sym once.first) (by b.view.hold_first so_far) where
-    lost : GivesUpOnce b c key once.read
-    lost = subst (GivesLater b c key once.read) is once.gave
-
-    -- so many stand, and one more where one is given up
-    counts : (first : ℕ) → first ≤ once.read → CountsUpTo (writes_from b.past key first) a.view.gave_up b.view.gave_up
-        → GivesUpOnce b c key once.read → CountsUpTo (writes_from c.past key first) a.view.gave_up c.view.gave_up
-    counts first le h (inl e) = counts_on (writes_from b.past key first) (writes_from c.past key first) a.view.gave_up b.view.gave_up c.view.gave_up
-        (counts_writes_on b.past c.past key first on) h e
-    counts first le h (inr both) =
-        let w = both.1 in
-        let above = w.above in
-        let known = once.known in
-        counts_more (writes_from b.past key first) (writes_from c.past key first) a.view.gave_up b.view.gave_up c.view.gave_up
-        (writes_more b.past c.past key first w.time w.seat w.written on (omega arith) (omega arith) w.stands) h both.0
-
-    by : (o : Option ℕ) → GaveUp a b key o → GaveUp a c key (first_of o once.read)
-    by None none = (due_on, known_on, once.settled, counts once.read (omega arith) (counts_none _ _ _ none) lost)
-    by (Some first) (due, known, within, h) =
-        let more = prefix_length b.past c.past on in
-        let beyond = once.known in
-        (due, known, omega arith, counts first (omega arith) h lost)
-
-  -- and one that is not ends the call
-  ends : (last : ℕ) → once.read ≤ last → c.view.gave_up ≡ b.view.gave_up → GaveUp a b key b.view.hold_first → GivesUpFor a c key last
-  ends last until same so_far = by b.view.hold_first once.first so_far where
-    by : (o : Option ℕ) → c.view.hold_first ≡ first_of o once.read → GaveUp a b key o → GivesUpFor a c key last
-    by None e none = record {
-      first = once.read;
-      looked = e;
-      due = due_on;
-      known = known_on;
-      reached = once.settled;
-      until = until;
-      counts = counts_none _ a.view.gave_up c.view.gave_up (same ∙ none);
-    }
-    by (Some first) e (due, known, within, h) = let beyond = once.known in let more = prefix_length b.past c.past on in record {
-      first = first;
-      looked = e;
-      due = due;
-      known = known;
-      reached = omega arith;
-      until = omega arith;
-      counts = counts_on (writes_from b.past key first) (writes_from (take last c.past) key first) a.view.gave_up b.view.gave_up c.view.gave_up
-          (counts_writes_on b.past (take last c.past) key first (prefix_take b.past c.past last on (omega arith))) h same;
-    }
-
-  pub gives_done : (rmw : Answered) → attempt ≡ Finished rmw → GaveUp a b key b.view.hold_first → GivesUpFor a c key rmw.time
-  gives_done rmw is so_far = let gave : GivesLater b c key once.read (Finished rmw) = subst (GivesLater b c key once.read) is once.gave in
-      ends rmw.time gave.1 gave.0 so_far
-
-  pub gives_full : (t : ℕ) → attempt ≡ Full t → GaveUp a b key b.view.hold_first → GivesUpFor a c key t
-  gives_full t is so_far = let gave : GivesLater b c key once.read (Full t) = subst (GivesLater b c key once.read) is once.gave in
-      ends t gave.1 gave.0 so_far
+-- a try that is lost
+pub spared_again : (o k : Known) (key : ℕ) (attempt : ChangeAttempt) → is_last attempt ≡ false → SparedBy o k key attempt
+    → Spared o k key (progress_of attempt)
+spared_again o k key (Done rmw) lost spared = absurd cc
+spared_again o k key (Full t) lost spared = absurd cc
+spared_again o k key (Raced progress) lost spared = spared
+spared_again o k key Outdated lost spared = spared.0
+spared_again o k key Overtaken lost spared = spared
 
 -- parts before and behind the tries that give up nothing
 pub gives_around : (a c d f : Known) (key last : ℕ) → c.past ≡ a.past → c.view.due ≡ a.view.due → c.view.gave_up ≡ a.view.gave_up → f.past ≡ d.past

@@ -5,10 +5,9 @@ pub mod Found
 pub mod Unchanged
 pub mod Counting
 pub mod Giving
-pub mod DrawsAgain
 pub mod Attempts
 pub mod Changed
-pub mod TriedChange
+pub mod ChangeLosses
 pub mod Quiet
 pub mod Cleaning
 pub mod Rounds

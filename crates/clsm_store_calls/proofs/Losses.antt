@@ -5,13 +5,12 @@ use Rattle.clsm_model.specs.declared.record.Deed.{Deed}
 use Rattle.clsm_law.specs.declared.view.View.{View}
 use Rattle.clsm_law.specs.Views.{next_word}
 use Rattle.clsm_words.specs.declared.known.Known.{Known}
-use Rattle.clsm_memtable.specs.Filling.{Fills}
 use Rattle.clsm_memtable.specs.Inserting.{Enters, StaysOut, StaysUndecided}
 use Rattle.clsm_memtable.specs.Writing.{Draws, FindsLimit, GivesUp, LosesDraw, LosesTime as IsLost, LooksAhead, RecordsHinted}
 use Rattle.clsm_store_calls.specs.declared.writing.Attempt.{Attempt}
 use Rattle.clsm_store_calls.specs.declared.writing.Attempt.TheVariants.{Written, Full, Raced, Overtaken}
 use Rattle.clsm_store_calls.specs.Resting.{is_answer}
-use Rattle.clsm_store_calls.specs.Tally.{CancelsNone, IsOvertaken, IsRaced, LosesFewer, LosesNoTime, LosesTime, LosesToSeats, OnlyLoses, Tally, after_losses}
+use Rattle.clsm_store_calls.specs.Tally.{CancelsNone, IsRaced, LosesTime, LosesToSeats, OnlyLoses, Tally, after_losses}
 use Rattle.clsm_store_calls.specs.Tally.{counted, looked, tally_of}
 use Rattle.clsm_store_calls.specs.Writing.{CountsOne, CountsTries}
 use Rattle.clsm_store_calls.proofs.Counting.{once_more}

@@ -1,5 +1,5 @@
 -- Parts of calls one after another.
-use Rattle.std.proofs.Common.{◌≡◌, ℕ, ◌≤◌, ◌++◌, ◌∷◌, [], List, refl, sym, ap, ◌∙◌, subst, arith, Option}
+use Rattle.std.proofs.Common.{◌≡◌, ℕ, ◌≤◌, ◌++◌, ◌∷◌, [], List, refl, sym, ap, ◌∙◌, subst, arith, Option, Result, Ok, Err, OnOk, is_ok, true}
 use Rattle.clsm_model.specs.History.{IsBeginning}
 use Rattle.clsm_model.specs.declared.record.Deed.{Deed}
 use Rattle.clsm_model.specs.declared.record.CallRecord.{CallRecord}
@@ -126,3 +126,8 @@ stays_open Absent is = refl
 stays_open (Noted noted) is = absurd is
 stays_open (Timed noted time) is = absurd is
 stays_open (Open noted time) is = refl
+
+-- what is so where the call before went well
+pub when_ok : {T E P : Type 0} (r : Result T E) → is_ok r ≡ true → OnOk r P → P
+when_ok (Ok x) is holds = holds
+when_ok (Err error) is holds = absurd cc

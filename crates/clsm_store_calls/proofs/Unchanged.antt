@@ -1,6 +1,6 @@
 -- Where no write of a key came between two times, the key has the same value at both.
 use Rattle.std.proofs.Common.{◌≡◌, ℕ, zero, suc, ◌*◌, ◌<◌, ◌≤◌, ◌==◌, ◌↔◌, Bool, true, false, not, min, List, length, get_or, refl, sym, ap, ◌∙◌, subst, arith}
-use Rattle.std.proofs.Common.{inl, inr, rules, IsTrue, Option}
+use Rattle.std.proofs.Common.{inl, inr, IsTrue, Option}
 use Rattle.std.proofs.Common.{Some, None}
 use Rattle.std.proofs.lemmas.Bool.{cases_lt, false_from_ne_true}
 use Rattle.std.proofs.lemmas.List.{get_or_append_left}
@@ -9,27 +9,26 @@ use Rattle.clsm_model.specs.declared.slot.Slot.{Slot}
 use Rattle.clsm_model.specs.declared.slot.Slot.TheVariants.{Nothing, Wrote}
 use Rattle.clsm_model.specs.declared.record.Deed.{Deed}
 use Rattle.clsm_model.specs.declared.record.Deed.TheVariants.{Rmw}
-use Rattle.clsm_model.specs.Right.{IsRight, write_by}
+use Rattle.clsm_model.specs.Right.{IsRight}
 use Rattle.clsm_law.specs.OpenSteps.{IsReadBelow}
-use Rattle.clsm_law.specs.declared.step.Step.TheVariants.{Decide}
+use Rattle.clsm_law.specs.declared.layout.Layout.{Layout}
 use Rattle.clsm_law.specs.declared.view.View.{View}
 use Rattle.clsm_model.specs.History.{History, Write, left_by, newest, or_else, plain, slot_at, value, write_of}
 use mathlib.Core.List.{IsPrefix}
 use Rattle.clsm_model.proofs.Histories.{value-same}
 use Rattle.clsm_words.specs.declared.known.Known.{Known}
 use Rattle.clsm_words.specs.Keeping.{Looks, OnlyReads}
-use Rattle.clsm_words.specs.Knowing.{Opens, Sound}
+use Rattle.clsm_words.specs.Knowing.{Sound}
 use Rattle.clsm_law.proofs.Finding.Values.{newest_none}
+use Rattle.clsm_memtable.specs.Writing.{Draws}
 use Rattle.clsm_search.specs.declared.spans.Span.{Span}
 use Rattle.clsm_search.specs.Searching.{IsNewest, is_hit, slot_in, value_in}
 use Rattle.clsm_search.specs.Spans.{IsWrittenIn}
 use Rattle.clsm_search.proofs.Chains.{wrote_of}
 use Rattle.clsm_search.proofs.NewestWrites.{none_written}
-use Rattle.clsm_memtable.specs.Filling.{Fills}
-use Rattle.clsm_memtable.specs.Inserting.{Enters}
-use Rattle.clsm_memtable.proofs.Entries.{looks_out}
 use Rattle.clsm_store_calls.specs.declared.changing.Modified.{Modified}
-use Rattle.clsm_store_calls.specs.Changing.{IsWrittenFrom, ReadsNow, deed_by}
+use Rattle.clsm_store_calls.specs.Changing.{HasKept, IsToFill, IsWrittenFrom, deed_by}
+use Rattle.clsm_store_calls.specs.Resting.{IsSettled}
 
 its_time : (key t : ℕ) (slot : Slot) (w : Write) → write_of key t slot ≡ Some w → w.time ≡ t
 its_time key t Nothing w e = absurd cc
@@ -127,21 +126,52 @@ read_on k k' t (Rmw key old change) past same read = (
 read_on k k' t deed past same read = tt
 
 -- where no write of the key came between, a change at the later time has read what stands below it
-pub read_later : {k k' k'' : Known} {component : ℕ} (t : ℕ) (m : Modified) → ReadsNow k component m.key m.read.time m.read.old → k'.past ≡ k.past
-    → OnlyReads k' k'' → value (plain k''.past) m.key t ≡ value (plain k''.past) m.key m.read.time → Sound k'' → t ≤ length k''.past
-    → IsReadBelow (plain k''.past) k''.view t (deed_by m)
-read_later {k} {k'} {k''} t m read past reads unchanged sound settled =
-    let old = read.is ∙ value_later k.past k'.past k''.past m.key m.read.time past reads.seat.past.slots read.settled ∙ sym unchanged in
+pub read_later : {k k' k'' : Known} {component : ℕ} (key t : ℕ) (m : Modified) → HasKept k component key m → k'.past ≡ k.past → OnlyReads k' k''
+    → value (plain k''.past) key t ≡ value (plain k''.past) key m.read.time → Sound k'' → t ≤ length k''.past
+    → IsReadBelow (plain k''.past) k''.view t (deed_by key m)
+read_later {k} {k'} {k''} key t m kept past reads unchanged sound settled =
+    let old = kept.is ∙ value_later k.past k'.past k''.past key m.read.time past reads.seat.past.slots kept.settled ∙ sym unchanged in
     (let long = sound.length_is in omega arith, record { readable = record { reached = settled; uncut = tt }; reads = old })
 
--- a drawn cell that was filled and entered, behind looks, may be decided
-pub opens_decide : {k0 k1 k2 k3 : Known} {t : ℕ} {deed : Deed} {written : Option (List ℕ)} (m : Modified) → deed ≡ deed_by m → Sound k0 → Sound k1
-    → Looks k0 k1 → Fills k1 k2 m.key written → Enters k2 k3 → written ≡ m.value → k0.view.drawn ≡ Some t
-    → write_by 0 (deed_by m) ≡ Some (Wrote 0 m.key m.value) → IsReadBelow (plain k0.past) k0.view t (deed_by m) → Opens k3 (Decide t deed)
-opens_decide {k0} {k1} {k2} {k3} {t} m is sound sound' looks fills enters value drawn writes reads =
-    let out = looks_out k0 k1 sound sound' looks in
-    let past = enters.past ∙ fills.parts.place.past ∙ out.past in
-    let same = ap (λ (v : View). v.past) enters.view ∙ ap (λ (v : View). v.past) fills.parts.view ∙ ap (λ (v : View). v.past) out.view in
-    let read = read_on k0 k3 t (deed_by m) past same reads in
-    let opens : Opens k3 (Decide t (deed_by m)) = (search rules, search rules, search rules, read, search rules) in
-    subst (λ (d : Deed). Opens k3 (Decide t d)) (sym is) opens
+-- ---- a drawn time
+
+-- what tells that a hold and a read go on
+abbrev held : View → View → Type 0
+held v w = (w.mode ≡ v.mode) × (w.pinned ≡ v.pinned) × (w.held ≡ v.held) × (w.snapshot ≡ v.snapshot)
+
+held_by : (v w : View) (after : View) → w ≡ after → held v after → held v w
+held_by v w after is h = subst (held v) (sym is) h
+
+-- drawn, and found unchanged until then
+module _ (a b c : Known) (component key t : ℕ) (m : Modified) (kept : HasKept a component key m) (draws : Draws a b t) (reads : OnlyReads b c) where
+  mode_drawn : held a.view c.view
+  mode_drawn = held_by a.view c.view _ reads.view (held_by a.view b.view _ draws.view (refl, refl, refl, refl))
+
+  pub to_fill : Sound c → t ≤ length c.past → m.read.time ≤ t → value (plain c.past) key t ≡ value (plain c.past) key m.read.time
+      → IsToFill c component key m t
+  to_fill sound settled later unchanged = record {
+    read = record {
+      shared = mode_drawn.0 ∙ kept.pinned.shared;
+      pinned = mode_drawn.1 ∙ kept.pinned.pinned;
+      held = mode_drawn.2 ∙ kept.pinned.held;
+      settled = subst IsSettled (sym mode_drawn.3) kept.pinned.settled;
+      merged =
+          let cells = ap (λ (z : Layout). component * z.cells) (reads.seat.layout ∙ draws.place.seat.layout) in
+          let before = kept.pinned.merged in
+          let same = ap (λ (v : View). v.reached) draws.view in
+          let more = reads.reached in
+          omega arith;
+      due =
+          let one = ap (λ (v : View). v.due) draws.view in
+          let two = ap (λ (v : View). v.due) reads.view in
+          let above = draws.due in
+          omega arith;
+      later = later;
+      writes = kept.writes;
+      reads = read_later key t m kept draws.place.past reads unchanged sound settled;
+    };
+    limit = λ none. draws.looked (sym (ap (λ (v : View). v.hold_limit) reads.view) ∙ none);
+    drawn = ap (λ (v : View). v.drawn) reads.view ∙ ap (λ (v : View). v.drawn) draws.view;
+    unlinked = ap (λ (v : View). v.linked) reads.view ∙ ap (λ (v : View). v.linked) draws.view;
+    out = ap (λ (v : View). v.inserted) reads.view ∙ ap (λ (v : View). v.inserted) draws.view;
+  }

@@ -12,6 +12,5 @@ pub mod Freezing
 pub mod Looking
 pub mod Merging
 pub mod Reclaiming
-pub mod TryingChange
 pub mod Batching
 pub mod Agreeing

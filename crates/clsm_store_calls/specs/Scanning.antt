@@ -2,40 +2,20 @@
 use Rattle.std.specs.List.{FoldsTo}
 use Rattle.std.specs.Prelude.{◌≡◌, ℕ, ◌≤◌, [], List, length, Option, Some, None}
 use Rattle.clsm_model.specs.declared.record.Deed.{Deed}
-use Rattle.clsm_model.specs.declared.record.Deed.TheVariants.{Get, Scan, Page}
+use Rattle.clsm_model.specs.declared.record.Deed.TheVariants.{Get, Scan}
 use Rattle.clsm_model.specs.History.{History, end_of}
-use Rattle.clsm_law.specs.declared.step.End.{End}
-use Rattle.clsm_law.specs.declared.step.End.TheVariants.{Recorded}
 use Rattle.clsm_model.specs.Map.{IsRange, Pair}
-use Rattle.clsm_model.specs.Right.{IsPage, page_deed}
-use Rattle.clsm_scan.specs.declared.collecting.KeyRange.{KeyRange}
+use Rattle.clsm_model.specs.Right.{page_deed}
 use Rattle.clsm_words.specs.declared.known.Known.{Known}
-use Rattle.clsm_store_calls.specs.declared.scanning.Asked.{Asked}
-use Rattle.clsm_store_calls.specs.declared.scanning.Asked.TheVariants.{All, First}
 use Rattle.clsm_store_calls.specs.Seats.{Answers, SeatState, known_by}
 use Rattle.clsm_store_calls.specs.Resting.{GoesOn}
 use Rattle.clsm_store_calls.specs.Tally.{TakesNoLock, tally_of}
 
--- the first key and the last one that were asked for, and how many pairs at most
-abbrev pub range_of : Asked → KeyRange
-range_of (All lo hi) = record { lo = lo; hi = hi; max = None }
-range_of (First lo hi max) = record { lo = lo; hi = hi; max = Some max }
-
--- the rows, and the key of the next one, are what was asked for of the history below the time
-abbrev pub GivesAsked : History → ℕ → Asked → List Pair → Option ℕ → Type 0
-GivesAsked h s (All lo hi) rows more = IsRange h s lo hi rows
-GivesAsked h s (First lo hi max) rows more = (all : List Pair) × IsRange h s lo hi all × IsPage all max rows more
-
--- the end of a read that is recorded
-abbrev pub IsRecord : End → Type 0
-IsRecord (Recorded deed) = Unit {0}
-IsRecord end = ⊥
-
--- the deed answers what was asked
-abbrev pub IsAnswerTo : Asked → Deed → Type 0
-IsAnswerTo (All lo hi) (Scan from to rows) = (from ≡ lo) × (to ≡ hi)
-IsAnswerTo (First lo hi most) (Page range rows more) = range ≡ record { from = lo; hi = hi; max = most }
-IsAnswerTo asked deed = ⊥
+-- the deed of a read that collected these rows: all of the range, or so many of the first, and the
+-- key of the next one
+abbrev pub rows_deed : Option ℕ → ℕ → ℕ → List Pair → Option ℕ → Deed
+rows_deed None lo hi rows more = Scan lo hi rows
+rows_deed (Some most) lo hi rows more = page_deed lo hi most rows more
 
 -- where no snapshot is open, the time is the clock as the seat looked at it last
 abbrev pub IsAtClock : SeatState → SeatState → ℕ → Type 0

@@ -141,3 +141,52 @@ CountsInHold tries old new (Err Overtaken) = IsOvertaken tries old new
 abbrev pub CountsTry : ℕ → Tally → Tally → Result ℕ TryPutError → Type 0
 CountsTry tries old new (Err Busy) = new ≡ record old { busy = next_word old.busy }
 CountsTry tries old new answer = CountsInHold tries (record old { entries = next_word old.entries }) new answer
+
+-- ---- read-modify-writes
+
+-- the counts after so many exchanges that a change lost to other seats, so many times of its own
+-- that it lost to others that cancelled them, and so many that it gave up; its reads may have
+-- cancelled times of others, each after as many looks as its patience says
+abbrev pub after_changes : Tally → Tally → ℕ → ℕ → ℕ → Tally
+after_changes old new raced overtaken gave_up =
+    record (after_losses old new raced overtaken) { gave_up = iterate next_word gave_up old.gave_up; cancelled = new.cancelled }
+
+-- it lost exchanges and times, and counted nothing else but the times of others that it cancelled
+abbrev pub OnlyLosesChanges : Tally → Tally → Type 0
+OnlyLosesChanges old new =
+    new ≡ record (looked old new) { raced = new.raced; overtaken = new.overtaken; gave_up = new.gave_up; cancelled = new.cancelled }
+
+-- it lost exchanges and times, so many of each as may be
+pub record CountsLosses (May : ℕ → ℕ → ℕ → Type 0) (old new : Tally) : Type 0 where
+  pub raced : ℕ
+  pub overtaken : ℕ
+  pub gave_up : ℕ
+  pub may : May raced overtaken gave_up
+  pub counts : new ≡ after_changes old new raced overtaken gave_up
+
+-- fewer than so many tries
+abbrev pub LosesFewerChanges : ℕ → Tally → Tally → Type 0
+LosesFewerChanges tries old new = CountsLosses (λ raced overtaken gave_up. raced + overtaken + gave_up < tries) old new
+
+-- so many, and an exchange with the last one
+abbrev pub LosesAtExchange : ℕ → Tally → Tally → Type 0
+LosesAtExchange tries old new = CountsLosses (λ raced overtaken gave_up. (raced + overtaken + gave_up ≡ tries) × (0 < raced)) old new
+
+-- so many, and its time with the last one
+abbrev pub LosesWithTime : ℕ → Tally → Tally → Type 0
+LosesWithTime tries old new = CountsLosses (λ raced overtaken gave_up. (raced + overtaken + gave_up ≡ tries) × (0 < overtaken + gave_up)) old new
+
+-- so many, and the last one to a reader
+abbrev pub LosesToReader : ℕ → Tally → Tally → Type 0
+LosesToReader tries old new = CountsLosses (λ raced overtaken gave_up. (raced + overtaken + gave_up ≡ tries) × (0 < overtaken)) old new
+
+-- so many, and an exchange with the last one; and then, where it had drawn a time, it gave that up,
+-- unless a reader had cancelled it first
+pub record LosesAtLast (tries : ℕ) (old new : Tally) : Type 0 where
+  pub raced : ℕ
+  pub overtaken : ℕ
+  pub gave_up : ℕ
+  pub all : raced + overtaken + gave_up ≡ tries
+  pub last : 0 < raced
+  pub counts : new ≡ record (after_changes old new raced overtaken gave_up) { overtaken = new.overtaken; gave_up = new.gave_up }
+  pub time : LosesNoTime (after_changes old new raced overtaken gave_up) new ⊎ LosesTime (after_changes old new raced overtaken gave_up) new

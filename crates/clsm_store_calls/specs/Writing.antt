@@ -1,5 +1,5 @@
 -- A write in its hold of the lock.
-use Rattle.std.specs.Prelude.{◌≡◌, ◌+◌, ◌<◌, ◌≤◌, ℕ, List, false, map, take, true, Option, Some, None, Result, Ok, Err}
+use Rattle.std.specs.Prelude.{◌≡◌, ◌≤◌, ℕ, List, false, map, take, true, Option, Some, None, Result, Ok, Err}
 use Rattle.clsm_model.specs.declared.record.Deed.{Deed}
 use Rattle.clsm_law.specs.Views.{IsShort, is_all_some, length_of, next_word, or_zero, words_of}
 use Rattle.clsm_law.specs.declared.view.Mode.TheVariants.{Shared}
@@ -9,7 +9,7 @@ use Rattle.clsm_words.specs.Seats.{RawState}
 use Rattle.clsm_memtable.specs.Entering.{MayGoOn}
 use Rattle.clsm_memtable.specs.Inserting.{IsStart}
 use Rattle.clsm_store_calls.specs.declared.writing.Attempt.{Attempt}
-use Rattle.clsm_store_calls.specs.declared.writing.Attempt.TheVariants.{Written, Full, Raced, Overtaken}
+use Rattle.clsm_store_calls.specs.declared.writing.Attempt.TheVariants.{Raced, Overtaken}
 use Rattle.clsm_store_calls.specs.declared.writing.Drawn.{Drawn}
 use Rattle.clsm_store_calls.specs.declared.writing.Progress.{Progress}
 use Rattle.clsm_store_calls.specs.declared.refusal.TryPutError.{TryPutError}

@@ -72,3 +72,20 @@ pub struct Counted {
     pub keys: u64,
     pub first: Option<u64>,
 }
+
+/// The answer of a read that collected rows, beside these: its time, and the key of the first row
+/// that was left out, if one was.
+#[derive(Clone, Copy, PartialEq, Eq, Debug)]
+pub struct Collected {
+    pub time: Time,
+    pub more: Option<u64>,
+}
+
+/// The answer of a page that filled rows of the caller's: its time, how many rows are filled, and
+/// the key of the first pair that was left out, if one was. The next page begins there.
+#[derive(Clone, Copy, PartialEq, Eq, Debug)]
+pub struct Filled {
+    pub time: Time,
+    pub rows: usize,
+    pub more: Option<u64>,
+}

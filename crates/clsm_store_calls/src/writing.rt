@@ -281,7 +281,7 @@ impl Assignment<'_> {
 }
 
 /// A write that waits loses so many tries before it looks whether to go on, which it does.
-const AT_A_TIME: u64 = 1;
+pub(crate) const AT_A_TIME: u64 = 1;
 
 /// Writes the value at the key, or with `None` removes it, and waits for the lock.
 #[tactic(auto, using(crate::proofs::Losses::cancels_none,))]

@@ -3,6 +3,7 @@
 #![tactic(auto)]
 
 mod divisor;
+mod ending;
 mod known;
 mod load;
 mod operation;
@@ -10,6 +11,7 @@ mod pace;
 mod rule;
 mod words;
 
+pub use ending::Ending;
 pub use known::{Known, Spot};
 pub use load::{Load, load_into, load_value, load_word};
 pub use pace::{Free, Kind, Pace};

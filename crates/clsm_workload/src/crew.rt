@@ -8,7 +8,7 @@ ghost use Rattle.clsm_workload.specs.Run.{StopsWork};
 
 use crate::auditing::audited;
 use crate::load::AskedRun;
-use crate::merger::{merge_beside, merges_of};
+use crate::merger::{Merged, merge_beside};
 use crate::progress::work_showing;
 use crate::ran::{Calling, Ran};
 use crate::task::Task;
@@ -65,24 +65,24 @@ where
         merger,
     };
     let start = Instant::now(rt)?;
-    let (worked, merges) = work_merging(rt, alloc, crew, &task, faults);
+    let (worked, merged) = work_merging(rt, alloc, crew, &task, faults);
     let calling = Calling {
         time: start.elapsed(rt)?,
-        merges: Some(merges),
+        merged: Some(merged),
     };
     let worked = worked?;
     audited(rt, alloc, &asked.config, worked, calling)
 }
 
 /// Lets the workers work while the merger merges and the line moves. Answers what they gave back,
-/// and the number of merges. Refused if memory runs out.
+/// and what the merger tells. Refused if memory runs out.
 pub fn work_merging<P, R, E>(
     rt: &R,
     alloc: Global,
     crew: Crew<'_, P>,
     task: &Task,
     faults: &mut E,
-) -> (Result<Vec<Worked>, AllocError>, u64)
+) -> (Result<Vec<Worked>, AllocError>, Merged)
 where
     P: Pace + Drop + Sync,
     R: Threads + Sync + Clock + Wait,
@@ -95,7 +95,7 @@ where
         rt,
         task,
         faults,
-        || -> (Result<Vec<Worked>, AllocError>, u64)
+        || -> (Result<Vec<Worked>, AllocError>, Merged)
             requires { (All (λ seat. seat.store ≡ crew.store.now) crew.seats.items) × (crew.merger.merger.store ≡ crew.store.now) }
             ensures { IfOk result.0 (λ worked. AreWorked task.entry.now.load crew.entry.seats.items worked.items) }
         { work_beside(rt, alloc, crew, task) },
@@ -108,7 +108,7 @@ fn work_beside<P, R>(
     alloc: Global,
     crew: Crew<'_, P>,
     task: &Task,
-) -> (Result<Vec<Worked>, AllocError>, u64)
+) -> (Result<Vec<Worked>, AllocError>, Merged)
 where
     P: Pace + Drop + Sync,
     R: Threads + Sync + Clock + Wait,
@@ -123,15 +123,15 @@ where
     } = crew;
     let merger = Merger::new(store, merger);
     // Where no thread can be made, the first of the two comes last, and finds that all is over.
-    let (merges, worked) = join(
+    let (merged, worked) = join(
         rt,
-        || merges_of(&merge_beside(rt, merger, &task.board).phase),
+        || merge_beside(rt, merger, &task.board),
         || -> Result<Vec<Worked>, AllocError>
             requires { All (λ seat. seat.store ≡ store.now) seats.items }
             ensures { IfOk result (λ worked. AreWorked task.entry.now.load seats.items worked.items) }
         { work_all(rt, alloc, store, seats, task) },
     );
-    (worked, merges)
+    (worked, merged)
 }
 
 /// Lets each seat's worker work in a thread of its own, and says on the board when all have ended.

@@ -26,6 +26,7 @@ pub use crew::{Crew, run_on, work_merging};
 pub use gathering::{Gathered, gather};
 pub use kind::Kind;
 pub use load::{AskedRun, Load, Shows};
+pub use merger::Merged;
 pub use opening::{run, run_printed};
 pub use player::Player;
 pub use ran::{Calling, Ran};

@@ -21,7 +21,8 @@ pub struct Load {
 /// What a run shows beside its verdict.
 #[derive(Clone, Copy, Debug, PartialEq, Eq)]
 pub struct Shows {
-    /// How many calls of each kind a second, their times, the refusals and the merges, at the end.
+    /// How many calls of each kind a second, their times, the refusals, and what the store tells
+    /// of itself, at the end.
     pub stats: bool,
     /// One line that moves while it runs.
     pub progress: bool,

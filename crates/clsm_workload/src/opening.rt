@@ -91,7 +91,7 @@ where
     let ran = run(rt, alloc, asked, faults)?;
     print_run(alloc, asked, &ran, output)?;
     if asked.shows.stats {
-        let _ = write_stats(alloc, faults, &ran);
+        let _ = write_stats(alloc, faults, &asked.config, &ran);
     }
     ending(&ran.verdict)
 }

@@ -1,4 +1,5 @@
 //! What a run came to.
+use crate::merger::Merged;
 use crate::watch::Note;
 use clsm_audit::AuditError;
 use clsm_model::CallRecord;
@@ -18,10 +19,10 @@ pub struct Ran {
     pub auditing: Duration,
 }
 
-/// How the calls of a run went: how long all of them took, and the number of merges beside them,
-/// which a session does not tell.
+/// How the calls of a run went: how long all of them took, and what the merger beside them tells,
+/// which a session does not.
 #[derive(Clone, Copy, Debug)]
 pub struct Calling {
     pub time: Duration,
-    pub merges: Option<u64>,
+    pub merged: Option<Merged>,
 }

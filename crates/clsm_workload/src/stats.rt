@@ -1,33 +1,84 @@
-//! How fast a run was.
+//! How fast a run was, and what its store tells of itself.
 use crate::kind::{KINDS, Kind};
+use crate::merger::Merged;
 use crate::progress::per_second;
 use crate::ran::Ran;
 use crate::watch::Note;
 use clsm_audit::Moments;
-use clsm_model::Memory;
+use clsm_model::{Config, Memory};
+use clsm_store::Seat;
 use clsm_text::Failure;
 use std::alloc::Global;
-use std::io::Write;
+use std::io::{self, Write};
 use std::time::Duration;
 
 /// Writes a line for each kind of calls: how many were answered and how many refused, how many a
 /// second, and the median, the 99th and 99.9th percentile and the greatest of their times in
-/// nanoseconds; and a line with the refusals, one with the merges if they were counted, and one
-/// with the time of the calls and of the audit.
-pub fn write_stats<E: Write>(alloc: Global, faults: &mut E, ran: &Ran) -> Result<(), Failure> {
+/// nanoseconds; a line with the refusals; a line for each figure of the store; and one with the
+/// time of the calls and of the audit.
+pub fn write_stats<E: Write>(
+    alloc: Global,
+    faults: &mut E,
+    config: &Config,
+    ran: &Ran,
+) -> Result<(), Failure> {
     for kind in KINDS {
         write_kind(alloc, faults, &ran.notes, kind, ran.calling.time)?;
     }
     let full = ran.notes.iter().filter(|note| !note.is_answered).count();
     writeln!(faults, "refused full {full}")?;
-    if let Some(merges) = ran.calling.merges {
-        writeln!(faults, "merges {merges}")?;
+    write_seats(faults, &ran.seats)?;
+    if let Some(merged) = ran.calling.merged {
+        write_merged(faults, config, &merged)?;
     }
     let calling = ran.calling.time.as_millis();
     let auditing = ran.auditing.as_millis();
     writeln!(faults, "milliseconds calls {calling} audit {auditing}")?;
     faults.flush()?;
     Ok(())
+}
+
+/// Writes how many callers the store has, how many of them have a snapshot open, and the time of
+/// the oldest snapshot, if there is one: figures of `clsm_statistics` in capi/clsm.h, by its names.
+fn write_seats<E: Write>(faults: &mut E, seats: &[Seat]) -> io::Result<()> {
+    let callers = seats.len();
+    let snapshots = seats
+        .iter()
+        .filter(|seat| seat.snapshot_time().is_some())
+        .count();
+    writeln!(faults, "callers {callers}")?;
+    writeln!(faults, "snapshots {snapshots}")?;
+    let oldest = seats.iter().filter_map(|seat| seat.snapshot_time()).min();
+    if let Some(time) = oldest {
+        writeln!(faults, "oldest_time {time}")?;
+    }
+    Ok(())
+}
+
+/// Writes what the merger tells of a store of these sizes: figures of `clsm_statistics` in
+/// capi/clsm.h, by its names and in its order.
+fn write_merged<E: Write>(faults: &mut E, config: &Config, merged: &Merged) -> io::Result<()> {
+    let Merged {
+        merges,
+        level_zero,
+        level_one,
+        last_merge,
+        longest_merge,
+        epoch_writes,
+    } = *merged;
+    if let Some(epoch_writes) = epoch_writes {
+        let begin = merges.saturating_mul(config.cells as u64);
+        let clock = begin.saturating_add(epoch_writes);
+        writeln!(faults, "clock {clock}")?;
+        writeln!(faults, "epoch_writes {epoch_writes}")?;
+    }
+    let room_for_versions = (config.run as u64).saturating_sub(level_one);
+    writeln!(faults, "level_zero {level_zero}")?;
+    writeln!(faults, "level_one {level_one}")?;
+    writeln!(faults, "room_for_versions {room_for_versions}")?;
+    writeln!(faults, "merges {merges}")?;
+    writeln!(faults, "last_merge {last_merge}")?;
+    writeln!(faults, "longest_merge {longest_merge}")
 }
 
 /// The times of the answered calls of a kind, by rising length. Refused if memory runs out.

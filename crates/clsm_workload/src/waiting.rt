@@ -61,7 +61,7 @@ where
     );
     let calling = Calling {
         time: start.elapsed(rt)?,
-        merges: None,
+        merged: None,
     };
     let ended = match ended {
         Ok(ended) => ended,

@@ -1,7 +1,7 @@
 """Cupolanettle: an ordered map in memory for many threads.
 
-Keys are ints from 0 to 2**64 - 1. Values are such ints too, or tuples of 2 to 8 of them. Reads
-never wait, and read the map as it is at one moment; a snapshot keeps that moment.
+Keys are ints from 0 to 2**64 - 1. Values are such ints too, or tuples of 2 to 8 of them. A read
+waits for no write, and gives the map as it is at one moment; a snapshot keeps that moment.
 
 >>> import threading
 >>> with Store(keys=100_000) as store:

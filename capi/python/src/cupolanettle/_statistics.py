@@ -18,15 +18,15 @@ class Statistics(NamedTuple):
       borrow callers; a scan is a snapshot, and the library's own scans are not used.
     - ``oldest_time``, ``oldest_age``: of the oldest snapshot or scan, the time at which it reads,
       and for how long it is open, or 0.
-    - ``clock``: the time of the next write.
-    - ``epoch_writes``: writes of the current epoch.
+    - ``clock``: the time of the next write; while nothing more can be opened, as it was found last.
+    - ``epoch_writes``: writes of the current epoch, by that clock.
     - ``level_zero``, ``level_one``: entries of the runs, keys and old versions, before the last
       merge.
-    - ``room_for_keys``: so many more keys, at least, may have a value.
+    - ``room_for_keys``: so many more keys than level one has entries may have a value.
     - ``room_for_versions``: so many more entries fit into level one.
     - ``merges``, ``last_merge``, ``longest_merge``: how many were made, and how long they took.
-    - ``waits``, ``longest_wait``: how often writes waited for room, and how long.
-    - ``run_full``, ``versions_full``, ``no_seat``: how often calls were refused for this.
+    - ``waits``, ``longest_wait``: how often writes waited for room, and how long at most.
+    - ``run_full``, ``versions_full``, ``no_seat``: how often writes and opens were refused so.
 
     >>> with Store(keys=1_000) as store:
     ...     store[7] = 70

@@ -89,14 +89,13 @@ class Store(core.Store, Reader):
       0 to 64.
     - ``merge_in_calls``: writes merge, instead of a thread of the store.
 
-    The store takes all its memory at once, 176 bytes for each of the keys and versions and 544 for
-    each write of an epoch: 37 MiB unless told otherwise. ``ValueError`` if an option is out of
-    range; :class:`Error` if memory ran out or the system started no thread.
+    The store takes all its memory at once: 37 MiB unless told otherwise. ``ValueError`` if an
+    option is out of range; :class:`Error` if memory ran out or the system started no thread.
 
-    Any thread may call. Reads never wait, and each reads the map of one moment. Writes wait for
-    other writes, and for a merge if the epoch is full. :class:`RunFull` if a write would give one
-    more key a value than there may be; :class:`VersionsFull` if an open snapshot keeps too many
-    versions.
+    Any thread may call. A read waits for no write and no merge, and gives the map of one moment.
+    Writes wait for other writes, and for a merge if the epoch is full. :class:`RunFull` if a write
+    would give one more key a value than there may be; :class:`VersionsFull` if an open snapshot
+    keeps too many versions.
     Changes, as :meth:`add`, read a key and write it in one step: no other write of the key comes
     between. They wait as writes do.
     Threads need nothing of their own. A snapshot or a scan keeps one of the store's 64 seats:

@@ -58,7 +58,7 @@ pub const BUSY: c_int = 9;
 /// Another write was faster.
 pub const RACED: c_int = 10;
 
-/// A reader did not wait for this write, and cancelled it.
+/// A reader found this write unfinished for too long, and cancelled it.
 pub const OVERTAKEN: c_int = 11;
 
 /// A read that is running still holds what a merge replaced.

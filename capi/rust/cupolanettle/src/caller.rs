@@ -16,9 +16,11 @@ use std::ops::RangeBounds;
 
 /// Makes calls on a store, from one thread at a time.
 ///
-/// Reads take no lock and never wait; each reads the map as it was at one moment. Writes wait
-/// while another thread merges what they need. They are [refused](Refused) if too many keys have a
-/// value, or if a snapshot stays open for too long.
+/// A read gives the map as it was at one moment. It blocks for no write and no merge: at a write
+/// that has begun and not ended it looks again, as often as the
+/// [patience](crate::Options::patience) says, and then cancels that write, which is made again.
+/// Writes wait while another thread merges what they need. They are [refused](Refused) if too many
+/// keys have a value, or if a snapshot stays open for too long.
 ///
 /// ```
 /// use cupolanettle::{Error, Options, Value};

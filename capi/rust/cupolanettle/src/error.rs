@@ -16,16 +16,15 @@ use cupolanettle_sys as raw;
 #[non_exhaustive]
 #[derive(Clone, Copy, PartialEq, Eq, Hash, Debug)]
 pub enum OpenError {
-    /// [`keys`](crate::Options::keys) is not from 1 to 4,194,304 less six times the epoch and 64.
+    /// [`keys`](crate::Options::keys) is out of its range.
     Keys,
-    /// [`versions`](crate::Options::versions) is not from six times the epoch and 64 to 4,194,304
-    /// less the keys.
+    /// [`versions`](crate::Options::versions) is out of its range.
     Versions,
-    /// [`epoch`](crate::Options::epoch) is not from 4 to 65,536.
+    /// [`epoch`](crate::Options::epoch) is out of its range.
     Epoch,
-    /// [`patience`](crate::Options::patience) is over 64.
+    /// [`patience`](crate::Options::patience) is out of its range.
     Patience,
-    /// [`wait`](crate::Options::wait) is over 18,446,744,073,709 milliseconds.
+    /// [`wait`](crate::Options::wait) is out of its range.
     Wait,
     /// Memory ran out.
     Memory,
@@ -184,7 +183,7 @@ pub enum TryError {
     Busy,
     /// Another write was faster.
     Raced,
-    /// A reader would not wait for this write, and cancelled it.
+    /// A reader found this write unfinished for too long, and cancelled it.
     Overtaken,
     /// A write that waits would be refused, too, or would wait for a snapshot to be dropped: the
     /// last merge came to that. [`OwnSnapshot`](Refused::OwnSnapshot) is told as

@@ -1,6 +1,6 @@
 //! An ordered map in memory for many threads, from `u64` to values of one to eight words.
 //!
-//! Reads take no lock and never wait, and a snapshot reads the map as it was. A thread of the
+//! Reads block for no write and no merge, and a snapshot reads the map as it was. A thread of the
 //! store merges old versions in the background. The map is the proved core of Cupolanettle, a
 //! concurrent log-structured merge map: every answer of a single call is that of a plain map of
 //! the writes below its time.

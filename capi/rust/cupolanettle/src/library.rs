@@ -248,7 +248,6 @@ impl<K: Kind> Handle<K> {
         match code {
             // SAFETY: a call that answers so has written so many rows, for which there was room.
             raw::OK => unsafe { rows.set_len(end.rows as usize) },
-            raw::MEMORY => return Err(Memory),
             code => unexpected(code),
         }
         Ok(end.more.then_some(end.next))
@@ -363,15 +362,14 @@ pub(crate) struct OpenWalk<'a> {
 impl OpenWalk<'_> {
     /// The next row, or `None` behind the last one, and so again.
     #[inline]
-    pub(crate) fn next(&mut self) -> Result<Option<raw::Row>, Memory> {
+    pub(crate) fn next(&mut self) -> Option<raw::Row> {
         let mut row = MaybeUninit::uninit();
         // SAFETY: the walk and its caller are open, and in no other call; `row` is of this frame.
         let code = unsafe { raw::clsm_walk_next(self.at.0.as_ptr(), row.as_mut_ptr()) };
         match code {
             // SAFETY: a call that answers so has written the row.
-            raw::OK => Ok(Some(unsafe { row.assume_init() })),
-            raw::DONE => Ok(None),
-            raw::MEMORY => Err(Memory),
+            raw::OK => Some(unsafe { row.assume_init() }),
+            raw::DONE => None,
             code => unexpected(code),
         }
     }

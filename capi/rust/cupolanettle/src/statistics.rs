@@ -45,8 +45,8 @@ pub struct Statistics {
     pub level_zero: u64,
     /// The same of level one.
     pub level_one: u64,
-    /// So many more keys, at least, may have a value: the [keys](crate::Options::keys) less the
-    /// entries of level one.
+    /// So many more keys than level one has entries may have a value: the
+    /// [keys](crate::Options::keys) less these.
     pub room_for_keys: u64,
     /// So many more entries fit into level one: keys and [versions](crate::Options::versions) less
     /// its entries.
@@ -61,12 +61,12 @@ pub struct Statistics {
     pub waits: u64,
     /// How long the longest of these waits was.
     pub longest_wait: Duration,
-    /// How often calls were refused with [`RunFull`](crate::Refused::RunFull).
+    /// How often writes were refused with [`RunFull`](crate::Refused::RunFull).
     pub run_full: u64,
-    /// How often calls were refused with [`VersionsFull`](crate::Refused::VersionsFull) or
+    /// How often writes were refused with [`VersionsFull`](crate::Refused::VersionsFull) or
     /// [`OwnSnapshot`](crate::Refused::OwnSnapshot).
     pub versions_full: u64,
-    /// How often calls were refused with [`NoSeat`](crate::NoSeat).
+    /// How often no handle was opened, with [`NoSeat`](crate::NoSeat).
     pub no_seat: u64,
 }
 

@@ -17,7 +17,8 @@ const MOST_WAIT: u128 = u64::MAX as u128 / NANOSECONDS;
 /// The nanoseconds of a millisecond.
 const NANOSECONDS: u128 = 1_000_000;
 
-/// How to open a store.
+/// How to open a store. What each size costs, and how to choose, is in `docs/C.md`, "Options and
+/// sizes".
 ///
 /// ```
 /// use cupolanettle::{OpenError, Options};
@@ -62,8 +63,8 @@ impl Options {
     }
 
     /// The most keys that have a value at once, from 1 to 4,194,304 less the
-    /// [versions](Options::versions), which are at least six times the epoch and 64. Each takes
-    /// 176 bytes, from the start.
+    /// [versions](Options::versions), which are at least six times the epoch and 64. The store
+    /// takes the memory for all of them when it opens.
     ///
     /// So many keys always find room. The store finds out that there are more when it merges, and
     /// may have six epochs and 64 keys more by then. From then on it refuses writes that would
@@ -82,9 +83,8 @@ impl Options {
     }
 
     /// Room for old versions that open snapshots and iterators keep, beside the keys: from six
-    /// times the epoch and 64 to 4,194,304 less the keys. Each takes 176 bytes, from the start. If
-    /// it is not set, as many as keys, but no more than 100,000, or the least number if that is
-    /// more.
+    /// times the epoch and 64 to 4,194,304 less the keys. If it is not set, as many as keys, but no
+    /// more than 100,000, or the least number if that is more.
     ///
     /// Each write since the oldest open snapshot was opened takes one of them. Once there is no
     /// room for more, writes [wait](Options::wait) for that snapshot to be dropped.
@@ -104,9 +104,8 @@ impl Options {
         self
     }
 
-    /// The most writes between two merges, 4 to 65,536. Each takes 544 bytes. If it is not set, a
-    /// sixteenth of the keys, but at least 4,096 and at most 65,536, or as many as leave room for
-    /// the least versions.
+    /// The most writes between two merges, 4 to 65,536. If it is not set, a sixteenth of the keys,
+    /// but at least 4,096 and at most 65,536, or as many as leave room for the least versions.
     ///
     /// Longer epochs make fewer merges, each of which copies more. Batches are at most as long as
     /// an epoch, and are best far shorter.

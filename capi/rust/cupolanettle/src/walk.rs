@@ -11,7 +11,7 @@ use std::iter::FusedIterator;
 /// It reads up to 64 rows at a time, each time at a moment of its own, and takes no seat. It is
 /// its caller's, which may write and read meanwhile, and stays in that one's thread.
 ///
-/// An item is an error only where memory ran out; the walk then goes on from the same row.
+/// It takes its memory when it is opened, so no item is an error.
 ///
 /// ```
 /// # use cupolanettle::{Error, Options};
@@ -72,10 +72,7 @@ impl Iterator for Walk<'_> {
 
     #[inline]
     fn next(&mut self) -> Option<Self::Item> {
-        match self.open.next() {
-            Ok(row) => row.as_ref().and_then(pair).map(Ok),
-            Err(memory) => Some(Err(memory)),
-        }
+        self.open.next().as_ref().and_then(pair).map(Ok)
     }
 }
 

@@ -4,6 +4,7 @@
 //! This program has a malloc of its own, in front of that of the system.
 use cupolanettle::{
     Batch, BatchError, Caller, CopyError, Error, Memory, OpenError, Options, RetainError, Store,
+    Value,
 };
 use std::cell::Cell;
 use std::ffi::c_void;
@@ -102,41 +103,39 @@ fn the_first_row() -> Result<(), Error> {
     Ok(())
 }
 
+/// Whether these rows are those of the keys from this one on, and are read without memory.
+fn are_read_without_memory(
+    mut rows: impl Iterator<Item = Result<(u64, Value), Memory>>,
+    first: u64,
+) -> bool {
+    let (are_read, is_refused) = with_allocations(0, || {
+        (first..ROWS).all(|key| rows.next() == Some(Ok((key, key.into())))) && rows.next().is_none()
+    });
+    are_read && !is_refused
+}
+
+/// Its first reading takes memory, for the rows that it reads at a time, and is made again.
 #[test]
-fn an_iterator_goes_on_from_the_same_row() -> Result<(), Error> {
+fn an_iterator_takes_memory_once() -> Result<(), Error> {
     let (_store, caller) = filled()?;
-    for taken in [0, AT_A_TIME, 2 * AT_A_TIME] {
-        let mut rows = caller.range(..)?;
-        assert_eq!(rows.by_ref().take(taken).flatten().count(), taken);
-        for _ in 0..3 {
-            let (row, is_refused) = with_allocations(0, || rows.next());
-            assert!(is_refused);
-            assert_eq!(row, Some(Err(Memory)));
-        }
-        let keys: Vec<_> = rows.map(|row| row.map(|row| row.0)).collect::<Result<_, _>>()?;
-        assert!(keys.into_iter().eq(taken as u64..ROWS));
+    let mut rows = caller.range(..)?;
+    for _ in 0..3 {
+        let (row, is_refused) = with_allocations(0, || rows.next());
+        assert!(is_refused);
+        assert_eq!(row, Some(Err(Memory)));
     }
+    assert_eq!(rows.next(), Some(Ok((0, 0.into()))));
+    assert!(are_read_without_memory(rows, 1));
     Ok(())
 }
 
-/// Its opening is refused, or a reading, which goes on from the same row.
+/// Its opening alone is refused.
 #[test]
-fn a_walk_goes_on_from_the_same_row() -> Result<(), Error> {
+fn a_walk_reads_without_memory() -> Result<(), Error> {
     let (_store, caller) = filled()?;
     let (count, walk) = refuse_each(|| caller.walk(..));
     assert!(count > 0);
-    drop(walk);
-    for taken in [0, AT_A_TIME, 2 * AT_A_TIME] {
-        let mut rows = caller.walk(..)?;
-        assert_eq!(rows.by_ref().take(taken).flatten().count(), taken);
-        for _ in 0..3 {
-            let (row, is_refused) = with_allocations(0, || rows.next());
-            assert!(is_refused);
-            assert_eq!(row, Some(Err(Memory)));
-        }
-        let keys: Vec<_> = rows.map(|row| row.map(|row| row.0)).collect::<Result<_, _>>()?;
-        assert!(keys.into_iter().eq(taken as u64..ROWS));
-    }
+    assert!(are_read_without_memory(walk, 0));
     Ok(())
 }
 
@@ -149,7 +148,7 @@ fn a_removal_of_rows() -> Result<(), Error> {
         let (came, is_refused) = with_allocations(count, || caller.retain(.., |_, _| false));
         match came {
             Ok(removed) => {
-                assert!(count > 1 && !is_refused);
+                assert!(count > 0 && !is_refused);
                 assert_eq!((removed, caller.count(..)), (before, 0));
                 return Ok(());
             }

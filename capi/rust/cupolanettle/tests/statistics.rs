@@ -94,7 +94,7 @@ fn beside_writers() -> Result<(), Error> {
             let now = store.stats();
             let found = counts(&now);
             assert!(last.iter().zip(&found).all(|(last, found)| last <= found));
-            assert!(now.epoch_writes < 64 && now.callers <= 1 && now.bytes > 0);
+            assert!(now.epoch_writes <= 64 && now.callers <= 1 && now.bytes > 0);
             last = found;
         }
         writing.join().unwrap()

@@ -4,9 +4,9 @@ use super::drawn::{Load, Mix, after, draw, next};
 use super::gate::Gates;
 use clsm_model::Key;
 use clsm_store::{
-    Answer as Called, BatchError, Call, CallRecord, Caller, Change, Counted, Deed, Full, Got,
-    Members, MergeError, Merger, Page, PageRange, Pages, ReclaimError, Rmw, Rows, Scan, Stopped,
-    Swept, Time, TryBatchError, TryPutError, Value,
+    Answer as Called, BatchError, Call, CallRecord, Caller, Change, Counted, Deed, Filled, Full,
+    Got, Members, MergeError, Merger, Page, PageRange, Pages, ReclaimError, Rmw, Rows, Scan,
+    Stopped, Swept, Time, TryBatchError, TryPutError, Value,
 };
 use std::alloc::Global;
 use std::ops::Range;
@@ -22,6 +22,9 @@ const ATTEMPTS: u64 = 20_000;
 const TRIES: u64 = 1_000_000;
 
 const PAUSES: u64 = 100;
+
+/// The rows of a page that is filled.
+const FILLED: usize = 3;
 
 /// A caller, and the merger, if it is this actor's.
 #[derive(Drop)]
@@ -289,9 +292,25 @@ impl<'a> Actor<'a> {
         Answer::Done
     }
 
+    /// Fills a page of the rows from the key on.
+    fn fill_page(&mut self, rt: &impl Abort, alloc: Global, from: u64) {
+        let (hi, max) = (u64::MAX, FILLED as u64);
+        let mut page = [(0, Value::from(0)); FILLED];
+        let Filled { time, rows, more } = self.caller.page_into(from, hi, &mut page);
+        let mut found = Vec::new(alloc);
+        found.extend_from_slice(&page[..rows]).expect(rt, "memory");
+        let range = PageRange { from, hi, max };
+        let rows = Rows::new(found);
+        let record = self
+            .caller
+            .record_of(time, Deed::Page { range, rows, more });
+        self.records.push(record).expect(rt, "memory");
+    }
+
     /// Reads all pages from the key on, in turn: one that is refused memory once more. Answers how
     /// many there are.
     fn read_pages(&mut self, rt: &impl Abort, alloc: Global, from: u64, max: usize) -> Answer {
+        self.fill_page(rt, alloc, from);
         let hi = u64::MAX;
         let mut pages = Pages::new(from, hi, max);
         let max = pages.max as u64;

@@ -1,9 +1,11 @@
 //! Hints may hold anything: searches that follow them answer right.
+ghost use Rattle.std.specs.Prelude.{◌≡◌, []};
 
 use super::drawn::after;
 use clsm_law::Layout;
-use clsm_model::{Config, Deed, Key, PlainMap, Slot, Value};
-use clsm_store_calls::{Asked, Got, Request, read, scan_at, write};
+use clsm_model::{Config, Key, PlainMap, Slot, Value};
+use clsm_scan::{Bounds, Collector, Filling, Listed};
+use clsm_store_calls::{Collected, Got, read, scan_at, write};
 use clsm_words::{Free, RawSeat, Words};
 use std::alloc::Global;
 use std::marker::Model;
@@ -13,6 +15,9 @@ use std::test::*;
 
 /// One seat at words whose epoch has room for so many writes.
 const CELLS: usize = 64;
+
+/// The rows of a page.
+const PAGE: usize = 3;
 
 /// The one seat of its words, between two calls.
 #[derive(Drop)]
@@ -109,16 +114,33 @@ impl Alone {
         read(&self.words, &mut self.seat, self.pin, key, &mut got);
         self.pin = self.pin.wrapping_add(2);
         assert_eq!(rt; got.value, map.get(key));
-        let asked = Asked::All(key, u64::MAX);
-        let wanted = Request { alloc, asked };
-        let scanned = scan_at(&self.words, &mut self.seat, self.pin, wanted);
+        let range = map.range(key, u64::MAX).expect(rt, "memory");
+        let expected = range.as_slice();
+        let mut listed = Listed::new(alloc, None).expect(rt, "memory");
+        self.scan(key, &mut listed).expect(rt, "memory");
+        assert!(rt; listed.rows.as_slice() == expected);
+        let mut rows = [(0, Value::from(0)); PAGE];
+        let mut filling = Filling {
+            rows: &mut rows,
+            count: 0,
+        };
+        let Ok(page) = self.scan(key, &mut filling);
+        let count = filling.count;
+        assert_eq!(rt; count, expected.len().min(PAGE));
+        assert!(rt; rows[..count] == expected[..count]);
+        assert_eq!(rt; page.more, expected.get(PAGE).map(|row| row.0));
+    }
+
+    /// Collects the rows from the key on.
+    fn scan<R: Collector>(&mut self, key: Key, rows: &mut R) -> Result<Collected, R::Refusal>
+        requires ready { R.is_ready rows.old }
+        requires none { R.rows rows.old ≡ [] }
+    {
+        let (lo, hi) = (key, u64::MAX);
+        let bounds = Bounds { lo, hi };
+        let read = scan_at(&self.words, &mut self.seat, self.pin, bounds, rows);
         self.pin = self.pin.wrapping_add(2);
-        let (_, deed) = scanned.expect(rt, "memory");
-        let expected = map.range(key, u64::MAX).expect(rt, "memory");
-        match deed {
-            Deed::Scan { rows, .. } => assert!(rt; rows.as_slice() == expected.as_slice()),
-            _ => panic!(rt; "no scan"),
-        }
+        read
     }
 }
 

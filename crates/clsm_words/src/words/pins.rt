@@ -4,9 +4,10 @@ ghost use Rattle.clsm_law.specs.declared.step.Step.TheVariants.{Pin, Unpin, Note
 ghost use Rattle.clsm_words.specs.Plays.{MayPlay, Plays};
 
 use super::{RawSeat, Words};
+use crate::ending::Ending;
 use crate::operation::Operation::Store;
 use crate::pace::{Kind, Pace};
-use clsm_law::{End, Step, Word};
+use clsm_law::{Step, Word};
 use clsm_model::Time;
 use std::marker::Brand;
 
@@ -24,16 +25,16 @@ impl<P: Pace> Words<P> {
 
     /// Ends a read. `pin` is the seat's pin word. How it ends is for the proof alone.
     #[inline(always)]
-    pub fn unpin(&self, seat: &mut RawSeat, pin: u64, end: &End)
-        requires opens { MayPlay self.now seat.old (Unpin end.now) }
+    pub fn unpin<E: Ending>(&self, seat: &mut RawSeat, pin: u64, end: &E)
+        requires opens { MayPlay self.now seat.old (Unpin (E.end end.now)) }
         requires pin { pin ≡ seat.old.knows.view.pin }
-        ensures { Plays self.now seat.old (Unpin end.now) seat.new }
+        ensures { Plays self.now seat.old (Unpin (E.end end.now)) seat.new }
     {
         self.pace.step(seat.number(), Kind::Unpin);
         let word = Word::Pin(seat.number);
         let next = Store(pin.wrapping_add(1));
         self.words
-            .act_told::<Brand, End>(&mut seat.seat, end, word, next);
+            .act_told::<Brand, E>(&mut seat.seat, end, word, next);
     }
 
     /// Notes the time in the seat's snapshot word.

@@ -16,11 +16,11 @@ impl Caller {
     /// told once. For all rows at one moment take a [`range`](Caller::range).
     ///
     /// Each time it reads is a read of this caller, and moves its [`time`](Caller::time). It takes
-    /// memory for 64 rows, and a little while it reads.
+    /// memory for 64 rows at once, and none while it reads: so no item is an error.
     ///
     /// # Errors
     ///
-    /// [`Memory`], as an item, too.
+    /// [`Memory`], of this call alone.
     ///
     /// ```
     /// # use cupolanettle::{Error, Options};

@@ -3,7 +3,7 @@ use Rattle.clsm_model.specs.declared.record.Deed.TheVariants.{Batch as Group}
 use Rattle.clsm_model.specs.Seats.{FitsDeed}
 use Rattle.clsm_law.specs.declared.layout.Layout.{Layout}
 use Rattle.clsm_store_calls.proofs.Staged.{alone_in_hold, counts_alone, counts_refused, no_room_alone}
-use Rattle.clsm_store_calls.proofs.TriedChange.{when_ok}
+use Rattle.clsm_store_calls.proofs.Rest.{when_ok}
 use Rattle.clsm_store_calls.proofs.batching.try_batch.Goals as goal
 
 pub batch_in_hold-answer-requires-clause-alone : goal.batch_in_hold-answer-requires-clause-alone

@@ -1,18 +1,20 @@
-use Rattle.std.proofs.Common.{refl, sym, ◌∙◌, subst, IfOk, Result}
-use Rattle.clsm_model.specs.declared.plain_map.Memory.{Memory}
-use Rattle.clsm_model.specs.declared.record.Deed.{Deed}
-use Rattle.clsm_store_calls.specs.Scanning.{IsAnswerTo}
-use Rattle.clsm_store_calls.proofs.ReadParts.{given_up, if_err, many}
+use Rattle.std.proofs.Common.{refl}
+use Rattle.clsm_store_calls.proofs.ReadParts.{given_up, many, may_end_at}
 use Rattle.clsm_store_calls.proofs.scanning.scan_at.Goals as goal
 
-pub returns-in_err-deed-clause-given_up : goal.returns-in_err-deed-clause-given_up
-returns-in_err-deed-clause-given_up g c =
-    if_err c.from_residual.result (given_up c.requires.rests.rests c.begin-point.ensures.begins c.begin-point.ensures.settled c.deed_below-read.ensures.looks
-    c.in_err-deed.ensures.ended refl)
+pub unpin-requires-clause-opens : goal.unpin-requires-clause-opens
+unpin-requires-clause-opens g c =
+    may_end_at c.args.words.now c.args.seat.now.knows c.begin-point.new.seat.knows c.rows_below.new.seat c.begin-point.result.component
+    c.begin-point.result.until c.requires.rests.rests c.begin-point.ensures.begins c.begin-point.ensures.settled c.rows_below.ensures.looks
+    c.rows_below.ensures.of c.requires.closed (g.R.Collector.most c.rows_below.new.rows) c.args.bounds.lo c.args.bounds.hi
+    (g.R.Collector.rows c.rows_below.new.rows) c.in-Ok.more c.in-Ok.ensures.reads
 
-pub returns-clause-reads : goal.returns-clause-reads
-returns-clause-reads g c =
-    let answers : IsAnswerTo c.args.wanted.asked c.in_ok-deed.deed = subst (λ (r : Result Deed Memory). IfOk r (IsAnswerTo c.args.wanted.asked))
-    (sym c.end.ensures.same ∙ c.in_ok-deed.was) c.deed_below-read.ensures.answers in
-    many c.requires.rests.rests c.begin-point.ensures.begins c.begin-point.ensures.settled c.deed_below-read.ensures.looks c.in_ok-deed.ensures.recorded
-    c.args.wanted.asked c.in_ok-deed.deed refl answers c.requires.none
+pub returns-in-Ok-clause-reads : goal.returns-in-Ok-clause-reads
+returns-in-Ok-clause-reads g c =
+    many c.requires.rests.rests c.begin-point.ensures.begins c.begin-point.ensures.settled c.rows_below.ensures.looks c.unpin.ensures.unpinned
+    (g.R.Collector.most c.rows_below.new.rows) c.args.bounds.lo c.args.bounds.hi (g.R.Collector.rows c.rows_below.new.rows) c.in-Ok.more refl
+    c.requires.closed
+
+pub returns-in-Err-clause-given_up : goal.returns-in-Err-clause-given_up
+returns-in-Err-clause-given_up g c =
+    given_up c.requires.rests.rests c.begin-point.ensures.begins c.begin-point.ensures.settled c.rows_below.ensures.looks c.unpin-in-Err.ensures.unpinned refl

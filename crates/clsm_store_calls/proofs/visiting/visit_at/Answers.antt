@@ -1,7 +1,6 @@
-use Rattle.std.proofs.Common.{ℕ, refl, [], subst, sym}
+use Rattle.std.proofs.Common.{ℕ, [], subst, sym, Some}
 use Rattle.clsm_model.specs.Right.{page_deed}
 use Rattle.clsm_store_calls.specs.Reading.{ReadsAt}
-use Rattle.clsm_store_calls.specs.declared.scanning.Asked.TheVariants.{First}
 use Rattle.clsm_store_calls.proofs.ReadParts.{many}
 use Rattle.clsm_store_calls.proofs.visiting.visit_at.Goals as goal
 
@@ -11,4 +10,4 @@ returns-clause-reads g c =
     let deed = page_deed bounds.lo bounds.hi 0 [] c.visit_below-end.result.0.first in
     subst (λ (t : ℕ). ReadsAt c.args.seat.now.knows c.unpin.new.seat.knows t deed) (sym c.visit_below-end.ensures.time)
     (many c.requires.rests.rests c.begin-point.ensures.begins c.begin-point.ensures.settled c.visit_below-end.ensures.looks c.unpin.ensures.unpinned
-    (First bounds.lo bounds.hi 0) deed c.visit_below-end.ensures.end refl c.requires.none)
+    (Some 0) bounds.lo bounds.hi [] c.visit_below-end.result.0.first c.visit_below-end.ensures.end c.requires.none)

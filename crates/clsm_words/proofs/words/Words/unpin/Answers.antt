@@ -8,6 +8,6 @@ use Rattle.clsm_words.proofs.words.Words.unpin.Goals as goal
 
 pub act_told-requires-clause-allows : goal.act_told-requires-clause-allows
 act_told-requires-clause-allows g c = may_act caller c.args.self.now c.seat.inside.seat.table_id c.seat.inside.seat.id c.seat.inside.seat.me
-    c.seat.invariant.1 c.args.seat.now c.seat.view_is (Unpin c.args.end.now) (Pin c.seat.inside.number) c.requires.opens.0 c.requires.opens.1
+    c.seat.invariant.1 c.args.seat.now c.seat.view_is (Unpin (g.E.Ending.end c.args.end.now)) (Pin c.seat.inside.number) c.requires.opens.0 c.requires.opens.1
     (ap Pin (c.seat.invariant.0 ∙ ap (λ v. v.knows.number) c.seat.view_is))
     c.self.inside.words c.self.view_is (Store (next_word c.args.pin)) (λ i x. next_word (sym c.requires.pin i))
