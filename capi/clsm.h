@@ -356,11 +356,11 @@ int clsm_snapshot_page(clsm_snapshot *snapshot, uint64_t first, uint64_t last, c
 /* ---- Scans
  *
  * A scan gives the rows of a range one after another, all of the map as it was when it was opened:
- * it is a snapshot, and reads 64 rows at a time. Its caller goes on beside it, and may be closed
- * before it. */
+ * it is a snapshot, and reads 64 rows at first, and up to 512 at a time as it goes on. Its caller
+ * goes on beside it, and may be closed before it. */
 
 /* Opens a scan of the rows from first to last, both included. Takes memory for 64 rows, which the
- * store keeps for later scans.
+ * store keeps for later scans; as it goes on it takes some for 512, 40 KiB, or does without.
  *
  * OK. NO_SEAT, MEMORY, BAD_POINTER: *scan is null then. */
 int clsm_scan_open(clsm_caller *caller, uint64_t first, uint64_t last, clsm_scan **scan);

@@ -24,7 +24,8 @@
 #endif
 #endif
 
-enum { CLSM_LINE = 64, CLSM_SCAN_ROWS = 64 };
+/* A scan reads so many rows at first, and then this many times as many at a time, up to a part. */
+enum { CLSM_LINE = 64, CLSM_SCAN_ROWS = 64, CLSM_SCAN_GROWS = 4 };
 /* So many rows a long read reads, and counts, at a time. */
 #ifndef CLSM_PART_ROWS
 #define CLSM_PART_ROWS 512
@@ -50,7 +51,9 @@ enum clsm_use { CLSM_UNUSED, CLSM_AS_CALLER, CLSM_AS_SNAPSHOT, CLSM_AS_SCAN, CLS
 
 /* The place of a scan: the rows that it read last, and the range that is left behind them. */
 struct clsm_place {
-    clsm_row *rows; /* room for CLSM_SCAN_ROWS, or null; kept until the store is closed */
+    clsm_row *rows; /* or null; kept until the store is closed */
+    size_t room;    /* so many rows have room there */
+    size_t most;    /* so many are read at a time */
     size_t at, count;
     uint64_t next, last;
     bool more;

@@ -87,15 +87,20 @@ int clsm_read_page(struct clsm_seat *seat, uint64_t first, uint64_t last, clsm_r
     return CLSM_OK;
 }
 
-/* Room for the rows of a scan, or a part of a count, or null. The seat keeps it. */
-static clsm_row *rows_of(struct clsm_place *place) {
-    if (!place->rows) place->rows = malloc(CLSM_SCAN_ROWS * sizeof *place->rows);
-    return place->rows;
+/* Room for so many rows of a scan, which keeps none, or of a part of a count; if there is no memory
+ * for them, the room that was there before, or null. The seat keeps it. */
+static clsm_row *room_for(struct clsm_place *place, size_t count) {
+    if (place->room >= count) return place->rows;
+    clsm_row *rows = malloc(count * sizeof *rows);
+    if (!rows) return place->rows;
+    free(place->rows);
+    place->room = count;
+    return place->rows = rows;
 }
 
 /* Counts at the snapshot of the seat, in parts; what there is no memory for, in one. */
 static uint64_t count_parts(struct clsm_seat *seat, uint64_t first, uint64_t last) {
-    clsm_row *rows = rows_of(&seat->place);
+    clsm_row *rows = room_for(&seat->place, CLSM_COUNT_ROWS);
     clsm_core_paged part = {.more = true, .next = first};
     uint64_t keys = 0;
     while (rows && part.more) {
@@ -219,7 +224,8 @@ int clsm_snapshot_page(clsm_snapshot *snapshot, uint64_t first, uint64_t last, c
 
 /* Puts the seat's place before this range. */
 static int begin_place(struct clsm_place *place, uint64_t first, uint64_t last) {
-    if (!rows_of(place)) return CLSM_MEMORY;
+    if (!room_for(place, CLSM_SCAN_ROWS)) return CLSM_MEMORY;
+    place->most = CLSM_SCAN_ROWS;
     place->at = 0;
     place->count = 0;
     place->next = first;
@@ -248,11 +254,21 @@ int clsm_scan_open(clsm_caller *caller, uint64_t first, uint64_t last, clsm_scan
 
 void clsm_scan_close(clsm_scan *scan) { close_handle((struct clsm_seat *)scan, CLSM_AS_SCAN); }
 
+/* Has the next rows of a scan be more, up to a part: each read begins with a search. Where there is
+ * no memory for more, they stay as many. */
+static void read_more(struct clsm_place *place) {
+    const size_t most = place->most * CLSM_SCAN_GROWS;
+    const size_t wanted = most < CLSM_PART_ROWS ? most : CLSM_PART_ROWS;
+    room_for(place, wanted);
+    place->most = wanted < place->room ? wanted : place->room;
+}
+
 /* Reads the next rows of the scan: OK; DONE if there is none. */
 static int read_on(struct clsm_seat *seat, struct clsm_place *place) {
     clsm_core_paged answer;
     if (!place->more) return CLSM_DONE;
-    read_part(seat, place->next, place->last, place->rows, CLSM_SCAN_ROWS, &answer);
+    if (place->count > 0) read_more(place);
+    read_part(seat, place->next, place->last, place->rows, place->most, &answer);
     place->at = 0;
     place->count = (size_t)answer.rows;
     place->next = answer.next;

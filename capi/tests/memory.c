@@ -121,7 +121,9 @@ static void read_long_pages(clsm_caller *caller, uint64_t keys) {
         CHECK(rows[key].key == key && rows[key].value.words[0] == key);
 }
 
+/* A scan that is refused memory for more rows at a time does without. */
 static void read_scan(clsm_caller *caller, uint64_t keys) {
+    const long refused = atomic_load(&refused_one);
     clsm_scan *scan;
     clsm_row row;
     int code = clsm_scan_open(caller, 0, UINT64_MAX, &scan);
@@ -130,11 +132,13 @@ static void read_scan(clsm_caller *caller, uint64_t keys) {
         code = clsm_scan_open(caller, 0, UINT64_MAX, &scan);
     }
     ANSWERS(CLSM_OK, code);
+    const long before = atomic_load(&requests);
     for (uint64_t key = 0; key < keys; key++) {
         OK(clsm_scan_next(scan, &row));
         CHECK(row.key == key && row.value.words[0] == key);
     }
     ANSWERS(CLSM_DONE, clsm_scan_next(scan, &row));
+    if (before < refused && refused <= atomic_load(&requests)) memories++;
     clsm_scan_close(scan);
 }
 
