@@ -377,10 +377,14 @@ static inline int clsm_end(struct clsm_seat *seat, int code) {
     return code;
 }
 
-/* Hands a value on, if it is wanted. */
+/* Hands a value on, if it is wanted. One of several words goes word by word: a wider load would wait
+ * for the core's stores, each of which is of a word. */
 static inline void clsm_hand_on(const clsm_core_value *found, clsm_value *value_or_null) {
     if (!value_or_null) return;
-    /* Word by word: a wider load would wait for the core's stores, each of which is of a word. */
+    if (found->length <= 1) {
+        *value_or_null = (clsm_value){found->length, {found->words[0]}};
+        return;
+    }
     const volatile uint64_t *from = (const volatile uint64_t *)found;
     uint64_t *to = (uint64_t *)value_or_null;
     for (size_t i = 0; i < sizeof *found / sizeof *from; i++) to[i] = from[i];

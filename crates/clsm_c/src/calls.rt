@@ -22,7 +22,7 @@ use crate::slots::{CallerSlot, MergerSlot, StoreSlot};
 use crate::types::{
     CoreAdding, CoreChanged, CoreCode, CoreCounted, CoreEntries, CoreGot, CoreKey, CorePaged,
     CorePhase, CoreRange, CoreReplacing, CoreRow, CoreSizes, CoreTime, CoreTurn, CoreUsed, TooLong,
-    from_core, to_core, value_or_none,
+    from_core, leave, value_or_none,
 };
 use clsm_store::{
     BatchError, Change, Config, Got, Merger, OpenError, Phase, Rmw, Stopped, Time, TryBatchError,
@@ -201,11 +201,9 @@ fn tell_change(came: Result<Rmw, TryPutError>, answer: &mut CoreChanged) -> Code
 {
     match came {
         Ok(rmw) => {
-            *answer = CoreChanged {
-                time: rmw.time,
-                before: to_core(&rmw.old),
-                after: to_core(&value_after(&rmw)),
-            };
+            answer.time = rmw.time;
+            leave(&rmw.old, &mut answer.before);
+            leave(&value_after(&rmw), &mut answer.after);
             kept_code(&rmw.change)
         }
         Err(error) => tell_refused(error, &mut answer.time),
@@ -320,13 +318,12 @@ pub(crate) fn try_batch(slot: &mut CallerSlot, rows: &[CoreRow], answer: &mut Co
 // ---- a caller's reads
 
 /// Tells what a read found, and its time.
-fn tell_got(got: Got, answer: &mut CoreGot) -> Code
-    ensures { TellsGot answer.new result got }
+fn tell_got(got: &Got, answer: &mut CoreGot) -> Code
+    ensures { TellsGot answer.new result got.now }
 {
-    let Got { time, value } = got;
-    answer.time = time;
-    answer.value = to_core(&value);
-    match value {
+    answer.time = got.time;
+    leave(&got.value, &mut answer.value);
+    match got.value {
         Some(_) => OK,
         None => NOT_FOUND,
     }
@@ -340,7 +337,7 @@ pub(crate) fn get(slot: &mut CallerSlot, ask: &CoreKey, answer: &mut CoreGot) ->
         return NO_HANDLE;
     };
     let got = caller.store.get(&mut caller.seat, ask.key);
-    tell_got(got, answer)
+    tell_got(&got, answer)
 }
 
 /// Reads the key under the caller's snapshot, or answers `None`, with nothing done, if none is open.
@@ -361,7 +358,7 @@ pub(crate) fn get_at(slot: &mut CallerSlot, ask: &CoreKey, answer: &mut CoreGot)
     let Some(got) = get_at_if_open(caller, ask.key) else {
         return NO_SNAPSHOT;
     };
-    tell_got(got, answer)
+    tell_got(&got, answer)
 }
 
 pub(crate) fn snapshot(slot: &mut CallerSlot, answer: &mut CoreTime) -> Code

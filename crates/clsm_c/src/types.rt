@@ -165,7 +165,7 @@ impl Sink for CoreRow {
     #[inline(always)]
     fn take(&mut self, key: u64, value: Value) {
         self.key = key;
-        self.value = to_core(&Some(value));
+        leave(&Some(value), &mut self.value);
     }
 }
 
@@ -183,19 +183,35 @@ impl Row for CoreRow {
 #[derive(Clone, Copy)]
 pub(crate) struct TooLong;
 
-/// The value as C has it.
-#[inline(always)]
-pub(crate) fn to_core(value: &Option<Value>) -> CoreValue
-    ensures { TellsValue result value.now }
+/// Leaves a value of several words in C's place. This is rare, and kept apart from what most values
+/// need.
+#[inline(never)]
+fn leave_many(value: Value, to: &mut CoreValue)
+    ensures { TellsValue to.new (Some value) }
 {
-    let mut words = [0; 8];
-    let mut length = 0;
-    if let Some(value) = value {
-        let found = value.words();
-        words[..found.len()].copy_from_slice(found);
-        length = found.len() as u64;
+    let found = value.words();
+    to.words = [0; 8];
+    to.words[..found.len()].copy_from_slice(found);
+    to.length = found.len() as u64;
+}
+
+/// Leaves the value in C's place. A word alone is a case of its own: each word is stored once, and
+/// none is loaded behind a store of another width, for which a processor would wait.
+#[inline(always)]
+pub(crate) fn leave(value: &Option<Value>, to: &mut CoreValue)
+    ensures { TellsValue to.new value.now }
+{
+    let Some(value) = value else {
+        to.words = [0; 8];
+        to.length = 0;
+        return;
+    };
+    if let [word] = value.words() {
+        to.words = [*word, 0, 0, 0, 0, 0, 0, 0];
+        to.length = 1;
+        return;
     }
-    CoreValue { length, words }
+    leave_many(*value, to);
 }
 
 /// The value that C passed, or `None` if it has no word or too many.
