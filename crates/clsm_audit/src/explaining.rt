@@ -1,3 +1,5 @@
+//! Why a record has its fault: `explain`, and of what the first three passes find. What was read
+//! wrongly is explained in `wrong_reply.rt`.
 ghost use Rattle.std.specs.Prelude.{◌≡◌, ℕ, ◌<◌, ◌^◌, IfOk, MatchOption};
 ghost use Rattle.clsm_model.specs.declared.config.Config.{Config};
 ghost use Rattle.clsm_audit.specs.Explained.{Breaks, IsExplanation, kind_of, own_due};

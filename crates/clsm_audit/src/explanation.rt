@@ -1,3 +1,4 @@
+//! What an explanation says of a record that has a fault.
 use crate::wanted::FoundWrite;
 use clsm_model::{Key, Time, Value};
 

@@ -1,3 +1,4 @@
+//! The kinds of faults, and what an audit answers in place of `Ok`.
 ghost use Rattle.std.specs.Prelude.{◌≡◌};
 ghost use Rattle.clsm_audit.specs.Numbers.{number_of};
 

@@ -1,3 +1,4 @@
+//! The audit: four passes over the records, each for one kind of fault.
 ghost use Rattle.std.specs.Prelude.{◌≡◌, ◌↔◌, ◌⊎◌, ℕ, AllPairs, IfErr, IfOk, IsTrue, MatchOption, OnOk, Ok, false, min};
 ghost use Rattle.std.specs.BTreeSet.{contains};
 ghost use Rattle.std.specs.Ordering.{nat_cmp};

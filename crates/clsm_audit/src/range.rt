@@ -1,3 +1,4 @@
+//! Whether the seat, the batch and the times of a call are in their ranges.
 ghost use Rattle.std.specs.Prelude.{◌↔◌, IsTrue};
 ghost use Rattle.clsm_audit.specs.Lawful.{FitsRegion, HasTimes, HasWrites, IsInRange, IsTime};
 

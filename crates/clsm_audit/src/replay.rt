@@ -1,3 +1,4 @@
+//! A replay of calls in the order of time on a plain map, which each reading is held against.
 ghost use Rattle.std.specs.Prelude.{◌≡◌, ℕ, ◌+◌, ◌<◌, ◌^◌, ◌↔◌, [], false, IfOk, IsTrue, OnOk, length};
 ghost use Rattle.clsm_model.specs.History.{History};
 ghost use Rattle.clsm_model.specs.Map.{IsMap};

@@ -1,3 +1,4 @@
+//! Whether what a call read is what a plain map gives.
 ghost use Rattle.std.specs.Prelude.{◌≡◌, ℕ, ◌↔◌, IfOk, IsTrue};
 ghost use Rattle.clsm_model.specs.History.{History};
 ghost use Rattle.clsm_model.specs.Map.{IsMap};

@@ -1,3 +1,4 @@
+//! Why the rows of a scan or a page are wrong: the first row that differs, or the next key.
 ghost use Rattle.std.specs.Prelude.{◌≡◌, ◌<◌, IfOk, IfSome, IsSomeAnd, MatchOption, length, slice_get};
 ghost use Rattle.clsm_model.specs.declared.config.Config.{Config};
 ghost use Rattle.clsm_model.specs.History.{IsUncut};

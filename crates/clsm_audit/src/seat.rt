@@ -1,3 +1,4 @@
+//! How far the calls of a seat have come, and whether a call may be its next one.
 ghost use Rattle.std.specs.Prelude.{◌≡◌, ℕ, ◌+◌, ◌<◌, ◌≤◌, ◌^◌, ◌↔◌, List, ◌++◌, ◌∷◌, [], IfOk, IsTrue, length, Option, None, slice_index_or, vec_len};
 ghost use Rattle.clsm_model.specs.declared.record.CallRecord.{CallRecord};
 ghost use Rattle.clsm_model.specs.Seats.{due_after, open_after};

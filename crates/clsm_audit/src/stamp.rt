@@ -1,3 +1,4 @@
+//! Records in the order of time: at each time the reads come before the write.
 ghost use Rattle.std.specs.Prelude.{◌≡◌, IfOk};
 ghost use Rattle.std.specs.Ordering.{is_lt};
 ghost use Rattle.clsm_audit.specs.Order.{IsInTimeOrder, comes_before, stamp_of, stamps_of};

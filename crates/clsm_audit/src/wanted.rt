@@ -1,3 +1,4 @@
+//! Searches for the last write of a kind among the writes of records.
 ghost use Rattle.std.specs.Prelude.{◌≡◌, ◌<◌, ◌≤◌, ◌^◌, ◌↔◌, IfSome, IsTrue, MatchOption, slice_get};
 ghost use Rattle.clsm_model.specs.Right.{member_write};
 ghost use Rattle.clsm_audit.specs.Lawful.{HaveTimes};

@@ -1,3 +1,4 @@
+//! What a call writes, and how many times it takes.
 ghost use Rattle.std.specs.Prelude.{◌≡◌};
 ghost use Rattle.clsm_model.specs.Right.{change_by, write_by};
 ghost use Rattle.clsm_audit.specs.Written.{is_write, span_of};

@@ -1,3 +1,4 @@
+//! Why a reading is wrong: it stands inside a batch, or it is not what the map gives.
 ghost use Rattle.std.specs.Prelude.{◌≡◌, ◌↔◌, IfOk, IsSomeAnd, IsTrue, MatchOption, slice_get};
 ghost use Rattle.clsm_model.specs.declared.config.Config.{Config};
 ghost use Rattle.clsm_model.specs.History.{IsUncut};

@@ -1,3 +1,4 @@
+//! What a command line can ask for: one of four commands, with its options.
 use clsm_model::Config;
 use clsm_workload::Shows;
 

@@ -1,3 +1,4 @@
+//! From the words of a command line to the options that they ask for.
 ghost use Rattle.std.specs.Prelude.{◌≡◌, ◌⊎◌, IfErr, IfOk, map};
 ghost use Rattle.clsm_command.specs.Answers.{IsInRange, IsParsed, IsRefused};
 ghost use Rattle.clsm_command.specs.declared.refusal.Refusal.TheVariants.{Memory, NotText};

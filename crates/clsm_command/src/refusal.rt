@@ -1,3 +1,4 @@
+//! Why the words of a command line give no options.
 ghost use Rattle.std.specs.Prelude.{◌≡◌};
 ghost use Rattle.clsm_command.specs.Answers.{refusal_of};
 

@@ -406,93 +406,170 @@ AreDuesBelowOwn drawn slot due = (i t : ℕ) → drawn i ≡ Some t → slot t �
 -- times and ordered lists: one field a clause
 pub record LawOf (z : Layout) (memory : Memory) (views : List View) (m : MergerView) (slots : List (Option Slot)) (batches : List Batch) (chains : Chains)
     (orders : Orders) : Type 0 where
-  -- the lock
+  -- ---- the lock
+  -- there is one view for each seat
   pub seated : length views ≡ z.seats
+  -- LOCK is 2^32 while the merger holds it, else the sum of what the callers' holds add
   pub lock : memory Lock ≡ cond m.exclusive exclusive_hold (sum_by holders views)
+  -- while the merger holds the lock no caller does
   pub locked_out : IsLockedOut m.exclusive (each z View.mode views)
+  -- while a caller holds the lock alone no other caller does
   pub sole : AreSole (each z View.mode views)
+  -- the merger holds the lock only while nothing is frozen, and a freeze moves CLOCK before LIMIT
   pub merger : IsMerger z m (length slots)
-  -- the clock
+  -- ---- the clock
+  -- the slots are those of the times below CLOCK, and of those that a batch takes from CLOCK on
   pub clock : memory Clock + sum_by taken_by views ≡ length slots
+  -- LIMIT is the first time that may not be drawn: the end of the current epoch
   pub limit : memory Limit ≡ first_free z m
+  -- CLOCK is at or above the end of what is merged
   pub begun : m.merged * z.cells ≤ memory Clock
+  -- no slot is at or above LIMIT
   pub bounded : length slots ≤ memory Limit
+  -- LIMIT is at most one epoch's length above CLOCK
   pub current : memory Limit ≤ memory Clock + z.cells
+  -- LIMIT is at most 2^62
   pub top : memory Limit ≤ last_limit
+  -- MERGED is the number of merges that were published
   pub merged : memory Merged ≡ m.merged
-  -- drawn times
+  -- ---- drawn times
+  -- who has drawn a time holds the lock
   pub holding : AreHolding (each z View.drawn views) (each z View.mode views)
+  -- a drawn time is of the current epoch, and undecided, or another seat cancelled it
   pub pending : ArePending z (memory Limit) (each z View.drawn views) (length slots) (outcome_at slots)
+  -- each undecided time is the drawn one of some seat
   pub owned : AreOwned (each z View.drawn views) (length slots) (outcome_at slots)
+  -- no two seats have drawn the same time
   pub alone : AreAlone (each z View.drawn views)
+  -- what a seat has filled in its drawn cell is what the cell's words hold
   pub filled : AreFilled z memory (each z View.drawn views) (each z part_of views)
-  -- decided times
+  -- ---- decided times
+  -- each time below FRONT is decided
   pub front : IsDecidedBelow (outcome_at slots) (memory Front)
+  -- each time of a merged epoch is decided
   pub merged_decided : IsDecidedBelow (outcome_at slots) (m.merged * z.cells)
+  -- each write is a removal, or has one to eight words
   pub short : AreShort (outcome_at slots)
+  -- from the first time shown on, each cell shows what its time came to
   pub shown : AreShown z memory (first_shown z m) (length slots) (outcome_at slots)
+  -- a cell whose time is not drawn has state 0, or 1 where a freeze cancels it
   pub empty : AreEmpty z memory m.padded (length slots) (epoch_end z m) (first_live z m + 2 * z.cells)
-  -- chains
+  -- ---- chains
+  -- from each head the words NEXT lead through the cells of its chain, and end
   pub chained : AreChained z memory chains
+  -- a chain has drawn times of its region's epoch, whose keys are of that chain
   pub lies : AreIn z memory (first_live z m) (length slots) chains
+  -- no time stands twice in a chain
   pub once : AreOnce chains
+  -- each write from the first time shown on stands in the chain of its key
   pub standing : AreStanding z (first_shown z m) (outcome_at slots) chains
+  -- a drawn time whose cell is linked stands in the chain of its key
   pub linked : AreLinked z (each z View.drawn views) (each z View.key views) (each z View.linked views) chains
+  -- one whose cell is not linked stands in no chain
   pub loose : AreLoose (each z View.drawn views) (each z View.linked views) chains
-  -- ordered lists
+  -- ---- ordered lists
+  -- from each region's head the links lead through the cells of its list, and end
   pub ordered : AreOrdered memory orders
+  -- each list rises by key, and within a key by place, so by time
   pub sorted : AreSorted memory orders
+  -- a list has drawn times of its region's epoch
   pub placed : ArePlaced z (first_live z m) (length slots) orders
+  -- each write from the first time shown on stands in the list of its region
   pub entered : AreInOrder z (first_shown z m) (outcome_at slots) orders
+  -- a drawn time whose cell is inserted stands in the list, and is linked
   pub inserted : AreInserted z (each z View.drawn views) (each z View.linked views) (each z View.inserted views) orders
+  -- one whose cell is not inserted stands in no list
   pub outside : AreOutside z (each z View.drawn views) (each z View.inserted views) orders
+  -- until then the link behind the cell is the one that the seat filled
   pub leading : AreLeading z memory (each z View.drawn views) (each z View.inserted views) (each z View.order_next views)
+  -- the last place that a seat met stands in the current epoch's list, and it holds the lock
   pub met : AreMembers z (memory Limit) orders (each z View.mode views) (each z View.met views)
+  -- so does the last place that it found before its drawn cell
   pub lows : AreMembers z (memory Limit) orders (each z View.mode views) (each z View.low views)
+  -- and the last that it found behind it
   pub highs : AreMembers z (memory Limit) orders (each z View.mode views) (each z View.high views)
+  -- the place found before the drawn cell is before it, by key and then place
   pub lower : AreLower z memory (each z View.drawn views) (each z View.key views) (each z View.low views)
+  -- the place found behind the drawn cell is behind it, until the cell is inserted
   pub higher : AreHigher z memory (each z View.drawn views) (each z View.key views) (each z View.inserted views) (each z View.high views)
-  -- what is found in an exclusive hold
+  -- ---- what is found in an exclusive hold
+  -- a head of the current epoch is as the seat's fresh look found it
   pub found_heads : AreFoundHeads z memory (memory Limit) (each z View.mode views) (each z View.fresh_heads views)
+  -- a link of the drawn cell's list is as the fresh look found it, until the cell is inserted
   pub found_links : AreFoundLinks z memory (each z View.mode views) (each z View.drawn views) (each z View.inserted views) (each z View.fresh_link views)
-  -- what is noted
+  -- ---- what is noted
+  -- who holds the lock and looked at LIMIT in this hold found what it is now
   pub limits : AreLimits (each z View.mode views) (each z View.hold_limit views) (memory Limit)
+  -- a fresh look at CLOCK found no more than it is now
   pub fresh_clocks : AreNotedBelow (each z View.fresh_clock views) (memory Clock)
+  -- nor did the last look in a hold of the lock
   pub hold_clocks : AreNotedBelow (each z View.hold_clock views) (memory Clock)
+  -- nor the last look of all
   pub clocks : AreNotedBelow (each z View.clock views) (memory Clock)
+  -- nor the last look under this pin
   pub pin_clocks : AreNotedBelow (each z View.pin_clock views) (memory Clock)
+  -- each time below a seat's past is decided
   pub past : AreDecidedBelow (outcome_at slots) (each z View.past views)
+  -- each time below what a seat has reached is decided
   pub reached : AreDecidedBelow (outcome_at slots) (each z View.reached views)
+  -- FRONT is not above CLOCK
   pub front_clock : memory Front ≤ memory Clock
+  -- no seat's past is above CLOCK
   pub past_clock : AreAtMost (each z View.past views) (memory Clock)
+  -- nor is what a seat has reached
   pub reached_clock : AreAtMost (each z View.reached views) (memory Clock)
-  -- pins and snapshots
+  -- ---- pins and snapshots
+  -- PIN of each seat is the pin word that the seat knows
   pub pins : ArePins z memory (each z View.pin views)
+  -- a pin word is odd exactly while a read runs
   pub odd : AreOdd (each z View.pin views) (each z View.pinned views)
+  -- only a read holds a component: the newest, or the retired one of a seat not found quiet
   pub held : AreHeld m (each z View.held views) (each z View.pinned views) (each z View.pin views)
+  -- SNAP of each seat says what the seat noted
   pub notes : AreNotes z memory (each z View.snapshot views)
+  -- a snapshot's time, once it has one, is at or above its note and the floor, and not above CLOCK
   pub snapshots : AreSnapshots m.floor (memory Clock) (each z View.past views) (each z View.pinned views) (each z View.snapshot views)
+  -- a snapshot of a seat that the merger's round has passed is not below the floor to come
   pub passed : ArePassed (is_frozen m.phase) m.round (epoch_end z m) (each z View.snapshot views)
-  -- runs
+  -- ---- runs
+  -- no floor is below the one before, nor above the end of what is merged with it
   pub floors : AreFloors z m
+  -- the runs of the newest component are exact from their floor on, and fit their places
   pub runs : AreRuns z memory (history_of slots) m.merged m.merged_floor
+  -- so are those of the retired component, while readers may hold it
   pub former_runs : is_held_back m ≡ true → AreRuns z memory (history_of slots) (m.merged - 1) m.former_floor
-  -- records
+  -- ---- records
+  -- what a record says that it read is right in the past of its seat
   pub right : AreRight (λ i. past_of slots (each z View.past views i)) (each z View.calls views)
+  -- a record has its seat's number, and its writes are the slots at their times
   pub stand : AreRecordsStanding (outcome_at slots) (each z View.calls views)
+  -- each write below CLOCK is one of a record of its seat
   pub recorded : AreRecorded (memory Clock) (outcome_at slots) (each z View.calls views)
+  -- a seat's times rise to its due, and its snapshot is the one that its records left open
   pub rising : AreRising (each z View.calls views) (each z View.due views) (each z View.snapshot views)
+  -- no due is above CLOCK
   pub dues : AreAtMost (each z View.due views) (memory Clock)
+  -- no due is above an own time that is undecided
   pub own_dues : AreDuesBelowOwn (each z View.drawn views) (outcome_at slots) (each z View.due views)
-  -- batches
+  -- ---- batches
+  -- a batch's decided members have the times from CLOCK on, and the one that is written the next
   pub staging : AreStaging (memory Clock) (outcome_at slots) (each z View.mode views) (each z View.drawn views) (each z View.staged views)
       (each z View.committed views) (each z View.hold_clock views)
+  -- batches do not overlap, and none ends above CLOCK
   pub in_turn : AreInTurn 0 batches (memory Clock)
+  -- each time of a batch is that of a write
   pub written : AllByRecursion (IsWritten (outcome_at slots)) batches
+  -- FRONT is inside no batch
   pub uncut_front : IsUncut batches (memory Front)
+  -- nor is a clock that was looked at under a pin
   pub uncut_pins : AreUncutNotes batches (each z View.pin_clock views)
+  -- nor is the time of a snapshot
   pub uncut_snapshots : AreUncutSnapshots batches (each z View.snapshot views)
+  -- nor is the end of a seat's past
   pub uncut_pasts : AreUncutPasts batches (each z View.past views)
+  -- no record read at a time inside a batch
   pub uncut : AreUncut batches (each z View.calls views)
+  -- each batch that is recorded is listed
   pub listed : AreListed batches (each z View.calls views)
+  -- a recorded batch has one member to as many as an epoch has cells, each a write
   pub fitting : AreFitting z.cells (each z View.calls views)

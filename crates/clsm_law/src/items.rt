@@ -1,3 +1,4 @@
+//! The rows of values in views. Contracts see them as lists.
 ghost use Rattle.std.specs.Prelude.{◌≡◌, ◌++◌, ◌∷◌, [], None, replicate, slice_set, IfOk, OnErr, MatchResult};
 ghost use Rattle.std.specs.Cmp.Lexicographic.{pointwise, lists_per, lists_equiv};
 ghost use Rattle.std.specs.Hash as fed;

@@ -1,3 +1,4 @@
+//! The merger's view: what it knows and has done.
 ghost use Rattle.std.specs.Prelude.{◌≡◌};
 
 use crate::items::Items;

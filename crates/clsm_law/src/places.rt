@@ -1,3 +1,5 @@
+//! The places of the runs by their numbers: which ones readers search, and which one a merge
+//! writes.
 ghost use Rattle.std.specs.Prelude.{◌≡◌, ◌/◌, ◌%◌};
 ghost use Rattle.clsm_levels.specs.Place.{target};
 ghost use Rattle.clsm_law.specs.Places.{is_named, number_of};

@@ -1,3 +1,5 @@
+//! The atomic steps, each with its operation, and what they answer. `OpenSteps.antt`,
+//! `Relation.antt` and `Merging.antt` of specs/ say when a step is open, and what it does.
 ghost use Rattle.std.specs.Prelude.{◌≡◌};
 
 use crate::Cell;

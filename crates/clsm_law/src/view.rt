@@ -1,3 +1,4 @@
+//! The view of a caller's seat: what it knows and has done.
 ghost use Rattle.std.specs.Prelude.{◌≡◌};
 
 use crate::Cell;

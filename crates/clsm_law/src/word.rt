@@ -1,3 +1,4 @@
+//! The names of the shared words. `layout.rt` says where each of them stands.
 use crate::Cell;
 
 /// One word that the threads share.

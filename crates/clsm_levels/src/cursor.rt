@@ -1,3 +1,4 @@
+//! Cursors into sorted rows of entries, by which a merge reads them.
 ghost use Rattle.std.specs.Prelude.{length, MatchOption};
 ghost use Rattle.clsm_levels.specs.Cursors.{IsLeast, IsEmptied};
 

@@ -1,3 +1,4 @@
+//! The entries of runs, with their values and without.
 ghost use Rattle.std.specs.Prelude.{◌≡◌};
 
 use clsm_model::{Key, Time, Value};

@@ -1,3 +1,4 @@
+//! The writes of an epoch as entries.
 ghost use Rattle.std.specs.Prelude.{◌≡◌, ◌-◌, ◌≤◌, [], ◌∷◌, IfOk, length, slice_index_or};
 ghost use Rattle.std.specs.Option.{option_to_list};
 ghost use Rattle.clsm_model.specs.History.{plain};

@@ -1,3 +1,4 @@
+//! What a merge keeps: entry by entry (`judge`), and of whole lists (`wanted`).
 ghost use Rattle.std.specs.Prelude.{◌≡◌, ◌≢◌, ◌%◌, ◌≤◌, List, ◌∷◌, IfOk, map, length, cond};
 ghost use Rattle.clsm_levels.specs.declared.entry.Entry.{Entry};
 ghost use Rattle.clsm_levels.specs.Merge.{kept, merged, wanted};

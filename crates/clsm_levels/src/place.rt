@@ -1,3 +1,4 @@
+//! The names of the places that hold runs.
 /// A place that holds a run, by its number in its level.
 #[derive(Clone, Copy, PartialEq, Eq, Hash, Debug)]
 pub enum Place {

@@ -1,3 +1,4 @@
+//! Which places hold runs after so many merges, and which one the next merge writes.
 ghost use Rattle.std.specs.Prelude.{◌≡◌, ◌/◌, ◌%◌, IfOk};
 ghost use Rattle.clsm_levels.specs.Merge.{is_to_level_one};
 ghost use Rattle.clsm_levels.specs.Place.{places, target, IsFree};

@@ -1,4 +1,17 @@
 //! Shared holds.
+//!
+//! Word: LOCK. It is the number of shared holders, or 2^32 while a caller or the merger holds it
+//! alone (clause `lock` of `LawOf`, `AreSole` and `IsLockedOut` of clsm_law/specs/Law.antt).
+//!
+//! - Each shared holder changes it for its own hold alone: it enters by an exchange from the
+//!   number that it found to one more, and leaves by a subtraction of 1.
+//! - Beside a shared hold there is no freeze and no batch. So LIMIT stays as the seat found it
+//!   (`AreLimits`), and CLOCK moves by draws alone. A time is drawn only in a hold (`AreHolding`),
+//!   so who enters alone finds none undecided.
+//! - Beside other seats an exchange is lost, too, if a shared holder entered or left since the
+//!   look: `Busy` says either. Those who wait try again and again, in no order: shared holders
+//!   that follow each other without a gap keep out who wants it alone.
+//! - Gets, scans and snapshots take no lock.
 ghost use Rattle.std.specs.Prelude.{◌≡◌, None, OnOk, OnErr};
 ghost use Rattle.clsm_law.specs.declared.view.Mode.TheVariants.{Free, Shared};
 ghost use Rattle.clsm_law.specs.Views.{next_word};

@@ -1,3 +1,4 @@
+//! What a step answers: `answer_of` of clsm_law/specs/Relation.antt.
 ghost use Rattle.std.specs.Prelude.{◌≡◌};
 ghost use Rattle.clsm_law.specs.Relation.{answer_of, won_if};
 

@@ -1,3 +1,4 @@
+//! Times inside batches, and the batch that a commit lists.
 ghost use Rattle.std.specs.Prelude.{◌≡◌, ◌↔◌, ◌<◌, IsTrue, List, vec_len, vec_capacity};
 ghost use Rattle.clsm_model.specs.declared.batch.Batch.{Batch};
 ghost use Rattle.clsm_model.specs.History.{IsUncut};

@@ -1,3 +1,4 @@
+//! The drawn cell: whether the parts that the seat filled say a write.
 ghost use Rattle.std.specs.Prelude.{◌≡◌, ◌↔◌, ◌≤◌, EachIndex, IsTrue, length, map, take, slice_index, slice_index_or};
 ghost use Rattle.clsm_law.specs.Views.{IsShort, SaysWrite, is_all_some, length_of, own_line, words_of};
 

@@ -1,3 +1,5 @@
+//! Whether a read may end in a given way (`Unpin`), and whether a read-modify-write read what it
+//! says.
 ghost use Rattle.std.specs.Prelude.{◌↔◌, ◌≤◌, IsTrue};
 ghost use Rattle.clsm_law.specs.OpenSteps.{IsEndingWith, IsMetAt, IsReadBelow, IsRightAt, time_of_read};
 ghost use Rattle.clsm_law.specs.Worlds.{open_past};

@@ -1,3 +1,4 @@
+//! What a look notes in the view: `looked` of clsm_law/specs/Relation.antt.
 ghost use Rattle.std.specs.Prelude.{◌≡◌, ◌==◌, ◌+◌, ◌<◌, ◌^◌};
 ghost use Rattle.clsm_law.specs.Memory.{link_at};
 ghost use Rattle.clsm_law.specs.declared.layout.Layout.{Layout};

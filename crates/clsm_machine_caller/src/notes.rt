@@ -1,3 +1,4 @@
+//! The view after a step: `view_after` of clsm_law/specs/Relation.antt.
 ghost use Rattle.std.specs.Prelude.{◌≡◌, ℕ, MatchResult};
 ghost use Rattle.clsm_law.specs.Relation.{view_after};
 ghost use Rattle.clsm_law.specs.SeatBounds.{IsSmall, IsSmallFor};

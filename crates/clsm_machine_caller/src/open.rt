@@ -1,3 +1,4 @@
+//! Whether a step is open to a caller's seat: `IsOpen` of clsm_law/specs/OpenSteps.antt.
 ghost use Rattle.std.specs.Prelude.{◌≡◌, ◌≢◌, ◌↔◌, IsTrue, false, [], ℕ, take, Some};
 ghost use Rattle.clsm_model.specs.History.{History};
 ghost use Rattle.clsm_law.specs.declared.layout.Layout.{Layout};

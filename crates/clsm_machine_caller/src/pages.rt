@@ -1,3 +1,4 @@
+//! Whether rows are a page of a history, tested by the history's slots alone.
 ghost use Rattle.std.specs.Prelude.{◌↔◌, IsTrue, length};
 ghost use Rattle.clsm_law.specs.SeatReads.{IsNextKey, IsPageOf, IsRangeBelow};
 ghost use Rattle.clsm_law.specs.Worlds.{history_of};

@@ -1,3 +1,4 @@
+//! Whether rows are a range of a history, tested by the history's slots alone.
 ghost use Rattle.std.specs.Prelude.{◌≡◌, ◌↔◌, All, IsTrue, length};
 ghost use Rattle.clsm_model.specs.History.{value};
 ghost use Rattle.clsm_model.specs.Map.{IsRange, KeysRise, value_at};

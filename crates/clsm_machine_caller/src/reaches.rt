@@ -1,3 +1,4 @@
+//! How far a seat has found each time decided, after a look at a state.
 ghost use Rattle.std.specs.Prelude.{◌≡◌, ◌↔◌, ◌+◌, ◌<◌, ◌^◌, IsTrue};
 ghost use Rattle.clsm_law.specs.Views.{IsBelow, is_below};
 ghost use Rattle.clsm_law.specs.Relation.{is_seen, reached_after, reached_by_state};

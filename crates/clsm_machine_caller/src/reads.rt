@@ -1,3 +1,4 @@
+//! The time at which a read stands, and the due and the snapshot that it leaves.
 ghost use Rattle.std.specs.Prelude.{◌≡◌, ◌∷◌, [], ℕ};
 ghost use Rattle.clsm_law.specs.OpenSteps.{is_old, open_time, time_of_read, timed};
 ghost use Rattle.clsm_law.specs.Relation.{call_of, ended_calls, ended_due, ended_snapshot};

@@ -1,3 +1,4 @@
+//! Whether what a deed read is right at its time.
 ghost use Rattle.std.specs.Prelude.{◌↔◌, IsTrue, length};
 ghost use Rattle.clsm_model.specs.Right.{IsRight, Reads};
 ghost use Rattle.clsm_law.specs.Worlds.{history_of, open_past};

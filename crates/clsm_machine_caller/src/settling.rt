@@ -1,3 +1,4 @@
+//! What a step makes of the times: `slots_after` of clsm_law/specs/Relation.antt.
 ghost use Rattle.std.specs.Prelude.{◌≡◌, ◌<◌, List, Option, slice_set, vec_len, vec_capacity};
 ghost use Rattle.clsm_model.specs.declared.slot.Slot.{Slot};
 ghost use Rattle.clsm_law.specs.Relation.{slots_after};

@@ -1,3 +1,4 @@
+//! Whether a seat may look at a word: `IsLookable` of clsm_law/specs/OpenSteps.antt.
 ghost use Rattle.std.specs.Prelude.{◌≡◌, ◌↔◌, IsTrue};
 ghost use Rattle.clsm_law.specs.Memory.{region_of_link};
 ghost use Rattle.clsm_law.specs.OpenSteps.{HoldsFrom, IsCurrentRegion, IsLookable, IsNamedBy, MayVisit};

@@ -1,3 +1,5 @@
+//! The word of a step, and what the step makes of it: `word_of` and `changed` of
+//! clsm_law/specs/Relation.antt.
 ghost use Rattle.std.specs.Prelude.{◌≡◌, ◌+◌, ◌<◌, ◌^◌, IsTrue};
 ghost use Rattle.clsm_model.specs.Right.{write_by};
 ghost use Rattle.clsm_law.specs.Memory.{head_of, is_word, link_at};

@@ -1,3 +1,4 @@
+//! What the steps on the lock and the clock, and those of writes and batches, note in the view.
 ghost use Rattle.std.specs.Prelude.{◌≡◌, ◌+◌, ◌<◌, ◌^◌, ◌++◌, ℕ, length, MatchResult, true};
 ghost use Rattle.clsm_law.specs.Views.{or_zero};
 ghost use Rattle.clsm_machine_caller.specs.Settling.{listed};

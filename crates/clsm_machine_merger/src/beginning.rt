@@ -1,3 +1,4 @@
+//! The view of the merger at its beginning.
 ghost use Rattle.std.specs.Prelude.{◌≡◌, IfOk};
 ghost use Rattle.clsm_law.specs.Merging.{opening};
 

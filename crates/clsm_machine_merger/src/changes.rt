@@ -1,3 +1,5 @@
+//! The word of a step of the merger, and what the step makes of it: `word_of_merger` and
+//! `changed_by_merger` of clsm_law/specs/Merging.antt.
 ghost use Rattle.std.specs.Prelude.{◌≡◌};
 ghost use Rattle.clsm_law.specs.declared.merger.MergerView.{MergerView};
 ghost use Rattle.clsm_law.specs.Merging.{changed_by_merger, word_of_merger};

@@ -1,3 +1,5 @@
+//! Whether the target of a merge holds what is wanted, which `Publish` asks for. It takes no
+//! memory.
 ghost use Rattle.std.specs.Prelude.{◌≡◌, ◌↔◌, IsTrue, length};
 ghost use Rattle.std.specs.List.{AllByRecursion, Contains};
 ghost use Rattle.clsm_levels.specs.declared.entry.Entry.{Entry};

@@ -1,3 +1,4 @@
+//! Entries as the words of a place spell them, and as times came to them.
 ghost use Rattle.std.specs.Prelude.{◌≡◌, ◌≤◌, ◌↔◌, IsTrue, length};
 ghost use Rattle.clsm_law.specs.Layout.{memory, size_of};
 ghost use Rattle.clsm_law.specs.Places.{entry_in};

@@ -1,3 +1,4 @@
+//! What the merger's steps ask of the words: parts of `facts_of` of clsm_law/specs/Worlds.antt.
 ghost use Rattle.std.specs.Prelude.{◌≡◌, length};
 ghost use Rattle.clsm_law.specs.Layout.{memory, size_of};
 ghost use Rattle.clsm_law.specs.Worlds.{is_padded, is_headless, is_orderless, is_last, is_length, is_ended, is_canonical, are_canonical};

@@ -1,3 +1,4 @@
+//! The merger's view after a step: `merger_after` of clsm_law/specs/Merging.antt.
 ghost use Rattle.std.specs.Prelude.{◌≡◌, ◌<◌, ℕ, List, Option, length};
 ghost use Rattle.clsm_model.specs.declared.slot.Slot.{Slot};
 ghost use Rattle.clsm_law.specs.declared.layout.Layout.{Layout};

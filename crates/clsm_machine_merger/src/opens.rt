@@ -1,3 +1,4 @@
+//! Whether a step is open to the merger: `IsOpenToMerger` of clsm_law/specs/Merging.antt.
 ghost use Rattle.std.specs.Prelude.{◌≡◌, ◌+◌, ◌*◌, ◌≤◌, ◌<◌, ◌^◌, ◌↔◌, true, false, IsTrue};
 ghost use Rattle.clsm_law.specs.Codes.{last_limit};
 ghost use Rattle.clsm_law.specs.Memory.{is_word, region_of, room_of};

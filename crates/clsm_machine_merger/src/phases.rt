@@ -1,3 +1,4 @@
+//! The tests of the merger's phase.
 ghost use Rattle.std.specs.Prelude.{◌≡◌};
 ghost use Rattle.clsm_law.specs.Merging.{is_clean, is_frozen, is_retired};
 

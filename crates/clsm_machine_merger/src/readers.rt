@@ -1,3 +1,4 @@
+//! What the merger notes of seats while a component is retired.
 ghost use Rattle.std.specs.Prelude.{◌≡◌, length, replicate};
 ghost use Rattle.clsm_law.specs.Merging.{differs, reader_at, reader_by, unseen};
 

@@ -1,3 +1,4 @@
+//! Rounds of looks at the snapshot words, and the floor that a whole round gives.
 ghost use Rattle.std.specs.Prelude.{◌≡◌, ◌<◌};
 ghost use Rattle.clsm_law.specs.Merging.{floor_by, is_whole, least, least_noted, least_or, noted_by, noted_time, round_by, round_end, rounds_by};
 ghost use Rattle.clsm_law.specs.Deciding.{IsMergerSmall};

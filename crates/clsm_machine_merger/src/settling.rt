@@ -1,3 +1,5 @@
+//! What a step of the merger makes of the times: `slots_after_merger` of
+//! clsm_law/specs/Merging.antt.
 ghost use Rattle.std.specs.Prelude.{◌≡◌, MatchResult};
 ghost use Rattle.clsm_law.specs.Merging.{slots_after_merger};
 ghost use Rattle.clsm_law.specs.Deciding.{IsMergerSmall};

@@ -1,3 +1,4 @@
+//! The entries that a merge reads, by their numbers.
 ghost use Rattle.std.specs.Prelude.{◌≡◌, ◌+◌, ◌<◌, ◌^◌, length};
 ghost use Rattle.clsm_law.specs.Layout.{memory};
 ghost use Rattle.clsm_law.specs.Deciding.{IsMergeable, search_order, searched_count, searched_entry, searched_total, source_count};

@@ -1,3 +1,4 @@
+//! The words by their names, and small numbers that follow from the merger's view.
 ghost use Rattle.std.specs.Prelude.{◌≡◌, ◌≤◌, ◌*◌, ◌+◌, ◌^◌, length};
 ghost use Rattle.clsm_law.specs.Layout.{memory, size_of};
 ghost use Rattle.clsm_law.specs.Merging.{epoch_end, retired_region, target_of};

@@ -1,4 +1,20 @@
 //! The link of a drawn cell into its chain.
+//!
+//! Words: the heads of chains, and NEXT of each cell. From a head the words NEXT lead through
+//! cells of drawn times of one epoch, whose keys are of this chain, and end; no cell stands there
+//! twice (`AreChained`, `AreIn` and `AreOnce` of clsm_law/specs/Law.antt). Cells stand in the
+//! order of their links, the last one first, and not by time. STATE tells which are writes.
+//!
+//! - A writer links its own cell alone, once, by one exchange of the head. Its KEY, length, value
+//!   and NEXT are filled before, and stay (`KeepsLinked` of clsm_law/specs/Keeping.antt) until the
+//!   region is reused after a reclaim. Only a reclaim empties a chain, once no reader holds the
+//!   retired component.
+//! - A reader that holds the component finds, from a head on, each write of that epoch with a key
+//!   of the chain that is below its past (`IsTrail` of clsm_words/specs/Knowing.antt): a time is
+//!   decided as a write only when its cell is linked (`AreStanding`).
+//! - Beside a writer a chain grows at its head alone. A cell that is linked after the reader's
+//!   look at the head is no write below its past. A writer that loses the exchange gets `Raced`,
+//!   and its cell is in no chain.
 ghost use Rattle.std.specs.Prelude.{◌≡◌, ◌≢◌, None, IsOk, OnOk, OnErr};
 ghost use Rattle.clsm_law.specs.declared.view.Mode.TheVariants.{Free, Exclusive};
 ghost use Rattle.clsm_law.specs.Views.{next_word};

@@ -1,5 +1,19 @@
 //! Times below a read's own are settled before it reads: each is decided then, and none below
 //! changes any more.
+//!
+//! Words: STATE of each cell, and FRONT. A cell's state is 0 while its time is undecided; then it
+//! shows what the time came to (`AreShown` of clsm_law/specs/Law.antt). Each time below FRONT is
+//! decided (clause `front` of `LawOf`), and FRONT is inside no batch (`uncut_front`).
+//!
+//! - A state leaves 0 by an exchange: to a write, of the writer that drew the time; to cancelled,
+//!   of a reader or of the writer itself. The first one wins. A freeze cancels times that nobody
+//!   drew. Only a reclaim brings 0 back, once no reader holds the retired component.
+//! - FRONT only rises: a seat that found each time below decided raises it.
+//! - A reader may rely on this: after `settle_below` each time below its own is decided for good,
+//!   and its past reaches there. So no write can come to stand below the read any more.
+//! - Beside a writer that stalls a reader looks `patience + 1` times at most, and makes one
+//!   exchange. A writer whose decide comes too late gets `Overtaken`, and its write needs another
+//!   time. No reader waits for a writer (docs/DEFINITIONS.md, "Waiting").
 ghost use Rattle.std.specs.Prelude.{◌≡◌, ◌+◌, ◌<◌, ◌≤◌, ℕ, false, true, length};
 ghost use Rattle.clsm_law.specs.declared.step.Step.TheVariants.{RaiseFront};
 ghost use Rattle.clsm_words.specs.Plays.{IsSeatOf, MayPlay};

@@ -1,3 +1,4 @@
+//! Batches, by their times.
 use crate::Time;
 
 /// The times of a batch: `size` of them, from `first` on.

@@ -1,3 +1,4 @@
+//! The sizes of a store, their ranges, and why a store is not opened.
 ghost use Rattle.std.specs.Prelude.{◌≡◌};
 ghost use Rattle.clsm_model.specs.Config.{number_of, IsChecked};
 

@@ -1,3 +1,4 @@
+//! Calls with their arguments and no answer yet.
 use crate::Key;
 use crate::slot::Change;
 use crate::value::Value;

@@ -1,3 +1,4 @@
+//! The members of batches.
 ghost use Rattle.std.specs.Prelude.{◌≡◌, ◌↔◌, ◌==◌, ◌++◌, ◌∷◌, [], IsTrue, MatchResult};
 ghost use Rattle.std.specs.Cmp.{unsigned_Decides, and_equiv, on_equiv, nat_eq_equiv, partial_equiv_from_equiv};
 ghost use Rattle.std.specs.Cmp.Lexicographic.{pointwise, lists_equiv};

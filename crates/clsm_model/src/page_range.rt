@@ -1,3 +1,4 @@
+//! What pages ask for.
 use crate::Key;
 
 /// What a page asks for: the first `max` keys with `from <= key <= hi`.

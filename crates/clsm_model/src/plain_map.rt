@@ -1,3 +1,4 @@
+//! The plain map: what each read of a store is held against.
 ghost use Rattle.std.specs.Prelude.{◌≡◌, ℕ, ◌+◌, ◌≤◌, [], length, take, None, IsSome, IfOk, OnOk, OnErr};
 ghost use Rattle.clsm_model.specs.History.{History, plain, slot_at, end_of};
 ghost use Rattle.clsm_model.specs.Map.{AddsKey, IsMap, IsRange, Applies, WritesKey, between, value_at};

@@ -1,3 +1,4 @@
+//! Records: answered calls, with their times.
 ghost use Rattle.std.specs.Prelude.{◌≡◌};
 
 use crate::members::Members;

@@ -1,3 +1,4 @@
+//! The rows that scans and pages answer.
 ghost use Rattle.std.specs.Prelude.{◌≡◌, ◌==◌, ◌++◌};
 ghost use Rattle.std.proofs.Common.{rules};
 ghost use Rattle.std.specs.Cmp.{unsigned_Decides};

@@ -1,3 +1,4 @@
+//! Slots: what timestamps came to, and what a write does to its key.
 ghost use Rattle.std.specs.Prelude.{◌≡◌};
 
 use crate::Key;

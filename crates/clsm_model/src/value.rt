@@ -1,3 +1,4 @@
+//! The values of the map: one to eight words each.
 ghost use Rattle.std.specs.Prelude.{◌≡◌, ◌≤◌, ◌↔◌, length, IsOk, IfOk};
 
 use std::fmt;

@@ -1,4 +1,18 @@
 //! The beginning and the end of a read.
+//!
+//! Words: PIN of each seat, which its seat alone stores, and MERGED, which the merger alone does.
+//! PIN is odd exactly while a read of the seat runs (`AreOdd` of clsm_law/specs/Law.antt), and
+//! each pin and unpin changes it. A held component is the newest, or the retired one while the
+//! merger has not found the seat quiet (`AreHeld`).
+//!
+//! - A read stores PIN first, and then looks at MERGED. A merge that is published after that look
+//!   finds the PIN of this read, and nothing is reclaimed before that changes (`quieting.rt`).
+//! - From that look to the unpin the reader may rely on what it holds: its runs stay, its chains
+//!   and lists only grow, and what was decided in its cells stays (`KeepsRuns`, `KeepsWays`,
+//!   `KeepsSpots` and `KeepsCells` of clsm_words/specs/Knowing.antt). Each time before the
+//!   component's first epoch is decided, too.
+//! - A clock that is looked at under the pin is not below the floor of the runs that are held
+//!   (clauses `begun` and `floors` of `LawOf`). One that was looked at before may be.
 ghost use Rattle.std.specs.Prelude.{◌≡◌, false};
 ghost use Rattle.clsm_law.specs.declared.step.Step.TheVariants.{Unpin};
 ghost use Rattle.clsm_words.specs.Plays.{IsSeatOf, MayPlay};

@@ -1,4 +1,17 @@
 //! Whether a seat holds anything retired.
+//!
+//! Words: PIN of each seat, at which the merger only looks. Since the last merge was published it
+//! has noted, of each seat that it looked at, the PIN that it found first, and whether the seat
+//! was quiet. A seat that holds the retired component was not found quiet, and its PIN is the one
+//! noted first, if one was (`IsRetiredFor` of clsm_law/specs/Law.antt).
+//!
+//! - A seat is quiet if its PIN is even: no read of it ran then. Or if its PIN is another than the
+//!   first: the read that ran then has ended. It stays quiet until the next merge, since its later
+//!   reads hold the newer component (`HoldsNothingRetired` of specs/Quieting.antt).
+//! - The merger may reclaim once it has found each seat quiet, at whatever moments.
+//! - A read that goes on from the first look on keeps its seat from being found quiet, even if it
+//!   holds the newer component. The merger does not wait for it, and it does not wait for the
+//!   merger.
 ghost use Rattle.std.specs.Prelude.{◌≡◌, ◌<◌, ℕ, true, false};
 ghost use Rattle.clsm_law.specs.Merging.{is_retired, reader_at, reader_by};
 ghost use Rattle.clsm_law.specs.Views.{next_word};

@@ -1,3 +1,4 @@
+//! What a call asks for, as far as the planner needs it.
 ghost use Rattle.std.specs.Prelude.{◌↔◌, IsTrue};
 ghost use Rattle.clsm_planner.specs.Playing.{IsPassedOver};
 

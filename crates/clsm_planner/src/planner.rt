@@ -1,3 +1,4 @@
+//! The order in which the parts of calls are planned, and why no next step is told.
 use crate::merger::MergeStage;
 use crate::place::Place;
 

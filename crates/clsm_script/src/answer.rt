@@ -1,3 +1,4 @@
+//! What commands answer, as it is printed.
 ghost use Rattle.std.specs.Prelude.{◌↔◌, IsTrue, Some};
 ghost use Rattle.clsm_script.specs.Printed.{answer_text, call_text, change_text};
 

@@ -1,3 +1,4 @@
+//! The commands of scripts: from words to a command, and from a command to calls of the store.
 ghost use Rattle.std.specs.Prelude.{◌≡◌, ◌∷◌, [], IfOk, OnOk};
 
 use crate::answer::Answer;

@@ -1,3 +1,4 @@
+//! The lines of a script.
 ghost use Rattle.clsm_script.specs.Line.{Reads};
 
 use crate::command::Command;

@@ -1,3 +1,4 @@
+//! `clsm script`: the lines of an input are played on a new store, and answered one by one.
 ghost use Rattle.std.specs.Prelude.{◌≡◌, ◌≢◌, [], Err, IfSome, OnOk, IfErr};
 ghost use Rattle.std.specs.Io.Buffered.{reader_remaining};
 ghost use Rattle.clsm_store_audit.specs.Settled.{HaveWholeHistory};

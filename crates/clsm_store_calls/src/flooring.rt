@@ -1,4 +1,18 @@
 //! The floor of a merge: the time below which it may forget all but the newest version of each key.
+//!
+//! Words: SNAP of each seat, which its seat alone stores: 0, or 1 plus the time that it noted for
+//! its snapshot (`AreNotes` of clsm_law/specs/Law.antt). The snapshot's own time is not below the
+//! note, nor below the floor (`AreSnapshots`).
+//!
+//! - The merger alone has the floor. It takes it while an epoch is frozen, after one look at each
+//!   SNAP in the order of the seats. Each snapshot of a seat that it has passed is at or above the
+//!   least time found noted, or at or above the epoch's end (`ArePassed`). The floor never falls.
+//! - A reader may rely on this: the floor of the runs that it searches is not above its time, be
+//!   that the clock under its pin or its open snapshot (`IsReading` of
+//!   clsm_words/specs/Knowing.antt).
+//! - Beside a seat that opens a snapshot the look may come before the note. The epoch is frozen by
+//!   then, and the snapshot takes its time from a look at CLOCK after the note: so that time is at
+//!   or above the epoch's end, and the floor is not above it (`snapshotting.rt` of clsm_pins).
 ghost use Rattle.std.specs.Prelude.{◌≡◌, ◌≤◌, max, true};
 ghost use Rattle.clsm_law.specs.Merging.{epoch_end, is_frozen, least, lesser, noted_time};
 ghost use Rattle.clsm_law.specs.Views.{next_word};

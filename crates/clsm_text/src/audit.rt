@@ -1,3 +1,4 @@
+//! `clsm audit`: the records of an input are audited, and the verdict is printed.
 ghost use Rattle.std.specs.Prelude.{◌≡◌, IfSome, IfOk, IfErr, OnOk};
 ghost use Rattle.clsm_text.specs.Failure.{IsOutside};
 ghost use Rattle.clsm_text.specs.Audit.{AreLawful, IsStatus, IsVerdict, PrintsFault, PrintsVerdict, StopsAudit};

@@ -1,3 +1,4 @@
+//! Deeds, read from words. `written.rt` writes them.
 ghost use Rattle.std.specs.Prelude.{◌∷◌, codes, IfOk};
 ghost use Rattle.clsm_text.specs.Line.{texts_of};
 ghost use Rattle.clsm_text.specs.Found.{Finds};

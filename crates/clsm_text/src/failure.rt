@@ -1,3 +1,4 @@
+//! Why a program does not end well: its line on the faults, and its exit status.
 ghost use Rattle.std.specs.Prelude.{◌≡◌};
 
 use clsm_model::OpenError;

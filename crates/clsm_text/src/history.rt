@@ -1,3 +1,4 @@
+//! The history of lawful records, written as lines.
 ghost use Rattle.std.specs.Prelude.{IfErr, OnOk};
 ghost use Rattle.clsm_text.specs.Audit.{Grows};
 ghost use Rattle.clsm_text.specs.Failure.{IsOutside};

@@ -1,3 +1,4 @@
+//! Lines, read from an input one by one, in bounded memory.
 ghost use Rattle.std.specs.Prelude.{◌≡◌, ◌≢◌, ◌↔◌, ◌≤◌, [], IsTrue, false, true, vec_len};
 ghost use Rattle.std.specs.Prelude.{IfSome, IfOk, IfErr, OnOk};
 ghost use Rattle.clsm_text.specs.Failure.{IsOutside};

@@ -1,3 +1,4 @@
+//! What a line says: its words, or nothing.
 ghost use Rattle.std.specs.Prelude.{◌≡◌, ◌↔◌, Err, IfOk, IfSome, IsTrue};
 ghost use Rattle.std.specs.Str.{IsUtf8};
 ghost use Rattle.clsm_text.specs.Line.{texts_of, words_of, IsComment, IsText, SaysWords};

@@ -1,3 +1,4 @@
+//! Explanations of faults, written as lines.
 use crate::judging::Judged;
 use crate::listing::{Listed, TimedList};
 use crate::written::{Line, Reply};

@@ -1,3 +1,4 @@
+//! Records, read from lines. `written.rt` writes them.
 ghost use Rattle.std.specs.Prelude.{IfOk};
 ghost use Rattle.clsm_text.specs.Line.{texts_of};
 ghost use Rattle.clsm_text.specs.Found.{Finds};

@@ -1,3 +1,4 @@
+//! Seats, answers and rows, read from words.
 ghost use Rattle.std.specs.Prelude.{◌≡◌, ◌≢◌, ℕ, List, [], ◌∷◌, ◌++◌, codes, IfOk, IfSome, IfNone};
 ghost use Rattle.clsm_text.specs.Line.{texts_of};
 ghost use Rattle.clsm_text.specs.Found.{Finds};

@@ -1,3 +1,4 @@
+//! Records and deeds, written as words of a line. `record.rt` and `deed.rt` read them.
 ghost use Rattle.std.specs.Prelude.{OnOk, Some, map};
 ghost use Rattle.std.specs.Io.KnownBytes.{Appends};
 ghost use Rattle.clsm_text.specs.Written.{reply_text, change_text, row_text, more_words, spaced, member_text};

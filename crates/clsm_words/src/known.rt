@@ -1,3 +1,4 @@
+//! What a seat at the words knows, as contracts and proofs see it.
 use clsm_law::{Layout, MergerView, View};
 use clsm_model::{Batch, Key, Slot, Time};
 use std::collections::LinkedList;

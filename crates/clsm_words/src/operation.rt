@@ -1,3 +1,4 @@
+//! The operations on a word.
 /// An operation on a word.
 #[derive(Clone, Copy)]
 pub enum Operation {

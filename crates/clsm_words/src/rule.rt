@@ -1,3 +1,5 @@
+//! The rule of the table: what holds of the words between any two steps, and what seats may know.
+//! `specs/Ruled.antt` has it.
 ghost use Rattle.std.specs.Prelude.{ℕ};
 
 use crate::known::Known;

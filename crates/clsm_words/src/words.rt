@@ -1,3 +1,5 @@
+//! The shared words on their table, and who holds a seat at them: a caller, the merger, or a
+//! message.
 ghost use Rattle.std.specs.Prelude.{◌≡◌, ◌*◌};
 ghost use Rattle.clsm_law.specs.Layout.{size_of};
 ghost use Rattle.clsm_words.specs.Starts.{starts_of};

@@ -1,3 +1,4 @@
+//! The sizes by which all rows are played.
 use clsm_model::Config;
 
 /// The sizes of the store and of the machine.

@@ -1,3 +1,4 @@
+//! Why a row is not played to its end.
 use clsm_words::Kind;
 use std::alloc::{AllocError, AllocFailed};
 
