@@ -43,7 +43,6 @@ fn fill_cell<P: Pace>(words: &Words<P>, seat: &mut RawSeat, time: Time, key: Key
 /// Fills the drawn cell with this write, a value or, with `None`, a removal: its key, its length in
 /// words, which is 0 of a removal, and its words; what stands behind them in the cell is left as it
 /// is. It links nothing, never waits and is never refused.
-#[inline(always)]
 pub fn fill<P: Pace>(
     words: &Words<P>,
     seat: &mut RawSeat,

@@ -93,7 +93,6 @@ impl Wanted {
 
     /// The empty span at the first entry of the key with a time below `until`, which it then hit;
     /// where there is none, at the first entry of a greater key, or at the run's end.
-    #[inline(always)]
     pub(crate) fn bound<P: Pace>(self, words: &Words<P>, seat: &mut RawSeat, run: HeldRun) -> Span
         requires of { IsSeatOf words.now seat.old }
         requires run { IsSearchable seat.old.knows run.component run.place }

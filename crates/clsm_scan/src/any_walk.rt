@@ -62,7 +62,6 @@ impl Walk for AnyWalk {
         }
     }
 
-    #[inline(always)]
     fn next<P: Pace>(&mut self, words: &Words<P>, seat: &mut RawSeat, from: u64) -> Option<u64> {
         match self {
             AnyWalk::AlongEpoch(walk) => walk.next(words, seat, from),

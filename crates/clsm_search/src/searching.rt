@@ -159,7 +159,6 @@ impl ChainWalk {
 
     /// The time of the newest write of the key in the epoch, by its ordered list from the write on
     /// that the walk came to.
-    #[inline(always)]
     fn newest_near<P: Pace>(&self, words: &Words<P>, seat: &mut RawSeat) -> Newest
         requires { IsWalking words.now seat.old self.now }
         ensures looks { LooksOn words.now seat.old seat.new }
@@ -208,7 +207,6 @@ impl ChainWalk {
     /// The time of the newest write of the key in the epoch, from the head of its chain: the first
     /// write of the key in the chain or, where that goes on, the last from there on in the ordered
     /// list, since links do not stand in a chain by time.
-    #[inline(always)]
     fn newest<P: Pace>(self, words: &Words<P>, seat: &mut RawSeat) -> Option<Time>
         requires { IsWalking words.now seat.old self }
         ensures { FindsNewest words.now seat.old seat.new self result }
