@@ -24,7 +24,7 @@ use clsm_words::{Pace, RawSeat, Words};
 /// chains of the component's epochs, and else by its runs. Its time is not below what is merged
 /// into the component, or it is that of the seat's open snapshot.
 #[inline(always)]
-fn value_left<P: Pace>(
+pub(crate) fn value_left<P: Pace>(
     words: &Words<P>,
     seat: &mut RawSeat,
     point: ReadPoint,
