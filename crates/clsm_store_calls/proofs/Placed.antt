@@ -1,17 +1,17 @@
 -- Reads of many keys: one more of them, and what is left of the seat meanwhile.
-use Rattle.std.proofs.Common.{◌≡◌, ◌∙◌, ℕ, ◌+◌, ◌*◌, ◌<◌, ◌≤◌, ◌⊎◌, ⊎_elim, inl, inr, suc, zero, List, [], ◌∷◌, ◌++◌, ap, arith, get_or, length, map, set, subst, sym, take}
-use Rattle.std.proofs.Common.{Option, Some, None, IfSome, MatchOption, slice_get}
+use Rattle.std.proofs.Common.{◌≡◌, ◌∙◌, ℕ, ◌+◌, ◌*◌, ◌<◌, ◌≤◌, ⊎_elim, inl, inr, List, [], ◌∷◌, ◌++◌, ap, arith, get_or, length, map, set, subst, sym, take}
+use Rattle.std.proofs.Common.{Option, Some, IfSome, MatchOption, slice_get}
 use Rattle.std.proofs.lemmas.List.{map-append, take_all, take_more, take_more_set}
 use Rattle.std.specs.List.{AllZip}
 use Rattle.clsm_model.specs.declared.slot.Slot.{Slot}
-use Rattle.clsm_model.specs.History.{History, plain, value}
+use Rattle.clsm_model.specs.History.{History, value}
 use Rattle.clsm_law.specs.declared.layout.Layout.{Layout}
 use Rattle.clsm_law.specs.declared.view.View.{View}
 use Rattle.clsm_law.specs.OpenSteps.{open_time}
 use Rattle.clsm_words.specs.declared.known.Known.{Known}
 use Rattle.clsm_words.specs.Keeping.{Looks}
 use Rattle.clsm_store_calls.specs.Many.{HoldValues}
-use Rattle.clsm_store_calls.specs.Reading.{MayReadAt, MayReadBelow}
+use Rattle.clsm_store_calls.specs.Reading.{MayReadBelow}
 
 -- looks leave what the seat may read
 pub may_still : (k k' : Known) (component t : ℕ) → Looks k k' → MayReadBelow k component t → MayReadBelow k' component t

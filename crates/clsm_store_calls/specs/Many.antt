@@ -1,5 +1,5 @@
 -- Reads of many keys, all at one time.
-use Rattle.std.specs.Prelude.{◌≡◌, ℕ, ◌≤◌, List, Option, MatchOption, IfSome, slice_get}
+use Rattle.std.specs.Prelude.{ℕ, List, Option, MatchOption, IsSomeAnd, slice_get}
 use Rattle.std.specs.List.{AllZip}
 use Rattle.clsm_model.specs.declared.record.Deed.TheVariants.{Get, GetAt}
 use Rattle.clsm_model.specs.History.{History, plain, value}
@@ -19,6 +19,6 @@ abbrev pub ReadsFirst : Known → Known → ℕ → List ℕ → Type 0
 ReadsFirst old new t keys =
     MatchOption (slice_get keys 0) (MeetsAt old new t) (λ key. ReadsAt old new t (Get key (value (plain new.past) key t)))
 
--- under the open snapshot it is recorded as a read of the first key there
+-- there is a first key, and the read is recorded as a read of it under the open snapshot
 abbrev pub ReadsFirstUnder : Known → Known → ℕ → List ℕ → Type 0
-ReadsFirstUnder old new t keys = IfSome (slice_get keys 0) (λ key. ReadsUnder old new t (GetAt key (value (plain new.past) key t)))
+ReadsFirstUnder old new t keys = IsSomeAnd (slice_get keys 0) (λ key. ReadsUnder old new t (GetAt key (value (plain new.past) key t)))
