@@ -1,11 +1,12 @@
 -- The page to read first: what each call of a seat promises, all of it, once. `Store` makes a call
 -- by a seat that it is given, `Caller` by its own, and both promise the same. `old` is the seat as
 -- the call found it, `new` as it left it, and `result` what it answered. A call asks only for a
--- seat of its store; `get_at` also for an open snapshot, `rmw` and `visit` for a function that may
--- be called with any value, `hear` for a message of the store. At the end stand the merger's calls:
--- each asks for its store's token in one phase, `old`, and hands one back.
+-- seat of its store; `get_at` and `get_many_at` also for an open snapshot, these and `get_many` for
+-- as many places as keys, `rmw` and `visit` for a function that may be called with any value, `hear`
+-- for a message of the store. At the end stand the merger's calls: each asks for its store's token
+-- in one phase, `old`, and hands one back.
 use Rattle.std.specs.Prelude.{◌≡◌, ℕ, ◌+◌, ◌*◌, ◌^◌, ◌<◌, ◌≤◌, List, drop, length, map, replicate, take}
-use Rattle.std.specs.Prelude.{Option, None, Some, IfNone, IfSome, Result, IfErr, IfOk}
+use Rattle.std.specs.Prelude.{Option, None, Some, IfNone, IfSome, MatchOption, Result, IfErr, IfOk, slice_get}
 use Rattle.clsm_law.specs.Merging.{unseen}
 use Rattle.clsm_levels.specs.Cursors.{row_at}
 use Rattle.clsm_law.specs.Views.{next_word}
@@ -13,7 +14,7 @@ use Rattle.clsm_model.specs.declared.plain_map.Memory.{Memory}
 use Rattle.clsm_model.specs.declared.record.Deed.{Deed}
 use Rattle.clsm_model.specs.declared.record.Deed.TheVariants.{Batch, Close, Get, GetAt, Rmw as ChangeOf, Scan as ScanOf, Snapshot}
 use Rattle.clsm_model.specs.declared.slot.Change.{Change}
-use Rattle.clsm_model.specs.History.{IsBeginning}
+use Rattle.clsm_model.specs.History.{IsBeginning, end_of, value}
 use Rattle.clsm_model.specs.Map.{Pair}
 use Rattle.clsm_model.specs.Right.{Member, page_deed}
 use Rattle.clsm_model.specs.Seats.{FitsDeed}
@@ -37,6 +38,7 @@ use Rattle.clsm_store_calls.specs.Agreeing.{AgreesWith}
 use Rattle.clsm_store_calls.specs.Batching.{CountsBatch, CountsTryBatch, IsRefusedBatch, IsRefusedTryBatch}
 use Rattle.clsm_store_calls.specs.Changing.{CountsTryChange, changed_at}
 use Rattle.clsm_store_calls.specs.Looking.{IsKeptOut}
+use Rattle.clsm_store_calls.specs.Many.{HoldValues}
 use Rattle.clsm_store_calls.specs.Merging.{IsRunFull, TakesFloor}
 use Rattle.clsm_store_calls.specs.Reclaiming.{AreAllQuiet, IsLowestLoud}
 use Rattle.clsm_store_calls.specs.Scanning.{CountsKeys, IsAtClock, ScansNow, VisitsKeys}
@@ -137,7 +139,7 @@ pub record TriesToChange (old new : SeatState) (key : ℕ) (result : Result Rmw 
 abbrev pub TriesToChangeBy : SeatState → SeatState → ℕ → (Option (List ℕ) → Change → Type 0) → Result Rmw TryPutError → Type 0
 TriesToChangeBy old new key Makes result = MakesChange (TriesToChange old new key) Makes result
 
--- ---- reads of one key, and snapshots
+-- ---- reads of keys, and snapshots
 
 -- get
 pub record Gets (old new : SeatState) (key : ℕ) (result : Got) : Type 0 where
@@ -172,6 +174,36 @@ pub record ClosesSnapshot (old new : SeatState) (result : Option ℕ) : Type 0 w
 pub record GetsAt (old new : SeatState) (key : ℕ) (result : Got) : Type 0 where
   -- one record more, of the value at the snapshot's time
   pub answers : Answers old new result.time (GetAt key result.value)
+  -- it counted nothing
+  pub lock : new.tally ≡ old.tally
+
+-- get_many; `Tells place value`: the place tells the value of a key, or that it has none
+pub record GetsMany {V : Type 0} (Tells : V → Option (List ℕ) → Type 0) (old new : SeatState) (keys : List ℕ) (places : List V)
+    (time : ℕ) : Type 0 where
+  -- each place tells the value of its key at this one time
+  pub values : HoldValues Tells (known_by new) time keys places
+  -- one record more, a get of the first key at this time; with no key, it read at its new due, which
+  -- is this time, with no record
+  pub recorded : MatchOption (slice_get keys 0) (IsUnrecorded old new × (new.due ≡ time))
+      (λ key. Answers old new time (Get key (value (known_by new) key time)))
+  -- it knows all below the time
+  pub reached : time ≤ end_of (known_by new)
+  -- as get
+  pub clock : new.clock ≡ Some time
+  -- as get
+  pub lock : TakesNoLock old.tally new.tally
+
+-- get_many_at
+pub record GetsManyAt {V : Type 0} (Tells : V → Option (List ℕ) → Type 0) (old new : SeatState) (keys : List ℕ) (places : List V)
+    (time : ℕ) : Type 0 where
+  -- as get_many
+  pub values : HoldValues Tells (known_by new) time keys places
+  -- one record more, a get_at of the first key; with no key, nothing was done
+  pub recorded : MatchOption (slice_get keys 0) (new ≡ old) (λ key. Answers old new time (GetAt key (value (known_by new) key time)))
+  -- as get_many
+  pub reached : time ≤ end_of (known_by new)
+  -- the time is that of the open snapshot
+  pub «open» : old.snapshot ≡ Some time
   -- it counted nothing
   pub lock : new.tally ≡ old.tally
 
@@ -315,6 +347,14 @@ pub record GetsAtIfOpen (old new : SeatState) (key : ℕ) (result : Option Got) 
   pub none : IfNone result ((new ≡ old) × (old.snapshot ≡ None))
   -- it counted nothing
   pub lock : new.tally ≡ old.tally
+
+-- get_many_at as a session makes it, and the library for C: it asks for no open snapshot
+pub record GetsManyAtIfOpen {V : Type 0} (Tells : V → Option (List ℕ) → Type 0) (old new : SeatState) (keys : List ℕ) (before after : List V)
+    (result : Option ℕ) : Type 0 where
+  -- answered: as get_many_at
+  pub answers : IfSome result (GetsManyAt Tells old new keys after)
+  -- no snapshot was open, and nothing was done
+  pub none : IfNone result ((new ≡ old) × (old.snapshot ≡ None) × (after ≡ before))
 
 -- ---- the merger
 

@@ -6,6 +6,7 @@ mod caller;
 mod calls;
 mod changes;
 mod freezing;
+mod gets;
 mod many;
 mod meet;
 pub mod merger;
@@ -31,8 +32,8 @@ pub use clsm_model::{
 pub use clsm_runs::RunFull;
 pub use clsm_scan::{Row, Sink};
 pub use clsm_store_calls::{
-    BatchError, Counted, Filled, Full, Got, Open, Page, Pinned, Rmw, Scan, TryBatchError,
-    TryPutError, Worn,
+    BatchError, Counted, Filled, Full, Got, Keyed, Open, Page, Pinned, Rmw, Scan, TryBatchError,
+    TryPutError, ValuePlace, Worn,
 };
 pub use clsm_words::{Free, Kind, Pace};
 pub use freezing::TryFroze;

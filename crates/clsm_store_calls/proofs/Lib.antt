@@ -18,5 +18,6 @@ pub mod Asking
 pub mod KeyCounts
 pub mod ReadParts
 pub mod Staged
+pub mod Placed
 pub mod Polls
 pub mod Beside

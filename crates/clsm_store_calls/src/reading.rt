@@ -23,7 +23,7 @@ use clsm_words::{Pace, RawSeat, Words};
 /// Leaves the value of the key at the point in the caller's place, which is empty before: by the
 /// chains of the component's epochs, and else by its runs. Its time is not below what is merged
 /// into the component, or it is that of the seat's open snapshot.
-fn value_left<P: Pace>(
+pub(crate) fn value_left<P: Pace>(
     words: &Words<P>,
     seat: &mut RawSeat,
     point: ReadPoint,

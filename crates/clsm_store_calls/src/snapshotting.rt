@@ -63,7 +63,7 @@ pub(crate) fn begin_under<P: Pace>(
 }
 
 /// The end of a read with this answer under the open snapshot.
-fn end_of(key: Key, got: &Got) -> End
+pub(crate) fn end_under(key: Key, got: &Got) -> End
     ensures { result ≡ Recorded (GetAt key got.now.value) }
 {
     let reply = got.value;
@@ -91,7 +91,7 @@ pub fn read_under<P: Pace>(
         words,
         seat,
         snapshot.pin_word.wrapping_add(1),
-        &end_of(key, &got),
+        &end_under(key, &got),
     );
     got
 }

@@ -1,4 +1,4 @@
-use Rattle.std.proofs.Common.{◌≡◌, ap, sym, ◌∙◌, refl}
+use Rattle.std.proofs.Common.{ap, sym, ◌∙◌, refl}
 use Rattle.clsm_law.specs.declared.merger.MergerView.{MergerView}
 use Rattle.clsm_store_calls.specs.declared.merger_seat.MergerSeat.{MergerSeat}
 use Rattle.clsm_store_calls.specs.Flooring.{with_floor}
