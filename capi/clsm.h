@@ -52,7 +52,7 @@ enum clsm_code {
     CLSM_OK = 0,
 
     CLSM_NOT_FOUND = 1, /* the key has no value */
-    CLSM_KEPT = 2,      /* the value was kept as it was */
+    CLSM_KEPT = 2,      /* nothing was written: what is there does not fit the change or batch */
     CLSM_DONE = 3,      /* the scan has no row left */
     CLSM_IDLE = 4,      /* nothing was written since the last merge */
 
@@ -119,6 +119,11 @@ typedef struct {
     uint64_t rows, next;
     bool more;
 } clsm_page_end;
+
+/* The keys from first to last, both included, and how many of them are to have a value. */
+typedef struct {
+    uint64_t first, last, keys;
+} clsm_range_count;
 
 #define CLSM_MERGE_IN_CALLS 1
 
@@ -268,6 +273,24 @@ int clsm_try_remove(clsm_caller *caller, uint64_t key);
  * written then. */
 int clsm_batch(clsm_caller *caller, const clsm_row *rows, size_t count);
 
+/* Writes all rows at one moment, as clsm_batch, if what is expected is there at that moment: each
+ * row of expected asks that its key has its value, or none if its length is 0, and each of counts
+ * asks that so many keys of its range have one. So a caller reads, decides, and writes if all that
+ * it read still stands; a range is the same if its rows and their number are. Values are compared,
+ * not when they were written. Conditions of one key count each for itself. With no row, it tests
+ * the conditions alone, at clsm_time. Each pointer may be null if its count is 0.
+ *
+ * It waits as clsm_batch does. No other write runs while it tests: that costs a clsm_get for each
+ * row of expected, and a visit of each key of the ranges. It takes memory while it runs.
+ *
+ * OK. KEPT: nothing was written, since not all conditions hold at clsm_time; the first one that
+ * does not is at *unmet_or_null, where counts are numbered behind the rows of expected; that is a
+ * read. Refused as clsm_batch is, but for EMPTY_BATCH: BAD_VALUE also if an expected value has more
+ * than eight words. *unmet_or_null is as before if the answer is not KEPT. */
+int clsm_batch_if(clsm_caller *caller, const clsm_row *expected, size_t expected_count,
+                  const clsm_range_count *counts, size_t counts_count, const clsm_row *rows,
+                  size_t count, size_t *unmet_or_null);
+
 /* ---- Changes
  *
  * A change reads the key and writes it in one step: no other write of the key comes between.
@@ -299,12 +322,19 @@ int clsm_replace(clsm_caller *caller, uint64_t key, const clsm_value *expected_o
  * A read gives the map as it is at one moment. It blocks for no write and no merge: where it finds
  * a write that has begun and not ended, it looks again, as often as the option patience says, and
  * then cancels that write, which is made again. So a get is wait-free, and so is a read of many
- * rows but for two things: malloc may lock, where it takes memory, and clsm_count and a page of
- * more than 512 rows may take a mutex for a moment. A range has all keys from first to last, both
- * included, and none if first > last. */
+ * rows but for two things: malloc may lock, where it takes memory, and clsm_count, a page of
+ * more than 512 rows, and a clsm_get_many of more than 256 keys may take a mutex for a moment. A
+ * range has all keys from first to last, both included, and none if first > last. */
 
 /* The value of the key. OK; NOT_FOUND, with length 0. BAD_POINTER. */
 int clsm_get(clsm_caller *caller, uint64_t key, clsm_value *value_or_null);
+
+/* The values of so many keys at one moment, each at the place of its key: length 0 where the key
+ * has none. Costs less than as many calls of clsm_get, and takes no memory. More than 256 keys are
+ * read in parts, and that is a snapshot while it runs. The pointers may be null if count is 0.
+ *
+ * OK. BAD_POINTER: the values are as before. */
+int clsm_get_many(clsm_caller *caller, const uint64_t *keys, size_t count, clsm_value *values);
 
 /* How many keys of the range have a value. Visits each of them; while it runs, it is a snapshot.
  * OK; BAD_POINTER. */
@@ -318,6 +348,18 @@ int clsm_count(clsm_caller *caller, uint64_t first, uint64_t last, uint64_t *key
  * OK. BAD_POINTER: end and rows are as before. */
 int clsm_page(clsm_caller *caller, uint64_t first, uint64_t last, clsm_row *rows, size_t room,
               clsm_page_end *end);
+
+/* As clsm_page, but by falling key: the last rows of the range, from its end on. If end->more, the
+ * last key of the next page is end->next. Each row costs a search in what was written since the
+ * last merges, where a page upwards goes on from the row before. */
+int clsm_page_down(clsm_caller *caller, uint64_t last, uint64_t first, clsm_row *rows, size_t room,
+                   clsm_page_end *end);
+
+/* The row of the least key of the range that has a value, and that of the greatest one. Passes keys
+ * that were removed since the last merges, one by one. OK; NOT_FOUND, BAD_POINTER: the row is as
+ * before. */
+int clsm_first(clsm_caller *caller, uint64_t first, uint64_t last, clsm_row *row);
+int clsm_last(clsm_caller *caller, uint64_t first, uint64_t last, clsm_row *row);
 
 /* ---- Snapshots
  *
@@ -347,11 +389,18 @@ uint64_t clsm_snapshot_time(const clsm_snapshot *snapshot);
 /* As clsm_number. */
 unsigned clsm_snapshot_number(const clsm_snapshot *snapshot);
 
-/* As clsm_get, clsm_count and clsm_page, of the snapshot's map. */
+/* As clsm_get, clsm_get_many, clsm_count, clsm_page, clsm_page_down, clsm_first and clsm_last, of
+ * the snapshot's map. */
 int clsm_snapshot_get(clsm_snapshot *snapshot, uint64_t key, clsm_value *value_or_null);
+int clsm_snapshot_get_many(clsm_snapshot *snapshot, const uint64_t *keys, size_t count,
+                           clsm_value *values);
 int clsm_snapshot_count(clsm_snapshot *snapshot, uint64_t first, uint64_t last, uint64_t *keys);
 int clsm_snapshot_page(clsm_snapshot *snapshot, uint64_t first, uint64_t last, clsm_row *rows,
                        size_t room, clsm_page_end *end);
+int clsm_snapshot_page_down(clsm_snapshot *snapshot, uint64_t last, uint64_t first, clsm_row *rows,
+                            size_t room, clsm_page_end *end);
+int clsm_snapshot_first(clsm_snapshot *snapshot, uint64_t first, uint64_t last, clsm_row *row);
+int clsm_snapshot_last(clsm_snapshot *snapshot, uint64_t first, uint64_t last, clsm_row *row);
 
 /* ---- Scans
  *

@@ -134,6 +134,55 @@ void batches(clsm::caller &caller) {
     CHECK(!code && !caller.contains(21));
 }
 
+// What several keys have at one moment, and batches that are written if that still stands.
+void many(clsm::caller &caller) {
+    caller.put(30, 3);
+    caller.put(31, {4, 5});
+    const std::vector<std::optional<value>> found = caller.get_many({31, 30, 32});
+    CHECK(found.size() == 3 && found[0] == value({4, 5}) && found[1] == value(3) && !found[2]);
+    CHECK(caller.get_many({}).empty() && caller.time() == caller.seen());
+    clsm::conditions read;
+    read.still(31, found[0]).still(30, found[1]).still(32, found[2]).count(30, 39, 2);
+    std::size_t unmet = 9;
+    CHECK(read.size() == 4 && !read.empty() && caller.write_if(read, clsm::batch(), &unmet) && unmet == 9);
+    CHECK(caller.write_if(read, clsm::batch().put(33, 1).remove(30), &unmet) && unmet == 9);
+    CHECK(!caller.get(30) && caller.get(33) == value(1));
+    std::error_code code;
+    CHECK(!caller.write_if(read, clsm::batch().put(34, 1), code, &unmet) && unmet == 1 && !code);
+    CHECK(!caller.write_if(clsm::conditions().has(31, {4, 5}).count(30, 39, 3), clsm::batch(), &unmet) && unmet == 1);
+    CHECK(caller.write_if(clsm::conditions().has_none(30), clsm::batch().remove(33)) && !caller.contains(33));
+    CHECK(!caller.write_if(clsm::conditions().has_none(31), clsm::batch()));
+    const clsm::store small(clsm::options().with_epoch(4));
+    clsm::caller other = small.caller();
+    clsm::batch long_one;
+    for (std::uint64_t key = 0; key < 5; key++) long_one.put(key, 1);
+    CHECK(!other.write_if({}, long_one, code) && code.value() == CLSM_BAD_BATCH);
+    CHECK(thrown([&] { other.write_if({}, long_one); }) == CLSM_BAD_BATCH && other.count() == 0);
+    read.clear();
+    CHECK(read.empty() && caller.write_if(read, clsm::batch().remove(31)));
+}
+
+// Both ends of a range, and rows by falling key.
+void downwards(clsm::caller &caller) {
+    enum { ROWS = 700 };
+    for (std::uint64_t key = 0; key < ROWS; key++) caller.put(5000 + key, key);
+    const clsm::snapshot snapshot = caller.snapshot();
+    for (std::uint64_t key = 0; key < ROWS; key += 2) caller.remove(5000 + key);
+    CHECK(caller.first(5000, 6000) == (clsm::row{5001, 1}) && caller.last(0, 5698) == (clsm::row{5697, 697}));
+    CHECK(snapshot.first(5000) == (clsm::row{5000, 0}) && snapshot.last(5000) == (clsm::row{5699, 699}));
+    CHECK(!caller.first(7000) && !caller.last(5, 4) && !snapshot.first(7000) && !snapshot.last(5, 4));
+    CHECK(snapshot.get_many({5000, 5001, 6000}) == (std::vector<std::optional<value>>{value(0), value(1), nullopt}));
+    std::uint64_t next = ROWS;
+    auto rows = snapshot.range_down(6000, 5000);
+    for (const auto &[key, value] : rows) CHECK(key == 5000 + --next && value == next);
+    CHECK(next == 0);
+    clsm::page page = snapshot.page_down(UINT64_MAX, 5000, 600);
+    CHECK(page.rows.size() == 600 && page.rows[0].key == 5699 && page.next == 5099);
+    page = caller.page_down(*page.next, 5000, SIZE_MAX);
+    CHECK(page.rows.size() == 50 && page.rows[0].key == 5099 && page.rows[49].key == 5001 && !page.next);
+    for (std::uint64_t key = 0; key < ROWS; key++) caller.remove(5000 + key);
+}
+
 // All rows are there, in order, by each of the ways.
 void ranges(clsm::caller &caller) {
     enum { ROWS = 700 };
@@ -221,6 +270,8 @@ int main() {
         keys(caller);
         changes(caller);
         batches(caller);
+        many(caller);
+        downwards(caller);
         ranges(caller);
     }
     lives();
