@@ -61,6 +61,7 @@ enum clsm_code {
     CLSM_RACED = 10,     /* another write was faster */
     CLSM_OVERTAKEN = 11, /* a reader found it unfinished for too long, and cancelled it */
     CLSM_PINNED = 12,    /* a read that is running still holds what a merge replaced */
+    CLSM_CONFLICT = 13,  /* what the transaction read does not stand any more: run it again */
 
     CLSM_MEMORY = 16,    /* memory ran out */
     CLSM_NO_SEAT = 17,   /* CLSM_SEATS callers, snapshots and scans are open */
@@ -96,6 +97,7 @@ typedef struct clsm_caller clsm_caller;
 typedef struct clsm_snapshot clsm_snapshot;
 typedef struct clsm_scan clsm_scan;
 typedef struct clsm_walk clsm_walk;
+typedef struct clsm_transaction clsm_transaction;
 
 /* The first length of the words. Length 0 is no value, wherever a value is asked for or answered: a
  * key that has none, one that is to have none, a row of a batch that removes its key. In answers
@@ -438,6 +440,67 @@ int clsm_walk_next(clsm_walk *walk, clsm_row *row);
 
 /* Ends a walk, wherever it is. Null is allowed. */
 void clsm_walk_close(clsm_walk *walk);
+
+/* ---- Transactions
+ *
+ * A transaction reads the map of one moment, which is that of its first read, with its own writes
+ * in it; and its writes are made at one later moment, all of them, if all that it read still has
+ * the same values then. So transactions are serializable: they have the effect that they would have
+ * one after another, in the order of their times. Nobody waits while one is open. If a conflict
+ * answers its end, run it again, from its first read on:
+ *
+ *     do {
+ *         clsm_transaction_get(transaction, 1, &one);
+ *         clsm_transaction_put(transaction, 2, one.words, one.length);
+ *     } while ((code = clsm_transaction_commit(transaction)) == CLSM_CONFLICT);
+ *
+ * It is its caller's: used in one call at a time with it, and closed before it. From its first read
+ * to its end it is a snapshot, with a seat. It keeps in memory each key that it read or is to
+ * write, and each range that it read, with all its rows. */
+
+/* Opens a transaction. Takes 6 KiB of memory.
+ *
+ * OK. MEMORY, BAD_POINTER: *transaction is null then. */
+int clsm_transaction_open(clsm_caller *caller, clsm_transaction **transaction);
+
+/* The value that the key has to it: what it wrote last, or what it reads. OK; NOT_FOUND, with
+ * length 0. NO_SEAT, only for its first read; MEMORY, BAD_POINTER: it goes on as it was. */
+int clsm_transaction_get(clsm_transaction *transaction, uint64_t key, clsm_value *value_or_null);
+
+/* The same of several keys, as clsm_get_many. OK; NO_SEAT, MEMORY, BAD_POINTER: the values are as
+ * before. */
+int clsm_transaction_get_many(clsm_transaction *transaction, const uint64_t *keys, size_t count,
+                              clsm_value *values);
+
+/* The first rows of the range, as clsm_page, with its own writes among them. It has read the range
+ * up to the last row, or up to the key of the next one. OK. NO_SEAT, MEMORY: end is as before.
+ * BAD_POINTER. */
+int clsm_transaction_page(clsm_transaction *transaction, uint64_t first, uint64_t last,
+                          clsm_row *rows, size_t room, clsm_page_end *end);
+
+/* Notes a write of so many words, 1 to 8, at the key, or the removal of the key: of several the
+ * last one counts. OK. BAD_VALUE, MEMORY, BAD_POINTER: nothing was noted. */
+int clsm_transaction_put(clsm_transaction *transaction, uint64_t key, const uint64_t *words,
+                         size_t count);
+int clsm_transaction_remove(clsm_transaction *transaction, uint64_t key);
+
+/* Adds to the word of the key, as clsm_add: reads it, and notes the sum. OK; KEPT if the value has
+ * several words, or the sum passes 2^64 - 1. NO_SEAT, MEMORY, BAD_POINTER: nothing was noted. */
+int clsm_transaction_add(clsm_transaction *transaction, uint64_t key, uint64_t by,
+                         clsm_changed *changed_or_null);
+
+/* Ends the transaction: makes its writes as clsm_batch_if does, and waits as that. One that has
+ * written nothing ends at the moment of its reads, and always with OK. Whatever the answer, it has
+ * read and written nothing now, and may be used anew; another read is of a new moment.
+ *
+ * OK, at clsm_time. CONFLICT: nothing was written, as another one has changed what was read; it has
+ * paused, the longer the more conflicts there were in a row, up to a millisecond. RUN_FULL,
+ * VERSIONS_FULL, OWN_SNAPSHOT, WORN, MEMORY, BAD_BATCH if it is to write more keys than an epoch
+ * has writes, BAD_POINTER: nothing was written. */
+int clsm_transaction_commit(clsm_transaction *transaction);
+
+/* Closes a transaction; what it noted is not written. Null is allowed. */
+void clsm_transaction_close(clsm_transaction *transaction);
 
 /* ---- For other languages
  *

@@ -29,6 +29,7 @@
 #include <stdexcept>
 #include <string>
 #include <system_error>
+#include <type_traits>
 #include <utility>
 #include <vector>
 
@@ -88,6 +89,7 @@ struct closer {
     void operator()(clsm_snapshot *snapshot) const noexcept { clsm_snapshot_close(snapshot); }
     void operator()(clsm_scan *scan) const noexcept { clsm_scan_close(scan); }
     void operator()(clsm_walk *walk) const noexcept { clsm_walk_close(walk); }
+    void operator()(clsm_transaction *transaction) const noexcept { clsm_transaction_close(transaction); }
 };
 
 template <class Handle> using owned = std::unique_ptr<Handle, closer>;
@@ -484,6 +486,54 @@ private:
     detail::handle<clsm_snapshot> handle_;
 };
 
+// ---- Transactions
+
+// Reads the map of one moment, with its own writes in it. They are made at one later moment, if all
+// that it read still stands then: caller::transact runs a function on one until they are. Throws
+// error if memory runs out, or no seat is left for its first read.
+class transaction {
+public:
+    std::optional<value> get(std::uint64_t key) {
+        clsm_value found;
+        detail::thrower()(clsm_transaction_get(raw(), key, &found));
+        return value::from(found);
+    }
+    bool contains(std::uint64_t key) { return get(key).has_value(); }
+    std::vector<std::optional<value>> get_many(const std::vector<std::uint64_t> &keys) {
+        return detail::read_many(
+            keys, [this](auto... arguments) { return clsm_transaction_get_many(raw(), arguments...); });
+    }
+    // The first rows from first to last, both included: the range is read up to the last of them,
+    // or up to `next`.
+    clsm::page page(std::uint64_t first, std::uint64_t last, std::size_t most) {
+        const auto call = [this](auto... arguments) { return clsm_transaction_page(raw(), arguments...); };
+        return detail::read_page(call, first, last, most, detail::thrower());
+    }
+    void put(std::uint64_t key, const value &value) {
+        detail::thrower()(clsm_transaction_put(raw(), key, value.data(), value.size()));
+    }
+    void remove(std::uint64_t key) { detail::thrower()(clsm_transaction_remove(raw(), key)); }
+    // Adds to the word of the key. Not written if the value has several words, or the sum passes
+    // 2^64 - 1.
+    change add(std::uint64_t key, std::uint64_t by) {
+        clsm_changed changed = {};
+        const int code = clsm_transaction_add(raw(), key, by, &changed);
+        detail::thrower()(code);
+        return {code == CLSM_OK, value::from(changed.before), value::from(changed.after)};
+    }
+    // For calls of clsm.h.
+    clsm_transaction *raw() const noexcept { return own_.get(); }
+
+private:
+    friend class caller;
+    explicit transaction(clsm_caller *caller) {
+        clsm_transaction *opened = nullptr;
+        detail::thrower()(clsm_transaction_open(caller, &opened));
+        own_.reset(opened);
+    }
+    detail::owned<clsm_transaction> own_;
+};
+
 // ---- Callers
 
 // A thread's access to the store.
@@ -511,6 +561,23 @@ public:
     bool write_if(const conditions &conditions, const batch &batch, std::error_code &code,
                   std::size_t *unmet = nullptr) noexcept {
         return write_if_with(conditions, batch, unmet, detail::setter{code});
+    }
+
+    // Runs the function on a transaction and commits that: again after a conflict, and a pause, so
+    // many times at most, and then throws error with CLSM_CONFLICT. Answers what the function does.
+    // What the function throws ends it, and nothing is written. As it may run several times, it
+    // should do nothing but read and write by its transaction.
+    template <class Function> auto transact(Function function, unsigned tries = 100) {
+        clsm::transaction transaction(raw());
+        for (unsigned made = 1;; made++) {
+            if constexpr (std::is_void_v<decltype(function(transaction))>) {
+                function(transaction);
+                if (ends(transaction, made < tries)) return;
+            } else {
+                auto answer = function(transaction);
+                if (ends(transaction, made < tries)) return answer;
+            }
+        }
     }
 
     // ---- changes: they read the key and write it in one step
@@ -621,6 +688,14 @@ private:
         return clsm_put(raw(), key, value.data(), value.size());
     }
     int write_raw(const batch &batch) noexcept { return clsm_batch(raw(), batch.raw().data(), batch.size()); }
+
+    // Whether it was committed; if not, it is run again.
+    static bool ends(const transaction &transaction, bool may_run_again) {
+        const int code = clsm_transaction_commit(transaction.raw());
+        if (code == CLSM_CONFLICT && may_run_again) return false;
+        detail::thrower()(code);
+        return true;
+    }
 
     template <class Done>
     bool write_if_with(const conditions &conditions, const batch &batch, std::size_t *unmet, Done done) {

@@ -162,6 +162,68 @@ void many(clsm::caller &caller) {
     CHECK(read.empty() && caller.write_if(read, clsm::batch().remove(31)));
 }
 
+void transactions(const clsm::store &store) {
+    clsm::caller caller = store.caller(), other = store.caller();
+    caller.put(40, 10);
+    other.follow(caller.seen());
+    const auto left = caller.transact([](clsm::transaction &t) {
+        const std::uint64_t had = t.get(40)->front();
+        t.put(40, had - 3);
+        t.put(41, {1, 2});
+        t.remove(42);
+        CHECK(t.get(40) == value(7) && t.contains(41) && !t.contains(42));
+        CHECK(t.get_many({41, 42})[0] == value({1, 2}) && t.page(40, 49, 9).rows.size() == 2);
+        CHECK(t.page(40, 49, 1).next == 41 && !t.add(41, 1).is_written && t.add(43, 5).after == value(5));
+        return had;
+    });
+    CHECK(left == 10 && caller.get(40) == value(7) && caller.get(43) == value(5));
+    // It runs again where another one was faster, up to a bound; and one that throws writes nothing.
+    int runs = 0;
+    caller.transact([&](clsm::transaction &t) {
+        t.put(41, *t.get(40));
+        if (++runs < 3) other.add(40, 1);
+    });
+    CHECK(runs == 3 && caller.get(41) == value(9));
+    const auto disturbed = [&](clsm::transaction &t) {
+        t.put(41, *t.get(40));
+        other.add(40, 1);
+    };
+    CHECK(thrown([&] { caller.transact(disturbed, 5); }) == CLSM_CONFLICT);
+    CHECK(caller.get(40) == value(14) && caller.get(41) == value(9));
+    try {
+        caller.transact([](clsm::transaction &t) {
+            t.remove(40);
+            throw 7;
+        });
+    } catch (int) {
+        runs = 7;
+    }
+    CHECK(runs == 7 && caller.contains(40) && store.stats().snapshots == 0);
+    for (std::uint64_t key = 40; key < 44; key++) caller.remove(key);
+}
+
+void transacting_threads() {
+    const clsm::store store(clsm::options().with_epoch(64));
+    store.caller().put(2, 100);
+    std::vector<std::thread> threads;
+    for (int i = 0; i < 4; i++)
+        threads.emplace_back([&store] {
+            clsm::caller caller = store.caller();
+            for (int j = 0; j < 200; j++)
+                caller.transact(
+                    [](clsm::transaction &t) {
+                        const auto both = t.get_many({1, 2});
+                        const std::uint64_t one = both[0] ? both[0]->front() : 0, two = both[1]->front();
+                        CHECK(one + two == 100);
+                        t.put(1, two > 0 ? one + 1 : 0);
+                        t.put(2, two > 0 ? two - 1 : 100);
+                    },
+                    100000);
+        });
+    for (std::thread &thread : threads) thread.join();
+    CHECK(store.caller().get(1)->front() + store.caller().get(2)->front() == 100);
+}
+
 // Both ends of a range, and rows by falling key.
 void downwards(clsm::caller &caller) {
     enum { ROWS = 700 };
@@ -272,10 +334,12 @@ int main() {
         batches(caller);
         many(caller);
         downwards(caller);
+        transactions(store);
         ranges(caller);
     }
     lives();
     refusals();
     threads();
+    transacting_threads();
     std::puts("ok cxx17");
 }

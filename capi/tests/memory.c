@@ -121,6 +121,36 @@ static void read_long_pages(clsm_caller *caller, uint64_t keys) {
         CHECK(rows[key].key == key && rows[key].value.words[0] == key);
 }
 
+/* Writes some keys that it has read, and goes on where memory runs out; what its end refuses it has
+ * forgotten. */
+static void transact(clsm_caller *caller, uint64_t first) {
+    enum { ROWS = 12 };
+    static clsm_row rows[ROWS];
+    clsm_transaction *transaction = NULL;
+    clsm_page_end end;
+    int code;
+    AGAIN(CLSM_OK, clsm_transaction_open(caller, &transaction));
+    do {
+        for (uint64_t i = 0; i < ROWS; i++)
+            AGAIN(CLSM_NOT_FOUND, clsm_transaction_get(transaction, first + i, NULL));
+        for (uint64_t i = 0; i < ROWS; i++)
+            AGAIN(CLSM_OK, clsm_transaction_put(transaction, first + i, &i, 1));
+        for (uint64_t i = 0; i < ROWS; i++)
+            AGAIN(CLSM_OK, clsm_transaction_page(transaction, first, first + i, rows, ROWS, &end));
+        CHECK(end.rows == ROWS && rows[ROWS - 1].value.words[0] == ROWS - 1);
+        AGAIN(CLSM_OK, clsm_transaction_page(transaction, 0, 99, rows, ROWS, &end));
+        CHECK(end.rows == ROWS && end.more && rows[5].key == 5);
+        code = clsm_transaction_commit(transaction);
+    } while (is_again(code));
+    ANSWERS(CLSM_OK, code);
+    for (uint64_t i = 0; i < ROWS; i++)
+        AGAIN(CLSM_OK, clsm_transaction_remove(transaction, first + i));
+    if (is_again(code = clsm_transaction_commit(transaction))) code = CLSM_OK;
+    ANSWERS(CLSM_OK, code);
+    for (uint64_t i = 0; i < ROWS; i++) OK(clsm_remove(caller, first + i));
+    clsm_transaction_close(transaction);
+}
+
 /* Reads of many keys, and downwards, take none. */
 static void read_many(clsm_caller *caller, uint64_t count) {
     static uint64_t keys[600];
@@ -205,6 +235,7 @@ static void use_all_calls(int merge) {
     OK(clsm_get(caller, 5, NULL));
     write_batches(caller, KEYS);
     write_batches_if(caller, KEYS);
+    transact(caller, KEYS);
     int code = clsm_sweep(store);
     CHECK(code == CLSM_OK || code == CLSM_IDLE);
     read_pages(caller, KEYS);

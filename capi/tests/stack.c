@@ -73,6 +73,15 @@ static void get_at(void) { OK(clsm_snapshot_get(snapshot, 500, NULL)); }
 static void get_many_at(void) { OK(clsm_snapshot_get_many(snapshot, many, MANY, values)); }
 static void down_at(void) { OK(clsm_snapshot_page_down(snapshot, 900, 0, rows, 64, &end)); }
 static void page_at(void) { OK(clsm_snapshot_page(snapshot, 0, UINT64_MAX, rows, 64, &end)); }
+static void transact(void) {
+    clsm_transaction *transaction;
+    OK(clsm_transaction_open(caller, &transaction));
+    OK(clsm_transaction_get_many(transaction, many, MANY, values));
+    OK(clsm_transaction_page(transaction, 0, UINT64_MAX, rows, 64, &end));
+    for (uint64_t key = 0; key < 16; key++) OK(clsm_transaction_put(transaction, key, WORDS, 8));
+    OK(clsm_transaction_commit(transaction));
+    clsm_transaction_close(transaction);
+}
 static void open_scan(void) { OK(clsm_scan_open(caller, 0, UINT64_MAX, &scan)); }
 static void next(void) { OK(clsm_scan_next(scan, rows)); }
 static void close_scan(void) { clsm_scan_close(scan); }
@@ -130,6 +139,7 @@ int main(int count_of_words, char **words) {
                  {"clsm_snapshot_page", page_at},
                  {"clsm_snapshot_page_down", down_at},
                  {"clsm_snapshot_close", close_snapshot},
+                 {"clsm_transaction_commit", transact},
                  {"clsm_scan_open", open_scan},
                  {"clsm_scan_next", next},
                  {"clsm_scan_close", close_scan},

@@ -179,6 +179,41 @@ int batch_if(unsigned who, uint64_t first, bool is_write, uint64_t codes) {
     return wrote_if(who, seen, code, expected, is_write ? rows : NULL, unmet);
 }
 
+/* Reads two keys, and a range that has both, and notes writes of both. */
+static void read_and_write(clsm_transaction *transaction, uint64_t first, clsm_row *found,
+                           clsm_row *rows) {
+    clsm_row page[2];
+    clsm_page_end end;
+    for (size_t i = 0; i < 2; i++) {
+        found[i].key = first + i;
+        const int code = clsm_transaction_get(transaction, first + i, &found[i].value);
+        expect_code(code, OR(NOT_FOUND), "transaction_get");
+    }
+    const int code = clsm_transaction_page(transaction, first, first + 1, page, 2, &end);
+    expect_code(code, 0, "transaction_page");
+    expect(end.rows == found[0].value.length + found[1].value.length && !end.more,
+           "a page is of the moment of the first read");
+    for (size_t i = 0; i < 2; i++) {
+        rows[i] = (clsm_row){first + i, {1, {++values}}};
+        clsm_transaction_put(transaction, first + i, rows[i].value.words, 1);
+    }
+}
+
+void transact(unsigned who, uint64_t first) {
+    clsm_transaction *transaction;
+    clsm_row found[2], rows[2];
+    uint64_t seen;
+    int code;
+    expect_code(clsm_transaction_open(callers[who], &transaction), 0, "transaction_open");
+    do {
+        read_and_write(transaction, first, found, rows);
+        seen = seen_by(who);
+        code = clsm_transaction_commit(transaction);
+    } while (expect_code(code, OR(CONFLICT), "transaction_commit") == CLSM_CONFLICT);
+    wrote_if(who, seen, code, found, rows, 0);
+    clsm_transaction_close(transaction);
+}
+
 int add(unsigned who, uint64_t key, uint64_t codes) {
     const uint64_t seen = seen_by(who);
     clsm_changed changed;

@@ -54,6 +54,7 @@ static void write_if_till_it_is(uint64_t who) {
     while (batch_if((unsigned)who, 1, true, 0) != CLSM_OK) continue;
 }
 
+static void transact_once(uint64_t who) { transact((unsigned)who, 1); }
 static void sweep_once(uint64_t codes) { sweep(codes); }
 
 /* Lets others try in vain for some time. */
@@ -564,6 +565,10 @@ static const struct scenario {
              BY(write_if_till_it_is, 1)),
     SCENARIO(conditions_and_put, BOTH, FEWER, 3, fill_half, AS_IT_IS, NULL, BY(write_if_once, 0),
              BY(put_twice, 1), BY(write_if_once, 2)),
+    SCENARIO(transactions, BOTH, FEWER, 2, fill_epoch, AS_IT_IS, NULL, BY(transact_once, 0),
+             BY(transact_once, 1)),
+    SCENARIO(transaction_and_put, BOTH, FEWER, 2, fill_half, AS_IT_IS, NULL, BY(transact_once, 0),
+             BY(put_twice, 1)),
     SCENARIO(busy_conditions, BOTH, USUAL, 2, fill_one, TOLD(BATCH, BUSY, 5), NULL,
              BY(write_if_once, 0), BY(put_thrice, 1)),
     SCENARIO(tested, BOTH, FEWER, 2, fill_half, TOLD(BATCH, BUSY, 5), NULL, BY(test_once, 0),

@@ -164,7 +164,7 @@
 //! `entry`, `or_insert_with` | [`Caller::update`], [`Caller::get_or_insert_with`]
 //! `range`, `iter` | [`Caller::range`], [`Snapshot::iter`]: rows of one moment; [`Caller::walk`] for others
 //! `rev`, `last_key_value` | those of a [`Range`]; [`Caller::page_down`]; [`Caller::last_key_value`]
-//! RocksDB's `multi_get`, etcd's `Txn` | [`Caller::get_many`], [`Caller::batch_if`]
+//! `RocksDB`'s `multi_get`, etcd's `Txn` | [`Caller::get_many`], [`Caller::batch_if`]
 //! `len` | [`Caller::count`], which visits the keys
 //! `extend`, `collect` | those of a [`Batch`], at most as long as an epoch
 //! `clear`, `retain` | [`Caller::clear`], [`Caller::retain`], which are not one moment

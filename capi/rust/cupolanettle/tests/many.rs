@@ -147,7 +147,9 @@ fn errors_tell_their_causes() {
 
 // ---- rows by falling key
 
-fn filled() -> Result<(Store, Caller, Vec<(u64, Value)>), Error> {
+type Rows = Vec<(u64, Value)>;
+
+fn filled() -> Result<(Store, Caller, Rows), Error> {
     let store = small().open()?;
     let caller = store.caller()?;
     for key in 0..700 {
@@ -185,7 +187,7 @@ fn pages_downwards_are_those_upwards_turned() -> Result<(), Error> {
 }
 
 /// Takes from both ends, as the seed says, and puts the two together.
-fn both_ends(snapshot: &Snapshot, mut seed: u64) -> Vec<(u64, Value)> {
+fn both_ends(snapshot: &Snapshot, mut seed: u64) -> Rows {
     let mut rows = snapshot.iter();
     let (mut front, mut back) = (Vec::new(), Vec::new());
     loop {
